@@ -1,0 +1,101 @@
+-- Scenarios: the limits that each of them keeps, and the script of each actor.
+use Rattle.std.specs.Prelude.{◌≡◌, ◌≢◌, ◌⊎◌, ℕ, ◌<◌, ◌≤◌, Bool, false, ◌==◌, List, length, map, filter, take, All, Any, AllPairs, slice_index_or}
+use Rattle.cs_types.specs.declared.task.Policy.{Policy}
+use Rattle.cs_types.specs.declared.task.Policy.TheVariants.{Fifo}
+use Rattle.cs_types.specs.declared.task.Creds.{Creds}
+use Rattle.cs_types.specs.declared.task.TaskSpec.{TaskSpec}
+use Rattle.cs_types.specs.declared.event.Actor.{Actor}
+use Rattle.cs_types.specs.declared.event.Actor.TheVariants.{Sibling, Caller}
+use Rattle.cs_types.specs.declared.event.Event.{Event}
+use Rattle.cs_types.specs.declared.event.Event.TheVariants.{Turn, Block, Wake}
+use Rattle.cs_types.specs.declared.event.Step.{Step}
+use Rattle.cs_types.specs.declared.scenario.Scenario.{Scenario}
+
+-- ---- limits (this project's rules)
+
+-- from low to high
+abbrev pub IsWithin : ℕ → ℕ → ℕ → Type 0
+IsWithin low high n = (low ≤ n) × (n ≤ high)
+
+-- a FIFO priority is from 1 to 99
+abbrev pub IsPolicy : Policy → Type 0
+IsPolicy (Fifo priority) = IsWithin 1 99 priority
+
+-- a user or group id is from 0 to 65535
+pub record AreCreds (creds : Creds) : Type 0 where
+  pub ruid : creds.ruid ≤ 65535
+  pub euid : creds.euid ≤ 65535
+  pub suid : creds.suid ≤ 65535
+  pub rgid : creds.rgid ≤ 65535
+  pub egid : creds.egid ≤ 65535
+  pub sgid : creds.sgid ≤ 65535
+
+-- the numbers of a task line, in a core of so many siblings
+pub record IsTask (siblings : ℕ) (task : TaskSpec) : Type 0 where
+  pub pid : IsWithin 1 9999 task.pid
+  pub tgid : IsWithin 1 9999 task.tgid
+  pub pgid : IsWithin 1 9999 task.pgid
+  pub cpu : task.cpu < siblings
+  pub policy : IsPolicy task.policy
+  pub creds : AreCreds task.creds
+
+-- two tasks have two pids
+abbrev pub AreApart : List TaskSpec → Type 0
+AreApart tasks = AllPairs (λ a b. a.pid ≢ b.pid) tasks
+
+-- The task leads its own thread group, or that group is led by one of the earlier tasks, which has the
+-- same process group.
+abbrev pub IsLed : List TaskSpec → TaskSpec → Type 0
+IsLed earlier task =
+    (task.tgid ≡ task.pid)
+    ⊎ Any (λ leader. (leader.pid ≡ task.tgid) × (leader.tgid ≡ leader.pid) × (leader.pgid ≡ task.pgid)) earlier
+
+-- each task is led, by itself or by one that stands before it
+abbrev pub AreLed : List TaskSpec → Type 0
+AreLed tasks = (k : ℕ) (d : TaskSpec) → k < length tasks → IsLed (take k tasks) (slice_index_or tasks k d)
+
+-- the numbers of an event: a sibling of the core, a pid from 1 to 999999
+abbrev pub IsEvent : ℕ → Event → Type 0
+IsEvent siblings (Turn cpu) = cpu < siblings
+IsEvent siblings (Block cpu) = cpu < siblings
+IsEvent siblings (Wake pid) = IsWithin 1 999999 pid
+
+-- A sibling makes its own events, on itself; a caller, 0 to 7, makes the others.
+abbrev pub IsMadeBy : Actor → Event → Type 0
+IsMadeBy (Sibling i) (Turn cpu) = cpu ≡ i
+IsMadeBy (Sibling i) (Block cpu) = cpu ≡ i
+IsMadeBy (Caller j) (Wake pid) = j < 8
+IsMadeBy (Sibling i) (Wake pid) = ⊥
+IsMadeBy (Caller j) (Turn cpu) = ⊥
+IsMadeBy (Caller j) (Block cpu) = ⊥
+
+-- a step line, in a core of so many siblings
+pub record IsStep (siblings : ℕ) (step : Step) : Type 0 where
+  pub event : IsEvent siblings step.event
+  pub actor : IsMadeBy step.actor step.event
+
+-- what a scenario keeps that can be written and played
+pub record IsBuilt (scenario : Scenario) : Type 0 where
+  pub siblings : scenario.siblings ≡ 2
+  pub task_limit : IsWithin 1 256 scenario.task_limit
+  pub cookie_limit : IsWithin 1 256 scenario.cookie_limit
+  pub user_top : IsWithin 8192 9223372036854775807 scenario.user_top
+  pub tasks : All (IsTask scenario.siblings) scenario.tasks
+  pub apart : AreApart scenario.tasks
+  pub led : AreLed scenario.tasks
+  pub few_tasks : length scenario.tasks ≤ scenario.task_limit
+  pub steps : All (IsStep scenario.siblings) scenario.steps
+  pub few_steps : length scenario.steps ≤ 100000
+
+-- ---- scripts
+
+-- whether two actors are one
+abbrev pub is_actor : Actor → Actor → Bool
+is_actor (Sibling i) (Sibling j) = i == j
+is_actor (Caller i) (Caller j) = i == j
+is_actor (Sibling i) (Caller j) = false
+is_actor (Caller i) (Sibling j) = false
+
+-- the events of an actor's step lines, in the order of the lines
+abbrev pub script : Scenario → Actor → List Event
+script scenario actor = map (λ step. step.event) (filter (λ step. is_actor step.actor actor) scenario.steps)

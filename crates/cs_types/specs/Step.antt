@@ -1,0 +1,74 @@
+-- Steps: what each event does to the room, and what it answers.
+use Rattle.std.specs.Prelude.{ℕ, ◌+◌, Bool, true, false, if◌then◌else◌, List, Option, Some, None}
+use Rattle.std.specs.Option.{option_map_or}
+use Rattle.cs_types.specs.declared.event.Event.{Event}
+use Rattle.cs_types.specs.declared.event.Event.TheVariants.{Turn, Block, Wake}
+use Rattle.cs_types.specs.declared.reply.Reply.{Reply}
+use Rattle.cs_types.specs.declared.reply.Reply.TheVariants.{Picked, Nothing, Slept, Idle, Woken, Awake, NoTask}
+use Rattle.cs_types.specs.declared.reply.Pick.{Pick}
+use Rattle.cs_types.specs.declared.reply.Entry.{Entry}
+use Rattle.cs_types.specs.Room.{RoomState, TaskState, task_of, sibling_of, running_on, with_sibling, with_task, flagged}
+use Rattle.cs_types.specs.Order.{is_higher}
+use Rattle.cs_types.specs.Selection.{Scheduled, schedule}
+
+-- the reply to an event, and the room after it
+pub record Stepped : Type 0 where
+  pub reply : Reply
+  pub room : RoomState
+
+-- ---- wake: `try_to_wake_up`, `ttwu_do_activate`, and `check_preempt_curr` of kernel/sched/core.c
+
+-- an enqueue gives the task the next stamp
+abbrev pub enqueued : RoomState → TaskState → RoomState
+enqueued room task =
+    record (with_task room (record task { queued = true; stamp = room.next_stamp })) { next_stamp = room.next_stamp + 1 }
+
+-- a woken task asks its sibling to reschedule where that runs idle or a lower task (this project's rule)
+abbrev pub preempts : RoomState → TaskState → Bool
+preempts room task = option_map_or (λ running. is_higher task running) (running_on room task.home) true
+
+-- queue the task at its home (this project's rule)
+abbrev pub queued_at_home : RoomState → TaskState → RoomState
+queued_at_home room task = flagged (enqueued room task) task.home (preempts room task)
+
+abbrev pub woken : RoomState → Option TaskState → Stepped
+woken room None = record { reply = NoTask; room = room }
+woken room (Some task) =
+    if task.queued
+    then record { reply = Awake; room = room }
+    else record { reply = Woken task.home; room = queued_at_home room task }
+
+-- ---- turn: `__schedule` where TIF_NEED_RESCHED is set
+
+-- a reply with the pick of a schedule
+abbrev pub picked : (Pick → Reply) → Scheduled → Stepped
+picked answer scheduled = record { reply = answer scheduled.pick; room = scheduled.room }
+
+abbrev pub turned : RoomState → List Entry → ℕ → Stepped
+turned room past cpu =
+    if (sibling_of room cpu).pending
+    then picked Picked (schedule room past cpu)
+    else record { reply = Nothing; room = room }
+
+-- ---- block: `deactivate_task` in `__schedule`
+
+-- the task is asleep, and no longer queued
+abbrev pub dequeued : RoomState → Option TaskState → RoomState
+dequeued room None = room
+dequeued room (Some task) = with_task room (record task { queued = false })
+
+-- the sibling runs idle
+abbrev pub idled : RoomState → ℕ → RoomState
+idled room cpu = with_sibling room cpu (record (sibling_of room cpu) { run = None })
+
+abbrev pub blocked : RoomState → List Entry → ℕ → Option ℕ → Stepped
+blocked room past cpu None = record { reply = Idle; room = room }
+blocked room past cpu (Some pid) =
+    picked (Slept pid) (schedule (idled (dequeued room (task_of room pid)) cpu) past cpu)
+
+-- ---- every event
+
+abbrev pub step : RoomState → List Entry → Event → Stepped
+step room past (Turn cpu) = turned room past cpu
+step room past (Block cpu) = blocked room past cpu (sibling_of room cpu).run
+step room past (Wake pid) = woken room (task_of room pid)

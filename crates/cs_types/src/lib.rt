@@ -1,0 +1,18 @@
+//! The words of the machine: its values, its definitions, and the contract that every machine keeps.
+#![tactic(auto)]
+
+mod event;
+mod list;
+mod memory;
+mod reply;
+mod room;
+mod scenario;
+mod task;
+
+pub use event::{Actor, Event, Step};
+pub use list::List;
+pub use memory::OutOfMemory;
+pub use reply::{Entry, Kind, Pick, Reply};
+pub use room::Room;
+pub use scenario::Scenario;
+pub use task::{Cookie, Cpu, Creds, Pid, Policy, TaskSpec};

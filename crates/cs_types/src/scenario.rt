@@ -1,0 +1,22 @@
+//! A scenario: the core's size and limits, its tasks, and the steps of its actors.
+
+use crate::event::Step;
+use crate::list::List;
+use crate::task::TaskSpec;
+
+/// What a scenario text says.
+#[derive(Debug, Drop)]
+pub struct Scenario {
+    /// The SMT siblings of the core.
+    pub siblings: u8,
+    /// How many tasks may live at once, 1 to 256.
+    pub task_limit: u16,
+    /// How many cookies may live at once, 1 to 256.
+    pub cookie_limit: u16,
+    /// The end of a caller's address space, in bytes, 8192 to 9223372036854775807.
+    pub user_top: u64,
+    /// The tasks at the start, in the order of their lines.
+    pub tasks: List<TaskSpec>,
+    /// The steps of all actors, in the order of their lines.
+    pub steps: List<Step>,
+}

@@ -1,0 +1,55 @@
+//! A task as a scenario describes it.
+
+/// The number of a task. 0 is no task's: where a reply names what a sibling runs, it is idle.
+pub type Pid = u32;
+
+/// A core-scheduling cookie, by its serial number. 0 is no cookie.
+pub type Cookie = u64;
+
+/// An SMT sibling of the core, counted from 0.
+pub type Cpu = u8;
+
+/// A task's scheduling policy.
+#[derive(Clone, Copy, Debug, PartialEq, Eq)]
+pub enum Policy {
+    /// `SCHED_FIFO` with a priority from 1 to 99, the greater the higher.
+    Fifo(u8),
+}
+
+/// A task's credentials, as the ptrace access check reads them.
+#[derive(Clone, Copy, Debug, PartialEq, Eq)]
+pub struct Creds {
+    /// The real user id, 0 to 65535, as are all six.
+    pub ruid: u32,
+    /// The effective user id.
+    pub euid: u32,
+    /// The saved user id.
+    pub suid: u32,
+    /// The real group id.
+    pub rgid: u32,
+    /// The effective group id.
+    pub egid: u32,
+    /// The saved group id.
+    pub sgid: u32,
+    /// Whether it has CAP_SYS_PTRACE, permitted and effective.
+    pub cap: bool,
+    /// Whether it has a memory image.
+    pub mm: bool,
+    /// Whether that image may be dumped.
+    pub dumpable: bool,
+}
+
+/// A task as its line in the scenario gives it.
+#[derive(Clone, Copy, Debug, PartialEq, Eq)]
+pub struct TaskSpec {
+    /// Its number, 1 to 9999 in a scenario.
+    pub pid: Pid,
+    /// Its thread group: the pid of the group's leader.
+    pub tgid: Pid,
+    /// Its process group, 1 to 9999 in a scenario.
+    pub pgid: u32,
+    /// The sibling on which it begins, its first home.
+    pub cpu: Cpu,
+    pub policy: Policy,
+    pub creds: Creds,
+}
