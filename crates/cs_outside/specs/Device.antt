@@ -1,0 +1,19 @@
+-- Devices: the bytes that come from them and go to them, where they tell them, and their counts of faults.
+use Rattle.std.specs.Prelude.{◌≡◌, ℕ, ◌+◌, ◌-◌, ◌^◌, ◌≤◌, min, List, ◌++◌, take, Option}
+use Rattle.std.specs.Option.{option_map}
+
+-- these bytes, in front of those that are told to be left (what is not told stays so)
+abbrev pub prepended : List ℕ → Option (List ℕ) → Option (List ℕ)
+prepended bytes left = option_map (λ rest. bytes ++ rest) left
+
+-- these bytes, behind those that are told to be written
+abbrev pub appended : Option (List ℕ) → List ℕ → Option (List ℕ)
+appended written bytes = option_map (λ before. before ++ bytes) written
+
+-- A count of faults rose: it is greater than before, or stands at its end, 2^64 - 1.
+abbrev pub Rose : ℕ → ℕ → Type 0
+Rose before now = min (before + 1) (2 ^ 64 - 1) ≤ now
+
+-- of this text a front was written, and nothing else
+abbrev pub WritesFront : Option (List ℕ) → List ℕ → Option (List ℕ) → Type 0
+WritesFront before text now = (n : ℕ) × (now ≡ appended before (take n text))

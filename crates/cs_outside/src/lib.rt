@@ -1,0 +1,10 @@
+//! The outside: where bytes come from and where they go, each with a count of its faults.
+#![tactic(auto)]
+
+mod fault;
+mod sink;
+mod source;
+
+pub use fault::Failed;
+pub use sink::Sink;
+pub use source::Source;

@@ -1,0 +1,28 @@
+//! Where bytes go.
+
+ghost use Rattle.std.specs.Prelude.{◌≡◌, ◌<◌, ◌≤◌, ℕ, List, Option, length, take, IfOk, OnErr};
+ghost use Rattle.cs_outside.specs.Device.{appended, Rose};
+
+use crate::fault::Failed;
+
+/// A sink of bytes.
+pub trait Sink {
+    /// The bytes that were written, where the sink tells them.
+    ghost written: { Self → Option (List ℕ) };
+
+    /// How often it failed, up to 2^64 - 1, where the count stays.
+    ghost faults: { Self → ℕ };
+
+    /// Takes one or more bytes from the front of the piece, and answers how many. A device that
+    /// takes nothing has failed.
+    fn write(&mut self, piece: &[u8]) -> Result<usize, Failed>
+        requires { 0 < length piece.now }
+
+        ensures some { IfOk result (λ n. 0 < n) }
+        ensures within { IfOk result (λ n. n ≤ length piece.now) }
+        ensures appended { IfOk result (λ n. written self.new ≡ appended (written self.old) (take n piece.now)) }
+
+        ensures failed { OnErr result (Rose (faults self.old) (faults self.new)) }
+        ensures unwritten { OnErr result (written self.new ≡ written self.old) }
+        ensures counted { faults self.old ≤ faults self.new };
+}

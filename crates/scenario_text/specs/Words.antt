@@ -1,0 +1,83 @@
+-- Words: how each value is spelled in a scenario and in the output. A number is `decimal`: its digits,
+-- with no sign and no leading 0.
+use Rattle.std.specs.Prelude.{ℕ, Bool, true, false, ◌==◌, if◌then◌else◌, List, [], ◌∷◌, ◌++◌, codes, decimal}
+use Rattle.cs_types.specs.declared.task.Policy.{Policy}
+use Rattle.cs_types.specs.declared.task.Policy.TheVariants.{Fifo}
+use Rattle.cs_types.specs.declared.task.Creds.{Creds}
+use Rattle.cs_types.specs.declared.task.TaskSpec.{TaskSpec}
+use Rattle.cs_types.specs.declared.event.Actor.{Actor}
+use Rattle.cs_types.specs.declared.event.Actor.TheVariants.{Sibling, Caller}
+use Rattle.cs_types.specs.declared.event.Event.{Event}
+use Rattle.cs_types.specs.declared.event.Event.TheVariants.{Turn, Block, Wake}
+use Rattle.cs_types.specs.declared.reply.Kind.{Kind}
+use Rattle.cs_types.specs.declared.reply.Kind.TheVariants.{Plain}
+use Rattle.cs_types.specs.declared.reply.Pick.{Pick}
+use Rattle.cs_types.specs.declared.reply.Reply.{Reply}
+use Rattle.cs_types.specs.declared.reply.Reply.TheVariants.{Picked, Nothing, Slept, Idle, Woken, Awake, NoTask}
+
+-- a word is its bytes
+abbrev pub Word : Type 0
+Word = List ℕ
+
+-- ---- tasks
+
+-- `fifo:PRIORITY`
+abbrev pub policy_word : Policy → Word
+policy_word (Fifo priority) = codes "fifo:" ++ decimal priority
+
+-- 1 for yes, 0 for no
+abbrev pub flag_word : Bool → Word
+flag_word true = codes "1"
+flag_word false = codes "0"
+
+-- RUID EUID SUID RGID EGID SGID CAP MM DUMP
+abbrev pub creds_words : Creds → List Word
+creds_words creds =
+    decimal creds.ruid ∷ decimal creds.euid ∷ decimal creds.suid
+    ∷ decimal creds.rgid ∷ decimal creds.egid ∷ decimal creds.sgid
+    ∷ flag_word creds.cap ∷ flag_word creds.mm ∷ flag_word creds.dumpable ∷ []
+
+-- `task` PID TGID PGID CPU POLICY and the credentials
+abbrev pub task_words : TaskSpec → List Word
+task_words task =
+    codes "task" ∷ decimal task.pid ∷ decimal task.tgid ∷ decimal task.pgid ∷ decimal task.cpu
+    ∷ policy_word task.policy ∷ creds_words task.creds
+
+-- ---- steps
+
+-- `s` and the sibling's number, `c` and the caller's
+abbrev pub actor_word : Actor → Word
+actor_word (Sibling i) = codes "s" ++ decimal i
+actor_word (Caller j) = codes "c" ++ decimal j
+
+abbrev pub event_words : Event → List Word
+event_words (Turn cpu) = codes "turn" ∷ []
+event_words (Block cpu) = codes "block" ∷ []
+event_words (Wake pid) = codes "wake" ∷ decimal pid ∷ []
+
+-- the actor, and what it does
+abbrev pub made_words : Actor → Event → List Word
+made_words actor event = actor_word actor ∷ event_words event
+
+-- ---- replies
+
+-- the pid of what a sibling runs, `idle` for 0
+abbrev pub run_word : ℕ → Word
+run_word pid = if pid == 0 then codes "idle" else decimal pid
+
+abbrev pub kind_word : Kind → Word
+kind_word Plain = codes "Plain"
+
+-- KIND RUN `core` COOKIE `forced` COUNT
+abbrev pub pick_words : Pick → List Word
+pick_words pick =
+    kind_word pick.kind ∷ run_word pick.run ∷ codes "core" ∷ decimal pick.core ∷ codes "forced" ∷ decimal pick.forced ∷ []
+
+abbrev pub reply_words : Reply → List Word
+reply_words (Picked pick) = pick_words pick
+reply_words Nothing = codes "Nothing" ∷ []
+reply_words (Slept pid pick) = codes "Slept" ∷ decimal pid ∷ pick_words pick
+reply_words Idle = codes "Idle" ∷ []
+reply_words (Woken cpu) = codes "Woken" ∷ decimal cpu ∷ []
+reply_words Awake = codes "Awake" ∷ []
+reply_words NoTask = codes "NoTask" ∷ []
