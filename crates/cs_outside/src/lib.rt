@@ -6,5 +6,5 @@ mod sink;
 mod source;
 
 pub use fault::Failed;
-pub use sink::Sink;
+pub use sink::{Sink, write_all};
 pub use source::Source;

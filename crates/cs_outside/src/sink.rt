@@ -1,7 +1,7 @@
 //! Where bytes go.
 
-ghost use Rattle.std.specs.Prelude.{◌≡◌, ◌<◌, ◌≤◌, ℕ, List, Option, length, take, IfOk, OnErr};
-ghost use Rattle.cs_outside.specs.Device.{appended, Rose};
+ghost use Rattle.std.specs.Prelude.{◌≡◌, ◌<◌, ◌≤◌, ℕ, List, Option, length, take, IfOk, OnOk, OnErr};
+ghost use Rattle.cs_outside.specs.Device.{appended, Rose, WritesFront};
 
 use crate::fault::Failed;
 
@@ -25,4 +25,21 @@ pub trait Sink {
         ensures failed { OnErr result (Rose (faults self.old) (faults self.new)) }
         ensures unwritten { OnErr result (written self.new ≡ written self.old) }
         ensures counted { faults self.old ≤ faults self.new };
+}
+
+/// Gives the whole piece to the sink in one piece, and again the rest where it took only a part. At
+/// an `Err` the sink failed, and a front of the piece was written. It takes no memory, and always
+/// returns, since each write takes a byte or fails.
+pub fn write_all<K: Sink>(sink: &mut K, piece: &[u8]) -> Result<(), Failed>
+    ensures ok { OnOk result (K.written sink.new ≡ appended (K.written sink.old) piece.now) }
+    ensures front { WritesFront (K.written sink.old) piece.now (K.written sink.new) }
+
+    ensures failed { OnErr result (Rose (K.faults sink.old) (K.faults sink.new)) }
+    ensures counted { K.faults sink.old ≤ K.faults sink.new }
+{
+    let mut given = 0;
+    while given < piece.len() {
+        given += sink.write(&piece[given..])?;
+    }
+    Ok(())
 }
