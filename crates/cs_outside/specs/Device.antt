@@ -10,6 +10,10 @@ prepended bytes left = option_map (λ rest. bytes ++ rest) left
 abbrev pub appended : Option (List ℕ) → List ℕ → Option (List ℕ)
 appended written bytes = option_map (λ before. before ++ bytes) written
 
+-- one more of what is counted, up to 2^64 - 1, where a count stays
+abbrev pub raised : ℕ → ℕ
+raised count = min (count + 1) (2 ^ 64 - 1)
+
 -- A count of faults rose: it is greater than before, or stands at its end, 2^64 - 1.
 abbrev pub Rose : ℕ → ℕ → Type 0
 Rose before now = min (before + 1) (2 ^ 64 - 1) ≤ now

@@ -2,9 +2,11 @@
 #![tactic(auto)]
 
 mod fault;
+mod memory_source;
 mod sink;
 mod source;
 
 pub use fault::Failed;
+pub use memory_source::MemSource;
 pub use sink::{Sink, write_all};
 pub use source::Source;

@@ -1,0 +1,21 @@
+-- A list that is read in pieces.
+use Rattle.std.proofs.Common.{◌≡◌, ℕ, ◌+◌, ◌-◌, ◌≤◌, List, ◌++◌, length, take, drop, refl, sym, ap, subst, ◌∙◌, take_at, take_all, drop-drop, take-append-drop, length-take-le, length-drop, le_of_eq, slice_range}
+
+-- a piece of what is left, in front of the rest
+taken_from : (left piece behind : List ℕ) (n : ℕ) → piece ≡ take n left → n ≤ length left → take n (piece ++ behind) ++ drop n left ≡ left
+taken_from left piece behind n is_front within =
+    ap (λ (front : List ℕ). front ++ drop n left) (take_at piece behind n (ap length is_front ∙ length-take-le n left within))
+    ∙ ap (λ (front : List ℕ). front ++ drop n left) is_front
+    ∙ take-append-drop n left
+
+-- the rest of a list is all that is behind a place
+slice_range-to_end : (bytes : List ℕ) (at end : ℕ) → end ≡ length bytes → slice_range bytes at end ≡ drop at bytes
+slice_range-to_end bytes at end is_end = take_all (end - at) (drop at bytes) (le_of_eq (length-drop at bytes ∙ ap (λ (n : ℕ). n - at) (sym is_end)))
+
+-- what is left of the bytes behind a place is a piece that was read, and what is left behind it
+pub left_in_pieces : (bytes left piece behind : List ℕ) (at n : ℕ) → left ≡ drop at bytes → piece ≡ take n (slice_range bytes at (length bytes)) → n ≤ length (slice_range bytes at (length bytes)) → left ≡ take n (piece ++ behind) ++ drop (at + n) bytes
+left_in_pieces bytes left piece behind at n is_left is_front within =
+    let whole = slice_range-to_end bytes at (length bytes) refl in
+    is_left
+    ∙ sym (taken_from (drop at bytes) piece behind n (is_front ∙ ap (λ (xs : List ℕ). take n xs) whole) (subst (λ (xs : List ℕ). n ≤ length xs) whole within))
+    ∙ ap (λ (rest : List ℕ). take n (piece ++ behind) ++ rest) (drop-drop n at bytes)
