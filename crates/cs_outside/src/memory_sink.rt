@@ -1,0 +1,128 @@
+//! A sink in memory, which fails where it is told to.
+
+ghost use Rattle.std.specs.Prelude.{◌≡◌, ◌≢◌, ◌⊎◌, ◌+◌, ◌-◌, ◌<◌, ◌≤◌, ◌↔◌, ◌++◌, [], length, min, take, Contains, Some, IsOk, IsErr, IfOk, OnErr};
+ghost use Rattle.cs_outside.specs.Device.{raised, Rose};
+
+use crate::fault::Failed;
+use crate::sink::Sink;
+use cs_types::OutOfMemory;
+use std::alloc::Global;
+use std::marker::Model;
+
+/// Bytes that are written in pieces of a length of their own, up to the room that was taken at the
+/// start. Its calls are counted from 1, and those with the numbers that it was given fail.
+#[derive(Debug, Drop)]
+pub struct MemSink {
+    bytes: Vec<u8>,
+    room: usize,
+    most: usize,
+    fails: Vec<u64>,
+    calls: u64,
+    faults: u64,
+}
+
+impl Model for MemSink {
+    ghost use Rattle.std.specs.Prelude.{◌+◌, ◌<◌, ◌≤◌, vec_len, vec_capacity};
+    ghost use Rattle.cs_outside.specs.Memory.{SinkState};
+
+    ghost Value = { SinkState };
+
+    ghost view = { λ s. record {
+      written = s.bytes.items;
+      room = s.room;
+      most = s.most;
+      fails = s.fails.items;
+      calls = s.calls;
+      faults = s.faults;
+    } };
+
+    ghost invariant = { λ s. (vec_len s.bytes + s.room ≤ vec_capacity s.bytes) × (0 < s.most) };
+}
+
+impl MemSink {
+    /// A sink that has room for `room` bytes, and has taken memory for them. A call takes at most
+    /// `most` of them, and fails where its number, counted from 1, is one of `fails`.
+    pub fn of(
+        alloc: Global,
+        room: usize,
+        most: usize,
+        fails: Vec<u64>,
+    ) -> Result<MemSink, OutOfMemory>
+        requires { 0 < most }
+        ensures ok { IfOk result (λ sink. sink ≡ record {
+          written = [];
+          room = room;
+          most = most;
+          fails = fails.items;
+          calls = 0;
+          faults = 0;
+        }) }
+        ensures empty { room ≡ 0 → IsOk result }
+    {
+        let bytes = Vec::with_capacity(alloc, room)?;
+        Ok(MemSink {
+            bytes,
+            room,
+            most,
+            fails,
+            calls: 0,
+            faults: 0,
+        })
+    }
+
+    /// The bytes that were written, in their order.
+    pub fn bytes(&self) -> &[u8]
+        ensures { result.now ≡ self.now.written }
+    {
+        &self.bytes
+    }
+
+    /// How often it was written to, failed calls too, up to 2^64 - 1, where the count stays.
+    pub fn calls(&self) -> u64
+        ensures { result ≡ self.now.calls }
+    {
+        self.calls
+    }
+}
+
+impl Sink for MemSink {
+    ghost written = { λ sink. Some sink.written };
+
+    ghost faults = { λ sink. sink.faults };
+
+    /// Takes the least of the most bytes of a call, the piece's length and the room that is left. It
+    /// fails exactly where it was told to and where no room is left, and then takes nothing. It
+    /// takes no memory.
+    fn write(&mut self, piece: &[u8]) -> Result<usize, Failed>
+        requires { 0 < length piece.now }
+
+        ensures some { IfOk result (λ n. 0 < n) }
+        ensures within { IfOk result (λ n. n ≤ length piece.now) }
+        ensures appended { IfOk result (λ n. self.new.written ≡ self.old.written ++ take n piece.now) }
+        ensures failed { OnErr result (Rose self.old.faults self.new.faults) }
+        ensures unwritten { OnErr result (self.new.written ≡ self.old.written) }
+        ensures counted { self.old.faults ≤ self.new.faults }
+
+        ensures fails { IsErr result ↔ (Contains self.old.fails (raised self.old.calls) ⊎ (self.old.room ≡ 0)) }
+        ensures count { IfOk result (λ n. n ≡ min (min (length piece.now) self.old.room) self.old.most) }
+        ensures ok { IfOk result (λ n. self.new ≡ record self.old {
+          written = self.old.written ++ take n piece.now;
+          room = self.old.room - n;
+          calls = raised self.old.calls;
+        }) }
+        ensures err { OnErr result (self.new ≡ record self.old {
+          calls = raised self.old.calls;
+          faults = raised self.old.faults;
+        }) }
+    {
+        self.calls = self.calls.saturating_add(1);
+        if self.room == 0 || self.fails.contains(&self.calls) {
+            self.faults = self.faults.saturating_add(1);
+            return Err(Failed);
+        }
+        let count = piece.len().min(self.room).min(self.most);
+        self.bytes.extend_from_slice(&piece[..count]).unwrap();
+        self.room -= count;
+        Ok(count)
+    }
+}
