@@ -1,5 +1,8 @@
 -- A list that is read in pieces.
-use Rattle.std.proofs.Common.{◌≡◌, ℕ, ◌+◌, ◌-◌, ◌≤◌, List, ◌++◌, length, take, drop, refl, sym, ap, subst, ◌∙◌, take_at, take_all, drop-drop, take-append-drop, length-take-le, length-drop, le_of_eq, slice_range}
+use Rattle.std.proofs.Common.{◌≡◌, ℕ, ◌+◌, ◌-◌, ◌≤◌, List, ◌++◌, length, take, drop, refl, sym, ap, subst, ◌∙◌, take_at, take_all, drop-drop, take-append-drop, length-take-le, length-drop, le_of_eq, slice_range, arith, zero-add, zero-le}
+use Rattle.std.proofs.lemmas.List.{drop-take}
+use Rattle.std.proofs.lemmas.List.Edits.{take-paste}
+use Rattle.std.specs.List.{copy_within}
 
 -- a piece of what is left, in front of the rest
 taken_from : (left piece behind : List ℕ) (n : ℕ) → piece ≡ take n left → n ≤ length left → take n (piece ++ behind) ++ drop n left ≡ left
@@ -19,3 +22,14 @@ left_in_pieces bytes left piece behind at n is_left is_front within =
     is_left
     ∙ sym (taken_from (drop at bytes) piece behind n (is_front ∙ ap (λ (xs : List ℕ). take n xs) whole) (subst (λ (xs : List ℕ). n ≤ length xs) whole within))
     ∙ ap (λ (rest : List ℕ). take n (piece ++ behind) ++ rest) (drop-drop n at bytes)
+
+-- what is left of the front of a list, once it is moved down over a piece that is gone
+pub left_moved : (bytes moved : List ℕ) (gone len : ℕ) → moved ≡ copy_within bytes gone len 0 → len ≤ length bytes → gone ≤ len → take (len - gone) moved ≡ drop gone (take len bytes)
+left_moved bytes moved gone len is_moved within few =
+    let rest : len - gone ≤ length (drop gone bytes) = omega (arith, length-drop gone bytes) in
+    let parts : gone + (len - gone) ≡ len = omega arith in
+    ap (λ (xs : List ℕ). take (len - gone) xs) is_moved
+    ∙ ap (λ (n : ℕ). take n (copy_within bytes gone len 0)) (sym (zero-add (len - gone)))
+    ∙ take-paste bytes 0 (drop gone bytes) (len - gone) zero-le rest
+    ∙ sym (drop-take gone (len - gone) bytes)
+    ∙ ap (λ (n : ℕ). drop gone (take n bytes)) parts

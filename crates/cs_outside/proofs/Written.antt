@@ -1,5 +1,7 @@
 -- What a sink holds after several writes.
-use Rattle.std.proofs.Common.{◌≡◌, ℕ, ◌+◌, ◌-◌, List, ◌++◌, length, take, drop, refl, sym, ap, ◌∙◌, append_assoc, take-add, take_all, le_of_eq, length-drop, slice_range, Option, Some, None}
+use Rattle.std.proofs.Common.{◌≡◌, ℕ, ◌+◌, ◌-◌, List, ◌++◌, length, take, drop, refl, sym, ap, subst, ◌∙◌, append_assoc, take-add, take_all, le_of_eq, length-drop, slice_range, Option, Some, None}
+use Rattle.std.specs.Io.KnownBytes.{Appends}
+use Rattle.std.proofs.KnownBytes.{Appends-trans}
 use Rattle.cs_outside.specs.Device.{appended}
 
 -- two fronts, one behind the other
@@ -13,3 +15,10 @@ pub appended_rest : (before : Option (List ℕ)) (text : List ℕ) (m n : ℕ) �
 appended_rest before text m n =
     ap (λ (rest : List ℕ). appended (appended before (take m text)) (take n rest)) (take_all (length text - m) (drop m text) (le_of_eq (length-drop m text)))
     ∙ appended-appended before text m n
+
+-- a writer that took a front of a text, and then one of the rest, took a front of the text
+pub Appends_rest : (before then now : Option (List ℕ)) (text : List ℕ) (m n : ℕ) → Appends before then (take m text) → Appends then now (take n (slice_range text m (length text))) → Appends before now (take (m + n) text)
+Appends_rest before then now text m n first more =
+    let whole : slice_range text m (length text) ≡ drop m text = take_all (length text - m) (drop m text) (le_of_eq (length-drop m text)) in
+    let parts : take m text ++ take n (slice_range text m (length text)) ≡ take (m + n) text = ap (λ (rest : List ℕ). take m text ++ take n rest) whole ∙ sym (take-add m n text) in
+    subst (λ (xs : List ℕ). Appends before now xs) parts (Appends-trans before then now (take m text) (take n (slice_range text m (length text))) first more)

@@ -2,13 +2,23 @@
 #![tactic(auto)]
 
 mod fault;
+mod gathered;
 mod memory_sink;
 mod memory_source;
+mod retried;
 mod sink;
 mod source;
+mod std_sink;
+mod std_source;
 
 pub use fault::Failed;
+pub use gathered::BUFFER_BYTES;
 pub use memory_sink::MemSink;
 pub use memory_source::MemSource;
 pub use sink::{Sink, write_all};
 pub use source::Source;
+pub use std_sink::StdSink;
+pub use std_source::StdSource;
+
+#[cfg(test)]
+mod tests;
