@@ -1,5 +1,7 @@
 //! What no clause says: that calls succeed, and which errors of the system are no fault.
 
+ghost use Rattle.std.specs.Prelude.{◌≤◌, IfOk};
+
 use crate::gathered::Gathered;
 use crate::retried::read_some;
 use crate::{MemSink, MemSource, Sink, Source, StdSink, StdSource, write_all};
@@ -76,7 +78,9 @@ impl Halting {
         }
     }
 
-    fn step(&mut self, byte: u8) -> io::Result<usize> {
+    fn step(&mut self, byte: u8) -> io::Result<usize>
+        ensures { IfOk result (λ n. n ≤ 1) }
+    {
         self.is_interrupted = !self.is_interrupted;
         if self.is_interrupted {
             return Err(ErrorKind::Interrupted.into());
@@ -104,11 +108,11 @@ impl Write for Halting {
 
 impl Read for Halting {
     fn read(&mut self, buf: &mut [u8]) -> io::Result<usize> {
-        if let Some(first) = buf.first_mut() {
-            *first = b'x';
-            return self.step(b'x');
+        if buf.is_empty() {
+            return Ok(0);
         }
-        Ok(0)
+        buf[0] = b'x';
+        self.step(b'x')
     }
 }
 
