@@ -1,6 +1,6 @@
 //! Bytes that wait for their way to a writer.
 
-ghost use Rattle.std.specs.Prelude.{◌≡◌, ◌+◌, ◌≤◌, ◌++◌, [], length, take, OnOk};
+ghost use Rattle.std.specs.Prelude.{◌≡◌, ◌+◌, ◌<◌, ◌≤◌, ◌++◌, [], length, take, OnOk, OnErr};
 ghost use Rattle.std.specs.Io.KnownBytes.{Appends};
 ghost use Rattle.cs_outside.specs.Stream.{LosesFront};
 
@@ -13,7 +13,7 @@ use std::marker::Model;
 pub const BUFFER_BYTES: usize = 8192;
 
 /// Bytes in the order in which they came.
-#[derive(Drop)]
+#[derive(Debug, Drop)]
 pub(crate) struct Gathered {
     bytes: [u8; BUFFER_BYTES],
     len: usize,
@@ -61,6 +61,7 @@ impl Gathered {
     /// are still here.
     pub fn empty_to<W: Write>(&mut self, output: &mut W) -> Result<(), Failed>
         ensures emptied { OnOk result (self.new ≡ []) }
+        ensures left { OnErr result (0 < length self.new) }
         ensures given { LosesFront self.old self.new
             (λ front. Appends (W.contents output.old) (W.contents output.new) front) }
     {

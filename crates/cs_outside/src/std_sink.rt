@@ -13,7 +13,7 @@ use std::marker::Model;
 
 /// Standard output. It tells no bytes. It gathers them and takes no memory, so `flush` has to be
 /// called after the last write: what is gathered at the end is lost.
-#[derive(Drop)]
+#[derive(Debug, Drop)]
 pub struct StdSink {
     output: Stdout,
     gathered: Gathered,
@@ -45,6 +45,7 @@ impl StdSink {
     pub fn flush(&mut self) -> Result<(), Failed>
         ensures ok { OnOk result (self.new ≡ record self.old { gathered = [] }) }
         ensures kept { IsRest self.old.gathered self.new.gathered }
+        ensures left { OnErr result (0 < length self.new.gathered) }
 
         ensures failed { OnErr result (Rose self.old.faults self.new.faults) }
         ensures counted { self.old.faults ≤ self.new.faults }
