@@ -1,6 +1,6 @@
 //! A sink in memory, which fails where it is told to.
 
-ghost use Rattle.std.specs.Prelude.{◌≡◌, ◌≢◌, ◌⊎◌, ◌+◌, ◌-◌, ◌<◌, ◌≤◌, ◌↔◌, ◌++◌, [], length, min, take, Contains, Some, IsOk, IsErr, IfOk, OnErr};
+ghost use Rattle.std.specs.Prelude.{◌≡◌, ◌⊎◌, ◌-◌, ◌<◌, ◌≤◌, ◌↔◌, ◌++◌, [], length, min, take, Contains, Some, IsOk, IsErr, IfOk, OnErr};
 ghost use Rattle.cs_outside.specs.Device.{raised, Rose};
 
 use crate::fault::Failed;

@@ -1,7 +1,7 @@
 //! A source in memory, which fails where it is told to.
 
-ghost use Rattle.std.specs.Prelude.{◌≡◌, ◌+◌, ◌<◌, ◌≤◌, ◌↔◌, ◌++◌, [], length, min, take, drop, Contains, Some, IsErr, IfOk, OnErr};
-ghost use Rattle.cs_outside.specs.Device.{prepended, raised, Rose};
+ghost use Rattle.std.specs.Prelude.{◌≡◌, ◌<◌, ◌≤◌, ◌↔◌, ◌++◌, [], length, min, take, drop, Contains, Some, IsErr, IfOk, OnErr};
+ghost use Rattle.cs_outside.specs.Device.{raised, Rose};
 
 use crate::fault::Failed;
 use crate::source::Source;
