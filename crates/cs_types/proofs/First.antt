@@ -2,7 +2,7 @@
 use Rattle.std.proofs.Common.{◌≡◌, ℕ, Bool, true, false, cond, not, ltb, List, [], ◌∷◌, ◌++◌, refl, sym, ap, ◌∙◌, inl, inr, append_assoc, arith, Option, Some, None}
 use Rattle.std.specs.Prelude.{◌&&◌, ◌||◌, find}
 use Rattle.std.specs.Cmp.{IsStrictWeakOrder}
-use Rattle.std.specs.List.{list_all, AllByRecursion}
+use Rattle.std.specs.List.{list_all, AllByRecursion, fold, reduce}
 use Rattle.std.specs.Option.{option_map_or}
 use Rattle.std.proofs.lemmas.Bool.{cases_Bool, and_parts, and_from, and_left, and_right, both_ways, not-true, not_from_false, not_from_true, cond-true, cond-false}
 use Rattle.std.proofs.lemmas.List.{append-nil}
@@ -152,7 +152,7 @@ module _ {X : Type 0} (lt : X → X → Bool) (order : IsStrictWeakOrder lt) whe
       absurd cc
 
   -- the least element of a list with one more at its end
-  pub least_more : (xs : List X) (t : X) →
+  least_more : (xs : List X) (t : X) →
       least lt (xs ++ t ∷ []) ≡ Some (option_map_or (λ b. cond (lt t b) t b) (least lt xs) t)
   least_more xs t = least_more_from (least lt xs) refl where
     least_more_from : (o : Option X) → least lt xs ≡ o → least lt (xs ++ t ∷ []) ≡ Some (option_map_or (λ b. cond (lt t b) t b) o t)
@@ -181,7 +181,19 @@ goes_before_is_order = record {
   chain = λ x y z h k. chain (priority_of x.spec.policy) (priority_of y.spec.policy) (priority_of z.spec.policy) x.stamp y.stamp z.stamp h k;
 }
 
--- the first of a list with one more task at its end
-pub first_of-push : (tasks : List TaskState) (task : TaskState) →
-    first_of (tasks ++ task ∷ []) ≡ Some (option_map_or (λ first. cond (goes_before task first) task first) (first_of tasks) task)
-first_of-push tasks task = least_more goes_before goes_before_is_order tasks task
+-- the better of two tasks, as a scan from the front of a list keeps it
+abbrev pub better : TaskState → TaskState → TaskState
+better first task = cond (goes_before task first) task first
+
+first_of-append : (front : List TaskState) (first : TaskState) → first_of front ≡ Some first → (tasks : List TaskState) →
+    first_of (front ++ tasks) ≡ Some (fold better first tasks)
+first_of-append front first h [] = ap first_of (append-nil front) ∙ h
+first_of-append front first h (task ∷ tasks) =
+    ap first_of (sym (append_assoc front (task ∷ []) tasks))
+    ∙ first_of-append (front ++ task ∷ []) (better first task)
+    (least_more goes_before goes_before_is_order front task ∙ ap (λ o. Some (option_map_or (λ b. better b task) o task)) h) tasks
+
+-- a scan that keeps the better of two finds the first
+pub first_of_reduce : (tasks : List TaskState) → first_of tasks ≡ reduce better tasks
+first_of_reduce [] = refl
+first_of_reduce (task ∷ tasks) = first_of-append (task ∷ []) task (least_one goes_before goes_before_is_order task) tasks

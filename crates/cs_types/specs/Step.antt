@@ -21,7 +21,9 @@ pub record Stepped : Type 0 where
 -- an enqueue gives the task the next stamp
 abbrev pub enqueued : RoomState → TaskState → RoomState
 enqueued room task =
-    record (with_task room (record task { queued = true; stamp = room.next_stamp })) { next_stamp = room.next_stamp + 1 }
+    record (with_task room task.spec.pid (λ other. record other { queued = true; stamp = room.next_stamp })) {
+      next_stamp = room.next_stamp + 1;
+    }
 
 -- a woken task asks its sibling to reschedule where that runs idle or a lower task (this project's rule)
 abbrev pub preempts : RoomState → TaskState → Bool
@@ -52,10 +54,9 @@ turned room past cpu =
 
 -- ---- block: `deactivate_task` in `__schedule`
 
--- the task is asleep, and no longer queued
-abbrev pub dequeued : RoomState → Option TaskState → RoomState
-dequeued room None = room
-dequeued room (Some task) = with_task room (record task { queued = false })
+-- the task with the pid is asleep
+abbrev pub dequeued : RoomState → ℕ → RoomState
+dequeued room pid = with_task room pid (λ task. record task { queued = false })
 
 -- the sibling runs idle
 abbrev pub idled : RoomState → ℕ → RoomState
@@ -64,7 +65,7 @@ idled room cpu = with_sibling room cpu (record (sibling_of room cpu) { run = Non
 abbrev pub blocked : RoomState → List Entry → ℕ → Option ℕ → Stepped
 blocked room past cpu None = record { reply = Idle; room = room }
 blocked room past cpu (Some pid) =
-    picked (Slept pid) (schedule (idled (dequeued room (task_of room pid)) cpu) past cpu)
+    picked (Slept pid) (schedule (idled (dequeued room pid) cpu) past cpu)
 
 -- ---- every event
 
