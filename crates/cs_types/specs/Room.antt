@@ -72,10 +72,10 @@ running_on room cpu = option_and_then (task_of room) (sibling_of room cpu).run
 abbrev pub with_sibling : RoomState → ℕ → SiblingState → RoomState
 with_sibling room cpu sibling = record room { siblings = slice_set room.siblings cpu sibling }
 
--- the task with the pid changed
-abbrev pub with_task : RoomState → ℕ → (TaskState → TaskState) → RoomState
-with_task room pid change =
-    record room { tasks = map (λ task. if has_pid pid task then change task else task) room.tasks }
+-- the task in the place of the one with its pid
+abbrev pub with_task : RoomState → TaskState → RoomState
+with_task room task =
+    record room { tasks = map (λ other. if has_pid task.spec.pid other then task else other) room.tasks }
 
 -- the sibling is pending where it was, and where the test says so
 abbrev pub flagged : RoomState → ℕ → Bool → RoomState

@@ -21,9 +21,7 @@ pub record Stepped : Type 0 where
 -- an enqueue gives the task the next stamp
 abbrev pub enqueued : RoomState → TaskState → RoomState
 enqueued room task =
-    record (with_task room task.spec.pid (λ other. record other { queued = true; stamp = room.next_stamp })) {
-      next_stamp = room.next_stamp + 1;
-    }
+    record (with_task room (record task { queued = true; stamp = room.next_stamp })) { next_stamp = room.next_stamp + 1 }
 
 -- a woken task asks its sibling to reschedule where that runs idle or a lower task (this project's rule)
 abbrev pub preempts : RoomState → TaskState → Bool
@@ -54,22 +52,23 @@ turned room past cpu =
 
 -- ---- block: `deactivate_task` in `__schedule`
 
--- the task with the pid is asleep
-abbrev pub dequeued : RoomState → ℕ → RoomState
-dequeued room pid = with_task room pid (λ task. record task { queued = false })
+-- the task is asleep
+abbrev pub dequeued : RoomState → TaskState → RoomState
+dequeued room task = with_task room (record task { queued = false })
 
 -- the sibling runs idle
 abbrev pub idled : RoomState → ℕ → RoomState
 idled room cpu = with_sibling room cpu (record (sibling_of room cpu) { run = None })
 
-abbrev pub blocked : RoomState → List Entry → ℕ → Option ℕ → Stepped
+-- nothing to put to sleep, or the running task, after which the sibling takes the next
+abbrev pub blocked : RoomState → List Entry → ℕ → Option TaskState → Stepped
 blocked room past cpu None = record { reply = Idle; room = room }
-blocked room past cpu (Some pid) =
-    picked (Slept pid) (schedule (idled (dequeued room pid) cpu) past cpu)
+blocked room past cpu (Some task) =
+    picked (Slept task.spec.pid) (schedule (idled (dequeued room task) cpu) past cpu)
 
 -- ---- every event
 
 abbrev pub step : RoomState → List Entry → Event → Stepped
 step room past (Turn cpu) = turned room past cpu
-step room past (Block cpu) = blocked room past cpu (sibling_of room cpu).run
+step room past (Block cpu) = blocked room past cpu (running_on room cpu)
 step room past (Wake pid) = woken room (task_of room pid)

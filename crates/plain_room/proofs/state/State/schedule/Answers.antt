@@ -1,0 +1,7 @@
+use Rattle.std.proofs.Common.{refl}
+use Rattle.std.proofs.lemmas.List.{map-set}
+use Rattle.plain_room.specs.State.{sibling_state}
+use Rattle.plain_room.proofs.state.State.schedule.Goals as goal
+
+pub returns-clause-room : goal.returns-clause-room
+returns-clause-room c scenario past = rw (map-set sibling_state, c.first_on-run.ensures) refl

@@ -1,0 +1,98 @@
+//! The machine over plain lists. It keeps its scenario, the state of the core and every entry.
+
+ghost use Rattle.std.specs.Prelude.{◌≡◌, [], length, IfOk};
+ghost use Rattle.cs_types.specs.Scenario.{IsBuilt};
+
+use crate::state::State;
+use cs_types::{Actor, Entry, Event, List, OutOfMemory, Reply, Room, Scenario};
+use std::alloc::Global;
+use std::marker::Model;
+
+/// A machine that keeps plain lists. Contracts see what it stands for: its scenario, the steps that
+/// were made, and for how many more entries there is room.
+#[derive(Drop)]
+pub struct PlainRoom {
+    scenario: Scenario,
+    state: State,
+    entries: Vec<Entry>,
+}
+
+impl Model for PlainRoom {
+    ghost use Rattle.plain_room.specs.Machine.{Machine};
+
+    ghost Value = { Machine };
+
+    ghost use Rattle.plain_room.specs.Inside.{machine_of, IsFold};
+
+    ghost view = { machine_of };
+
+    ghost invariant = { IsFold };
+}
+
+impl PlainRoom {
+    /// The room of a scenario before its first step. It takes memory for as many entries as the
+    /// scenario has steps, and no later call takes any.
+    pub fn start(alloc: Global, scenario: &Scenario) -> Result<PlainRoom, OutOfMemory>
+        requires { IsBuilt scenario.now }
+        ensures scenario { IfOk result (λ room. room.scenario ≡ scenario.now) }
+        ensures empty { IfOk result (λ room. room.steps ≡ []) }
+        ensures free { IfOk result (λ room. room.free ≡ length scenario.now.steps) }
+    {
+        let state = State::start(alloc, scenario)?;
+        let entries = Vec::with_capacity(alloc, scenario.steps.items().len())?;
+        let tasks = List::of(Vec::from_slice(alloc, scenario.tasks.items())?);
+        let steps = List::of(Vec::from_slice(alloc, scenario.steps.items())?);
+        let scenario = Scenario {
+            siblings: scenario.siblings,
+            task_limit: scenario.task_limit,
+            cookie_limit: scenario.cookie_limit,
+            user_top: scenario.user_top,
+            tasks,
+            steps,
+        };
+        Ok(PlainRoom {
+            scenario,
+            state,
+            entries,
+        })
+    }
+}
+
+impl Room for PlainRoom {
+    ghost use Rattle.cs_types.specs.History.{history_of};
+    ghost use Rattle.cs_types.proofs.Histories.{IsLegal-history_of};
+
+    ghost scenario = { λ room. room.scenario };
+
+    ghost history = { λ room. history_of room.scenario room.steps };
+
+    ghost free = { λ room. room.free };
+
+    fn apply(&mut self, actor: Actor, event: Event) -> Reply {
+        let reply = self.state.apply(event);
+        self.entries.push_reserved(Entry {
+            actor,
+            event,
+            reply,
+        });
+        reply
+    }
+
+    fn spare(&self) -> u64 {
+        (self.entries.capacity() - self.entries.len()) as u64
+    }
+
+    fn length(&self) -> u64 {
+        self.entries.len() as u64
+    }
+
+    fn entry(&self, place: u64) -> Option<Entry> {
+        self.entries.get(place as usize).copied()
+    }
+
+    fn siblings(&self) -> u8 {
+        self.scenario.siblings
+    }
+
+    ghost legal = { λ room. IsLegal-history_of room.scenario room.steps };
+}
