@@ -2,5 +2,7 @@
 #![tactic(auto)]
 
 mod fault;
+mod writing;
 
 pub use fault::{BadKind, ReadFault};
+pub use writing::entry_text;
