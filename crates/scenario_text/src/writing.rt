@@ -6,6 +6,8 @@ ghost use Rattle.cs_outside.specs.Device.{appended, Rose, WritesFront};
 ghost use Rattle.scenario_text.specs.Text.{entry_text};
 
 mod line;
+#[cfg(test)]
+mod tests;
 
 use cs_outside::{Failed, Sink, write_all};
 use cs_types::Entry;
