@@ -2,6 +2,10 @@
 #![tactic(auto)]
 
 mod fault;
+mod lines;
+mod number;
+mod pieces;
+mod words;
 mod writing;
 
 pub use fault::{BadKind, ReadFault};

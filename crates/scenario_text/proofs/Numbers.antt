@@ -1,0 +1,133 @@
+-- Numbers: a word that is read as a number is the number's decimal, and that decimal is read as the number.
+use Rattle.std.proofs.Common.{◌≡◌, ◌≢◌, ℕ, zero, suc, ◌^◌, ◌<◌, ◌≤◌, Bool, true, false, cond, eqb, leb, List, [], ◌∷◌, length, get_or, Option, Some, None, Result, Ok, Err, refl, sym, ap, subst, ◌∙◌, arith, inl, inr}
+use Rattle.std.specs.Prelude.{decimal, ◌&&◌, ◌||◌, not, MatchResult, is_ok}
+use Rattle.std.specs.Borrow.{Bor}
+use Rattle.std.specs.Result.{result_ok}
+use Rattle.std.specs.Char.{is_ascii_digit}
+use Rattle.std.specs.Str.{all_ascii_digits, IsUtf8}
+use Rattle.std.specs.Str.Parse.{digits_value, AllDigits, ParsesUnsigned}
+use Rattle.std.proofs.lemmas.Bool.{cases_eq, cases_Bool, and_parts, and_from, eqb-true, leb-true, le-leb, cond-true, cond-false, false_from_ne_true, false≢true, both_ways}
+use Rattle.std.proofs.lemmas.Bool.Decides.{nat_tests}
+use Rattle.std.proofs.lemmas.Option.{cond_some}
+use Rattle.std.proofs.lemmas.Result.{Ok-from_Ok_iff, OkIff-at_ok}
+use Rattle.std.proofs.lemmas.Str.{IsUtf8-from_ascii}
+use Rattle.std.proofs.lemmas.Str.Parse.{IsNumeralModel, numerals_by_value, tells_all_ascii_digits, digit_at, parse_plain}
+use Rattle.std.proofs.lemmas.Fmt.{decimal_digit, decimal_is_IsNumeral, first_decimal, decimal-digits_value, IsAscii-from_digits}
+use Rattle.cs_types.specs.Scenario.{IsWithin}
+use Rattle.scenario_text.specs.Words.{Word}
+use Rattle.scenario_text.specs.Reading.{is_canonical, is_number, number_of}
+
+-- the words that `parse` reads
+digits_model : IsNumeralModel (λ ds. all_ascii_digits ds ≡ true) (digits_value 10)
+digits_model = numerals_by_value (λ ds. all_ascii_digits ds ≡ true) tells_all_ascii_digits
+
+-- ---- canonical words
+
+record IsCanonical (word : Word) : Type 0 where
+  some : 0 < length word
+  unsigned : get_or word 0 0 ≢ 43
+  zero_alone : get_or word 0 0 ≡ 48 → length word ≡ 1
+
+first_byte : (byte len : ℕ) → (is_ascii_digit byte && (eqb len 1 || not (eqb byte 48))) ≡ true → (byte ≢ 0) × (byte ≢ 43) × (byte ≡ 48 → len ≡ 1)
+first_byte byte len h = grind (arith, nat_tests)
+
+canonical : (word : Word) → is_canonical word ≡ true → IsCanonical word
+canonical [] h = absurd (false≢true h)
+canonical (byte ∷ rest) h =
+    let parts = first_byte byte (suc (length rest)) h in
+    record { some = omega arith; unsigned = parts.1; zero_alone = parts.2 }
+
+first_digit : (byte len : ℕ) → 48 ≤ byte → byte ≤ 57 → (byte ≡ 48 → len ≡ 1) → (is_ascii_digit byte && (eqb len 1 || not (eqb byte 48))) ≡ true
+first_digit byte len low high alone = grind (arith, nat_tests)
+
+decimal_canonical : (n : ℕ) → n < 2 ^ 64 → is_canonical (decimal n) ≡ true
+decimal_canonical n fits =
+    elim (cases_eq n 0) [
+      | inl is ↦ rw (is, decimal_digit 0 (omega arith)) refl
+      | inr not_zero ↦
+          let numeral = decimal_is_IsNumeral n fits in
+          let range = digit_at (decimal n) 0 numeral.0.1 numeral.0.0 in
+          let above = first_decimal n (omega arith) fits in
+          first_digit (get_or (decimal n) 0 0) (length (decimal n)) (omega arith) range.1 (λ is. omega arith)
+    ]
+
+-- ---- numbers from low to high
+
+record IsNumber (low high : ℕ) (word : Word) : Type 0 where
+  canonical : is_canonical word ≡ true
+  digits : all_ascii_digits word ≡ true
+  from : low ≤ digits_value 10 word
+  to : digits_value 10 word ≤ high
+
+number_parts : (low high : ℕ) (word : Word) → is_number low high word ≡ true → IsNumber low high word
+number_parts low high word h =
+    let a = and_parts (is_canonical word && all_ascii_digits word && leb low (digits_value 10 word)) (leb (digits_value 10 word) high) h in
+    let b = and_parts (is_canonical word && all_ascii_digits word) (leb low (digits_value 10 word)) a.0 in
+    let c = and_parts (is_canonical word) (all_ascii_digits word) b.0 in
+    record { canonical = c.0; digits = c.1; from = leb-true _ _ b.1; to = leb-true _ _ a.1 }
+
+number_whole : (low high : ℕ) (word : Word) → IsNumber low high word → is_number low high word ≡ true
+number_whole low high word h =
+    and_from (is_canonical word && all_ascii_digits word && leb low (digits_value 10 word)) (leb (digits_value 10 word) high)
+    (and_from (is_canonical word && all_ascii_digits word) (leb low (digits_value 10 word))
+    (and_from (is_canonical word) (all_ascii_digits word) h.canonical h.digits) (le-leb _ _ h.from)) (le-leb _ _ h.to)
+
+-- what is read is spelled so
+pub number_takes : (low high : ℕ) (word : Word) (n : ℕ) → high < 2 ^ 64 → number_of low high word ≡ Some n → (word ≡ decimal n) × IsWithin low high n
+unfolding number_of
+number_takes low high word n small h =
+    let read = cond_some (is_number low high word) (digits_value 10 word) n h in
+    let parts = number_parts low high word read.0 in
+    let first = canonical word parts.canonical in
+    let spelled = decimal-digits_value digits_model word parts.digits first.some first.zero_alone (omega arith) in
+    subst (λ (v : ℕ). (word ≡ decimal v) × IsWithin low high v) read.1 (sym spelled, (parts.from, parts.to))
+
+-- what is spelled so is read
+pub number_again : (low high n : ℕ) → high < 2 ^ 64 → IsWithin low high n → number_of low high (decimal n) ≡ Some n
+unfolding number_of
+number_again low high n small within =
+    let numeral = decimal_is_IsNumeral n (omega arith) in
+    let same = numeral.1 in
+    let is_one = number_whole low high (decimal n) (record {
+      canonical = decimal_canonical n (omega arith);
+      digits = digits_model.from (decimal n) numeral.0.1;
+      from = omega arith;
+      to = omega arith;
+    }) in
+    cond-true (is_number low high (decimal n)) (Some (digits_value 10 (decimal n))) None is_one ∙ ap Some same
+
+-- ---- what the code finds
+
+no_number : (low high : ℕ) (word : Word) → (IsNumber low high word → ⊥) → number_of low high word ≡ None
+unfolding number_of
+no_number low high word refused =
+    cond-false (is_number low high word) (Some (digits_value 10 word)) None
+    (false_from_ne_true (is_number low high word) (λ h. refused (number_parts low high word h)))
+
+pub not_canonical : (low high : ℕ) (word : Word) → is_canonical word ≡ false → number_of low high word ≡ None
+not_canonical low high word fails = no_number low high word (λ h. both_ways (is_canonical word) fails h.canonical)
+
+-- bytes that are no text are no digits
+pub not_text : {T E : Type 0} (low high : ℕ) (word : Word) (r : Result T E) (P : T → Type 0) (Q : E → Type 0) → MatchResult r P (λ e. ¬ (IsUtf8 word) × Q e) → false ≡ is_ok r → number_of low high word ≡ None
+not_text low high word (Ok x) P Q h e = absurd (false≢true e)
+not_text low high word (Err x) P Q h e = no_number low high word (λ parts. h.0 (IsUtf8-from_ascii word (IsAscii-from_digits word (digits_model.to word parts.digits))))
+
+pub text_is : {E : Type 0} (word : Word) (text : Bor (List ℕ)) (r : Result (Bor (List ℕ)) E) (Q : E → Type 0) → MatchResult r (λ s. (s.now ≡ word) × IsUtf8 word) Q → Some text ≡ result_ok r → text.now ≡ word
+text_is word text (Ok x) Q h e = let same : text ≡ x = cc in ap (λ (b : Bor (List ℕ)). b.now) same ∙ h.0
+text_is word text (Err x) Q h e = absurd cc
+
+pub not_parsed : {E : Type 0} (low high : ℕ) (word : Word) (r : Result ℕ E) → high < 2 ^ 64 → is_canonical word ≡ true → ParsesUnsigned 64 10 word r → false ≡ is_ok r → number_of low high word ≡ None
+not_parsed low high word (Ok x) small first h e = absurd (false≢true e)
+not_parsed low high word (Err x) small first h e =
+    let begins = canonical word first in
+    no_number low high word (λ parts. parse_plain digits_model 64 word (Err x) h begins.unsigned (parts.digits, begins.some, omega arith))
+
+pub parsed : {E : Type 0} (low high : ℕ) (word : Word) (n : ℕ) (r : Result ℕ E) → is_canonical word ≡ true → ParsesUnsigned 64 10 word r → Some n ≡ result_ok r → number_of low high word ≡ cond (leb low n && leb n high) (Some n) None
+unfolding number_of
+parsed {E = E} low high word n (Ok x) first h e =
+    let begins = canonical word first in
+    let same : n ≡ x = cc in
+    let read = parse_plain digits_model {E = E} 64 word (Ok x) h begins.unsigned in
+    let value : digits_value 10 word ≡ n = sym (same ∙ read.1) in
+    rw (first, read.0.0, value) refl
+parsed low high word n (Err x) first h e = absurd cc
