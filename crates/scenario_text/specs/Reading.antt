@@ -1,11 +1,20 @@
 -- Reading: what the reader takes from a text, from left to right. `None` is a text that is refused.
-use Rattle.std.specs.Prelude.{◌≡◌, ℕ, ◌-◌, Bool, true, false, ◌&&◌, ◌||◌, ◌==◌, not, nat_le, if◌then◌else◌, List, [], ◌∷◌, Option, Some, None, length, slice_index, map}
+use Rattle.std.specs.Prelude.{◌≡◌, ℕ, ◌-◌, Bool, true, false, ◌&&◌, ◌||◌, ◌==◌, not, nat_le, nat_lt, if◌then◌else◌, List, [], ◌∷◌, Option, Some, None, length, slice_index, map, take, drop, codes}
 use Rattle.std.specs.Borrow.{Bor}
 use Rattle.std.specs.Option.{option_and_then}
 use Rattle.std.specs.Char.{is_ascii_digit}
 use Rattle.std.specs.List.{slice_split}
 use Rattle.std.specs.Str.{all_ascii_digits, bytes_eq}
 use Rattle.std.specs.Str.Parse.{digits_value}
+use Rattle.cs_types.specs.declared.task.Policy.{Policy}
+use Rattle.cs_types.specs.declared.task.Policy.TheVariants.{Fifo}
+use Rattle.cs_types.specs.declared.task.Creds.{Creds}
+use Rattle.cs_types.specs.declared.task.TaskSpec.{TaskSpec}
+use Rattle.cs_types.specs.declared.event.Actor.{Actor}
+use Rattle.cs_types.specs.declared.event.Actor.TheVariants.{Sibling, Caller}
+use Rattle.cs_types.specs.declared.event.Event.{Event}
+use Rattle.cs_types.specs.declared.event.Event.TheVariants.{Turn, Block, Wake}
+use Rattle.cs_types.specs.declared.event.Step.{Step}
 use Rattle.scenario_text.specs.Words.{Word}
 
 -- ---- pieces
@@ -83,6 +92,111 @@ flag_at words = do
 abbrev pub end_of : List Word → Option (Unit {0})
 end_of [] = Some tt
 end_of (word ∷ words) = None
+
+-- ---- tasks
+
+-- a sibling that the core has
+unfoldable pub cpu_of : ℕ → Word → Option ℕ
+cpu_of siblings word = do
+  cpu ← number_of 0 255 word
+  if nat_lt cpu siblings then Some cpu else None
+
+unfoldable pub policy_of : Word → Option Policy
+policy_of word =
+    if bytes_eq (take 5 word) (codes "fifo:")
+    then (number_of 1 99 (drop 5 word) >>= λ priority. Some (Fifo priority))
+    else None
+
+unfoldable pub cpu_at : ℕ → List Word → Option (ℕ × List Word)
+cpu_at siblings words = do
+  word ← word_at words
+  cpu ← cpu_of siblings word.0
+  Some (cpu, word.1)
+
+unfoldable pub policy_at : List Word → Option (Policy × List Word)
+policy_at words = do
+  word ← word_at words
+  policy ← policy_of word.0
+  Some (policy, word.1)
+
+unfoldable pub creds_at : List Word → Option (Creds × List Word)
+creds_at words = do
+  ruid ← number_at 0 65535 words
+  euid ← number_at 0 65535 ruid.1
+  suid ← number_at 0 65535 euid.1
+  rgid ← number_at 0 65535 suid.1
+  egid ← number_at 0 65535 rgid.1
+  sgid ← number_at 0 65535 egid.1
+  cap ← flag_at sgid.1
+  mm ← flag_at cap.1
+  dumpable ← flag_at mm.1
+  Some (
+    record {
+      ruid = ruid.0; euid = euid.0; suid = suid.0; rgid = rgid.0; egid = egid.0; sgid = sgid.0;
+      cap = cap.0; mm = mm.0; dumpable = dumpable.0;
+    },
+    dumpable.1,
+  )
+
+-- what stands behind the word `task`
+unfoldable pub task_at : ℕ → List Word → Option (TaskSpec × List Word)
+task_at siblings words = do
+  pid ← number_at 1 9999 words
+  tgid ← number_at 1 9999 pid.1
+  pgid ← number_at 1 9999 tgid.1
+  cpu ← cpu_at siblings pgid.1
+  policy ← policy_at cpu.1
+  creds ← creds_at policy.1
+  Some (
+    record { pid = pid.0; tgid = tgid.0; pgid = pgid.0; cpu = cpu.0; policy = policy.0; creds = creds.0 },
+    creds.1,
+  )
+
+-- ---- steps
+
+unfoldable pub actor_of : ℕ → Word → Option Actor
+actor_of siblings [] = None
+actor_of siblings (kind ∷ digits) =
+    if kind == 115
+    then (cpu_of siblings digits >>= λ cpu. Some (Sibling cpu))
+    else (if kind == 99 then (number_of 0 7 digits >>= λ caller. Some (Caller caller)) else None)
+
+unfoldable pub actor_at : ℕ → List Word → Option (Actor × List Word)
+actor_at siblings words = do
+  word ← word_at words
+  actor ← actor_of siblings word.0
+  Some (actor, word.1)
+
+-- what a sibling does
+unfoldable pub own_of : ℕ → Word → Option Event
+own_of cpu word =
+    if bytes_eq word (codes "turn")
+    then Some (Turn cpu)
+    else (if bytes_eq word (codes "block") then Some (Block cpu) else None)
+
+unfoldable pub own_at : ℕ → List Word → Option (Event × List Word)
+own_at cpu words = do
+  word ← word_at words
+  event ← own_of cpu word.0
+  Some (event, word.1)
+
+-- what a caller does
+unfoldable pub call_at : List Word → Option (Event × List Word)
+call_at words = do
+  wake ← keyword_at (codes "wake") words
+  pid ← number_at 1 999999 wake.1
+  Some (Wake pid.0, pid.1)
+
+abbrev pub event_at : Actor → List Word → Option (Event × List Word)
+event_at (Sibling cpu) words = own_at cpu words
+event_at (Caller caller) words = call_at words
+
+-- what stands behind the word `step`
+unfoldable pub step_at : ℕ → List Word → Option (Step × List Word)
+step_at siblings words = do
+  actor ← actor_at siblings words
+  event ← event_at actor.0 actor.1
+  Some (record { actor = actor.0; event = event.0 }, event.1)
 
 -- ---- lines
 

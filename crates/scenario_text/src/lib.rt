@@ -5,6 +5,8 @@ mod fault;
 mod lines;
 mod number;
 mod pieces;
+mod step;
+mod task;
 mod words;
 mod writing;
 

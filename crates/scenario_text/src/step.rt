@@ -1,0 +1,88 @@
+//! Steps, as the words of a step line spell them.
+
+ghost use Rattle.std.specs.Prelude.{◌≡◌};
+ghost use Rattle.scenario_text.specs.Reading.{Takes, actor_of, actor_at, own_of, own_at, call_at, event_at, step_at};
+
+use cs_types::{Actor, Cpu, Event, Step};
+
+use crate::number::parse_number;
+use crate::task::parse_cpu;
+use crate::words::Words;
+
+/// The greatest number of a caller. The least is 0.
+pub const MOST_CALLER: u64 = 7;
+
+/// The greatest pid that a caller may name, of a task or of none. The least is 1.
+pub const MOST_NAMED_PID: u64 = 999_999;
+
+/// `s` and a sibling that the core has, or `c` and a caller.
+#[tactic(auto, unfolding(crate::specs::Reading::actor_of))]
+fn parse_actor(word: &[u8], siblings: u8) -> Option<Actor>
+    ensures { result ≡ actor_of siblings word.now }
+{
+    let (kind, digits) = word.split_first()?;
+    match kind {
+        b's' => Some(Actor::Sibling(parse_cpu(digits, siblings)?)),
+        b'c' => Some(Actor::Caller(parse_number(digits, 0, MOST_CALLER)? as u8)),
+        _ => None,
+    }
+}
+
+/// The next word, an actor.
+#[tactic(auto, unfolding(crate::specs::Reading::actor_at))]
+fn next_actor(words: &mut Words<'_>, siblings: u8) -> Option<Actor>
+    ensures { Takes (λ actor. actor) result words.new (actor_at siblings words.old) }
+{
+    let word = words.next_word()?;
+    parse_actor(word, siblings)
+}
+
+/// What the sibling does to itself.
+#[tactic(auto, unfolding(crate::specs::Reading::own_of))]
+fn parse_own(word: &[u8], cpu: Cpu) -> Option<Event>
+    ensures { result ≡ own_of cpu word.now }
+{
+    match word {
+        b"turn" => Some(Event::Turn(cpu)),
+        b"block" => Some(Event::Block(cpu)),
+        _ => None,
+    }
+}
+
+/// The next word, what the sibling does to itself.
+#[tactic(auto, unfolding(crate::specs::Reading::own_at))]
+fn next_own(words: &mut Words<'_>, cpu: Cpu) -> Option<Event>
+    ensures { Takes (λ event. event) result words.new (own_at cpu words.old) }
+{
+    let word = words.next_word()?;
+    parse_own(word, cpu)
+}
+
+/// The next words, what a caller does.
+#[tactic(auto, unfolding(crate::specs::Reading::call_at))]
+fn next_call(words: &mut Words<'_>) -> Option<Event>
+    ensures { Takes (λ event. event) result words.new (call_at words.old) }
+{
+    words.keyword(b"wake")?;
+    Some(Event::Wake(words.next_number(1, MOST_NAMED_PID)? as u32))
+}
+
+/// The next words, what the actor does.
+fn next_event(words: &mut Words<'_>, actor: Actor) -> Option<Event>
+    ensures { Takes (λ event. event) result words.new (event_at actor words.old) }
+{
+    match actor {
+        Actor::Sibling(cpu) => next_own(words, cpu),
+        Actor::Caller(_) => next_call(words),
+    }
+}
+
+/// What stands behind the word `step`. `None` where that is no step of a core of so many siblings.
+#[tactic(auto, unfolding(crate::specs::Reading::step_at))]
+pub(crate) fn next_step(words: &mut Words<'_>, siblings: u8) -> Option<Step>
+    ensures { Takes (λ step. step) result words.new (step_at siblings words.old) }
+{
+    let actor = next_actor(words, siblings)?;
+    let event = next_event(words, actor)?;
+    Some(Step { actor, event })
+}
