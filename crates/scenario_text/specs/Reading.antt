@@ -1,9 +1,9 @@
 -- Reading: what the reader takes from a text, from left to right. `None` is a text that is refused.
-use Rattle.std.specs.Prelude.{◌≡◌, ℕ, ◌-◌, Bool, true, false, ◌&&◌, ◌||◌, ◌==◌, not, nat_le, nat_lt, if◌then◌else◌, List, [], ◌∷◌, Option, Some, None, length, slice_index, map, take, drop, codes}
+use Rattle.std.specs.Prelude.{◌≡◌, ℕ, ◌-◌, Bool, true, false, ◌&&◌, ◌||◌, ◌==◌, not, nat_le, nat_lt, if◌then◌else◌, List, [], ◌∷◌, Option, Some, None, length, slice_index, map, take, drop, codes, ◌++◌, Result, Ok, Err}
 use Rattle.std.specs.Borrow.{Bor}
 use Rattle.std.specs.Option.{option_and_then}
 use Rattle.std.specs.Char.{is_ascii_digit}
-use Rattle.std.specs.List.{slice_split}
+use Rattle.std.specs.List.{slice_split, list_any}
 use Rattle.std.specs.Str.{all_ascii_digits, bytes_eq}
 use Rattle.std.specs.Str.Parse.{digits_value}
 use Rattle.cs_types.specs.declared.task.Policy.{Policy}
@@ -15,6 +15,13 @@ use Rattle.cs_types.specs.declared.event.Actor.TheVariants.{Sibling, Caller}
 use Rattle.cs_types.specs.declared.event.Event.{Event}
 use Rattle.cs_types.specs.declared.event.Event.TheVariants.{Turn, Block, Wake}
 use Rattle.cs_types.specs.declared.event.Step.{Step}
+use Rattle.cs_types.specs.declared.scenario.Scenario.{Scenario}
+use Rattle.scenario_text.specs.declared.head.Head.{Head}
+use Rattle.scenario_text.specs.declared.line.Line.{Line}
+use Rattle.scenario_text.specs.declared.line.Line.TheVariants as lines
+use Rattle.scenario_text.specs.declared.fault.BadKind.TheVariants.{Unbuilt}
+use Rattle.scenario_text.specs.declared.fault.ReadFault.{ReadFault}
+use Rattle.scenario_text.specs.declared.fault.ReadFault.TheVariants.{Bad, OutOfMemory}
 use Rattle.scenario_text.specs.Words.{Word}
 
 -- ---- pieces
@@ -210,3 +217,114 @@ line_at (line ∷ next ∷ lines) = Some (line, next ∷ lines)
 abbrev pub is_end : List (List Word) → Bool
 is_end (([] ∷ []) ∷ []) = true
 is_end lines = false
+
+-- ---- the head
+
+-- `coresched 1`
+unfoldable pub version_of : List Word → Option (Unit {0})
+version_of words = do
+  name ← keyword_at (codes "coresched") words
+  version ← number_at 1 1 name.1
+  end_of version.1
+
+-- `siblings 2`
+unfoldable pub siblings_of : List Word → Option ℕ
+siblings_of words = do
+  name ← keyword_at (codes "siblings") words
+  siblings ← number_at 2 2 name.1
+  end ← end_of siblings.1
+  Some siblings.0
+
+-- `limits` TASKS COOKIES TOP, in a core of so many siblings
+unfoldable pub head_of : ℕ → List Word → Option Head
+head_of siblings words = do
+  name ← keyword_at (codes "limits") words
+  tasks ← number_at 1 256 name.1
+  cookies ← number_at 1 256 tasks.1
+  top ← number_at 8192 9223372036854775807 cookies.1
+  end ← end_of top.1
+  Some (record { siblings = siblings; task_limit = tasks.0; cookie_limit = cookies.0; user_top = top.0 })
+
+unfoldable pub head_at : List (List Word) → Option (Head × List (List Word))
+head_at lines = do
+  first ← line_at lines
+  version ← version_of first.0
+  second ← line_at first.1
+  siblings ← siblings_of second.0
+  third ← line_at second.1
+  head ← head_of siblings third.0
+  Some (head, third.1)
+
+-- ---- the lines behind the head
+
+-- what stands behind the first word of a line
+unfoldable pub form_at : ℕ → Word → List Word → Option (Line × List Word)
+form_at siblings form words =
+    if bytes_eq form (codes "task")
+    then (task_at siblings words >>= λ task. Some (lines.Task task.0, task.1))
+    else (if bytes_eq form (codes "step")
+    then (step_at siblings words >>= λ step. Some (lines.Step step.0, step.1))
+    else (if bytes_eq form (codes "end") then Some (lines.End, words) else None))
+
+-- a line, in a core of so many siblings
+unfoldable pub line_of : ℕ → List Word → Option Line
+line_of siblings words = do
+  form ← word_at words
+  line ← form_at siblings form.0 form.1
+  end ← end_of line.1
+  Some line.0
+
+-- whether none of the tasks has the task's pid
+abbrev pub is_fresh : List TaskSpec → TaskSpec → Bool
+is_fresh tasks task = not (list_any (λ other. other.pid == task.pid) tasks)
+
+-- whether the task leads its own thread group, or one of the tasks leads it and has the same process group
+abbrev pub is_led : List TaskSpec → TaskSpec → Bool
+is_led tasks task =
+    (task.tgid == task.pid)
+    || list_any (λ leader. (leader.pid == task.tgid) && (leader.tgid == leader.pid) && (leader.pgid == task.pgid)) tasks
+
+-- whether the task may follow these tasks and steps: no step, and not as many tasks as the limit
+unfoldable pub can_follow : ℕ → List TaskSpec → List Step → TaskSpec → Bool
+can_follow limit tasks steps task =
+    (length steps == 0) && nat_lt (length tasks) limit && is_fresh tasks task && is_led tasks task
+
+-- one answer for each form of a line
+abbrev pub match_line : {A : Type 0} → Line → (TaskSpec → Option A) → (Step → Option A) → Option A → Option A
+match_line (lines.Task task) f g o = f task
+match_line (lines.Step step) f g o = g step
+match_line lines.End f g o = o
+
+-- the tasks and the steps of the lines up to `end`, behind those that are read
+unfoldable pub plan_of : Head → List TaskSpec → List Step → List (List Word) → Option (List TaskSpec × List Step)
+plan_of head tasks steps [] = None
+plan_of head tasks steps (words ∷ lines) = do
+  line ← line_of head.siblings words
+  match_line line
+    (λ task. if can_follow head.task_limit tasks steps task then plan_of head (tasks ++ task ∷ []) steps lines else None)
+    (λ step. if nat_lt (length steps) 100000 then plan_of head tasks (steps ++ step ∷ []) lines else None)
+    (if is_end lines then Some (tasks, steps) else None)
+
+-- the scenario of a text
+unfoldable pub scenario_of : List (List Word) → Option Scenario
+scenario_of lines = do
+  head ← head_at lines
+  plan ← plan_of head.0 [] [] head.1
+  Some (
+    record {
+      siblings = head.0.siblings; task_limit = head.0.task_limit; cookie_limit = head.0.cookie_limit;
+      user_top = head.0.user_top; tasks = plan.0; steps = plan.1;
+    }
+  )
+
+-- ---- what a reader that wants memory returned
+
+-- a fault is want of memory, or the text is refused
+abbrev pub Fails : {Y : Type 0} → ReadFault → Option Y → Type 0
+Fails OutOfMemory read = Unit {0}
+Fails (Bad line kind) read = (read ≡ None) × (line ≡ 0) × (kind ≡ Unbuilt)
+
+-- what a function returned, seen by view, is what reading gives, unless memory was wanted
+abbrev pub Gives : {X Y : Type 0} → (X → Y) → Result X ReadFault → Option Y → Type 0
+Gives view (Ok x) read = read ≡ Some (view x)
+Gives view (Err fault) read = Fails fault read

@@ -2,6 +2,8 @@
 #![tactic(auto)]
 
 mod fault;
+mod head;
+mod line;
 mod lines;
 mod number;
 mod pieces;
