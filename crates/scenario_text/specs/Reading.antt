@@ -19,6 +19,7 @@ use Rattle.cs_types.specs.declared.scenario.Scenario.{Scenario}
 use Rattle.scenario_text.specs.declared.head.Head.{Head}
 use Rattle.scenario_text.specs.declared.line.Line.{Line}
 use Rattle.scenario_text.specs.declared.line.Line.TheVariants as lines
+use Rattle.scenario_text.specs.declared.plan.Plan.{Plan}
 use Rattle.scenario_text.specs.declared.fault.BadKind.TheVariants.{Unbuilt}
 use Rattle.scenario_text.specs.declared.fault.ReadFault.{ReadFault}
 use Rattle.scenario_text.specs.declared.fault.ReadFault.TheVariants.{Bad, OutOfMemory}
@@ -274,46 +275,65 @@ line_of siblings words = do
   end ← end_of line.1
   Some line.0
 
--- whether none of the tasks has the task's pid
-abbrev pub is_fresh : List TaskSpec → TaskSpec → Bool
-is_fresh tasks task = not (list_any (λ other. other.pid == task.pid) tasks)
-
--- whether the task leads its own thread group, or one of the tasks leads it and has the same process group
-abbrev pub is_led : List TaskSpec → TaskSpec → Bool
-is_led tasks task =
-    (task.tgid == task.pid)
-    || list_any (λ leader. (leader.pid == task.tgid) && (leader.tgid == leader.pid) && (leader.pgid == task.pgid)) tasks
-
--- whether the task may follow these tasks and steps: no step, and not as many tasks as the limit
-unfoldable pub can_follow : ℕ → List TaskSpec → List Step → TaskSpec → Bool
-can_follow limit tasks steps task =
-    (length steps == 0) && nat_lt (length tasks) limit && is_fresh tasks task && is_led tasks task
-
 -- one answer for each form of a line
 abbrev pub match_line : {A : Type 0} → Line → (TaskSpec → Option A) → (Step → Option A) → Option A → Option A
 match_line (lines.Task task) f g o = f task
 match_line (lines.Step step) f g o = g step
 match_line lines.End f g o = o
 
--- the tasks and the steps of the lines up to `end`, behind those that are read
-unfoldable pub plan_of : Head → List TaskSpec → List Step → List (List Word) → Option (List TaskSpec × List Step)
-plan_of head tasks steps [] = None
-plan_of head tasks steps (words ∷ lines) = do
+-- ---- the plan: the tasks and the steps that are read
+
+pub record Contents : Type 0 where
+  pub tasks : List TaskSpec
+  pub steps : List Step
+
+abbrev pub contents : Plan → Contents
+contents plan = record { tasks = plan.tasks.items; steps = plan.steps.items }
+
+-- whether none of the tasks has the task's pid
+unfoldable pub is_fresh : List TaskSpec → TaskSpec → Bool
+is_fresh tasks task = not (list_any (λ other. other.pid == task.pid) tasks)
+
+-- whether the task leads its own thread group, or one of the tasks leads it and has the same process group
+unfoldable pub is_led : List TaskSpec → TaskSpec → Bool
+is_led tasks task =
+    (task.tgid == task.pid)
+    || list_any (λ leader. (leader.pid == task.tgid) && (leader.tgid == leader.pid) && (leader.pgid == task.pgid)) tasks
+
+-- whether the task may follow: behind no step, and as one of the tasks that may live at once
+unfoldable pub can_follow : ℕ → TaskSpec → Contents → Bool
+can_follow limit task plan =
+    (length plan.steps == 0) && nat_lt (length plan.tasks) limit && is_fresh plan.tasks task && is_led plan.tasks task
+
+unfoldable pub with_task : ℕ → TaskSpec → Contents → Option Contents
+with_task limit task plan =
+    if can_follow limit task plan then Some (record { tasks = plan.tasks ++ task ∷ []; steps = plan.steps }) else None
+
+unfoldable pub with_step : Step → Contents → Option Contents
+with_step step plan =
+    if nat_lt (length plan.steps) 100000
+    then Some (record { tasks = plan.tasks; steps = plan.steps ++ step ∷ [] })
+    else None
+
+-- the plan of the lines up to `end`, behind what is read
+unfoldable pub plan_of : Head → Contents → List (List Word) → Option Contents
+plan_of head plan [] = None
+plan_of head plan (words ∷ lines) = do
   line ← line_of head.siblings words
   match_line line
-    (λ task. if can_follow head.task_limit tasks steps task then plan_of head (tasks ++ task ∷ []) steps lines else None)
-    (λ step. if nat_lt (length steps) 100000 then plan_of head tasks (steps ++ step ∷ []) lines else None)
-    (if is_end lines then Some (tasks, steps) else None)
+    (λ task. with_task head.task_limit task plan >>= λ more. plan_of head more lines)
+    (λ step. with_step step plan >>= λ more. plan_of head more lines)
+    (if is_end lines then Some plan else None)
 
 -- the scenario of a text
 unfoldable pub scenario_of : List (List Word) → Option Scenario
 scenario_of lines = do
   head ← head_at lines
-  plan ← plan_of head.0 [] [] head.1
+  plan ← plan_of head.0 (record { tasks = []; steps = [] }) head.1
   Some (
     record {
       siblings = head.0.siblings; task_limit = head.0.task_limit; cookie_limit = head.0.cookie_limit;
-      user_top = head.0.user_top; tasks = plan.0; steps = plan.1;
+      user_top = head.0.user_top; tasks = plan.tasks; steps = plan.steps;
     }
   )
 

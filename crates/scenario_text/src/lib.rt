@@ -7,6 +7,8 @@ mod line;
 mod lines;
 mod number;
 mod pieces;
+mod plan;
+mod reading;
 mod step;
 mod task;
 mod words;
