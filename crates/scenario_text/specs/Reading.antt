@@ -18,7 +18,7 @@ use Rattle.cs_types.specs.declared.event.Step.{Step}
 use Rattle.cs_types.specs.declared.scenario.Scenario.{Scenario}
 use Rattle.scenario_text.specs.declared.head.Head.{Head}
 use Rattle.scenario_text.specs.declared.line.Line.{Line}
-use Rattle.scenario_text.specs.declared.line.Line.TheVariants as lines
+use Rattle.scenario_text.specs.declared.line.Line.TheVariants as forms
 use Rattle.scenario_text.specs.declared.plan.Plan.{Plan}
 use Rattle.scenario_text.specs.declared.fault.BadKind.TheVariants.{Unbuilt}
 use Rattle.scenario_text.specs.declared.fault.ReadFault.{ReadFault}
@@ -262,10 +262,10 @@ head_at lines = do
 unfoldable pub form_at : ℕ → Word → List Word → Option (Line × List Word)
 form_at siblings form words =
     if bytes_eq form (codes "task")
-    then (task_at siblings words >>= λ task. Some (lines.Task task.0, task.1))
+    then (task_at siblings words >>= λ task. Some (forms.Task task.0, task.1))
     else (if bytes_eq form (codes "step")
-    then (step_at siblings words >>= λ step. Some (lines.Step step.0, step.1))
-    else (if bytes_eq form (codes "end") then Some (lines.End, words) else None))
+    then (step_at siblings words >>= λ step. Some (forms.Step step.0, step.1))
+    else (if bytes_eq form (codes "end") then Some (forms.End, words) else None))
 
 -- a line, in a core of so many siblings
 unfoldable pub line_of : ℕ → List Word → Option Line
@@ -277,9 +277,9 @@ line_of siblings words = do
 
 -- one answer for each form of a line
 abbrev pub match_line : {A : Type 0} → Line → (TaskSpec → Option A) → (Step → Option A) → Option A → Option A
-match_line (lines.Task task) f g o = f task
-match_line (lines.Step step) f g o = g step
-match_line lines.End f g o = o
+match_line (forms.Task task) f g o = f task
+match_line (forms.Step step) f g o = g step
+match_line forms.End f g o = o
 
 -- ---- the plan: the tasks and the steps that are read
 
