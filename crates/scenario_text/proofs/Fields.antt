@@ -17,7 +17,7 @@ pub bind : {A B P : Type 0} (o : Option A) (f : A → Option B) (y : B) → (o >
 bind None f y e goes_on = absurd cc
 bind (Some x) f y e goes_on = goes_on x refl e
 
-abbrev read : {A : Type 0} → A → Option A
+abbrev pub read : {A : Type 0} → A → Option A
 read x = Some x
 
 pub some_is : {A : Type 0} (x y : A) → read x ≡ read y → x ≡ y
@@ -25,7 +25,7 @@ some_is x y e = cc
 
 -- ---- words
 
-word_takes : (words : List Word) (x : Word × List Word) → word_at words ≡ Some x → words ≡ x.0 ∷ x.1
+pub word_takes : (words : List Word) (x : Word × List Word) → word_at words ≡ Some x → words ≡ x.0 ∷ x.1
 word_takes [] x e = absurd cc
 word_takes (word ∷ words) x e = ap (λ (p : Word × List Word). p.0 ∷ p.1) (some_is (word, words) x e)
 

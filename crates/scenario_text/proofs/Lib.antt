@@ -2,3 +2,4 @@ pub mod Numbers
 pub mod Cuts
 pub mod Plans
 pub mod Fields
+pub mod Forms
