@@ -3,3 +3,4 @@ pub mod Cuts
 pub mod Plans
 pub mod Fields
 pub mod Forms
+pub mod Heads

@@ -22,7 +22,7 @@ pub not_given : {A E : Type 0} (o : Option A) (e d : E) → Err d ≡ ok_or o e 
 not_given None e d h = (refl, cc)
 not_given (Some y) e d h = absurd cc
 
-first_line : (lines : List (List Word)) (words : List Word) (rest : List (List Word)) → line_at lines ≡ Some (words, rest) → lines ≡ words ∷ rest
+pub first_line : (lines : List (List Word)) (words : List Word) (rest : List (List Word)) → line_at lines ≡ Some (words, rest) → lines ≡ words ∷ rest
 first_line [] words rest h = absurd cc
 first_line (tail ∷ []) words rest h = absurd cc
 first_line (line ∷ next ∷ more) words rest h = let same : (line, next ∷ more) ≡ (words, rest) = cc in ap (λ (p : List Word × List (List Word)). p.0 ∷ p.1) same
