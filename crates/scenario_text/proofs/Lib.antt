@@ -4,3 +4,4 @@ pub mod Plans
 pub mod Fields
 pub mod Forms
 pub mod Heads
+pub mod Followers

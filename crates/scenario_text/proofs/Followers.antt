@@ -1,0 +1,106 @@
+-- Followers: which task may follow others, by the tests and by what a scenario keeps.
+use Rattle.std.proofs.Common.{◌≡◌, ◌≢◌, ℕ, zero, suc, ◌+◌, ◌<◌, ◌≤◌, Bool, true, false, eqb, List, [], ◌∷◌, ◌++◌, length, get_or, take, refl, sym, ap, subst, ◌∙◌, arith, inl, inr, All}
+use Rattle.std.specs.Prelude.{◌⊎◌, ◌&&◌, ◌||◌, not, Any}
+use Rattle.std.specs.List.{list_any}
+use Rattle.std.proofs.lemmas.Bool.{cases_lt, cases_Bool, false≢true, not-true, not_from_false, or_cases, or_parts, or_from, or_left, or_right, and_parts, and_from, eqb-true, eqb-false, eq-eqb, ne_eqb}
+use Rattle.std.proofs.lemmas.List.{length_push, length-append, take_at, get_or_at, take-append-le, get_or_append_left}
+use Rattle.std.proofs.lemmas.List.Quantifiers.{all_pairs_push}
+use Rattle.cs_types.specs.declared.task.TaskSpec.{TaskSpec}
+use Rattle.cs_types.specs.Scenario.{AreApart, IsLed, AreLed}
+use Rattle.scenario_text.specs.Reading.{is_fresh, is_led}
+
+-- ---- a test of any element
+
+any_false : {X : Type 0} (p : X → Bool) (xs : List X) → ((k : ℕ) (d : X) → k < length xs → p (get_or xs k d) ≡ false) → list_any p xs ≡ false
+any_false p [] h = refl
+any_false p (x ∷ xs) h =
+    or_from (p x) (list_any p xs) (h 0 x (omega arith)) (any_false p xs (λ k d lt. h (suc k) d (omega arith)))
+
+any_fails : {X : Type 0} (p : X → Bool) (xs : List X) → list_any p xs ≡ false → (k : ℕ) (d : X) → k < length xs → p (get_or xs k d) ≡ false
+any_fails p [] h k d lt = absurd (omega arith)
+any_fails p (x ∷ xs) h zero d lt = (or_parts (p x) (list_any p xs) h).0
+any_fails p (x ∷ xs) h (suc k) d lt = any_fails p xs (or_parts (p x) (list_any p xs) h).1 k d (omega arith)
+
+any_true : {X : Type 0} (p : X → Bool) (xs : List X) (k : ℕ) (d : X) → k < length xs → p (get_or xs k d) ≡ true → list_any p xs ≡ true
+any_true p [] k d lt h = absurd (omega arith)
+any_true p (x ∷ xs) zero d lt h = or_left (p x) (list_any p xs) h
+any_true p (x ∷ xs) (suc k) d lt h = or_right (p x) (list_any p xs) (any_true p xs k d (omega arith) h)
+
+any_passes : {X : Type 0} (p : X → Bool) (xs : List X) → list_any p xs ≡ true → Any (λ x. p x ≡ true) xs
+any_passes p [] h = absurd (false≢true h)
+any_passes p (x ∷ xs) h =
+    elim (or_cases (p x) (list_any p xs) h) [
+      | inl here ↦ (0, x, omega arith, refl, here)
+      | inr there ↦ let found = any_passes p xs there in (suc found.0, found.1, omega (arith, found.2), found.3, found.4)
+    ]
+
+-- ---- pids apart
+
+pub apart_push : (tasks : List TaskSpec) (task : TaskSpec) → AreApart tasks → is_fresh tasks task ≡ true → AreApart (tasks ++ task ∷ [])
+unfolding is_fresh
+apart_push tasks task apart fresh =
+    all_pairs_push (λ a b. a.pid ≢ b.pid) tasks task apart (λ k d lt.
+    eqb-false _ _ (any_fails (λ other. eqb other.pid task.pid) tasks (not-true _ fresh) k d lt))
+
+pub apart_fresh : (all tasks more : List TaskSpec) (task : TaskSpec) → all ≡ tasks ++ task ∷ more → AreApart all → is_fresh tasks task ≡ true
+unfolding is_fresh
+apart_fresh all tasks more task is apart =
+    not_from_false _ (any_false (λ other. eqb other.pid task.pid) tasks (λ k d lt.
+    let len : length all ≡ length tasks + suc (length more) = ap length is ∙ length-append tasks (task ∷ more) in
+    let ne = apart k (length tasks) d lt (omega arith) in
+    let here : get_or all k d ≡ get_or tasks k d = ap (λ (l : List TaskSpec). get_or l k d) is ∙ get_or_append_left tasks (task ∷ more) d k lt in
+    let there : get_or all (length tasks) d ≡ task = ap (λ (l : List TaskSpec). get_or l (length tasks) d) is ∙ get_or_at tasks task more d (length tasks) refl in
+    ne_eqb _ _ (λ e. ne (ap (λ (t : TaskSpec). t.pid) here ∙ e ∙ ap (λ (t : TaskSpec). t.pid) (sym there)))))
+
+-- ---- tasks led
+
+-- whether a task leads the thread group of another, in the same process group
+abbrev leads : TaskSpec → TaskSpec → Bool
+leads task leader = eqb leader.pid task.tgid && eqb leader.tgid leader.pid && eqb leader.pgid task.pgid
+
+leads_parts : (task leader : TaskSpec) → leads task leader ≡ true → (leader.pid ≡ task.tgid) × (leader.tgid ≡ leader.pid) × (leader.pgid ≡ task.pgid)
+leads_parts task leader h =
+    let a = and_parts (eqb leader.pid task.tgid && eqb leader.tgid leader.pid) (eqb leader.pgid task.pgid) h in
+    let b = and_parts (eqb leader.pid task.tgid) (eqb leader.tgid leader.pid) a.0 in
+    (eqb-true _ _ b.0, eqb-true _ _ b.1, eqb-true _ _ a.1)
+
+leads_whole : (task leader : TaskSpec) → (leader.pid ≡ task.tgid) × (leader.tgid ≡ leader.pid) × (leader.pgid ≡ task.pgid) → leads task leader ≡ true
+leads_whole task leader h =
+    and_from (eqb leader.pid task.tgid && eqb leader.tgid leader.pid) (eqb leader.pgid task.pgid)
+    (and_from (eqb leader.pid task.tgid) (eqb leader.tgid leader.pid) (eq-eqb _ _ h.0) (eq-eqb _ _ h.1)) (eq-eqb _ _ h.2)
+
+IsLed-from_test : (tasks : List TaskSpec) (task : TaskSpec) → is_led tasks task ≡ true → IsLed tasks task
+unfolding is_led
+IsLed-from_test tasks task h =
+    elim (or_cases (eqb task.tgid task.pid) (list_any (leads task) tasks) h) [
+      | inl own ↦ inl (eqb-true _ _ own)
+      | inr other ↦
+          let found = any_passes (leads task) tasks other in
+          inr (found.0, found.1, found.2, found.3, leads_parts task found.1 found.4)
+    ]
+
+test_from_IsLed : (tasks : List TaskSpec) (task : TaskSpec) → IsLed tasks task → is_led tasks task ≡ true
+unfolding is_led
+test_from_IsLed tasks task (inl own) = or_left (eqb task.tgid task.pid) (list_any (leads task) tasks) (eq-eqb _ _ own)
+test_from_IsLed tasks task (inr found) =
+    or_right (eqb task.tgid task.pid) (list_any (leads task) tasks)
+    (any_true (leads task) tasks found.0 found.1 found.2 (ap (leads task) found.3 ∙ leads_whole task found.1 found.4))
+
+pub led_push : (tasks : List TaskSpec) (task : TaskSpec) → AreLed tasks → is_led tasks task ≡ true → AreLed (tasks ++ task ∷ [])
+led_push tasks task led test k d lt =
+    elim (cases_lt k (length tasks)) [
+      | inl below ↦
+          rw (take-append-le k tasks (task ∷ []) (omega arith), get_or_append_left tasks (task ∷ []) d k below) (led k d below)
+      | inr past ↦
+          let at : k ≡ length tasks = omega (arith, length_push tasks task) in
+          rw (at, take_at tasks (task ∷ []) (length tasks) refl, get_or_at tasks task [] d (length tasks) refl) (IsLed-from_test tasks task test)
+    ]
+
+pub led_test : (all tasks more : List TaskSpec) (task : TaskSpec) → all ≡ tasks ++ task ∷ more → AreLed all → is_led tasks task ≡ true
+led_test all tasks more task is led =
+    let len : length all ≡ length tasks + suc (length more) = ap length is ∙ length-append tasks (task ∷ more) in
+    let front : take (length tasks) all ≡ tasks = ap (take (length tasks)) is ∙ take_at tasks (task ∷ more) (length tasks) refl in
+    let there : get_or all (length tasks) task ≡ task = ap (λ (l : List TaskSpec). get_or l (length tasks) task) is ∙ get_or_at tasks task more task (length tasks) refl in
+    let at = led (length tasks) task (omega arith) in
+    let whole : IsLed tasks task = subst (λ (p : List TaskSpec × TaskSpec). IsLed p.0 p.1) (λ i. (front i, there i)) at in
+    test_from_IsLed tasks task whole
