@@ -5,3 +5,4 @@ pub mod Fields
 pub mod Forms
 pub mod Heads
 pub mod Followers
+pub mod Building
