@@ -6,3 +6,4 @@ pub mod Forms
 pub mod Heads
 pub mod Followers
 pub mod Building
+pub mod Texts
