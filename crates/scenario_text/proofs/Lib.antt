@@ -7,3 +7,4 @@ pub mod Heads
 pub mod Followers
 pub mod Building
 pub mod Texts
+pub mod Scenarios

@@ -15,4 +15,5 @@ mod words;
 mod writing;
 
 pub use fault::{BadKind, ReadFault};
+pub use reading::read;
 pub use writing::entry_text;

@@ -1,13 +1,15 @@
 //! The reader of scenario texts.
 
-ghost use Rattle.std.specs.Prelude.{◌≡◌, []};
+ghost use Rattle.std.specs.Prelude.{◌≡◌, ◌⊎◌, [], MatchResult, IfOk, IfErr, IsErrOf};
+ghost use Rattle.cs_types.specs.declared.scenario.Scenario.{Scenario};
 ghost use Rattle.scenario_text.specs.Reading.{Gives, Contents, contents, plan_of, scenario_of, lines_in};
+ghost use Rattle.scenario_text.specs.Reader.{IsTextOf, HasNoScenario, HasOneScenario};
 
 use std::alloc::Global;
 
 use cs_types::{List, Scenario};
 
-use crate::fault::ReadFault;
+use crate::fault::{BadKind, ReadFault};
 use crate::head::{Head, next_head};
 use crate::line::{Line, parse_line};
 use crate::lines::Lines;
@@ -45,4 +47,33 @@ fn read_scenario(alloc: Global, text: &[u8]) -> Result<Scenario, ReadFault>
         tasks: List::of(plan.tasks),
         steps: List::of(plan.steps),
     })
+}
+
+/// The scenario of a text, in one pass over its bytes.
+///
+/// A text is the lines `coresched 1`, `siblings 2` and `limits` TASKS COOKIES TOP, then the task
+/// lines, the step lines and the line `end`. Each line ends with a line feed, and one space stands
+/// between two of its words.
+///
+/// # Errors
+///
+/// [`ReadFault::Bad`], on line 0 and of the kind [`BadKind::Unbuilt`](crate::BadKind::Unbuilt),
+/// where the bytes are no text of a scenario that can be played, and [`ReadFault::OutOfMemory`]
+/// where there is no memory for its tasks and steps.
+pub fn read(alloc: Global, bytes: &[u8]) -> Result<Scenario, ReadFault>
+    // What is read is the scenario of the text.
+    ensures found { IfOk result (IsTextOf bytes.now) }
+
+    // The text of a scenario is read as that scenario, unless memory is wanted.
+    ensures only { (scenario : Scenario) → IsTextOf bytes.now scenario →
+        MatchResult result (λ read. read ≡ scenario) (λ fault. fault ≡ ReadFault.OutOfMemory) }
+
+    // A text has one scenario at most.
+    ensures one { HasOneScenario bytes.now }
+
+    // A text is refused as a whole, and only where it has no scenario.
+    ensures fault { IfErr result (λ fault. (fault ≡ ReadFault.Bad 0 BadKind.Unbuilt) ⊎ (fault ≡ ReadFault.OutOfMemory)) }
+    ensures unbuilt { IsErrOf result (ReadFault.Bad 0 BadKind.Unbuilt) → HasNoScenario bytes.now }
+{
+    read_scenario(alloc, bytes)
 }

@@ -1,0 +1,221 @@
+-- Scenarios: what is read from a text is the scenario of the text, and the text of a scenario is read as it.
+use Rattle.std.proofs.Common.{◌≡◌, ℕ, ◌^◌, ◌<◌, ◌≤◌, Bool, true, false, List, [], ◌∷◌, ◌++◌, map, Option, Some, None, Result, Ok, Err, refl, sym, ap, subst, ◌∙◌, arith, append_assoc, inl, inr}
+use Rattle.std.specs.Prelude.{◌⊎◌, MatchResult, IfOk, IfErr, decimal, codes}
+use Rattle.std.specs.List.{All, AllByRecursion, flat_map}
+use Rattle.std.proofs.lemmas.List.Elements.{recursion_from_All, All-nil}
+use Rattle.cs_types.specs.declared.task.Policy.{Policy}
+use Rattle.cs_types.specs.declared.task.Policy.TheVariants.{Fifo}
+use Rattle.cs_types.specs.declared.task.TaskSpec.{TaskSpec}
+use Rattle.cs_types.specs.declared.event.Actor.{Actor}
+use Rattle.cs_types.specs.declared.event.Actor.TheVariants.{Sibling, Caller}
+use Rattle.cs_types.specs.declared.event.Event.{Event}
+use Rattle.cs_types.specs.declared.event.Event.TheVariants.{Turn, Block, Wake}
+use Rattle.cs_types.specs.declared.event.Step.{Step}
+use Rattle.cs_types.specs.declared.scenario.Scenario.{Scenario}
+use Rattle.cs_types.specs.Scenario.{IsPolicy, IsTask, IsEvent, IsMadeBy, IsStep, IsBuilt}
+use Rattle.scenario_text.specs.declared.fault.BadKind.TheVariants.{Unbuilt}
+use Rattle.scenario_text.specs.declared.fault.ReadFault.{ReadFault}
+use Rattle.scenario_text.specs.declared.fault.ReadFault.TheVariants.{Bad, OutOfMemory}
+use Rattle.scenario_text.specs.declared.head.Head.{Head}
+use Rattle.scenario_text.specs.Words.{Word, flag_word, policy_word, creds_words, task_words, actor_word, event_words}
+use Rattle.scenario_text.specs.Text.{line, version_words, siblings_words, limits_words, step_words, end_words, scenario_lines, scenario_text}
+use Rattle.scenario_text.specs.Reading.{Gives, Contents, lines_in, head_at, plan_of, scenario_of}
+use Rattle.scenario_text.specs.Reader.{IsTextOf, HasNoScenario, HasOneScenario}
+use Rattle.scenario_text.proofs.Fields.{bind, some_is}
+use Rattle.scenario_text.proofs.Heads.{IsHead, head_lines, head_takes, head_again}
+use Rattle.scenario_text.proofs.Building.{IsPlan, Completes, plan_lines, end_lines, plan_takes, plan_again}
+use Rattle.scenario_text.proofs.Texts.{IsPlain, ArePlain, plain_decimal, plain-append, ArePlain-append, lines_in-flat_map, text_is}
+
+-- ---- the lines of a scenario
+
+-- what stands behind the last line feed
+abbrev nothing : List (List Word)
+nothing = ([] ∷ []) ∷ []
+
+abbrev head_of_scenario : Scenario → Head
+head_of_scenario s =
+    record { siblings = s.siblings; task_limit = s.task_limit; cookie_limit = s.cookie_limit; user_top = s.user_top }
+
+abbrev none_read : Contents
+none_read = record { tasks = []; steps = [] }
+
+abbrev made_of : Head → Contents → Scenario
+made_of head plan =
+    record {
+      siblings = head.siblings; task_limit = head.task_limit; cookie_limit = head.cookie_limit;
+      user_top = head.user_top; tasks = plan.tasks; steps = plan.steps;
+    }
+
+empty_plan : (siblings limit : ℕ) → IsPlan siblings limit none_read
+empty_plan siblings limit = record {
+  tasks = All-nil (IsTask siblings);
+  apart = λ i j d lt below. absurd (omega arith);
+  led = λ k d below. absurd (omega arith);
+  few_tasks = omega arith;
+  steps = All-nil (IsStep siblings);
+  few_steps = omega arith;
+}
+
+-- what is read is spelled so
+scenario_takes : (lines : List (List Word)) (scenario : Scenario) → scenario_of lines ≡ Some scenario → IsBuilt scenario × (lines ≡ scenario_lines scenario ++ nothing)
+unfolding scenario_of
+scenario_takes lines scenario e =
+    bind (head_at lines) _ scenario e (λ head first e0.
+    bind (plan_of head.0 none_read head.1) _ scenario e0 (λ plan second e1.
+    let h = head_takes lines head first in
+    let p = plan_takes head.0 head.1 none_read plan (empty_plan head.0.siblings head.0.task_limit) second in
+    let made = made_of head.0 plan in
+    let built : IsBuilt made = record {
+      siblings = h.1.siblings;
+      task_limit = h.1.task_limit;
+      cookie_limit = h.1.cookie_limit;
+      user_top = h.1.user_top;
+      tasks = p.is.tasks;
+      apart = p.is.apart;
+      led = p.is.led;
+      few_tasks = p.is.few_tasks;
+      steps = p.is.steps;
+      few_steps = p.is.few_steps;
+    } in
+    let rest : head.1 ≡ plan_lines plan ++ end_lines = p.lines_are in
+    let whole : lines ≡ scenario_lines made ++ nothing =
+    h.0
+    ∙ ap (λ (ls : List (List Word)). head_lines head.0 ++ ls) (rest ∙ sym (append_assoc (plan_lines plan) (end_words ∷ []) nothing)) in
+    subst (λ (s : Scenario). IsBuilt s × (lines ≡ scenario_lines s ++ nothing)) (some_is made scenario e1) (built, whole)))
+
+-- a list that ends in an element begins with one
+has_first : {X : Type 0} (xs : List X) (y : X) (ys : List X) → (first : X) × (more : List X) × (xs ++ y ∷ ys ≡ first ∷ more)
+has_first [] y ys = (y, ys, refl)
+has_first (x ∷ xs) y ys = (x, xs ++ y ∷ ys, refl)
+
+-- what is spelled so is read
+scenario_again : (scenario : Scenario) → IsBuilt scenario → scenario_of (scenario_lines scenario ++ nothing) ≡ Some scenario
+unfolding scenario_of
+scenario_again scenario built =
+    let head = head_of_scenario scenario in
+    let plan : Contents = record { tasks = scenario.tasks; steps = scenario.steps } in
+    let is_head : IsHead head = record {
+      siblings = built.siblings;
+      task_limit = built.task_limit;
+      cookie_limit = built.cookie_limit;
+      user_top = built.user_top;
+    } in
+    let is_plan : IsPlan head.siblings head.task_limit plan = record {
+      tasks = built.tasks;
+      apart = built.apart;
+      led = built.led;
+      few_tasks = built.few_tasks;
+      steps = built.steps;
+      few_steps = built.few_steps;
+    } in
+    let few : head.siblings < 256 = let two = built.siblings in omega arith in
+    let lines = plan_lines plan ++ end_lines in
+    let some = has_first (plan_lines plan) end_words nothing in
+    let start : head_at (head_lines head ++ lines) ≡ Some (head, lines) =
+    ap (λ (ls : List (List Word)). head_at (head_lines head ++ ls)) some.2
+    ∙ head_again head some.0 some.1 is_head
+    ∙ ap (λ (ls : List (List Word)). Some (head, ls)) (sym some.2) in
+    ap (λ (ls : List (List Word)). scenario_of (head_lines head ++ ls)) (append_assoc (plan_lines plan) (end_words ∷ []) nothing)
+    ∙ rw (start, plan_again head plan few is_plan) refl
+
+-- ---- plain words
+
+plain_flag : (flag : Bool) → IsPlain (flag_word flag)
+plain_flag true = record { no_feed = refl; no_space = refl }
+plain_flag false = record { no_feed = refl; no_space = refl }
+
+plain_policy : (policy : Policy) → IsPolicy policy → IsPlain (policy_word policy)
+plain_policy (Fifo priority) is =
+    plain-append (codes "fifo:") (decimal priority) (record { no_feed = refl; no_space = refl }) (plain_decimal priority (omega arith))
+
+plain_task : (siblings : ℕ) (task : TaskSpec) → siblings < 256 → IsTask siblings task → AllByRecursion IsPlain (task_words task)
+plain_task siblings task few is =
+    let ids = is.creds in
+    let cpu = is.cpu in
+    let creds : AllByRecursion IsPlain (creds_words task.creds) =
+    (plain_decimal task.creds.ruid (omega arith), (plain_decimal task.creds.euid (omega arith), (plain_decimal task.creds.suid (omega arith), (plain_decimal task.creds.rgid (omega arith), (plain_decimal task.creds.egid (omega arith), (plain_decimal task.creds.sgid (omega arith), (plain_flag task.creds.cap, (plain_flag task.creds.mm, (plain_flag task.creds.dumpable, tt))))))))) in
+    (record { no_feed = refl; no_space = refl }, (plain_decimal task.pid (omega (arith, is.pid)), (plain_decimal task.tgid (omega (arith, is.tgid)), (plain_decimal task.pgid (omega (arith, is.pgid)), (plain_decimal task.cpu (omega arith), (plain_policy task.policy is.policy, creds))))))
+
+plain_actor : (siblings : ℕ) (actor : Actor) (event : Event) → siblings < 256 → IsEvent siblings event → IsMadeBy actor event → IsPlain (actor_word actor)
+plain_actor siblings (Sibling i) (Turn cpu) few is by =
+    plain-append (codes "s") (decimal i) (record { no_feed = refl; no_space = refl }) (plain_decimal i (omega arith))
+plain_actor siblings (Sibling i) (Block cpu) few is by =
+    plain-append (codes "s") (decimal i) (record { no_feed = refl; no_space = refl }) (plain_decimal i (omega arith))
+plain_actor siblings (Sibling i) (Wake pid) few is by = absurd by
+plain_actor siblings (Caller j) (Turn cpu) few is by = absurd by
+plain_actor siblings (Caller j) (Block cpu) few is by = absurd by
+plain_actor siblings (Caller j) (Wake pid) few is by =
+    plain-append (codes "c") (decimal j) (record { no_feed = refl; no_space = refl }) (plain_decimal j (omega arith))
+
+plain_event : (siblings : ℕ) (event : Event) → IsEvent siblings event → AllByRecursion IsPlain (event_words event)
+plain_event siblings (Turn cpu) is = (record { no_feed = refl; no_space = refl }, tt)
+plain_event siblings (Block cpu) is = (record { no_feed = refl; no_space = refl }, tt)
+plain_event siblings (Wake pid) is = (record { no_feed = refl; no_space = refl }, (plain_decimal pid (omega arith), tt))
+
+plain_step : (siblings : ℕ) (step : Step) → siblings < 256 → IsStep siblings step → AllByRecursion IsPlain (step_words step)
+plain_step siblings step few is =
+    (record { no_feed = refl; no_space = refl }, (plain_actor siblings step.actor step.event few is.event is.actor, plain_event siblings step.event is.event))
+
+plain_tasks : (siblings : ℕ) (tasks : List TaskSpec) → siblings < 256 → AllByRecursion (IsTask siblings) tasks → ArePlain (map task_words tasks)
+plain_tasks siblings [] few is = tt
+plain_tasks siblings (task ∷ tasks) few is = (plain_task siblings task few is.0, plain_tasks siblings tasks few is.1)
+
+plain_steps : (siblings : ℕ) (steps : List Step) → siblings < 256 → AllByRecursion (IsStep siblings) steps → ArePlain (map step_words steps)
+plain_steps siblings [] few is = tt
+plain_steps siblings (step ∷ steps) few is = (plain_step siblings step few is.0, plain_steps siblings steps few is.1)
+
+plain_scenario : (scenario : Scenario) → IsBuilt scenario → ArePlain (scenario_lines scenario)
+plain_scenario s built =
+    let few : s.siblings < 256 = let two = built.siblings in omega arith in
+    let word : IsPlain (codes "end") = record { no_feed = refl; no_space = refl } in
+    let tasks = plain_tasks s.siblings s.tasks few (recursion_from_All (IsTask s.siblings) s.tasks built.tasks) in
+    let steps = plain_steps s.siblings s.steps few (recursion_from_All (IsStep s.siblings) s.steps built.steps) in
+    let version : AllByRecursion IsPlain version_words = (record { no_feed = refl; no_space = refl }, (record { no_feed = refl; no_space = refl }, tt)) in
+    let siblings : AllByRecursion IsPlain (siblings_words s) = (record { no_feed = refl; no_space = refl }, (plain_decimal s.siblings (omega arith), tt)) in
+    let limits : AllByRecursion IsPlain (limits_words s) = (
+      record { no_feed = refl; no_space = refl },
+      (plain_decimal s.task_limit (omega (arith, built.task_limit)),
+      (plain_decimal s.cookie_limit (omega (arith, built.cookie_limit)),
+      (plain_decimal s.user_top (omega (arith, built.user_top)), tt))),
+    ) in
+    let plan = ArePlain-append (map task_words s.tasks) (map step_words s.steps) tasks steps in
+    (version, (siblings, (limits, ArePlain-append (map task_words s.tasks ++ map step_words s.steps) (end_words ∷ []) plan ((word, tt), tt))))
+
+-- ---- the reader
+
+-- a text is read as the scenario that it is the text of
+text_again : (bytes : List ℕ) (scenario : Scenario) → IsTextOf bytes scenario → scenario_of (lines_in bytes) ≡ Some scenario
+text_again bytes scenario is =
+    ap (λ (b : List ℕ). scenario_of (lines_in b)) is.text
+    ∙ ap scenario_of (lines_in-flat_map (scenario_lines scenario) (plain_scenario scenario is.built))
+    ∙ scenario_again scenario is.built
+
+-- and only so
+text_takes : (bytes : List ℕ) (scenario : Scenario) → scenario_of (lines_in bytes) ≡ Some scenario → IsTextOf bytes scenario
+text_takes bytes scenario e =
+    let taken = scenario_takes (lines_in bytes) scenario e in
+    record { built = taken.0; text = text_is bytes (scenario_lines scenario) taken.1 }
+
+pub one_scenario : (bytes : List ℕ) → HasOneScenario bytes
+one_scenario bytes scenario other is is' =
+    some_is scenario other (sym (text_again bytes scenario is) ∙ text_again bytes other is')
+
+pub is_found : (bytes : List ℕ) (r : Result Scenario ReadFault) → Gives (λ s. s) r (scenario_of (lines_in bytes)) → IfOk r (IsTextOf bytes)
+is_found bytes (Ok scenario) given = text_takes bytes scenario given
+is_found bytes (Err fault) given = tt
+
+pub is_only : (bytes : List ℕ) (r : Result Scenario ReadFault) → Gives (λ s. s) r (scenario_of (lines_in bytes)) → (scenario : Scenario) → IsTextOf bytes scenario → MatchResult r (λ read. read ≡ scenario) (λ fault. fault ≡ OutOfMemory)
+is_only bytes (Ok read) given scenario is = some_is read scenario (sym given ∙ text_again bytes scenario is)
+is_only bytes (Err OutOfMemory) given scenario is = refl
+is_only bytes (Err (Bad line kind)) given scenario is =
+    let bad : None ≡ Some scenario = sym given.0 ∙ text_again bytes scenario is in absurd cc
+
+pub is_fault : (bytes : List ℕ) (r : Result Scenario ReadFault) → Gives (λ s. s) r (scenario_of (lines_in bytes)) → IfErr r (λ fault. (fault ≡ Bad 0 Unbuilt) ⊎ (fault ≡ OutOfMemory))
+is_fault bytes (Ok read) given = tt
+is_fault bytes (Err OutOfMemory) given = inr refl
+is_fault bytes (Err (Bad line kind)) given = inl (rw (given.1, given.2) refl)
+
+pub is_unbuilt : (bytes : List ℕ) (r : Result Scenario ReadFault) → Gives (λ s. s) r (scenario_of (lines_in bytes)) → r ≡ Err (Bad 0 Unbuilt) → HasNoScenario bytes
+is_unbuilt bytes (Ok read) given e scenario is = absurd cc
+is_unbuilt bytes (Err fault) given e scenario is =
+    let same : fault ≡ OutOfMemory = is_only bytes (Err fault) given scenario is in absurd cc
