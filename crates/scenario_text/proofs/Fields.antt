@@ -94,8 +94,15 @@ creds_takes words x e =
     bind (flag_at mm.1) _ x e7 (λ dumpable t8 e8.
     let made : Creds × List Word = (
       record {
-        ruid = ruid.0; euid = euid.0; suid = suid.0; rgid = rgid.0; egid = egid.0; sgid = sgid.0;
-        cap = cap.0; mm = mm.0; dumpable = dumpable.0;
+        ruid = ruid.0;
+        euid = euid.0;
+        suid = suid.0;
+        rgid = rgid.0;
+        egid = egid.0;
+        sgid = sgid.0;
+        cap = cap.0;
+        mm = mm.0;
+        dumpable = dumpable.0;
       },
       dumpable.1,
     ) in

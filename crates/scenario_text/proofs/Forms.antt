@@ -20,7 +20,7 @@ use Rattle.scenario_text.specs.declared.line.Line.{Line}
 use Rattle.scenario_text.specs.declared.line.Line.TheVariants as forms
 use Rattle.scenario_text.specs.Words.{Word, policy_word, creds_words, task_words, actor_word, event_words}
 use Rattle.scenario_text.specs.Text.{step_words, end_words}
-use Rattle.scenario_text.specs.Reading.{◌>>=◌, number_of, word_at, number_at, keyword_at, end_of, creds_at, cpu_of, policy_of, cpu_at, policy_at, task_at, actor_of, actor_at, own_of, own_at, call_at, event_at, step_at, form_at, line_of}
+use Rattle.scenario_text.specs.Reading.{◌>>=◌, number_of, word_at, number_at, keyword_at, end_of, creds_at, cpu_of, policy_of, cpu_at, policy_at, task_at, actor_of, actor_at, sibling_event_of, sibling_event_at, caller_event_at, event_at, step_at, form_at, line_of}
 use Rattle.scenario_text.proofs.Numbers.{number_takes, number_again}
 use Rattle.scenario_text.proofs.Fields.{bind, some_is, word_takes, keyword_takes, keyword_again, number_at_takes, number_at_again, end_takes, creds_takes, creds_again}
 
@@ -174,9 +174,9 @@ actor_at_again siblings actor rest few is = rw (actor_again siblings actor few i
 abbrev Makes : ℕ → Actor → Event → Type 0
 Makes siblings actor event = IsEvent siblings event × IsMadeBy actor event
 
-own_takes : (siblings cpu : ℕ) (word : Word) (event : Event) → cpu < siblings → own_of cpu word ≡ Some event → (word ∷ [] ≡ event_words event) × Makes siblings (Sibling cpu) event
-unfolding own_of
-own_takes siblings cpu word event lt e =
+sibling_event_takes : (siblings cpu : ℕ) (word : Word) (event : Event) → cpu < siblings → sibling_event_of cpu word ≡ Some event → (word ∷ [] ≡ event_words event) × Makes siblings (Sibling cpu) event
+unfolding sibling_event_of
+sibling_event_takes siblings cpu word event lt e =
     elim (chosen (bytes_eq word (codes "turn")) (Some (Turn cpu)) (cond (bytes_eq word (codes "block")) (Some (Block cpu)) None) (Some event) e) [
       | inl is ↦
           let same : word ≡ codes "turn" = (bytes_eq-Decides word (codes "turn")).0 is.0 in
@@ -187,18 +187,18 @@ own_takes siblings cpu word event lt e =
           subst (λ (v : Event). (word ∷ [] ≡ event_words v) × Makes siblings (Sibling cpu) v) is.1 (rw same refl, (lt, refl))
     ]
 
-own_at_takes : (siblings cpu : ℕ) (words : List Word) (x : Event × List Word) → cpu < siblings → own_at cpu words ≡ Some x → (words ≡ event_words x.0 ++ x.1) × Makes siblings (Sibling cpu) x.0
-unfolding own_at
-own_at_takes siblings cpu words x lt e =
+sibling_event_at_takes : (siblings cpu : ℕ) (words : List Word) (x : Event × List Word) → cpu < siblings → sibling_event_at cpu words ≡ Some x → (words ≡ event_words x.0 ++ x.1) × Makes siblings (Sibling cpu) x.0
+unfolding sibling_event_at
+sibling_event_at_takes siblings cpu words x lt e =
     bind (word_at words) _ x e (λ word first e0.
-    bind (own_of cpu word.0) _ x e0 (λ event is e1.
-    let spelled = own_takes siblings cpu word.0 event lt is in
+    bind (sibling_event_of cpu word.0) _ x e0 (λ event is e1.
+    let spelled = sibling_event_takes siblings cpu word.0 event lt is in
     let whole : words ≡ event_words event ++ word.1 = word_takes words word first ∙ ap (λ (ws : List Word). ws ++ word.1) spelled.0 in
     subst (λ (p : Event × List Word). (words ≡ event_words p.0 ++ p.1) × Makes siblings (Sibling cpu) p.0) (some_is (event, word.1) x e1) (whole, spelled.1)))
 
-call_takes : (siblings caller : ℕ) (words : List Word) (x : Event × List Word) → caller < 8 → call_at words ≡ Some x → (words ≡ event_words x.0 ++ x.1) × Makes siblings (Caller caller) x.0
-unfolding call_at
-call_takes siblings caller words x lt e =
+caller_event_takes : (siblings caller : ℕ) (words : List Word) (x : Event × List Word) → caller < 8 → caller_event_at words ≡ Some x → (words ≡ event_words x.0 ++ x.1) × Makes siblings (Caller caller) x.0
+unfolding caller_event_at
+caller_event_takes siblings caller words x lt e =
     bind (keyword_at (codes "wake") words) _ x e (λ wake first e0.
     bind (number_at 1 999999 wake.1) _ x e0 (λ pid second e1.
     let w0 = keyword_takes (codes "wake") words wake first in
@@ -207,11 +207,11 @@ call_takes siblings caller words x lt e =
     subst (λ (p : Event × List Word). (words ≡ event_words p.0 ++ p.1) × Makes siblings (Caller caller) p.0) (some_is (Wake pid.0, pid.1) x e1) (whole, (w1.1, lt))))
 
 event_takes : (siblings : ℕ) (actor : Actor) (words : List Word) (x : Event × List Word) → IsActor siblings actor → event_at actor words ≡ Some x → (words ≡ event_words x.0 ++ x.1) × Makes siblings actor x.0
-event_takes siblings (Sibling cpu) words x is e = own_at_takes siblings cpu words x is e
-event_takes siblings (Caller caller) words x is e = call_takes siblings caller words x is e
+event_takes siblings (Sibling cpu) words x is e = sibling_event_at_takes siblings cpu words x is e
+event_takes siblings (Caller caller) words x is e = caller_event_takes siblings caller words x is e
 
 event_again : (siblings : ℕ) (actor : Actor) (event : Event) (rest : List Word) → Makes siblings actor event → event_at actor (event_words event ++ rest) ≡ Some (event, rest)
-unfolding own_at own_of call_at
+unfolding sibling_event_at sibling_event_of caller_event_at
 event_again siblings (Sibling i) (Turn cpu) rest makes = rw makes.1 refl
 event_again siblings (Sibling i) (Block cpu) rest makes = rw makes.1 refl
 event_again siblings (Sibling i) (Wake pid) rest makes = absurd makes.1

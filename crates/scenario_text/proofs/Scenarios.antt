@@ -42,8 +42,12 @@ none_read = record { tasks = []; steps = [] }
 abbrev made_of : Head → Contents → Scenario
 made_of head plan =
     record {
-      siblings = head.siblings; task_limit = head.task_limit; cookie_limit = head.cookie_limit;
-      user_top = head.user_top; tasks = plan.tasks; steps = plan.steps;
+      siblings = head.siblings;
+      task_limit = head.task_limit;
+      cookie_limit = head.cookie_limit;
+      user_top = head.user_top;
+      tasks = plan.tasks;
+      steps = plan.steps;
     }
 
 empty_plan : (siblings limit : ℕ) → IsPlan siblings limit none_read
@@ -174,9 +178,13 @@ plain_scenario s built =
     let siblings : AllByRecursion IsPlain (siblings_words s) = (record { no_feed = refl; no_space = refl }, (plain_decimal s.siblings (omega arith), tt)) in
     let limits : AllByRecursion IsPlain (limits_words s) = (
       record { no_feed = refl; no_space = refl },
-      (plain_decimal s.task_limit (omega (arith, built.task_limit)),
-      (plain_decimal s.cookie_limit (omega (arith, built.cookie_limit)),
-      (plain_decimal s.user_top (omega (arith, built.user_top)), tt))),
+      (
+        plain_decimal s.task_limit (omega (arith, built.task_limit)),
+        (
+          plain_decimal s.cookie_limit (omega (arith, built.cookie_limit)),
+          (plain_decimal s.user_top (omega (arith, built.user_top)), tt),
+        ),
+      ),
     ) in
     let plan = ArePlain-append (map task_words s.tasks) (map step_words s.steps) tasks steps in
     (version, (siblings, (limits, ArePlain-append (map task_words s.tasks ++ map step_words s.steps) (end_words ∷ []) plan ((word, tt), tt))))

@@ -140,8 +140,15 @@ creds_at words = do
   dumpable ← flag_at mm.1
   Some (
     record {
-      ruid = ruid.0; euid = euid.0; suid = suid.0; rgid = rgid.0; egid = egid.0; sgid = sgid.0;
-      cap = cap.0; mm = mm.0; dumpable = dumpable.0;
+      ruid = ruid.0;
+      euid = euid.0;
+      suid = suid.0;
+      rgid = rgid.0;
+      egid = egid.0;
+      sgid = sgid.0;
+      cap = cap.0;
+      mm = mm.0;
+      dumpable = dumpable.0;
     },
     dumpable.1,
   )
@@ -176,28 +183,28 @@ actor_at siblings words = do
   Some (actor, word.1)
 
 -- what a sibling does
-unfoldable pub own_of : ℕ → Word → Option Event
-own_of cpu word =
+unfoldable pub sibling_event_of : ℕ → Word → Option Event
+sibling_event_of cpu word =
     if bytes_eq word (codes "turn")
     then Some (Turn cpu)
     else (if bytes_eq word (codes "block") then Some (Block cpu) else None)
 
-unfoldable pub own_at : ℕ → List Word → Option (Event × List Word)
-own_at cpu words = do
+unfoldable pub sibling_event_at : ℕ → List Word → Option (Event × List Word)
+sibling_event_at cpu words = do
   word ← word_at words
-  event ← own_of cpu word.0
+  event ← sibling_event_of cpu word.0
   Some (event, word.1)
 
 -- what a caller does
-unfoldable pub call_at : List Word → Option (Event × List Word)
-call_at words = do
+unfoldable pub caller_event_at : List Word → Option (Event × List Word)
+caller_event_at words = do
   wake ← keyword_at (codes "wake") words
   pid ← number_at 1 999999 wake.1
   Some (Wake pid.0, pid.1)
 
 abbrev pub event_at : Actor → List Word → Option (Event × List Word)
-event_at (Sibling cpu) words = own_at cpu words
-event_at (Caller caller) words = call_at words
+event_at (Sibling cpu) words = sibling_event_at cpu words
+event_at (Caller caller) words = caller_event_at words
 
 -- what stands behind the word `step`
 unfoldable pub step_at : ℕ → List Word → Option (Step × List Word)
@@ -321,9 +328,9 @@ plan_of head plan [] = None
 plan_of head plan (words ∷ lines) = do
   line ← line_of head.siblings words
   match_line line
-    (λ task. with_task head.task_limit task plan >>= λ more. plan_of head more lines)
-    (λ step. with_step step plan >>= λ more. plan_of head more lines)
-    (if is_end lines then Some plan else None)
+      (λ task. with_task head.task_limit task plan >>= λ more. plan_of head more lines)
+      (λ step. with_step step plan >>= λ more. plan_of head more lines)
+      (if is_end lines then Some plan else None)
 
 -- the scenario of a text
 unfoldable pub scenario_of : List (List Word) → Option Scenario
@@ -331,11 +338,15 @@ scenario_of lines = do
   head ← head_at lines
   plan ← plan_of head.0 (record { tasks = []; steps = [] }) head.1
   Some (
-    record {
-      siblings = head.0.siblings; task_limit = head.0.task_limit; cookie_limit = head.0.cookie_limit;
-      user_top = head.0.user_top; tasks = plan.tasks; steps = plan.steps;
-    }
-  )
+      record {
+        siblings = head.0.siblings;
+        task_limit = head.0.task_limit;
+        cookie_limit = head.0.cookie_limit;
+        user_top = head.0.user_top;
+        tasks = plan.tasks;
+        steps = plan.steps;
+      }
+      )
 
 -- ---- what a reader that wants memory returned
 

@@ -23,6 +23,12 @@ pub enum ReadFault {
     OutOfMemory,
 }
 
+/// The text as a whole is no scenario's.
+pub(crate) const UNBUILT: ReadFault = ReadFault::Bad {
+    line: 0,
+    kind: BadKind::Unbuilt,
+};
+
 impl From<AllocError> for ReadFault {
     ghost use Rattle.scenario_text.specs.declared.fault.ReadFault.TheVariants.{OutOfMemory};
 

@@ -74,10 +74,7 @@ fn parse_limits(mut words: Words<'_>, siblings: u8) -> Option<Head>
 pub(crate) fn next_head(lines: &mut Lines<'_>) -> Option<Head>
     ensures { Takes (λ head. head) result lines.new (head_at lines.old) }
 {
-    let version = lines.next_line()?;
-    parse_version(version)?;
-    let siblings = lines.next_line()?;
-    let siblings = parse_siblings(siblings)?;
-    let limits = lines.next_line()?;
-    parse_limits(limits, siblings)
+    parse_version(lines.next_line()?)?;
+    let siblings = parse_siblings(lines.next_line()?)?;
+    parse_limits(lines.next_line()?, siblings)
 }

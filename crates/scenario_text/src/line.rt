@@ -3,11 +3,10 @@
 ghost use Rattle.std.specs.Prelude.{◌≡◌};
 ghost use Rattle.scenario_text.specs.Reading.{Takes, form_at, line_of};
 
-use cs_types::{Step, TaskSpec};
-
 use crate::step::next_step;
 use crate::task::next_task;
 use crate::words::Words;
+use cs_types::{Step, TaskSpec};
 
 /// What a line behind the head says.
 #[derive(Drop)]

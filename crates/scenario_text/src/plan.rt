@@ -3,20 +3,12 @@
 ghost use Rattle.std.specs.Prelude.{◌≡◌, []};
 ghost use Rattle.scenario_text.specs.Reading.{is_fresh, is_led};
 
-use std::alloc::Global;
-
+use crate::fault::{ReadFault, UNBUILT};
 use cs_types::{Step, TaskSpec};
-
-use crate::fault::{BadKind, ReadFault};
+use std::alloc::Global;
 
 /// How many steps a scenario has at most.
 pub const MOST_STEPS: usize = 100_000;
-
-/// The text is no scenario's.
-pub(crate) const UNBUILT: ReadFault = ReadFault::Bad {
-    line: 0,
-    kind: BadKind::Unbuilt,
-};
 
 /// The tasks and the steps that are read.
 #[derive(Drop)]

@@ -2,18 +2,16 @@
 
 ghost use Rattle.std.specs.Prelude.{◌≡◌, ◌⊎◌, [], MatchResult, IfOk, IfErr, IsErrOf};
 ghost use Rattle.cs_types.specs.declared.scenario.Scenario.{Scenario};
-ghost use Rattle.scenario_text.specs.Reading.{Gives, Contents, contents, plan_of, scenario_of, lines_in};
+ghost use Rattle.scenario_text.specs.Reading.{Gives, Contents, contents, plan_of, scenario_of};
 ghost use Rattle.scenario_text.specs.Reader.{IsTextOf, HasNoScenario, HasOneScenario};
 
-use std::alloc::Global;
-
-use cs_types::{List, Scenario};
-
-use crate::fault::{BadKind, ReadFault};
+use crate::fault::{BadKind, ReadFault, UNBUILT};
 use crate::head::{Head, next_head};
 use crate::line::{Line, parse_line};
 use crate::lines::Lines;
-use crate::plan::{Plan, UNBUILT};
+use crate::plan::Plan;
+use cs_types::{List, Scenario};
+use std::alloc::Global;
 
 /// The tasks and the steps of the lines up to `end`, behind which nothing stands.
 fn read_plan(alloc: Global, lines: &mut Lines<'_>, head: Head) -> Result<Plan, ReadFault>
@@ -31,12 +29,11 @@ fn read_plan(alloc: Global, lines: &mut Lines<'_>, head: Head) -> Result<Plan, R
     Err(UNBUILT)
 }
 
-/// The scenario of the text.
+/// The scenario of the lines, behind which nothing stands.
 #[tactic(auto, unfolding(crate::specs::Reading::scenario_of))]
-fn read_scenario(alloc: Global, text: &[u8]) -> Result<Scenario, ReadFault>
-    ensures { Gives (λ scenario. scenario) result (scenario_of (lines_in text.now)) }
+fn read_lines(alloc: Global, mut lines: Lines<'_>) -> Result<Scenario, ReadFault>
+    ensures { Gives (λ scenario. scenario) result (scenario_of lines.entry) }
 {
-    let mut lines = Lines::of(text);
     let head = next_head(&mut lines).ok_or(UNBUILT)?;
     let plan = read_plan(alloc, &mut lines, head)?;
     Ok(Scenario {
@@ -49,7 +46,7 @@ fn read_scenario(alloc: Global, text: &[u8]) -> Result<Scenario, ReadFault>
     })
 }
 
-/// The scenario of a text, in one pass over its bytes.
+/// The scenario of a text.
 ///
 /// A text is the lines `coresched 1`, `siblings 2` and `limits` TASKS COOKIES TOP, then the task
 /// lines, the step lines and the line `end`. Each line ends with a line feed, and one space stands
@@ -75,5 +72,5 @@ pub fn read(alloc: Global, bytes: &[u8]) -> Result<Scenario, ReadFault>
     ensures fault { IfErr result (λ fault. (fault ≡ ReadFault.Bad 0 BadKind.Unbuilt) ⊎ (fault ≡ ReadFault.OutOfMemory)) }
     ensures unbuilt { IsErrOf result (ReadFault.Bad 0 BadKind.Unbuilt) → HasNoScenario bytes.now }
 {
-    read_scenario(alloc, bytes)
+    read_lines(alloc, Lines::of(bytes))
 }

@@ -1,13 +1,12 @@
 //! Steps, as the words of a step line spell them.
 
 ghost use Rattle.std.specs.Prelude.{◌≡◌};
-ghost use Rattle.scenario_text.specs.Reading.{Takes, actor_of, actor_at, own_of, own_at, call_at, event_at, step_at};
-
-use cs_types::{Actor, Cpu, Event, Step};
+ghost use Rattle.scenario_text.specs.Reading.{Takes, actor_of, actor_at, sibling_event_of, sibling_event_at, caller_event_at, event_at, step_at};
 
 use crate::number::parse_number;
 use crate::task::parse_cpu;
 use crate::words::Words;
+use cs_types::{Actor, Cpu, Event, Step};
 
 /// The greatest number of a caller. The least is 0.
 pub const MOST_CALLER: u64 = 7;
@@ -33,14 +32,13 @@ fn parse_actor(word: &[u8], siblings: u8) -> Option<Actor>
 fn next_actor(words: &mut Words<'_>, siblings: u8) -> Option<Actor>
     ensures { Takes (λ actor. actor) result words.new (actor_at siblings words.old) }
 {
-    let word = words.next_word()?;
-    parse_actor(word, siblings)
+    parse_actor(words.next_word()?, siblings)
 }
 
 /// What the sibling does to itself.
-#[tactic(auto, unfolding(crate::specs::Reading::own_of))]
-fn parse_own(word: &[u8], cpu: Cpu) -> Option<Event>
-    ensures { result ≡ own_of cpu word.now }
+#[tactic(auto, unfolding(crate::specs::Reading::sibling_event_of))]
+fn parse_sibling_event(word: &[u8], cpu: Cpu) -> Option<Event>
+    ensures { result ≡ sibling_event_of cpu word.now }
 {
     match word {
         b"turn" => Some(Event::Turn(cpu)),
@@ -50,18 +48,17 @@ fn parse_own(word: &[u8], cpu: Cpu) -> Option<Event>
 }
 
 /// The next word, what the sibling does to itself.
-#[tactic(auto, unfolding(crate::specs::Reading::own_at))]
-fn next_own(words: &mut Words<'_>, cpu: Cpu) -> Option<Event>
-    ensures { Takes (λ event. event) result words.new (own_at cpu words.old) }
+#[tactic(auto, unfolding(crate::specs::Reading::sibling_event_at))]
+fn next_sibling_event(words: &mut Words<'_>, cpu: Cpu) -> Option<Event>
+    ensures { Takes (λ event. event) result words.new (sibling_event_at cpu words.old) }
 {
-    let word = words.next_word()?;
-    parse_own(word, cpu)
+    parse_sibling_event(words.next_word()?, cpu)
 }
 
 /// The next words, what a caller does.
-#[tactic(auto, unfolding(crate::specs::Reading::call_at))]
-fn next_call(words: &mut Words<'_>) -> Option<Event>
-    ensures { Takes (λ event. event) result words.new (call_at words.old) }
+#[tactic(auto, unfolding(crate::specs::Reading::caller_event_at))]
+fn next_caller_event(words: &mut Words<'_>) -> Option<Event>
+    ensures { Takes (λ event. event) result words.new (caller_event_at words.old) }
 {
     words.keyword(b"wake")?;
     Some(Event::Wake(words.next_number(1, MOST_NAMED_PID)? as u32))
@@ -72,8 +69,8 @@ fn next_event(words: &mut Words<'_>, actor: Actor) -> Option<Event>
     ensures { Takes (λ event. event) result words.new (event_at actor words.old) }
 {
     match actor {
-        Actor::Sibling(cpu) => next_own(words, cpu),
-        Actor::Caller(_) => next_call(words),
+        Actor::Sibling(cpu) => next_sibling_event(words, cpu),
+        Actor::Caller(_) => next_caller_event(words),
     }
 }
 

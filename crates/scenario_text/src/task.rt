@@ -3,10 +3,9 @@
 ghost use Rattle.std.specs.Prelude.{◌≡◌, ◌<◌, IfSome};
 ghost use Rattle.scenario_text.specs.Reading.{Takes, cpu_of, policy_of, cpu_at, policy_at, creds_at, task_at};
 
-use cs_types::{Cpu, Creds, Policy, TaskSpec};
-
 use crate::number::parse_number;
 use crate::words::Words;
+use cs_types::{Cpu, Creds, Policy, TaskSpec};
 
 /// The greatest number of a task, a thread group or a process group. The least is 1.
 pub const MOST_PID: u64 = 9999;
@@ -22,7 +21,7 @@ pub const MOST_ID: u64 = 65535;
 pub(crate) fn parse_cpu(word: &[u8], siblings: u8) -> Option<Cpu>
     ensures { result ≡ cpu_of siblings word.now }
 {
-    let cpu = parse_number(word, 0, 255)? as u8;
+    let cpu = parse_number(word, 0, u8::MAX as u64)? as u8;
     (cpu < siblings).then_some(cpu)
 }
 
@@ -40,8 +39,7 @@ fn parse_policy(word: &[u8]) -> Option<Policy>
 fn next_cpu(words: &mut Words<'_>, siblings: u8) -> Option<Cpu>
     ensures { Takes (λ cpu. cpu) result words.new (cpu_at siblings words.old) }
 {
-    let word = words.next_word()?;
-    parse_cpu(word, siblings)
+    parse_cpu(words.next_word()?, siblings)
 }
 
 /// The next word, a policy.
@@ -49,8 +47,7 @@ fn next_cpu(words: &mut Words<'_>, siblings: u8) -> Option<Cpu>
 fn next_policy(words: &mut Words<'_>) -> Option<Policy>
     ensures { Takes (λ policy. policy) result words.new (policy_at words.old) }
 {
-    let word = words.next_word()?;
-    parse_policy(word)
+    parse_policy(words.next_word()?)
 }
 
 /// The next six words, user and group ids, and three more, flags.

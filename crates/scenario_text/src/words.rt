@@ -64,8 +64,7 @@ impl<'a> Words<'a> {
         ensures taken { Takes (λ number. number) result self.new (number_at low high self.old) }
         ensures within { IfSome result (IsWithin low high) }
     {
-        let word = self.next_word()?;
-        parse_number(word, low, high)
+        parse_number(self.next_word()?, low, high)
     }
 
     /// The next word, 1 for yes and 0 for no.

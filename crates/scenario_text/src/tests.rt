@@ -1,0 +1,201 @@
+//! One text, field by field, and texts that are no scenario's, one for each rule of the grammar.
+
+use super::*;
+use cs_types::{Actor, Creds, Event, Policy, Step, TaskSpec};
+use std::alloc::Global;
+use std::test::Fail;
+
+const TEXT: &[u8] =
+    b"coresched 1\nsiblings 2\nlimits 8 8 65536\ntask 1 1 1 0 fifo:10 1000 1000 1000 1000 1000 1000 0 1 1\ntask 2 2 2 0 fifo:10 1000 1000 1000 1000 1000 1000 0 1 1\ntask 3 3 3 0 fifo:20 1000 1000 1000 1000 1000 1000 0 1 1\nstep c0 wake 1\nstep c0 wake 2\nstep s0 turn\nstep c0 wake 3\nstep s0 turn\nstep s0 block\nend\n";
+
+fn task(pid: u32, priority: u8) -> TaskSpec {
+    TaskSpec {
+        pid,
+        tgid: pid,
+        pgid: pid,
+        cpu: 0,
+        policy: Policy::Fifo(priority),
+        creds: Creds {
+            ruid: 1000,
+            euid: 1000,
+            suid: 1000,
+            rgid: 1000,
+            egid: 1000,
+            sgid: 1000,
+            cap: false,
+            mm: true,
+            dumpable: true,
+        },
+    }
+}
+
+fn wake(pid: u32) -> Step {
+    Step {
+        actor: Actor::Caller(0),
+        event: Event::Wake(pid),
+    }
+}
+
+fn own(event: Event) -> Step {
+    Step {
+        actor: Actor::Sibling(0),
+        event,
+    }
+}
+
+#[test]
+fn reads_a_scenario(rt: HostRuntime) -> Result<(), Fail> {
+    let scenario = read(rt.alloc(), TEXT)?;
+    assert_eq!(rt; scenario.siblings, 2);
+    assert_eq!(rt; scenario.task_limit, 8);
+    assert_eq!(rt; scenario.cookie_limit, 8);
+    assert_eq!(rt; scenario.user_top, 65536);
+    let tasks = [task(1, 10), task(2, 10), task(3, 20)];
+    assert_eq!(rt; scenario.tasks.items(), tasks.as_slice());
+    let steps = [
+        wake(1),
+        wake(2),
+        own(Event::Turn(0)),
+        wake(3),
+        own(Event::Turn(0)),
+        own(Event::Block(0)),
+    ];
+    assert_eq!(rt; scenario.steps.items(), steps.as_slice());
+    Ok(())
+}
+
+/// A text of a head, one task and these lines.
+macro_rules! behind {
+    ($lines:literal) => {
+        concat!(
+            "coresched 1\nsiblings 2\nlimits 8 8 65536\ntask 1 1 1 0 fifo:10 0 0 0 0 0 0 0 1 1\n",
+            $lines
+        )
+    };
+}
+
+fn is_refused(alloc: Global, text: &[u8]) -> bool {
+    matches!(
+        read(alloc, text),
+        Err(ReadFault::Bad {
+            line: 0,
+            kind: BadKind::Unbuilt,
+        })
+    )
+}
+
+#[test]
+fn refuses_other_texts(rt: HostRuntime) {
+    for (rule, text) in [
+        ("some line", ""),
+        (
+            "the version",
+            "coresched 2\nsiblings 2\nlimits 8 8 65536\nend\n",
+        ),
+        (
+            "the siblings",
+            "coresched 1\nsiblings 3\nlimits 8 8 65536\nend\n",
+        ),
+        (
+            "the least limit",
+            "coresched 1\nsiblings 2\nlimits 0 8 65536\nend\n",
+        ),
+        (
+            "the greatest limit",
+            "coresched 1\nsiblings 2\nlimits 8 257 65536\nend\n",
+        ),
+        (
+            "the least top",
+            "coresched 1\nsiblings 2\nlimits 8 8 8191\nend\n",
+        ),
+        (
+            "the greatest top",
+            "coresched 1\nsiblings 2\nlimits 8 8 9223372036854775808\nend\n",
+        ),
+        ("a last line feed", behind!("end")),
+        ("an end", behind!("")),
+        ("nothing behind the end", behind!("end\nstep s0 turn\n")),
+        ("one space", behind!("step  s0 turn\nend\n")),
+        ("no space at the end", behind!("step s0 turn \nend\n")),
+        ("no blank line", behind!("\nend\n")),
+        ("a known word", behind!("pause\nend\n")),
+        ("no word more", behind!("step s0 turn 1\nend\n")),
+        ("no leading 0", behind!("step c0 wake 01\nend\n")),
+        ("no sign", behind!("step c0 wake +1\nend\n")),
+        (
+            "the greatest pid of a step",
+            behind!("step c0 wake 1000000\nend\n"),
+        ),
+        ("the callers", behind!("step c8 wake 1\nend\n")),
+        ("a sibling's own event", behind!("step c0 turn\nend\n")),
+        ("a caller's event", behind!("step s0 wake 1\nend\n")),
+        ("an actor's sibling", behind!("step s2 turn\nend\n")),
+        (
+            "the greatest pid of a task",
+            behind!("task 10000 1 1 0 fifo:10 0 0 0 0 0 0 0 1 1\nend\n"),
+        ),
+        (
+            "a task's sibling",
+            behind!("task 2 2 2 2 fifo:10 0 0 0 0 0 0 0 1 1\nend\n"),
+        ),
+        (
+            "the policy",
+            behind!("task 2 2 2 0 rr:10 0 0 0 0 0 0 0 1 1\nend\n"),
+        ),
+        (
+            "the greatest priority",
+            behind!("task 2 2 2 0 fifo:100 0 0 0 0 0 0 0 1 1\nend\n"),
+        ),
+        (
+            "the greatest id",
+            behind!("task 2 2 2 0 fifo:10 0 0 0 0 0 65536 0 1 1\nend\n"),
+        ),
+        (
+            "a flag",
+            behind!("task 2 2 2 0 fifo:10 0 0 0 0 0 0 0 1 2\nend\n"),
+        ),
+        (
+            "pids apart",
+            behind!("task 1 1 1 0 fifo:10 0 0 0 0 0 0 0 1 1\nend\n"),
+        ),
+        (
+            "an earlier leader",
+            behind!("task 2 3 3 0 fifo:10 0 0 0 0 0 0 0 1 1\nend\n"),
+        ),
+        (
+            "the leader's process group",
+            behind!("task 2 1 2 0 fifo:10 0 0 0 0 0 0 0 1 1\nend\n"),
+        ),
+        (
+            "a leader of its own group",
+            behind!(
+                "task 2 1 1 0 fifo:10 0 0 0 0 0 0 0 1 1\ntask 3 2 1 0 fifo:10 0 0 0 0 0 0 0 1 1\nend\n"
+            ),
+        ),
+        (
+            "the limit of tasks",
+            "coresched 1\nsiblings 2\nlimits 1 8 65536\ntask 1 1 1 0 fifo:10 0 0 0 0 0 0 0 1 1\ntask 2 2 2 0 fifo:10 0 0 0 0 0 0 0 1 1\nend\n",
+        ),
+        (
+            "tasks before steps",
+            behind!("step s0 turn\ntask 2 2 2 0 fifo:10 0 0 0 0 0 0 0 1 1\nend\n"),
+        ),
+    ] {
+        assert!(rt; is_refused(rt.alloc(), text.as_bytes()), "{rule}");
+    }
+}
+
+#[test]
+fn reads_100000_steps_and_no_more(rt: HostRuntime) -> Result<(), Fail> {
+    let mut text = Vec::new(rt.alloc());
+    text.extend_from_slice(behind!("").as_bytes())?;
+    for _ in 0..100_000 {
+        text.extend_from_slice(b"step s0 turn\n")?;
+    }
+    let mut longer = text.clone()?;
+    text.extend_from_slice(b"end\n")?;
+    assert_eq!(rt; read(rt.alloc(), &text)?.steps.items().len(), 100_000);
+    longer.extend_from_slice(b"step s0 turn\nend\n")?;
+    assert!(rt; is_refused(rt.alloc(), &longer));
+    Ok(())
+}
