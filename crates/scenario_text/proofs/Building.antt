@@ -1,5 +1,5 @@
 -- Building: the lines behind the head are read as the plan that they spell, and no others are.
-use Rattle.std.proofs.Common.{◌≡◌, ℕ, suc, ◌+◌, ◌<◌, ◌≤◌, Bool, true, false, cond, eqb, ltb, List, [], ◌∷◌, ◌++◌, length, get_or, map, Option, Some, None, refl, sym, ap, subst, ◌∙◌, arith, All, append_assoc}
+use Rattle.std.proofs.Common.{◌≡◌, ℕ, suc, ◌+◌, ◌<◌, ◌≤◌, true, cond, eqb, ltb, List, [], ◌∷◌, ◌++◌, length, get_or, map, Some, None, refl, sym, ap, subst, ◌∙◌, arith, All, append_assoc}
 use Rattle.std.specs.Prelude.{◌&&◌}
 use Rattle.std.proofs.lemmas.Bool.{and_parts, and_from, eqb-true, ltb-true, lt-ltb}
 use Rattle.std.proofs.lemmas.List.{append-nil, map-append, length_push, length-append, nil_from_length, get_or_at}
@@ -14,7 +14,7 @@ use Rattle.scenario_text.specs.declared.line.Line.TheVariants as forms
 use Rattle.scenario_text.specs.Words.{Word, task_words}
 use Rattle.scenario_text.specs.Text.{step_words, end_words}
 use Rattle.scenario_text.specs.Reading.{◌>>=◌, Contents, line_of, is_end, is_fresh, is_led, can_follow, match_line, with_task, with_step, plan_of}
-use Rattle.scenario_text.proofs.Fields.{bind, some_is}
+use Rattle.scenario_text.proofs.Fields.{bind}
 use Rattle.scenario_text.proofs.Forms.{line_words, IsLine, line_takes, line_again}
 use Rattle.scenario_text.proofs.Followers.{apart_push, apart_fresh, led_push, led_test}
 

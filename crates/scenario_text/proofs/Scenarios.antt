@@ -1,7 +1,7 @@
 -- Scenarios: what is read from a text is the scenario of the text, and the text of a scenario is read as it.
-use Rattle.std.proofs.Common.{◌≡◌, ℕ, ◌^◌, ◌<◌, ◌≤◌, Bool, true, false, List, [], ◌∷◌, ◌++◌, map, Option, Some, None, Result, Ok, Err, refl, sym, ap, subst, ◌∙◌, arith, append_assoc, inl, inr}
+use Rattle.std.proofs.Common.{◌≡◌, ℕ, ◌<◌, Bool, true, false, List, [], ◌∷◌, ◌++◌, map, Some, None, Result, Ok, Err, refl, sym, ap, subst, ◌∙◌, arith, append_assoc, inl, inr}
 use Rattle.std.specs.Prelude.{◌⊎◌, MatchResult, IfOk, IfErr, decimal, codes}
-use Rattle.std.specs.List.{All, AllByRecursion, flat_map}
+use Rattle.std.specs.List.{AllByRecursion}
 use Rattle.std.proofs.lemmas.List.Elements.{recursion_from_All, All-nil}
 use Rattle.cs_types.specs.declared.task.Policy.{Policy}
 use Rattle.cs_types.specs.declared.task.Policy.TheVariants.{Fifo}
@@ -18,12 +18,12 @@ use Rattle.scenario_text.specs.declared.fault.ReadFault.{ReadFault}
 use Rattle.scenario_text.specs.declared.fault.ReadFault.TheVariants.{Bad, OutOfMemory}
 use Rattle.scenario_text.specs.declared.head.Head.{Head}
 use Rattle.scenario_text.specs.Words.{Word, flag_word, policy_word, creds_words, task_words, actor_word, event_words}
-use Rattle.scenario_text.specs.Text.{line, version_words, siblings_words, limits_words, step_words, end_words, scenario_lines, scenario_text}
+use Rattle.scenario_text.specs.Text.{line, version_words, siblings_words, limits_words, step_words, end_words, scenario_lines}
 use Rattle.scenario_text.specs.Reading.{Gives, Contents, lines_in, head_at, plan_of, scenario_of}
 use Rattle.scenario_text.specs.Reader.{IsTextOf, HasNoScenario, HasOneScenario}
 use Rattle.scenario_text.proofs.Fields.{bind, some_is}
 use Rattle.scenario_text.proofs.Heads.{IsHead, head_lines, head_takes, head_again}
-use Rattle.scenario_text.proofs.Building.{IsPlan, Completes, plan_lines, end_lines, plan_takes, plan_again}
+use Rattle.scenario_text.proofs.Building.{IsPlan, plan_lines, end_lines, plan_takes, plan_again}
 use Rattle.scenario_text.proofs.Texts.{IsPlain, ArePlain, plain_decimal, plain-append, ArePlain-append, lines_in-flat_map, text_is}
 
 -- ---- the lines of a scenario

@@ -1,5 +1,4 @@
 use Rattle.std.proofs.Common.{◌∙◌, sym, arith}
-use Rattle.std.specs.Str.Parse.{ParsesUnsigned}
 use Rattle.std.proofs.lemmas.Bool.Decides.{nat_tests}
 use Rattle.scenario_text.proofs.Numbers.{not_canonical, not_text, text_is, not_parsed, parsed}
 use Rattle.scenario_text.proofs.number.parse_number.Goals as goal

@@ -1,4 +1,4 @@
-use Rattle.std.proofs.Common.{eqb, ap, rules, tests, ◌∙◌, sym, arith}
+use Rattle.std.proofs.Common.{eqb, rules, tests}
 use Rattle.std.specs.Prelude.{◌&&◌}
 use Rattle.std.proofs.lemmas.Bool.{ne_eqb}
 use Rattle.std.proofs.lemmas.Iterator.{YieldsList-from_slice}

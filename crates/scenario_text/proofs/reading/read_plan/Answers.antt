@@ -1,9 +1,9 @@
-use Rattle.std.proofs.Common.{Option, Some, List, sym, ap, subst, ◌∙◌}
+use Rattle.std.proofs.Common.{Option, Some, sym, ap, ◌∙◌}
 use Rattle.std.proofs.lemmas.Bool.{cond-true, cond-false}
 use Rattle.std.proofs.lemmas.Result.{err_from_is_err_and}
 use Rattle.scenario_text.specs.declared.fault.BadKind.TheVariants.{Unbuilt}
 use Rattle.scenario_text.specs.declared.fault.ReadFault.TheVariants.{Bad}
-use Rattle.scenario_text.specs.Reading.{◌>>=◌, Fails, Contents, contents, is_end, with_task, with_step, plan_of}
+use Rattle.scenario_text.specs.Reading.{◌>>=◌, Contents, contents, with_task, with_step, plan_of}
 use Rattle.scenario_text.proofs.Plans.{not_given, refused, Fails-bind, plan_of-bad, plan_of-task, plan_of-step, plan_of-end, plan_of-none}
 use Rattle.scenario_text.proofs.reading.read_plan.Goals as goal
 

@@ -1,5 +1,5 @@
 use Rattle.std.proofs.Common.{◌≡◌, [], length}
-use Rattle.scenario_text.specs.Reading.{Contents, contents, plan_of}
+use Rattle.scenario_text.specs.Reading.{contents, plan_of}
 use Rattle.scenario_text.proofs.reading.read_plan.Given as goal
 
 abbrev pub invariant-loop-words : goal.invariant-loop-words
