@@ -1,4 +1,5 @@
-//! The head of a scenario: its first three lines.
+//! The head of a scenario: its first three lines, each of which stands once and in its place. The
+//! lines behind it, which come in any number, are apart.
 
 ghost use Rattle.std.specs.Prelude.{◌≡◌};
 ghost use Rattle.scenario_text.specs.Reading.{Takes, version_of, siblings_of, head_of, head_at};

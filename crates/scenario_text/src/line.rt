@@ -1,4 +1,5 @@
-//! The lines behind the head, each in its form.
+//! The lines behind the head, each in its form, which its first word tells. It is apart from the
+//! forms, of which a new one is a variant more here.
 
 ghost use Rattle.std.specs.Prelude.{◌≡◌};
 ghost use Rattle.scenario_text.specs.Reading.{Takes, form_at, line_of};

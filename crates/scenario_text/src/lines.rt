@@ -1,4 +1,5 @@
-//! The lines of a text, taken one after the other.
+//! The lines of a text, taken one after the other. It is apart so that what reads lines speaks of
+//! their words alone, and of no line feeds.
 
 ghost use Rattle.std.specs.Prelude.{◌≡◌};
 ghost use Rattle.scenario_text.specs.Reading.{lines_in, Takes, line_at, is_end};

@@ -1,4 +1,5 @@
-//! Numbers, as words spell them: decimal digits, with no sign and no leading 0.
+//! Numbers, as words spell them: decimal digits, with no sign and no leading 0. It is apart since
+//! every form of a line but the last has them.
 
 ghost use Rattle.std.specs.Prelude.{◌≡◌, IfSome};
 ghost use Rattle.cs_types.specs.Scenario.{IsWithin};

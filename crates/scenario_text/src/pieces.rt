@@ -1,4 +1,5 @@
-//! Where a text is cut: its lines stand round line feeds, and the words of a line round spaces.
+//! Where bytes are cut at a separator. It is apart since the lines of a text, which stand round line
+//! feeds, and the words of a line, which stand round spaces, are cut alike.
 
 ghost use Rattle.std.specs.Prelude.{◌≡◌, [], ◌∷◌, MatchOption};
 ghost use Rattle.scenario_text.specs.Reading.{pieces};

@@ -1,4 +1,5 @@
-//! The plan of a scenario: its tasks and its steps, as they are read line by line.
+//! The plan of a scenario: its tasks and its steps, as they are read line by line. Here are the rules
+//! that take more than one line: pids apart, leaders, and how many there may be.
 
 ghost use Rattle.std.specs.Prelude.{◌≡◌, []};
 ghost use Rattle.scenario_text.specs.Reading.{is_fresh, is_led};
@@ -62,7 +63,7 @@ impl Plan {
             && is_led(&self.tasks, task)
     }
 
-    /// Adds the task of the next line.
+    /// Adds the task of the next line. The text is refused where the task may not follow.
     #[tactic(auto, unfolding(crate::specs::Reading::with_task))]
     pub fn add_task(&mut self, task: TaskSpec, limit: u16) -> Result<(), ReadFault>
         ensures { Gives (λ unit. contents self.new) result (with_task limit task (contents self.old)) }
@@ -74,7 +75,7 @@ impl Plan {
         Ok(())
     }
 
-    /// Adds the step of the next line.
+    /// Adds the step of the next line. The text is refused where it has more steps than a scenario.
     #[tactic(auto, unfolding(crate::specs::Reading::with_step))]
     pub fn add_step(&mut self, step: Step) -> Result<(), ReadFault>
         ensures { Gives (λ unit. contents self.new) result (with_step step (contents self.old)) }

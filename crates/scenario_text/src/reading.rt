@@ -1,4 +1,4 @@
-//! The reader of scenario texts.
+//! The reader of scenario texts: the public call, over lines and the plan.
 
 ghost use Rattle.std.specs.Prelude.{◌≡◌, ◌⊎◌, [], MatchResult, IfOk, IfErr, IsErrOf};
 ghost use Rattle.cs_types.specs.declared.scenario.Scenario.{Scenario};

@@ -1,4 +1,5 @@
-//! Steps, as the words of a step line spell them.
+//! Steps, as the words of a step line spell them: an actor and what it does. It is apart from tasks,
+//! with which it shares no more than siblings.
 
 ghost use Rattle.std.specs.Prelude.{◌≡◌};
 ghost use Rattle.scenario_text.specs.Reading.{Takes, actor_of, actor_at, sibling_event_of, sibling_event_at, caller_event_at, event_at, step_at};

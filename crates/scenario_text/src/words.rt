@@ -1,4 +1,5 @@
-//! The words of a line, taken one after the other.
+//! The words of a line, taken one after the other. It is apart so that the forms of lines speak of
+//! words alone, and of no spaces.
 
 ghost use Rattle.std.specs.Prelude.{◌≡◌, [], IfSome};
 ghost use Rattle.cs_types.specs.Scenario.{IsWithin};
@@ -25,14 +26,14 @@ impl<'a> Model for Words<'a> {
 }
 
 impl<'a> Words<'a> {
-    /// The words of the line, which has no line feed.
+    /// The words of the line.
     pub fn of(line: &'a [u8]) -> Self
         ensures { result ≡ words_in line.now }
     {
         Words { rest: Some(line) }
     }
 
-    /// The next word.
+    /// The next word. `None` where each is taken.
     #[tactic(auto, unfolding(crate::specs::Reading::words_in))]
     pub fn next_word(&mut self) -> Option<&'a [u8]>
         ensures { Takes (λ word. word.now) result self.new (word_at self.old) }
