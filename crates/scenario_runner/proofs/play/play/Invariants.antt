@@ -1,0 +1,12 @@
+use Rattle.std.proofs.Common.{◌≡◌, ◌+◌, take}
+use Rattle.cs_types.specs.History.{history_of}
+use Rattle.scenario_runner.proofs.play.play.Given as goal
+
+abbrev pub invariant-loop-step : goal.invariant-loop-step
+invariant-loop-step g l =
+    let room = g.R.Room in
+    record {
+      history : room.history l.room ≡ history_of (room.scenario l.fn.room) (take l.step-index l.steps);
+      scenario : room.scenario l.room ≡ room.scenario l.fn.room;
+      free : room.free l.room + l.step-index ≡ room.free l.fn.room;
+    }

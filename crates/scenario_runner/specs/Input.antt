@@ -1,0 +1,23 @@
+-- The input: what was read of it, and how much.
+use Rattle.std.specs.Prelude.{◌≡◌, ℕ, ◌-◌, List, [], length, Option, Some, IfSome}
+use Rattle.std.specs.Option.{option_map_or}
+use Rattle.cs_outside.specs.Device.{prepended}
+use Rattle.scenario_text.specs.declared.fault.BadKind.{BadKind}
+use Rattle.scenario_text.specs.declared.fault.BadKind.TheVariants.{Unbuilt}
+use Rattle.scenario_text.specs.Reader.{HasNoScenario}
+
+-- how many bytes were read, where the source tells them
+abbrev pub count_read : Option (List ℕ) → Option (List ℕ) → ℕ
+count_read before now = option_map_or length before 0 - option_map_or length now 0
+
+-- the input was these bytes and was read to its end, where the source tells it
+abbrev pub IsReadAs : Option (List ℕ) → List ℕ → Option (List ℕ) → Type 0
+IsReadAs before bytes now = (before ≡ prepended bytes now) × IfSome now (λ left. left ≡ [])
+
+-- the input was read to its end, and is the text of no scenario that can be played, which is said of the text
+-- as a whole
+pub record IsBad (at : ℕ) (what : BadKind) (before now : Option (List ℕ)) : Type 0 where
+  pub line : at ≡ 0
+  pub kind : what ≡ Unbuilt
+  pub ended : IfSome before (λ _. now ≡ Some [])
+  pub text : IfSome before HasNoScenario

@@ -1,0 +1,137 @@
+//! The commands, each by its words.
+
+ghost use Rattle.std.specs.Prelude.{◌≡◌, ◌≢◌, ◌⊎◌, ◌↔◌, ◌+◌, ◌-◌, ◌^◌, ◌<◌, ◌≤◌, length, Some, Err, IfOk, IfErr, IfSome, IsTrue};
+ghost use Rattle.cs_types.specs.declared.scenario.Scenario.{Scenario};
+ghost use Rattle.cs_types.specs.Scenario.{IsBuilt};
+ghost use Rattle.cs_types.specs.History.{file};
+ghost use Rattle.cs_outside.specs.Device.{Rose};
+ghost use Rattle.scenario_text.specs.Text.{scenario_text};
+ghost use Rattle.scenario_runner.specs.Commands.{IsReplay};
+ghost use Rattle.scenario_runner.specs.Input.{IsBad, count_read};
+ghost use Rattle.scenario_runner.specs.Replay.{Reads, Replays, BreaksOff};
+
+use crate::input::{INPUT_BYTES, read_to_end};
+use crate::play::{play, write_history};
+use crate::status::Status;
+use crate::stop::Stop;
+use cs_outside::{Sink, Source};
+use cs_types::Room;
+use plain_room::PlainRoom;
+use scenario_text::read;
+use std::alloc::Global;
+
+/// The room of the scenario that the input spells, with all its steps made in the order of the lines.
+fn played<S: Source>(alloc: Global, source: &mut S) -> Result<PlainRoom, Stop>
+    ensures reads { IfOk result (λ room. Reads room.scenario (S.left source.old) (S.left source.new)) }
+    ensures played { IfOk result (λ room. ⟦<PlainRoom as Room>⟧.history room ≡ file room.scenario) }
+
+    ensures too_long { IfSome (S.left source.old) (λ _. result ≢ Err Stop.OutOfMemory →
+        ((result ≡ Err Stop.TooLong) ↔ (INPUT_BYTES < count_read (S.left source.old) (S.left source.new)))) }
+    ensures bad { (line : _) (kind : _) → result ≡ Err (Stop.BadScenario line kind) →
+        IsBad line kind (S.left source.old) (S.left source.new) }
+    ensures failed { result ≡ Err Stop.ReadFault → Rose (S.faults source.old) (S.faults source.new) }
+    ensures counted { S.faults source.old ≤ S.faults source.new }
+{
+    let input = read_to_end(alloc, source)?;
+    let scenario = read(alloc, &input)?;
+    let mut room = PlainRoom::start(alloc, &scenario)?;
+    play(&mut room, scenario.steps.items());
+    Ok(room)
+}
+
+/// Whether the words are this command's.
+fn is_replay(words: &[String]) -> bool
+    ensures { IsTrue result ↔ IsReplay words.now }
+{
+    match words {
+        [word] => word.as_str() == "replay",
+        _ => false,
+    }
+}
+
+/// Reads a scenario to its end, makes its steps in the order of their lines, and writes the line of
+/// each entry and the line `done`, each in one piece. It waits for nobody and always returns.
+///
+/// The word is `replay`. Both counts of faults have to be below 2^64 - 1.
+pub fn replay<S: Source, K: Sink>(
+    alloc: Global,
+    words: &[String],
+    source: &mut S,
+    sink: &mut K,
+) -> Status
+    requires source { S.faults source.old < 2 ^ 64 - 1 }
+    requires sink { K.faults sink.old < 2 ^ 64 - 1 }
+
+    // Where it is done, what was read is the text of a scenario, and what was written is its history.
+    ensures done { result ≡ Status.Done → (scenario : Scenario) ×
+        Replays scenario (S.left source.old) (S.left source.new) (K.written sink.old) (K.written sink.new) }
+
+    // When each other status comes. Want of memory alone is free.
+    ensures bad_words { (result ≡ Status.BadWords) ↔ ¬ IsReplay words.now }
+    ensures read_fault { result ≡ Status.ReadFault → S.faults source.old < S.faults source.new }
+    ensures too_long { IfSome (S.left source.old) (λ _. result ≢ Status.OutOfMemory →
+        ((result ≡ Status.TooLong) ↔ (INPUT_BYTES < count_read (S.left source.old) (S.left source.new)))) }
+    ensures bad_scenario { (line : _) (kind : _) → result ≡ Status.BadScenario line kind →
+        IsBad line kind (S.left source.old) (S.left source.new) }
+    ensures write_fault { result ≡ Status.WriteFault → (K.faults sink.old < K.faults sink.new) × ((scenario : Scenario) ×
+        BreaksOff scenario (S.left source.old) (S.left source.new) (K.written sink.old) (K.written sink.new)) }
+
+    // Nothing is read for other words, and nothing is written but by a run.
+    ensures unread { result ≡ Status.BadWords → source.new ≡ source.old }
+    ensures unwritten { result ≢ Status.Done → result ≢ Status.WriteFault → sink.new ≡ sink.old }
+
+    // It gives up on no scenario that can be played.
+    ensures complete { (scenario : Scenario) → IsReplay words.now → IsBuilt scenario →
+        S.left source.old ≡ Some (scenario_text scenario) → length (scenario_text scenario) ≤ INPUT_BYTES →
+        S.faults source.new ≡ S.faults source.old → K.faults sink.new ≡ K.faults sink.old →
+        (result ≡ Status.Done) ⊎ (result ≡ Status.OutOfMemory) }
+{
+    if !is_replay(words) {
+        return Status::BadWords;
+    }
+    match played(alloc, source) {
+        Ok(room) => match write_history(&room, sink) {
+            Ok(()) => Status::Done,
+            Err(_) => Status::WriteFault,
+        },
+        Err(stop) => Status::from(stop),
+    }
+}
+
+/// Runs the command of the words. The word `replay` is that of `replay`, and does what it does.
+/// Other words are no command's.
+pub fn run<R: AllocGlobal, S: Source, K: Sink>(
+    rt: &R,
+    words: &[String],
+    source: &mut S,
+    sink: &mut K,
+) -> Status
+    requires source { S.faults source.old < 2 ^ 64 - 1 }
+    requires sink { K.faults sink.old < 2 ^ 64 - 1 }
+
+    // Where it is done, what was read is the text of a scenario, and what was written is its history.
+    ensures done { result ≡ Status.Done → (scenario : Scenario) ×
+        Replays scenario (S.left source.old) (S.left source.new) (K.written sink.old) (K.written sink.new) }
+
+    // When each other status comes. Want of memory alone is free.
+    ensures bad_words { (result ≡ Status.BadWords) ↔ ¬ IsReplay words.now }
+    ensures read_fault { result ≡ Status.ReadFault → S.faults source.old < S.faults source.new }
+    ensures too_long { IfSome (S.left source.old) (λ _. result ≢ Status.OutOfMemory →
+        ((result ≡ Status.TooLong) ↔ (INPUT_BYTES < count_read (S.left source.old) (S.left source.new)))) }
+    ensures bad_scenario { (line : _) (kind : _) → result ≡ Status.BadScenario line kind →
+        IsBad line kind (S.left source.old) (S.left source.new) }
+    ensures write_fault { result ≡ Status.WriteFault → (K.faults sink.old < K.faults sink.new) × ((scenario : Scenario) ×
+        BreaksOff scenario (S.left source.old) (S.left source.new) (K.written sink.old) (K.written sink.new)) }
+
+    // Nothing is read for other words, and nothing is written but by a run.
+    ensures unread { result ≡ Status.BadWords → source.new ≡ source.old }
+    ensures unwritten { result ≢ Status.Done → result ≢ Status.WriteFault → sink.new ≡ sink.old }
+
+    // It gives up on no scenario that can be played.
+    ensures complete { (scenario : Scenario) → IsReplay words.now → IsBuilt scenario →
+        S.left source.old ≡ Some (scenario_text scenario) → length (scenario_text scenario) ≤ INPUT_BYTES →
+        S.faults source.new ≡ S.faults source.old → K.faults sink.new ≡ K.faults sink.old →
+        (result ≡ Status.Done) ⊎ (result ≡ Status.OutOfMemory) }
+{
+    replay(rt.alloc(), words, source, sink)
+}

@@ -1,0 +1,15 @@
+//! The commands: from the words and the bytes that come in to the bytes that go out.
+#![tactic(auto)]
+
+mod command;
+mod input;
+mod play;
+mod status;
+mod stop;
+
+pub use command::{replay, run};
+pub use input::INPUT_BYTES;
+pub use status::Status;
+
+#[cfg(test)]
+mod tests;

@@ -1,0 +1,32 @@
+//! How a command ends.
+
+use scenario_text::BadKind;
+use thiserror::Error;
+
+/// How a command ended. Where more than one fits, the first in the order of the work counts: the
+/// words, reading, the scenario, opening, the run, writing. Its text says what went wrong.
+#[derive(Clone, Copy, Debug, PartialEq, Eq, Error)]
+pub enum Status {
+    /// All was read and all was written.
+    #[error("done")]
+    Done,
+    /// The words are no command's. Nothing was read.
+    #[error("bad words")]
+    BadWords,
+    /// The input was read to its end, and no scenario that can be played has this text. Line 0 is
+    /// the text as a whole.
+    #[error("line {line}: {kind:?}")]
+    BadScenario { line: u32, kind: BadKind },
+    /// More than 16,777,216 bytes were read.
+    #[error("input too long")]
+    TooLong,
+    /// The source failed.
+    #[error("read fault")]
+    ReadFault,
+    /// The sink failed. A front of the output was written.
+    #[error("write fault")]
+    WriteFault,
+    /// There was no memory, before the first step.
+    #[error("out of memory")]
+    OutOfMemory,
+}

@@ -1,0 +1,66 @@
+//! Why an input is not played.
+
+ghost use Rattle.std.specs.Prelude.{◌≡◌};
+ghost use Rattle.scenario_runner.specs.declared.stop.Stop.TheVariants.{OutOfMemory};
+
+use crate::status::Status;
+use cs_types::OutOfMemory;
+use scenario_text::{BadKind, ReadFault};
+use std::alloc::AllocError;
+
+/// Why an input was not played.
+#[derive(Clone, Copy, Debug, PartialEq, Eq)]
+pub enum Stop {
+    /// The source failed.
+    ReadFault,
+    /// More than `INPUT_BYTES` were read.
+    TooLong,
+    /// The input was read to its end, and no scenario that can be played has this text.
+    BadScenario { line: u32, kind: BadKind },
+    /// There was no memory, before the first step.
+    OutOfMemory,
+}
+
+impl From<AllocError> for Stop {
+    ghost from_gives = { λ _ stop. stop ≡ OutOfMemory };
+
+    fn from(_: AllocError) -> Self {
+        Stop::OutOfMemory
+    }
+}
+
+impl From<OutOfMemory> for Stop {
+    ghost from_gives = { λ _ stop. stop ≡ OutOfMemory };
+
+    fn from(_: OutOfMemory) -> Self {
+        Stop::OutOfMemory
+    }
+}
+
+impl From<ReadFault> for Stop {
+    ghost use Rattle.scenario_runner.specs.Stop.{stop_of};
+
+    ghost from_gives = { λ fault stop. stop ≡ stop_of fault };
+
+    fn from(fault: ReadFault) -> Self {
+        match fault {
+            ReadFault::Bad { line, kind } => Stop::BadScenario { line, kind },
+            ReadFault::OutOfMemory => Stop::OutOfMemory,
+        }
+    }
+}
+
+impl From<Stop> for Status {
+    ghost use Rattle.scenario_runner.specs.Stop.{status_of};
+
+    ghost from_gives = { λ stop status. status ≡ status_of stop };
+
+    fn from(stop: Stop) -> Self {
+        match stop {
+            Stop::ReadFault => Status::ReadFault,
+            Stop::TooLong => Status::TooLong,
+            Stop::BadScenario { line, kind } => Status::BadScenario { line, kind },
+            Stop::OutOfMemory => Status::OutOfMemory,
+        }
+    }
+}
