@@ -1,0 +1,56 @@
+//! The program: `coresched` over the real standard streams. It ends with the status of its command,
+//! and says on standard error what went wrong.
+#![tactic(auto)]
+
+use cs_outside::{StdSink, StdSource};
+use scenario_runner::{Status, run};
+use std::env;
+use std::io::ErrorKind;
+use std::process::ExitCode;
+use std::rt::Env;
+
+/// The words of the command line, without the program's name. Words that are no text are no command's.
+fn words<R: Env + AllocGlobal>(rt: &R) -> Result<Vec<String>, Status> {
+    match env::args(rt) {
+        Ok(args) => args
+            .skip(1)
+            .collect(rt.alloc())
+            .map_err(|_| Status::OutOfMemory),
+        Err(error) if error.kind() == ErrorKind::OutOfMemory => Err(Status::OutOfMemory),
+        Err(_) => Err(Status::BadWords),
+    }
+}
+
+/// Runs the command. Its output is complete only once the sink is flushed.
+fn execute(rt: &HostRuntime, words: &[String]) -> Status {
+    let mut source = StdSource::over(rt.stdin());
+    let mut sink = StdSink::over(rt.stdout());
+    let status = run(rt, words, &mut source, &mut sink);
+    if status == Status::Done && sink.flush().is_err() {
+        return Status::WriteFault;
+    }
+    status
+}
+
+/// The exit status of the program.
+fn exit_code(status: Status) -> u8 {
+    match status {
+        Status::Done => 0,
+        Status::BadWords => 1,
+        Status::BadScenario { .. } | Status::TooLong => 2,
+        Status::ReadFault => 3,
+        Status::WriteFault => 4,
+        Status::OutOfMemory => 5,
+    }
+}
+
+fn main(rt: HostRuntime) -> ExitCode {
+    let status = match words(&rt) {
+        Ok(words) => execute(&rt, &words),
+        Err(status) => status,
+    };
+    if status != Status::Done {
+        let _ = eprintln!(rt; "coresched: {status}");
+    }
+    ExitCode::from(exit_code(status))
+}
