@@ -16,7 +16,7 @@ raised count = min (count + 1) (2 ^ 64 - 1)
 
 -- A count of faults rose: it is greater than before, or stands at its end, 2^64 - 1.
 abbrev pub Rose : ℕ → ℕ → Type 0
-Rose before now = min (before + 1) (2 ^ 64 - 1) ≤ now
+Rose before now = raised before ≤ now
 
 -- of this text a front was written, and nothing else
 abbrev pub WritesFront : Option (List ℕ) → List ℕ → Option (List ℕ) → Type 0

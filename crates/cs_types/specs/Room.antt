@@ -27,14 +27,17 @@ pub record RoomState : Type 0 where
   pub siblings : List SiblingState
   pub next_stamp : ℕ
 
--- ---- the start: all tasks asleep at home, all siblings idle and not pending, all numbers 0
+-- ---- the start
 
+-- a task of the scenario before its first wake: asleep, at home on the sibling of its line
 abbrev pub asleep : TaskSpec → TaskState
 asleep spec = record { spec = spec; home = spec.cpu; queued = false; stamp = 0 }
 
+-- a sibling that runs idle and is not pending
 abbrev pub idle : SiblingState
 idle = record { run = None; pending = false }
 
+-- all tasks asleep, all siblings idle, all numbers 0
 abbrev pub start : Scenario → RoomState
 start scenario =
     record {
@@ -60,6 +63,7 @@ task_of room pid = find (has_pid pid) room.tasks
 abbrev pub queued_on : RoomState → ℕ → List TaskState
 queued_on room cpu = filter (λ task. task.queued && (task.home == cpu)) room.tasks
 
+-- the sibling of this number
 abbrev pub sibling_of : RoomState → ℕ → SiblingState
 sibling_of room cpu = slice_index_or room.siblings cpu idle
 
@@ -69,6 +73,7 @@ running_on room cpu = option_and_then (task_of room) (sibling_of room cpu).run
 
 -- ---- changes of a room
 
+-- the sibling of this number is this one
 abbrev pub with_sibling : RoomState → ℕ → SiblingState → RoomState
 with_sibling room cpu sibling = record room { siblings = slice_set room.siblings cpu sibling }
 

@@ -17,7 +17,7 @@ abbrev pub first_on : RoomState → ℕ → Option ℕ
 first_on room cpu = option_map (λ task. task.spec.pid) (first_of (queued_on room cpu))
 
 -- A plain schedule: no task has a cookie, so the sibling runs the first of its own queue, the core's cookie
--- is 0 and no sibling is forced idle. Its reschedule is no longer pending.
+-- is 0 and no sibling is forced idle. Its reschedule is no longer pending (`clear_tsk_need_resched`).
 abbrev pub plain : RoomState → ℕ → Scheduled
 plain room cpu =
     record {

@@ -16,21 +16,23 @@ pub record Stepped : Type 0 where
   pub reply : Reply
   pub room : RoomState
 
--- ---- wake: `try_to_wake_up`, `ttwu_do_activate`, and `check_preempt_curr` of kernel/sched/core.c
+-- ---- wake (`try_to_wake_up`, kernel/sched/core.c)
 
--- an enqueue gives the task the next stamp
+-- An enqueue gives the task the next stamp (`enqueue_task`; the stamp is this project's rule).
 abbrev pub enqueued : RoomState → TaskState → RoomState
 enqueued room task =
     record (with_task room (record task { queued = true; stamp = room.next_stamp })) { next_stamp = room.next_stamp + 1 }
 
--- a woken task asks its sibling to reschedule where that runs idle or a lower task (this project's rule)
+-- A woken task asks its sibling to reschedule where that runs idle or a lower task (after
+-- `check_preempt_curr`; this project's rule).
 abbrev pub preempts : RoomState → TaskState → Bool
 preempts room task = option_map_or (λ running. is_higher task running) (running_on room task.home) true
 
--- queue the task at its home (this project's rule)
+-- The task is queued at its home, which may become pending (after `ttwu_do_activate`; this project's rule).
 abbrev pub queued_at_home : RoomState → TaskState → RoomState
 queued_at_home room task = flagged (enqueued room task) task.home (preempts room task)
 
+-- There is no such task, or it is awake already, or it is queued and its home is told (`try_to_wake_up`).
 abbrev pub woken : RoomState → Option TaskState → Stepped
 woken room None = record { reply = NoTask; room = room }
 woken room (Some task) =
@@ -38,29 +40,30 @@ woken room (Some task) =
     then record { reply = Awake; room = room }
     else record { reply = Woken task.home; room = queued_at_home room task }
 
--- ---- turn: `__schedule` where TIF_NEED_RESCHED is set
+-- ---- turn (`__schedule`, kernel/sched/core.c)
 
 -- a reply with the pick of a schedule
 abbrev pub picked : (Pick → Reply) → Scheduled → Stepped
 picked answer scheduled = record { reply = answer scheduled.pick; room = scheduled.room }
 
+-- A pending reschedule is taken (`TIF_NEED_RESCHED` is set), and else there is nothing to do.
 abbrev pub turned : RoomState → List Entry → ℕ → Stepped
 turned room past cpu =
     if (sibling_of room cpu).pending
     then picked Picked (schedule room past cpu)
     else record { reply = Nothing; room = room }
 
--- ---- block: `deactivate_task` in `__schedule`
+-- ---- block (`deactivate_task` in `__schedule`, kernel/sched/core.c)
 
--- the task is asleep
+-- The task is asleep and no longer queued (`dequeue_task`).
 abbrev pub dequeued : RoomState → TaskState → RoomState
 dequeued room task = with_task room (record task { queued = false })
 
--- the sibling runs idle
+-- The sibling runs idle.
 abbrev pub idled : RoomState → ℕ → RoomState
 idled room cpu = with_sibling room cpu (record (sibling_of room cpu) { run = None })
 
--- nothing to put to sleep, or the running task, after which the sibling takes the next
+-- The sibling runs idle already, or its running task goes to sleep and then it schedules.
 abbrev pub blocked : RoomState → List Entry → ℕ → Option TaskState → Stepped
 blocked room past cpu None = record { reply = Idle; room = room }
 blocked room past cpu (Some task) =
@@ -68,6 +71,7 @@ blocked room past cpu (Some task) =
 
 -- ---- every event
 
+-- what each event does, in a room with this past
 abbrev pub step : RoomState → List Entry → Event → Stepped
 step room past (Turn cpu) = turned room past cpu
 step room past (Block cpu) = blocked room past cpu (running_on room cpu)
