@@ -3,6 +3,7 @@ use Rattle.std.specs.Prelude.{◌≡◌, List, [], ◌∷◌, ◌++◌, map, fil
 use Rattle.cs_types.specs.declared.event.Actor.{Actor}
 use Rattle.cs_types.specs.declared.event.Event.{Event}
 use Rattle.cs_types.specs.declared.event.Step.{Step}
+use Rattle.cs_types.specs.declared.reply.Reply.{Reply}
 use Rattle.cs_types.specs.declared.reply.Entry.{Entry}
 use Rattle.cs_types.specs.declared.scenario.Scenario.{Scenario}
 use Rattle.cs_types.specs.Scenario.{is_actor}
@@ -22,11 +23,15 @@ after room past (entry ∷ entries) = after (step room past entry.event).room (p
 abbrev pub fold_of : Scenario → History → RoomState
 fold_of scenario history = after (start scenario) [] history
 
--- each reply is the one that the step gives at its place
+-- the reply that the rules give to an event after a history
+abbrev pub reply_to : Scenario → History → Event → Reply
+reply_to scenario past event = (step (fold_of scenario past) past event).reply
+
+-- each reply is the one that the rules give at its place
 abbrev pub IsLegal : Scenario → History → Type 0
 IsLegal scenario history =
     (past : History) (entry : Entry) (rest : List Entry) →
-    history ≡ past ++ entry ∷ rest → entry.reply ≡ (step (fold_of scenario past) past entry.event).reply
+    history ≡ past ++ entry ∷ rest → entry.reply ≡ reply_to scenario past entry.event
 
 -- the events of an actor's entries
 abbrev pub events_by : Actor → History → List Event

@@ -3,8 +3,7 @@
 ghost use Rattle.std.specs.Prelude.{◌≡◌, ◌+◌, ◌<◌, ℕ, [], ◌∷◌, ◌++◌, length, slice_get};
 ghost use Rattle.cs_types.specs.declared.scenario.Scenario.{Scenario};
 ghost use Rattle.cs_types.specs.Scenario.{IsEvent};
-ghost use Rattle.cs_types.specs.Step.{step};
-ghost use Rattle.cs_types.specs.History.{History, fold_of, IsLegal};
+ghost use Rattle.cs_types.specs.History.{History, reply_to, IsLegal};
 
 use crate::event::{Actor, Event};
 use crate::reply::{Entry, Reply};
@@ -22,12 +21,16 @@ pub trait Room: Drop {
     ghost free: { Self → ℕ };
 
     /// Makes one step, and answers what the rules answer. It takes no memory.
+    ///
+    /// There has to be room for an entry, and what the event names keeps its limits: a sibling that
+    /// the core has, a pid from 1 to 999999.
     fn apply(&mut self, actor: Actor, event: Event) -> Reply
         requires room { 0 < free self.old }
         requires event { IsEvent (scenario self.old).siblings event }
 
-        ensures reply { result ≡ (step (fold_of (scenario self.old) (history self.old)) (history self.old) event).reply }
-        ensures entry { history self.new ≡ history self.old ++ record { actor = actor; event = event; reply = result } ∷ [] }
+        ensures reply { result ≡ reply_to (scenario self.old) (history self.old) event }
+        ensures entry { history self.new ≡ history self.old
+            ++ record { actor = actor; event = event; reply = result } ∷ [] }
         ensures free { free self.new + 1 ≡ free self.old }
         ensures scenario { scenario self.new ≡ scenario self.old };
 

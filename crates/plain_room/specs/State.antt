@@ -1,10 +1,12 @@
 -- What the lists of the state stand for.
 use Rattle.std.specs.Prelude.{◌≡◌, ℕ, ◌<◌, false, List, length, map, All}
 use Rattle.cs_types.specs.declared.event.Event.{Event}
+use Rattle.cs_types.specs.declared.reply.Pick.{Pick}
 use Rattle.cs_types.specs.declared.reply.Reply.{Reply}
 use Rattle.cs_types.specs.declared.task.TaskSpec.{TaskSpec}
 use Rattle.cs_types.specs.declared.scenario.Scenario.{Scenario}
 use Rattle.cs_types.specs.Room.{TaskState, SiblingState, RoomState}
+use Rattle.cs_types.specs.Selection.{schedule}
 use Rattle.cs_types.specs.Step.{step}
 use Rattle.cs_types.specs.History.{History}
 use Rattle.plain_room.specs.declared.state.Task.{Task}
@@ -40,6 +42,19 @@ room_of scenario state =
 pub record IsSound (count : ℕ) (state : State) : Type 0 where
   pub siblings : length state.siblings.items ≡ count
   pub homes : All (λ task. task.home < count) state.tasks.items
+
+-- the state stays sound
+abbrev pub StaysSound : State → State → Type 0
+StaysSound old new = (count : ℕ) → IsSound count old → IsSound count new
+
+-- the room of the new state is that of the old one after this change
+abbrev pub Becomes : State → State → (RoomState → RoomState) → Type 0
+Becomes old new change = (scenario : Scenario) → room_of scenario new ≡ change (room_of scenario old)
+
+-- the new state and the pick are those of the sibling's schedule from the old one
+pub record Schedules (old new : State) (cpu : ℕ) (chosen : Pick) : Type 0 where
+  pub pick : (scenario : Scenario) (past : History) → chosen ≡ (schedule (room_of scenario old) past cpu).pick
+  pub room : (scenario : Scenario) (past : History) → room_of scenario new ≡ (schedule (room_of scenario old) past cpu).room
 
 -- the new state and the reply are those of the event's step from the old one
 pub record Makes (old new : State) (event : Event) (answer : Reply) : Type 0 where

@@ -1,14 +1,12 @@
 //! The state of the core as plain lists, and what each event does to it. It is apart from the machine
 //! so that each step has its whole contract here, whatever the machine keeps beside.
 
-ghost use Rattle.std.specs.Prelude.{◌≡◌, ◌+◌, ◌^◌, ◌<◌, ◌≤◌, Bool, false, List, length, map, find, filter, Option, IfOk, All, ◌&&◌, ◌==◌, if◌then◌else◌, IfSome};
+ghost use Rattle.std.specs.Prelude.{◌≡◌, ◌+◌, ◌^◌, ◌<◌, ◌≤◌, false, length, map, find, filter, Option, IfOk, All, ◌&&◌, ◌==◌, if◌then◌else◌, IfSome};
 ghost use Rattle.std.specs.Option.{option_map};
 ghost use Rattle.cs_types.specs.declared.scenario.Scenario.{Scenario};
 ghost use Rattle.cs_types.specs.Scenario.{IsEvent, IsBuilt};
 ghost use Rattle.cs_types.specs.Room.{start, has_pid, running_on, flagged};
-ghost use Rattle.cs_types.specs.Selection.{schedule};
 ghost use Rattle.cs_types.specs.Step.{dequeued, idled, enqueued, preempts};
-ghost use Rattle.cs_types.specs.History.{History};
 ghost use Rattle.cs_types.specs.Order.{priority_of, goes_before, is_higher, first_of};
 ghost use Rattle.plain_room.specs.State.{task_state, task_states, asleep_task};
 
@@ -96,7 +94,7 @@ impl Sibling {
 }
 
 impl State {
-    ghost use Rattle.plain_room.specs.State.{room_of, sibling_state, IsSound, Makes};
+    ghost use Rattle.plain_room.specs.State.{room_of, IsSound, StaysSound, Becomes, Schedules, Makes};
 
     /// The start of a scenario: all tasks asleep at home, all siblings idle.
     pub fn start(alloc: Global, scenario: &Scenario) -> Result<State, AllocError>
@@ -149,7 +147,7 @@ impl State {
 
     /// The task is asleep.
     fn dequeue(&mut self, task: Task)
-        ensures room { (scenario : Scenario) → room_of scenario self.new ≡ dequeued (room_of scenario self.old) (task_state task) }
+        ensures room { Becomes self.old self.new (λ room. dequeued room (task_state task)) }
         ensures sound { (count : _) → IsSound count self.old → task.home < count → IsSound count self.new }
         ensures siblings { self.new.siblings ≡ self.old.siblings }
         ensures stamp { self.new.next_stamp ≡ self.old.next_stamp }
@@ -166,8 +164,8 @@ impl State {
     /// The sibling runs idle.
     fn idle(&mut self, cpu: Cpu)
         requires { cpu < length self.old.siblings.items }
-        ensures room { (scenario : Scenario) → room_of scenario self.new ≡ idled (room_of scenario self.old) cpu }
-        ensures sound { (count : _) → IsSound count self.old → IsSound count self.new }
+        ensures room { Becomes self.old self.new (λ room. idled room cpu) }
+        ensures sound { StaysSound self.old self.new }
         ensures siblings { length self.new.siblings.items ≡ length self.old.siblings.items }
         ensures stamp { self.new.next_stamp ≡ self.old.next_stamp }
     {
@@ -177,9 +175,8 @@ impl State {
     /// The sibling takes the first of its queue, and its reschedule is no longer pending.
     fn schedule(&mut self, cpu: Cpu) -> Pick
         requires { cpu < length self.old.siblings.items }
-        ensures pick { (scenario : Scenario) (past : History) → result ≡ (schedule (room_of scenario self.old) past cpu).pick }
-        ensures room { (scenario : Scenario) (past : History) → room_of scenario self.new ≡ (schedule (room_of scenario self.old) past cpu).room }
-        ensures sound { (count : _) → IsSound count self.old → IsSound count self.new }
+        ensures schedules { Schedules self.old self.new cpu result }
+        ensures sound { StaysSound self.old self.new }
         ensures stamp { self.new.next_stamp ≡ self.old.next_stamp }
     {
         let run = self.first_on(cpu);
@@ -199,7 +196,7 @@ impl State {
     fn turn(&mut self, cpu: Cpu) -> Reply
         requires { cpu < length self.old.siblings.items }
         ensures makes { Makes self.old self.new (Event.Turn cpu) result }
-        ensures sound { (count : _) → IsSound count self.old → IsSound count self.new }
+        ensures sound { StaysSound self.old self.new }
         ensures stamp { self.new.next_stamp ≡ self.old.next_stamp }
     {
         if self.siblings[cpu as usize].pending {
@@ -213,7 +210,7 @@ impl State {
     fn block(&mut self, cpu: Cpu) -> Reply
         requires { cpu < length self.old.siblings.items }
         ensures makes { Makes self.old self.new (Event.Block cpu) result }
-        ensures sound { (count : _) → IsSound count self.old → IsSound count self.new }
+        ensures sound { StaysSound self.old self.new }
         ensures stamp { self.new.next_stamp ≡ self.old.next_stamp }
     {
         let Some(task) = self.running_on(cpu) else {
@@ -230,7 +227,7 @@ impl State {
     /// The task is queued, with the next stamp.
     fn enqueue(&mut self, task: Task)
         requires { self.old.next_stamp + 1 < 2 ^ 64 }
-        ensures room { (scenario : Scenario) → room_of scenario self.new ≡ enqueued (room_of scenario self.old) (task_state task) }
+        ensures room { Becomes self.old self.new (λ room. enqueued room (task_state task)) }
         ensures sound { (count : _) → IsSound count self.old → task.home < count → IsSound count self.new }
         ensures siblings { self.new.siblings ≡ self.old.siblings }
         ensures stamp { self.new.next_stamp ≡ self.old.next_stamp + 1 }
@@ -249,8 +246,8 @@ impl State {
     /// The sibling is pending where it was, and where the test says so.
     fn flag(&mut self, cpu: Cpu, test: bool)
         requires { cpu < length self.old.siblings.items }
-        ensures room { (scenario : Scenario) → room_of scenario self.new ≡ flagged (room_of scenario self.old) cpu test }
-        ensures sound { (count : _) → IsSound count self.old → IsSound count self.new }
+        ensures room { Becomes self.old self.new (λ room. flagged room cpu test) }
+        ensures sound { StaysSound self.old self.new }
         ensures stamp { self.new.next_stamp ≡ self.old.next_stamp }
     {
         self.siblings[cpu as usize].pending |= test;
@@ -272,7 +269,7 @@ impl State {
         requires sound { IsSound (length self.old.siblings.items) self.old }
         requires stamp { self.old.next_stamp + 1 < 2 ^ 64 }
         ensures makes { Makes self.old self.new (Event.Wake pid) result }
-        ensures sound { (count : _) → IsSound count self.old → IsSound count self.new }
+        ensures sound { StaysSound self.old self.new }
         ensures stamp { self.new.next_stamp ≤ self.old.next_stamp + 1 }
     {
         let Some(task) = self.task_of(pid) else {
@@ -293,7 +290,7 @@ impl State {
         requires sound { IsSound (length self.old.siblings.items) self.old }
         requires stamp { self.old.next_stamp + 1 < 2 ^ 64 }
         ensures makes { Makes self.old self.new event result }
-        ensures sound { (count : _) → IsSound count self.old → IsSound count self.new }
+        ensures sound { StaysSound self.old self.new }
         ensures stamp { self.new.next_stamp ≤ self.old.next_stamp + 1 }
     {
         match event {

@@ -1,6 +1,6 @@
 //! Reading the input to its end.
 
-ghost use Rattle.std.specs.Prelude.{◌≡◌, ◌≢◌, ◌<◌, ◌≤◌, ◌↔◌, length, Err, IfOk, IfSome};
+ghost use Rattle.std.specs.Prelude.{◌≡◌, ◌≢◌, ◌<◌, ◌≤◌, ◌↔◌, Err, IfOk, IfSome};
 ghost use Rattle.cs_outside.specs.Device.{Rose};
 ghost use Rattle.scenario_runner.specs.Input.{IsReadAs, count_read};
 

@@ -39,7 +39,7 @@ fn is_led(tasks: &[TaskSpec], task: &TaskSpec) -> bool
 }
 
 impl Plan {
-    ghost use Rattle.scenario_text.specs.Reading.{Contents, Gives, contents, can_follow, with_task, with_step};
+    ghost use Rattle.scenario_text.specs.Reading.{Gives, contents, can_follow, with_task, with_step};
 
     /// A plan of no task and no step.
     pub fn new(alloc: Global) -> Self

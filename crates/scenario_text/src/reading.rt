@@ -2,7 +2,7 @@
 
 ghost use Rattle.std.specs.Prelude.{◌≡◌, ◌⊎◌, [], MatchResult, IfOk, IfErr, IsErrOf};
 ghost use Rattle.cs_types.specs.declared.scenario.Scenario.{Scenario};
-ghost use Rattle.scenario_text.specs.Reading.{Gives, Contents, contents, plan_of, scenario_of};
+ghost use Rattle.scenario_text.specs.Reading.{Gives, contents, plan_of, scenario_of};
 ghost use Rattle.scenario_text.specs.Reader.{IsTextOf, HasNoScenario, HasOneScenario};
 
 use crate::fault::{BadKind, ReadFault, UNBUILT};

@@ -1,7 +1,7 @@
 //! Tasks, as the words of a task line spell them. What a task may not be for the sake of others is
 //! apart, with the plan.
 
-ghost use Rattle.std.specs.Prelude.{◌≡◌, ◌<◌, IfSome};
+ghost use Rattle.std.specs.Prelude.{◌≡◌, ◌<◌};
 ghost use Rattle.scenario_text.specs.Reading.{Takes, cpu_of, policy_of, cpu_at, policy_at, creds_at, task_at};
 
 use crate::number::parse_number;

@@ -1,7 +1,7 @@
 //! The words of a line, taken one after the other. It is apart so that the forms of lines speak of
 //! words alone, and of no spaces.
 
-ghost use Rattle.std.specs.Prelude.{◌≡◌, [], IfSome};
+ghost use Rattle.std.specs.Prelude.{◌≡◌, IfSome};
 ghost use Rattle.cs_types.specs.Scenario.{IsWithin};
 ghost use Rattle.scenario_text.specs.Reading.{words_in, Takes, word_at, keyword_at, number_at, flag_at, end_of};
 

@@ -13,6 +13,6 @@ at_rest c scenario = c.idle.ensures.room scenario ∙ ap (λ (room : RoomState).
 
 pub returns-clause-makes : goal.returns-clause-makes
 returns-clause-makes c = record {
-  reply = λ scenario past. rw (← c.in-Some.ensures.task scenario) (ap (Slept c.in-Some.task.spec.pid) (c.schedule.ensures.pick scenario past ∙ ap (λ (room : RoomState). (schedule room past c.args.cpu).pick) (at_rest c scenario)));
-  room = λ scenario past. rw (← c.in-Some.ensures.task scenario) (c.schedule.ensures.room scenario past ∙ ap (λ (room : RoomState). (schedule room past c.args.cpu).room) (at_rest c scenario));
+  reply = λ scenario past. rw (← c.in-Some.ensures.task scenario) (ap (Slept c.in-Some.task.spec.pid) (c.schedule.ensures.schedules.pick scenario past ∙ ap (λ (room : RoomState). (schedule room past c.args.cpu).pick) (at_rest c scenario)));
+  room = λ scenario past. rw (← c.in-Some.ensures.task scenario) (c.schedule.ensures.schedules.room scenario past ∙ ap (λ (room : RoomState). (schedule room past c.args.cpu).room) (at_rest c scenario));
 }

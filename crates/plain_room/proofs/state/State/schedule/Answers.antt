@@ -3,5 +3,8 @@ use Rattle.std.proofs.lemmas.List.{map-set}
 use Rattle.plain_room.specs.State.{sibling_state}
 use Rattle.plain_room.proofs.state.State.schedule.Goals as goal
 
-pub returns-clause-room : goal.returns-clause-room
-returns-clause-room c scenario past = rw (map-set sibling_state, c.first_on-run.ensures) refl
+pub returns-clause-schedules : goal.returns-clause-schedules
+returns-clause-schedules c = record {
+  pick = λ scenario past. rw (c.unwrap_or.ensures, c.first_on-run.ensures) refl;
+  room = λ scenario past. rw (map-set sibling_state, c.first_on-run.ensures) refl;
+}
