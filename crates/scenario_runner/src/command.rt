@@ -25,8 +25,8 @@ fn played<S: Source>(alloc: Global, source: &mut S) -> Result<PlainRoom, Stop>
     ensures reads { IfOk result (λ room. Reads room.scenario (S.left source.old) (S.left source.new)) }
     ensures played { IfOk result (λ room. ⟦<PlainRoom as Room>⟧.history room ≡ file room.scenario) }
 
-    ensures too_long { IfSome (S.left source.old) (λ _. result ≢ Err Stop.OutOfMemory →
-        ((result ≡ Err Stop.TooLong) ↔ (INPUT_BYTES < count_read (S.left source.old) (S.left source.new)))) }
+    ensures too_long { IfSome (S.left source.old) (λ _.
+        (result ≡ Err Stop.TooLong) ↔ (INPUT_BYTES < count_read (S.left source.old) (S.left source.new))) }
     ensures bad { (line : _) (kind : _) → result ≡ Err (Stop.BadScenario line kind) →
         IsBad line kind (S.left source.old) (S.left source.new) }
     ensures failed { result ≡ Err Stop.ReadFault → Rose (S.faults source.old) (S.faults source.new) }
@@ -69,8 +69,8 @@ pub fn replay<S: Source, K: Sink>(
     // When each other status comes. Want of memory alone is free.
     ensures bad_words { (result ≡ Status.BadWords) ↔ ¬ IsReplay words.now }
     ensures read_fault { result ≡ Status.ReadFault → S.faults source.old < S.faults source.new }
-    ensures too_long { IfSome (S.left source.old) (λ _. result ≢ Status.OutOfMemory →
-        ((result ≡ Status.TooLong) ↔ (INPUT_BYTES < count_read (S.left source.old) (S.left source.new)))) }
+    ensures too_long { IfSome (S.left source.old) (λ _.
+        (result ≡ Status.TooLong) ↔ (INPUT_BYTES < count_read (S.left source.old) (S.left source.new))) }
     ensures bad_scenario { (line : _) (kind : _) → result ≡ Status.BadScenario line kind →
         IsBad line kind (S.left source.old) (S.left source.new) }
     ensures write_fault { result ≡ Status.WriteFault → (K.faults sink.old < K.faults sink.new) × ((scenario : Scenario) ×
@@ -116,8 +116,8 @@ pub fn run<R: AllocGlobal, S: Source, K: Sink>(
     // When each other status comes. Want of memory alone is free.
     ensures bad_words { (result ≡ Status.BadWords) ↔ ¬ IsReplay words.now }
     ensures read_fault { result ≡ Status.ReadFault → S.faults source.old < S.faults source.new }
-    ensures too_long { IfSome (S.left source.old) (λ _. result ≢ Status.OutOfMemory →
-        ((result ≡ Status.TooLong) ↔ (INPUT_BYTES < count_read (S.left source.old) (S.left source.new)))) }
+    ensures too_long { IfSome (S.left source.old) (λ _.
+        (result ≡ Status.TooLong) ↔ (INPUT_BYTES < count_read (S.left source.old) (S.left source.new))) }
     ensures bad_scenario { (line : _) (kind : _) → result ≡ Status.BadScenario line kind →
         IsBad line kind (S.left source.old) (S.left source.new) }
     ensures write_fault { result ≡ Status.WriteFault → (K.faults sink.old < K.faults sink.new) × ((scenario : Scenario) ×

@@ -18,8 +18,8 @@ const BUFFER_BYTES: usize = 65_536;
 /// returns, since each read takes a byte, is the end, or fails.
 pub fn read_to_end<S: Source>(alloc: Global, source: &mut S) -> Result<Vec<u8>, Stop>
     ensures whole { IfOk result (λ bytes. IsReadAs (S.left source.old) bytes.items (S.left source.new)) }
-    ensures too_long { IfSome (S.left source.old) (λ _. result ≢ Err Stop.OutOfMemory →
-        ((result ≡ Err Stop.TooLong) ↔ (INPUT_BYTES < count_read (S.left source.old) (S.left source.new)))) }
+    ensures too_long { IfSome (S.left source.old) (λ _.
+        (result ≡ Err Stop.TooLong) ↔ (INPUT_BYTES < count_read (S.left source.old) (S.left source.new))) }
     ensures bad { (line : _) (kind : _) → result ≢ Err (Stop.BadScenario line kind) }
 
     ensures failed { result ≡ Err Stop.ReadFault → Rose (S.faults source.old) (S.faults source.new) }
@@ -27,15 +27,18 @@ pub fn read_to_end<S: Source>(alloc: Global, source: &mut S) -> Result<Vec<u8>, 
 {
     let mut bytes = Vec::new(alloc);
     let mut buffer = [0; BUFFER_BYTES];
-    while bytes.len() <= INPUT_BYTES {
-        let room = (INPUT_BYTES + 1 - bytes.len()).min(BUFFER_BYTES);
-        let Ok(count) = source.read(&mut buffer[..room]) else {
+    loop {
+        let room = INPUT_BYTES - bytes.len();
+        let most = BUFFER_BYTES.min(room + 1);
+        let Ok(count) = source.read(&mut buffer[..most]) else {
             return Err(Stop::ReadFault);
         };
         if count == 0 {
             return Ok(bytes);
         }
+        if room < count {
+            return Err(Stop::TooLong);
+        }
         bytes.extend_from_slice(&buffer[..count])?;
     }
-    Err(Stop::TooLong)
 }
