@@ -6,7 +6,7 @@ use Rattle.std.specs.Option.{option_map}
 abbrev pub prepended : List ℕ → Option (List ℕ) → Option (List ℕ)
 prepended bytes left = option_map (λ rest. bytes ++ rest) left
 
--- these bytes, behind those that are told to be written
+-- these bytes, after those that are told to be written
 abbrev pub appended : Option (List ℕ) → List ℕ → Option (List ℕ)
 appended written bytes = option_map (λ before. before ++ bytes) written
 
@@ -18,6 +18,6 @@ raised count = min (count + 1) (2 ^ 64 - 1)
 abbrev pub Rose : ℕ → ℕ → Type 0
 Rose before now = raised before ≤ now
 
--- of this text a front was written, and nothing else
-abbrev pub WritesFront : Option (List ℕ) → List ℕ → Option (List ℕ) → Type 0
-WritesFront before text now = (n : ℕ) × (now ≡ appended before (take n text))
+-- of this text a prefix was written, and nothing else
+abbrev pub WritesPrefix : Option (List ℕ) → List ℕ → Option (List ℕ) → Type 0
+WritesPrefix before text now = (n : ℕ) × (now ≡ appended before (take n text))

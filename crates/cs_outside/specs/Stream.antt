@@ -1,6 +1,10 @@
 -- Standard input and output, and what waits for the latter.
 use Rattle.std.specs.Prelude.{◌≡◌, ℕ, List, take, drop}
 
+-- for how many bytes a sink over standard output has room before it needs the device
+abbrev pub buffer_bytes : ℕ
+buffer_bytes = 8192
+
 -- a source over standard input: the count of its faults
 pub record InputState : Type 0 where
   pub faults : ℕ
@@ -11,10 +15,10 @@ pub record OutputState : Type 0 where
   pub gathered : List ℕ
   pub faults : ℕ
 
--- of these bytes a front is gone, and nothing else
+-- of these bytes a prefix is gone, and nothing else
 abbrev pub IsRest : List ℕ → List ℕ → Type 0
 IsRest before now = (n : ℕ) × (now ≡ drop n before)
 
--- of these bytes a front is gone, of which this holds, and nothing else
-abbrev pub LosesFront : List ℕ → List ℕ → (List ℕ → Type 0) → Type 0
-LosesFront before now P = (n : ℕ) × (now ≡ drop n before) × P (take n before)
+-- of these bytes a prefix is gone, of which this holds, and nothing else
+abbrev pub LosesPrefix : List ℕ → List ℕ → (List ℕ → Type 0) → Type 0
+LosesPrefix before now P = (n : ℕ) × (now ≡ drop n before) × P (take n before)

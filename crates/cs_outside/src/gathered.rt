@@ -2,7 +2,7 @@
 
 ghost use Rattle.std.specs.Prelude.{◌≡◌, ◌+◌, ◌<◌, ◌≤◌, ◌++◌, [], length, take, OnOk, OnErr};
 ghost use Rattle.std.specs.Io.KnownBytes.{Appends};
-ghost use Rattle.cs_outside.specs.Stream.{LosesFront};
+ghost use Rattle.cs_outside.specs.Stream.{LosesPrefix, buffer_bytes};
 
 use crate::fault::Failed;
 use crate::retried::write_some;
@@ -10,10 +10,10 @@ use std::io::Write;
 use std::marker::Model;
 
 /// For how many bytes a sink over standard output has room before it needs the device.
-pub const BUFFER_BYTES: usize = 8192;
+pub(crate) const BUFFER_BYTES: usize = 8192;
 
 /// Bytes in the order in which they came.
-#[derive(Debug, Drop)]
+#[derive(Drop)]
 pub(crate) struct Gathered {
     bytes: [u8; BUFFER_BYTES],
     len: usize,
@@ -21,12 +21,13 @@ pub(crate) struct Gathered {
 
 impl Model for Gathered {
     ghost use Rattle.std.specs.Prelude.{◌≤◌, List, ℕ, take};
+    ghost use Rattle.cs_outside.specs.Stream.{buffer_bytes};
 
     ghost Value = { List ℕ };
 
     ghost view = { λ g. take g.len g.bytes };
 
-    ghost invariant = { λ g. g.len ≤ 8192 };
+    ghost invariant = { λ g. g.len ≤ buffer_bytes };
 }
 
 impl Gathered {
@@ -42,14 +43,14 @@ impl Gathered {
 
     /// For how many more bytes there is room.
     pub fn room(&self) -> usize
-        ensures { result + length self.now ≡ BUFFER_BYTES }
+        ensures { result + length self.now ≡ buffer_bytes }
     {
         BUFFER_BYTES - self.len
     }
 
-    /// Puts a piece behind the others.
+    /// Puts a piece after the others.
     pub fn put(&mut self, piece: &[u8])
-        requires { length self.old + length piece.now ≤ BUFFER_BYTES }
+        requires { length self.old + length piece.now ≤ buffer_bytes }
         ensures { self.new ≡ self.old ++ piece.now }
     {
         let end = self.len + piece.len();
@@ -62,8 +63,8 @@ impl Gathered {
     pub fn empty_to<W: Write>(&mut self, output: &mut W) -> Result<(), Failed>
         ensures emptied { OnOk result (self.new ≡ []) }
         ensures left { OnErr result (0 < length self.new) }
-        ensures given { LosesFront self.old self.new
-            (λ front. Appends (W.contents output.old) (W.contents output.new) front) }
+        ensures given { LosesPrefix self.old self.new
+            (λ prefix. Appends (W.contents output.old) (W.contents output.new) prefix) }
     {
         let given = give(output, &self.bytes[..self.len]);
         self.bytes.copy_within(given..self.len, 0);

@@ -12,13 +12,10 @@ mod std_sink;
 mod std_source;
 
 pub use fault::Failed;
-pub use gathered::BUFFER_BYTES;
 pub use memory_sink::MemSink;
 pub use memory_source::MemSource;
+pub use retried::{read_some, write_some};
 pub use sink::{Sink, write_all};
 pub use source::Source;
 pub use std_sink::StdSink;
 pub use std_source::StdSource;
-
-#[cfg(test)]
-mod tests;

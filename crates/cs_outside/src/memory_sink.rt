@@ -11,7 +11,7 @@ use std::marker::Model;
 
 /// Bytes that are written in pieces of a length of their own, up to the room that was taken at the
 /// start. Its calls are counted from 1, and those with the numbers that it was given fail.
-#[derive(Debug, Drop)]
+#[derive(Drop)]
 pub struct MemSink {
     bytes: Vec<u8>,
     room: usize,

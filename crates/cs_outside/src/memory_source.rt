@@ -9,7 +9,7 @@ use std::marker::Model;
 
 /// Bytes that are read in pieces of a length of their own. Its calls are counted from 1, and those
 /// with the numbers that it was given fail.
-#[derive(Debug, Drop)]
+#[derive(Drop)]
 pub struct MemSource {
     bytes: Vec<u8>,
     given: usize,
@@ -88,7 +88,7 @@ impl Source for MemSource {
           calls = raised self.old.calls;
           faults = raised self.old.faults;
         }) }
-        ensures behind { IfOk result (λ n. drop n buf.new ≡ drop n buf.old) }
+        ensures suffix { IfOk result (λ n. drop n buf.new ≡ drop n buf.old) }
         ensures unread { OnErr result (buf.new ≡ buf.old) }
     {
         self.calls = self.calls.saturating_add(1);

@@ -1,7 +1,7 @@
 //! Where bytes go.
 
 ghost use Rattle.std.specs.Prelude.{◌≡◌, ◌<◌, ◌≤◌, ℕ, List, Option, length, take, IfOk, OnOk, OnErr};
-ghost use Rattle.cs_outside.specs.Device.{appended, Rose, WritesFront};
+ghost use Rattle.cs_outside.specs.Device.{appended, Rose, WritesPrefix};
 
 use crate::fault::Failed;
 
@@ -13,7 +13,7 @@ pub trait Sink {
     /// How often it failed, up to 2^64 - 1, where the count stays.
     ghost faults: { Self → ℕ };
 
-    /// Takes one or more bytes from the front of the piece, and answers how many. A device that
+    /// Takes one or more bytes from the start of the piece, and answers how many. A device that
     /// takes nothing has failed.
     fn write(&mut self, piece: &[u8]) -> Result<usize, Failed>
         requires { 0 < length piece.now }
@@ -28,11 +28,11 @@ pub trait Sink {
 }
 
 /// Gives the whole piece to the sink in one piece, and again the rest where it took only a part. At
-/// an `Err` the sink failed, and a front of the piece was written. It takes no memory, and always
+/// an `Err` the sink failed, and a prefix of the piece was written. It takes no memory, and always
 /// returns, since each write takes a byte or fails.
 pub fn write_all<K: Sink>(sink: &mut K, piece: &[u8]) -> Result<(), Failed>
     ensures ok { OnOk result (K.written sink.new ≡ appended (K.written sink.old) piece.now) }
-    ensures front { WritesFront (K.written sink.old) piece.now (K.written sink.new) }
+    ensures prefix { WritesPrefix (K.written sink.old) piece.now (K.written sink.new) }
 
     ensures failed { OnErr result (Rose (K.faults sink.old) (K.faults sink.new)) }
     ensures counted { K.faults sink.old ≤ K.faults sink.new }

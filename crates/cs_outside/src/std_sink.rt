@@ -2,7 +2,7 @@
 
 ghost use Rattle.std.specs.Prelude.{◌≡◌, ◌+◌, ◌<◌, ◌≤◌, ◌++◌, [], None, Ok, length, IfOk, OnOk, OnErr};
 ghost use Rattle.cs_outside.specs.Device.{raised, Rose};
-ghost use Rattle.cs_outside.specs.Stream.{IsRest};
+ghost use Rattle.cs_outside.specs.Stream.{IsRest, buffer_bytes};
 
 use crate::fault::{Failed, counted};
 use crate::gathered::{BUFFER_BYTES, Gathered};
@@ -13,7 +13,7 @@ use std::marker::Model;
 
 /// Standard output. It tells no bytes. It gathers them and takes no memory, so `flush` has to be
 /// called after the last write: what is gathered at the end is lost.
-#[derive(Debug, Drop)]
+#[derive(Drop)]
 pub struct StdSink {
     output: Stdout,
     gathered: Gathered,
@@ -61,7 +61,7 @@ impl Sink for StdSink {
 
     ghost faults = { λ sink. sink.faults };
 
-    /// Gathers the whole piece, behind what is gathered. Where it does not fit there, that goes to
+    /// Gathers the whole piece, after what is gathered. Where it does not fit there, that goes to
     /// the device first. A piece longer than the buffer then goes there too, maybe only a part of it.
     fn write(&mut self, piece: &[u8]) -> Result<usize, Failed>
         requires { 0 < length piece.now }
@@ -72,14 +72,14 @@ impl Sink for StdSink {
         ensures counted { self.old.faults ≤ self.new.faults }
 
         // What fits is gathered, and nothing fails.
-        ensures fits { length self.old.gathered + length piece.now ≤ BUFFER_BYTES →
+        ensures fits { length self.old.gathered + length piece.now ≤ buffer_bytes →
             (result ≡ Ok (length piece.now))
             × (self.new ≡ record self.old { gathered = self.old.gathered ++ piece.now }) }
 
-        ensures whole { length piece.now ≤ BUFFER_BYTES → IfOk result (λ n. n ≡ length piece.now) }
-        ensures emptied { BUFFER_BYTES < length self.old.gathered + length piece.now → length piece.now ≤ BUFFER_BYTES
+        ensures whole { length piece.now ≤ buffer_bytes → IfOk result (λ n. n ≡ length piece.now) }
+        ensures emptied { buffer_bytes < length self.old.gathered + length piece.now → length piece.now ≤ buffer_bytes
             → OnOk result (self.new ≡ record self.old { gathered = piece.now }) }
-        ensures long { BUFFER_BYTES < length piece.now → OnOk result (self.new ≡ record self.old { gathered = [] }) }
+        ensures long { buffer_bytes < length piece.now → OnOk result (self.new ≡ record self.old { gathered = [] }) }
 
         // At an `Err` no byte of the piece is gathered or written.
         ensures kept { OnErr result (IsRest self.old.gathered self.new.gathered) }

@@ -10,7 +10,7 @@ use std::io::Stdin;
 use std::marker::Model;
 
 /// Standard input. It tells no bytes.
-#[derive(Debug, Drop)]
+#[derive(Drop)]
 pub struct StdSource {
     input: Stdin,
     faults: u64,

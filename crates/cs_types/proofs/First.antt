@@ -1,4 +1,4 @@
--- The first of a list of tasks, as a scan from its front finds it.
+-- The first of a list of tasks, as a scan from its start finds it.
 use Rattle.std.proofs.Common.{◌≡◌, ℕ, Bool, true, false, cond, not, ltb, List, [], ◌∷◌, ◌++◌, refl, sym, ap, ◌∙◌, inl, inr, append_assoc, arith, Option, Some, None}
 use Rattle.std.specs.Prelude.{◌&&◌, ◌||◌, find}
 use Rattle.std.specs.Cmp.{IsStrictWeakOrder}
@@ -18,7 +18,7 @@ find_none : {X : Type 0} (p : X → Bool) (xs : List X) → AllByRecursion (λ x
 find_none p [] h = refl
 find_none p (x ∷ xs) h = cond-false (p x) (Some x) (find p xs) h.0 ∙ find_none p xs h.1
 
--- a search in a longer list that comes to nothing in its front goes on
+-- a search in a longer list that comes to nothing in its prefix goes on
 find-append_none : {X : Type 0} (p : X → Bool) (xs ys : List X) → find p xs ≡ None → find p (xs ++ ys) ≡ find p ys
 find-append_none p [] ys h = refl
 find-append_none {X} p (x ∷ xs) ys h =
@@ -132,16 +132,16 @@ module _ {X : Type 0} (lt : X → X → Bool) (order : IsStrictWeakOrder lt) whe
       cond-true (not (lt t t) && true) (Some t) None (and_from (not (lt t t)) true (not_from_false (lt t t) (not_before_itself t)) refl)
 
   -- once there is a least element, there is one in every longer list
-  least_goes_on : (front : List X) (b : X) → least lt front ≡ Some b → (rest : List X) → (c : X) × (least lt (front ++ rest) ≡ Some c)
-  least_goes_on front b h [] = (b, ap (least lt) (append-nil front) ∙ h)
-  least_goes_on front b h (t ∷ rest) =
-      let more : (c : X) × (least lt (front ++ t ∷ []) ≡ Some c) =
+  least_goes_on : (prefix : List X) (b : X) → least lt prefix ≡ Some b → (rest : List X) → (c : X) × (least lt (prefix ++ rest) ≡ Some c)
+  least_goes_on prefix b h [] = (b, ap (least lt) (append-nil prefix) ∙ h)
+  least_goes_on prefix b h (t ∷ rest) =
+      let more : (c : X) × (least lt (prefix ++ t ∷ []) ≡ Some c) =
       elim (cases_Bool (lt t b)) [
-        | inl pass ↦ (t, least_takes front b t h pass)
-        | inr fail ↦ (b, least_keeps front b t h fail)
+        | inl pass ↦ (t, least_takes prefix b t h pass)
+        | inr fail ↦ (b, least_keeps prefix b t h fail)
       ] in
-      let all = least_goes_on (front ++ t ∷ []) more.0 more.1 rest in
-      (all.0, ap (least lt) (sym (append_assoc front (t ∷ []) rest)) ∙ all.1)
+      let all = least_goes_on (prefix ++ t ∷ []) more.0 more.1 rest in
+      (all.0, ap (least lt) (sym (append_assoc prefix (t ∷ []) rest)) ∙ all.1)
 
   -- only the empty list has no least element
   least_none : (xs : List X) → least lt xs ≡ None → xs ≡ []
@@ -181,17 +181,17 @@ goes_before_is_order = record {
   chain = λ x y z h k. chain (priority_of x.spec.policy) (priority_of y.spec.policy) (priority_of z.spec.policy) x.stamp y.stamp z.stamp h k;
 }
 
--- the better of two tasks, as a scan from the front of a list keeps it
+-- the better of two tasks, as a scan from the start of a list keeps it
 abbrev pub better : TaskState → TaskState → TaskState
 better first task = cond (goes_before task first) task first
 
-first_of-append : (front : List TaskState) (first : TaskState) → first_of front ≡ Some first → (tasks : List TaskState) →
-    first_of (front ++ tasks) ≡ Some (fold better first tasks)
-first_of-append front first h [] = ap first_of (append-nil front) ∙ h
-first_of-append front first h (task ∷ tasks) =
-    ap first_of (sym (append_assoc front (task ∷ []) tasks))
-    ∙ first_of-append (front ++ task ∷ []) (better first task)
-    (least_more goes_before goes_before_is_order front task ∙ ap (λ o. Some (option_map_or (λ b. better b task) o task)) h) tasks
+first_of-append : (prefix : List TaskState) (first : TaskState) → first_of prefix ≡ Some first → (tasks : List TaskState) →
+    first_of (prefix ++ tasks) ≡ Some (fold better first tasks)
+first_of-append prefix first h [] = ap first_of (append-nil prefix) ∙ h
+first_of-append prefix first h (task ∷ tasks) =
+    ap first_of (sym (append_assoc prefix (task ∷ []) tasks))
+    ∙ first_of-append (prefix ++ task ∷ []) (better first task)
+    (least_more goes_before goes_before_is_order prefix task ∙ ap (λ o. Some (option_map_or (λ b. better b task) o task)) h) tasks
 
 -- a scan that keeps the better of two finds the first
 pub first_of_reduce : (tasks : List TaskState) → first_of tasks ≡ reduce better tasks

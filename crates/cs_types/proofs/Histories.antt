@@ -53,22 +53,22 @@ pub length-history_of : (scenario : Scenario) (steps : List Step) → length (hi
 length-history_of scenario steps = length-made_from (start scenario) [] steps
 
 -- each reply that steps make is the one at its place
-legal_from : (room : RoomState) (past : History) (steps : List Step) (front : History) (entry : Entry) (rest : List Entry) →
-    made_from room past steps ≡ front ++ entry ∷ rest →
-    entry.reply ≡ (step (after room past front) (past ++ front) entry.event).reply
+legal_from : (room : RoomState) (past : History) (steps : List Step) (prefix : History) (entry : Entry) (rest : List Entry) →
+    made_from room past steps ≡ prefix ++ entry ∷ rest →
+    entry.reply ≡ (step (after room past prefix) (past ++ prefix) entry.event).reply
 legal_from room past [] [] entry rest e = absurd cc
-legal_from room past [] (x ∷ front) entry rest e = absurd cc
+legal_from room past [] (x ∷ prefix) entry rest e = absurd cc
 legal_from room past (first ∷ steps) [] entry rest e =
     let same : entry_of room past first ≡ entry = cc in
     rw (append-nil past) (subst (λ (x : Entry). x.reply ≡ (step room past x.event).reply) same refl)
-legal_from room past (first ∷ steps) (x ∷ front) entry rest e =
+legal_from room past (first ∷ steps) (x ∷ prefix) entry rest e =
     let same : entry_of room past first ≡ x = cc in
     let room' = (step room past first.event).room in
     let past' = past ++ entry_of room past first ∷ [] in
-    let tail : made_from room' past' steps ≡ front ++ entry ∷ rest = cc in
-    subst (λ (y : Entry). entry.reply ≡ (step (after room past (y ∷ front)) (past ++ y ∷ front) entry.event).reply) same
-    (legal_from room' past' steps front entry rest tail
-    ∙ ap (λ (h : History). (step (after room past (entry_of room past first ∷ front)) h entry.event).reply) (append_assoc past (entry_of room past first ∷ []) front))
+    let tail : made_from room' past' steps ≡ prefix ++ entry ∷ rest = cc in
+    subst (λ (y : Entry). entry.reply ≡ (step (after room past (y ∷ prefix)) (past ++ y ∷ prefix) entry.event).reply) same
+    (legal_from room' past' steps prefix entry rest tail
+    ∙ ap (λ (h : History). (step (after room past (entry_of room past first ∷ prefix)) h entry.event).reply) (append_assoc past (entry_of room past first ∷ []) prefix))
 
 -- what steps make is legal
 pub IsLegal-history_of : (scenario : Scenario) (steps : List Step) → IsLegal scenario (history_of scenario steps)

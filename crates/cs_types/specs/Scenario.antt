@@ -40,8 +40,8 @@ pub record IsTask (siblings : ℕ) (task : TaskSpec) : Type 0 where
   pub creds : AreCreds task.creds
 
 -- two tasks have two pids
-abbrev pub AreApart : List TaskSpec → Type 0
-AreApart tasks = AllPairs (λ a b. a.pid ≢ b.pid) tasks
+abbrev pub AreDistinct : List TaskSpec → Type 0
+AreDistinct tasks = AllPairs (λ a b. a.pid ≢ b.pid) tasks
 
 -- The task leads its own thread group, or that group is led by one of the earlier tasks, which has the
 -- same process group.
@@ -81,7 +81,7 @@ pub record IsBuilt (scenario : Scenario) : Type 0 where
   pub cookie_limit : IsWithin 1 256 scenario.cookie_limit
   pub user_top : IsWithin 8192 9223372036854775807 scenario.user_top
   pub tasks : All (IsTask scenario.siblings) scenario.tasks
-  pub apart : AreApart scenario.tasks
+  pub distinct : AreDistinct scenario.tasks
   pub led : AreLed scenario.tasks
   pub few_tasks : length scenario.tasks ≤ scenario.task_limit
   pub steps : All (IsStep scenario.siblings) scenario.steps

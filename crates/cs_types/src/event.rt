@@ -3,7 +3,7 @@
 use crate::task::{Cpu, Pid};
 
 /// Who makes a step.
-#[derive(Clone, Copy, Debug, PartialEq, Eq)]
+#[derive(Clone, Copy)]
 pub enum Actor {
     /// The sibling of this number, for what it does to itself.
     Sibling(u8),
@@ -12,7 +12,7 @@ pub enum Actor {
 }
 
 /// One event of the core: what one step does, in one piece, under the core's lock.
-#[derive(Clone, Copy, Debug, PartialEq, Eq)]
+#[derive(Clone, Copy)]
 pub enum Event {
     /// The sibling takes its pending reschedule, if it has one.
     Turn(Cpu),
@@ -23,7 +23,7 @@ pub enum Event {
 }
 
 /// An event, and who makes it.
-#[derive(Clone, Copy, Debug, PartialEq, Eq)]
+#[derive(Clone, Copy)]
 pub struct Step {
     pub actor: Actor,
     pub event: Event,

@@ -1,4 +1,4 @@
-//! Want of memory, the one answer that no clause rules out.
+//! Out of memory, the one answer that no clause rules out.
 
 use std::alloc::{AllocError, AllocFailed};
 use thiserror::Error;

@@ -4,14 +4,14 @@ use crate::event::{Actor, Event};
 use crate::task::{Cookie, Cpu, Pid};
 
 /// How a schedule came to its pick.
-#[derive(Clone, Copy, Debug, PartialEq, Eq)]
+#[derive(Clone, Copy)]
 pub enum Kind {
     /// The sibling chose for itself alone.
     Plain,
 }
 
 /// What a schedule chose, and for what core.
-#[derive(Clone, Copy, Debug, PartialEq, Eq)]
+#[derive(Clone, Copy)]
 pub struct Pick {
     pub kind: Kind,
     /// The task that the sibling runs now, 0 for idle.
@@ -23,7 +23,7 @@ pub struct Pick {
 }
 
 /// The answer to an event.
-#[derive(Clone, Copy, Debug, PartialEq, Eq)]
+#[derive(Clone, Copy)]
 pub enum Reply {
     /// The sibling had a pending reschedule, and this is what it took.
     Picked(Pick),
@@ -42,7 +42,7 @@ pub enum Reply {
 }
 
 /// A step that was made, with its answer.
-#[derive(Clone, Copy, Debug, PartialEq, Eq)]
+#[derive(Clone, Copy)]
 pub struct Entry {
     pub actor: Actor,
     pub event: Event,

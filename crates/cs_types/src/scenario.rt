@@ -5,7 +5,7 @@ use crate::list::List;
 use crate::task::TaskSpec;
 
 /// What a scenario text says.
-#[derive(Debug, Drop)]
+#[derive(Drop)]
 pub struct Scenario {
     /// The SMT siblings of the core.
     pub siblings: u8,

@@ -10,14 +10,14 @@ pub type Cookie = u64;
 pub type Cpu = u8;
 
 /// A task's scheduling policy.
-#[derive(Clone, Copy, Debug, PartialEq, Eq)]
+#[derive(Clone, Copy)]
 pub enum Policy {
     /// `SCHED_FIFO` with a priority from 1 to 99, the greater the higher.
     Fifo(u8),
 }
 
 /// A task's credentials, as the ptrace access check reads them.
-#[derive(Clone, Copy, Debug, PartialEq, Eq)]
+#[derive(Clone, Copy)]
 pub struct Creds {
     /// The real user id, 0 to 65535, as are all six.
     pub ruid: u32,
@@ -40,7 +40,7 @@ pub struct Creds {
 }
 
 /// A task as its line in the scenario gives it.
-#[derive(Clone, Copy, Debug, PartialEq, Eq)]
+#[derive(Clone, Copy)]
 pub struct TaskSpec {
     /// Its number, 1 to 9999 in a scenario.
     pub pid: Pid,

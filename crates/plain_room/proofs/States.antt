@@ -98,7 +98,7 @@ pub put_in_same : (task other : Task) → other.spec.pid ≡ task.spec.pid → p
 put_in_same task other same = cond-true (eqb other.spec.pid task.spec.pid) task other (eq-eqb _ _ same)
 
 pub put_in_other : (task other : Task) → (other.spec.pid ≡ task.spec.pid → ⊥) → put_in task other ≡ other
-put_in_other task other apart = cond-false (eqb other.spec.pid task.spec.pid) task other (ne_eqb _ _ apart)
+put_in_other task other distinct = cond-false (eqb other.spec.pid task.spec.pid) task other (ne_eqb _ _ distinct)
 
 -- the vector's items after a put of its items
 pub items-put : (tasks : Vec Task) (task : Task) (after : List Task) → after ≡ map (put_in task) tasks.items →

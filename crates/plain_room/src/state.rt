@@ -1,4 +1,4 @@
-//! The state of the core as plain lists, and what each event does to it. It is apart from the machine
+//! The state of the core as plain lists, and what each event does to it. It is separate from the machine
 //! so that each step has its whole contract here, whatever the machine keeps beside.
 
 ghost use Rattle.std.specs.Prelude.{◌≡◌, ◌+◌, ◌^◌, ◌<◌, ◌≤◌, false, length, map, find, filter, Option, IfOk, All, ◌&&◌, ◌==◌, if◌then◌else◌, IfSome};

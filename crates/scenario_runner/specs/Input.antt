@@ -6,6 +6,10 @@ use Rattle.scenario_text.specs.declared.fault.BadKind.{BadKind}
 use Rattle.scenario_text.specs.declared.fault.BadKind.TheVariants.{Unbuilt}
 use Rattle.scenario_text.specs.Reader.{HasNoScenario}
 
+-- the most bytes that an input may have (this project's rule)
+abbrev pub input_limit : ℕ
+input_limit = 16777216
+
 -- how many bytes were read, where the source tells them
 abbrev pub count_read : Option (List ℕ) → Option (List ℕ) → ℕ
 count_read before now = option_map_or length before 0 - option_map_or length now 0

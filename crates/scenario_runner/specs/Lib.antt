@@ -3,3 +3,4 @@ pub mod Input
 pub mod Output
 pub mod Stop
 pub mod Replay
+pub mod Ends

@@ -4,7 +4,7 @@ use Rattle.cs_types.specs.declared.event.Actor.{Actor}
 use Rattle.cs_types.specs.declared.scenario.Scenario.{Scenario}
 use Rattle.cs_types.specs.Scenario.{IsBuilt, script}
 use Rattle.cs_types.specs.History.{IsLegal, events_by, file}
-use Rattle.cs_outside.specs.Device.{appended, WritesFront}
+use Rattle.cs_outside.specs.Device.{appended, WritesPrefix}
 use Rattle.scenario_text.specs.Text.{scenario_text}
 use Rattle.scenario_runner.specs.Input.{IsReadAs}
 use Rattle.scenario_runner.specs.Output.{history_text}
@@ -25,7 +25,7 @@ pub record Replays (scenario : Scenario) (input left written now : Option (List 
   pub played : IsPlayed scenario
   pub writes : now ≡ appended written (history_text (file scenario))
 
--- or a front of that output
+-- or a prefix of that output
 pub record BreaksOff (scenario : Scenario) (input left written now : Option (List ℕ)) : Type 0 where
   pub reads : Reads scenario input left
-  pub writes : WritesFront written (history_text (file scenario)) now
+  pub writes : WritesPrefix written (history_text (file scenario)) now

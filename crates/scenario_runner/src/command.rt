@@ -1,16 +1,14 @@
 //! The commands, each by its words.
 
-ghost use Rattle.std.specs.Prelude.{◌≡◌, ◌≢◌, ◌⊎◌, ◌↔◌, ◌-◌, ◌^◌, ◌<◌, ◌≤◌, length, Some, Err, IfOk, IfSome, IsTrue};
-ghost use Rattle.cs_types.specs.declared.scenario.Scenario.{Scenario};
-ghost use Rattle.cs_types.specs.Scenario.{IsBuilt};
+ghost use Rattle.std.specs.Prelude.{◌≡◌, ◌≢◌, ◌↔◌, ◌-◌, ◌^◌, ◌<◌, ◌≤◌, Err, IfOk, IfSome, IsTrue};
 ghost use Rattle.cs_types.specs.History.{file};
 ghost use Rattle.cs_outside.specs.Device.{Rose};
-ghost use Rattle.scenario_text.specs.Text.{scenario_text};
 ghost use Rattle.scenario_runner.specs.Commands.{IsReplay};
-ghost use Rattle.scenario_runner.specs.Input.{IsBad, count_read};
-ghost use Rattle.scenario_runner.specs.Replay.{Reads, Replays, BreaksOff};
+ghost use Rattle.scenario_runner.specs.Input.{IsBad, input_limit, count_read};
+ghost use Rattle.scenario_runner.specs.Replay.{Reads};
+ghost use Rattle.scenario_runner.specs.Ends.{EndsAsReplay};
 
-use crate::input::{INPUT_BYTES, read_to_end};
+use crate::input::read_to_end;
 use crate::play::{play, write_history};
 use crate::status::Status;
 use crate::stop::Stop;
@@ -26,7 +24,7 @@ fn played<S: Source>(alloc: Global, source: &mut S) -> Result<PlainRoom, Stop>
     ensures played { IfOk result (λ room. ⟦<PlainRoom as Room>⟧.history room ≡ file room.scenario) }
 
     ensures too_long { IfSome (S.left source.old) (λ _.
-        (result ≡ Err Stop.TooLong) ↔ (INPUT_BYTES < count_read (S.left source.old) (S.left source.new))) }
+        (result ≡ Err Stop.TooLong) ↔ (input_limit < count_read (S.left source.old) (S.left source.new))) }
     ensures bad { (line : _) (kind : _) → result ≡ Err (Stop.BadScenario line kind) →
         IsBad line kind (S.left source.old) (S.left source.new) }
     ensures failed { result ≡ Err Stop.ReadFault → Rose (S.faults source.old) (S.faults source.new) }
@@ -62,29 +60,10 @@ pub fn replay<S: Source, K: Sink>(
     requires source { S.faults source.old < 2 ^ 64 - 1 }
     requires sink { K.faults sink.old < 2 ^ 64 - 1 }
 
-    // Where it is done, what was read is the text of a scenario, and what was written is its history.
-    ensures done { result ≡ Status.Done → (scenario : Scenario) ×
-        Replays scenario (S.left source.old) (S.left source.new) (K.written sink.old) (K.written sink.new) }
-
-    // When each other status comes. Want of memory alone is free.
-    ensures bad_words { (result ≡ Status.BadWords) ↔ ¬ IsReplay words.now }
-    ensures read_fault { result ≡ Status.ReadFault → S.faults source.old < S.faults source.new }
-    ensures too_long { IfSome (S.left source.old) (λ _.
-        (result ≡ Status.TooLong) ↔ (INPUT_BYTES < count_read (S.left source.old) (S.left source.new))) }
-    ensures bad_scenario { (line : _) (kind : _) → result ≡ Status.BadScenario line kind →
-        IsBad line kind (S.left source.old) (S.left source.new) }
-    ensures write_fault { result ≡ Status.WriteFault → (K.faults sink.old < K.faults sink.new) × ((scenario : Scenario) ×
-        BreaksOff scenario (S.left source.old) (S.left source.new) (K.written sink.old) (K.written sink.new)) }
-
-    // Nothing is read for other words, and nothing is written but by a run.
-    ensures unread { result ≡ Status.BadWords → source.new ≡ source.old }
-    ensures unwritten { result ≢ Status.Done → result ≢ Status.WriteFault → sink.new ≡ sink.old }
-
-    // It gives up on no scenario that can be played.
-    ensures complete { (scenario : Scenario) → IsReplay words.now → IsBuilt scenario →
-        S.left source.old ≡ Some (scenario_text scenario) → length (scenario_text scenario) ≤ INPUT_BYTES →
-        S.faults source.new ≡ S.faults source.old → K.faults sink.new ≡ K.faults sink.old →
-        (result ≡ Status.Done) ⊎ (result ≡ Status.OutOfMemory) }
+    // When each status comes, what was read for it, and what was written.
+    ensures { EndsAsReplay words.now
+        (record { bytes = S.left; faults = S.faults; before = source.old; after = source.new })
+        (record { bytes = K.written; faults = K.faults; before = sink.old; after = sink.new }) result }
 {
     if !is_replay(words) {
         return Status::BadWords;
@@ -109,29 +88,10 @@ pub fn run<R: AllocGlobal, S: Source, K: Sink>(
     requires source { S.faults source.old < 2 ^ 64 - 1 }
     requires sink { K.faults sink.old < 2 ^ 64 - 1 }
 
-    // Where it is done, what was read is the text of a scenario, and what was written is its history.
-    ensures done { result ≡ Status.Done → (scenario : Scenario) ×
-        Replays scenario (S.left source.old) (S.left source.new) (K.written sink.old) (K.written sink.new) }
-
-    // When each other status comes. Want of memory alone is free.
-    ensures bad_words { (result ≡ Status.BadWords) ↔ ¬ IsReplay words.now }
-    ensures read_fault { result ≡ Status.ReadFault → S.faults source.old < S.faults source.new }
-    ensures too_long { IfSome (S.left source.old) (λ _.
-        (result ≡ Status.TooLong) ↔ (INPUT_BYTES < count_read (S.left source.old) (S.left source.new))) }
-    ensures bad_scenario { (line : _) (kind : _) → result ≡ Status.BadScenario line kind →
-        IsBad line kind (S.left source.old) (S.left source.new) }
-    ensures write_fault { result ≡ Status.WriteFault → (K.faults sink.old < K.faults sink.new) × ((scenario : Scenario) ×
-        BreaksOff scenario (S.left source.old) (S.left source.new) (K.written sink.old) (K.written sink.new)) }
-
-    // Nothing is read for other words, and nothing is written but by a run.
-    ensures unread { result ≡ Status.BadWords → source.new ≡ source.old }
-    ensures unwritten { result ≢ Status.Done → result ≢ Status.WriteFault → sink.new ≡ sink.old }
-
-    // It gives up on no scenario that can be played.
-    ensures complete { (scenario : Scenario) → IsReplay words.now → IsBuilt scenario →
-        S.left source.old ≡ Some (scenario_text scenario) → length (scenario_text scenario) ≤ INPUT_BYTES →
-        S.faults source.new ≡ S.faults source.old → K.faults sink.new ≡ K.faults sink.old →
-        (result ≡ Status.Done) ⊎ (result ≡ Status.OutOfMemory) }
+    // When each status comes, what was read for it, and what was written.
+    ensures { EndsAsReplay words.now
+        (record { bytes = S.left; faults = S.faults; before = source.old; after = source.new })
+        (record { bytes = K.written; faults = K.faults; before = sink.old; after = sink.new }) result }
 {
     replay(rt.alloc(), words, source, sink)
 }

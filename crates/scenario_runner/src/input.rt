@@ -2,24 +2,24 @@
 
 ghost use Rattle.std.specs.Prelude.{◌≡◌, ◌≢◌, ◌<◌, ◌≤◌, ◌↔◌, Err, IfOk, IfSome};
 ghost use Rattle.cs_outside.specs.Device.{Rose};
-ghost use Rattle.scenario_runner.specs.Input.{IsReadAs, count_read};
+ghost use Rattle.scenario_runner.specs.Input.{IsReadAs, input_limit, count_read};
 
 use crate::stop::Stop;
 use cs_outside::Source;
 use std::alloc::Global;
 
 /// The most bytes that an input may have.
-pub const INPUT_BYTES: usize = 16_777_216;
+const INPUT_BYTES: usize = 16_777_216;
 
 /// How many bytes are asked for at once.
 const BUFFER_BYTES: usize = 65_536;
 
-/// The bytes of a source, read to their end. One more than `INPUT_BYTES` ends the reading. It always
+/// The bytes of a source, read to their end. One more than an input may have ends the reading. It always
 /// returns, since each read takes a byte, is the end, or fails.
 pub fn read_to_end<S: Source>(alloc: Global, source: &mut S) -> Result<Vec<u8>, Stop>
     ensures whole { IfOk result (λ bytes. IsReadAs (S.left source.old) bytes.items (S.left source.new)) }
     ensures too_long { IfSome (S.left source.old) (λ _.
-        (result ≡ Err Stop.TooLong) ↔ (INPUT_BYTES < count_read (S.left source.old) (S.left source.new))) }
+        (result ≡ Err Stop.TooLong) ↔ (input_limit < count_read (S.left source.old) (S.left source.new))) }
     ensures bad { (line : _) (kind : _) → result ≢ Err (Stop.BadScenario line kind) }
 
     ensures failed { result ≡ Err Stop.ReadFault → Rose (S.faults source.old) (S.faults source.new) }

@@ -8,8 +8,4 @@ mod status;
 mod stop;
 
 pub use command::{replay, run};
-pub use input::INPUT_BYTES;
 pub use status::Status;
-
-#[cfg(test)]
-mod tests;

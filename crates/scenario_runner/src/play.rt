@@ -4,7 +4,7 @@
 ghost use Rattle.std.specs.Prelude.{◌≡◌, ◌≤◌, [], All, length, OnOk, OnErr};
 ghost use Rattle.cs_types.specs.Scenario.{IsEvent};
 ghost use Rattle.cs_types.specs.History.{history_of};
-ghost use Rattle.cs_outside.specs.Device.{appended, Rose, WritesFront};
+ghost use Rattle.cs_outside.specs.Device.{appended, Rose, WritesPrefix};
 ghost use Rattle.scenario_runner.specs.Output.{history_text};
 
 use cs_outside::{Failed, Sink, write_all};
@@ -26,11 +26,11 @@ pub fn play<R: Room>(room: &mut R, steps: &[Step])
 }
 
 /// Writes the line of each entry and the last line, each in one piece, and again with the rest where
-/// the sink took only a part. At an `Err` the sink has failed, and a front of the text is written.
+/// the sink took only a part. At an `Err` the sink has failed, and a prefix of the text is written.
 /// It takes no memory.
 pub fn write_history<R: Room, K: Sink>(room: &R, sink: &mut K) -> Result<(), Failed>
     ensures ok { OnOk result (K.written sink.new ≡ appended (K.written sink.old) (history_text (R.history room.now))) }
-    ensures front { WritesFront (K.written sink.old) (history_text (R.history room.now)) (K.written sink.new) }
+    ensures prefix { WritesPrefix (K.written sink.old) (history_text (R.history room.now)) (K.written sink.new) }
 
     ensures failed { OnErr result (Rose (K.faults sink.old) (K.faults sink.new)) }
     ensures counted { K.faults sink.old ≤ K.faults sink.new }

@@ -23,7 +23,7 @@ pub enum Status {
     /// The source failed.
     #[error("read fault")]
     ReadFault,
-    /// The sink failed. A front of the output was written.
+    /// The sink failed. A prefix of the output was written.
     #[error("write fault")]
     WriteFault,
     /// There was no memory, before the first step.

@@ -9,11 +9,11 @@ use scenario_text::{BadKind, ReadFault};
 use std::alloc::AllocError;
 
 /// Why an input was not played.
-#[derive(Clone, Copy, Debug, PartialEq, Eq)]
+#[derive(Clone, Copy)]
 pub enum Stop {
     /// The source failed.
     ReadFault,
-    /// More than `INPUT_BYTES` were read.
+    /// More than 16,777,216 bytes were read.
     TooLong,
     /// The input was read to its end, and no scenario that can be played has this text.
     BadScenario { line: u32, kind: BadKind },

@@ -1,4 +1,4 @@
--- Building: the lines behind the head are read as the plan that they spell, and no others are.
+-- Building: the lines after the head are read as the plan that they spell, and no others are.
 use Rattle.std.proofs.Common.{◌≡◌, ℕ, suc, ◌+◌, ◌<◌, ◌≤◌, true, cond, eqb, ltb, List, [], ◌∷◌, ◌++◌, length, get_or, map, Some, None, refl, sym, ap, subst, ◌∙◌, arith, All, append_assoc}
 use Rattle.std.specs.Prelude.{◌&&◌}
 use Rattle.std.proofs.lemmas.Bool.{and_parts, and_from, eqb-true, ltb-true, lt-ltb}
@@ -7,7 +7,7 @@ use Rattle.std.proofs.lemmas.List.Elements.{All-push}
 use Rattle.std.proofs.lemmas.Option.{cond_some}
 use Rattle.cs_types.specs.declared.task.TaskSpec.{TaskSpec}
 use Rattle.cs_types.specs.declared.event.Step.{Step}
-use Rattle.cs_types.specs.Scenario.{IsTask, IsStep, AreApart, AreLed}
+use Rattle.cs_types.specs.Scenario.{IsTask, IsStep, AreDistinct, AreLed}
 use Rattle.scenario_text.specs.declared.head.Head.{Head}
 use Rattle.scenario_text.specs.declared.line.Line.{Line}
 use Rattle.scenario_text.specs.declared.line.Line.TheVariants as forms
@@ -16,12 +16,12 @@ use Rattle.scenario_text.specs.Text.{step_words, end_words}
 use Rattle.scenario_text.specs.Reading.{◌>>=◌, Contents, line_of, is_end, is_fresh, is_led, can_follow, match_line, with_task, with_step, plan_of}
 use Rattle.scenario_text.proofs.Fields.{bind}
 use Rattle.scenario_text.proofs.Forms.{line_words, IsLine, line_takes, line_again}
-use Rattle.scenario_text.proofs.Followers.{apart_push, apart_fresh, led_push, led_test}
+use Rattle.scenario_text.proofs.Followers.{distinct_push, distinct_fresh, led_push, led_test}
 
 -- what a plan keeps, in a core of so many siblings where so many tasks may live at once
 pub record IsPlan (siblings limit : ℕ) (plan : Contents) : Type 0 where
   pub tasks : All (IsTask siblings) plan.tasks
-  pub apart : AreApart plan.tasks
+  pub distinct : AreDistinct plan.tasks
   pub led : AreLed plan.tasks
   pub few_tasks : length plan.tasks ≤ limit
   pub steps : All (IsStep siblings) plan.steps
@@ -31,7 +31,7 @@ pub record IsPlan (siblings limit : ℕ) (plan : Contents) : Type 0 where
 abbrev pub plan_lines : Contents → List (List Word)
 plan_lines plan = map task_words plan.tasks ++ map step_words plan.steps
 
--- the last line, and nothing behind it
+-- the last line, and nothing after it
 abbrev pub end_lines : List (List Word)
 end_lines = end_words ∷ ([] ∷ []) ∷ []
 
@@ -70,7 +70,7 @@ task_grows siblings limit plan task more is fits e =
     let follows = follows_parts limit task plan same.0 in
     let grown : IsPlan siblings limit made = record {
       tasks = All-push (IsTask siblings) plan.tasks task is.tasks fits;
-      apart = apart_push plan.tasks task is.apart follows.fresh;
+      distinct = distinct_push plan.tasks task is.distinct follows.fresh;
       led = led_push plan.tasks task is.led follows.led;
       few_tasks = let few = follows.few in omega (arith, length_push plan.tasks task);
       steps = is.steps;
@@ -88,7 +88,7 @@ step_grows siblings limit plan step more is fits e =
     let few : length plan.steps < 100000 = ltb-true _ _ same.0 in
     let grown : IsPlan siblings limit made = record {
       tasks = is.tasks;
-      apart = is.apart;
+      distinct = is.distinct;
       led = is.led;
       few_tasks = is.few_tasks;
       steps = All-push (IsStep siblings) plan.steps step is.steps fits;
@@ -101,7 +101,7 @@ step_grows siblings limit plan step more is fits e =
 
 -- ---- what is read is spelled so
 
--- the lines behind a plan complete it
+-- the lines after a plan complete it
 pub record Completes (siblings limit : ℕ) (plan : Contents) (lines : List (List Word)) (done : Contents) : Type 0 where
   pub is : IsPlan siblings limit done
   pub lines_are : plan_lines plan ++ lines ≡ plan_lines done ++ end_lines
@@ -113,7 +113,7 @@ completes_more siblings limit plan more done words lines grows rest = record {
   lines_are = sym (append_assoc (plan_lines plan) (words ∷ []) lines) ∙ ap (λ (ls : List (List Word)). ls ++ lines) (sym grows.lines) ∙ rest.lines_are;
 }
 
--- nothing stands behind the end only in a text that ends there
+-- nothing stands after the end only in a text that ends there
 end_is : (lines : List (List Word)) → is_end lines ≡ true → lines ≡ ([] ∷ []) ∷ []
 end_is [] h = absurd cc
 end_is ([] ∷ lines) h = absurd cc
@@ -149,15 +149,15 @@ plan_takes head (words ∷ lines) plan done is e =
 
 -- ---- what is spelled so is read
 
--- the element behind a front of a list
-behind : {X : Type 0} (P : X → Type 0) (all front more : List X) (x : X) → all ≡ front ++ x ∷ more → All P all → P x
-behind {X = X} P all front more x is each =
-    let len : length all ≡ length front + suc (length more) = ap length is ∙ length-append front (x ∷ more) in
-    let at : get_or all (length front) x ≡ x = ap (λ (l : List X). get_or l (length front) x) is ∙ get_or_at front x more x (length front) refl in
-    subst P at (each (length front) x (omega arith))
+-- the element after a prefix of a list
+element_after : {X : Type 0} (P : X → Type 0) (all prefix more : List X) (x : X) → all ≡ prefix ++ x ∷ more → All P all → P x
+element_after {X = X} P all prefix more x is each =
+    let len : length all ≡ length prefix + suc (length more) = ap length is ∙ length-append prefix (x ∷ more) in
+    let at : get_or all (length prefix) x ≡ x = ap (λ (l : List X). get_or l (length prefix) x) is ∙ get_or_at prefix x more x (length prefix) refl in
+    subst P at (each (length prefix) x (omega arith))
 
-regrouped : {X : Type 0} (all front more : List X) (x : X) → all ≡ front ++ x ∷ more → all ≡ (front ++ x ∷ []) ++ more
-regrouped all front more x is = is ∙ sym (append_assoc front (x ∷ []) more)
+regrouped : {X : Type 0} (all prefix more : List X) (x : X) → all ≡ prefix ++ x ∷ more → all ≡ (prefix ++ x ∷ []) ++ more
+regrouped all prefix more x is = is ∙ sym (append_assoc prefix (x ∷ []) more)
 
 module _ (head : Head) (all : Contents) (few : head.siblings < 256) (is : IsPlan head.siblings head.task_limit all) where
   tasks_again : (more tasks : List TaskSpec) (lines : List (List Word)) → all.tasks ≡ tasks ++ more →
@@ -165,10 +165,10 @@ module _ (head : Head) (all : Contents) (few : head.siblings < 256) (is : IsPlan
   unfolding plan_of with_task
   tasks_again [] tasks lines e = ap (λ (ts : List TaskSpec). plan_of head (record { tasks = ts; steps = [] }) lines) (sym (e ∙ append-nil tasks))
   tasks_again (task ∷ more) tasks lines e =
-      let fits = behind (IsTask head.siblings) all.tasks tasks more task e is.tasks in
+      let fits = element_after (IsTask head.siblings) all.tasks tasks more task e is.tasks in
       let len : length all.tasks ≡ length tasks + suc (length more) = ap length e ∙ length-append tasks (task ∷ more) in
       let room : length tasks < head.task_limit = let few_tasks = is.few_tasks in omega arith in
-      let can = follows_whole head.task_limit task tasks room (apart_fresh all.tasks tasks more task e is.apart) (led_test all.tasks tasks more task e is.led) in
+      let can = follows_whole head.task_limit task tasks room (distinct_fresh all.tasks tasks more task e is.distinct) (led_test all.tasks tasks more task e is.led) in
       rw (line_again head.siblings (forms.Task task) few fits, can) (tasks_again more (tasks ++ task ∷ []) lines (regrouped all.tasks tasks more task e))
 
   steps_again : (more steps : List Step) (lines : List (List Word)) → all.steps ≡ steps ++ more →
@@ -176,7 +176,7 @@ module _ (head : Head) (all : Contents) (few : head.siblings < 256) (is : IsPlan
   unfolding plan_of with_step
   steps_again [] steps lines e = ap (λ (ss : List Step). plan_of head (record { tasks = all.tasks; steps = ss }) lines) (sym (e ∙ append-nil steps))
   steps_again (step ∷ more) steps lines e =
-      let fits = behind (IsStep head.siblings) all.steps steps more step e is.steps in
+      let fits = element_after (IsStep head.siblings) all.steps steps more step e is.steps in
       let len : length all.steps ≡ length steps + suc (length more) = ap length e ∙ length-append steps (step ∷ more) in
       let room : length steps < 100000 = let few_steps = is.few_steps in omega arith in
       rw (line_again head.siblings (forms.Step step) few fits, lt-ltb (length steps) 100000 room) (steps_again more (steps ++ step ∷ []) lines (regrouped all.steps steps more step e))

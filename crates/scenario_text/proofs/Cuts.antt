@@ -65,7 +65,7 @@ end_of-words_left None false e = absurd (false≢true e)
 end_of-words_left (Some rest) true e = absurd (false≢true (sym e))
 end_of-words_left (Some rest) false e = rw (has_piece 32 rest.now).is refl
 
--- the words of the first line, and the lines behind it
+-- the words of the first line, and the lines after it
 pub line_at-lines_in : (text line rest : List ℕ) → pieces 10 text ≡ line ∷ pieces 10 rest → line_at (lines_in text) ≡ Some (words_in line, lines_in rest)
 unfolding lines_in
 line_at-lines_in text line rest cut =

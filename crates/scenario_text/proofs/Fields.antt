@@ -1,4 +1,4 @@
--- Fields: what is read from the front of a list of words is spelled by those words, and what is spelled so is read.
+-- Fields: what is read from the start of a list of words is spelled by those words, and what is spelled so is read.
 use Rattle.std.proofs.Common.{◌≡◌, ℕ, zero, suc, ◌^◌, ◌<◌, ◌≤◌, Bool, true, false, eqb, List, [], ◌∷◌, ◌++◌, Option, Some, None, refl, ap, subst, arith, zero-le}
 use Rattle.std.specs.Prelude.{decimal}
 use Rattle.std.specs.Str.{bytes_eq}

@@ -6,7 +6,7 @@ use Rattle.std.proofs.lemmas.Bool.{cases_lt, false≢true, not-true, not_from_fa
 use Rattle.std.proofs.lemmas.List.{length_push, length-append, take_at, get_or_at, take-append-le, get_or_append_left}
 use Rattle.std.proofs.lemmas.List.Quantifiers.{all_pairs_push}
 use Rattle.cs_types.specs.declared.task.TaskSpec.{TaskSpec}
-use Rattle.cs_types.specs.Scenario.{AreApart, IsLed, AreLed}
+use Rattle.cs_types.specs.Scenario.{AreDistinct, IsLed, AreLed}
 use Rattle.scenario_text.specs.Reading.{is_fresh, is_led}
 
 -- ---- a test of any element
@@ -34,20 +34,20 @@ any_passes p (x ∷ xs) h =
       | inr there ↦ let found = any_passes p xs there in (suc found.0, found.1, omega (arith, found.2), found.3, found.4)
     ]
 
--- ---- pids apart
+-- ---- distinct pids
 
-pub apart_push : (tasks : List TaskSpec) (task : TaskSpec) → AreApart tasks → is_fresh tasks task ≡ true → AreApart (tasks ++ task ∷ [])
+pub distinct_push : (tasks : List TaskSpec) (task : TaskSpec) → AreDistinct tasks → is_fresh tasks task ≡ true → AreDistinct (tasks ++ task ∷ [])
 unfolding is_fresh
-apart_push tasks task apart fresh =
-    all_pairs_push (λ a b. a.pid ≢ b.pid) tasks task apart (λ k d lt.
+distinct_push tasks task distinct fresh =
+    all_pairs_push (λ a b. a.pid ≢ b.pid) tasks task distinct (λ k d lt.
     eqb-false _ _ (any_fails (λ other. eqb other.pid task.pid) tasks (not-true _ fresh) k d lt))
 
-pub apart_fresh : (all tasks more : List TaskSpec) (task : TaskSpec) → all ≡ tasks ++ task ∷ more → AreApart all → is_fresh tasks task ≡ true
+pub distinct_fresh : (all tasks more : List TaskSpec) (task : TaskSpec) → all ≡ tasks ++ task ∷ more → AreDistinct all → is_fresh tasks task ≡ true
 unfolding is_fresh
-apart_fresh all tasks more task is apart =
+distinct_fresh all tasks more task is distinct =
     not_from_false _ (any_false (λ other. eqb other.pid task.pid) tasks (λ k d lt.
     let len : length all ≡ length tasks + suc (length more) = ap length is ∙ length-append tasks (task ∷ more) in
-    let ne = apart k (length tasks) d lt (omega arith) in
+    let ne = distinct k (length tasks) d lt (omega arith) in
     let here : get_or all k d ≡ get_or tasks k d = ap (λ (l : List TaskSpec). get_or l k d) is ∙ get_or_append_left tasks (task ∷ more) d k lt in
     let there : get_or all (length tasks) d ≡ task = ap (λ (l : List TaskSpec). get_or l (length tasks) d) is ∙ get_or_at tasks task more d (length tasks) refl in
     ne_eqb _ _ (λ e. ne (ap (λ (t : TaskSpec). t.pid) here ∙ e ∙ ap (λ (t : TaskSpec). t.pid) (sym there)))))
@@ -99,8 +99,8 @@ led_push tasks task led test k d lt =
 pub led_test : (all tasks more : List TaskSpec) (task : TaskSpec) → all ≡ tasks ++ task ∷ more → AreLed all → is_led tasks task ≡ true
 led_test all tasks more task is led =
     let len : length all ≡ length tasks + suc (length more) = ap length is ∙ length-append tasks (task ∷ more) in
-    let front : take (length tasks) all ≡ tasks = ap (take (length tasks)) is ∙ take_at tasks (task ∷ more) (length tasks) refl in
+    let prefix : take (length tasks) all ≡ tasks = ap (take (length tasks)) is ∙ take_at tasks (task ∷ more) (length tasks) refl in
     let there : get_or all (length tasks) task ≡ task = ap (λ (l : List TaskSpec). get_or l (length tasks) task) is ∙ get_or_at tasks task more task (length tasks) refl in
     let at = led (length tasks) task (omega arith) in
-    let whole : IsLed tasks task = subst (λ (p : List TaskSpec × TaskSpec). IsLed p.0 p.1) (λ i. (front i, there i)) at in
+    let whole : IsLed tasks task = subst (λ (p : List TaskSpec × TaskSpec). IsLed p.0 p.1) (λ i. (prefix i, there i)) at in
     test_from_IsLed tasks task whole

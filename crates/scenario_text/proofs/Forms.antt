@@ -1,4 +1,4 @@
--- Forms: what is read from a line behind the head is spelled by its words, and what is spelled so is read.
+-- Forms: what is read from a line after the head is spelled by its words, and what is spelled so is read.
 use Rattle.std.proofs.Common.{◌≡◌, ℕ, ◌<◌, Bool, true, false, cond, eqb, ltb, List, [], ◌∷◌, ◌++◌, take, drop, Option, Some, None, refl, sym, ap, subst, ◌∙◌, arith, zero-le, inl, inr, take-append-drop}
 use Rattle.std.specs.Prelude.{◌⊎◌, decimal, codes}
 use Rattle.std.specs.Str.{bytes_eq}
@@ -51,11 +51,11 @@ pub policy_takes : (word : Word) (policy : Policy) → policy_of word ≡ Some p
 unfolding policy_of
 policy_takes word policy e =
     let is = kept (bytes_eq (take 5 word) (codes "fifo:")) (number_of 1 99 (drop 5 word) >>= λ priority. Some (Fifo priority)) policy e in
-    let front : take 5 word ≡ codes "fifo:" = (bytes_eq-Decides (take 5 word) (codes "fifo:")).0 is.0 in
+    let prefix : take 5 word ≡ codes "fifo:" = (bytes_eq-Decides (take 5 word) (codes "fifo:")).0 is.0 in
     bind (number_of 1 99 (drop 5 word)) _ policy is.1 (λ priority taken e0.
     let spelled = number_takes 1 99 (drop 5 word) priority (omega arith) taken in
     let whole : word ≡ codes "fifo:" ++ decimal priority =
-    sym (take-append-drop 5 word) ∙ ap (λ (f : Word). f ++ drop 5 word) front ∙ ap (λ (d : Word). codes "fifo:" ++ d) spelled.0 in
+    sym (take-append-drop 5 word) ∙ ap (λ (f : Word). f ++ drop 5 word) prefix ∙ ap (λ (d : Word). codes "fifo:" ++ d) spelled.0 in
     subst (λ (p : Policy). (word ≡ policy_word p) × IsPolicy p) (some_is (Fifo priority) policy e0) (whole, spelled.1))
 
 pub policy_again : (policy : Policy) → IsPolicy policy → policy_of (policy_word policy) ≡ Some policy
@@ -109,7 +109,7 @@ task_takes siblings words x e =
     let is : IsTask siblings made.0 = record { pid = w0.1; tgid = w1.1; pgid = w2.1; cpu = w3.1; policy = w4.1; creds = w5.1 } in
     subst (λ (p : TaskSpec × List Word). (codes "task" ∷ words ≡ task_words p.0 ++ p.1) × IsTask siblings p.0) (some_is made x e5) (whole, is)))))))
 
--- the words behind `task`
+-- the words after `task`
 abbrev task_rest : TaskSpec → List Word
 task_rest task =
     decimal task.pid ∷ decimal task.tgid ∷ decimal task.pgid ∷ decimal task.cpu ∷ policy_word task.policy ∷ creds_words task.creds

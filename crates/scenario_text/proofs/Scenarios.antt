@@ -28,7 +28,7 @@ use Rattle.scenario_text.proofs.Texts.{IsPlain, ArePlain, plain_decimal, plain-a
 
 -- ---- the lines of a scenario
 
--- what stands behind the last line feed
+-- what stands after the last line feed
 abbrev nothing : List (List Word)
 nothing = ([] ∷ []) ∷ []
 
@@ -53,7 +53,7 @@ made_of head plan =
 empty_plan : (siblings limit : ℕ) → IsPlan siblings limit none_read
 empty_plan siblings limit = record {
   tasks = All-nil (IsTask siblings);
-  apart = λ i j d lt below. absurd (omega arith);
+  distinct = λ i j d lt below. absurd (omega arith);
   led = λ k d below. absurd (omega arith);
   few_tasks = omega arith;
   steps = All-nil (IsStep siblings);
@@ -75,7 +75,7 @@ scenario_takes lines scenario e =
       cookie_limit = h.1.cookie_limit;
       user_top = h.1.user_top;
       tasks = p.is.tasks;
-      apart = p.is.apart;
+      distinct = p.is.distinct;
       led = p.is.led;
       few_tasks = p.is.few_tasks;
       steps = p.is.steps;
@@ -106,7 +106,7 @@ scenario_again scenario built =
     } in
     let is_plan : IsPlan head.siblings head.task_limit plan = record {
       tasks = built.tasks;
-      apart = built.apart;
+      distinct = built.distinct;
       led = built.led;
       few_tasks = built.few_tasks;
       steps = built.steps;

@@ -89,11 +89,11 @@ lines_in-flat_map ((word ∷ words) ∷ lines) h =
     let rest = flat_map line lines in
     let cut : pieces 10 (text ++ 10 ∷ rest) ≡ text ∷ pieces 10 rest =
     slice_split_at (λ b. eqb b 10) text 10 rest (all_lack 10 text (spaced_lacks word words h.0)) refl in
-    let front : words_in text ≡ word ∷ words = words_in-spaced word words h.0 in
+    let prefix : words_in text ≡ word ∷ words = words_in-spaced word words h.0 in
     let more : lines_in rest ≡ lines ++ ([] ∷ []) ∷ [] = lines_in-flat_map lines h.1 in
     ap lines_in (append_assoc text (10 ∷ []) rest)
     ∙ ap (map words_in) cut
-    ∙ ap (λ (ws : List Word). ws ∷ lines_in rest) front
+    ∙ ap (λ (ws : List Word). ws ∷ lines_in rest) prefix
     ∙ ap (λ (ls : List (List Word)). (word ∷ words) ∷ ls) more
 
 spaced-words_in : (bytes : List ℕ) → spaced (words_in bytes) ≡ bytes
@@ -112,8 +112,8 @@ joined (part ∷ []) (words ∷ line ∷ lines) h = absurd cc
 joined (part ∷ next ∷ parts) (words ∷ lines) h =
     let here : words_in part ≡ words = cc in
     let there : map words_in (next ∷ parts) ≡ lines ++ ([] ∷ []) ∷ [] = cc in
-    let front : part ≡ spaced words = sym (spaced-words_in part) ∙ ap spaced here in
-    ap (λ (bytes : List ℕ). bytes ++ (10 ∷ join_with_byte 10 (next ∷ parts))) front
+    let prefix : part ≡ spaced words = sym (spaced-words_in part) ∙ ap spaced here in
+    ap (λ (bytes : List ℕ). bytes ++ (10 ∷ join_with_byte 10 (next ∷ parts))) prefix
     ∙ ap (λ (bytes : List ℕ). spaced words ++ (10 ∷ bytes)) (joined (next ∷ parts) lines there)
     ∙ sym (append_assoc (spaced words) (10 ∷ []) (flat_map line lines))
 

@@ -35,7 +35,7 @@ pieces separator bytes = slice_split (λ byte. byte == separator) bytes
 unfoldable pub words_in : List ℕ → List Word
 words_in line = pieces 32 line
 
--- the lines of a text, each as its words; the last is what stands behind the last line feed
+-- the lines of a text, each as its words; the last is what stands after the last line feed
 unfoldable pub lines_in : List ℕ → List (List Word)
 lines_in text = map words_in (pieces 10 text)
 
@@ -44,7 +44,7 @@ abbrev pub words_left : Option (Bor (List ℕ)) → List Word
 words_left None = []
 words_left (Some rest) = words_in rest.now
 
--- ---- what is taken from the front of a list
+-- ---- what is taken from the start of a list
 
 infixl 10 ◌>>=◌
 abbrev pub ◌>>=◌ : {A B : Type 0} → Option A → (A → Option B) → Option B
@@ -153,7 +153,7 @@ creds_at words = do
     dumpable.1,
   )
 
--- what stands behind the word `task`
+-- what stands after the word `task`
 unfoldable pub task_at : ℕ → List Word → Option (TaskSpec × List Word)
 task_at siblings words = do
   pid ← number_at 1 9999 words
@@ -206,7 +206,7 @@ abbrev pub event_at : Actor → List Word → Option (Event × List Word)
 event_at (Sibling cpu) words = sibling_event_at cpu words
 event_at (Caller caller) words = caller_event_at words
 
--- what stands behind the word `step`
+-- what stands after the word `step`
 unfoldable pub step_at : ℕ → List Word → Option (Step × List Word)
 step_at siblings words = do
   actor ← actor_at siblings words
@@ -221,7 +221,7 @@ line_at [] = None
 line_at (rest ∷ []) = None
 line_at (line ∷ next ∷ lines) = Some (line, next ∷ lines)
 
--- whether nothing stands behind the last line feed
+-- whether nothing stands after the last line feed
 abbrev pub is_end : List (List Word) → Bool
 is_end (([] ∷ []) ∷ []) = true
 is_end lines = false
@@ -263,9 +263,9 @@ head_at lines = do
   head ← head_of siblings third.0
   Some (head, third.1)
 
--- ---- the lines behind the head
+-- ---- the lines after the head
 
--- what stands behind the first word of a line
+-- what stands after the first word of a line
 unfoldable pub form_at : ℕ → Word → List Word → Option (Line × List Word)
 form_at siblings form words =
     if bytes_eq form (codes "task")
@@ -307,7 +307,7 @@ is_led tasks task =
     (task.tgid == task.pid)
     || list_any (λ leader. (leader.pid == task.tgid) && (leader.tgid == leader.pid) && (leader.pgid == task.pgid)) tasks
 
--- whether the task may follow: behind no step, and as one of the tasks that may live at once
+-- whether the task may follow: after no step, and as one of the tasks that may live at once
 unfoldable pub can_follow : ℕ → TaskSpec → Contents → Bool
 can_follow limit task plan =
     (length plan.steps == 0) && nat_lt (length plan.tasks) limit && is_fresh plan.tasks task && is_led plan.tasks task
@@ -322,7 +322,7 @@ with_step step plan =
     then Some (record { tasks = plan.tasks; steps = plan.steps ++ step ∷ [] })
     else None
 
--- the plan of the lines up to `end`, behind what is read
+-- the plan of the lines up to `end`, after what is read
 unfoldable pub plan_of : Head → Contents → List (List Word) → Option Contents
 plan_of head plan [] = None
 plan_of head plan (words ∷ lines) = do
@@ -348,14 +348,14 @@ scenario_of lines = do
       }
       )
 
--- ---- what a reader that wants memory returned
+-- ---- what a reader that may be out of memory returned
 
--- a fault is want of memory, or the text is refused
+-- a fault is out of memory, or the text is refused
 abbrev pub Fails : {Y : Type 0} → ReadFault → Option Y → Type 0
 Fails OutOfMemory read = Unit {0}
 Fails (Bad line kind) read = (read ≡ None) × (line ≡ 0) × (kind ≡ Unbuilt)
 
--- what a function returned, seen by view, is what reading gives, unless memory was wanted
+-- what a function returned, seen by view, is what reading gives, unless it was out of memory
 abbrev pub Gives : {X Y : Type 0} → (X → Y) → Result X ReadFault → Option Y → Type 0
 Gives view (Ok x) read = read ≡ Some (view x)
 Gives view (Err fault) read = Fails fault read

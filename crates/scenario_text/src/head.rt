@@ -1,5 +1,5 @@
 //! The head of a scenario: its first three lines, each of which stands once and in its place. The
-//! lines behind it, which come in any number, are apart.
+//! lines after it, which come in any number, are separate.
 
 ghost use Rattle.std.specs.Prelude.{◌≡◌};
 ghost use Rattle.scenario_text.specs.Reading.{Takes, version_of, siblings_of, head_of, head_at};
@@ -22,7 +22,7 @@ pub const LEAST_TOP: u64 = 8192;
 /// The greatest end of a caller's address space, in bytes.
 pub const MOST_TOP: u64 = 9_223_372_036_854_775_807;
 
-/// What the first three lines say: a scenario's numbers, apart from its tasks and steps.
+/// What the first three lines say: a scenario's numbers, without its tasks and steps.
 #[derive(Clone, Copy)]
 pub(crate) struct Head {
     pub siblings: u8,

@@ -21,6 +21,3 @@ pub use reading::read;
 pub use step::{MOST_CALLER, MOST_NAMED_PID};
 pub use task::{MOST_ID, MOST_PID, MOST_PRIORITY};
 pub use writing::entry_text;
-
-#[cfg(test)]
-mod tests;

@@ -1,4 +1,4 @@
-//! The lines behind the head, each in its form, which its first word tells. It is apart from the
+//! The lines after the head, each in its form, which its first word tells. It is separate from the
 //! forms, of which a new one is a variant more here.
 
 ghost use Rattle.std.specs.Prelude.{◌≡◌};
@@ -9,7 +9,7 @@ use crate::task::next_task;
 use crate::words::Words;
 use cs_types::{Step, TaskSpec};
 
-/// What a line behind the head says.
+/// What a line after the head says.
 #[derive(Drop)]
 pub(crate) enum Line {
     Task(TaskSpec),

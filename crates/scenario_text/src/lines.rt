@@ -1,4 +1,4 @@
-//! The lines of a text, taken one after the other. It is apart so that what reads lines speaks of
+//! The lines of a text, taken one after the other. It is separate so that what reads lines speaks of
 //! their words alone, and of no line feeds.
 
 ghost use Rattle.std.specs.Prelude.{◌≡◌};

@@ -1,4 +1,4 @@
-//! Numbers, as words spell them: decimal digits, with no sign and no leading 0. It is apart since
+//! Numbers, as words spell them: decimal digits, with no sign and no leading 0. It is separate since
 //! every form of a line but the last has them.
 
 ghost use Rattle.std.specs.Prelude.{◌≡◌, IfSome};

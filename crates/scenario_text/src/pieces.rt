@@ -1,4 +1,4 @@
-//! Where bytes are cut at a separator. It is apart since the lines of a text, which stand round line
+//! Where bytes are cut at a separator. It is separate since the lines of a text, which stand round line
 //! feeds, and the words of a line, which stand round spaces, are cut alike.
 
 ghost use Rattle.std.specs.Prelude.{◌≡◌, [], ◌∷◌, MatchOption};

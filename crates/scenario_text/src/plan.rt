@@ -1,5 +1,5 @@
 //! The plan of a scenario: its tasks and its steps, as they are read line by line. Here are the rules
-//! that take more than one line: pids apart, leaders, and how many there may be.
+//! that take more than one line: distinct pids, leaders, and how many there may be.
 
 ghost use Rattle.std.specs.Prelude.{◌≡◌, []};
 ghost use Rattle.scenario_text.specs.Reading.{is_fresh, is_led};
@@ -51,7 +51,7 @@ impl Plan {
         }
     }
 
-    /// Whether the task may follow: behind no step, as one of the tasks that may live at once, with a
+    /// Whether the task may follow: after no step, as one of the tasks that may live at once, with a
     /// pid of its own, and led.
     #[tactic(auto, unfolding(crate::specs::Reading::can_follow))]
     fn can_follow(&self, task: &TaskSpec, limit: u16) -> bool

@@ -13,7 +13,7 @@ use crate::plan::Plan;
 use cs_types::{List, Scenario};
 use std::alloc::Global;
 
-/// The tasks and the steps of the lines up to `end`, behind which nothing stands.
+/// The tasks and the steps of the lines up to `end`, after which nothing stands.
 fn read_plan(alloc: Global, lines: &mut Lines<'_>, head: Head) -> Result<Plan, ReadFault>
     ensures { Gives contents result (plan_of head (record { tasks = []; steps = [] }) lines.old) }
 {
@@ -29,7 +29,7 @@ fn read_plan(alloc: Global, lines: &mut Lines<'_>, head: Head) -> Result<Plan, R
     Err(UNBUILT)
 }
 
-/// The scenario of the lines, behind which nothing stands.
+/// The scenario of the lines, after which nothing stands.
 #[tactic(auto, unfolding(crate::specs::Reading::scenario_of))]
 fn read_lines(alloc: Global, mut lines: Lines<'_>) -> Result<Scenario, ReadFault>
     ensures { Gives (λ scenario. scenario) result (scenario_of lines.entry) }
@@ -61,7 +61,7 @@ pub fn read(alloc: Global, bytes: &[u8]) -> Result<Scenario, ReadFault>
     // What is read is the scenario of the text.
     ensures found { IfOk result (IsTextOf bytes.now) }
 
-    // The text of a scenario is read as that scenario, unless memory is wanted.
+    // The text of a scenario is read as that scenario, unless it is out of memory.
     ensures only { (scenario : Scenario) → IsTextOf bytes.now scenario →
         MatchResult result (λ read. read ≡ scenario) (λ fault. fault ≡ ReadFault.OutOfMemory) }
 

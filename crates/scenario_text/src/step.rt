@@ -1,4 +1,4 @@
-//! Steps, as the words of a step line spell them: an actor and what it does. It is apart from tasks,
+//! Steps, as the words of a step line spell them: an actor and what it does. It is separate from tasks,
 //! with which it shares no more than siblings.
 
 ghost use Rattle.std.specs.Prelude.{◌≡◌};
@@ -75,7 +75,7 @@ fn next_event(words: &mut Words<'_>, actor: Actor) -> Option<Event>
     }
 }
 
-/// What stands behind the word `step`. `None` where that is no step of a core of so many siblings.
+/// What stands after the word `step`. `None` where that is no step of a core of so many siblings.
 #[tactic(auto, unfolding(crate::specs::Reading::step_at))]
 pub(crate) fn next_step(words: &mut Words<'_>, siblings: u8) -> Option<Step>
     ensures { Takes (λ step. step) result words.new (step_at siblings words.old) }

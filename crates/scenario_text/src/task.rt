@@ -1,5 +1,5 @@
 //! Tasks, as the words of a task line spell them. What a task may not be for the sake of others is
-//! apart, with the plan.
+//! elsewhere, with the plan.
 
 ghost use Rattle.std.specs.Prelude.{◌≡◌, ◌<◌};
 ghost use Rattle.scenario_text.specs.Reading.{Takes, cpu_of, policy_of, cpu_at, policy_at, creds_at, task_at};
@@ -69,7 +69,7 @@ fn next_creds(words: &mut Words<'_>) -> Option<Creds>
     })
 }
 
-/// What stands behind the word `task`. `None` where that is no task of a core of so many siblings.
+/// What stands after the word `task`. `None` where that is no task of a core of so many siblings.
 #[tactic(auto, unfolding(crate::specs::Reading::task_at))]
 pub(crate) fn next_task(words: &mut Words<'_>, siblings: u8) -> Option<TaskSpec>
     ensures { Takes (λ task. task) result words.new (task_at siblings words.old) }

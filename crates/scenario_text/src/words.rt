@@ -1,4 +1,4 @@
-//! The words of a line, taken one after the other. It is apart so that the forms of lines speak of
+//! The words of a line, taken one after the other. It is separate so that the forms of lines speak of
 //! words alone, and of no spaces.
 
 ghost use Rattle.std.specs.Prelude.{◌≡◌, IfSome};

@@ -1,13 +1,11 @@
-//! The line of an entry, given to a sink. The line is put together apart from the sink, so that only
+//! The line of an entry, given to a sink. The line is put together without the sink, so that only
 //! the sink can fail, and gets the line whole.
 
 ghost use Rattle.std.specs.Prelude.{◌≡◌, ◌≤◌, OnOk, OnErr};
-ghost use Rattle.cs_outside.specs.Device.{appended, Rose, WritesFront};
+ghost use Rattle.cs_outside.specs.Device.{appended, Rose, WritesPrefix};
 ghost use Rattle.scenario_text.specs.Text.{entry_text};
 
 mod line;
-#[cfg(test)]
-mod tests;
 
 use cs_outside::{Failed, Sink, write_all};
 use cs_types::Entry;
@@ -16,10 +14,10 @@ use line::Line;
 /// Writes the line of an entry to the sink, with its line feed, in one piece, and again with the rest
 /// where the sink took only a part. It takes no memory.
 ///
-/// At an `Err` the sink has failed, and a front of the line is written.
+/// At an `Err` the sink has failed, and a prefix of the line is written.
 pub fn entry_text<K: Sink>(entry: &Entry, sink: &mut K) -> Result<(), Failed>
     ensures ok { OnOk result (K.written sink.new ≡ appended (K.written sink.old) (entry_text entry.now)) }
-    ensures front { WritesFront (K.written sink.old) (entry_text entry.now) (K.written sink.new) }
+    ensures prefix { WritesPrefix (K.written sink.old) (entry_text entry.now) (K.written sink.new) }
 
     ensures failed { OnErr result (Rose (K.faults sink.old) (K.faults sink.new)) }
     ensures counted { K.faults sink.old ≤ K.faults sink.new }

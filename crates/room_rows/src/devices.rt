@@ -1,10 +1,11 @@
-//! What no clause says: that calls succeed, and which errors of the system are no fault.
+//! Sources and sinks: that they move bytes, where they fail, and which errors of the system are no
+//! fault.
 
 ghost use Rattle.std.specs.Prelude.{◌≤◌, IfOk};
 
-use crate::gathered::Gathered;
-use crate::retried::read_some;
-use crate::{MemSink, MemSource, Sink, Source, StdSink, StdSource, write_all};
+use cs_outside::{
+    MemSink, MemSource, Sink, Source, StdSink, StdSource, read_some, write_all, write_some,
+};
 use std::alloc::Global;
 use std::io;
 use std::io::{ErrorKind, Read, Write};
@@ -118,14 +119,15 @@ impl Read for Halting {
 
 #[test]
 fn interrupted_write_is_made_again(rt: HostRuntime) {
-    let mut gathered = Gathered::new();
-    gathered.put(b"abcd");
-    let mut first = Halting::with_room(rt.alloc(), 3);
-    assert!(rt; gathered.empty_to(&mut first).is_err());
-    assert_eq!(rt; first.moved.as_slice(), b"abc".as_slice());
-    let mut second = Halting::with_room(rt.alloc(), 3);
-    assert!(rt; gathered.empty_to(&mut second).is_ok());
-    assert_eq!(rt; second.moved.as_slice(), b"d".as_slice());
+    let mut device = Halting::with_room(rt.alloc(), 2);
+    for (piece, is_written) in [(b"ab".as_slice(), true), (b"b", true), (b"c", false)] {
+        assert_eq!(rt;
+            write_some(&mut device, piece).is_ok(),
+            is_written,
+            "at {piece:?}"
+        );
+    }
+    assert_eq!(rt; device.moved.as_slice(), b"ab".as_slice());
 }
 
 #[test]

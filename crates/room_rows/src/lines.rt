@@ -1,8 +1,8 @@
-//! Lines typed by hand, taken whole, up to a fault, and by parts.
+//! The lines of entries: whole, in one piece, and up to a fault.
 
-use super::entry_text;
 use cs_outside::MemSink;
 use cs_types::{Actor, Cookie, Entry, Event, Kind, Pick, Pid, Reply};
+use scenario_text::entry_text;
 use std::test::Fail;
 
 fn entry(actor: Actor, event: Event, reply: Reply) -> Entry {

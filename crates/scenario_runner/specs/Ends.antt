@@ -1,0 +1,50 @@
+-- Ends: how a command ends. When each status comes, what was read for it, and what was written.
+use Rattle.std.specs.Prelude.{◌≡◌, ◌≢◌, ◌⊎◌, ◌↔◌, ℕ, ◌<◌, ◌≤◌, List, length, Option, Some, IfSome, String}
+use Rattle.std.specs.declared.alloc.Global.{Global}
+use Rattle.cs_types.specs.declared.scenario.Scenario.{Scenario}
+use Rattle.cs_types.specs.Scenario.{IsBuilt}
+use Rattle.scenario_text.specs.declared.fault.BadKind.{BadKind}
+use Rattle.scenario_text.specs.Text.{scenario_text}
+use Rattle.scenario_runner.specs.declared.status.Status.{Status}
+use Rattle.scenario_runner.specs.declared.status.Status.TheVariants.{Done, BadWords, BadScenario, TooLong, ReadFault, WriteFault, OutOfMemory}
+use Rattle.scenario_runner.specs.Commands.{IsReplay}
+use Rattle.scenario_runner.specs.Input.{IsBad, input_limit, count_read}
+use Rattle.scenario_runner.specs.Replay.{Replays, BreaksOff}
+
+-- a device before and after a call: what it tells of its bytes, and the count of its faults
+pub record Used (D : Type 0) : Type 0 where
+  pub bytes : D → Option (List ℕ)
+  pub faults : D → ℕ
+  pub before : D
+  pub after : D
+
+-- the count of the device's faults rose in the call
+abbrev pub Failed : {D : Type 0} → Used D → Type 0
+Failed device = device.faults device.before < device.faults device.after
+
+-- How the command `replay` ends, over a source and a sink. Out of memory alone is free.
+pub record EndsAsReplay {S K : Type 0} (words : List (String Global)) (source : Used S) (sink : Used K) (status : Status) : Type 0 where
+  -- where it is done, what was read is the text of a scenario, and what was written is its history
+  pub done : status ≡ Done → (scenario : Scenario) ×
+      Replays scenario (source.bytes source.before) (source.bytes source.after) (sink.bytes sink.before) (sink.bytes sink.after)
+  -- exactly where the words are not its own, and then nothing was read
+  pub bad_words : (status ≡ BadWords) ↔ ¬ IsReplay words
+  pub unread : status ≡ BadWords → source.after ≡ source.before
+  -- only where the source failed
+  pub read_fault : status ≡ ReadFault → Failed source
+  -- exactly where more bytes were read than an input may have, which a source tells that tells its bytes
+  pub too_long : IfSome (source.bytes source.before) (λ _.
+      (status ≡ TooLong) ↔ (input_limit < count_read (source.bytes source.before) (source.bytes source.after)))
+  -- only where the input was read to its end and no scenario has that text
+  pub bad_scenario : (line : ℕ) (kind : BadKind) → status ≡ BadScenario line kind →
+      IsBad line kind (source.bytes source.before) (source.bytes source.after)
+  -- only where the sink failed, and then a prefix of the output was written
+  pub write_fault : status ≡ WriteFault → Failed sink × ((scenario : Scenario) ×
+      BreaksOff scenario (source.bytes source.before) (source.bytes source.after) (sink.bytes sink.before) (sink.bytes sink.after))
+  -- nothing was written but where it is done or the sink failed
+  pub unwritten : status ≢ Done → status ≢ WriteFault → sink.after ≡ sink.before
+  -- it gives up on no scenario that can be played, where nothing failed
+  pub complete : (scenario : Scenario) → IsReplay words → IsBuilt scenario →
+      source.bytes source.before ≡ Some (scenario_text scenario) → length (scenario_text scenario) ≤ input_limit →
+      source.faults source.after ≡ source.faults source.before → sink.faults sink.after ≡ sink.faults sink.before →
+      (status ≡ Done) ⊎ (status ≡ OutOfMemory)
