@@ -1,11 +1,12 @@
 //! The commands: the stored run, words and texts that are refused, the limit of the input on both
 //! sides, and a device that fails at each of its calls.
 
+ghost use Rattle.std.specs.Prelude.{◌≡◌, ◌-◌, ◌^◌, ◌<◌, ◌≤◌};
+
 use cs_outside::{MemSink, MemSource};
 use scenario_runner::{Status, replay, run};
 use scenario_text::BadKind;
-use std::alloc::{AllocError, Global};
-use std::test::Fail;
+use std::process::Abort;
 
 /// Two tasks of one priority, and a higher one that preempts the first.
 const INPUT: &str = "coresched 1
@@ -40,129 +41,184 @@ const UNBUILT: Status = Status::BadScenario {
 };
 
 /// The first lines of the output.
-fn first_lines(alloc: Global, count: usize) -> Result<Vec<u8>, AllocError> {
-    let mut text = Vec::new(alloc);
+fn first_lines<R: AllocGlobal + Abort>(rt: &R, count: usize) -> Vec<u8> {
+    let mut text = Vec::new(rt.alloc());
     for line in LINES.iter().take(count) {
-        text.extend_from_slice(line.as_bytes())?;
+        text.extend_from_slice(line.as_bytes()).expect(rt, "room");
     }
-    Ok(text)
+    text
 }
 
-fn words_of(alloc: Global, texts: &[&str]) -> Result<Vec<String>, AllocError> {
-    let mut words = Vec::new(alloc);
+fn words_of<R: AllocGlobal + Abort>(rt: &R, texts: &[&str]) -> Vec<String> {
+    let mut words = Vec::new(rt.alloc());
     for text in texts {
-        words.push(String::from_str(alloc, text)?)?;
+        let word = String::from_str(rt.alloc(), text).expect(rt, "room");
+        words.push(word).expect(rt, "room");
     }
-    Ok(words)
+    words
+}
+
+/// One call alone, as one that fails.
+fn only<R: AllocGlobal + Abort>(rt: &R, call: u64) -> Vec<u64> {
+    vec![in rt.alloc(); call].expect(rt, "room")
+}
+
+fn source_of<R: AllocGlobal + Abort>(rt: &R, text: &str, most: usize, fails: Vec<u64>) -> MemSource
+    requires { 0 < most }
+    ensures { result.faults ≡ 0 }
+{
+    let bytes = text.as_bytes().to_vec(rt.alloc()).expect(rt, "room");
+    MemSource::of(bytes, most, fails)
+}
+
+fn sink_of<R: AllocGlobal + Abort>(rt: &R, most: usize, fails: Vec<u64>) -> MemSink
+    requires { 0 < most }
+    ensures { result.faults ≡ 0 }
+{
+    MemSink::of(rt.alloc(), 4096, most, fails).expect(rt, "room")
+}
+
+/// Expects that `run` ends so over these devices, and has written these bytes.
+fn expect_run<R: AllocGlobal + Abort>(
+    rt: &R,
+    texts: &[&str],
+    source: &mut MemSource,
+    sink: &mut MemSink,
+    wanted: Status,
+    output: &[u8],
+)
+    requires source { source.old.faults ≡ 0 }
+    requires sink { sink.old.faults ≡ 0 }
+{
+    let status = run(rt, &words_of(rt, texts), source, sink);
+    assert_eq!(rt; status, wanted, "at {texts:?}");
+    assert!(rt; sink.bytes() == output, "at {texts:?}");
+}
+
+/// Expects that the stored run is written whole, in this many calls that take at most `most` bytes.
+fn expect_played<R: AllocGlobal + Abort>(rt: &R, most: usize, calls: usize)
+    requires { 0 < most }
+{
+    let mut source = source_of(rt, INPUT, 4096, Vec::new(rt.alloc()));
+    let mut sink = sink_of(rt, most, Vec::new(rt.alloc()));
+    let output = first_lines(rt, 7);
+    expect_run(
+        rt,
+        &["replay"],
+        &mut source,
+        &mut sink,
+        Status::Done,
+        &output,
+    );
+    assert!(rt; sink.calls() == calls as u64);
+}
+
+// Each line in one piece, and again with the rest where only a byte was taken.
+#[test]
+fn stored_scenario_is_played(rt: HostRuntime) {
+    expect_played(&rt, 4096, 7);
+    expect_played(&rt, 1, first_lines(&rt, 7).len());
+}
+
+/// Expects that `replay` ends so over the stored input, and has written this many lines. The source
+/// gives a byte at a time. It fails at the one call, and the sink at the other, where they come to it.
+fn expect_replay<R: AllocGlobal + Abort>(
+    rt: &R,
+    read: u64,
+    write: u64,
+    wanted: Status,
+    lines: usize,
+) {
+    let mut source = source_of(rt, INPUT, 1, only(rt, read));
+    let mut sink = sink_of(rt, 4096, only(rt, write));
+    let status = replay(
+        rt.alloc(),
+        &words_of(rt, &["replay"]),
+        &mut source,
+        &mut sink,
+    );
+    assert_eq!(rt; status, wanted, "at {read} and {write}");
+    assert!(rt;
+        sink.bytes() == first_lines(rt, lines).as_slice(),
+        "at {read} and {write}"
+    );
 }
 
 #[test]
-fn stored_scenario_is_played(rt: HostRuntime) -> Result<(), Fail> {
-    let alloc = rt.alloc();
-    let words = words_of(alloc, &["replay"])?;
-    for most in [1, 4096] {
-        let mut source = MemSource::of(INPUT.as_bytes().to_vec(alloc)?, 4096, Vec::new(alloc));
-        let mut sink = MemSink::of(alloc, 4096, most, Vec::new(alloc))?;
-        assert_eq!(rt; run(&rt, &words, &mut source, &mut sink), Status::Done);
-        let lines = first_lines(alloc, 7)?;
-        assert_eq!(rt; sink.bytes(), lines.as_slice(), "at {most}");
-        // Each line in one piece, and again with the rest where only a byte was taken.
-        let calls = if most == 1 { lines.len() } else { 7 };
-        assert_eq!(rt; sink.calls(), calls as u64, "at {most}");
-    }
-    Ok(())
-}
-
-#[test]
-fn source_that_fails_at_each_call(rt: HostRuntime) -> Result<(), Fail> {
-    let alloc = rt.alloc();
-    let words = words_of(alloc, &["replay"])?;
+fn source_that_fails_at_each_call(rt: HostRuntime) {
     let bytes = INPUT.len() as u64;
-    for call in 1..bytes + 3 {
-        let mut source = MemSource::of(INPUT.as_bytes().to_vec(alloc)?, 1, [call].to_vec(alloc)?);
-        let mut sink = MemSink::of(alloc, 4096, 4096, Vec::new(alloc))?;
-        let status = replay(alloc, &words, &mut source, &mut sink);
-        if call <= bytes + 1 {
-            assert_eq!(rt; status, Status::ReadFault, "at {call}");
-            assert!(rt; sink.bytes().is_empty(), "at {call}");
-        } else {
-            assert_eq!(rt; status, Status::Done);
-        }
+    for call in 1..bytes + 2 {
+        expect_replay(&rt, call, 0, Status::ReadFault, 0);
     }
-    Ok(())
+    expect_replay(&rt, bytes + 2, 0, Status::Done, 7);
 }
 
 #[test]
-fn sink_that_fails_at_each_call(rt: HostRuntime) -> Result<(), Fail> {
-    let alloc = rt.alloc();
-    let words = words_of(alloc, &["replay"])?;
-    for call in 1..9 {
-        let mut source = MemSource::of(INPUT.as_bytes().to_vec(alloc)?, 4096, Vec::new(alloc));
-        let mut sink = MemSink::of(alloc, 4096, 4096, [call].to_vec(alloc)?)?;
-        let status = replay(alloc, &words, &mut source, &mut sink);
-        let (wanted, lines) = if call <= 7 {
-            (Status::WriteFault, call as usize - 1)
-        } else {
-            (Status::Done, 7)
-        };
-        assert_eq!(rt; status, wanted, "at {call}");
-        assert_eq!(rt;
-            sink.bytes(),
-            first_lines(alloc, lines)?.as_slice(),
-            "at {call}"
-        );
+fn sink_that_fails_at_each_call(rt: HostRuntime) {
+    for call in 1..8 {
+        expect_replay(&rt, 0, call, Status::WriteFault, call as usize - 1);
     }
-    Ok(())
+    expect_replay(&rt, 0, 8, Status::Done, 7);
+}
+
+/// Expects that the words are no command's, and that nothing is read for them.
+fn expect_bad_words<R: AllocGlobal + Abort>(rt: &R, texts: &[&str]) {
+    let mut source = source_of(rt, INPUT, 4096, Vec::new(rt.alloc()));
+    let mut sink = sink_of(rt, 4096, Vec::new(rt.alloc()));
+    expect_run(rt, texts, &mut source, &mut sink, Status::BadWords, b"");
+    assert!(rt; source.calls() == 0, "at {texts:?}");
 }
 
 #[test]
-fn other_words_and_texts(rt: HostRuntime) -> Result<(), Fail> {
-    let alloc = rt.alloc();
-    let cases: [(&[&str], &str, Status); 8] = [
-        (&[], INPUT, Status::BadWords),
-        (&["run"], INPUT, Status::BadWords),
-        (&["Replay"], INPUT, Status::BadWords),
-        (&["replay", "x"], INPUT, Status::BadWords),
-        (&["--help"], INPUT, Status::BadWords),
-        (&["replay"], "", UNBUILT),
-        (
-            &["replay"],
-            "coresched 1\nsiblings 2\nlimits 8 8 65536\nend",
-            UNBUILT,
-        ),
-        (
-            &["replay"],
-            "coresched 1\nsiblings 2\nlimits 8 8 65536\nend\n",
-            Status::Done,
-        ),
-    ];
-    for (texts, input, wanted) in cases {
-        let words = words_of(alloc, texts)?;
-        let mut source = MemSource::of(input.as_bytes().to_vec(alloc)?, 4096, Vec::new(alloc));
-        let mut sink = MemSink::of(alloc, 4096, 4096, Vec::new(alloc))?;
-        assert_eq!(rt;
-            run(&rt, &words, &mut source, &mut sink),
-            wanted,
-            "at {texts:?}"
-        );
-        let lines = if wanted == Status::Done { "done\n" } else { "" };
-        assert_eq!(rt; sink.bytes(), lines.as_bytes(), "at {texts:?}");
-        assert!(rt;
-            wanted != Status::BadWords || source.calls() == 0,
-            "at {texts:?}"
-        );
-    }
-    Ok(())
+fn other_words(rt: HostRuntime) {
+    expect_bad_words(&rt, &[]);
+    expect_bad_words(&rt, &["run"]);
+    expect_bad_words(&rt, &["Replay"]);
+    expect_bad_words(&rt, &["replay", "x"]);
+    expect_bad_words(&rt, &["--help"]);
+}
+
+/// Expects that `replay` ends so over this text, and writes this output.
+fn expect_end<R: AllocGlobal + Abort>(rt: &R, text: &str, wanted: Status, output: &str) {
+    let mut source = source_of(rt, text, 4096, Vec::new(rt.alloc()));
+    let mut sink = sink_of(rt, 4096, Vec::new(rt.alloc()));
+    expect_run(
+        rt,
+        &["replay"],
+        &mut source,
+        &mut sink,
+        wanted,
+        output.as_bytes(),
+    );
 }
 
 #[test]
-fn input_that_is_too_long(rt: HostRuntime) -> Result<(), Fail> {
-    let alloc = rt.alloc();
-    let words = words_of(alloc, &["replay"])?;
-    for (bytes, wanted) in [(16_777_216, UNBUILT), (16_777_217, Status::TooLong)] {
-        let mut source = MemSource::of(vec![in alloc; b'x'; bytes]?, 65_536, Vec::new(alloc));
-        let mut sink = MemSink::of(alloc, 0, 1, Vec::new(alloc))?;
-        assert_eq!(rt; run(&rt, &words, &mut source, &mut sink), wanted);
-    }
-    Ok(())
+fn other_texts(rt: HostRuntime) {
+    expect_end(&rt, "", UNBUILT, "");
+    expect_end(
+        &rt,
+        "coresched 1\nsiblings 2\nlimits 8 8 65536\nend",
+        UNBUILT,
+        "",
+    );
+    expect_end(
+        &rt,
+        "coresched 1\nsiblings 2\nlimits 8 8 65536\nend\n",
+        Status::Done,
+        "done\n",
+    );
+}
+
+/// Expects that an input of this many bytes, which is no scenario, ends so.
+fn expect_long<R: AllocGlobal + Abort>(rt: &R, bytes: usize, wanted: Status) {
+    let input = vec![in rt.alloc(); b'x'; bytes].expect(rt, "room");
+    let mut source = MemSource::of(input, 65_536, Vec::new(rt.alloc()));
+    let mut sink = sink_of(rt, 1, Vec::new(rt.alloc()));
+    expect_run(rt, &["replay"], &mut source, &mut sink, wanted, b"");
+}
+
+#[test]
+fn input_that_is_too_long(rt: HostRuntime) {
+    expect_long(&rt, 16_777_216, UNBUILT);
+    expect_long(&rt, 16_777_217, Status::TooLong);
 }

@@ -10,56 +10,49 @@ use std::alloc::Global;
 use std::io;
 use std::io::{ErrorKind, Read, Write};
 use std::process::Abort;
-use std::test::Fail;
 
-#[test]
-fn source_fails_where_it_is_told(rt: HostRuntime) -> Result<(), Fail> {
-    let alloc = rt.alloc();
-    let mut source = MemSource::of(b"abcde".to_vec(alloc)?, 2, [2].to_vec(alloc)?);
-    let calls = [
-        Some(b"ab".as_slice()),
-        None,
-        Some(b"cd"),
-        Some(b"e"),
-        Some(b""),
-    ];
-    for wanted in calls {
-        expect_read(&rt, &mut source, wanted);
-    }
-    assert_eq!(rt; source.calls(), 5);
-    Ok(())
+/// The second call alone, as one that fails.
+fn second<R: AllocGlobal + Abort>(rt: &R) -> Vec<u64> {
+    vec![in rt.alloc(); 2].expect(rt, "room")
 }
 
-fn expect_read<S: Source>(rt: &impl Abort, source: &mut S, wanted: Option<&[u8]>) {
+/// Expects that the source gives these bytes next.
+fn expect_read(rt: &impl Abort, source: &mut MemSource, bytes: &[u8]) {
     let mut buf = [0; 3];
-    match (source.read(&mut buf), wanted) {
-        (Ok(count), Some(bytes)) => assert_eq!(rt; &buf[..count], bytes),
-        (Err(_), None) => {}
-        _ => assert!(rt; false, "another answer than {wanted:?}"),
-    }
+    let count = source.read(&mut buf).expect(rt, "bytes");
+    assert!(rt; &buf[..count] == bytes, "not {bytes:?}");
 }
 
 #[test]
-fn sink_fails_where_it_is_told(rt: HostRuntime) -> Result<(), Fail> {
-    let alloc = rt.alloc();
-    let mut sink = MemSink::of(alloc, 5, 2, [2].to_vec(alloc)?)?;
-    let pieces = [
-        (b"ab".as_slice(), true, b"ab".as_slice()),
-        (b"cd", false, b"ab"),
-        (b"cde", true, b"abcde"),
-        (b"f", false, b"abcde"),
-        (b"", true, b"abcde"),
-    ];
-    for (piece, is_written, bytes) in pieces {
-        assert_eq!(rt;
-            write_all(&mut sink, piece).is_ok(),
-            is_written,
-            "at {piece:?}"
-        );
-        assert_eq!(rt; sink.bytes(), bytes);
-    }
-    assert_eq!(rt; sink.calls(), 5);
-    Ok(())
+fn source_fails_where_it_is_told(rt: HostRuntime) {
+    let bytes = b"abcde".to_vec(rt.alloc()).expect(&rt, "room");
+    let mut source = MemSource::of(bytes, 2, second(&rt));
+    expect_read(&rt, &mut source, b"ab");
+    assert!(rt; source.read(&mut [0; 3]).is_err());
+    expect_read(&rt, &mut source, b"cd");
+    expect_read(&rt, &mut source, b"e");
+    expect_read(&rt, &mut source, b"");
+    assert!(rt; source.calls() == 5);
+}
+
+/// Expects that the piece is written as a whole or not, and that the sink then has these bytes.
+fn expect_write(rt: &impl Abort, sink: &mut MemSink, piece: &[u8], is_written: bool, bytes: &[u8]) {
+    assert!(rt;
+        write_all(sink, piece).is_ok() == is_written,
+        "at {piece:?}"
+    );
+    assert!(rt; sink.bytes() == bytes, "at {piece:?}");
+}
+
+#[test]
+fn sink_fails_where_it_is_told(rt: HostRuntime) {
+    let mut sink = MemSink::of(rt.alloc(), 5, 2, second(&rt)).expect(&rt, "room");
+    expect_write(&rt, &mut sink, b"ab", true, b"ab");
+    expect_write(&rt, &mut sink, b"cd", false, b"ab");
+    expect_write(&rt, &mut sink, b"cde", true, b"abcde");
+    expect_write(&rt, &mut sink, b"f", false, b"abcde");
+    expect_write(&rt, &mut sink, b"", true, b"abcde");
+    assert!(rt; sink.calls() == 5);
 }
 
 /// A device that moves a byte at a time, up to its room, and is interrupted before each.
@@ -120,23 +113,18 @@ impl Read for Halting {
 #[test]
 fn interrupted_write_is_made_again(rt: HostRuntime) {
     let mut device = Halting::with_room(rt.alloc(), 2);
-    for (piece, is_written) in [(b"ab".as_slice(), true), (b"b", true), (b"c", false)] {
-        assert_eq!(rt;
-            write_some(&mut device, piece).is_ok(),
-            is_written,
-            "at {piece:?}"
-        );
-    }
-    assert_eq!(rt; device.moved.as_slice(), b"ab".as_slice());
+    assert!(rt; write_some(&mut device, b"ab").is_ok());
+    assert!(rt; write_some(&mut device, b"b").is_ok());
+    assert!(rt; write_some(&mut device, b"c").is_err());
+    assert!(rt; device.moved.as_slice() == b"ab".as_slice());
 }
 
 #[test]
 fn interrupted_read_is_made_again(rt: HostRuntime) {
     let mut device = Halting::with_room(rt.alloc(), 1);
     let mut buf = [0; 2];
-    for wanted in [1, 0] {
-        assert!(rt; matches!(read_some(&mut device, &mut buf), Ok(count) if count == wanted));
-    }
+    assert!(rt; matches!(read_some(&mut device, &mut buf), Ok(1)));
+    assert!(rt; matches!(read_some(&mut device, &mut buf), Ok(0)));
 }
 
 #[test]

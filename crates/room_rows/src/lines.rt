@@ -3,12 +3,28 @@
 use cs_outside::MemSink;
 use cs_types::{Actor, Cookie, Entry, Event, Kind, Pick, Pid, Reply};
 use scenario_text::entry_text;
-use std::test::Fail;
+use std::process::Abort;
 
-fn entry(actor: Actor, event: Event, reply: Reply) -> Entry {
+fn wake(caller: u8, pid: Pid, reply: Reply) -> Entry {
     Entry {
-        actor,
-        event,
+        actor: Actor::Caller(caller),
+        event: Event::Wake(pid),
+        reply,
+    }
+}
+
+fn turn(sibling: u8, reply: Reply) -> Entry {
+    Entry {
+        actor: Actor::Sibling(sibling),
+        event: Event::Turn(sibling),
+        reply,
+    }
+}
+
+fn block(sibling: u8, reply: Reply) -> Entry {
+    Entry {
+        actor: Actor::Sibling(sibling),
+        event: Event::Block(sibling),
         reply,
     }
 }
@@ -26,82 +42,71 @@ fn slept(pid: Pid, pick: Pick) -> Reply {
     Reply::Slept { pid, pick }
 }
 
-#[test]
-fn writes_lines(rt: HostRuntime) -> Result<(), Fail> {
-    let table = [
-        (
-            entry(Actor::Caller(0), Event::Wake(1), Reply::Woken(0)),
-            "c0 wake 1: Woken 0\n",
-        ),
-        (
-            entry(
-                Actor::Sibling(0),
-                Event::Turn(0),
-                Reply::Picked(plain(1, 0, 0)),
-            ),
-            "s0 turn: Plain 1 core 0 forced 0\n",
-        ),
-        (
-            entry(
-                Actor::Sibling(1),
-                Event::Turn(1),
-                Reply::Picked(plain(0, 7, 2)),
-            ),
-            "s1 turn: Plain idle core 7 forced 2\n",
-        ),
-        (
-            entry(
-                Actor::Sibling(0),
-                Event::Turn(0),
-                Reply::Picked(plain(0, 0, 0)),
-            ),
-            "s0 turn: Plain idle core 0 forced 0\n",
-        ),
-        (
-            entry(Actor::Sibling(2), Event::Turn(2), Reply::Nothing),
-            "s2 turn: Nothing\n",
-        ),
-        (
-            entry(Actor::Sibling(0), Event::Block(0), slept(3, plain(1, 0, 0))),
-            "s0 block: Slept 3 Plain 1 core 0 forced 0\n",
-        ),
-        (
-            entry(Actor::Sibling(3), Event::Block(3), Reply::Idle),
-            "s3 block: Idle\n",
-        ),
-        (
-            entry(Actor::Caller(7), Event::Wake(42), Reply::Awake),
-            "c7 wake 42: Awake\n",
-        ),
-        (
-            entry(Actor::Caller(1), Event::Wake(999999), Reply::NoTask),
-            "c1 wake 999999: NoTask\n",
-        ),
-        (
-            entry(
-                Actor::Caller(255),
-                Event::Wake(4294967295),
-                slept(4294967295, plain(4294967295, 18446744073709551615, 255)),
-            ),
-            "c255 wake 4294967295: Slept 4294967295 Plain 4294967295 core 18446744073709551615 forced 255\n",
-        ),
-    ];
-    for (made, line) in table {
-        let mut sink = MemSink::of(rt.alloc(), 128, 128, Vec::new(rt.alloc()))?;
-        assert!(rt; entry_text(&made, &mut sink).is_ok(), "at {line}");
-        assert_eq!(rt; sink.bytes(), line.as_bytes(), "at {line}");
-        assert_eq!(rt; sink.calls(), 1, "at {line}");
-    }
-    Ok(())
+/// Expects this line of the entry, written in one piece.
+fn expect_line<R: AllocGlobal + Abort>(rt: &R, entry: &Entry, line: &str) {
+    let mut sink = MemSink::of(rt.alloc(), 128, 128, Vec::new(rt.alloc())).expect(rt, "room");
+    entry_text(entry, &mut sink).expect(rt, line);
+    assert!(rt; sink.bytes() == line.as_bytes(), "at {line}");
+    assert!(rt; sink.calls() == 1, "at {line}");
 }
 
 #[test]
-fn fails_where_the_sink_does(rt: HostRuntime) -> Result<(), Fail> {
-    let made = entry(Actor::Caller(0), Event::Wake(1), Reply::Woken(0));
-    let mut sink = MemSink::of(rt.alloc(), 128, 7, vec![in rt.alloc(); 2]?)?;
-    assert!(rt; entry_text(&made, &mut sink).is_err());
-    assert_eq!(rt; sink.bytes(), b"c0 wake".as_slice());
-    assert!(rt; entry_text(&made, &mut sink).is_ok());
-    assert_eq!(rt; sink.bytes(), b"c0 wakec0 wake 1: Woken 0\n".as_slice());
-    Ok(())
+fn lines_of_wakes(rt: HostRuntime) {
+    expect_line(&rt, &wake(0, 1, Reply::Woken(0)), "c0 wake 1: Woken 0\n");
+    expect_line(&rt, &wake(7, 42, Reply::Awake), "c7 wake 42: Awake\n");
+    expect_line(
+        &rt,
+        &wake(1, 999999, Reply::NoTask),
+        "c1 wake 999999: NoTask\n",
+    );
+    expect_line(
+        &rt,
+        &wake(
+            255,
+            4294967295,
+            slept(4294967295, plain(4294967295, 18446744073709551615, 255)),
+        ),
+        "c255 wake 4294967295: Slept 4294967295 Plain 4294967295 core 18446744073709551615 forced 255\n",
+    );
+}
+
+#[test]
+fn lines_of_turns(rt: HostRuntime) {
+    expect_line(
+        &rt,
+        &turn(0, Reply::Picked(plain(1, 0, 0))),
+        "s0 turn: Plain 1 core 0 forced 0\n",
+    );
+    expect_line(
+        &rt,
+        &turn(1, Reply::Picked(plain(0, 7, 2))),
+        "s1 turn: Plain idle core 7 forced 2\n",
+    );
+    expect_line(
+        &rt,
+        &turn(0, Reply::Picked(plain(0, 0, 0))),
+        "s0 turn: Plain idle core 0 forced 0\n",
+    );
+    expect_line(&rt, &turn(2, Reply::Nothing), "s2 turn: Nothing\n");
+}
+
+#[test]
+fn lines_of_blocks(rt: HostRuntime) {
+    expect_line(
+        &rt,
+        &block(0, slept(3, plain(1, 0, 0))),
+        "s0 block: Slept 3 Plain 1 core 0 forced 0\n",
+    );
+    expect_line(&rt, &block(3, Reply::Idle), "s3 block: Idle\n");
+}
+
+#[test]
+fn fails_where_the_sink_does(rt: HostRuntime) {
+    let fails = vec![in rt.alloc(); 2].expect(&rt, "room");
+    let mut sink = MemSink::of(rt.alloc(), 128, 7, fails).expect(&rt, "room");
+    let entry = wake(0, 1, Reply::Woken(0));
+    assert!(rt; entry_text(&entry, &mut sink).is_err());
+    assert!(rt; sink.bytes() == b"c0 wake".as_slice());
+    assert!(rt; entry_text(&entry, &mut sink).is_ok());
+    assert!(rt; sink.bytes() == b"c0 wakec0 wake 1: Woken 0\n".as_slice());
 }
