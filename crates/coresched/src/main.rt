@@ -25,11 +25,10 @@ fn words<R: Env + AllocGlobal>(rt: &R) -> Result<Vec<String>, Status> {
 fn execute(rt: &HostRuntime, words: &[String]) -> Status {
     let mut source = StdSource::over(rt.stdin());
     let mut sink = StdSink::over(rt.stdout());
-    let status = run(rt, words, &mut source, &mut sink);
-    if status == Status::Done && sink.flush().is_err() {
-        return Status::WriteFault;
+    match run(rt, words, &mut source, &mut sink) {
+        Status::Done if sink.flush().is_err() => Status::WriteFault,
+        status => status,
     }
-    status
 }
 
 /// The exit status of the program.
@@ -49,7 +48,7 @@ fn main(rt: HostRuntime) -> ExitCode {
         Ok(words) => execute(&rt, &words),
         Err(status) => status,
     };
-    if status != Status::Done {
+    if !matches!(status, Status::Done) {
         let _ = eprintln!(rt; "coresched: {status}");
     }
     ExitCode::from(exit_code(status))
