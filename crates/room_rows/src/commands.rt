@@ -6,6 +6,7 @@ ghost use Rattle.std.specs.Prelude.{◌≡◌, ◌-◌, ◌^◌, ◌<◌, ◌≤
 use cs_outside::{MemSink, MemSource};
 use scenario_runner::{Status, replay, run};
 use scenario_text::BadKind;
+use std::alloc::{AllocError, Global};
 use std::process::Abort;
 
 /// Two tasks of one priority, and a higher one that preempts the first.
@@ -35,27 +36,29 @@ const LINES: [&str; 7] = [
     "done\n",
 ];
 
+/// How many bytes the lines have.
+const OUTPUT_BYTES: u64 = 170;
+
 const UNBUILT: Status = Status::BadScenario {
     line: 0,
     kind: BadKind::Unbuilt,
 };
 
-/// The first lines of the output.
-fn first_lines<R: AllocGlobal + Abort>(rt: &R, count: usize) -> Vec<u8> {
-    let mut text = Vec::new(rt.alloc());
-    for line in LINES.iter().take(count) {
-        text.extend_from_slice(line.as_bytes()).expect(rt, "room");
+/// The text of these lines.
+fn joined(alloc: Global, lines: &[&str]) -> Result<Vec<u8>, AllocError> {
+    let mut text = Vec::new(alloc);
+    for line in lines {
+        text.extend_from_slice(line.as_bytes())?;
     }
-    text
+    Ok(text)
 }
 
-fn words_of<R: AllocGlobal + Abort>(rt: &R, texts: &[&str]) -> Vec<String> {
-    let mut words = Vec::new(rt.alloc());
+fn words_of(alloc: Global, texts: &[&str]) -> Result<Vec<String>, AllocError> {
+    let mut words = Vec::new(alloc);
     for text in texts {
-        let word = String::from_str(rt.alloc(), text).expect(rt, "room");
-        words.push(word).expect(rt, "room");
+        words.push(String::from_str(alloc, text)?)?;
     }
-    words
+    Ok(words)
 }
 
 /// One call alone, as one that fails.
@@ -63,11 +66,11 @@ fn only<R: AllocGlobal + Abort>(rt: &R, call: u64) -> Vec<u64> {
     vec![in rt.alloc(); call].expect(rt, "room")
 }
 
-fn source_of<R: AllocGlobal + Abort>(rt: &R, text: &str, most: usize, fails: Vec<u64>) -> MemSource
+fn source_of<R: AllocGlobal + Abort>(rt: &R, text: &[u8], most: usize, fails: Vec<u64>) -> MemSource
     requires { 0 < most }
     ensures { result.faults ≡ 0 }
 {
-    let bytes = text.as_bytes().to_vec(rt.alloc()).expect(rt, "room");
+    let bytes = text.to_vec(rt.alloc()).expect(rt, "room");
     MemSource::of(bytes, most, fails)
 }
 
@@ -76,6 +79,12 @@ fn sink_of<R: AllocGlobal + Abort>(rt: &R, most: usize, fails: Vec<u64>) -> MemS
     ensures { result.faults ≡ 0 }
 {
     MemSink::of(rt.alloc(), 4096, most, fails).expect(rt, "room")
+}
+
+/// Expects that a command ended so, and wrote these bytes.
+fn expect_end(rt: &impl Abort, status: Status, wanted: Status, sink: &MemSink, output: &[u8]) {
+    assert!(rt; status == wanted);
+    assert!(rt; sink.bytes() == output);
 }
 
 /// Expects that `run` ends so over these devices, and has written these bytes.
@@ -90,18 +99,18 @@ fn expect_run<R: AllocGlobal + Abort>(
     requires source { source.old.faults ≡ 0 }
     requires sink { sink.old.faults ≡ 0 }
 {
-    let status = run(rt, &words_of(rt, texts), source, sink);
-    assert_eq!(rt; status, wanted, "at {texts:?}");
-    assert!(rt; sink.bytes() == output, "at {texts:?}");
+    let words = words_of(rt.alloc(), texts).expect(rt, "room");
+    let status = run(rt, &words, source, sink);
+    expect_end(rt, status, wanted, sink, output);
 }
 
 /// Expects that the stored run is written whole, in this many calls that take at most `most` bytes.
-fn expect_played<R: AllocGlobal + Abort>(rt: &R, most: usize, calls: usize)
+fn expect_played<R: AllocGlobal + Abort>(rt: &R, most: usize, calls: u64)
     requires { 0 < most }
 {
-    let mut source = source_of(rt, INPUT, 4096, Vec::new(rt.alloc()));
+    let mut source = source_of(rt, INPUT.as_bytes(), 4096, Vec::new(rt.alloc()));
     let mut sink = sink_of(rt, most, Vec::new(rt.alloc()));
-    let output = first_lines(rt, 7);
+    let output = joined(rt.alloc(), &LINES).expect(rt, "room");
     expect_run(
         rt,
         &["replay"],
@@ -110,63 +119,62 @@ fn expect_played<R: AllocGlobal + Abort>(rt: &R, most: usize, calls: usize)
         Status::Done,
         &output,
     );
-    assert!(rt; sink.calls() == calls as u64);
+    assert!(rt; sink.calls() == calls);
 }
 
 // Each line in one piece, and again with the rest where only a byte was taken.
 #[test]
 fn stored_scenario_is_played(rt: HostRuntime) {
     expect_played(&rt, 4096, 7);
-    expect_played(&rt, 1, first_lines(&rt, 7).len());
+    expect_played(&rt, 1, OUTPUT_BYTES);
 }
 
-/// Expects that `replay` ends so over the stored input, and has written this many lines. The source
-/// gives a byte at a time. It fails at the one call, and the sink at the other, where they come to it.
+/// Expects that `replay` ends so over the stored input, and has written these lines. The source gives
+/// a byte at a time. It fails at the one call, and the sink at the other, where they come to it.
 fn expect_replay<R: AllocGlobal + Abort>(
     rt: &R,
     read: u64,
     write: u64,
     wanted: Status,
-    lines: usize,
+    lines: &[&str],
 ) {
-    let mut source = source_of(rt, INPUT, 1, only(rt, read));
+    let mut source = source_of(rt, INPUT.as_bytes(), 1, only(rt, read));
     let mut sink = sink_of(rt, 4096, only(rt, write));
-    let status = replay(
-        rt.alloc(),
-        &words_of(rt, &["replay"]),
-        &mut source,
-        &mut sink,
-    );
-    assert_eq!(rt; status, wanted, "at {read} and {write}");
-    assert!(rt;
-        sink.bytes() == first_lines(rt, lines).as_slice(),
-        "at {read} and {write}"
-    );
+    let words = words_of(rt.alloc(), &["replay"]).expect(rt, "room");
+    let status = replay(rt.alloc(), &words, &mut source, &mut sink);
+    let output = joined(rt.alloc(), lines).expect(rt, "room");
+    expect_end(rt, status, wanted, &sink, &output);
 }
 
 #[test]
 fn source_that_fails_at_each_call(rt: HostRuntime) {
     let bytes = INPUT.len() as u64;
     for call in 1..bytes + 2 {
-        expect_replay(&rt, call, 0, Status::ReadFault, 0);
+        expect_replay(&rt, call, 0, Status::ReadFault, &[]);
     }
-    expect_replay(&rt, bytes + 2, 0, Status::Done, 7);
+    expect_replay(&rt, bytes + 2, 0, Status::Done, &LINES);
 }
 
 #[test]
 fn sink_that_fails_at_each_call(rt: HostRuntime) {
     for call in 1..8 {
-        expect_replay(&rt, 0, call, Status::WriteFault, call as usize - 1);
+        expect_replay(
+            &rt,
+            0,
+            call,
+            Status::WriteFault,
+            &LINES[..call as usize - 1],
+        );
     }
-    expect_replay(&rt, 0, 8, Status::Done, 7);
+    expect_replay(&rt, 0, 8, Status::Done, &LINES);
 }
 
 /// Expects that the words are no command's, and that nothing is read for them.
 fn expect_bad_words<R: AllocGlobal + Abort>(rt: &R, texts: &[&str]) {
-    let mut source = source_of(rt, INPUT, 4096, Vec::new(rt.alloc()));
+    let mut source = source_of(rt, INPUT.as_bytes(), 4096, Vec::new(rt.alloc()));
     let mut sink = sink_of(rt, 4096, Vec::new(rt.alloc()));
     expect_run(rt, texts, &mut source, &mut sink, Status::BadWords, b"");
-    assert!(rt; source.calls() == 0, "at {texts:?}");
+    assert!(rt; source.calls() == 0);
 }
 
 #[test]
@@ -178,43 +186,34 @@ fn other_words(rt: HostRuntime) {
     expect_bad_words(&rt, &["--help"]);
 }
 
-/// Expects that `replay` ends so over this text, and writes this output.
-fn expect_end<R: AllocGlobal + Abort>(rt: &R, text: &str, wanted: Status, output: &str) {
-    let mut source = source_of(rt, text, 4096, Vec::new(rt.alloc()));
+/// Expects that the command ends so over this text, and writes this output.
+fn expect_text<R: AllocGlobal + Abort>(rt: &R, text: &[u8], wanted: Status, output: &[u8]) {
+    let mut source = source_of(rt, text, 65_536, Vec::new(rt.alloc()));
     let mut sink = sink_of(rt, 4096, Vec::new(rt.alloc()));
-    expect_run(
-        rt,
-        &["replay"],
-        &mut source,
-        &mut sink,
-        wanted,
-        output.as_bytes(),
-    );
+    expect_run(rt, &["replay"], &mut source, &mut sink, wanted, output);
 }
 
 #[test]
 fn other_texts(rt: HostRuntime) {
-    expect_end(&rt, "", UNBUILT, "");
-    expect_end(
+    expect_text(&rt, b"", UNBUILT, b"");
+    expect_text(
         &rt,
-        "coresched 1\nsiblings 2\nlimits 8 8 65536\nend",
+        b"coresched 1\nsiblings 2\nlimits 8 8 65536\nend",
         UNBUILT,
-        "",
+        b"",
     );
-    expect_end(
+    expect_text(
         &rt,
-        "coresched 1\nsiblings 2\nlimits 8 8 65536\nend\n",
+        b"coresched 1\nsiblings 2\nlimits 8 8 65536\nend\n",
         Status::Done,
-        "done\n",
+        b"done\n",
     );
 }
 
 /// Expects that an input of this many bytes, which is no scenario, ends so.
 fn expect_long<R: AllocGlobal + Abort>(rt: &R, bytes: usize, wanted: Status) {
-    let input = vec![in rt.alloc(); b'x'; bytes].expect(rt, "room");
-    let mut source = MemSource::of(input, 65_536, Vec::new(rt.alloc()));
-    let mut sink = sink_of(rt, 1, Vec::new(rt.alloc()));
-    expect_run(rt, &["replay"], &mut source, &mut sink, wanted, b"");
+    let text = vec![in rt.alloc(); b'x'; bytes].expect(rt, "room");
+    expect_text(rt, &text, wanted, b"");
 }
 
 #[test]

@@ -37,11 +37,11 @@ fn source_fails_where_it_is_told(rt: HostRuntime) {
 
 /// Expects that the piece is written as a whole or not, and that the sink then has these bytes.
 fn expect_write(rt: &impl Abort, sink: &mut MemSink, piece: &[u8], is_written: bool, bytes: &[u8]) {
+    let is_whole = write_all(sink, piece).is_ok();
     assert!(rt;
-        write_all(sink, piece).is_ok() == is_written,
+        is_whole == is_written && sink.bytes() == bytes,
         "at {piece:?}"
     );
-    assert!(rt; sink.bytes() == bytes, "at {piece:?}");
 }
 
 #[test]
@@ -123,8 +123,9 @@ fn interrupted_write_is_made_again(rt: HostRuntime) {
 fn interrupted_read_is_made_again(rt: HostRuntime) {
     let mut device = Halting::with_room(rt.alloc(), 1);
     let mut buf = [0; 2];
-    assert!(rt; matches!(read_some(&mut device, &mut buf), Ok(1)));
-    assert!(rt; matches!(read_some(&mut device, &mut buf), Ok(0)));
+    for wanted in [1, 0] {
+        assert!(rt; matches!(read_some(&mut device, &mut buf), Ok(count) if count == wanted));
+    }
 }
 
 #[test]

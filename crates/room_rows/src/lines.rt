@@ -46,8 +46,8 @@ fn slept(pid: Pid, pick: Pick) -> Reply {
 fn expect_line<R: AllocGlobal + Abort>(rt: &R, entry: &Entry, line: &str) {
     let mut sink = MemSink::of(rt.alloc(), 128, 128, Vec::new(rt.alloc())).expect(rt, "room");
     entry_text(entry, &mut sink).expect(rt, line);
-    assert!(rt; sink.bytes() == line.as_bytes(), "at {line}");
-    assert!(rt; sink.calls() == 1, "at {line}");
+    assert!(rt; sink.bytes() == line.as_bytes());
+    assert!(rt; sink.calls() == 1);
 }
 
 #[test]

@@ -38,6 +38,103 @@ macro_rules! after_head {
     };
 }
 
+/// For each rule a text that breaks it alone.
+const REFUSED: [(&str, &str); 34] = [
+    ("some line", ""),
+    (
+        "the version",
+        "coresched 2\nsiblings 2\nlimits 8 8 65536\nend\n",
+    ),
+    (
+        "the siblings",
+        "coresched 1\nsiblings 3\nlimits 8 8 65536\nend\n",
+    ),
+    (
+        "the least limit",
+        "coresched 1\nsiblings 2\nlimits 0 8 65536\nend\n",
+    ),
+    (
+        "the greatest limit",
+        "coresched 1\nsiblings 2\nlimits 8 257 65536\nend\n",
+    ),
+    (
+        "the least top",
+        "coresched 1\nsiblings 2\nlimits 8 8 8191\nend\n",
+    ),
+    (
+        "the greatest top",
+        "coresched 1\nsiblings 2\nlimits 8 8 9223372036854775808\nend\n",
+    ),
+    ("a last line feed", after_head!("end")),
+    ("an end", after_head!("")),
+    ("nothing after the end", after_head!("end\nstep s0 turn\n")),
+    ("one space", after_head!("step  s0 turn\nend\n")),
+    ("no space at the end", after_head!("step s0 turn \nend\n")),
+    ("no blank line", after_head!("\nend\n")),
+    ("a known word", after_head!("pause\nend\n")),
+    ("no word more", after_head!("step s0 turn 1\nend\n")),
+    ("no leading 0", after_head!("step c0 wake 01\nend\n")),
+    ("no sign", after_head!("step c0 wake +1\nend\n")),
+    (
+        "the greatest pid of a step",
+        after_head!("step c0 wake 1000000\nend\n"),
+    ),
+    ("the callers", after_head!("step c8 wake 1\nend\n")),
+    ("a sibling's own event", after_head!("step c0 turn\nend\n")),
+    ("a caller's event", after_head!("step s0 wake 1\nend\n")),
+    ("an actor's sibling", after_head!("step s2 turn\nend\n")),
+    (
+        "the greatest pid of a task",
+        after_head!("task 10000 1 1 0 fifo:10 0 0 0 0 0 0 0 1 1\nend\n"),
+    ),
+    (
+        "a task's sibling",
+        after_head!("task 2 2 2 2 fifo:10 0 0 0 0 0 0 0 1 1\nend\n"),
+    ),
+    (
+        "the policy",
+        after_head!("task 2 2 2 0 rr:10 0 0 0 0 0 0 0 1 1\nend\n"),
+    ),
+    (
+        "the greatest priority",
+        after_head!("task 2 2 2 0 fifo:100 0 0 0 0 0 0 0 1 1\nend\n"),
+    ),
+    (
+        "the greatest id",
+        after_head!("task 2 2 2 0 fifo:10 0 0 0 0 0 65536 0 1 1\nend\n"),
+    ),
+    (
+        "a flag",
+        after_head!("task 2 2 2 0 fifo:10 0 0 0 0 0 0 0 1 2\nend\n"),
+    ),
+    (
+        "distinct pids",
+        after_head!("task 1 1 1 0 fifo:10 0 0 0 0 0 0 0 1 1\nend\n"),
+    ),
+    (
+        "an earlier leader",
+        after_head!("task 2 3 3 0 fifo:10 0 0 0 0 0 0 0 1 1\nend\n"),
+    ),
+    (
+        "the leader's process group",
+        after_head!("task 2 1 2 0 fifo:10 0 0 0 0 0 0 0 1 1\nend\n"),
+    ),
+    (
+        "a leader of its own group",
+        after_head!(
+            "task 2 1 1 0 fifo:10 0 0 0 0 0 0 0 1 1\ntask 3 2 1 0 fifo:10 0 0 0 0 0 0 0 1 1\nend\n"
+        ),
+    ),
+    (
+        "the limit of tasks",
+        "coresched 1\nsiblings 2\nlimits 1 8 65536\ntask 1 1 1 0 fifo:10 0 0 0 0 0 0 0 1 1\ntask 2 2 2 0 fifo:10 0 0 0 0 0 0 0 1 1\nend\n",
+    ),
+    (
+        "tasks before steps",
+        after_head!("step s0 turn\ntask 2 2 2 0 fifo:10 0 0 0 0 0 0 0 1 1\nend\n"),
+    ),
+];
+
 fn is_refused(alloc: Global, text: &[u8]) -> bool {
     matches!(
         read(alloc, text),
@@ -48,161 +145,11 @@ fn is_refused(alloc: Global, text: &[u8]) -> bool {
     )
 }
 
-/// Expects that the text, which breaks this rule alone, is refused.
-fn expect_refused<R: AllocGlobal + Abort>(rt: &R, rule: &str, text: &str) {
-    assert!(rt; is_refused(rt.alloc(), text.as_bytes()), "{rule}");
-}
-
 #[test]
-fn refuses_other_heads(rt: HostRuntime) {
-    expect_refused(&rt, "some line", "");
-    expect_refused(
-        &rt,
-        "the version",
-        "coresched 2\nsiblings 2\nlimits 8 8 65536\nend\n",
-    );
-    expect_refused(
-        &rt,
-        "the siblings",
-        "coresched 1\nsiblings 3\nlimits 8 8 65536\nend\n",
-    );
-    expect_refused(
-        &rt,
-        "the least limit",
-        "coresched 1\nsiblings 2\nlimits 0 8 65536\nend\n",
-    );
-    expect_refused(
-        &rt,
-        "the greatest limit",
-        "coresched 1\nsiblings 2\nlimits 8 257 65536\nend\n",
-    );
-    expect_refused(
-        &rt,
-        "the least top",
-        "coresched 1\nsiblings 2\nlimits 8 8 8191\nend\n",
-    );
-    expect_refused(
-        &rt,
-        "the greatest top",
-        "coresched 1\nsiblings 2\nlimits 8 8 9223372036854775808\nend\n",
-    );
-}
-
-#[test]
-fn refuses_other_ends_and_spaces(rt: HostRuntime) {
-    expect_refused(&rt, "a last line feed", after_head!("end"));
-    expect_refused(&rt, "an end", after_head!(""));
-    expect_refused(
-        &rt,
-        "nothing after the end",
-        after_head!("end\nstep s0 turn\n"),
-    );
-    expect_refused(&rt, "one space", after_head!("step  s0 turn\nend\n"));
-    expect_refused(
-        &rt,
-        "no space at the end",
-        after_head!("step s0 turn \nend\n"),
-    );
-    expect_refused(&rt, "no blank line", after_head!("\nend\n"));
-}
-
-#[test]
-fn refuses_other_steps(rt: HostRuntime) {
-    expect_refused(&rt, "a known word", after_head!("pause\nend\n"));
-    expect_refused(&rt, "no word more", after_head!("step s0 turn 1\nend\n"));
-    expect_refused(&rt, "no leading 0", after_head!("step c0 wake 01\nend\n"));
-    expect_refused(&rt, "no sign", after_head!("step c0 wake +1\nend\n"));
-    expect_refused(
-        &rt,
-        "the greatest pid of a step",
-        after_head!("step c0 wake 1000000\nend\n"),
-    );
-    expect_refused(&rt, "the callers", after_head!("step c8 wake 1\nend\n"));
-    expect_refused(
-        &rt,
-        "a sibling's own event",
-        after_head!("step c0 turn\nend\n"),
-    );
-    expect_refused(
-        &rt,
-        "a caller's event",
-        after_head!("step s0 wake 1\nend\n"),
-    );
-    expect_refused(
-        &rt,
-        "an actor's sibling",
-        after_head!("step s2 turn\nend\n"),
-    );
-}
-
-#[test]
-fn refuses_other_tasks(rt: HostRuntime) {
-    expect_refused(
-        &rt,
-        "the greatest pid of a task",
-        after_head!("task 10000 1 1 0 fifo:10 0 0 0 0 0 0 0 1 1\nend\n"),
-    );
-    expect_refused(
-        &rt,
-        "a task's sibling",
-        after_head!("task 2 2 2 2 fifo:10 0 0 0 0 0 0 0 1 1\nend\n"),
-    );
-    expect_refused(
-        &rt,
-        "the policy",
-        after_head!("task 2 2 2 0 rr:10 0 0 0 0 0 0 0 1 1\nend\n"),
-    );
-    expect_refused(
-        &rt,
-        "the greatest priority",
-        after_head!("task 2 2 2 0 fifo:100 0 0 0 0 0 0 0 1 1\nend\n"),
-    );
-    expect_refused(
-        &rt,
-        "the greatest id",
-        after_head!("task 2 2 2 0 fifo:10 0 0 0 0 0 65536 0 1 1\nend\n"),
-    );
-    expect_refused(
-        &rt,
-        "a flag",
-        after_head!("task 2 2 2 0 fifo:10 0 0 0 0 0 0 0 1 2\nend\n"),
-    );
-}
-
-#[test]
-fn refuses_tasks_that_do_not_fit(rt: HostRuntime) {
-    expect_refused(
-        &rt,
-        "distinct pids",
-        after_head!("task 1 1 1 0 fifo:10 0 0 0 0 0 0 0 1 1\nend\n"),
-    );
-    expect_refused(
-        &rt,
-        "an earlier leader",
-        after_head!("task 2 3 3 0 fifo:10 0 0 0 0 0 0 0 1 1\nend\n"),
-    );
-    expect_refused(
-        &rt,
-        "the leader's process group",
-        after_head!("task 2 1 2 0 fifo:10 0 0 0 0 0 0 0 1 1\nend\n"),
-    );
-    expect_refused(
-        &rt,
-        "a leader of its own group",
-        after_head!(
-            "task 2 1 1 0 fifo:10 0 0 0 0 0 0 0 1 1\ntask 3 2 1 0 fifo:10 0 0 0 0 0 0 0 1 1\nend\n"
-        ),
-    );
-    expect_refused(
-        &rt,
-        "the limit of tasks",
-        "coresched 1\nsiblings 2\nlimits 1 8 65536\ntask 1 1 1 0 fifo:10 0 0 0 0 0 0 0 1 1\ntask 2 2 2 0 fifo:10 0 0 0 0 0 0 0 1 1\nend\n",
-    );
-    expect_refused(
-        &rt,
-        "tasks before steps",
-        after_head!("step s0 turn\ntask 2 2 2 0 fifo:10 0 0 0 0 0 0 0 1 1\nend\n"),
-    );
+fn refuses_other_texts(rt: HostRuntime) {
+    for (rule, text) in &REFUSED {
+        assert!(rt; is_refused(rt.alloc(), text.as_bytes()), "{rule}");
+    }
 }
 
 /// A text of a head, one task and this many steps.
