@@ -1,7 +1,7 @@
 //! The commands: the stored run, words and texts that are refused, the limit of the input on both
 //! sides, and a device that fails at each of its calls.
 
-ghost use Rattle.std.specs.Prelude.{◌≡◌, ◌-◌, ◌^◌, ◌<◌, ◌≤◌};
+ghost use Rattle.std.specs.Prelude.{◌≡◌, ◌<◌};
 
 use cs_outside::{MemSink, MemSource};
 use scenario_runner::{Status, replay, run};
