@@ -10,14 +10,14 @@ returns-in-Ok-write_history g c =
     let scenario = c.in-Ok.room.scenario in
     record {
       done = λ _. (
-          scenario,
-          record {
-            reads = c.in-Ok.ensures.reads;
-            played = record { legal = IsLegal-history_of scenario scenario.steps; scripts = events_by-file scenario };
-            writes = c.in-Ok-write_history.ensures.ok
-                ∙ ap (λ (history : History). appended (g.K.Sink.written c.args.sink.now) (history_text history)) c.in-Ok.ensures.played;
-          },
-        );
+        scenario,
+        record {
+          reads = c.in-Ok.ensures.reads;
+          played = record { legal = IsLegal-history_of scenario scenario.steps; scripts = events_by-file scenario };
+          writes = c.in-Ok-write_history.ensures.ok
+              ∙ ap (λ (history : History). appended (g.K.Sink.written c.args.sink.now) (history_text history)) c.in-Ok.ensures.played;
+        },
+      );
       bad_words = search rules;
       unread = search rules;
       read_fault = search rules;
