@@ -1,4 +1,4 @@
--- Histories: the fold of one, which of them are legal, and the one that steps make.
+-- Histories: the room and the ledger after one, which of them are legal, and the one that steps make.
 use Rattle.std.specs.Prelude.{◌≡◌, List, [], ◌∷◌, ◌++◌, map, filter}
 use Rattle.cs_types.specs.declared.event.Actor.{Actor}
 use Rattle.cs_types.specs.declared.event.Event.{Event}
@@ -8,24 +8,49 @@ use Rattle.cs_types.specs.declared.reply.Entry.{Entry}
 use Rattle.cs_types.specs.declared.scenario.Scenario.{Scenario}
 use Rattle.cs_types.specs.Scenario.{is_actor}
 use Rattle.cs_types.specs.Room.{RoomState, start}
-use Rattle.cs_types.specs.Step.{step}
+use Rattle.cs_types.specs.Step.{Stepped, step}
+use Rattle.cs_types.specs.Touches.{Ledger, noted, is_fresh}
 
 -- a history is a list of entries, the oldest first
 abbrev pub History : Type 0
 History = List Entry
 
--- the room after the steps of these entries, from a room with this past
-abbrev pub after : RoomState → History → List Entry → RoomState
-after room past [] = room
-after room past (entry ∷ entries) = after (step room past entry.event).room (past ++ entry ∷ []) entries
+-- a room, with the ledger of the entries that led to it
+pub record Moment : Type 0 where
+  pub room : RoomState
+  pub ledger : Ledger
+
+-- the start of a scenario, before its first entry
+abbrev pub beginning : Scenario → Moment
+beginning scenario = record { room = start scenario; ledger = [] }
+
+-- the step of an event from a moment
+abbrev pub step_at : Moment → Event → Stepped
+step_at moment event = step moment.room (is_fresh moment.ledger) event
+
+-- the moment after the step of an entry
+abbrev pub next : Moment → Entry → Moment
+next moment entry =
+    record { room = (step_at moment entry.event).room; ledger = noted moment.room entry ∷ moment.ledger }
+
+-- the moment after the steps of these entries
+abbrev pub after : Moment → List Entry → Moment
+after moment [] = moment
+after moment (entry ∷ entries) = after (next moment entry) entries
 
 -- the start of the scenario, after the steps of the history's events in order
+abbrev pub moment_of : Scenario → History → Moment
+moment_of scenario history = after (beginning scenario) history
+
 abbrev pub fold_of : Scenario → History → RoomState
-fold_of scenario history = after (start scenario) [] history
+fold_of scenario history = (moment_of scenario history).room
+
+abbrev pub ledger_of : Scenario → History → Ledger
+ledger_of scenario history = (moment_of scenario history).ledger
 
 -- the reply that the rules give to an event after a history
 abbrev pub reply_to : Scenario → History → Event → Reply
-reply_to scenario past event = (step (fold_of scenario past) past event).reply
+reply_to scenario past event = (step_at (moment_of scenario past) event).reply
 
 -- each reply is the one that the rules give at its place
 abbrev pub IsLegal : Scenario → History → Type 0
@@ -39,20 +64,19 @@ events_by actor history = map (λ entry. entry.event) (filter (λ entry. is_acto
 
 -- ---- the one legal history of a list of steps
 
--- the entry of a step, made in a room with this past
-abbrev pub entry_of : RoomState → History → Step → Entry
-entry_of room past made =
-    record { actor = made.actor; event = made.event; reply = (step room past made.event).reply }
+-- the entry of a step, made at a moment
+abbrev pub entry_of : Moment → Step → Entry
+entry_of moment made =
+    record { actor = made.actor; event = made.event; reply = (step_at moment made.event).reply }
 
--- the entries of these steps, made from a room with this past
-abbrev pub made_from : RoomState → History → List Step → List Entry
-made_from room past [] = []
-made_from room past (made ∷ steps) =
-    entry_of room past made ∷ made_from (step room past made.event).room (past ++ entry_of room past made ∷ []) steps
+-- the entries of these steps, made from a moment on
+abbrev pub made_from : Moment → List Step → List Entry
+made_from moment [] = []
+made_from moment (made ∷ steps) = entry_of moment made ∷ made_from (next moment (entry_of moment made)) steps
 
 -- the legal history of these steps
 abbrev pub history_of : Scenario → List Step → History
-history_of scenario steps = made_from (start scenario) [] steps
+history_of scenario steps = made_from (beginning scenario) steps
 
 -- the history of all step lines in the file's order
 abbrev pub file : Scenario → History

@@ -2,5 +2,10 @@ pub mod Scenario
 pub mod Room
 pub mod Order
 pub mod Selection
+pub mod Access
+pub mod Prctl
+pub mod Touches
 pub mod Step
 pub mod History
+pub mod View
+pub mod Laws

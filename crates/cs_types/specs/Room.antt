@@ -1,24 +1,38 @@
--- The room: the state of the core and its tasks, and how it starts.
-use Rattle.std.specs.Prelude.{ℕ, Bool, false, ◌==◌, ◌&&◌, ◌||◌, if◌then◌else◌, List, map, filter, find, replicate, slice_index_or, slice_set, Option, None}
+-- The room: the state of the core and its tasks, and how it starts. Beside each part stands the kernel's field.
+use Rattle.std.specs.Prelude.{ℕ, Bool, true, false, ◌==◌, ◌&&◌, ◌||◌, nat_le, nat_lt, if◌then◌else◌, List, ◌++◌, length, map, filter, find, replicate, slice_index_or, slice_set, Option, None}
+use Rattle.std.specs.List.{range_with_len}
 use Rattle.std.specs.Option.{option_and_then}
 use Rattle.cs_types.specs.declared.task.TaskSpec.{TaskSpec}
 use Rattle.cs_types.specs.declared.scenario.Scenario.{Scenario}
 
--- a living task: its scenario line, the sibling on which it queues, whether it is queued or asleep, and
--- the stamp of its last enqueue
+-- a living task: its scenario line, its cookie (`core_cookie`), the sibling on which it queues, whether it is
+-- queued or asleep (`on_rq`), the stamp of its last enqueue, and the occupation that it remembers
+-- (`core_occupation`)
 pub record TaskState : Type 0 where
   pub spec : TaskSpec
+  pub cookie : ℕ
   pub home : ℕ
   pub queued : Bool
   pub stamp : ℕ
+  pub occupation : ℕ
 
--- a sibling: the pid of its running task, none where it runs idle, and whether it has a pending reschedule
--- (the running task stays queued)
+-- What waits for a sibling is none, idle or a task.
+abbrev pub Waiting : Type 0
+Waiting = Option (Option ℕ)
+
+-- a sibling: whether it is online, the pid of its running task, none where it runs idle (`rq->curr`), whether it
+-- has a pending reschedule (`TIF_NEED_RESCHED`), its waiting pick (`core_pick`), and the occupation that its idle
+-- remembers (the running task stays queued)
 pub record SiblingState : Type 0 where
+  pub online : Bool
   pub run : Option ℕ
   pub pending : Bool
+  pub waiting : Waiting
+  pub occupation : ℕ
 
--- the core, with the limits of its scenario, which no step changes
+-- the core, with the limits of its scenario, which no step changes: the next stamp and the next cookie, the core
+-- cookie (`core_cookie` of `rq->core`), how many siblings are forced idle (`core_forceidle_count`), and for how many
+-- a task was chosen (`core_forceidle_occupation`)
 pub record RoomState : Type 0 where
   pub task_limit : ℕ
   pub cookie_limit : ℕ
@@ -26,18 +40,22 @@ pub record RoomState : Type 0 where
   pub tasks : List TaskState
   pub siblings : List SiblingState
   pub next_stamp : ℕ
+  pub next_cookie : ℕ
+  pub core_cookie : ℕ
+  pub forced : ℕ
+  pub occupation : ℕ
 
 -- ---- the start
 
--- a task of the scenario before its first wake: asleep, at home on the sibling of its line
+-- a task of the scenario before its first wake: asleep, with no cookie, at home on the sibling of its line
 abbrev pub asleep : TaskSpec → TaskState
-asleep spec = record { spec = spec; home = spec.cpu; queued = false; stamp = 0 }
+asleep spec = record { spec = spec; cookie = 0; home = spec.cpu; queued = false; stamp = 0; occupation = 0 }
 
--- a sibling that runs idle and is not pending
+-- a sibling that is online, runs idle and is not pending
 abbrev pub idle : SiblingState
-idle = record { run = None; pending = false }
+idle = record { online = true; run = None; pending = false; waiting = None; occupation = 0 }
 
--- all tasks asleep, all siblings idle, all numbers 0
+-- all tasks asleep, all siblings idle, all numbers 0, and 1 the first cookie
 abbrev pub start : Scenario → RoomState
 start scenario =
     record {
@@ -47,6 +65,10 @@ start scenario =
       tasks = map asleep scenario.tasks;
       siblings = replicate scenario.siblings idle;
       next_stamp = 0;
+      next_cookie = 1;
+      core_cookie = 0;
+      forced = 0;
+      occupation = 0;
     }
 
 -- ---- parts of a room
@@ -70,6 +92,17 @@ sibling_of room cpu = slice_index_or room.siblings cpu idle
 -- the task that a sibling runs, none where it runs idle
 abbrev pub running_on : RoomState → ℕ → Option TaskState
 running_on room cpu = option_and_then (task_of room) (sibling_of room cpu).run
+
+-- the numbers of the siblings, and of those that are online
+abbrev pub cpus : RoomState → List ℕ
+cpus room = range_with_len 0 (length room.siblings)
+
+abbrev pub online : RoomState → List ℕ
+online room = filter (λ cpu. (sibling_of room cpu).online) (cpus room)
+
+-- the online siblings in the order that begins at one, rises, and then goes from 0 up to it
+abbrev pub online_from : RoomState → ℕ → List ℕ
+online_from room cpu = filter (nat_le cpu) (online room) ++ filter (λ other. nat_lt other cpu) (online room)
 
 -- ---- changes of a room
 

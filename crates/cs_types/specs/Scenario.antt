@@ -1,13 +1,14 @@
 -- Scenarios: the limits that each of them keeps, and the script of each actor.
-use Rattle.std.specs.Prelude.{◌≡◌, ◌≢◌, ◌⊎◌, ℕ, ◌<◌, ◌≤◌, Bool, false, ◌==◌, List, length, map, filter, take, All, Any, AllPairs, slice_index_or}
+use Rattle.std.specs.Prelude.{◌≡◌, ◌≢◌, ◌⊎◌, ℕ, ◌<◌, ◌≤◌, pos, ◌≤ℤ◌, Bool, false, ◌==◌, List, length, map, filter, take, All, Any, AllPairs, slice_index_or}
 use Rattle.cs_types.specs.declared.task.Policy.{Policy}
 use Rattle.cs_types.specs.declared.task.Policy.TheVariants.{Fifo}
 use Rattle.cs_types.specs.declared.task.Creds.{Creds}
 use Rattle.cs_types.specs.declared.task.TaskSpec.{TaskSpec}
 use Rattle.cs_types.specs.declared.event.Actor.{Actor}
 use Rattle.cs_types.specs.declared.event.Actor.TheVariants.{Sibling, Caller}
+use Rattle.cs_types.specs.declared.event.Ask.{Ask}
 use Rattle.cs_types.specs.declared.event.Event.{Event}
-use Rattle.cs_types.specs.declared.event.Event.TheVariants.{Turn, Block, Wake}
+use Rattle.cs_types.specs.declared.event.Event.TheVariants.{Turn, Resched, Block, Wake, Prctl}
 use Rattle.cs_types.specs.declared.event.Step.{Step}
 use Rattle.cs_types.specs.declared.scenario.Scenario.{Scenario}
 
@@ -54,19 +55,32 @@ IsLed earlier task =
 abbrev pub AreLed : List TaskSpec → Type 0
 AreLed tasks = (k : ℕ) (d : TaskSpec) → k < length tasks → IsLed (take k tasks) (slice_index_or tasks k d)
 
+-- the calls of prctl that are built: `PR_SCHED_CORE_CREATE` for the caller, and `PR_SCHED_CORE_SHARE_TO` for a
+-- task, each for the target alone and with no address
+pub record IsAsk (ask : Ask) : Type 0 where
+  pub cmd : ((ask.cmd ≡ 1) × (ask.pid ≡ pos 0)) ⊎ ((ask.cmd ≡ 2) × (pos 1 ≤ℤ ask.pid))
+  pub scope : ask.scope ≡ 0
+  pub addr : ask.addr ≡ 0
+
 -- the numbers of an event: a sibling of the core, a pid from 1 to 999999
 abbrev pub IsEvent : ℕ → Event → Type 0
 IsEvent siblings (Turn cpu) = cpu < siblings
+IsEvent siblings (Resched cpu) = cpu < siblings
 IsEvent siblings (Block cpu) = cpu < siblings
 IsEvent siblings (Wake pid) = IsWithin 1 999999 pid
+IsEvent siblings (Prctl caller ask) = IsWithin 1 999999 caller × IsAsk ask
 
 -- A sibling makes its own events, on itself; a caller, 0 to 7, makes the others.
 abbrev pub IsMadeBy : Actor → Event → Type 0
 IsMadeBy (Sibling i) (Turn cpu) = cpu ≡ i
+IsMadeBy (Sibling i) (Resched cpu) = cpu ≡ i
 IsMadeBy (Sibling i) (Block cpu) = cpu ≡ i
 IsMadeBy (Caller j) (Wake pid) = j < 8
+IsMadeBy (Caller j) (Prctl caller ask) = j < 8
 IsMadeBy (Sibling i) (Wake pid) = ⊥
+IsMadeBy (Sibling i) (Prctl caller ask) = ⊥
 IsMadeBy (Caller j) (Turn cpu) = ⊥
+IsMadeBy (Caller j) (Resched cpu) = ⊥
 IsMadeBy (Caller j) (Block cpu) = ⊥
 
 -- a step line, in a core of so many siblings
@@ -74,9 +88,9 @@ pub record IsStep (siblings : ℕ) (step : Step) : Type 0 where
   pub event : IsEvent siblings step.event
   pub actor : IsMadeBy step.actor step.event
 
--- what a scenario keeps that can be written and played
-pub record IsBuilt (scenario : Scenario) : Type 0 where
-  pub siblings : scenario.siblings ≡ 2
+-- what a scenario keeps, whose core has at most so many siblings
+pub record KeepsLimits (most : ℕ) (scenario : Scenario) : Type 0 where
+  pub siblings : IsWithin 1 most scenario.siblings
   pub task_limit : IsWithin 1 256 scenario.task_limit
   pub cookie_limit : IsWithin 1 256 scenario.cookie_limit
   pub user_top : IsWithin 8192 9223372036854775807 scenario.user_top
@@ -86,6 +100,14 @@ pub record IsBuilt (scenario : Scenario) : Type 0 where
   pub few_tasks : length scenario.tasks ≤ scenario.task_limit
   pub steps : All (IsStep scenario.siblings) scenario.steps
   pub few_steps : length scenario.steps ≤ 100000
+
+-- a scenario that a machine can play: its core has 1 to 16 siblings
+abbrev pub IsPlayable : Scenario → Type 0
+IsPlayable scenario = KeepsLimits 16 scenario
+
+-- a scenario that can be written and played: its core has 1 to 8 siblings
+abbrev pub IsBuilt : Scenario → Type 0
+IsBuilt scenario = KeepsLimits 8 scenario
 
 -- ---- scripts
 

@@ -1,30 +1,173 @@
--- Selection: what a sibling runs next (`pick_next_task` under CONFIG_SCHED_CORE, kernel/sched/core.c).
-use Rattle.std.specs.Prelude.{ℕ, false, List, Option, unwrap_or}
-use Rattle.std.specs.Option.{option_map}
-use Rattle.cs_types.specs.declared.reply.Kind.TheVariants.{Plain}
+-- Selection: what a sibling runs next, in three cases (`pick_next_task` under CONFIG_SCHED_CORE,
+-- kernel/sched/core.c).
+use Rattle.std.specs.Prelude.{ℕ, Bool, true, false, ◌==◌, ◌&&◌, ◌||◌, if◌then◌else◌, List, map, filter, count_by, Option, Some, None, is_none, is_some, unwrap_or}
+use Rattle.std.specs.List.{list_any, enumerate_from}
+use Rattle.std.specs.Option.{option_map, option_and_then, option_to_list}
+use Rattle.cs_types.specs.declared.reply.Kind.TheVariants.{Selected, Adopted, Plain}
 use Rattle.cs_types.specs.declared.reply.Pick.{Pick}
-use Rattle.cs_types.specs.declared.reply.Entry.{Entry}
-use Rattle.cs_types.specs.Room.{RoomState, queued_on, with_sibling}
-use Rattle.cs_types.specs.Order.{first_of}
+use Rattle.cs_types.specs.Room.{RoomState, TaskState, SiblingState, queued_on, sibling_of, online, online_from, with_sibling}
+use Rattle.cs_types.specs.Order.{foremost, outranks, first_of}
+
+-- ---- what a sibling has for a core cookie
+
+-- the first task queued on a sibling, none for idle (`pick_task`)
+abbrev pub first_on : RoomState → ℕ → Option TaskState
+first_on room cpu = first_of (queued_on room cpu)
+
+-- a task's cookie, and 0 for idle
+abbrev pub cookie_of : Option TaskState → ℕ
+cookie_of None = 0
+cookie_of (Some task) = task.cookie
+
+-- a task's pid, none for idle
+abbrev pub pid_of : Option TaskState → Option ℕ
+pid_of task = option_map (λ (task : TaskState). task.spec.pid) task
+
+-- the tasks queued on a sibling that have this cookie (`core_tree`)
+abbrev pub queued_with : RoomState → ℕ → ℕ → List TaskState
+queued_with room cookie cpu = filter (λ task. task.cookie == cookie) (queued_on room cpu)
+
+-- The lead of a selection that a sibling makes: the earliest first of the online siblings, in the order that begins
+-- at it, than which no other first is higher (`max` in `pick_next_task`).
+unfoldable pub lead_from : RoomState → ℕ → Option TaskState
+lead_from room cpu = option_and_then (λ first. first) (foremost outranks (map (first_on room) (online_from room cpu)))
+
+-- What a sibling gets for a core cookie: its first, where that is idle or has the cookie; else the first task queued
+-- there with the cookie (`sched_core_find`), which is searched for no cookie 0; else idle.
+unfoldable pub choice : RoomState → ℕ → ℕ → Option TaskState
+choice room core cpu =
+    if is_none (first_on room cpu) || (cookie_of (first_on room cpu) == core)
+    then first_on room cpu
+    else (if core == 0 then None else first_of (queued_with room core cpu))
+
+-- The tasks of a sibling that may run for a core cookie: those queued there that have it. For cookie 0 the kernel
+-- searches nothing, so only the first may, where its cookie is 0.
+abbrev pub eligible : RoomState → ℕ → ℕ → List TaskState
+eligible room core cpu =
+    if core == 0
+    then filter (λ task. task.cookie == 0) (option_to_list (first_on room cpu))
+    else queued_with room core cpu
+
+-- A sibling is forced idle where it gets idle and has a queued task.
+abbrev pub is_forced : RoomState → ℕ → ℕ → Bool
+is_forced room core cpu = is_none (choice room core cpu) && is_some (first_on room cpu)
+
+-- how many online siblings are forced idle, and how many get a task (`core_forceidle_count` and
+-- `core_forceidle_occupation`)
+abbrev pub forced_count : RoomState → ℕ → ℕ
+forced_count room core = count_by (is_forced room core) (online room)
+
+abbrev pub occupation_of : RoomState → ℕ → ℕ
+occupation_of room core = count_by (λ cpu. is_some (choice room core cpu)) (online room)
+
+-- ---- a schedule
 
 -- the pick of a schedule, and the room after it
 pub record Scheduled : Type 0 where
   pub pick : Pick
   pub room : RoomState
 
--- the pid of the first task queued on a sibling, none for idle
-abbrev pub first_on : RoomState → ℕ → Option ℕ
-first_on room cpu = option_map (λ task. task.spec.pid) (first_of (queued_on room cpu))
+-- whether a sibling runs this, which is a task's pid or none for idle
+abbrev pub is_run : Option ℕ → Option ℕ → Bool
+is_run None None = true
+is_run (Some a) (Some b) = a == b
+is_run None (Some b) = false
+is_run (Some a) None = false
 
--- A plain schedule: no task has a cookie, so the sibling runs the first of its own queue, the core's cookie
--- is 0 and no sibling is forced idle. Its reschedule is no longer pending (`clear_tsk_need_resched`).
+-- the sibling runs this, nothing waits for it, and its reschedule is no longer pending (`clear_tsk_need_resched`)
+abbrev pub running : SiblingState → Option ℕ → SiblingState
+running sibling run = record sibling { run = run; pending = false; waiting = None }
+
+-- ---- adopted
+
+-- The sibling runs what waits for it, which an earlier selection of another sibling chose.
+abbrev pub adopted : RoomState → ℕ → Option ℕ → Scheduled
+adopted room cpu run =
+    record {
+      pick = record { kind = Adopted; run = unwrap_or run 0; core = room.core_cookie; forced = room.forced };
+      room = with_sibling room cpu (running (sibling_of room cpu) run);
+    }
+
+-- ---- plain
+
+-- whether no cookie takes part: the core has none, none was forced idle, and the sibling's first has none
+abbrev pub is_plain : RoomState → ℕ → Bool
+is_plain room cpu = (room.core_cookie == 0) && (room.forced == 0) && (cookie_of (first_on room cpu) == 0)
+
+-- The sibling runs its first.
 abbrev pub plain : RoomState → ℕ → Scheduled
 plain room cpu =
     record {
-      pick = record { kind = Plain; run = unwrap_or (first_on room cpu) 0; core = 0; forced = 0 };
-      room = with_sibling room cpu (record { run = first_on room cpu; pending = false });
+      pick = record { kind = Plain; run = unwrap_or (pid_of (first_on room cpu)) 0; core = 0; forced = 0 };
+      room = with_sibling (record room { forced = 0; occupation = 0 }) cpu (running (sibling_of room cpu) (pid_of (first_on room cpu)));
     }
 
--- the schedule of a sibling, in a room with this history
-abbrev pub schedule : RoomState → List Entry → ℕ → Scheduled
-schedule room past cpu = plain room cpu
+-- ---- selected
+
+-- A chosen task remembers the occupation.
+abbrev pub remembered : RoomState → ℕ → TaskState → TaskState
+remembered room core task =
+    if list_any (λ cpu. is_run (pid_of (choice room core cpu)) (Some task.spec.pid)) (online room)
+    then record task { occupation = occupation_of room core }
+    else task
+
+-- The sibling that selects runs its choice. One that runs its choice already has nothing waiting, and stays pending
+-- where it was. For every other the choice waits, and it becomes pending.
+abbrev pub told : ℕ → ℕ → SiblingState → Option ℕ → SiblingState
+told selector cpu sibling run =
+    if cpu == selector
+    then running sibling run
+    else (
+    if is_run sibling.run run
+    then record sibling { waiting = None }
+    else record sibling { pending = true; waiting = Some run }
+    )
+
+-- An online sibling is told its choice, and the idle of one that gets idle remembers the occupation.
+abbrev pub given : RoomState → ℕ → ℕ → ℕ × SiblingState → SiblingState
+given room core selector place =
+    if place.1.online
+    then record (told selector place.0 place.1 (pid_of (choice room core place.0))) {
+      occupation = if is_none (choice room core place.0) then occupation_of room core else place.1.occupation;
+    }
+    else place.1
+
+-- the room once the online siblings have their choices for this core cookie
+unfoldable pub selected_room : RoomState → ℕ → ℕ → RoomState
+selected_room room cpu core =
+    record room {
+      tasks = map (remembered room core) room.tasks;
+      siblings = map (given room core cpu) (enumerate_from 0 room.siblings);
+      core_cookie = core;
+      forced = forced_count room core;
+      occupation = occupation_of room core;
+    }
+
+-- The core's cookie becomes the lead's, and each online sibling gets its choice for it.
+abbrev pub selected : RoomState → ℕ → Scheduled
+selected room cpu =
+    let core = cookie_of (lead_from room cpu) in
+    record {
+      pick = record {
+        kind = Selected;
+        run = unwrap_or (pid_of (choice room core cpu)) 0;
+        core = core;
+        forced = forced_count room core;
+      };
+      room = selected_room room cpu core;
+    }
+
+-- ---- every case
+
+-- a schedule in which nothing is adopted
+abbrev pub rescheduled : RoomState → ℕ → Scheduled
+rescheduled room cpu = if is_plain room cpu then plain room cpu else selected room cpu
+
+-- a schedule: adopted where nothing was touched since the last selection for the core, which the test says, and
+-- something waits
+abbrev pub scheduled : RoomState → Bool → ℕ → Option (Option ℕ) → Scheduled
+scheduled room is_fresh cpu None = rescheduled room cpu
+scheduled room is_fresh cpu (Some run) = if is_fresh then adopted room cpu run else rescheduled room cpu
+
+abbrev pub schedule : RoomState → Bool → ℕ → Scheduled
+schedule room is_fresh cpu = scheduled room is_fresh cpu (sibling_of room cpu).waiting

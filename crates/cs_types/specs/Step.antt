@@ -1,15 +1,15 @@
 -- Steps: what each event does to the room, and what it answers.
-use Rattle.std.specs.Prelude.{ℕ, ◌+◌, Bool, true, false, if◌then◌else◌, List, Option, Some, None}
+use Rattle.std.specs.Prelude.{ℕ, ◌+◌, Bool, true, false, if◌then◌else◌, Option, Some, None}
 use Rattle.std.specs.Option.{option_map_or}
 use Rattle.cs_types.specs.declared.event.Event.{Event}
-use Rattle.cs_types.specs.declared.event.Event.TheVariants.{Turn, Block, Wake}
+use Rattle.cs_types.specs.declared.event.Event.TheVariants.{Turn, Resched, Block, Wake, Prctl}
 use Rattle.cs_types.specs.declared.reply.Reply.{Reply}
 use Rattle.cs_types.specs.declared.reply.Reply.TheVariants.{Picked, Nothing, Slept, Idle, Woken, Awake, NoTask}
 use Rattle.cs_types.specs.declared.reply.Pick.{Pick}
-use Rattle.cs_types.specs.declared.reply.Entry.{Entry}
 use Rattle.cs_types.specs.Room.{RoomState, TaskState, task_of, sibling_of, running_on, with_sibling, with_task, flagged}
 use Rattle.cs_types.specs.Order.{is_higher}
 use Rattle.cs_types.specs.Selection.{Scheduled, schedule}
+use Rattle.cs_types.specs.Prctl.{prctl_answer, prctl_room}
 
 -- the reply to an event, and the room after it
 pub record Stepped : Type 0 where
@@ -40,17 +40,17 @@ woken room (Some task) =
     then record { reply = Awake; room = room }
     else record { reply = Woken task.home; room = queued_at_home room task }
 
--- ---- turn (`__schedule`, kernel/sched/core.c)
+-- ---- turn and resched (`__schedule`, kernel/sched/core.c)
 
 -- a reply with the pick of a schedule
 abbrev pub picked : (Pick → Reply) → Scheduled → Stepped
 picked answer scheduled = record { reply = answer scheduled.pick; room = scheduled.room }
 
 -- A pending reschedule is taken (`TIF_NEED_RESCHED` is set), and else there is nothing to do.
-abbrev pub turned : RoomState → List Entry → ℕ → Stepped
-turned room past cpu =
+abbrev pub turned : RoomState → Bool → ℕ → Stepped
+turned room is_fresh cpu =
     if (sibling_of room cpu).pending
-    then picked Picked (schedule room past cpu)
+    then picked Picked (schedule room is_fresh cpu)
     else record { reply = Nothing; room = room }
 
 -- ---- block (`deactivate_task` in `__schedule`, kernel/sched/core.c)
@@ -63,16 +63,19 @@ dequeued room task = with_task room (record task { queued = false })
 abbrev pub idled : RoomState → ℕ → RoomState
 idled room cpu = with_sibling room cpu (record (sibling_of room cpu) { run = None })
 
--- The sibling runs idle already, or its running task goes to sleep and then it schedules.
-abbrev pub blocked : RoomState → List Entry → ℕ → Option TaskState → Stepped
-blocked room past cpu None = record { reply = Idle; room = room }
-blocked room past cpu (Some task) =
-    picked (Slept task.spec.pid) (schedule (idled (dequeued room task) cpu) past cpu)
+-- The sibling runs idle already, or its running task goes to sleep and then it schedules. The dequeue touched, so
+-- that schedule adopts nothing.
+abbrev pub blocked : RoomState → ℕ → Option TaskState → Stepped
+blocked room cpu None = record { reply = Idle; room = room }
+blocked room cpu (Some task) = picked (Slept task.spec.pid) (schedule (idled (dequeued room task) cpu) false cpu)
 
 -- ---- every event
 
--- what each event does, in a room with this past
-abbrev pub step : RoomState → List Entry → Event → Stepped
-step room past (Turn cpu) = turned room past cpu
-step room past (Block cpu) = blocked room past cpu (running_on room cpu)
-step room past (Wake pid) = woken room (task_of room pid)
+-- what each event does, where the test says whether nothing was touched since the last selection for the core
+abbrev pub step : RoomState → Bool → Event → Stepped
+step room is_fresh (Turn cpu) = turned room is_fresh cpu
+step room is_fresh (Resched cpu) = picked Picked (schedule room is_fresh cpu)
+step room is_fresh (Block cpu) = blocked room cpu (running_on room cpu)
+step room is_fresh (Wake pid) = woken room (task_of room pid)
+step room is_fresh (Prctl caller ask) =
+    record { reply = prctl_answer room caller ask; room = prctl_room room caller ask (prctl_answer room caller ask) }

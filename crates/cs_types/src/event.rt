@@ -11,15 +11,32 @@ pub enum Actor {
     Caller(u8),
 }
 
+/// The arguments of `prctl(PR_SCHED_CORE, ..)`.
+#[derive(Clone, Copy)]
+pub struct Ask {
+    /// The command: 1 for `PR_SCHED_CORE_CREATE`, 2 for `PR_SCHED_CORE_SHARE_TO`.
+    pub cmd: u32,
+    /// The target's pid, 0 for the caller.
+    pub pid: i32,
+    /// The scope: 0 for the target alone.
+    pub scope: u32,
+    /// The user address of the answer, 0 where none is asked for.
+    pub addr: u64,
+}
+
 /// One event of the core: what one step does, in one piece, under the core's lock.
 #[derive(Clone, Copy)]
 pub enum Event {
     /// The sibling takes its pending reschedule, if it has one.
     Turn(Cpu),
+    /// The sibling schedules.
+    Resched(Cpu),
     /// The sibling's running task goes to sleep.
     Block(Cpu),
     /// The task, 1 to 999999, is woken.
     Wake(Pid),
+    /// The task, 1 to 999999, calls `prctl(PR_SCHED_CORE, ..)`.
+    Prctl { caller: Pid, ask: Ask },
 }
 
 /// An event, and who makes it.

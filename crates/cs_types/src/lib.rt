@@ -8,11 +8,13 @@ mod reply;
 mod room;
 mod scenario;
 mod task;
+mod view;
 
-pub use event::{Actor, Event, Step};
+pub use event::{Actor, Ask, Event, Step};
 pub use list::List;
 pub use memory::OutOfMemory;
-pub use reply::{Entry, Kind, Pick, Reply};
+pub use reply::{Entry, Errno, Kind, Pick, Reply};
 pub use room::Room;
 pub use scenario::Scenario;
 pub use task::{Cookie, Cpu, Creds, Pid, Policy, TaskSpec};
+pub use view::{CoreView, CpuView, TaskView};

@@ -6,6 +6,10 @@ use crate::task::{Cookie, Cpu, Pid};
 /// How a schedule came to its pick.
 #[derive(Clone, Copy)]
 pub enum Kind {
+    /// The sibling led a selection for the whole core.
+    Selected,
+    /// The sibling took what an earlier selection of another sibling had chosen for it.
+    Adopted,
     /// The sibling chose for itself alone.
     Plain,
 }
@@ -22,10 +26,23 @@ pub struct Pick {
     pub forced: u8,
 }
 
+/// The errors of `prctl`.
+#[derive(Clone, Copy)]
+pub enum Errno {
+    /// The caller may not access the target.
+    Eperm,
+    /// No living task has the target's pid.
+    Esrch,
+    /// As many cookies live as the scenario allows.
+    Enomem,
+    /// Fewer than two siblings are online.
+    Enodev,
+}
+
 /// The answer to an event.
 #[derive(Clone, Copy)]
 pub enum Reply {
-    /// The sibling had a pending reschedule, and this is what it took.
+    /// The sibling scheduled, and this is what it took.
     Picked(Pick),
     /// The sibling had nothing to do.
     Nothing,
@@ -39,6 +56,12 @@ pub enum Reply {
     Awake,
     /// Refused: no living task has the pid.
     NoTask,
+    /// The call of `prctl` returned 0.
+    Zero,
+    /// Refused: the call of `prctl` failed with this error.
+    Refused(Errno),
+    /// Refused: no living task has the caller's pid.
+    NoCaller,
 }
 
 /// A step that was made, with its answer.

@@ -1,0 +1,47 @@
+-- Laws: what the rules come to, said without them.
+use Rattle.std.specs.Prelude.{◌≡◌, ◌↔◌, ℕ, ◌<◌, false, ◌⊎◌, [], map, length, count_by, All, Contains, IsTrue, Option, Some, None, unwrap_or}
+use Rattle.std.specs.Option.{option_map_or}
+use Rattle.cs_types.specs.declared.event.Event.{Event}
+use Rattle.cs_types.specs.declared.event.Event.TheVariants.{Block}
+use Rattle.cs_types.specs.declared.reply.Pick.{Pick}
+use Rattle.cs_types.specs.Room.{RoomState, TaskState, SiblingState, queued_on, sibling_of, running_on, online, online_from}
+use Rattle.cs_types.specs.Order.{foremost, outranks}
+use Rattle.cs_types.specs.Selection.{first_on, cookie_of, pid_of, choice, eligible, is_forced}
+use Rattle.cs_types.specs.Touches.{scheduler_of}
+use Rattle.cs_types.specs.Step.{dequeued, idled}
+
+-- the sibling that an event makes schedule
+abbrev pub cpu_of : Event → ℕ
+cpu_of event = unwrap_or (scheduler_of event) 0
+
+-- the room in which a sibling schedules: at a block it is the one without the task that went to sleep
+abbrev pub scheduling_room : RoomState → Event → RoomState
+scheduling_room room (Block cpu) = option_map_or (λ task. idled (dequeued room task) cpu) (running_on room cpu) room
+scheduling_room room event = room
+
+-- what a sibling is to run: what waits for it, and what it runs where nothing waits
+abbrev pub to_run : SiblingState → Option ℕ
+to_run sibling = unwrap_or sibling.waiting sibling.run
+
+-- What a selection for the core that a sibling made in the one room leaves in the other.
+pub record SelectsForTheCore (before : RoomState) (cpu : ℕ) (pick : Pick) (now : RoomState) : Type 0 where
+  -- The lead is the earliest first, from the sibling that selects on, than which no other first is higher.
+  pub lead : Option TaskState
+  pub earliest : foremost outranks (map (first_on before) (online_from before cpu)) ≡ Some lead
+  -- No task queued on any online sibling is higher than the lead.
+  pub highest : (other : ℕ) → Contains (online before) other →
+      All (λ task. outranks (Some task) lead ≡ false) (queued_on before other)
+  -- The core cookie is the lead's.
+  pub cookie : now.core_cookie ≡ cookie_of lead
+  pub told : pick.core ≡ now.core_cookie
+  -- What each online sibling is to run is idle or has that cookie.
+  pub choices : (other : ℕ) → Contains (online before) other →
+      to_run (sibling_of now other) ≡ pid_of (choice before now.core_cookie other)
+  pub matches : (other : ℕ) → Contains (online before) other →
+      (choice before now.core_cookie other ≡ None) ⊎ (cookie_of (choice before now.core_cookie other) ≡ now.core_cookie)
+  -- A sibling is forced idle exactly where it has a queued task and none is eligible.
+  pub forced : (other : ℕ) →
+      IsTrue (is_forced before now.core_cookie other)
+      ↔ ((0 < length (queued_on before other)) × (eligible before now.core_cookie other ≡ []))
+  pub count : now.forced ≡ count_by (is_forced before now.core_cookie) (online before)
+  pub counted : pick.forced ≡ now.forced

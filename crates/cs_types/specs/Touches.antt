@@ -1,0 +1,119 @@
+-- Touches: how often an entry touches the queues of the core, and what follows from it. The kernel counts touches
+-- (`core_task_seq` of `rq->core`) and notes the count of the last selection for the core (`core_pick_seq`) and of
+-- each sibling's last pick from one (`core_sched_seq`); here the three numbers are sums over the history.
+use Rattle.std.specs.Prelude.{ℕ, ◌+◌, Bool, true, false, ◌==◌, ◌&&◌, ◌||◌, not, if◌then◌else◌, List, [], ◌∷◌, sum_by, take_while, Option, Some, None, is_some}
+use Rattle.std.specs.List.{list_any, list_all}
+use Rattle.std.specs.Option.{option_map_or, option_and_then}
+use Rattle.cs_types.specs.declared.event.Event.{Event}
+use Rattle.cs_types.specs.declared.event.Event.TheVariants.{Turn, Resched, Block, Wake, Prctl}
+use Rattle.cs_types.specs.declared.reply.Kind.{Kind}
+use Rattle.cs_types.specs.declared.reply.Kind.TheVariants.{Selected, Adopted, Plain}
+use Rattle.cs_types.specs.declared.reply.Pick.{Pick}
+use Rattle.cs_types.specs.declared.reply.Reply.{Reply}
+use Rattle.cs_types.specs.declared.reply.Reply.TheVariants.{Picked, Slept, Woken, Zero}
+use Rattle.cs_types.specs.declared.reply.Entry.{Entry}
+use Rattle.cs_types.specs.Room.{RoomState}
+use Rattle.cs_types.specs.Prctl.{Setting, setting_of}
+
+-- ---- the pick of an entry
+
+abbrev pub is_selected : Kind → Bool
+is_selected Selected = true
+is_selected Adopted = false
+is_selected Plain = false
+
+abbrev pub is_adopted : Kind → Bool
+is_adopted Selected = false
+is_adopted Adopted = true
+is_adopted Plain = false
+
+-- the pick that a reply tells, if it tells one
+abbrev pub pick_of : Reply → Option Pick
+pick_of (Picked pick) = Some pick
+pick_of (Slept pid pick) = Some pick
+pick_of reply = None
+
+-- the sibling that an event makes schedule, if it makes one
+abbrev pub scheduler_of : Event → Option ℕ
+scheduler_of (Turn cpu) = Some cpu
+scheduler_of (Resched cpu) = Some cpu
+scheduler_of (Block cpu) = Some cpu
+scheduler_of (Wake pid) = None
+scheduler_of (Prctl caller ask) = None
+
+-- the pick of a selection for the core, if a reply tells one
+abbrev pub selection_of : Reply → Option Pick
+selection_of reply = option_and_then (λ (pick : Pick). if is_selected pick.kind then Some pick else None) (pick_of reply)
+
+-- whether an entry tells a selection for the core
+abbrev pub is_selection : Entry → Bool
+is_selection entry = is_some (selection_of entry.reply)
+
+-- whether an entry tells that the sibling took a pick of a selection for the core, its own or another's
+abbrev pub is_taken_by : ℕ → Entry → Bool
+is_taken_by cpu entry =
+    option_map_or (λ other. other == cpu) (scheduler_of entry.event) false
+    && option_map_or (λ (pick : Pick). is_selected pick.kind || is_adopted pick.kind) (pick_of entry.reply) false
+
+-- ---- touches
+
+-- a selected or plain pick touches once, and an adopted one does not
+abbrev pub pick_touches : Pick → ℕ
+pick_touches pick = if is_adopted pick.kind then 0 else 1
+
+-- the cookie of a queued task leaves the order of cookies where it is not 0, and enters it where it is not 0
+-- (`sched_core_dequeue` and `sched_core_enqueue`; that each touches is this project's rule)
+abbrev pub setting_touches : Setting → ℕ
+setting_touches set =
+    if set.target.queued
+    then (if set.target.cookie == 0 then 0 else 1) + (if set.cookie == 0 then 0 else 1)
+    else 0
+
+-- what a call that succeeded sets, in the room before it
+abbrev pub set_touches : RoomState → Event → ℕ
+set_touches room (Prctl caller ask) = option_map_or setting_touches (setting_of room caller ask) 0
+set_touches room event = 0
+
+-- how often an entry touches the queues, read in the room before it
+abbrev pub touches_by : RoomState → Event → Reply → ℕ
+touches_by room event (Woken cpu) = 1
+touches_by room event (Picked pick) = pick_touches pick
+touches_by room event (Slept pid pick) = 1 + pick_touches pick
+touches_by room event Zero = set_touches room event
+touches_by room event reply = 0
+
+-- ---- the ledger: every entry so far with its touches, the latest first
+
+pub record Noted : Type 0 where
+  pub entry : Entry
+  pub touches : ℕ
+
+abbrev pub Ledger : Type 0
+Ledger = List Noted
+
+-- an entry, made in this room, as it stands in the ledger
+abbrev pub noted : RoomState → Entry → Noted
+noted room entry = record { entry = entry; touches = touches_by room entry.event entry.reply }
+
+-- the ledger up to the last entry that passes, which is its first now
+abbrev pub back_to : (Entry → Bool) → Ledger → Ledger
+back_to test [] = []
+back_to test (note ∷ ledger) = if test note.entry then note ∷ ledger else back_to test ledger
+
+-- the task number: all touches
+abbrev pub task_number : Ledger → ℕ
+task_number ledger = sum_by (λ note. note.touches) ledger
+
+-- the pick number: all touches up to the last selection for the core and with it
+abbrev pub pick_number : Ledger → ℕ
+pick_number ledger = task_number (back_to is_selection ledger)
+
+-- a sibling's own number: the pick number just after it last took a pick of a selection for the core
+abbrev pub own_number : ℕ → Ledger → ℕ
+own_number cpu ledger = pick_number (back_to (is_taken_by cpu) ledger)
+
+-- whether there was a selection for the core, and nothing was touched since the last one
+unfoldable pub is_fresh : Ledger → Bool
+is_fresh ledger =
+    list_any (λ note. is_selection note.entry) ledger
+    && list_all (λ note. note.touches == 0) (take_while (λ note. not (is_selection note.entry)) ledger)

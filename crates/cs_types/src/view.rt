@@ -1,0 +1,38 @@
+//! What a machine shows of its core, its siblings and its tasks.
+
+use crate::task::{Cookie, Cpu, Pid};
+
+/// What the siblings of the core share.
+#[derive(Clone, Copy)]
+pub struct CoreView {
+    /// The cookie that the core runs under, 0 for none.
+    pub cookie: Cookie,
+    /// How many siblings the last schedule for the core forced idle, a count.
+    pub forced: u8,
+    /// For how many siblings that schedule chose a task, a count.
+    pub occupation: u8,
+}
+
+/// A sibling.
+#[derive(Clone, Copy)]
+pub struct CpuView {
+    pub online: bool,
+    /// The running task, 0 for idle.
+    pub run: Pid,
+    /// The pick number at its last pick that was selected or adopted, 0 where there is none.
+    pub number: u64,
+    /// Whether it has a pending reschedule.
+    pub pending: bool,
+}
+
+/// A living task.
+#[derive(Clone, Copy)]
+pub struct TaskView {
+    pub pid: Pid,
+    /// The sibling on which it queues, its home.
+    pub cpu: Cpu,
+    /// Whether it is queued, as a running task is too, or asleep.
+    pub queued: bool,
+    /// Its cookie, 0 for none.
+    pub cookie: Cookie,
+}
