@@ -1,5 +1,5 @@
 -- The room: the state of the core and its tasks, and how it starts. Beside each part stands the kernel's field.
-use Rattle.std.specs.Prelude.{ℕ, Bool, true, false, ◌==◌, ◌&&◌, ◌||◌, nat_le, nat_lt, if◌then◌else◌, List, ◌++◌, length, map, filter, find, replicate, slice_index_or, slice_set, Option, None}
+use Rattle.std.specs.Prelude.{ℕ, Bool, true, false, ◌==◌, ◌&&◌, ◌||◌, ◌-◌, if◌then◌else◌, List, ◌++◌, length, map, filter, find, replicate, slice_index_or, slice_set, Option, None}
 use Rattle.std.specs.List.{range_with_len}
 use Rattle.std.specs.Option.{option_and_then}
 use Rattle.cs_types.specs.declared.task.TaskSpec.{TaskSpec}
@@ -93,16 +93,17 @@ sibling_of room cpu = slice_index_or room.siblings cpu idle
 abbrev pub running_on : RoomState → ℕ → Option TaskState
 running_on room cpu = option_and_then (task_of room) (sibling_of room cpu).run
 
--- the numbers of the siblings, and of those that are online
-abbrev pub cpus : RoomState → List ℕ
-cpus room = range_with_len 0 (length room.siblings)
+-- whether a sibling is online, and the numbers of those that are
+abbrev pub is_online : RoomState → ℕ → Bool
+is_online room cpu = (sibling_of room cpu).online
 
 abbrev pub online : RoomState → List ℕ
-online room = filter (λ cpu. (sibling_of room cpu).online) (cpus room)
+online room = filter (is_online room) (range_with_len 0 (length room.siblings))
 
--- the online siblings in the order that begins at one, rises, and then goes from 0 up to it
+-- the same in the order that begins at one sibling, rises, and then goes from 0 up to it
 abbrev pub online_from : RoomState → ℕ → List ℕ
-online_from room cpu = filter (nat_le cpu) (online room) ++ filter (λ other. nat_lt other cpu) (online room)
+online_from room cpu =
+    filter (is_online room) (range_with_len cpu (length room.siblings - cpu) ++ range_with_len 0 cpu)
 
 -- ---- changes of a room
 
