@@ -123,14 +123,17 @@ told selector cpu sibling run =
     else record sibling { pending = true; waiting = Some run }
     )
 
--- An online sibling is told its choice, and the idle of one that gets idle remembers the occupation.
-abbrev pub given : RoomState → ℕ → ℕ → ℕ × SiblingState → SiblingState
-given room core selector place =
+-- An online sibling is told its choice, and its idle remembers the occupation where that is the choice.
+abbrev pub handed : ℕ → ℕ → Option ℕ → ℕ × SiblingState → SiblingState
+handed selector occupation run place =
     if place.1.online
-    then record (told selector place.0 place.1 (pid_of (choice room core place.0))) {
-      occupation = if is_none (choice room core place.0) then occupation_of room core else place.1.occupation;
+    then record (told selector place.0 place.1 run) {
+      occupation = if is_none run then occupation else place.1.occupation;
     }
     else place.1
+
+abbrev pub given : RoomState → ℕ → ℕ → ℕ × SiblingState → SiblingState
+given room core selector place = handed selector (occupation_of room core) (pid_of (choice room core place.0)) place
 
 -- the room once the online siblings have their choices for this core cookie
 unfoldable pub selected_room : RoomState → ℕ → ℕ → RoomState

@@ -1,30 +1,50 @@
 -- What the lists of the state stand for.
-use Rattle.std.specs.Prelude.{◌≡◌, ℕ, ◌<◌, false, List, length, map, All}
+use Rattle.std.specs.Prelude.{◌≡◌, ℕ, ◌+◌, ◌<◌, ◌≤◌, ◌&&◌, ◌||◌, ◌==◌, nat_lt, Bool, false, if◌then◌else◌, List, length, map, All, slice_set, Option, Some, None, is_some}
+use Rattle.std.specs.Option.{option_map_or}
 use Rattle.cs_types.specs.declared.event.Event.{Event}
+use Rattle.cs_types.specs.declared.reply.Kind.{Kind}
 use Rattle.cs_types.specs.declared.reply.Pick.{Pick}
 use Rattle.cs_types.specs.declared.reply.Reply.{Reply}
 use Rattle.cs_types.specs.declared.task.TaskSpec.{TaskSpec}
 use Rattle.cs_types.specs.declared.scenario.Scenario.{Scenario}
+use Rattle.cs_types.specs.Scenario.{IsWithin, IsPolicy}
 use Rattle.cs_types.specs.Room.{TaskState, SiblingState, RoomState}
-use Rattle.cs_types.specs.Selection.{schedule}
+use Rattle.cs_types.specs.Selection.{Scheduled}
+use Rattle.cs_types.specs.Touches.{is_selected, is_adopted, pick_touches, pick_of, selection_of, scheduler_of, touches_by}
 use Rattle.cs_types.specs.Step.{step}
-use Rattle.cs_types.specs.History.{History}
-use Rattle.plain_room.specs.declared.state.Task.{Task}
-use Rattle.plain_room.specs.declared.state.Sibling.{Sibling}
+use Rattle.plain_room.specs.declared.task.Task.{Task}
+use Rattle.plain_room.specs.declared.sibling.Sibling.{Sibling}
 use Rattle.plain_room.specs.declared.state.State.{State}
 
+-- ---- the room
+
 abbrev pub task_state : Task → TaskState
-task_state task = record { spec = task.spec; home = task.home; queued = task.queued; stamp = task.stamp }
+task_state task =
+    record {
+      spec = task.spec;
+      cookie = task.cookie;
+      home = task.home;
+      queued = task.queued;
+      stamp = task.stamp;
+      occupation = task.occupation;
+    }
 
 abbrev pub task_states : List Task → List TaskState
 task_states tasks = map task_state tasks
 
 -- a task of the scenario before its first wake
 abbrev pub asleep_task : TaskSpec → Task
-asleep_task spec = record { spec = spec; home = spec.cpu; queued = false; stamp = 0 }
+asleep_task spec = record { spec = spec; cookie = 0; home = spec.cpu; queued = false; stamp = 0; occupation = 0 }
 
 abbrev pub sibling_state : Sibling → SiblingState
-sibling_state sibling = record { run = sibling.run; pending = sibling.pending }
+sibling_state sibling =
+    record {
+      online = sibling.online;
+      run = sibling.run;
+      pending = sibling.pending;
+      waiting = sibling.waiting;
+      occupation = sibling.occupation;
+    }
 
 -- the room that the lists stand for, under a scenario's limits
 abbrev pub room_of : Scenario → State → RoomState
@@ -36,12 +56,17 @@ room_of scenario state =
       tasks = task_states state.tasks.items;
       siblings = map sibling_state state.siblings.items;
       next_stamp = state.next_stamp;
+      next_cookie = state.next_cookie;
+      core_cookie = state.core_cookie;
+      forced = state.forced;
+      occupation = state.occupation;
     }
 
--- there are so many siblings, and each task is at home on one of them
+-- there are so many siblings, each task is at home on one of them, and its policy keeps its limits
 pub record IsSound (count : ℕ) (state : State) : Type 0 where
   pub siblings : length state.siblings.items ≡ count
   pub homes : All (λ task. task.home < count) state.tasks.items
+  pub policies : All (λ task. IsPolicy task.spec.policy) state.tasks.items
 
 -- the state stays sound
 abbrev pub StaysSound : State → State → Type 0
@@ -51,12 +76,61 @@ StaysSound old new = (count : ℕ) → IsSound count old → IsSound count new
 abbrev pub Becomes : State → State → (RoomState → RoomState) → Type 0
 Becomes old new change = (scenario : Scenario) → room_of scenario new ≡ change (room_of scenario old)
 
--- the new state and the pick are those of the sibling's schedule from the old one
-pub record Schedules (old new : State) (cpu : ℕ) (chosen : Pick) : Type 0 where
-  pub pick : (scenario : Scenario) (past : History) → chosen ≡ (schedule (room_of scenario old) past cpu).pick
-  pub room : (scenario : Scenario) (past : History) → room_of scenario new ≡ (schedule (room_of scenario old) past cpu).room
+-- ---- the numbers
+
+-- the task number, the pick number, and each sibling's own number
+pub record Numbers : Type 0 where
+  pub task : ℕ
+  pub pick : ℕ
+  pub own : List ℕ
+
+abbrev pub numbers_of : State → Numbers
+numbers_of state =
+    record { task = state.task_number; pick = state.pick_number; own = map (λ sibling. sibling.number) state.siblings.items }
+
+-- the numbers once the queues were touched so often
+abbrev pub touched : ℕ → Numbers → Numbers
+touched count numbers = record numbers { task = numbers.task + count }
+
+-- the numbers once a sibling took a pick of this kind
+abbrev pub took : ℕ → Pick → Numbers → Numbers
+took cpu pick numbers =
+    let task = numbers.task + pick_touches pick in
+    let pick_number = if is_selected pick.kind then task else numbers.pick in
+    record {
+      task = task;
+      pick = pick_number;
+      own = if is_selected pick.kind || is_adopted pick.kind then slice_set numbers.own cpu pick_number else numbers.own;
+    }
+
+-- whether there was a selection for the core, and nothing was touched since the last one
+abbrev pub is_fresh_by : Numbers → Bool
+is_fresh_by numbers = nat_lt 0 numbers.pick && (numbers.pick == numbers.task)
+
+-- ---- steps
+
+-- the new state and the pick are those of a schedule of the sibling, which a change of the room is
+pub record Schedules (old new : State) (cpu : ℕ) (chosen : Pick) (change : RoomState → Scheduled) : Type 0 where
+  pub pick : (scenario : Scenario) → chosen ≡ (change (room_of scenario old)).pick
+  pub room : (scenario : Scenario) → room_of scenario new ≡ (change (room_of scenario old)).room
+  pub numbers : numbers_of new ≡ took cpu chosen (numbers_of old)
+
+-- each sibling's own number: that of the one whose pick of a selection for the core this is becomes the pick number
+abbrev pub own_after : Event → Reply → ℕ → List ℕ → List ℕ
+own_after event answer pick own =
+    option_map_or (λ cpu. option_map_or (λ (chosen : Pick).
+        if is_selected chosen.kind || is_adopted chosen.kind then slice_set own cpu pick else own)
+        (pick_of answer) own) (scheduler_of event) own
+
+-- the numbers once an event was answered so, in this room
+abbrev pub numbers_after : RoomState → Event → Reply → Numbers → Numbers
+numbers_after room event answer numbers =
+    let task = numbers.task + touches_by room event answer in
+    let pick = if is_some (selection_of answer) then task else numbers.pick in
+    record { task = task; pick = pick; own = own_after event answer pick numbers.own }
 
 -- the new state and the reply are those of the event's step from the old one
-pub record Makes (old new : State) (event : Event) (answer : Reply) : Type 0 where
-  pub reply : (scenario : Scenario) (past : History) → answer ≡ (step (room_of scenario old) past event).reply
-  pub room : (scenario : Scenario) (past : History) → room_of scenario new ≡ (step (room_of scenario old) past event).room
+pub record Makes (scenario : Scenario) (old new : State) (event : Event) (answer : Reply) : Type 0 where
+  pub reply : answer ≡ (step (room_of scenario old) (is_fresh_by (numbers_of old)) event).reply
+  pub room : room_of scenario new ≡ (step (room_of scenario old) (is_fresh_by (numbers_of old)) event).room
+  pub numbers : numbers_of new ≡ numbers_after (room_of scenario old) event answer (numbers_of old)

@@ -1,7 +1,14 @@
 //! The slow machine: the rules made to run, over plain lists.
 #![tactic(auto)]
 
+mod choice;
+mod cookies;
+mod events;
 mod room;
+mod schedule;
+mod selection;
+mod sibling;
 mod state;
+mod task;
 
 pub use room::PlainRoom;
