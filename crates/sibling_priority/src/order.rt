@@ -1,0 +1,49 @@
+//! Which of two offers is higher, and the lead of many. A selection compares the offers of distinct
+//! siblings here, and nothing else decides between siblings.
+
+ghost use Rattle.std.specs.Prelude.{◌≡◌, ◌<◌, length, All, List, Option, Some, None, position, slice_index_or};
+ghost use Rattle.cs_types.specs.Room.{TaskState};
+ghost use Rattle.cs_types.specs.Order.{foremost, outranks};
+ghost use Rattle.sibling_priority.specs.Offers.{is_higher_offer, is_highest, IsInRange, AreOffersOf};
+
+use crate::offer::{DEADLINE, FAIR, Offer, REAL_TIME};
+
+/// Whether one offer is higher than another, where every pair that this leaves open is a tie
+/// (`prio_less` in kernel/sched/core.c with its sides swapped, and `cfs_prio_less` in
+/// kernel/sched/fair.c for two fair tasks).
+pub fn higher(a: &Offer, b: &Offer) -> bool
+    requires a_in_range { IsInRange a.now }
+    requires b_in_range { IsInRange b.now }
+    ensures { result ≡ is_higher_offer a.now b.now }
+{
+    if a.class != b.class {
+        return a.class < b.class;
+    }
+    match a.class {
+        DEADLINE | REAL_TIME => a.rank < b.rank,
+        // Each rank less its own snapshot, moved across so that no difference is below 0.
+        FAIR => a.rank + b.snapshot < b.rank + a.snapshot,
+        _ => false,
+    }
+}
+
+/// The place of the lead: the first offer than which no other is higher (`max` in
+/// `pick_next_task`, kernel/sched/core.c).
+pub fn lead(offers: &[Offer]) -> usize
+    requires some { 0 < length offers.now }
+    requires in_range { All IsInRange offers.now }
+    ensures place { result < length offers.now }
+    ensures first { position (is_highest offers.now) offers.now ≡ Some result }
+
+    // The lead of the siblings' offers is at the place of the lead of their first tasks.
+    ensures model { (firsts : List (Option TaskState)) → AreOffersOf firsts offers.now →
+        foremost outranks firsts ≡ Some (slice_index_or firsts result None) }
+{
+    let mut best = 0;
+    for place in 1..offers.len() {
+        if higher(&offers[place], &offers[best]) {
+            best = place;
+        }
+    }
+    best
+}
