@@ -1,3 +1,4 @@
 pub mod Histories
 pub mod Foremost
 pub mod First
+pub mod Siblings
