@@ -3,11 +3,11 @@ use Rattle.std.proofs.Common.{◌≡◌, ℕ, zero, suc, ◌+◌, ◌-◌, ◌<�
 use Rattle.std.specs.Prelude.{◌&&◌, find, filter, Contains}
 use Rattle.std.specs.Cmp.{IsStrictWeakOrder}
 use Rattle.std.specs.List.{list_all, AllByRecursion, range_with_len}
-use Rattle.std.proofs.lemmas.Bool.{cases_Bool, cond_both, and_parts, and_from, both_ways, false_from_ne_true, not-true, not_from_false, cond-true, cond-false}
+use Rattle.std.proofs.lemmas.Bool.{cases_Bool, cond_both, and_parts, and_from, both_ways, not-true, not_from_false, cond-true, cond-false}
 use Rattle.std.proofs.lemmas.List.Elements.{All-contains, All-filter, All-contains_itself, filter_passes}
 use Rattle.std.proofs.lemmas.List.FromFn.{length-range_with_len, get_or-range_with_len}
 use Rattle.cs_types.specs.Order.{foremost}
-use Rattle.cs_types.proofs.Foremost.{find_passes, each_of_all, all_of_each, each_weaker}
+use Rattle.cs_types.proofs.Foremost.{find_passes, find_narrower, find_same, each_of_all, all_of_each, each_weaker}
 
 -- ---- each element
 
@@ -54,19 +54,13 @@ find-filter p q (x ∷ xs) =
       | inr fail ↦ simp (fail, find-filter p q xs)
     ]
 
--- what is found first under one test is found first under a narrower one that it passes
+-- what is found first under one test is found first under a stricter one that it passes
 pub find_stricter : {X : Type 0} (p q : X → Bool) → ((x : X) → q x ≡ true → p x ≡ true) → (xs : List X) (y : X) → find p xs ≡ Some y → q y ≡ true → find q xs ≡ Some y
-find_stricter p q within [] y h k = absurd cc
-find_stricter p q within (x ∷ xs) y h k =
-    elim (cases_Bool (p x)) [
-      | inl pass ↦
-          let same : Some x ≡ Some y = sym (cond-true (p x) (Some x) (find p xs) pass) ∙ h in
-          let e : x ≡ y = cc in
-          cond-true (q x) (Some x) (find q xs) (ap q e ∙ k) ∙ same
-      | inr fail ↦
-          cond-false (q x) (Some x) (find q xs) (false_from_ne_true (q x) (λ pass. both_ways (p x) fail (within x pass)))
-          ∙ find_stricter p q within xs y (sym (cond-false (p x) (Some x) (find p xs) fail) ∙ h) k
-    ]
+find_stricter p q within xs y h k =
+    sym (find_same (λ x. p x && q x) q xs (λ x. both_tests (p x) (q x) (within x))) ∙ find_narrower p q xs y h k where
+      both_tests : (a b : Bool) → (b ≡ true → a ≡ true) → (a && b) ≡ b
+      both_tests true b within = refl
+      both_tests false b within = grind arith
 
 -- ---- the foremost
 

@@ -1,48 +1,34 @@
 -- Selections: a selection for the core keeps its law.
-use Rattle.std.proofs.Common.{◌≡◌, ℕ, ◌-◌, ◌<◌, true, false, cond, List, [], ◌∷◌, ◌++◌, map, length, refl, sym, ap, ◌∙◌, subst, inl, inr, Option, Some, None, arith}
+use Rattle.std.proofs.Common.{◌≡◌, ℕ, Bool, ◌-◌, ◌<◌, true, false, cond, List, [], ◌∷◌, ◌++◌, map, length, refl, sym, ap, ◌∙◌, subst, inl, inr, Option, Some, None, arith}
 use Rattle.std.specs.Prelude.{◌==◌, ◌||◌, ◌⊎◌, ◌↔◌, filter, All, Contains, IsTrue, is_none, is_some}
-use Rattle.std.specs.Cmp.{IsStrictWeakOrder}
 use Rattle.std.specs.List.{AllByRecursion, range_with_len, enumerate_from}
-use Rattle.std.specs.Option.{option_and_then, option_to_list}
+use Rattle.std.specs.Option.{option_and_then, option_to_list, IfSome, option_map_or}
 use Rattle.std.proofs.lemmas.Bool.{cases_Bool, cond_both, cases_lt, and_parts, and_from, or_parts, cond-true, eqb-true}
 use Rattle.std.proofs.lemmas.Bool.Decides.{nat_tests}
 use Rattle.std.proofs.lemmas.List.{length-map, get_or-map}
 use Rattle.std.proofs.lemmas.List.Elements.{All-from_recursion, recursion_from_All, All-contains, Contains-append_left, Contains-append_right, filter_passes}
 use Rattle.std.proofs.lemmas.List.FromFn.{length-enumerate_from, get_or-enumerate_from}
-use Rattle.cs_types.specs.declared.task.Policy.{Policy}
-use Rattle.cs_types.specs.declared.task.Policy.TheVariants.{Fifo}
-use Rattle.cs_types.specs.Room.{RoomState, TaskState, SiblingState, idle, queued_on, sibling_of, is_online, online, online_from}
-use Rattle.cs_types.specs.Order.{foremost, is_higher_policy, is_higher, outranks, goes_before, first_of}
-use Rattle.cs_types.specs.Selection.{first_on, cookie_of, pid_of, lead_from, choice, eligible, is_forced, is_run, told, handed, given, occupation_of, selected_room, selected}
-use Rattle.cs_types.specs.Laws.{to_run, SelectsForTheCore}
+use Rattle.std.proofs.lemmas.Option.{MatchOption-from_none}
+use Rattle.cs_types.specs.declared.event.Event.{Event}
+use Rattle.cs_types.specs.declared.event.Event.TheVariants.{Turn, Resched, Block, Wake, Prctl}
+use Rattle.cs_types.specs.declared.event.Ask.{Ask}
+use Rattle.cs_types.specs.declared.reply.Reply.TheVariants.{Picked}
+use Rattle.cs_types.specs.declared.reply.Entry.{Entry}
+use Rattle.cs_types.specs.declared.scenario.Scenario.{Scenario}
+use Rattle.cs_types.specs.Scenario.{IsEvent}
+use Rattle.cs_types.specs.Room.{RoomState, TaskState, SiblingState, idle, queued_on, sibling_of, is_online, online, online_from, running_on, task_of}
+use Rattle.cs_types.specs.Order.{foremost, is_higher, outranks, goes_before, first_of}
+use Rattle.cs_types.specs.Selection.{first_on, cookie_of, pid_of, lead_from, choice, eligible, is_forced, is_run, told, handed, given, occupation_of, selected_room, selected, Scheduled, is_plain, plain, rescheduled, scheduled, schedule}
+use Rattle.cs_types.specs.Prctl.{prctl_answer}
+use Rattle.cs_types.specs.Touches.{selection_of, is_fresh}
+use Rattle.cs_types.specs.Step.{Stepped, step, turned, blocked, woken, idled, dequeued}
+use Rattle.cs_types.specs.History.{History, moment_of, fold_of, ledger_of, reply_to, step_at}
+use Rattle.cs_types.specs.Laws.{to_run, SelectsForTheCore, scheduling_room, cpu_of}
 use Rattle.cs_types.proofs.Foremost.{each_weaker, foremost_none, foremost_one}
-use Rattle.cs_types.proofs.First.{goes_before_is_order}
+use Rattle.cs_types.proofs.First.{goes_before_is_order, outranks_is_order}
 use Rattle.cs_types.proofs.Filtered.{each_of_map, each_found, foremost_least, foremost-filter, Contains-filter, Contains-filter_parts, Contains-range, Contains-range_within}
-
--- ---- the order across siblings
-
--- No task is higher than one that is higher than it.
-policy_one_way : (a b : Policy) → is_higher_policy a b ≡ true → is_higher_policy b a ≡ false
-policy_one_way (Fifo p) (Fifo q) h = grind (arith, nat_tests)
-
--- A task that is not higher than a second, which is not higher than a third, is not higher than that.
-policy_chain : (a b c : Policy) → is_higher_policy a b ≡ false → is_higher_policy b c ≡ false → is_higher_policy a c ≡ false
-policy_chain (Fifo p) (Fifo q) (Fifo r) h k = grind (arith, nat_tests)
-
-outranks_one_way : (a b : Option TaskState) → outranks a b ≡ true → outranks b a ≡ false
-outranks_one_way None b h = absurd cc
-outranks_one_way (Some a) None h = refl
-outranks_one_way (Some a) (Some b) h = policy_one_way a.spec.policy b.spec.policy h
-
-outranks_chain : (a b c : Option TaskState) → outranks a b ≡ false → outranks b c ≡ false → outranks a c ≡ false
-outranks_chain None b c h k = refl
-outranks_chain (Some a) None c h k = absurd cc
-outranks_chain (Some a) (Some b) None h k = absurd cc
-outranks_chain (Some a) (Some b) (Some c) h k = policy_chain a.spec.policy b.spec.policy c.spec.policy h k
-
--- The order of tasks and idle across siblings is a strict weak order.
-pub outranks_is_order : IsStrictWeakOrder outranks
-outranks_is_order = record { one_way = outranks_one_way; chain = outranks_chain }
+use Rattle.cs_types.proofs.Histories.{moment_of-push}
+use Rattle.cs_types.proofs.Siblings.{onlines-idled, length-alike, is_online-alike, length-fold_of, is_online-fold_of}
 
 -- ---- the first of a list of tasks
 
@@ -105,7 +91,7 @@ none_outranks_lead room cpu other lead earliest held =
     (All-from_recursion (λ sibling. outranks (first_on room sibling) lead ≡ false) (online_from room cpu) least) held in
     All-from_recursion (λ task. outranks (Some task) lead ≡ false) (queued_on room other)
     (each_weaker (λ task. outranks (Some task) (first_on room other) ≡ false) (λ task. outranks (Some task) lead ≡ false) (queued_on room other)
-    (λ task lower. outranks_chain (Some task) (first_on room other) lead lower its_first) (none_outranks_first (queued_on room other)))
+    (λ task lower. outranks_is_order.chain (Some task) (first_on room other) lead lower its_first) (none_outranks_first (queued_on room other)))
 
 -- ---- the choice of a sibling
 
@@ -133,16 +119,20 @@ pub choice_is_first : (room : RoomState) (core cpu : ℕ) → choice room core c
 unfolding choice
 choice_is_first room core cpu = chosen (queued_on room cpu) core (first_on room cpu) refl
 
+-- a filter by a cookie keeps tasks that have it
+each_with : (cookie : ℕ) (tasks : List TaskState) → AllByRecursion (λ task. task.cookie ≡ cookie) (filter (λ task. task.cookie == cookie) tasks)
+each_with cookie tasks =
+    let kept = filter (λ (task : TaskState). task.cookie == cookie) tasks in
+    each_weaker (λ task. (task.cookie == cookie) ≡ true) (λ task. task.cookie ≡ cookie) kept (λ task pass. eqb-true task.cookie cookie pass)
+    (recursion_from_All (λ task. (task.cookie == cookie) ≡ true) kept (filter_passes (λ task. task.cookie == cookie) tasks))
+
 -- Each eligible task has the core cookie.
 pub each_eligible : (room : RoomState) (core cpu : ℕ) → AllByRecursion (λ task. task.cookie ≡ core) (eligible room core cpu)
 each_eligible room core cpu =
-    let with_cookie : (cookie : ℕ) → cookie ≡ core → (tasks : List TaskState) → AllByRecursion (λ task. task.cookie ≡ core) (filter (λ task. task.cookie == cookie) tasks) =
-    λ cookie e tasks. each_weaker (λ task. (task.cookie == cookie) ≡ true) (λ task. task.cookie ≡ core) (filter (λ task. task.cookie == cookie) tasks)
-    (λ task pass. eqb-true task.cookie cookie pass ∙ e)
-    (recursion_from_All (λ task. (task.cookie == cookie) ≡ true) (filter (λ task. task.cookie == cookie) tasks) (filter_passes (λ task. task.cookie == cookie) tasks)) in
+    let first = option_to_list (first_on room cpu) in
     cond_both (core == 0) _ _ (AllByRecursion (λ (task : TaskState). task.cookie ≡ core))
-    (λ none. with_cookie 0 (sym (eqb-true core 0 none)) (option_to_list (first_on room cpu)))
-    (λ _. with_cookie core refl (queued_on room cpu))
+    (λ none. subst (λ cookie. AllByRecursion (λ task. task.cookie ≡ cookie) (filter (λ task. task.cookie == 0) first)) (sym (eqb-true core 0 none)) (each_with 0 first))
+    (λ _. each_with core (queued_on room cpu))
 
 -- A choice is idle, or has the core cookie.
 choice_matches : (room : RoomState) (core cpu : ℕ) → (choice room core cpu ≡ None) ⊎ (cookie_of (choice room core cpu) ≡ core)
@@ -231,3 +221,78 @@ selected_keeps_law room cpu below up =
       count = refl;
       counted = refl;
     }
+
+-- ---- the law at every step
+
+-- what the law says of a schedule that a sibling made: where it is a selection for the core, it keeps the law
+abbrev pub KeepsLaw : RoomState → ℕ → Scheduled → Type 0
+KeepsLaw room cpu made = IfSome (selection_of (Picked made.pick)) (λ pick. SelectsForTheCore room cpu pick made.room)
+
+rescheduled_keeps_law : (room : RoomState) (cpu : ℕ) → cpu < length room.siblings → is_online room cpu ≡ true → KeepsLaw room cpu (rescheduled room cpu)
+rescheduled_keeps_law room cpu below up =
+    cond_both (is_plain room cpu) (plain room cpu) (selected room cpu) (KeepsLaw room cpu) (λ _. tt) (λ _. selected_keeps_law room cpu below up)
+
+scheduled_keeps_law : (room : RoomState) (fresh : Bool) (cpu : ℕ) (waiting : Option (Option ℕ)) →
+    cpu < length room.siblings → is_online room cpu ≡ true → KeepsLaw room cpu (scheduled room fresh cpu waiting)
+scheduled_keeps_law room fresh cpu None below up = rescheduled_keeps_law room cpu below up
+scheduled_keeps_law room true cpu (Some run) below up = tt
+scheduled_keeps_law room false cpu (Some run) below up = rescheduled_keeps_law room cpu below up
+
+-- Every schedule of an online sibling keeps the law.
+pub schedule_keeps_law : (room : RoomState) (fresh : Bool) (cpu : ℕ) → cpu < length room.siblings → is_online room cpu ≡ true → KeepsLaw room cpu (schedule room fresh cpu)
+schedule_keeps_law room fresh cpu below up = scheduled_keeps_law room fresh cpu (sibling_of room cpu).waiting below up
+
+-- what the law says of a step made by an event
+abbrev pub StepKeepsLaw : RoomState → Event → Stepped → Type 0
+StepKeepsLaw room event made = IfSome (selection_of made.reply) (λ pick. SelectsForTheCore (scheduling_room room event) (cpu_of event) pick made.room)
+
+turned_keeps_law : (room : RoomState) (fresh : Bool) (cpu : ℕ) → cpu < length room.siblings → is_online room cpu ≡ true →
+    StepKeepsLaw room (Turn cpu) (turned room fresh cpu)
+turned_keeps_law room fresh cpu below up =
+    cond_both (sibling_of room cpu).pending _ _ (StepKeepsLaw room (Turn cpu)) (λ _. schedule_keeps_law room fresh cpu below up) (λ _. tt)
+
+-- a sibling that blocks schedules in the room without the task that went to sleep, where the same siblings are online
+blocked_keeps_law : (room : RoomState) (cpu : ℕ) (task : Option TaskState) → cpu < length room.siblings → is_online room cpu ≡ true →
+    IfSome (selection_of (blocked room cpu task).reply)
+    (λ pick. SelectsForTheCore (option_map_or (λ task. idled (dequeued room task) cpu) task room) cpu pick (blocked room cpu task).room)
+blocked_keeps_law room cpu None below up = tt
+blocked_keeps_law room cpu (Some task) below up =
+    let room_then = idled (dequeued room task) cpu in
+    let same = onlines-idled room cpu task in
+    schedule_keeps_law room_then false cpu (subst (λ n. cpu < n) (sym (length-alike room_then room same)) below)
+    (is_online-alike room_then room same cpu ∙ up)
+
+woken_keeps_law : (room : RoomState) (pid : ℕ) (task : Option TaskState) → StepKeepsLaw room (Wake pid) (woken room task)
+woken_keeps_law room pid None = tt
+woken_keeps_law room pid (Some task) = cond_both task.queued _ _ (StepKeepsLaw room (Wake pid)) (λ _. tt) (λ _. tt)
+
+-- A call tells no selection.
+prctl_selects_nothing : (room : RoomState) (caller : ℕ) (ask : Ask) → selection_of (prctl_answer room caller ask) ≡ None
+unfolding prctl_answer
+prctl_selects_nothing room caller ask = grind arith
+
+-- Every step of an online sibling keeps the law, and the other steps select nothing.
+pub step_keeps_law : (room : RoomState) (fresh : Bool) (event : Event) → IsEvent (length room.siblings) event →
+    ((cpu : ℕ) → cpu < length room.siblings → is_online room cpu ≡ true) → StepKeepsLaw room event (step room fresh event)
+step_keeps_law room fresh (Turn cpu) below up = turned_keeps_law room fresh cpu below (up cpu below)
+step_keeps_law room fresh (Resched cpu) below up = schedule_keeps_law room fresh cpu below (up cpu below)
+step_keeps_law room fresh (Block cpu) below up = blocked_keeps_law room cpu (running_on room cpu) below (up cpu below)
+step_keeps_law room fresh (Wake pid) limits up = woken_keeps_law room pid (task_of room pid)
+step_keeps_law room fresh (Prctl caller ask) limits up =
+    MatchOption-from_none (selection_of (prctl_answer room caller ask)) _ (prctl_selects_nothing room caller ask)
+
+-- Every selection for the core that a legal step makes keeps the law.
+pub selects : (scenario : Scenario) (history : History) (entry : Entry) → IsEvent scenario.siblings entry.event →
+    entry.reply ≡ reply_to scenario history entry.event →
+    IfSome (selection_of entry.reply)
+    (λ pick. SelectsForTheCore (scheduling_room (fold_of scenario history) entry.event) (cpu_of entry.event) pick (fold_of scenario (history ++ entry ∷ [])))
+selects scenario history entry limits legal =
+    let room = fold_of scenario history in
+    let made = step_at (moment_of scenario history) entry.event in
+    let siblings = length-fold_of scenario history in
+    let kept = step_keeps_law room (is_fresh (ledger_of scenario history)) entry.event
+    (subst (λ n. IsEvent n entry.event) (sym siblings) limits)
+    (λ cpu below. is_online-fold_of scenario history cpu (subst (λ n. cpu < n) siblings below)) in
+    let same : made ≡ record { reply = entry.reply; room = fold_of scenario (history ++ entry ∷ []) } =
+    sym (λ i. record { reply = legal i; room = (moment_of-push scenario history entry i).room }) in
+    subst (StepKeepsLaw room entry.event) same kept
