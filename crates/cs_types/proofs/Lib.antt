@@ -4,3 +4,4 @@ pub mod First
 pub mod Siblings
 pub mod Filtered
 pub mod Selections
+pub mod Numbers

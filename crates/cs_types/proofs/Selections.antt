@@ -216,6 +216,8 @@ selected_keeps_law room cpu below up =
       choices = λ other held. let parts = online_parts room other held in
           ap to_run (sibling_of-selected_room room cpu core other parts.0)
           ∙ to_run-handed cpu (occupation_of room core) (pid_of (choice room core other)) other (sibling_of room other) parts.1;
+      first = λ other. choice_is_first room core other;
+      took = refl;
       matches = λ other held. choice_matches room core other;
       forced = λ other. forced_iff room core other;
       count = refl;

@@ -5,7 +5,7 @@ use Rattle.cs_types.specs.declared.event.Event.{Event}
 use Rattle.cs_types.specs.declared.event.Event.TheVariants.{Block}
 use Rattle.cs_types.specs.declared.reply.Pick.{Pick}
 use Rattle.cs_types.specs.Room.{RoomState, TaskState, SiblingState, queued_on, sibling_of, running_on, online, online_from}
-use Rattle.cs_types.specs.Order.{foremost, outranks}
+use Rattle.cs_types.specs.Order.{foremost, outranks, first_of}
 use Rattle.cs_types.specs.Selection.{first_on, cookie_of, pid_of, choice, eligible, is_forced}
 use Rattle.cs_types.specs.Touches.{scheduler_of}
 use Rattle.cs_types.specs.Step.{dequeued, idled}
@@ -34,9 +34,12 @@ pub record SelectsForTheCore (before : RoomState) (cpu : ℕ) (pick : Pick) (now
   -- The core cookie is the lead's.
   pub cookie : now.core_cookie ≡ cookie_of lead
   pub told : pick.core ≡ now.core_cookie
-  -- What each online sibling is to run is idle or has that cookie.
+  -- What each online sibling is to run is the first of the tasks that are eligible there, and idle where none is. So
+  -- it is idle or has that cookie.
   pub choices : (other : ℕ) → Contains (online before) other →
       to_run (sibling_of now other) ≡ pid_of (choice before now.core_cookie other)
+  pub first : (other : ℕ) → choice before now.core_cookie other ≡ first_of (eligible before now.core_cookie other)
+  pub took : pick.run ≡ unwrap_or (pid_of (choice before now.core_cookie cpu)) 0
   pub matches : (other : ℕ) → Contains (online before) other →
       (choice before now.core_cookie other ≡ None) ⊎ (cookie_of (choice before now.core_cookie other) ≡ now.core_cookie)
   -- A sibling is forced idle exactly where it has a queued task and none is eligible.

@@ -20,7 +20,7 @@ distinct (x ∷ xs) = if list_any (λ other. other == x) xs then distinct xs els
 
 -- A cookie is live while a living task has it.
 abbrev pub live_cookies : List TaskState → List ℕ
-live_cookies tasks = distinct (filter (λ cookie. not (cookie == 0)) (map (λ task. task.cookie) tasks))
+live_cookies tasks = filter (λ cookie. not (cookie == 0)) (distinct (map (λ task. task.cookie) tasks))
 
 -- ---- whom a call speaks of
 

@@ -1,2 +1,4 @@
+pub mod Lists
+pub mod Orders
 pub mod States
-pub mod Machines
+pub mod LiveCookies

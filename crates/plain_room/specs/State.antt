@@ -1,5 +1,5 @@
 -- What the lists of the state stand for.
-use Rattle.std.specs.Prelude.{◌≡◌, ℕ, ◌+◌, ◌<◌, ◌≤◌, ◌&&◌, ◌||◌, ◌==◌, nat_lt, Bool, false, if◌then◌else◌, List, length, map, All, slice_set, Option, Some, None, is_some}
+use Rattle.std.specs.Prelude.{◌≡◌, ℕ, ◌+◌, ◌<◌, ◌≤◌, ◌&&◌, ◌||◌, ◌==◌, nat_lt, Bool, false, if◌then◌else◌, List, length, map, All, slice_set, Option, Some, None, is_some, unwrap_or}
 use Rattle.std.specs.Option.{option_map_or}
 use Rattle.cs_types.specs.declared.event.Event.{Event}
 use Rattle.cs_types.specs.declared.reply.Kind.{Kind}
@@ -7,6 +7,7 @@ use Rattle.cs_types.specs.declared.reply.Pick.{Pick}
 use Rattle.cs_types.specs.declared.reply.Reply.{Reply}
 use Rattle.cs_types.specs.declared.task.TaskSpec.{TaskSpec}
 use Rattle.cs_types.specs.declared.scenario.Scenario.{Scenario}
+use Rattle.cs_types.specs.declared.view.CpuView.{CpuView}
 use Rattle.cs_types.specs.Scenario.{IsWithin, IsPolicy}
 use Rattle.cs_types.specs.Room.{TaskState, SiblingState, RoomState}
 use Rattle.cs_types.specs.Selection.{Scheduled}
@@ -46,6 +47,11 @@ sibling_state sibling =
       occupation = sibling.occupation;
     }
 
+-- what a machine shows of a sibling
+abbrev pub sibling_view : Sibling → CpuView
+sibling_view sibling =
+    record { online = sibling.online; run = unwrap_or sibling.run 0; number = sibling.number; pending = sibling.pending }
+
 -- the room that the lists stand for, under a scenario's limits
 abbrev pub room_of : Scenario → State → RoomState
 room_of scenario state =
@@ -62,11 +68,15 @@ room_of scenario state =
       occupation = state.occupation;
     }
 
--- there are so many siblings, each task is at home on one of them, and its policy keeps its limits
+-- the task is at home on one of so many siblings, and its policy keeps its limits
+pub record IsFit (count : ℕ) (task : Task) : Type 0 where
+  pub home : task.home < count
+  pub policy : IsPolicy task.spec.policy
+
+-- there are so many siblings, and each task fits them
 pub record IsSound (count : ℕ) (state : State) : Type 0 where
   pub siblings : length state.siblings.items ≡ count
-  pub homes : All (λ task. task.home < count) state.tasks.items
-  pub policies : All (λ task. IsPolicy task.spec.policy) state.tasks.items
+  pub tasks : All (IsFit count) state.tasks.items
 
 -- the state stays sound
 abbrev pub StaysSound : State → State → Type 0

@@ -4,6 +4,7 @@
 mod choice;
 mod cookies;
 mod events;
+mod lead;
 mod room;
 mod schedule;
 mod selection;

@@ -1,10 +1,10 @@
 //! The machine over plain lists. It keeps its scenario, the state of the core and every entry.
 
 ghost use Rattle.std.specs.Prelude.{◌≡◌, [], length, IfOk};
-ghost use Rattle.cs_types.specs.Scenario.{IsBuilt};
+ghost use Rattle.cs_types.specs.Scenario.{IsPlayable};
 
 use crate::state::State;
-use cs_types::{Actor, Entry, Event, List, OutOfMemory, Reply, Room, Scenario};
+use cs_types::{Actor, CoreView, Cpu, CpuView, Entry, Event, List, OutOfMemory, Pid, Reply, Room, Scenario, TaskView};
 use std::alloc::Global;
 use std::marker::Model;
 
@@ -31,9 +31,9 @@ impl Model for PlainRoom {
 
 impl PlainRoom {
     /// The room of a scenario before its first step. It takes memory for as many entries as the
-    /// scenario has steps, and no later call takes any.
+    /// scenario has steps, and no later call takes any. The core has 1 to 16 siblings.
     pub fn start(alloc: Global, scenario: &Scenario) -> Result<PlainRoom, OutOfMemory>
-        requires { IsBuilt scenario.now }
+        requires { IsPlayable scenario.now }
         ensures scenario { IfOk result (λ room. room.scenario ≡ scenario.now) }
         ensures empty { IfOk result (λ room. room.steps ≡ []) }
         ensures free { IfOk result (λ room. room.free ≡ length scenario.now.steps) }
@@ -69,7 +69,7 @@ impl Room for PlainRoom {
     ghost free = { λ room. room.free };
 
     fn apply(&mut self, actor: Actor, event: Event) -> Reply {
-        let reply = self.state.apply(event);
+        let reply = self.state.apply(&self.scenario, event);
         self.entries.push_reserved(Entry {
             actor,
             event,
@@ -92,6 +92,26 @@ impl Room for PlainRoom {
 
     fn siblings(&self) -> u8 {
         self.scenario.siblings
+    }
+
+    fn numbers(&self) -> (u64, u64) {
+        (self.state.task_number, self.state.pick_number)
+    }
+
+    fn core(&self) -> CoreView {
+        CoreView {
+            cookie: self.state.core_cookie,
+            forced: self.state.forced,
+            occupation: self.state.occupation,
+        }
+    }
+
+    fn cpu(&self, cpu: Cpu) -> Option<CpuView> {
+        self.state.siblings.get(cpu as usize).map(|sibling| sibling.view())
+    }
+
+    fn task_after(&self, pid: Pid) -> Option<TaskView> {
+        self.state.task_after(pid).map(|task| task.view())
     }
 
     ghost legal = { λ room. IsLegal-history_of room.scenario room.steps };

@@ -8,6 +8,7 @@ ghost use Rattle.cs_types.specs.declared.scenario.Scenario.{Scenario};
 ghost use Rattle.cs_types.specs.Scenario.{IsPlayable};
 ghost use Rattle.cs_types.specs.Room.{start, has_pid, running_on, flagged};
 ghost use Rattle.cs_types.specs.Step.{dequeued, idled, enqueued};
+ghost use Rattle.cs_types.specs.View.{task_after};
 ghost use Rattle.plain_room.specs.State.{task_state, task_states};
 
 use crate::sibling::Sibling;
@@ -36,7 +37,7 @@ pub struct State {
 }
 
 impl State {
-    ghost use Rattle.plain_room.specs.State.{room_of, IsSound, StaysSound, Becomes, numbers_of, touched, is_fresh_by};
+    ghost use Rattle.plain_room.specs.State.{room_of, IsFit, IsSound, StaysSound, Becomes, numbers_of, touched, is_fresh_by};
 
     /// The start of a scenario: all tasks asleep at home, all siblings idle.
     pub fn start(alloc: Global, scenario: &Scenario) -> Result<State, AllocError>
@@ -63,7 +64,7 @@ impl State {
     /// The living task with the pid.
     pub fn task_of(&self, pid: Pid) -> Option<Task>
         ensures task { option_map task_state result ≡ find (has_pid pid) (task_states self.now.tasks.items) }
-        ensures home { (count : _) → IsSound count self.now → IfSome result (λ task. task.home < count) }
+        ensures fit { (count : _) → IsSound count self.now → IfSome result (IsFit count) }
     {
         self.tasks.iter().find(|task| task.spec.pid == pid).copied()
     }
@@ -72,9 +73,24 @@ impl State {
     pub fn running_on(&self, cpu: Cpu) -> Option<Task>
         requires { cpu < length self.now.siblings.items }
         ensures task { (scenario : Scenario) → option_map task_state result ≡ running_on (room_of scenario self.now) cpu }
-        ensures home { (count : _) → IsSound count self.now → IfSome result (λ task. task.home < count) }
+        ensures fit { (count : _) → IsSound count self.now → IfSome result (IsFit count) }
     {
         self.task_of(self.siblings[cpu as usize].run?)
+    }
+
+    /// The living task with the least pid above this one.
+    pub fn task_after(&self, pid: Pid) -> Option<Task>
+        ensures { (scenario : Scenario) → option_map task_state result ≡ task_after (room_of scenario self.now) pid }
+    {
+        self.tasks
+            .iter()
+            .copied()
+            .filter(|task| task.spec.pid > pid)
+            .reduce(|least, task| if task.spec.pid < least.spec.pid {
+                task
+            } else {
+                least
+            })
     }
 
     /// Whether there was a selection for the core, and nothing was touched since the last one.
@@ -92,11 +108,21 @@ impl State {
         self.task_number += 1;
     }
 
+    /// The queues are touched once more where the test says so.
+    pub fn touch_where(&mut self, test: bool)
+        requires { self.old.task_number + 1 < 2 ^ 64 }
+        ensures { self.new ≡ record self.old { task_number = self.old.task_number + (if test then 1 else 0) } }
+    {
+        if test {
+            self.touch();
+        }
+    }
+
     /// The task is asleep.
     pub fn dequeue(&mut self, task: Task)
         requires { self.old.task_number + 1 < 2 ^ 64 }
         ensures room { Becomes self.old self.new (λ room. dequeued room (task_state task)) }
-        ensures sound { (count : _) → IsSound count self.old → task.home < count → IsSound count self.new }
+        ensures sound { (count : _) → IsSound count self.old → IsFit count task → IsSound count self.new }
         ensures siblings { self.new.siblings ≡ self.old.siblings }
         ensures numbers { numbers_of self.new ≡ touched 1 (numbers_of self.old) }
     {
@@ -126,7 +152,7 @@ impl State {
         requires stamp { self.old.next_stamp + 1 < 2 ^ 64 }
         requires touches { self.old.task_number + 1 < 2 ^ 64 }
         ensures room { Becomes self.old self.new (λ room. enqueued room (task_state task)) }
-        ensures sound { (count : _) → IsSound count self.old → task.home < count → IsSound count self.new }
+        ensures sound { (count : _) → IsSound count self.old → IsFit count task → IsSound count self.new }
         ensures siblings { self.new.siblings ≡ self.old.siblings }
         ensures numbers { numbers_of self.new ≡ touched 1 (numbers_of self.old) }
     {

@@ -6,7 +6,7 @@ use Rattle.std.proofs.lemmas.Iterator.{YieldsList-from_slice}
 use Rattle.std.proofs.lemmas.Iterator.Search.{find_from_yields_List}
 use Rattle.cs_types.specs.Room.{has_pid}
 use Rattle.plain_room.specs.State.{task_state}
-use Rattle.plain_room.proofs.States.{find-map}
+use Rattle.plain_room.proofs.Lists.{find-map}
 use Rattle.plain_room.proofs.state.State.task_of.Goals as goal
 
 pub returns-clause-task : goal.returns-clause-task

@@ -1,0 +1,28 @@
+-- Choice: what the choices of a selection make of tasks and siblings.
+use Rattle.std.specs.Prelude.{ℕ, ◌&&◌, false, if◌then◌else◌, List, Some, None, slice_index_or}
+use Rattle.std.specs.List.{list_any}
+use Rattle.cs_types.specs.Room.{RoomState, SiblingState, is_online}
+use Rattle.cs_types.specs.Selection.{is_run, handed, pid_of, choice, is_forced}
+use Rattle.plain_room.specs.declared.choice.Choice.{Choice}
+use Rattle.plain_room.specs.declared.task.Task.{Task}
+
+-- what a sibling gets for a core cookie
+abbrev pub choice_at : RoomState → ℕ → ℕ → Choice
+choice_at room core cpu =
+    record {
+      run = pid_of (choice room core cpu);
+      is_online = is_online room cpu;
+      is_forced = is_online room cpu && is_forced room core cpu;
+    }
+
+-- a task that is among the choices remembers the occupation
+abbrev pub remembered_task : List Choice → ℕ → Task → Task
+remembered_task choices occupation task =
+    record task {
+      occupation = if list_any (λ choice. choice.is_online && is_run choice.run (Some task.spec.pid)) choices then occupation else task.occupation;
+    }
+
+-- the sibling at a place is handed what stands there among the choices
+abbrev pub handed_choice : ℕ → ℕ → List Choice → ℕ × SiblingState → SiblingState
+handed_choice selector occupation choices place =
+    handed selector occupation (slice_index_or choices place.0 (record { run = None; is_online = false; is_forced = false })).run place

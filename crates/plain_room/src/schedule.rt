@@ -1,0 +1,126 @@
+//! A schedule, in its three cases.
+
+ghost use Rattle.std.specs.Prelude.{◌≡◌, ◌+◌, ◌^◌, ◌<◌, ◌≤◌, length, None, Some};
+ghost use Rattle.cs_types.specs.declared.scenario.Scenario.{Scenario};
+ghost use Rattle.cs_types.specs.Selection.{pid_of, choice, forced_count, adopted, plain, selected_room, selected, rescheduled, schedule};
+ghost use Rattle.plain_room.specs.State.{Schedules, IsSound, StaysSound, Becomes, room_of, numbers_of, is_fresh_by};
+
+use crate::choice::{forced_count, hand, occupation, remember};
+use crate::sibling::Sibling;
+use crate::state::State;
+use cs_types::{Cookie, Cpu, Kind, Pick, Pid};
+
+impl State {
+    /// The sibling runs what waits for it.
+    fn adopt(&mut self, cpu: Cpu, run: Option<Pid>) -> Pick
+        requires { cpu < length self.old.siblings.items }
+        ensures schedules { Schedules self.old self.new cpu result (λ room. adopted room cpu run) }
+        ensures sound { StaysSound self.old self.new }
+    {
+        self.siblings[cpu as usize] = Sibling {
+            number: self.pick_number,
+            ..self.siblings[cpu as usize].running(run)
+        };
+        Pick {
+            kind: Kind::Adopted,
+            run: run.unwrap_or(0),
+            core: self.core_cookie,
+            forced: self.forced,
+        }
+    }
+
+    /// The sibling runs the first of its own queue.
+    fn run_first(&mut self, cpu: Cpu) -> Pick
+        requires cpu { cpu < length self.old.siblings.items }
+        requires touches { self.old.task_number + 1 < 2 ^ 64 }
+        ensures schedules { Schedules self.old self.new cpu result (λ room. plain room cpu) }
+        ensures sound { StaysSound self.old self.new }
+    {
+        let run = self.first_on(cpu).map(|task| task.spec.pid);
+        self.forced = 0;
+        self.occupation = 0;
+        self.siblings[cpu as usize] = self.siblings[cpu as usize].running(run);
+        self.touch();
+        Pick {
+            kind: Kind::Plain,
+            run: run.unwrap_or(0),
+            core: 0,
+            forced: 0,
+        }
+    }
+
+    /// Hands the siblings and the tasks what a selection for the core that the sibling makes chooses for
+    /// this core cookie, and gives what the sibling itself runs.
+    fn select_for(&mut self, cpu: Cpu, core: Cookie) -> Option<Pid>
+        requires cpu { cpu < length self.old.siblings.items }
+        requires few { length self.old.siblings.items ≤ 16 }
+        ensures room { Becomes self.old self.new (λ room. selected_room room cpu core) }
+        ensures run { (scenario : Scenario) → result ≡ pid_of (choice (room_of scenario self.old) core cpu) }
+        ensures forced { (scenario : Scenario) → self.new.forced ≡ forced_count (room_of scenario self.old) core }
+        ensures numbers { numbers_of self.new ≡ numbers_of self.old }
+        ensures sound { StaysSound self.old self.new }
+    {
+        let choices = self.choices(core);
+        self.core_cookie = core;
+        self.forced = forced_count(&choices);
+        self.occupation = occupation(&choices);
+        remember(&mut self.tasks, &choices, self.occupation);
+        hand(&mut self.siblings, cpu, &choices, self.occupation);
+        choices[cpu as usize].run
+    }
+
+    /// The sibling makes a selection for the core, under the cookie of its lead.
+    fn select(&mut self, cpu: Cpu) -> Pick
+        requires cpu { cpu < length self.old.siblings.items }
+        requires few { length self.old.siblings.items ≤ 16 }
+        requires sound { IsSound (length self.old.siblings.items) self.old }
+        requires touches { self.old.task_number + 1 < 2 ^ 64 }
+        ensures schedules { Schedules self.old self.new cpu result (λ room. selected room cpu) }
+        ensures sound { StaysSound self.old self.new }
+    {
+        let core = self.lead_from(cpu).map_or(0, |task| task.cookie);
+        let run = self.select_for(cpu, core);
+        self.touch();
+        self.pick_number = self.task_number;
+        self.siblings[cpu as usize].number = self.pick_number;
+        Pick {
+            kind: Kind::Selected,
+            run: run.unwrap_or(0),
+            core,
+            forced: self.forced,
+        }
+    }
+
+    /// The sibling schedules, and adopts nothing.
+    pub fn reschedule(&mut self, cpu: Cpu) -> Pick
+        requires cpu { cpu < length self.old.siblings.items }
+        requires few { length self.old.siblings.items ≤ 16 }
+        requires sound { IsSound (length self.old.siblings.items) self.old }
+        requires touches { self.old.task_number + 1 < 2 ^ 64 }
+        ensures schedules { Schedules self.old self.new cpu result (λ room. rescheduled room cpu) }
+        ensures sound { StaysSound self.old self.new }
+    {
+        let cookie = self.first_on(cpu).map_or(0, |task| task.cookie);
+        if self.core_cookie == 0 && self.forced == 0 && cookie == 0 {
+            self.run_first(cpu)
+        } else {
+            self.select(cpu)
+        }
+    }
+
+    /// The sibling schedules.
+    pub fn schedule(&mut self, cpu: Cpu) -> Pick
+        requires cpu { cpu < length self.old.siblings.items }
+        requires few { length self.old.siblings.items ≤ 16 }
+        requires sound { IsSound (length self.old.siblings.items) self.old }
+        requires touches { self.old.task_number + 1 < 2 ^ 64 }
+        ensures schedules { Schedules self.old self.new cpu result
+            (λ room. schedule room (is_fresh_by (numbers_of self.old)) cpu) }
+        ensures sound { StaysSound self.old self.new }
+    {
+        match self.siblings[cpu as usize].waiting {
+            Some(run) if self.is_fresh() => self.adopt(cpu, run),
+            _ => self.reschedule(cpu),
+        }
+    }
+}

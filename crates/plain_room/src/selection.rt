@@ -1,0 +1,125 @@
+//! What a selection for the core asks of the queues: the first task of each sibling, the lead, and what
+//! each sibling gets for a core cookie. It is a file of its own since it changes nothing.
+
+ghost use Rattle.std.specs.Prelude.{◌≡◌, ◌+◌, ◌-◌, ◌<◌, ◌≤◌, ◌++◌, ◌&&◌, ◌==◌, length, map, filter, None, if◌then◌else◌};
+ghost use Rattle.std.specs.List.{range_with_len};
+ghost use Rattle.std.specs.Option.{option_map};
+ghost use Rattle.arrayvec.specs.ArrayVec.{array_vec_len};
+ghost use Rattle.cs_types.specs.declared.scenario.Scenario.{Scenario};
+ghost use Rattle.cs_types.specs.Room.{is_online};
+ghost use Rattle.cs_types.specs.Order.{first_of};
+ghost use Rattle.cs_types.specs.Selection.{first_on, queued_with, choice, lead_from};
+ghost use Rattle.plain_room.specs.State.{task_state, task_states, room_of, IsSound};
+ghost use Rattle.plain_room.specs.Choice.{choice_at};
+
+use crate::choice::{Choice, Choices};
+use crate::lead::{Firsts, lead_of};
+use crate::state::State;
+use crate::task::Task;
+use cs_types::{Cookie, Cpu};
+
+impl State {
+    /// The first task queued on a sibling, none for idle.
+    pub fn first_on(&self, cpu: Cpu) -> Option<Task>
+        ensures { (scenario : Scenario) → option_map task_state result ≡ first_on (room_of scenario self.now) cpu }
+    {
+        self.tasks
+            .iter()
+            .copied()
+            .filter(|task| task.queued && task.home == cpu)
+            .reduce(|first, task| if task.goes_before(&first) {
+                task
+            } else {
+                first
+            })
+    }
+
+    /// The first task queued on a sibling that has the cookie. None has cookie 0 here.
+    fn first_with(&self, cookie: Cookie, cpu: Cpu) -> Option<Task>
+        ensures { (scenario : Scenario) → option_map task_state result ≡
+            (if cookie == 0 then None else first_of (queued_with (room_of scenario self.now) cookie cpu)) }
+    {
+        if cookie == 0 {
+            return None;
+        }
+        self.tasks
+            .iter()
+            .copied()
+            .filter(|task| task.queued && task.home == cpu && task.cookie == cookie)
+            .reduce(|first, task| if task.goes_before(&first) {
+                task
+            } else {
+                first
+            })
+    }
+
+    /// The task that a sibling with this first task gets for a core cookie, none for idle.
+    #[tactic(auto, unfolding(cs_types::specs::Selection::choice))]
+    fn chosen(&self, first: Option<Task>, core: Cookie, cpu: Cpu) -> Option<Task>
+        ensures { (scenario : Scenario) → option_map task_state first ≡ first_on (room_of scenario self.now) cpu →
+            option_map task_state result ≡ choice (room_of scenario self.now) core cpu }
+    {
+        match first {
+            Some(task) if task.cookie != core => self.first_with(core, cpu),
+            _ => first,
+        }
+    }
+
+    /// What a sibling gets for a core cookie.
+    fn choice(&self, core: Cookie, cpu: Cpu) -> Choice
+        requires { cpu < length self.now.siblings.items }
+        ensures { (scenario : Scenario) → result ≡ choice_at (room_of scenario self.now) core cpu }
+    {
+        let first = self.first_on(cpu);
+        let chosen = self.chosen(first, core, cpu);
+        let is_online = self.siblings[cpu as usize].online;
+        Choice {
+            run: chosen.map(|task| task.spec.pid),
+            is_online,
+            is_forced: is_online && chosen.is_none() && first.is_some(),
+        }
+    }
+
+    /// What each sibling gets for a core cookie.
+    pub fn choices(&self, core: Cookie) -> Choices
+        requires { length self.now.siblings.items ≤ 16 }
+        ensures { (scenario : Scenario) → result.items ≡
+            map (choice_at (room_of scenario self.now) core) (range_with_len 0 (length self.now.siblings.items)) }
+    {
+        let mut choices = Choices::new();
+        for cpu in 0..self.siblings.len() {
+            choices.push(self.choice(core, cpu as u8));
+        }
+        choices
+    }
+
+    /// Puts the firsts of the online siblings from one on up to another after the others.
+    fn push_firsts(&self, firsts: &mut Firsts, from: usize, to: usize)
+        requires within { to ≤ length self.now.siblings.items }
+        requires few { length self.now.siblings.items ≤ 16 }
+        requires room { array_vec_len firsts.old + (to - from) ≤ 16 }
+        ensures pushed { (scenario : Scenario) → map (option_map task_state) firsts.new.items ≡ map (option_map task_state) firsts.old.items
+            ++ map (first_on (room_of scenario self.now)) (filter (is_online (room_of scenario self.now)) (range_with_len from (to - from))) }
+        ensures length { array_vec_len firsts.new ≤ array_vec_len firsts.old + (to - from) }
+    {
+        for cpu in from..to {
+            if self.siblings[cpu].online {
+                firsts.push(self.first_on(cpu as u8));
+            }
+        }
+    }
+
+    /// The lead of a selection that the sibling makes, none for idle.
+    pub fn lead_from(&self, cpu: Cpu) -> Option<Task>
+        requires cpu { cpu < length self.now.siblings.items }
+        requires few { length self.now.siblings.items ≤ 16 }
+        requires sound { IsSound (length self.now.siblings.items) self.now }
+        ensures { (scenario : Scenario) → option_map task_state result ≡ lead_from (room_of scenario self.now) cpu }
+    {
+        let mut firsts = Firsts::new();
+        self.push_firsts(&mut firsts, cpu as usize, self.siblings.len());
+        self.push_firsts(&mut firsts, 0, cpu as usize);
+        lead_of(&firsts)
+    }
+}
+
