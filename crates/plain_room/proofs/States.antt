@@ -1,6 +1,8 @@
 -- What searches, changes and counts of the lists say of the states that these stand for.
 use Rattle.std.proofs.Common.{◌≡◌, ℕ, ◌<◌, ◌+◌, cond, true, false, List, [], ◌∷◌, map, refl, sym, ap, ◌∙◌, length, set, get_or, eqb}
-use Rattle.std.specs.Prelude.{All}
+use Rattle.std.specs.Prelude.{All, Option, Some, None}
+use Rattle.std.specs.Option.{option_map, option_map_or}
+use Rattle.cs_types.specs.Selection.{pid_of, cookie_of}
 use Rattle.std.specs.Global.{Vec}
 use Rattle.std.specs.Vec.{with_items}
 use Rattle.std.proofs.lemmas.List.{get_or-map, length-map, with_items_is}
@@ -17,6 +19,15 @@ use Rattle.plain_room.specs.declared.sibling.Sibling.{Sibling}
 pub task_states-asleep : (specs : List TaskSpec) → task_states (map asleep_task specs) ≡ map asleep specs
 task_states-asleep [] = refl
 task_states-asleep (spec ∷ specs) = ap (λ (tasks : List TaskState). asleep spec ∷ tasks) (task_states-asleep specs)
+
+-- a task's pid, as the code takes it, is that of the task that it stands for
+pub pid_of-state : (task : Option Task) → option_map (λ (t : Task). t.spec.pid) task ≡ pid_of (option_map task_state task)
+pid_of-state None = refl
+pid_of-state (Some task) = refl
+
+pub cookie_of-state : (task : Option Task) → option_map_or (λ (t : Task). t.cookie) task 0 ≡ cookie_of (option_map task_state task)
+cookie_of-state None = refl
+cookie_of-state (Some task) = refl
 
 -- ---- a put
 

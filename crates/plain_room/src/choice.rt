@@ -59,11 +59,7 @@ pub fn remember(tasks: &mut [Task], choices: &[Choice], occupation: u8)
     ensures { tasks.new ≡ map (remembered_task choices.now occupation) tasks.old }
 {
     for task in tasks.iter_mut() {
-        task.occupation = if is_chosen(choices, task.spec.pid) {
-            occupation
-        } else {
-            task.occupation
-        };
+        *task = task.remembering(is_chosen(choices, task.spec.pid), occupation);
     }
 }
 

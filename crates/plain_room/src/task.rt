@@ -1,6 +1,6 @@
 //! A task as the machine keeps it, and how two of them compare.
 
-ghost use Rattle.std.specs.Prelude.{◌≡◌, ◌-◌, map, IfOk};
+ghost use Rattle.std.specs.Prelude.{◌≡◌, map, IfOk, if◌then◌else◌};
 ghost use Rattle.cs_types.specs.Order.{goes_before, is_higher};
 ghost use Rattle.cs_types.specs.View.{task_view};
 ghost use Rattle.plain_room.specs.State.{task_state, asleep_task};
@@ -36,6 +36,20 @@ impl Task {
             queued: false,
             stamp: 0,
             occupation: 0,
+        }
+    }
+
+    /// It remembers the occupation where it is chosen.
+    pub fn remembering(self, is_chosen: bool, occupation: u8) -> Task
+        ensures { result ≡ record self { occupation = if is_chosen then occupation else self.occupation } }
+    {
+        Task {
+            occupation: if is_chosen {
+                occupation
+            } else {
+                self.occupation
+            },
+            ..self
         }
     }
 

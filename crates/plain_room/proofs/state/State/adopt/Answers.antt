@@ -1,4 +1,4 @@
-use Rattle.std.proofs.Common.{◌∙◌, ap, refl}
+use Rattle.std.proofs.Common.{◌∙◌, ap, refl, add-zero}
 use Rattle.std.proofs.lemmas.List.{map-set}
 use Rattle.plain_room.specs.State.{sibling_state}
 use Rattle.plain_room.proofs.States.{sibling_at, number_of}
@@ -10,5 +10,5 @@ returns-clause-schedules c =
     record {
       pick = λ scenario. rw c.unwrap_or.ensures refl;
       room = λ scenario. rw (map-set sibling_state, at) (rw c.running.ensures.state refl);
-      numbers = rw (map-set number_of) refl;
+      numbers = rw (map-set number_of, add-zero) refl;
     }
