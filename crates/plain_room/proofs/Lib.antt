@@ -2,3 +2,4 @@ pub mod Lists
 pub mod Orders
 pub mod States
 pub mod LiveCookies
+pub mod Choices

@@ -143,3 +143,20 @@ placed_more {X} g xs ys i y d lt so_far is =
     ∙ ap (set (map g (enumerate_from 0 (take i xs)) ++ drop i xs) i) (is ∙ ap (λ (p : ℕ × X). g p) (λ k. (sym e k, same k)))
     ∙ placed_from g 0 xs i d lt
     ∙ (rw (add-one i) refl)
+
+-- ---- lists of places
+
+-- two functions that agree at the places of a list agree over it
+pub map_places : {X Y : Type 0} (f g : ℕ × X → Y) (n : ℕ) (xs : List X) → ((place : ℕ × X) → place.0 < n + length xs → f place ≡ g place) →
+    map f (enumerate_from n xs) ≡ map g (enumerate_from n xs)
+map_places f g n [] same = refl
+map_places {Y = Y} f g n (x ∷ xs) same =
+    ap (λ (y : Y). y ∷ map f (enumerate_from (n + 1) xs)) (same (n, x) (omega arith))
+    ∙ ap (λ (ys : List Y). g (n, x) ∷ ys) (map_places f g (n + 1) xs (λ place lt. same place (omega arith)))
+
+-- one more number of a range
+pub range_more : (a n : ℕ) → range_with_len a (suc n) ≡ range_with_len a n ++ (a + n) ∷ []
+range_more a zero = ap (λ (m : ℕ). m ∷ []) (omega arith)
+range_more a (suc n) =
+    ap (λ (ms : List ℕ). a ∷ ms) (range_more (a + 1) n)
+    ∙ ap (λ (m : ℕ). a ∷ range_with_len (a + 1) n ++ m ∷ []) (omega arith)

@@ -1,6 +1,6 @@
 -- What searches, changes and counts of the lists say of the states that these stand for.
 use Rattle.std.proofs.Common.{◌≡◌, ℕ, ◌<◌, ◌+◌, cond, true, false, List, [], ◌∷◌, map, refl, sym, ap, ◌∙◌, length, set, get_or, eqb}
-use Rattle.std.specs.Prelude.{All, Option, Some, None}
+use Rattle.std.specs.Prelude.{All, Option, Some, None, is_none, is_some}
 use Rattle.std.specs.Option.{option_map, option_map_or}
 use Rattle.cs_types.specs.Selection.{pid_of, cookie_of}
 use Rattle.std.specs.Global.{Vec}
@@ -10,9 +10,11 @@ use Rattle.std.proofs.lemmas.List.Elements.{All-map, All-weaker}
 use Rattle.std.proofs.Math.Seq.{map-set_same}
 use Rattle.std.proofs.lemmas.Bool.{cond-true, cond-false, cond_both, eq-eqb, ne_eqb}
 use Rattle.cs_types.specs.declared.task.TaskSpec.{TaskSpec}
-use Rattle.cs_types.specs.Scenario.{IsTask}
+use Rattle.cs_types.specs.declared.scenario.Scenario.{Scenario}
+use Rattle.cs_types.specs.Scenario.{IsTask, IsPolicy}
 use Rattle.cs_types.specs.Room.{TaskState, SiblingState, asleep, idle, has_pid}
-use Rattle.plain_room.specs.State.{task_state, task_states, asleep_task, sibling_state, IsFit}
+use Rattle.plain_room.specs.State.{task_state, task_states, asleep_task, sibling_state, IsFit, IsSound}
+use Rattle.plain_room.specs.declared.state.State.{State}
 use Rattle.plain_room.specs.declared.task.Task.{Task}
 use Rattle.plain_room.specs.declared.sibling.Sibling.{Sibling}
 
@@ -24,6 +26,14 @@ task_states-asleep (spec ∷ specs) = ap (λ (tasks : List TaskState). asleep sp
 pub pid_of-state : (task : Option Task) → option_map (λ (t : Task). t.spec.pid) task ≡ pid_of (option_map task_state task)
 pid_of-state None = refl
 pid_of-state (Some task) = refl
+
+pub is_none-state : (task : Option Task) → is_none task ≡ is_none (option_map task_state task)
+is_none-state None = refl
+is_none-state (Some task) = refl
+
+pub is_some-state : (task : Option Task) → is_some task ≡ is_some (option_map task_state task)
+is_some-state None = refl
+is_some-state (Some task) = refl
 
 pub cookie_of-state : (task : Option Task) → option_map_or (λ (t : Task). t.cookie) task 0 ≡ cookie_of (option_map task_state task)
 cookie_of-state None = refl
@@ -87,3 +97,15 @@ numbers_kept siblings cpu x y is same = map-set_same number_of siblings cpu y x 
 pub fit-asleep : (count : ℕ) (specs : List TaskSpec) → All (IsTask count) specs → All (IsFit count) (map asleep_task specs)
 fit-asleep count specs tasks =
     All-map (IsFit count) asleep_task specs (All-weaker (IsTask count) (λ (spec : TaskSpec). IsFit count (asleep_task spec)) (λ spec task. record { home = task.cpu; policy = task.policy }) specs tasks)
+
+-- ---- what holds of every room of a state
+
+-- some scenario: what is said of a state under every scenario is said of it
+pub some_scenario : Scenario
+some_scenario = record { siblings = 0; task_limit = 0; cookie_limit = 0; user_top = 0; tasks = []; steps = [] }
+
+-- the policies of a sound state keep their limits
+pub policies : (count : ℕ) (state : State) → IsSound count state → All (λ task. IsPolicy task.spec.policy) (task_states state.tasks.items)
+policies count state sound =
+    All-map (λ (task : TaskState). IsPolicy task.spec.policy) task_state state.tasks.items
+    (All-weaker (IsFit count) (λ (task : Task). IsPolicy task.spec.policy) (λ task fit. fit.policy) state.tasks.items sound.tasks)

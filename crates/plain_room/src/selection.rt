@@ -1,7 +1,7 @@
 //! What a selection for the core asks of the queues: the first task of each sibling, the lead, and what
 //! each sibling gets for a core cookie. It is a file of its own since it changes nothing.
 
-ghost use Rattle.std.specs.Prelude.{◌≡◌, ◌+◌, ◌-◌, ◌<◌, ◌≤◌, ◌++◌, ◌&&◌, ◌==◌, length, map, filter, None, if◌then◌else◌};
+ghost use Rattle.std.specs.Prelude.{◌≡◌, ◌+◌, ◌-◌, ◌<◌, ◌≤◌, ◌++◌, ◌&&◌, ◌==◌, length, map, filter, None, is_none, is_some, if◌then◌else◌};
 ghost use Rattle.std.specs.List.{range_with_len};
 ghost use Rattle.std.specs.Option.{option_map};
 ghost use Rattle.arrayvec.specs.ArrayVec.{array_vec_len};
@@ -76,7 +76,7 @@ impl State {
         Choice {
             run: chosen.map(|task| task.spec.pid),
             is_online,
-            is_forced: is_online && chosen.is_none() && first.is_some(),
+            is_forced: is_forced(is_online, first, chosen),
         }
     }
 
@@ -95,6 +95,7 @@ impl State {
 
     /// Puts the firsts of the online siblings from one on up to another after the others.
     fn push_firsts(&self, firsts: &mut Firsts, from: usize, to: usize)
+        requires ordered { from ≤ to }
         requires within { to ≤ length self.now.siblings.items }
         requires few { length self.now.siblings.items ≤ 16 }
         requires room { array_vec_len firsts.old + (to - from) ≤ 16 }
@@ -123,3 +124,9 @@ impl State {
     }
 }
 
+/// Whether a sibling with this first task that gets the other is forced idle.
+fn is_forced(is_online: bool, first: Option<Task>, chosen: Option<Task>) -> bool
+    ensures { result ≡ (is_online && (is_none chosen && is_some first)) }
+{
+    is_online && chosen.is_none() && first.is_some()
+}
