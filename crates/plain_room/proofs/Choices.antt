@@ -4,16 +4,18 @@ use Rattle.std.specs.Prelude.{◌||◌, ◌&&◌, ◌==◌, filter, count_by, Al
 use Rattle.std.specs.List.{list_any, list_all, range_with_len, enumerate_from}
 use Rattle.std.specs.Option.{option_map, option_and_then}
 use Rattle.std.proofs.lemmas.Bool.{cond-false, ne_eqb}
-use Rattle.std.proofs.lemmas.List.{map-append}
+use Rattle.std.proofs.lemmas.List.{map-append, length-map}
+use Rattle.cs_types.specs.declared.scenario.Scenario.{Scenario}
 use Rattle.std.proofs.lemmas.List.Elements.{filter-append, All-map, All-filter}
 use Rattle.std.proofs.lemmas.List.FromFn.{get_or-map-range_with_len}
-use Rattle.cs_types.specs.Room.{RoomState, TaskState, SiblingState, is_online, online, online_from, queued_on}
+use Rattle.cs_types.specs.Room.{RoomState, TaskState, SiblingState, is_online, online, online_from, queued_on, sibling_of}
 use Rattle.cs_types.specs.Order.{first_of, goes_before, foremost, outranks}
-use Rattle.cs_types.specs.Selection.{first_on, cookie_of, pid_of, queued_with, choice, is_forced, forced_count, occupation_of, is_run, handed, given, remembered, lead_from}
+use Rattle.cs_types.specs.Selection.{first_on, cookie_of, pid_of, queued_with, choice, is_forced, forced_count, occupation_of, is_run, handed, given, remembered, lead_from, adopted, rescheduled, scheduled, schedule}
 use Rattle.plain_room.specs.declared.choice.Choice.{Choice}
 use Rattle.plain_room.specs.declared.task.Task.{Task}
-use Rattle.plain_room.specs.State.{task_state}
-use Rattle.plain_room.specs.Choice.{choice_at, handed_choice}
+use Rattle.plain_room.specs.declared.state.State.{State}
+use Rattle.plain_room.specs.State.{task_state, task_states, sibling_state, room_of}
+use Rattle.plain_room.specs.Choice.{choice_at, handed_choice, remembered_task}
 use Rattle.plain_room.proofs.Lists.{count_at, any_at, map_places, range_more, All-find}
 
 -- what a sibling with this first gets, where the search for the core cookie gives the other
@@ -40,6 +42,12 @@ is_some-pid_of (Some task) = refl
 -- what each sibling gets, in the order of their numbers
 abbrev pub choices_of : RoomState → ℕ → List Choice
 choices_of room core = map (choice_at room core) (range_with_len 0 (length room.siblings))
+
+-- the choices that the code makes, of as many siblings as the state has
+pub choices_are : (scenario : Scenario) (state : State) (core : ℕ) (choices : List Choice) →
+    choices ≡ map (choice_at (room_of scenario state) core) (range_with_len 0 (length state.siblings.items)) → choices ≡ choices_of (room_of scenario state) core
+choices_are scenario state core choices is =
+    is ∙ ap (λ n. map (choice_at (room_of scenario state) core) (range_with_len 0 n)) (sym (length-map state.siblings.items sibling_state))
 
 pub forced_count-choices : (room : RoomState) (core : ℕ) → count_by (λ (c : Choice). c.is_forced) (choices_of room core) ≡ forced_count room core
 forced_count-choices room core =
@@ -139,3 +147,36 @@ All-firsts P room cpus all =
 pub lead_is : (room : RoomState) (cpu : ℕ) → option_and_then (λ (first : Option TaskState). first) (foremost outranks (map (first_on room) (online_from room cpu))) ≡ lead_from room cpu
 unfolding lead_from
 lead_is room cpu = refl
+
+-- the tasks that remember an occupation, as the code finds them among the choices
+pub remembered-choices : (room : RoomState) (core occupation : ℕ) (tasks : List Task) → occupation ≡ occupation_of room core →
+    task_states (map (remembered_task (choices_of room core) occupation) tasks) ≡ map (remembered room core) (task_states tasks)
+remembered-choices room core occupation [] same = refl
+remembered-choices room core occupation (task ∷ tasks) same =
+    ap (λ (b : Bool). record (task_state task) { occupation = cond b occupation task.occupation } ∷ task_states (map (remembered_task (choices_of room core) occupation) tasks)) (any-choices room core task.spec.pid)
+    ∙ ap (λ (states : List TaskState). record (task_state task) { occupation = cond (list_any (λ cpu. is_run (pid_of (choice room core cpu)) (Some task.spec.pid)) (online room)) occupation task.occupation } ∷ states) (remembered-choices room core occupation tasks same)
+    ∙ ap (λ (state : TaskState). state ∷ map (remembered room core) (task_states tasks)) (where_chosen (list_any (λ cpu. is_run (pid_of (choice room core cpu)) (Some task.spec.pid)) (online room)) occupation same) where
+    where_chosen : (b : Bool) (n : ℕ) → n ≡ occupation_of room core →
+        record (task_state task) { occupation = cond b n task.occupation } ≡ cond b (record (task_state task) { occupation = occupation_of room core }) (task_state task)
+    where_chosen true n e = ap (λ (m : ℕ). record (task_state task) { occupation = m }) e
+    where_chosen false n e = refl
+
+-- ---- which case a schedule is
+
+-- nothing may be adopted, or this may
+pub schedule_not_adopted : (room : RoomState) (fresh : Bool) (cpu : ℕ) → None ≡ cond fresh (sibling_of room cpu).waiting None →
+    schedule room fresh cpu ≡ rescheduled room cpu
+schedule_not_adopted room fresh cpu none = not_adopted fresh (sibling_of room cpu).waiting none where
+    not_adopted : (b : Bool) (waiting : Option (Option ℕ)) → None ≡ cond b waiting None → scheduled room b cpu waiting ≡ rescheduled room cpu
+    not_adopted b None e = refl
+    not_adopted false (Some run) e = refl
+    not_adopted true (Some run) e = absurd cc
+
+pub schedule_adopted : (room : RoomState) (fresh : Bool) (cpu : ℕ) (run : Option ℕ) → Some run ≡ cond fresh (sibling_of room cpu).waiting None →
+    schedule room fresh cpu ≡ adopted room cpu run
+schedule_adopted room fresh cpu run some = is_adopted fresh (sibling_of room cpu).waiting some where
+    is_adopted : (b : Bool) (waiting : Option (Option ℕ)) → Some run ≡ cond b waiting None → scheduled room b cpu waiting ≡ adopted room cpu run
+    is_adopted true None e = absurd cc
+    is_adopted false None e = absurd cc
+    is_adopted false (Some other) e = absurd cc
+    is_adopted true (Some other) e = let same : other ≡ run = cc in ap (adopted room cpu) same

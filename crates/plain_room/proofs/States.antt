@@ -2,7 +2,8 @@
 use Rattle.std.proofs.Common.{◌≡◌, ℕ, ◌<◌, ◌+◌, cond, true, false, List, [], ◌∷◌, map, refl, sym, ap, ◌∙◌, length, set, get_or, eqb}
 use Rattle.std.specs.Prelude.{All, Option, Some, None, is_none, is_some}
 use Rattle.std.specs.Option.{option_map, option_map_or}
-use Rattle.cs_types.specs.Selection.{pid_of, cookie_of}
+use Rattle.cs_types.specs.declared.reply.Pick.{Pick}
+use Rattle.cs_types.specs.Selection.{pid_of, cookie_of, Scheduled}
 use Rattle.std.specs.Global.{Vec}
 use Rattle.std.specs.Vec.{with_items}
 use Rattle.std.proofs.lemmas.List.{get_or-map, length-map, with_items_is}
@@ -12,9 +13,11 @@ use Rattle.std.proofs.lemmas.Bool.{cond-true, cond-false, cond_both, eq-eqb, ne_
 use Rattle.cs_types.specs.declared.task.TaskSpec.{TaskSpec}
 use Rattle.cs_types.specs.declared.scenario.Scenario.{Scenario}
 use Rattle.cs_types.specs.Scenario.{IsTask, IsPolicy}
-use Rattle.cs_types.specs.Room.{TaskState, SiblingState, asleep, idle, has_pid}
-use Rattle.plain_room.specs.State.{task_state, task_states, asleep_task, sibling_state, IsFit, IsSound}
+use Rattle.cs_types.specs.Room.{TaskState, SiblingState, RoomState, asleep, idle, has_pid}
+use Rattle.plain_room.specs.State.{task_state, task_states, asleep_task, sibling_state, IsFit, IsSound, room_of, Schedules}
 use Rattle.plain_room.specs.declared.state.State.{State}
+use Rattle.plain_room.specs.declared.choice.Choice.{Choice}
+use Rattle.plain_room.specs.Choice.{remembered_task}
 use Rattle.plain_room.specs.declared.task.Task.{Task}
 use Rattle.plain_room.specs.declared.sibling.Sibling.{Sibling}
 
@@ -51,6 +54,13 @@ put_in_same task other same = cond-true (eqb other.spec.pid task.spec.pid) task 
 pub put_in_other : (task other : Task) → (other.spec.pid ≡ task.spec.pid → ⊥) → put_in task other ≡ other
 put_in_other task other ne = cond-false (eqb other.spec.pid task.spec.pid) task other (ne_eqb _ _ ne)
 
+-- the vector's items after a change of each of its items, and after one that keeps their number
+pub items-with : {X : Type 0} (v : Vec X) (after : List X) (f : X → X) → after ≡ map f v.items → (with_items v after).items ≡ map f v.items
+items-with v after f e = with_items_is v after (ap length e ∙ length-map v.items f ∙ sym v.ok.0) ∙ e
+
+pub items-as_many : {X : Type 0} (v : Vec X) (after : List X) → length after ≡ length v.items → (with_items v after).items ≡ after
+items-as_many v after e = with_items_is v after (e ∙ sym v.ok.0)
+
 -- the vector's items after a put of its items
 pub items-put : (tasks : Vec Task) (task : Task) (after : List Task) → after ≡ map (put_in task) tasks.items →
     (with_items tasks after).items ≡ map (put_in task) tasks.items
@@ -64,6 +74,13 @@ fit-put count task tasks fit all =
     All-map (IsFit count) (put_in task) tasks
     (All-weaker (IsFit count) (λ (t : Task). IsFit count (put_in task t))
     (λ t h. cond_both (eqb t.spec.pid task.spec.pid) task t (IsFit count) (λ _. fit) (λ _. h)) tasks all)
+
+-- tasks that remember an occupation fit as they did
+pub fit-remembered : (count : ℕ) (choices : List Choice) (occupation : ℕ) (tasks : List Task) → All (IsFit count) tasks →
+    All (IsFit count) (map (remembered_task choices occupation) tasks)
+fit-remembered count choices occupation tasks all =
+    All-map (IsFit count) (remembered_task choices occupation) tasks
+    (All-weaker (IsFit count) (λ (t : Task). IsFit count (remembered_task choices occupation t)) (λ t fit. record { home = fit.home; policy = fit.policy }) tasks all)
 
 -- the states after a put
 pub task_states-put : (task : Task) (tasks : List Task) →
@@ -109,3 +126,13 @@ pub policies : (count : ℕ) (state : State) → IsSound count state → All (λ
 policies count state sound =
     All-map (λ (task : TaskState). IsPolicy task.spec.policy) task_state state.tasks.items
     (All-weaker (IsFit count) (λ (task : Task). IsPolicy task.spec.policy) (λ task fit. fit.policy) state.tasks.items sound.tasks)
+
+-- a schedule by one change is one by another that does the same in the old room
+pub Schedules-same : (old new : State) (cpu : ℕ) (chosen : Pick) (change other : RoomState → Scheduled) →
+    ((scenario : Scenario) → other (room_of scenario old) ≡ change (room_of scenario old)) → Schedules old new cpu chosen change → Schedules old new cpu chosen other
+Schedules-same old new cpu chosen change other same schedules =
+    record {
+      pick = λ scenario. schedules.pick scenario ∙ ap (λ (made : Scheduled). made.pick) (sym (same scenario));
+      room = λ scenario. schedules.room scenario ∙ ap (λ (made : Scheduled). made.room) (sym (same scenario));
+      numbers = schedules.numbers;
+    }

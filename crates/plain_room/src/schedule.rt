@@ -1,8 +1,9 @@
 //! A schedule, in its three cases.
 
-ghost use Rattle.std.specs.Prelude.{◌≡◌, ◌+◌, ◌^◌, ◌<◌, ◌≤◌, length, None, Some};
+ghost use Rattle.std.specs.Prelude.{◌≡◌, ◌+◌, ◌^◌, ◌<◌, ◌≤◌, length, ◌==◌, ◌&&◌, None, if◌then◌else◌};
 ghost use Rattle.cs_types.specs.declared.scenario.Scenario.{Scenario};
-ghost use Rattle.cs_types.specs.Selection.{pid_of, choice, forced_count, adopted, plain, selected_room, selected, rescheduled, schedule};
+ghost use Rattle.cs_types.specs.Room.{sibling_of};
+ghost use Rattle.cs_types.specs.Selection.{pid_of, choice, forced_count, is_plain, adopted, plain, selected_room, selected, rescheduled, schedule};
 ghost use Rattle.plain_room.specs.State.{Schedules, IsSound, StaysSound, Becomes, room_of, numbers_of, is_fresh_by};
 
 use crate::choice::{forced_count, hand, occupation, remember};
@@ -91,6 +92,14 @@ impl State {
         }
     }
 
+    /// Whether no cookie takes part in a schedule of the sibling.
+    fn is_plain(&self, cpu: Cpu) -> bool
+        ensures { (scenario : Scenario) → result ≡ is_plain (room_of scenario self.now) cpu }
+    {
+        let cookie = self.first_on(cpu).map_or(0, |task| task.cookie);
+        is_cookieless(self.core_cookie, self.forced, cookie)
+    }
+
     /// The sibling schedules, and adopts nothing.
     pub fn reschedule(&mut self, cpu: Cpu) -> Pick
         requires cpu { cpu < length self.old.siblings.items }
@@ -100,11 +109,23 @@ impl State {
         ensures schedules { Schedules self.old self.new cpu result (λ room. rescheduled room cpu) }
         ensures sound { StaysSound self.old self.new }
     {
-        let cookie = self.first_on(cpu).map_or(0, |task| task.cookie);
-        if self.core_cookie == 0 && self.forced == 0 && cookie == 0 {
+        if self.is_plain(cpu) {
             self.run_first(cpu)
         } else {
             self.select(cpu)
+        }
+    }
+
+    /// What waits for the sibling and may be adopted: nothing was touched since it was chosen.
+    fn adoptable(&self, cpu: Cpu) -> Option<Option<Pid>>
+        requires { cpu < length self.now.siblings.items }
+        ensures { (scenario : Scenario) → result ≡
+            (if is_fresh_by (numbers_of self.now) then (sibling_of (room_of scenario self.now) cpu).waiting else None) }
+    {
+        if self.is_fresh() {
+            self.siblings[cpu as usize].waiting
+        } else {
+            None
         }
     }
 
@@ -118,9 +139,16 @@ impl State {
             (λ room. schedule room (is_fresh_by (numbers_of self.old)) cpu) }
         ensures sound { StaysSound self.old self.new }
     {
-        match self.siblings[cpu as usize].waiting {
-            Some(run) if self.is_fresh() => self.adopt(cpu, run),
-            _ => self.reschedule(cpu),
+        match self.adoptable(cpu) {
+            Some(run) => self.adopt(cpu, run),
+            None => self.reschedule(cpu),
         }
     }
+}
+
+/// Whether neither the core nor a sibling's first task has a cookie, and none is forced idle.
+fn is_cookieless(core: Cookie, forced: u8, first: Cookie) -> bool
+    ensures { result ≡ ((core == 0) && (forced == 0) && (first == 0)) }
+{
+    core == 0 && forced == 0 && first == 0
 }

@@ -83,8 +83,9 @@ impl State {
     /// What each sibling gets for a core cookie.
     pub fn choices(&self, core: Cookie) -> Choices
         requires { length self.now.siblings.items ≤ 16 }
-        ensures { (scenario : Scenario) → result.items ≡
+        ensures each { (scenario : Scenario) → result.items ≡
             map (choice_at (room_of scenario self.now) core) (range_with_len 0 (length self.now.siblings.items)) }
+        ensures length { length result.items ≡ length self.now.siblings.items }
     {
         let mut choices = Choices::new();
         for cpu in 0..self.siblings.len() {

@@ -1,0 +1,40 @@
+use Rattle.std.proofs.Common.{◌≡◌, ◌∙◌, ap, refl, sym, map, arith, length, get_or}
+use Rattle.std.specs.Prelude.{count_by, is_some, ◌&&◌, List}
+use Rattle.std.specs.List.{enumerate_from}
+use Rattle.std.proofs.lemmas.List.{length-map}
+use Rattle.cs_types.specs.declared.scenario.Scenario.{Scenario}
+use Rattle.cs_types.specs.Selection.{selected_room, forced_count, occupation_of, pid_of, choice}
+use Rattle.plain_room.specs.declared.choice.Choice.{Choice}
+use Rattle.plain_room.specs.State.{sibling_state, task_states, room_of}
+use Rattle.plain_room.specs.Choice.{handed_choice, remembered_task}
+use Rattle.plain_room.proofs.States.{items-with, fit-remembered}
+use Rattle.plain_room.proofs.Choices.{choices_of, choices_are, forced_count-choices, occupation-choices, choice_in, handed-choices, remembered-choices}
+use Rattle.plain_room.proofs.state.State.select_for.Goals as goal
+
+pub returns-clause-room : goal.returns-clause-room
+unfolding selected_room
+returns-clause-room c scenario =
+    let room = room_of scenario c.args.self.now in
+    let are = choices_are scenario c.args.self.now c.args.core c.choices-choices.result.items (c.choices-choices.ensures.each scenario) in
+    let forced = c.forced_count-self.ensures ∙ ap (count_by (λ (choice : Choice). choice.is_forced)) (c.deref.ensures.0 ∙ are) ∙ forced_count-choices room c.args.core in
+    let occupation = c.occupation-self.ensures ∙ ap (count_by (λ (choice : Choice). choice.is_online && is_some choice.run)) (c.deref-2.ensures.0 ∙ are) ∙ occupation-choices room c.args.core in
+    let kept = items-with c.args.self.now.tasks c.remember.new.tasks (remembered_task c.deref-3.result.now c.occupation-self.result) (c.remember.ensures ∙ ap (map (remembered_task c.deref-3.result.now c.occupation-self.result)) c.deref_mut.ensures.value) in
+    let tasks = ap task_states kept
+    ∙ ap (λ (choices : List Choice). task_states (map (remembered_task choices c.occupation-self.result) c.args.self.now.tasks.items)) (c.deref-3.ensures.0 ∙ are)
+    ∙ remembered-choices room c.args.core c.occupation-self.result c.args.self.now.tasks.items occupation in
+    ?
+
+pub returns-clause-run : goal.returns-clause-run
+returns-clause-run c scenario =
+    let room = room_of scenario c.args.self.now in
+    let are = choices_are scenario c.args.self.now c.args.core c.choices-choices.result.items (c.choices-choices.ensures.each scenario) in
+    ap (λ (choices : List Choice). (get_or choices c.args.cpu _).run) (c.deref-5.ensures.0 ∙ are)
+    ∙ ap (λ (choice : Choice). choice.run) (choice_in room c.args.core c.args.cpu _ (omega (arith, length-map c.args.self.now.siblings.items sibling_state, c.requires.cpu)))
+
+pub returns-clause-forced : goal.returns-clause-forced
+returns-clause-forced c scenario =
+    let are = choices_are scenario c.args.self.now c.args.core c.choices-choices.result.items (c.choices-choices.ensures.each scenario) in
+    c.forced_count-self.ensures ∙ ap (count_by (λ (choice : Choice). choice.is_forced)) (c.deref.ensures.0 ∙ are) ∙ forced_count-choices (room_of scenario c.args.self.now) c.args.core
+
+pub returns-clause-sound : goal.returns-clause-sound
+returns-clause-sound c count sound = ?
