@@ -3,3 +3,5 @@ pub mod Orders
 pub mod States
 pub mod LiveCookies
 pub mod Choices
+pub mod OnlineCount
+pub mod Calls

@@ -1,6 +1,6 @@
 //! Cookies: which calls of `prctl` are refused, and what the others set.
 
-ghost use Rattle.std.specs.Prelude.{◌≡◌, ◌+◌, ◌^◌, ◌<◌, ◌≤◌, length, IfSome, ◌==◌};
+ghost use Rattle.std.specs.Prelude.{◌≡◌, ◌+◌, ◌^◌, ◌<◌, ◌≤◌, length, IfSome, ◌==◌, ◌&&◌, not};
 ghost use Rattle.std.specs.List.{list_any};
 ghost use Rattle.std.specs.Option.{option_map};
 ghost use Rattle.cs_types.specs.declared.scenario.Scenario.{Scenario};
@@ -50,13 +50,20 @@ fn is_had(tasks: &[Task], cookie: Cookie) -> bool
     tasks.iter().any(|task| task.cookie == cookie)
 }
 
+/// Whether the task has a cookie, and none of the others has it.
+fn is_last(task: &Task, others: &[Task]) -> bool
+    ensures { result ≡ (not (task.now.cookie == 0) && not (list_any (λ other. other.cookie == task.now.cookie) others.now)) }
+{
+    task.cookie != 0 && !is_had(others, task.cookie)
+}
+
 /// How many distinct cookies the tasks have.
 fn live_cookies(tasks: &[Task]) -> usize
     ensures { result ≡ length (live_cookies (task_states tasks.now)) }
 {
     let mut live = 0;
     for (place, task) in tasks.iter().enumerate() {
-        if task.cookie != 0 && !is_had(&tasks[place + 1..], task.cookie) {
+        if is_last(task, &tasks[place + 1..]) {
             live += 1;
         }
     }
@@ -90,13 +97,15 @@ impl State {
     fn admitted(&self, scenario: &Scenario, pid: Pid, ask: Ask) -> Result<(Task, Task), Reply>
         ensures { Admits scenario.now self.now pid ask result }
     {
-        let caller = self.task_of(pid).ok_or(Reply::NoCaller)?;
+        let Some(caller) = self.task_of(pid) else {
+            return Err(Reply::NoCaller);
+        };
         if self.online_count() < 2 {
             return Err(Reply::Refused(Errno::Enodev));
         }
-        let target = self
-            .target_of(caller, ask.pid)
-            .ok_or(Reply::Refused(Errno::Esrch))?;
+        let Some(target) = self.target_of(caller, ask.pid) else {
+            return Err(Reply::Refused(Errno::Esrch));
+        };
         if !may_access(&caller.spec, &target.spec) {
             return Err(Reply::Refused(Errno::Eperm));
         }
