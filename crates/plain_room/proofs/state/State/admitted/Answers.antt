@@ -1,5 +1,8 @@
-use Rattle.std.proofs.Common.{◌≡◌, ap, ◌∙◌, sym, refl, true, false, Some, None, length, eqb, eq-eqb}
+use Rattle.std.proofs.Common.{rules, ◌≡◌, ap, ◌∙◌, sym, refl, true, false, Some, None, length, eqb, eq-eqb}
 use Rattle.std.specs.Prelude.{◌==◌, ◌&&◌, nat_lt}
+use mir.Syntax.{w32}
+use mir.Val.{SFits}
+use Rattle.std.proofs.lemmas.Int.{to_z-of_z}
 use Rattle.std.proofs.lemmas.Bool.{ne_eqb, lt-ltb, le-ltb}
 use Rattle.cs_types.specs.Room.{online}
 use Rattle.cs_types.specs.Prctl.{is_create, live_cookies}
@@ -26,38 +29,45 @@ returns-then-online_count-lt2 c =
 pub returns-in_default-target_of : goal.returns-in_default-target_of
 returns-in_default-target_of c =
     let room = room_of c.args.scenario.now c.args.self.now in
+    let fits : SFits w32 c.args.ask.pid = search rules in
     let few : nat_lt (length (online room)) 2 ≡ false = rw (sym (c.online_count.ensures c.args.scenario.now)) (le-ltb _ _ c.if-online_count-lt2.false) in
     record {
-      same = no_target room c.args.pid c.args.ask (task_state c.in-Some.caller) (sym c.in-Some.ensures.task) few (sym (c.in_default-target_of.ensures.target c.args.scenario.now));
+      same = no_target room c.args.pid c.args.ask (task_state c.in-Some.caller) (sym c.in-Some.ensures.task) few (sym (simp to_z-of_z at c.in_default-target_of.ensures.target c.args.scenario.now));
       refused = λ e. cc;
     }
 
 pub returns-then-not-may_access : goal.returns-then-not-may_access
 returns-then-not-may_access c =
     let room = room_of c.args.scenario.now c.args.self.now in
+    let fits : SFits w32 c.args.ask.pid = search rules in
+    let target = sym (simp to_z-of_z at c.in-Some-target_of.ensures.target c.args.scenario.now) in
     let few : nat_lt (length (online room)) 2 ≡ false = rw (sym (c.online_count.ensures c.args.scenario.now)) (le-ltb _ _ c.if-online_count-lt2.false) in
     record {
       same = no_access room c.args.pid c.args.ask (task_state c.in-Some.caller) (task_state c.in-Some-target_of.target) (sym c.in-Some.ensures.task) few
-          (sym (c.in-Some-target_of.ensures.target c.args.scenario.now)) (sym c.may_access.ensures ∙ c.if-not-may_access.true);
+          target (sym c.may_access.ensures ∙ c.if-not-may_access.true);
       refused = λ e. cc;
     }
 
 pub returns-then-is_full : goal.returns-then-is_full
 returns-then-is_full c =
     let room = room_of c.args.scenario.now c.args.self.now in
+    let fits : SFits w32 c.args.ask.pid = search rules in
+    let target = sym (simp to_z-of_z at c.in-Some-target_of.ensures.target c.args.scenario.now) in
     let few : nat_lt (length (online room)) 2 ≡ false = rw (sym (c.online_count.ensures c.args.scenario.now)) (le-ltb _ _ c.if-online_count-lt2.false) in
     let live : c.live_cookies.result ≡ length (live_cookies room.tasks) = rw (sym c.deref.ensures.value) c.live_cookies.ensures in
     let is_full : (is_create c.args.ask && (length (live_cookies room.tasks) == room.cookie_limit)) ≡ true =
     rw (sym live, eq-eqb _ _ c.if-ask-eq-CREATE.true, eq-eqb _ _ c.if-is_full.true) refl in
     record {
       same = full room c.args.pid c.args.ask (task_state c.in-Some.caller) (task_state c.in-Some-target_of.target) (sym c.in-Some.ensures.task) few
-          (sym (c.in-Some-target_of.ensures.target c.args.scenario.now)) (sym c.may_access.ensures ∙ c.if-not-may_access.false) is_full;
+          target (sym c.may_access.ensures ∙ c.if-not-may_access.false) is_full;
       refused = λ e. cc;
     }
 
 pub returns : goal.returns
 returns c =
     let room = room_of c.args.scenario.now c.args.self.now in
+    let fits : SFits w32 c.args.ask.pid = search rules in
+    let target = sym (simp to_z-of_z at c.in-Some-target_of.ensures.target c.args.scenario.now) in
     let few : nat_lt (length (online room)) 2 ≡ false = rw (sym (c.online_count.ensures c.args.scenario.now)) (le-ltb _ _ c.if-online_count-lt2.false) in
     let live : c.live_cookies.result ≡ length (live_cookies room.tasks) = rw (sym c.deref.ensures.value) c.live_cookies.ensures in
     let is_full : (is_create c.args.ask && (length (live_cookies room.tasks) == room.cookie_limit)) ≡ false = elim c.else-ask-eq-CREATE.branch [
@@ -66,8 +76,8 @@ returns c =
     ] in
     record {
       answer = granted room c.args.pid c.args.ask (task_state c.in-Some.caller) (task_state c.in-Some-target_of.target) (sym c.in-Some.ensures.task) few
-          (sym (c.in-Some-target_of.ensures.target c.args.scenario.now)) (sym c.may_access.ensures ∙ c.if-not-may_access.false) is_full;
+          target (sym c.may_access.ensures ∙ c.if-not-may_access.false) is_full;
       caller = sym c.in-Some.ensures.task;
-      target = sym (c.in-Some-target_of.ensures.target c.args.scenario.now);
+      target = target;
       fit = λ count sound. c.in-Some-target_of.ensures.fit count sound (c.in-Some.ensures.fit count sound);
     }
