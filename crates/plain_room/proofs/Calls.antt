@@ -1,5 +1,5 @@
 -- The answer of a call, row by row, and what it makes of the room and of the numbers.
-use Rattle.std.proofs.Common.{◌≡◌, ℕ, ◌+◌, Bool, true, false, length, refl, subst, sym, ap, ◌∙◌, add-zero, Option, Some, None}
+use Rattle.std.proofs.Common.{◌≡◌, ℕ, ◌+◌, Bool, true, false, length, refl, subst, sym, ap, ◌∙◌, add-zero, Some, None}
 use Rattle.std.specs.Prelude.{◌==◌, ◌&&◌, not, nat_lt, is_none, if◌then◌else◌}
 use Rattle.std.specs.Option.{option_and_then}
 use Rattle.cs_types.specs.declared.event.Ask.{Ask}

@@ -1,10 +1,10 @@
 -- How many distinct cookies a list of tasks has, task by task.
-use Rattle.std.proofs.Common.{◌≡◌, ℕ, ◌+◌, ◌<◌, ◌-◌, true, false, cond, Bool, not, List, [], ◌∷◌, map, length, take, drop, length-drop, get_or, refl, sym, ap, ◌∙◌, arith, add-one, drop-cons}
+use Rattle.std.proofs.Common.{◌≡◌, ℕ, ◌+◌, ◌<◌, ◌-◌, true, false, cond, Bool, not, List, [], ◌∷◌, map, length, take, drop, length-drop, get_or, refl, ap, ◌∙◌, arith, add-one, drop-cons}
 use Rattle.std.specs.Prelude.{◌&&◌, ◌||◌, ◌==◌, filter}
 use Rattle.std.specs.List.{list_any}
 use Rattle.std.proofs.lemmas.List.{take_all}
 use Rattle.cs_types.specs.Prctl.{distinct, live_cookies}
-use Rattle.plain_room.specs.State.{task_state, task_states}
+use Rattle.plain_room.specs.State.{task_states}
 use Rattle.plain_room.specs.declared.task.Task.{Task}
 
 any_cookie : (cookie : ℕ) (tasks : List Task) →

@@ -4,9 +4,8 @@ use Rattle.std.specs.Prelude.{filter}
 use Rattle.std.specs.List.{range_with_len}
 use Rattle.std.proofs.lemmas.List.{length-map}
 use Rattle.cs_types.specs.declared.scenario.Scenario.{Scenario}
-use Rattle.cs_types.specs.Room.{SiblingState, idle, online, is_online}
+use Rattle.cs_types.specs.Room.{SiblingState, idle, online}
 use Rattle.plain_room.specs.State.{sibling_state, room_of}
-use Rattle.plain_room.specs.declared.sibling.Sibling.{Sibling}
 use Rattle.plain_room.specs.declared.state.State.{State}
 use Rattle.plain_room.proofs.Lists.{filter-map}
 

@@ -1,4 +1,4 @@
-use Rattle.std.proofs.Common.{rules, ◌≡◌, ap, ◌∙◌, sym, refl, true, false, Some, None, length, eqb, eq-eqb}
+use Rattle.std.proofs.Common.{rules, ◌≡◌, ◌∙◌, sym, refl, true, false, length, eq-eqb}
 use Rattle.std.specs.Prelude.{◌==◌, ◌&&◌, nat_lt}
 use mir.Syntax.{w32}
 use mir.Val.{SFits}
@@ -6,7 +6,7 @@ use Rattle.std.proofs.lemmas.Int.{to_z-of_z}
 use Rattle.std.proofs.lemmas.Bool.{ne_eqb, lt-ltb, le-ltb}
 use Rattle.cs_types.specs.Room.{online}
 use Rattle.cs_types.specs.Prctl.{is_create, live_cookies}
-use Rattle.plain_room.specs.State.{room_of, task_state, task_states}
+use Rattle.plain_room.specs.State.{room_of, task_state}
 use Rattle.plain_room.proofs.Calls.{no_caller, few_online, no_target, no_access, full, granted}
 use Rattle.plain_room.proofs.state.State.admitted.Goals as goal
 use Rattle.plain_room.proofs.state.State.admitted.Goals.{else-ask-eq-CREATE-via-then-ask-eq-CREATE+else-is_full, else-ask-eq-CREATE-via-else-ask-eq-CREATE}

@@ -1,6 +1,6 @@
 use Rattle.std.proofs.Common.{refl}
 use Rattle.std.proofs.lemmas.List.{map-set}
-use Rattle.std.specs.Prelude.{◌||◌, None}
+use Rattle.std.specs.Prelude.{None}
 use Rattle.plain_room.specs.declared.sibling.Sibling.{Sibling}
 use Rattle.plain_room.specs.State.{sibling_state}
 use Rattle.plain_room.proofs.States.{sibling_at, numbers_kept}

@@ -1,4 +1,4 @@
-use Rattle.std.proofs.Common.{◌≡◌, ℕ, eqb, ap, ◌∙◌, sym, refl, true, false, map, Option, Some, None}
+use Rattle.std.proofs.Common.{◌≡◌, ℕ, eqb, ap, ◌∙◌, sym, refl, map, Option, Some, None}
 use Rattle.std.specs.Option.{option_eq}
 use Rattle.cs_types.specs.Room.{SiblingState}
 use Rattle.cs_types.specs.Selection.{is_run}
