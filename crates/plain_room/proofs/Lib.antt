@@ -5,3 +5,4 @@ pub mod LiveCookies
 pub mod Choices
 pub mod OnlineCount
 pub mod Calls
+pub mod Sleeps

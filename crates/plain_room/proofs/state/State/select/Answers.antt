@@ -1,11 +1,12 @@
-use Rattle.std.proofs.Common.{rules, ◌≡◌, ◌∙◌, ap, refl, sym}
+use Rattle.std.proofs.Common.{rules, ◌≡◌, ◌∙◌, ◌+◌, ap, get_or, set, refl}
 use Rattle.std.specs.Option.{option_map_or}
 use Rattle.std.proofs.lemmas.List.{map-set}
 use Rattle.std.proofs.Math.Seq.{map-set_same}
 use Rattle.cs_types.specs.declared.scenario.Scenario.{Scenario}
 use Rattle.cs_types.specs.Room.{RoomState}
 use Rattle.cs_types.specs.Selection.{cookie_of, lead_from, selected_room, forced_count}
-use Rattle.plain_room.specs.State.{sibling_state, room_of}
+use Rattle.plain_room.specs.declared.sibling.Sibling.{Sibling}
+use Rattle.plain_room.specs.State.{sibling_state, room_of, Numbers}
 use Rattle.plain_room.proofs.States.{cookie_of-state, number_of}
 use Rattle.plain_room.proofs.state.State.select.Goals as goal
 
@@ -17,8 +18,14 @@ core_is c scenario =
 
 pub returns-clause-schedules : goal.returns-clause-schedules
 returns-clause-schedules c =
+    let numbered : Sibling = record c.index_mut.result.now { number = c.touch.new.self.task_number } in
+    let at : c.index_mut.result.now ≡ get_or c.touch.new.self.siblings.items c.args.cpu c.index_mut.result.now = c.index_mut.ensures.value in
     record {
       pick = λ scenario. rw (← core_is c scenario) (rw (c.touch.ensures, c.unwrap_or.ensures, c.select_for-run.ensures.run scenario, c.select_for-run.ensures.forced scenario) refl);
-      room = λ scenario. rw (← core_is c scenario) (rw (map-set_same sibling_state c.touch.new.self.siblings.items c.args.cpu _ _ ?) ?);
-      numbers = ?;
+      room = λ scenario.
+          let room = room_of scenario c.args.self.now in
+          rw (← core_is c scenario)
+          (rw (map-set_same sibling_state c.touch.new.self.siblings.items c.args.cpu numbered c.index_mut.result.now (ap sibling_state at))
+          (rw c.touch.ensures (c.select_for-run.ensures.room scenario)));
+      numbers = rw (map-set number_of c.touch.new.self.siblings.items c.args.cpu numbered) (rw c.touch.ensures (ap (λ (n : Numbers). record { task = n.task + 1; pick = n.task + 1; own = set n.own c.args.cpu (n.task + 1) }) c.select_for-run.ensures.numbers));
     }

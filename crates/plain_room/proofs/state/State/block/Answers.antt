@@ -1,0 +1,27 @@
+use Rattle.std.proofs.Common.{◌≡◌, ap, ◌∙◌, refl, sym, false}
+use Rattle.cs_types.specs.declared.reply.Reply.TheVariants.{Slept}
+use Rattle.cs_types.specs.declared.scenario.Scenario.{Scenario}
+use Rattle.cs_types.specs.Room.{RoomState}
+use Rattle.cs_types.specs.Selection.{Scheduled, schedule, rescheduled}
+use Rattle.cs_types.specs.Step.{dequeued, idled}
+use Rattle.plain_room.specs.State.{room_of, task_state, numbers_of, took, touched, Numbers}
+use Rattle.plain_room.proofs.Choices.{schedule_not_adopted}
+use Rattle.plain_room.proofs.Sleeps.{took-touched}
+use Rattle.plain_room.proofs.state.State.block.Goals as goal
+
+-- the schedule that the code makes, from the room without the task, is the model's
+scheduled_is : (c : goal.After-reschedule) (scenario : Scenario) →
+    rescheduled (room_of scenario c.idle.new.self) c.args.cpu
+    ≡ schedule (idled (dequeued (room_of scenario c.args.self.now) (task_state c.in-Some.task)) c.args.cpu) false c.args.cpu
+scheduled_is c scenario =
+    ap (λ (room : RoomState). rescheduled room c.args.cpu) (c.idle.ensures.room scenario ∙ ap (λ (room : RoomState). idled room c.args.cpu) (c.dequeue.ensures.room scenario))
+    ∙ sym (schedule_not_adopted (idled (dequeued (room_of scenario c.args.self.now) (task_state c.in-Some.task)) c.args.cpu) false c.args.cpu refl)
+
+pub returns-clause-makes : goal.returns-clause-makes
+returns-clause-makes c scenario = record {
+  reply = rw (← c.in-Some.ensures.task scenario) (ap (Slept c.in-Some.task.spec.pid) (c.reschedule.ensures.schedules.pick scenario ∙ ap (λ (made : Scheduled). made.pick) (scheduled_is c scenario)));
+  room = rw (← c.in-Some.ensures.task scenario) (c.reschedule.ensures.schedules.room scenario ∙ ap (λ (made : Scheduled). made.room) (scheduled_is c scenario));
+  numbers = c.reschedule.ensures.schedules.numbers
+      ∙ ap (λ (numbers : Numbers). took c.args.cpu c.reschedule.result numbers) (c.idle.ensures.numbers ∙ c.dequeue.ensures.numbers)
+      ∙ took-touched (room_of scenario c.args.self.now) c.args.cpu c.in-Some.task.spec.pid c.reschedule.result (numbers_of c.args.self.now);
+}
