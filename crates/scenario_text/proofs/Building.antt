@@ -7,7 +7,7 @@ use Rattle.std.proofs.lemmas.List.Elements.{All-push}
 use Rattle.std.proofs.lemmas.Option.{cond_some}
 use Rattle.cs_types.specs.declared.task.TaskSpec.{TaskSpec}
 use Rattle.cs_types.specs.declared.event.Step.{Step}
-use Rattle.cs_types.specs.Scenario.{IsTask, IsStep, AreDistinct, AreLed}
+use Rattle.cs_types.specs.Scenario.{IsTask, AreDistinct, AreLed}
 use Rattle.scenario_text.specs.declared.head.Head.{Head}
 use Rattle.scenario_text.specs.declared.line.Line.{Line}
 use Rattle.scenario_text.specs.declared.line.Line.TheVariants as forms
@@ -15,7 +15,7 @@ use Rattle.scenario_text.specs.Words.{Word, task_words}
 use Rattle.scenario_text.specs.Text.{step_words, end_words}
 use Rattle.scenario_text.specs.Reading.{◌>>=◌, Contents, line_of, is_end, is_fresh, is_led, can_follow, match_line, with_task, with_step, plan_of}
 use Rattle.scenario_text.proofs.Fields.{bind}
-use Rattle.scenario_text.proofs.Forms.{line_words, IsLine, line_takes, line_again}
+use Rattle.scenario_text.proofs.Forms.{IsStepText, line_words, IsLine, line_takes, line_again}
 use Rattle.scenario_text.proofs.Followers.{distinct_push, distinct_fresh, led_push, led_test}
 
 -- what a plan keeps, in a core of so many siblings where so many tasks may live at once
@@ -24,7 +24,7 @@ pub record IsPlan (siblings limit : ℕ) (plan : Contents) : Type 0 where
   pub distinct : AreDistinct plan.tasks
   pub led : AreLed plan.tasks
   pub few_tasks : length plan.tasks ≤ limit
-  pub steps : All (IsStep siblings) plan.steps
+  pub steps : All (IsStepText siblings) plan.steps
   pub few_steps : length plan.steps ≤ 100000
 
 -- the words of a plan's lines
@@ -80,7 +80,7 @@ task_grows siblings limit plan task more is fits e =
     rw (follows.first, append-nil (map task_words (plan.tasks ++ task ∷ [])), append-nil (map task_words plan.tasks)) (map-append task_words plan.tasks (task ∷ [])) in
     subst (Grows siblings limit plan (task_words task)) same.1 (record { is = grown; lines = lines })
 
-step_grows : (siblings limit : ℕ) (plan : Contents) (step : Step) (more : Contents) → IsPlan siblings limit plan → IsStep siblings step → with_step step plan ≡ Some more → Grows siblings limit plan (step_words step) more
+step_grows : (siblings limit : ℕ) (plan : Contents) (step : Step) (more : Contents) → IsPlan siblings limit plan → IsStepText siblings step → with_step step plan ≡ Some more → Grows siblings limit plan (step_words step) more
 unfolding with_step
 step_grows siblings limit plan step more is fits e =
     let made : Contents = record { tasks = plan.tasks; steps = plan.steps ++ step ∷ [] } in
@@ -91,7 +91,7 @@ step_grows siblings limit plan step more is fits e =
       distinct = is.distinct;
       led = is.led;
       few_tasks = is.few_tasks;
-      steps = All-push (IsStep siblings) plan.steps step is.steps fits;
+      steps = All-push (IsStepText siblings) plan.steps step is.steps fits;
       few_steps = omega (arith, length_push plan.steps step);
     } in
     let lines : plan_lines made ≡ plan_lines plan ++ step_words step ∷ [] =
@@ -176,7 +176,7 @@ module _ (head : Head) (all : Contents) (few : head.siblings < 256) (is : IsPlan
   unfolding plan_of with_step
   steps_again [] steps lines e = ap (λ (ss : List Step). plan_of head (record { tasks = all.tasks; steps = ss }) lines) (sym (e ∙ append-nil steps))
   steps_again (step ∷ more) steps lines e =
-      let fits = element_after (IsStep head.siblings) all.steps steps more step e is.steps in
+      let fits = element_after (IsStepText head.siblings) all.steps steps more step e is.steps in
       let len : length all.steps ≡ length steps + suc (length more) = ap length e ∙ length-append steps (step ∷ more) in
       let room : length steps < 100000 = let few_steps = is.few_steps in omega arith in
       rw (line_again head.siblings (forms.Step step) few fits, lt-ltb (length steps) 100000 room) (steps_again more (steps ++ step ∷ []) lines (regrouped all.steps steps more step e))

@@ -1,8 +1,10 @@
 -- Forms: what is read from a line after the head is spelled by its words, and what is spelled so is read.
-use Rattle.std.proofs.Common.{◌≡◌, ℕ, ◌<◌, Bool, true, false, cond, eqb, ltb, List, [], ◌∷◌, ◌++◌, take, drop, Option, Some, None, refl, sym, ap, subst, ◌∙◌, arith, zero-le, inl, inr, take-append-drop}
+use Rattle.std.proofs.Common.{◌≡◌, ℕ, ◌<◌, ℤ, pos, negsuc, ◌≤ℤ◌, Bool, true, false, cond, eqb, ltb, List, [], ◌∷◌, ◌++◌, take, drop, Option, Some, None, refl, sym, ap, subst, ◌∙◌, arith, zero-le, inl, inr, take-append-drop}
 use Rattle.std.specs.Prelude.{◌⊎◌, decimal, codes}
+use Rattle.std.specs.Fmt.{signed_decimal}
 use Rattle.std.specs.Str.{bytes_eq}
-use Rattle.std.proofs.lemmas.Bool.{ltb-true, lt-ltb, eqb-true}
+use Rattle.std.proofs.lemmas.Bool.{ltb-true, lt-ltb, eqb-true, eqb-false}
+use Rattle.std.proofs.lemmas.Int.{ints}
 use Rattle.std.proofs.lemmas.List.{append-nil}
 use Rattle.std.proofs.lemmas.Option.{cond_some}
 use Rattle.std.proofs.lemmas.Slice.Eq.{bytes_eq-Decides}
@@ -11,17 +13,19 @@ use Rattle.cs_types.specs.declared.task.Policy.TheVariants.{Fifo}
 use Rattle.cs_types.specs.declared.task.TaskSpec.{TaskSpec}
 use Rattle.cs_types.specs.declared.event.Actor.{Actor}
 use Rattle.cs_types.specs.declared.event.Actor.TheVariants.{Sibling, Caller}
+use Rattle.cs_types.specs.declared.event.Ask.{Ask}
 use Rattle.cs_types.specs.declared.event.Event.{Event}
-use Rattle.cs_types.specs.declared.event.Event.TheVariants.{Turn, Block, Wake}
+use Rattle.cs_types.specs.declared.event.Event.TheVariants.{Turn, Resched, Block, Wake, Prctl}
 use Rattle.cs_types.specs.declared.event.Step.{Step}
-use Rattle.cs_types.specs.Scenario.{IsPolicy, IsTask, IsEvent, IsMadeBy, IsStep}
+use Rattle.cs_types.specs.Scenario.{IsWithin, IsPolicy, IsTask, IsAsk, IsEvent, IsMadeBy, IsStep}
 use Rattle.scenario_text.specs.declared.line.Line.{Line}
 use Rattle.scenario_text.specs.declared.line.Line.TheVariants as forms
-use Rattle.scenario_text.specs.Words.{Word, policy_word, creds_words, task_words, actor_word, event_words}
+use Rattle.scenario_text.specs.Words.{Word, policy_word, creds_words, task_words, actor_word, ask_words, event_words}
 use Rattle.scenario_text.specs.Text.{step_words, end_words}
-use Rattle.scenario_text.specs.Reading.{◌>>=◌, number_of, word_at, number_at, keyword_at, end_of, creds_at, cpu_of, policy_of, cpu_at, policy_at, task_at, actor_of, actor_at, sibling_event_of, sibling_event_at, caller_event_at, event_at, step_at, form_at, line_of}
+use Rattle.scenario_text.specs.Reader.{TargetFits}
+use Rattle.scenario_text.specs.Reading.{◌>>=◌, number_of, word_at, number_at, end_of, creds_at, cpu_of, policy_of, cpu_at, policy_at, task_at, actor_of, actor_at, sibling_event_of, sibling_event_at, target_at, ask_at, wake_at, prctl_at, caller_form_at, caller_event_at, event_at, step_at, form_at, line_of}
 use Rattle.scenario_text.proofs.Numbers.{number_takes, number_again}
-use Rattle.scenario_text.proofs.Fields.{bind, some_is, word_takes, keyword_takes, keyword_again, number_at_takes, number_at_again, end_takes, creds_takes, creds_again}
+use Rattle.scenario_text.proofs.Fields.{bind, some_is, word_takes, number_at_takes, number_at_again, end_takes, creds_takes, creds_again}
 
 -- one of two choices was taken
 chosen : {X : Type 0} (b : Bool) (x y z : X) → cond b x y ≡ z → ((b ≡ true) × (x ≡ z)) ⊎ ((b ≡ false) × (y ≡ z))
@@ -171,19 +175,26 @@ actor_at_again siblings actor rest few is = rw (actor_again siblings actor few i
 
 -- the events that an actor can make
 abbrev Makes : ℕ → Actor → Event → Type 0
-Makes siblings actor event = IsEvent siblings event × IsMadeBy actor event
+Makes siblings actor event = IsEvent siblings event × IsMadeBy actor event × TargetFits event
 
 sibling_event_takes : (siblings cpu : ℕ) (word : Word) (event : Event) → cpu < siblings → sibling_event_of cpu word ≡ Some event → (word ∷ [] ≡ event_words event) × Makes siblings (Sibling cpu) event
 unfolding sibling_event_of
 sibling_event_takes siblings cpu word event lt e =
-    elim (chosen (bytes_eq word (codes "turn")) (Some (Turn cpu)) (cond (bytes_eq word (codes "block")) (Some (Block cpu)) None) (Some event) e) [
+    let P : Event → Type 0 = λ v. (word ∷ [] ≡ event_words v) × Makes siblings (Sibling cpu) v in
+    elim (chosen (bytes_eq word (codes "turn")) (Some (Turn cpu)) (cond (bytes_eq word (codes "resched")) (Some (Resched cpu)) (cond (bytes_eq word (codes "block")) (Some (Block cpu)) None)) (Some event) e) [
       | inl is ↦
           let same : word ≡ codes "turn" = (bytes_eq-Decides word (codes "turn")).0 is.0 in
-          subst (λ (v : Event). (word ∷ [] ≡ event_words v) × Makes siblings (Sibling cpu) v) (some_is (Turn cpu) event is.1) (rw same refl, (lt, refl))
+          subst P (some_is (Turn cpu) event is.1) (rw same refl, (lt, refl, tt))
       | inr other ↦
-          let is = cond_some (bytes_eq word (codes "block")) (Block cpu) event other.1 in
-          let same : word ≡ codes "block" = (bytes_eq-Decides word (codes "block")).0 is.0 in
-          subst (λ (v : Event). (word ∷ [] ≡ event_words v) × Makes siblings (Sibling cpu) v) is.1 (rw same refl, (lt, refl))
+          elim (chosen (bytes_eq word (codes "resched")) (Some (Resched cpu)) (cond (bytes_eq word (codes "block")) (Some (Block cpu)) None) (Some event) other.1) [
+            | inl is ↦
+                let same : word ≡ codes "resched" = (bytes_eq-Decides word (codes "resched")).0 is.0 in
+                subst P (some_is (Resched cpu) event is.1) (rw same refl, (lt, refl, tt))
+            | inr last ↦
+                let is = cond_some (bytes_eq word (codes "block")) (Block cpu) event last.1 in
+                let same : word ≡ codes "block" = (bytes_eq-Decides word (codes "block")).0 is.0 in
+                subst P is.1 (rw same refl, (lt, refl, tt))
+          ]
     ]
 
 sibling_event_at_takes : (siblings cpu : ℕ) (words : List Word) (x : Event × List Word) → cpu < siblings → sibling_event_at cpu words ≡ Some x → (words ≡ event_words x.0 ++ x.1) × Makes siblings (Sibling cpu) x.0
@@ -195,40 +206,154 @@ sibling_event_at_takes siblings cpu words x lt e =
     let whole : words ≡ event_words event ++ word.1 = word_takes words word first ∙ ap (λ (ws : List Word). ws ++ word.1) spelled.0 in
     subst (λ (p : Event × List Word). (words ≡ event_words p.0 ++ p.1) × Makes siblings (Sibling cpu) p.0) (some_is (event, word.1) x e1) (whole, spelled.1)))
 
-caller_event_takes : (siblings caller : ℕ) (words : List Word) (x : Event × List Word) → caller < 8 → caller_event_at words ≡ Some x → (words ≡ event_words x.0 ++ x.1) × Makes siblings (Caller caller) x.0
+-- ---- what a caller does
+
+-- the target of a command, within its limits
+record IsTarget (command : ℕ) (target : ℤ) : Type 0 where
+  cmd : ((command ≡ 1) × (target ≡ pos 0)) ⊎ ((command ≡ 2) × (pos 1 ≤ℤ target))
+  fits : target ≤ℤ pos 2147483647
+
+target_takes : (command : ℕ) (words : List Word) (x : ℤ × List Word) → IsWithin 1 2 command → target_at command words ≡ Some x → (words ≡ signed_decimal x.0 ∷ x.1) × IsTarget command x.0
+unfolding target_at
+target_takes command words x known e =
+    let P : ℤ × List Word → Type 0 = λ p. (words ≡ signed_decimal p.0 ∷ p.1) × IsTarget command p.0 in
+    bind (cond (eqb command 1) (number_at 0 0 words) (number_at 1 2147483647 words)) _ x e (λ target first e0.
+    elim (chosen (eqb command 1) (number_at 0 0 words) (number_at 1 2147483647 words) (Some target) first) [
+      | inl is ↦
+          let spelled = number_at_takes 0 0 words target (omega arith) is.1 in
+          let none : target.0 ≡ 0 = omega (arith, spelled.1) in
+          subst P (some_is (pos target.0, target.1) x e0) (spelled.0, record { cmd = inl (eqb-true _ _ is.0, ap pos none); fits = omega (arith, ints) })
+      | inr is ↦
+          let spelled = number_at_takes 1 2147483647 words target (omega arith) is.1 in
+          let other = eqb-false command 1 is.0 in
+          subst P (some_is (pos target.0, target.1) x e0) (spelled.0, record { cmd = inr (omega arith, omega (arith, ints)); fits = omega (arith, ints) })
+    ])
+
+-- the arguments of a call, within their limits
+record IsAskText (ask : Ask) : Type 0 where
+  is : IsAsk ask
+  fits : ask.pid ≤ℤ pos 2147483647
+
+ask_takes : (words : List Word) (x : Ask × List Word) → ask_at words ≡ Some x → (words ≡ ask_words x.0 ++ x.1) × IsAskText x.0
+unfolding ask_at
+ask_takes words x e =
+    bind (number_at 1 2 words) _ x e (λ cmd t0 e0.
+    bind (target_at cmd.0 cmd.1) _ x e0 (λ target t1 e1.
+    bind (number_at 0 0 target.1) _ x e1 (λ scope t2 e2.
+    bind (number_at 0 0 scope.1) _ x e2 (λ addr t3 e3.
+    let made : Ask × List Word = (record { cmd = cmd.0; pid = target.0; scope = scope.0; addr = addr.0 }, addr.1) in
+    let w0 = number_at_takes 1 2 words cmd (omega arith) t0 in
+    let w1 = target_takes cmd.0 cmd.1 target w0.1 t1 in
+    let w2 = number_at_takes 0 0 target.1 scope (omega arith) t2 in
+    let w3 = number_at_takes 0 0 scope.1 addr (omega arith) t3 in
+    let whole : words ≡ ask_words made.0 ++ made.1 = cc in
+    let is : IsAskText made.0 = record { is = record { cmd = w1.1.cmd; scope = omega (arith, w2.1); addr = omega (arith, w3.1) }; fits = w1.1.fits } in
+    subst (λ (p : Ask × List Word). (words ≡ ask_words p.0 ++ p.1) × IsAskText p.0) (some_is made x e3) (whole, is)))))
+
+-- a caller's event is read
+abbrev ReadsCaller : ℕ → ℕ → List Word → Event × List Word → Type 0
+ReadsCaller siblings caller words x = (words ≡ event_words x.0 ++ x.1) × Makes siblings (Caller caller) x.0
+
+wake_takes : (siblings caller : ℕ) (words : List Word) (x : Event × List Word) → caller < 8 → wake_at words ≡ Some x → ReadsCaller siblings caller (codes "wake" ∷ words) x
+unfolding wake_at
+wake_takes siblings caller words x lt e =
+    bind (number_at 1 999999 words) _ x e (λ pid t0 e0.
+    let w0 = number_at_takes 1 999999 words pid (omega arith) t0 in
+    subst (ReadsCaller siblings caller (codes "wake" ∷ words)) (some_is (Wake pid.0, pid.1) x e0) (cc, (w0.1, lt, tt)))
+
+prctl_takes : (siblings caller : ℕ) (words : List Word) (x : Event × List Word) → caller < 8 → prctl_at words ≡ Some x → ReadsCaller siblings caller (codes "prctl" ∷ words) x
+unfolding prctl_at
+prctl_takes siblings caller words x lt e =
+    bind (number_at 1 999999 words) _ x e (λ pid t0 e0.
+    bind (ask_at pid.1) _ x e0 (λ ask t1 e1.
+    let w0 = number_at_takes 1 999999 words pid (omega arith) t0 in
+    let w1 = ask_takes pid.1 ask t1 in
+    subst (ReadsCaller siblings caller (codes "prctl" ∷ words)) (some_is (Prctl pid.0 ask.0, ask.1) x e1) (cc, ((w0.1, w1.1.is), lt, w1.1.fits))))
+
+caller_form_takes : (siblings caller : ℕ) (form : Word) (words : List Word) (x : Event × List Word) → caller < 8 → caller_form_at form words ≡ Some x → ReadsCaller siblings caller (form ∷ words) x
+unfolding caller_form_at
+caller_form_takes siblings caller form words x lt e =
+    let P : Word → Type 0 = λ w. ReadsCaller siblings caller (w ∷ words) x in
+    elim (chosen (bytes_eq form (codes "wake")) (wake_at words) (cond (bytes_eq form (codes "prctl")) (prctl_at words) None) (Some x) e) [
+      | inl is ↦ subst P (sym ((bytes_eq-Decides form (codes "wake")).0 is.0)) (wake_takes siblings caller words x lt is.1)
+      | inr other ↦
+          let is = kept (bytes_eq form (codes "prctl")) (prctl_at words) x other.1 in
+          subst P (sym ((bytes_eq-Decides form (codes "prctl")).0 is.0)) (prctl_takes siblings caller words x lt is.1)
+    ]
+
+caller_event_takes : (siblings caller : ℕ) (words : List Word) (x : Event × List Word) → caller < 8 → caller_event_at words ≡ Some x → ReadsCaller siblings caller words x
 unfolding caller_event_at
 caller_event_takes siblings caller words x lt e =
-    bind (keyword_at (codes "wake") words) _ x e (λ wake first e0.
-    bind (number_at 1 999999 wake.1) _ x e0 (λ pid second e1.
-    let w0 = keyword_takes (codes "wake") words wake first in
-    let w1 = number_at_takes 1 999999 wake.1 pid (omega arith) second in
-    let whole : words ≡ event_words (Wake pid.0) ++ pid.1 = cc in
-    subst (λ (p : Event × List Word). (words ≡ event_words p.0 ++ p.1) × Makes siblings (Caller caller) p.0) (some_is (Wake pid.0, pid.1) x e1) (whole, (w1.1, lt))))
+    bind (word_at words) _ x e (λ form first e0.
+    let spelled = caller_form_takes siblings caller form.0 form.1 x lt e0 in
+    (word_takes words form first ∙ spelled.0, spelled.1))
 
 event_takes : (siblings : ℕ) (actor : Actor) (words : List Word) (x : Event × List Word) → IsActor siblings actor → event_at actor words ≡ Some x → (words ≡ event_words x.0 ++ x.1) × Makes siblings actor x.0
 event_takes siblings (Sibling cpu) words x is e = sibling_event_at_takes siblings cpu words x is e
 event_takes siblings (Caller caller) words x is e = caller_event_takes siblings caller words x is e
 
+target_again : (command : ℕ) (target : ℤ) (rest : List Word) → IsTarget command target → target_at command (signed_decimal target ∷ rest) ≡ Some (target, rest)
+unfolding target_at
+target_again command (pos n) rest is =
+    elim is.cmd [
+      | inl none ↦ let zero_is : n ≡ 0 = cc in rw (none.0, zero_is, number_at_again 0 0 0 rest (omega arith) (omega arith, omega arith)) refl
+      | inr some ↦
+          let fits = is.fits in
+          rw (some.0, number_at_again 1 2147483647 n rest (omega arith) (omega (arith, ints), omega (arith, ints))) refl
+    ]
+target_again command (negsuc n) rest is =
+    elim is.cmd [
+      | inl none ↦ absurd cc
+      | inr some ↦ absurd (omega (arith, ints, some.1))
+    ]
+
+pub cmd_within : (ask : Ask) → IsAsk ask → IsWithin 1 2 ask.cmd
+cmd_within ask is =
+    elim is.cmd [
+      | inl none ↦ (omega (arith, none.0), omega (arith, none.0))
+      | inr some ↦ (omega (arith, some.0), omega (arith, some.0))
+    ]
+
+ask_again : (ask : Ask) (rest : List Word) → IsAskText ask → ask_at (ask_words ask ++ rest) ≡ Some (ask, rest)
+unfolding ask_at
+ask_again ask rest is =
+    rw (
+      number_at_again 1 2 ask.cmd _ (omega arith) (cmd_within ask is.is),
+      target_again ask.cmd ask.pid _ (record { cmd = is.is.cmd; fits = is.fits }),
+      number_at_again 0 0 ask.scope _ (omega arith) (zero-le, omega (arith, is.is.scope)),
+      number_at_again 0 0 ask.addr rest (omega arith) (zero-le, omega (arith, is.is.addr)),
+    ) refl
+
 event_again : (siblings : ℕ) (actor : Actor) (event : Event) (rest : List Word) → Makes siblings actor event → event_at actor (event_words event ++ rest) ≡ Some (event, rest)
-unfolding sibling_event_at sibling_event_of caller_event_at
+unfolding sibling_event_at sibling_event_of caller_event_at caller_form_at wake_at prctl_at
 event_again siblings (Sibling i) (Turn cpu) rest makes = rw makes.1 refl
+event_again siblings (Sibling i) (Resched cpu) rest makes = rw makes.1 refl
 event_again siblings (Sibling i) (Block cpu) rest makes = rw makes.1 refl
-event_again siblings (Sibling i) (Wake pid) rest makes = absurd makes.1
-event_again siblings (Caller j) (Turn cpu) rest makes = absurd makes.1
-event_again siblings (Caller j) (Block cpu) rest makes = absurd makes.1
-event_again siblings (Caller j) (Wake pid) rest makes =
-    rw (keyword_again (codes "wake"), number_at_again 1 999999 pid rest (omega arith) makes.0) refl
+event_again siblings (Sibling i) event rest makes = absurd makes.1
+event_again siblings (Caller j) (Wake pid) rest makes = rw (number_at_again 1 999999 pid rest (omega arith) makes.0) refl
+event_again siblings (Caller j) (Prctl caller ask) rest makes =
+    rw (
+      number_at_again 1 999999 caller _ (omega arith) makes.0.0,
+      ask_again ask rest (record { is = makes.0.1; fits = makes.2 }),
+    ) refl
+event_again siblings (Caller j) event rest makes = absurd makes.1
 
 -- who makes an event of a core is an actor of the core
 makes_is_actor : (siblings : ℕ) (actor : Actor) (event : Event) → Makes siblings actor event → IsActor siblings actor
 makes_is_actor siblings (Sibling i) (Turn cpu) makes = subst (λ (n : ℕ). n < siblings) makes.1 makes.0
+makes_is_actor siblings (Sibling i) (Resched cpu) makes = subst (λ (n : ℕ). n < siblings) makes.1 makes.0
 makes_is_actor siblings (Sibling i) (Block cpu) makes = subst (λ (n : ℕ). n < siblings) makes.1 makes.0
-makes_is_actor siblings (Sibling i) (Wake pid) makes = absurd makes.1
-makes_is_actor siblings (Caller j) (Turn cpu) makes = absurd makes.1
-makes_is_actor siblings (Caller j) (Block cpu) makes = absurd makes.1
+makes_is_actor siblings (Sibling i) event makes = absurd makes.1
 makes_is_actor siblings (Caller j) (Wake pid) makes = makes.1
+makes_is_actor siblings (Caller j) (Prctl caller ask) makes = makes.1
+makes_is_actor siblings (Caller j) event makes = absurd makes.1
 
-step_takes : (siblings : ℕ) (words : List Word) (x : Step × List Word) → step_at siblings words ≡ Some x → (codes "step" ∷ words ≡ step_words x.0 ++ x.1) × IsStep siblings x.0
+-- a step that a text can spell
+pub record IsStepText (siblings : ℕ) (step : Step) : Type 0 where
+  pub is : IsStep siblings step
+  pub fits : TargetFits step.event
+
+step_takes : (siblings : ℕ) (words : List Word) (x : Step × List Word) → step_at siblings words ≡ Some x → (codes "step" ∷ words ≡ step_words x.0 ++ x.1) × IsStepText siblings x.0
 unfolding step_at
 step_takes siblings words x e =
     bind (actor_at siblings words) _ x e (λ actor first e0.
@@ -238,12 +363,12 @@ step_takes siblings words x e =
     let made : Step × List Word = (record { actor = actor.0; event = event.0 }, event.1) in
     let whole : codes "step" ∷ words ≡ step_words made.0 ++ made.1 =
     ap (λ (ws : List Word). codes "step" ∷ ws) (w0.0 ∙ ap (λ (ws : List Word). actor_word actor.0 ∷ ws) w1.0) in
-    subst (λ (p : Step × List Word). (codes "step" ∷ words ≡ step_words p.0 ++ p.1) × IsStep siblings p.0) (some_is made x e1) (whole, record { event = w1.1.0; actor = w1.1.1 })))
+    subst (λ (p : Step × List Word). (codes "step" ∷ words ≡ step_words p.0 ++ p.1) × IsStepText siblings p.0) (some_is made x e1) (whole, record { is = record { event = w1.1.0; actor = w1.1.1 }; fits = w1.1.2 })))
 
-step_again : (siblings : ℕ) (step : Step) (rest : List Word) → siblings < 256 → IsStep siblings step → step_at siblings (actor_word step.actor ∷ event_words step.event ++ rest) ≡ Some (step, rest)
+step_again : (siblings : ℕ) (step : Step) (rest : List Word) → siblings < 256 → IsStepText siblings step → step_at siblings (actor_word step.actor ∷ event_words step.event ++ rest) ≡ Some (step, rest)
 unfolding step_at
 step_again siblings step rest few is =
-    let makes : Makes siblings step.actor step.event = (is.event, is.actor) in
+    let makes : Makes siblings step.actor step.event = (is.is.event, is.is.actor, is.fits) in
     rw (
       actor_at_again siblings step.actor (event_words step.event ++ rest) few (makes_is_actor siblings step.actor step.event makes),
       event_again siblings step.actor step.event rest makes,
@@ -260,7 +385,7 @@ line_words forms.End = end_words
 -- a line, in a core of so many siblings
 abbrev pub IsLine : ℕ → Line → Type 0
 IsLine siblings (forms.Task task) = IsTask siblings task
-IsLine siblings (forms.Step step) = IsStep siblings step
+IsLine siblings (forms.Step step) = IsStepText siblings step
 IsLine siblings forms.End = Unit {0}
 
 form_takes : (siblings : ℕ) (form : Word) (words : List Word) (x : Line × List Word) → form_at siblings form words ≡ Some x → (form ∷ words ≡ line_words x.0 ++ x.1) × IsLine siblings x.0

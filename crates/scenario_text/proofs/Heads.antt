@@ -24,7 +24,7 @@ head_lines head = version_words ∷ siblings_line head.siblings ∷ limits_line 
 
 -- what a head keeps
 pub record IsHead (head : Head) : Type 0 where
-  pub siblings : head.siblings ≡ 2
+  pub siblings : IsWithin 1 8 head.siblings
   pub task_limit : IsWithin 1 256 head.task_limit
   pub cookie_limit : IsWithin 1 256 head.cookie_limit
   pub user_top : IsWithin 8192 9223372036854775807 head.user_top
@@ -46,27 +46,25 @@ unfolding version_of
 version_again =
     rw (keyword_again (codes "coresched"), ← decimal_digit 1 (omega arith), number_at_again 1 1 1 [] (omega arith) (omega arith, omega arith)) refl
 
-siblings_takes : (words : List Word) (siblings : ℕ) → siblings_of words ≡ Some siblings → (words ≡ siblings_line siblings) × (siblings ≡ 2)
+siblings_takes : (words : List Word) (siblings : ℕ) → siblings_of words ≡ Some siblings → (words ≡ siblings_line siblings) × IsWithin 1 8 siblings
 unfolding siblings_of
 siblings_takes words siblings e =
     bind (keyword_at (codes "siblings") words) _ siblings e (λ name t0 e0.
-    bind (number_at 2 2 name.1) _ siblings e0 (λ count t1 e1.
+    bind (number_at 1 8 name.1) _ siblings e0 (λ count t1 e1.
     bind (end_of count.1) _ siblings e1 (λ end t2 e2.
     let w0 = keyword_takes (codes "siblings") words name t0 in
-    let w1 = number_at_takes 2 2 name.1 count (omega arith) t1 in
+    let w1 = number_at_takes 1 8 name.1 count (omega arith) t1 in
     let w2 = end_takes count.1 end t2 in
     let whole : words ≡ siblings_line count.0 = cc in
-    let two : count.0 ≡ 2 = omega (arith, w1.1) in
-    subst (λ (n : ℕ). (words ≡ siblings_line n) × (n ≡ 2)) (some_is count.0 siblings e2) (whole, two))))
+    subst (λ (n : ℕ). (words ≡ siblings_line n) × IsWithin 1 8 n) (some_is count.0 siblings e2) (whole, w1.1))))
 
-siblings_again : siblings_of (siblings_line 2) ≡ Some 2
+siblings_again : (siblings : ℕ) → IsWithin 1 8 siblings → siblings_of (siblings_line siblings) ≡ Some siblings
 unfolding siblings_of
-siblings_again =
-    rw (keyword_again (codes "siblings"), number_at_again 2 2 2 [] (omega arith) (omega arith, omega arith)) refl
+siblings_again siblings is = rw (keyword_again (codes "siblings"), number_at_again 1 8 siblings [] (omega arith) is) refl
 
-limits_take : (siblings : ℕ) (words : List Word) (head : Head) → siblings ≡ 2 → head_of siblings words ≡ Some head → (words ≡ limits_line head) × (head.siblings ≡ siblings) × IsHead head
+limits_take : (siblings : ℕ) (words : List Word) (head : Head) → IsWithin 1 8 siblings → head_of siblings words ≡ Some head → (words ≡ limits_line head) × (head.siblings ≡ siblings) × IsHead head
 unfolding head_of
-limits_take siblings words head two e =
+limits_take siblings words head few e =
     bind (keyword_at (codes "limits") words) _ head e (λ name t0 e0.
     bind (number_at 1 256 name.1) _ head e0 (λ tasks t1 e1.
     bind (number_at 1 256 tasks.1) _ head e1 (λ cookies t2 e2.
@@ -79,7 +77,7 @@ limits_take siblings words head two e =
     let w4 = end_takes top.1 end t4 in
     let made : Head = record { siblings = siblings; task_limit = tasks.0; cookie_limit = cookies.0; user_top = top.0 } in
     let whole : words ≡ limits_line made = cc in
-    let is : IsHead made = record { siblings = two; task_limit = w1.1; cookie_limit = w2.1; user_top = w3.1 } in
+    let is : IsHead made = record { siblings = few; task_limit = w1.1; cookie_limit = w2.1; user_top = w3.1 } in
     subst (λ (h : Head). (words ≡ limits_line h) × (h.siblings ≡ siblings) × IsHead h) (some_is made head e4) (whole, refl, is))))))
 
 limits_again : (head : Head) → IsHead head → head_of head.siblings (limits_line head) ≡ Some head
@@ -114,6 +112,4 @@ head_takes lines x e =
 pub head_again : (head : Head) (line : List Word) (lines : List (List Word)) → IsHead head → head_at (head_lines head ++ line ∷ lines) ≡ Some (head, line ∷ lines)
 unfolding head_at
 head_again head line lines is =
-    let two : siblings_of (siblings_line head.siblings) ≡ Some head.siblings =
-    subst (λ (n : ℕ). siblings_of (siblings_line n) ≡ Some n) (sym is.siblings) siblings_again in
-    rw (version_again, two, limits_again head is) refl
+    rw (version_again, siblings_again head.siblings is.siblings, limits_again head is) refl

@@ -1,27 +1,31 @@
 -- Scenarios: what is read from a text is the scenario of the text, and the text of a scenario is read as it.
-use Rattle.std.proofs.Common.{◌≡◌, ℕ, ◌<◌, Bool, true, false, List, [], ◌∷◌, ◌++◌, map, Some, None, Result, Ok, Err, refl, sym, ap, subst, ◌∙◌, arith, append_assoc, inl, inr}
+use Rattle.std.proofs.Common.{◌≡◌, ℕ, ◌<◌, ℤ, pos, negsuc, ◌≤ℤ◌, All, Bool, true, false, List, [], ◌∷◌, ◌++◌, map, Some, None, Result, Ok, Err, refl, sym, ap, subst, ◌∙◌, arith, append_assoc, inl, inr}
 use Rattle.std.specs.Prelude.{◌⊎◌, MatchResult, IfOk, IfErr, decimal, codes}
+use Rattle.std.specs.Fmt.{signed_decimal}
 use Rattle.std.specs.List.{AllByRecursion}
+use Rattle.std.proofs.lemmas.Int.{ints}
 use Rattle.std.proofs.lemmas.List.Elements.{recursion_from_All, All-nil}
 use Rattle.cs_types.specs.declared.task.Policy.{Policy}
 use Rattle.cs_types.specs.declared.task.Policy.TheVariants.{Fifo}
 use Rattle.cs_types.specs.declared.task.TaskSpec.{TaskSpec}
 use Rattle.cs_types.specs.declared.event.Actor.{Actor}
 use Rattle.cs_types.specs.declared.event.Actor.TheVariants.{Sibling, Caller}
+use Rattle.cs_types.specs.declared.event.Ask.{Ask}
 use Rattle.cs_types.specs.declared.event.Event.{Event}
-use Rattle.cs_types.specs.declared.event.Event.TheVariants.{Turn, Block, Wake}
+use Rattle.cs_types.specs.declared.event.Event.TheVariants.{Turn, Resched, Block, Wake, Prctl}
 use Rattle.cs_types.specs.declared.event.Step.{Step}
 use Rattle.cs_types.specs.declared.scenario.Scenario.{Scenario}
-use Rattle.cs_types.specs.Scenario.{IsPolicy, IsTask, IsEvent, IsMadeBy, IsStep, IsBuilt}
+use Rattle.cs_types.specs.Scenario.{IsPolicy, IsTask, IsAsk, IsEvent, IsMadeBy, IsBuilt}
 use Rattle.scenario_text.specs.declared.fault.BadKind.TheVariants.{Unbuilt}
 use Rattle.scenario_text.specs.declared.fault.ReadFault.{ReadFault}
 use Rattle.scenario_text.specs.declared.fault.ReadFault.TheVariants.{Bad, OutOfMemory}
 use Rattle.scenario_text.specs.declared.head.Head.{Head}
-use Rattle.scenario_text.specs.Words.{Word, flag_word, policy_word, creds_words, task_words, actor_word, event_words}
+use Rattle.scenario_text.specs.Words.{Word, flag_word, policy_word, creds_words, task_words, actor_word, ask_words, event_words}
 use Rattle.scenario_text.specs.Text.{line, version_words, siblings_words, limits_words, step_words, end_words, scenario_lines}
 use Rattle.scenario_text.specs.Reading.{Gives, Contents, lines_in, head_at, plan_of, scenario_of}
-use Rattle.scenario_text.specs.Reader.{IsTextOf, HasNoScenario, HasOneScenario}
+use Rattle.scenario_text.specs.Reader.{TargetFits, IsTextOf, HasNoScenario, HasOneScenario}
 use Rattle.scenario_text.proofs.Fields.{bind, some_is}
+use Rattle.scenario_text.proofs.Forms.{IsStepText, cmd_within}
 use Rattle.scenario_text.proofs.Heads.{IsHead, head_lines, head_takes, head_again}
 use Rattle.scenario_text.proofs.Building.{IsPlan, plan_lines, end_lines, plan_takes, plan_again}
 use Rattle.scenario_text.proofs.Texts.{IsPlain, ArePlain, plain_decimal, plain-append, ArePlain-append, lines_in-flat_map, text_is}
@@ -56,12 +60,12 @@ empty_plan siblings limit = record {
   distinct = λ i j d lt below. absurd (omega arith);
   led = λ k d below. absurd (omega arith);
   few_tasks = omega arith;
-  steps = All-nil (IsStep siblings);
+  steps = All-nil (IsStepText siblings);
   few_steps = omega arith;
 }
 
 -- what is read is spelled so
-scenario_takes : (lines : List (List Word)) (scenario : Scenario) → scenario_of lines ≡ Some scenario → IsBuilt scenario × (lines ≡ scenario_lines scenario ++ nothing)
+scenario_takes : (lines : List (List Word)) (scenario : Scenario) → scenario_of lines ≡ Some scenario → IsBuilt scenario × All (λ step. TargetFits step.event) scenario.steps × (lines ≡ scenario_lines scenario ++ nothing)
 unfolding scenario_of
 scenario_takes lines scenario e =
     bind (head_at lines) _ scenario e (λ head first e0.
@@ -78,14 +82,15 @@ scenario_takes lines scenario e =
       distinct = p.is.distinct;
       led = p.is.led;
       few_tasks = p.is.few_tasks;
-      steps = p.is.steps;
+      steps = λ k d lt. (p.is.steps k d lt).is;
       few_steps = p.is.few_steps;
     } in
+    let fits : All (λ step. TargetFits step.event) made.steps = λ k d lt. (p.is.steps k d lt).fits in
     let rest : head.1 ≡ plan_lines plan ++ end_lines = p.lines_are in
     let whole : lines ≡ scenario_lines made ++ nothing =
     h.0
     ∙ ap (λ (ls : List (List Word)). head_lines head.0 ++ ls) (rest ∙ sym (append_assoc (plan_lines plan) (end_words ∷ []) nothing)) in
-    subst (λ (s : Scenario). IsBuilt s × (lines ≡ scenario_lines s ++ nothing)) (some_is made scenario e1) (built, whole)))
+    subst (λ (s : Scenario). IsBuilt s × All (λ step. TargetFits step.event) s.steps × (lines ≡ scenario_lines s ++ nothing)) (some_is made scenario e1) (built, fits, whole)))
 
 -- a list that ends in an element begins with one
 has_first : {X : Type 0} (xs : List X) (y : X) (ys : List X) → (first : X) × (more : List X) × (xs ++ y ∷ ys ≡ first ∷ more)
@@ -93,9 +98,9 @@ has_first [] y ys = (y, ys, refl)
 has_first (x ∷ xs) y ys = (x, xs ++ y ∷ ys, refl)
 
 -- what is spelled so is read
-scenario_again : (scenario : Scenario) → IsBuilt scenario → scenario_of (scenario_lines scenario ++ nothing) ≡ Some scenario
+scenario_again : (scenario : Scenario) → IsBuilt scenario → All (λ step. TargetFits step.event) scenario.steps → scenario_of (scenario_lines scenario ++ nothing) ≡ Some scenario
 unfolding scenario_of
-scenario_again scenario built =
+scenario_again scenario built fits =
     let head = head_of_scenario scenario in
     let plan : Contents = record { tasks = scenario.tasks; steps = scenario.steps } in
     let is_head : IsHead head = record {
@@ -109,7 +114,7 @@ scenario_again scenario built =
       distinct = built.distinct;
       led = built.led;
       few_tasks = built.few_tasks;
-      steps = built.steps;
+      steps = λ k d lt. record { is = built.steps k d lt; fits = fits k d lt };
       few_steps = built.few_steps;
     } in
     let few : head.siblings < 256 = let two = built.siblings in omega arith in
@@ -143,37 +148,53 @@ plain_task siblings task few is =
 plain_actor : (siblings : ℕ) (actor : Actor) (event : Event) → siblings < 256 → IsEvent siblings event → IsMadeBy actor event → IsPlain (actor_word actor)
 plain_actor siblings (Sibling i) (Turn cpu) few is by =
     plain-append (codes "s") (decimal i) (record { no_feed = refl; no_space = refl }) (plain_decimal i (omega arith))
+plain_actor siblings (Sibling i) (Resched cpu) few is by =
+    plain-append (codes "s") (decimal i) (record { no_feed = refl; no_space = refl }) (plain_decimal i (omega arith))
 plain_actor siblings (Sibling i) (Block cpu) few is by =
     plain-append (codes "s") (decimal i) (record { no_feed = refl; no_space = refl }) (plain_decimal i (omega arith))
-plain_actor siblings (Sibling i) (Wake pid) few is by = absurd by
-plain_actor siblings (Caller j) (Turn cpu) few is by = absurd by
-plain_actor siblings (Caller j) (Block cpu) few is by = absurd by
+plain_actor siblings (Sibling i) event few is by = absurd by
 plain_actor siblings (Caller j) (Wake pid) few is by =
     plain-append (codes "c") (decimal j) (record { no_feed = refl; no_space = refl }) (plain_decimal j (omega arith))
+plain_actor siblings (Caller j) (Prctl caller ask) few is by =
+    plain-append (codes "c") (decimal j) (record { no_feed = refl; no_space = refl }) (plain_decimal j (omega arith))
+plain_actor siblings (Caller j) event few is by = absurd by
 
-plain_event : (siblings : ℕ) (event : Event) → IsEvent siblings event → AllByRecursion IsPlain (event_words event)
-plain_event siblings (Turn cpu) is = (record { no_feed = refl; no_space = refl }, tt)
-plain_event siblings (Block cpu) is = (record { no_feed = refl; no_space = refl }, tt)
-plain_event siblings (Wake pid) is = (record { no_feed = refl; no_space = refl }, (plain_decimal pid (omega arith), tt))
+plain_target : (target : ℤ) → (target ≡ pos 0) ⊎ (pos 1 ≤ℤ target) → target ≤ℤ pos 2147483647 → IsPlain (signed_decimal target)
+plain_target (pos n) is fits = plain_decimal n (omega (arith, ints))
+plain_target (negsuc n) (inl none) fits = absurd cc
+plain_target (negsuc n) (inr some) fits = absurd (omega (arith, ints))
 
-plain_step : (siblings : ℕ) (step : Step) → siblings < 256 → IsStep siblings step → AllByRecursion IsPlain (step_words step)
+plain_ask : (ask : Ask) → IsAsk ask → ask.pid ≤ℤ pos 2147483647 → AllByRecursion IsPlain (ask_words ask)
+plain_ask ask is fits =
+    let target : (ask.pid ≡ pos 0) ⊎ (pos 1 ≤ℤ ask.pid) = elim is.cmd [ inl none ↦ inl none.1 | inr some ↦ inr some.1 ] in
+    (plain_decimal ask.cmd (omega (arith, cmd_within ask is)), (plain_target ask.pid target fits, (plain_decimal ask.scope (omega (arith, is.scope)), (plain_decimal ask.addr (omega (arith, is.addr)), tt))))
+
+plain_event : (siblings : ℕ) (event : Event) → IsEvent siblings event → TargetFits event → AllByRecursion IsPlain (event_words event)
+plain_event siblings (Turn cpu) is fits = (record { no_feed = refl; no_space = refl }, tt)
+plain_event siblings (Resched cpu) is fits = (record { no_feed = refl; no_space = refl }, tt)
+plain_event siblings (Block cpu) is fits = (record { no_feed = refl; no_space = refl }, tt)
+plain_event siblings (Wake pid) is fits = (record { no_feed = refl; no_space = refl }, (plain_decimal pid (omega arith), tt))
+plain_event siblings (Prctl caller ask) is fits =
+    (record { no_feed = refl; no_space = refl }, (plain_decimal caller (omega (arith, is.0)), plain_ask ask is.1 fits))
+
+plain_step : (siblings : ℕ) (step : Step) → siblings < 256 → IsStepText siblings step → AllByRecursion IsPlain (step_words step)
 plain_step siblings step few is =
-    (record { no_feed = refl; no_space = refl }, (plain_actor siblings step.actor step.event few is.event is.actor, plain_event siblings step.event is.event))
+    (record { no_feed = refl; no_space = refl }, (plain_actor siblings step.actor step.event few is.is.event is.is.actor, plain_event siblings step.event is.is.event is.fits))
 
 plain_tasks : (siblings : ℕ) (tasks : List TaskSpec) → siblings < 256 → AllByRecursion (IsTask siblings) tasks → ArePlain (map task_words tasks)
 plain_tasks siblings [] few is = tt
 plain_tasks siblings (task ∷ tasks) few is = (plain_task siblings task few is.0, plain_tasks siblings tasks few is.1)
 
-plain_steps : (siblings : ℕ) (steps : List Step) → siblings < 256 → AllByRecursion (IsStep siblings) steps → ArePlain (map step_words steps)
+plain_steps : (siblings : ℕ) (steps : List Step) → siblings < 256 → AllByRecursion (IsStepText siblings) steps → ArePlain (map step_words steps)
 plain_steps siblings [] few is = tt
 plain_steps siblings (step ∷ steps) few is = (plain_step siblings step few is.0, plain_steps siblings steps few is.1)
 
-plain_scenario : (scenario : Scenario) → IsBuilt scenario → ArePlain (scenario_lines scenario)
-plain_scenario s built =
+plain_scenario : (scenario : Scenario) → IsBuilt scenario → All (λ step. TargetFits step.event) scenario.steps → ArePlain (scenario_lines scenario)
+plain_scenario s built fits =
     let few : s.siblings < 256 = let two = built.siblings in omega arith in
     let word : IsPlain (codes "end") = record { no_feed = refl; no_space = refl } in
     let tasks = plain_tasks s.siblings s.tasks few (recursion_from_All (IsTask s.siblings) s.tasks built.tasks) in
-    let steps = plain_steps s.siblings s.steps few (recursion_from_All (IsStep s.siblings) s.steps built.steps) in
+    let steps = plain_steps s.siblings s.steps few (recursion_from_All (IsStepText s.siblings) s.steps (λ k d lt. record { is = built.steps k d lt; fits = fits k d lt })) in
     let version : AllByRecursion IsPlain version_words = (record { no_feed = refl; no_space = refl }, (record { no_feed = refl; no_space = refl }, tt)) in
     let siblings : AllByRecursion IsPlain (siblings_words s) = (record { no_feed = refl; no_space = refl }, (plain_decimal s.siblings (omega arith), tt)) in
     let limits : AllByRecursion IsPlain (limits_words s) = (
@@ -195,14 +216,14 @@ plain_scenario s built =
 text_again : (bytes : List ℕ) (scenario : Scenario) → IsTextOf bytes scenario → scenario_of (lines_in bytes) ≡ Some scenario
 text_again bytes scenario is =
     ap (λ (b : List ℕ). scenario_of (lines_in b)) is.text
-    ∙ ap scenario_of (lines_in-flat_map (scenario_lines scenario) (plain_scenario scenario is.built))
-    ∙ scenario_again scenario is.built
+    ∙ ap scenario_of (lines_in-flat_map (scenario_lines scenario) (plain_scenario scenario is.built is.fits))
+    ∙ scenario_again scenario is.built is.fits
 
 -- and only so
 text_takes : (bytes : List ℕ) (scenario : Scenario) → scenario_of (lines_in bytes) ≡ Some scenario → IsTextOf bytes scenario
 text_takes bytes scenario e =
     let taken = scenario_takes (lines_in bytes) scenario e in
-    record { built = taken.0; text = text_is bytes (scenario_lines scenario) taken.1 }
+    record { built = taken.0; fits = taken.1; text = text_is bytes (scenario_lines scenario) taken.2 }
 
 pub one_scenario : (bytes : List ℕ) → HasOneScenario bytes
 one_scenario bytes scenario other is is' =

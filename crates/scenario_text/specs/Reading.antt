@@ -1,5 +1,5 @@
 -- Reading: what the reader takes from a text, from left to right. `None` is a text that is refused.
-use Rattle.std.specs.Prelude.{◌≡◌, ℕ, Bool, true, false, ◌&&◌, ◌||◌, ◌==◌, not, nat_le, nat_lt, if◌then◌else◌, List, [], ◌∷◌, Option, Some, None, length, slice_index, map, take, drop, codes, ◌++◌, Result, Ok, Err}
+use Rattle.std.specs.Prelude.{◌≡◌, ℕ, Bool, true, false, ◌&&◌, ◌||◌, ◌==◌, pos, ℤ, not, nat_le, nat_lt, if◌then◌else◌, List, [], ◌∷◌, Option, Some, None, length, slice_index, map, take, drop, codes, ◌++◌, Result, Ok, Err}
 use Rattle.std.specs.Borrow.{Bor}
 use Rattle.std.specs.Option.{option_and_then}
 use Rattle.std.specs.Char.{is_ascii_digit}
@@ -12,8 +12,9 @@ use Rattle.cs_types.specs.declared.task.Creds.{Creds}
 use Rattle.cs_types.specs.declared.task.TaskSpec.{TaskSpec}
 use Rattle.cs_types.specs.declared.event.Actor.{Actor}
 use Rattle.cs_types.specs.declared.event.Actor.TheVariants.{Sibling, Caller}
+use Rattle.cs_types.specs.declared.event.Ask.{Ask}
 use Rattle.cs_types.specs.declared.event.Event.{Event}
-use Rattle.cs_types.specs.declared.event.Event.TheVariants.{Turn, Block, Wake}
+use Rattle.cs_types.specs.declared.event.Event.TheVariants.{Turn, Resched, Block, Wake, Prctl}
 use Rattle.cs_types.specs.declared.event.Step.{Step}
 use Rattle.cs_types.specs.declared.scenario.Scenario.{Scenario}
 use Rattle.scenario_text.specs.declared.head.Head.{Head}
@@ -187,7 +188,9 @@ unfoldable pub sibling_event_of : ℕ → Word → Option Event
 sibling_event_of cpu word =
     if bytes_eq word (codes "turn")
     then Some (Turn cpu)
-    else (if bytes_eq word (codes "block") then Some (Block cpu) else None)
+    else (if bytes_eq word (codes "resched")
+    then Some (Resched cpu)
+    else (if bytes_eq word (codes "block") then Some (Block cpu) else None))
 
 unfoldable pub sibling_event_at : ℕ → List Word → Option (Event × List Word)
 sibling_event_at cpu words = do
@@ -195,12 +198,44 @@ sibling_event_at cpu words = do
   event ← sibling_event_of cpu word.0
   Some (event, word.1)
 
+-- the target of a command of `prctl`
+unfoldable pub target_at : ℕ → List Word → Option (ℤ × List Word)
+target_at command words = do
+  target ← if command == 1 then number_at 0 0 words else number_at 1 2147483647 words
+  Some (pos target.0, target.1)
+
+-- the arguments of `prctl`
+unfoldable pub ask_at : List Word → Option (Ask × List Word)
+ask_at words = do
+  cmd ← number_at 1 2 words
+  target ← target_at cmd.0 cmd.1
+  scope ← number_at 0 0 target.1
+  addr ← number_at 0 0 scope.1
+  Some (record { cmd = cmd.0; pid = target.0; scope = scope.0; addr = addr.0 }, addr.1)
+
+unfoldable pub wake_at : List Word → Option (Event × List Word)
+wake_at words = do
+  pid ← number_at 1 999999 words
+  Some (Wake pid.0, pid.1)
+
+unfoldable pub prctl_at : List Word → Option (Event × List Word)
+prctl_at words = do
+  caller ← number_at 1 999999 words
+  ask ← ask_at caller.1
+  Some (Prctl caller.0 ask.0, ask.1)
+
+-- what a caller does, after the first word of it
+unfoldable pub caller_form_at : Word → List Word → Option (Event × List Word)
+caller_form_at form words =
+    if bytes_eq form (codes "wake")
+    then wake_at words
+    else (if bytes_eq form (codes "prctl") then prctl_at words else None)
+
 -- what a caller does
 unfoldable pub caller_event_at : List Word → Option (Event × List Word)
 caller_event_at words = do
-  wake ← keyword_at (codes "wake") words
-  pid ← number_at 1 999999 wake.1
-  Some (Wake pid.0, pid.1)
+  form ← word_at words
+  caller_form_at form.0 form.1
 
 abbrev pub event_at : Actor → List Word → Option (Event × List Word)
 event_at (Sibling cpu) words = sibling_event_at cpu words
@@ -235,11 +270,11 @@ version_of words = do
   version ← number_at 1 1 name.1
   end_of version.1
 
--- `siblings 2`
+-- `siblings` COUNT
 unfoldable pub siblings_of : List Word → Option ℕ
 siblings_of words = do
   name ← keyword_at (codes "siblings") words
-  siblings ← number_at 2 2 name.1
+  siblings ← number_at 1 8 name.1
   end ← end_of siblings.1
   Some siblings.0
 

@@ -1,19 +1,24 @@
 -- Words: how each value is spelled in a scenario and in the output. A number is `decimal`: its digits,
--- with no sign and no leading 0.
+-- with no sign and no leading 0. The target of `prctl`, which may be negative, is `signed_decimal`: a
+-- negative number has a `-` before the digits.
 use Rattle.std.specs.Prelude.{ℕ, Bool, true, false, ◌==◌, if◌then◌else◌, List, [], ◌∷◌, ◌++◌, codes, decimal}
+use Rattle.std.specs.Fmt.{signed_decimal}
 use Rattle.cs_types.specs.declared.task.Policy.{Policy}
 use Rattle.cs_types.specs.declared.task.Policy.TheVariants.{Fifo}
 use Rattle.cs_types.specs.declared.task.Creds.{Creds}
 use Rattle.cs_types.specs.declared.task.TaskSpec.{TaskSpec}
 use Rattle.cs_types.specs.declared.event.Actor.{Actor}
 use Rattle.cs_types.specs.declared.event.Actor.TheVariants.{Sibling, Caller}
+use Rattle.cs_types.specs.declared.event.Ask.{Ask}
 use Rattle.cs_types.specs.declared.event.Event.{Event}
-use Rattle.cs_types.specs.declared.event.Event.TheVariants.{Turn, Block, Wake}
+use Rattle.cs_types.specs.declared.event.Event.TheVariants.{Turn, Resched, Block, Wake, Prctl}
 use Rattle.cs_types.specs.declared.reply.Kind.{Kind}
-use Rattle.cs_types.specs.declared.reply.Kind.TheVariants.{Plain}
+use Rattle.cs_types.specs.declared.reply.Kind.TheVariants.{Selected, Adopted, Plain}
+use Rattle.cs_types.specs.declared.reply.Errno.{Errno}
+use Rattle.cs_types.specs.declared.reply.Errno.TheVariants.{Eperm, Esrch, Enomem, Enodev}
 use Rattle.cs_types.specs.declared.reply.Pick.{Pick}
 use Rattle.cs_types.specs.declared.reply.Reply.{Reply}
-use Rattle.cs_types.specs.declared.reply.Reply.TheVariants.{Picked, Nothing, Slept, Idle, Woken, Awake, NoTask}
+use Rattle.cs_types.specs.declared.reply.Reply.TheVariants.{Picked, Nothing, Slept, Idle, Woken, Awake, NoTask, Zero, Refused, NoCaller}
 
 -- a word is its bytes
 abbrev pub Word : Type 0
@@ -50,10 +55,16 @@ abbrev pub actor_word : Actor → Word
 actor_word (Sibling i) = codes "s" ++ decimal i
 actor_word (Caller j) = codes "c" ++ decimal j
 
+-- CMD TARGET SCOPE ADDR
+abbrev pub ask_words : Ask → List Word
+ask_words ask = decimal ask.cmd ∷ signed_decimal ask.pid ∷ decimal ask.scope ∷ decimal ask.addr ∷ []
+
 abbrev pub event_words : Event → List Word
 event_words (Turn cpu) = codes "turn" ∷ []
+event_words (Resched cpu) = codes "resched" ∷ []
 event_words (Block cpu) = codes "block" ∷ []
 event_words (Wake pid) = codes "wake" ∷ decimal pid ∷ []
+event_words (Prctl caller ask) = codes "prctl" ∷ decimal caller ∷ ask_words ask
 
 -- the actor, and what it does
 abbrev pub made_words : Actor → Event → List Word
@@ -66,12 +77,20 @@ abbrev pub run_word : ℕ → Word
 run_word pid = if pid == 0 then codes "idle" else decimal pid
 
 abbrev pub kind_word : Kind → Word
+kind_word Selected = codes "Selected"
+kind_word Adopted = codes "Adopted"
 kind_word Plain = codes "Plain"
 
 -- KIND RUN `core` COOKIE `forced` COUNT
 abbrev pub pick_words : Pick → List Word
 pick_words pick =
     kind_word pick.kind ∷ run_word pick.run ∷ codes "core" ∷ decimal pick.core ∷ codes "forced" ∷ decimal pick.forced ∷ []
+
+abbrev pub errno_word : Errno → Word
+errno_word Eperm = codes "EPERM"
+errno_word Esrch = codes "ESRCH"
+errno_word Enomem = codes "ENOMEM"
+errno_word Enodev = codes "ENODEV"
 
 abbrev pub reply_words : Reply → List Word
 reply_words (Picked pick) = pick_words pick
@@ -81,3 +100,6 @@ reply_words Idle = codes "Idle" ∷ []
 reply_words (Woken cpu) = codes "Woken" ∷ decimal cpu ∷ []
 reply_words Awake = codes "Awake" ∷ []
 reply_words NoTask = codes "NoTask" ∷ []
+reply_words Zero = codes "0" ∷ []
+reply_words (Refused errno) = errno_word errno ∷ []
+reply_words NoCaller = codes "NoCaller" ∷ []

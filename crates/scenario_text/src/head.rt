@@ -8,19 +8,19 @@ use crate::lines::Lines;
 use crate::words::Words;
 
 /// The version of the texts.
-pub const VERSION: u64 = 1;
+const VERSION: u64 = 1;
 
-/// How many SMT siblings a core has.
-pub const SIBLINGS: u64 = 2;
+/// The greatest number of SMT siblings of a core. The least is 1.
+const MOST_SIBLINGS: u64 = 8;
 
 /// The greatest limit of tasks or cookies that live at once. The least is 1.
-pub const MOST_LIMIT: u64 = 256;
+const MOST_LIMIT: u64 = 256;
 
 /// The least end of a caller's address space, in bytes.
-pub const LEAST_TOP: u64 = 8192;
+const LEAST_TOP: u64 = 8192;
 
 /// The greatest end of a caller's address space, in bytes.
-pub const MOST_TOP: u64 = 9_223_372_036_854_775_807;
+const MOST_TOP: u64 = 9_223_372_036_854_775_807;
 
 /// What the first three lines say: a scenario's numbers, without its tasks and steps.
 #[derive(Clone, Copy)]
@@ -47,7 +47,7 @@ fn parse_siblings(mut words: Words<'_>) -> Option<u8>
     ensures { result ≡ siblings_of words.entry }
 {
     words.keyword(b"siblings")?;
-    let siblings = words.next_number(SIBLINGS, SIBLINGS)?;
+    let siblings = words.next_number(1, MOST_SIBLINGS)?;
     words.end()?;
     Some(siblings as u8)
 }

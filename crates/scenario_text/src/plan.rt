@@ -9,7 +9,7 @@ use cs_types::{Step, TaskSpec};
 use std::alloc::Global;
 
 /// How many steps a scenario has at most.
-pub const MOST_STEPS: usize = 100_000;
+const MOST_STEPS: usize = 100_000;
 
 /// The tasks and the steps that are read.
 #[derive(Drop)]

@@ -48,7 +48,7 @@ fn read_lines(alloc: Global, mut lines: Lines<'_>) -> Result<Scenario, ReadFault
 
 /// The scenario of a text.
 ///
-/// A text is the lines `coresched 1`, `siblings 2` and `limits` TASKS COOKIES TOP, then the task
+/// A text is the lines `coresched 1`, `siblings` COUNT and `limits` TASKS COOKIES TOP, then the task
 /// lines, the step lines and the line `end`. Each line ends with a line feed, and one space stands
 /// between two of its words.
 ///

@@ -9,13 +9,13 @@ use crate::words::Words;
 use cs_types::{Cpu, Creds, Policy, TaskSpec};
 
 /// The greatest number of a task, a thread group or a process group. The least is 1.
-pub const MOST_PID: u64 = 9999;
+const MOST_PID: u64 = 9999;
 
 /// The greatest priority of `SCHED_FIFO`. The least is 1.
-pub const MOST_PRIORITY: u64 = 99;
+const MOST_PRIORITY: u64 = 99;
 
 /// The greatest user or group id. The least is 0.
-pub const MOST_ID: u64 = 65535;
+const MOST_ID: u64 = 65535;
 
 /// The number of a sibling that the word spells. `None` where the core has no such sibling.
 #[tactic(auto, unfolding(crate::specs::Reading::cpu_of))]

@@ -2,16 +2,16 @@
 //! takes no memory and cannot fail, and a sink is given it whole.
 
 ghost use Rattle.std.specs.Prelude.{◌≡◌, ◌+◌, ◌≤◌, [], ◌++◌, length};
-ghost use Rattle.scenario_text.specs.Words.{made_words, actor_word, event_words, reply_words, pick_words, kind_word, run_word};
+ghost use Rattle.scenario_text.specs.Words.{made_words, actor_word, ask_words, event_words, reply_words, pick_words, kind_word, run_word, errno_word};
 ghost use Rattle.scenario_text.specs.Text.{spaced, entry_text};
 
 use arrayvec::ArrayString;
-use cs_types::{Actor, Entry, Event, Kind, Pick, Pid, Reply};
+use cs_types::{Actor, Ask, Entry, Errno, Event, Kind, Pick, Pid, Reply};
 use itoa::{Buffer, Integer};
 use std::marker::Model;
 
-/// How many bytes a line has room for. The longest entry has 93, with its line feed.
-const ROOM: usize = 128;
+/// How many bytes a line has room for: as many as the longest entry has, with its line feed.
+const ROOM: usize = 152;
 
 /// What is on a line so far.
 #[derive(Drop)]
@@ -44,10 +44,10 @@ impl Line {
         self.text.as_str().as_bytes()
     }
 
-    /// Puts the whole entry on the line, with its line feed.
+    /// Puts the whole entry on the line, on which there is nothing yet, with its line feed.
     pub fn entry(&mut self, entry: Entry)
-        requires { length self.old + 93 ≤ ROOM }
-        ensures { self.new ≡ self.old ++ entry_text entry }
+        requires { self.old ≡ [] }
+        ensures { self.new ≡ entry_text entry }
     {
         self.made(entry.actor, entry.event);
         self.text(": ");
@@ -56,9 +56,9 @@ impl Line {
     }
 
     fn made(&mut self, actor: Actor, event: Event)
-        requires { length self.old + 20 ≤ ROOM }
+        requires { length self.old + 76 ≤ ROOM }
         ensures text { self.new ≡ self.old ++ spaced (made_words actor event) }
-        ensures room { length self.new ≤ length self.old + 20 }
+        ensures room { length self.new ≤ length self.old + 76 }
     {
         self.actor(actor);
         self.text(" ");
@@ -83,24 +83,45 @@ impl Line {
     }
 
     fn event(&mut self, event: Event)
-        requires { length self.old + 15 ≤ ROOM }
+        requires { length self.old + 71 ≤ ROOM }
         ensures text { self.new ≡ self.old ++ spaced (event_words event) }
-        ensures room { length self.new ≤ length self.old + 15 }
+        ensures room { length self.new ≤ length self.old + 71 }
     {
         match event {
             Event::Turn(_) => self.text("turn"),
+            Event::Resched(_) => self.text("resched"),
             Event::Block(_) => self.text("block"),
             Event::Wake(pid) => {
                 self.text("wake ");
                 self.number(pid);
             }
+            Event::Prctl { caller, ask } => {
+                self.text("prctl ");
+                self.number(caller);
+                self.text(" ");
+                self.ask(ask);
+            }
         }
     }
 
+    fn ask(&mut self, ask: Ask)
+        requires { length self.old + 54 ≤ ROOM }
+        ensures text { self.new ≡ self.old ++ spaced (ask_words ask) }
+        ensures room { length self.new ≤ length self.old + 54 }
+    {
+        self.number(ask.cmd);
+        self.text(" ");
+        self.number(ask.pid);
+        self.text(" ");
+        self.number(ask.scope);
+        self.text(" ");
+        self.number(ask.addr);
+    }
+
     fn reply(&mut self, reply: Reply)
-        requires { length self.old + 70 ≤ ROOM }
+        requires { length self.old + 73 ≤ ROOM }
         ensures text { self.new ≡ self.old ++ spaced (reply_words reply) }
-        ensures room { length self.new ≤ length self.old + 70 }
+        ensures room { length self.new ≤ length self.old + 73 }
     {
         match reply {
             Reply::Picked(pick) => self.pick(pick),
@@ -118,13 +139,16 @@ impl Line {
             }
             Reply::Awake => self.text("Awake"),
             Reply::NoTask => self.text("NoTask"),
+            Reply::Zero => self.text("0"),
+            Reply::Refused(errno) => self.errno(errno),
+            Reply::NoCaller => self.text("NoCaller"),
         }
     }
 
     fn pick(&mut self, pick: Pick)
-        requires { length self.old + 53 ≤ ROOM }
+        requires { length self.old + 56 ≤ ROOM }
         ensures text { self.new ≡ self.old ++ spaced (pick_words pick) }
-        ensures room { length self.new ≤ length self.old + 53 }
+        ensures room { length self.new ≤ length self.old + 56 }
     {
         self.kind(pick.kind);
         self.text(" ");
@@ -136,12 +160,27 @@ impl Line {
     }
 
     fn kind(&mut self, kind: Kind)
-        requires { length self.old + 5 ≤ ROOM }
+        requires { length self.old + 8 ≤ ROOM }
         ensures text { self.new ≡ self.old ++ kind_word kind }
-        ensures room { length self.new ≤ length self.old + 5 }
+        ensures room { length self.new ≤ length self.old + 8 }
     {
         match kind {
+            Kind::Selected => self.text("Selected"),
+            Kind::Adopted => self.text("Adopted"),
             Kind::Plain => self.text("Plain"),
+        }
+    }
+
+    fn errno(&mut self, errno: Errno)
+        requires { length self.old + 6 ≤ ROOM }
+        ensures text { self.new ≡ self.old ++ errno_word errno }
+        ensures room { length self.new ≤ length self.old + 6 }
+    {
+        match errno {
+            Errno::Eperm => self.text("EPERM"),
+            Errno::Esrch => self.text("ESRCH"),
+            Errno::Enomem => self.text("ENOMEM"),
+            Errno::Enodev => self.text("ENODEV"),
         }
     }
 
