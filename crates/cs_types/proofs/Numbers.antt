@@ -1,20 +1,244 @@
--- Numbers: how the three numbers go on by one entry, and that they tell whether a selection is fresh.
-use Rattle.std.proofs.Common.{◌≡◌, ℕ, ◌+◌, ◌<◌, ◌≤◌, Bool, true, false, cond, List, [], ◌∷◌, refl, sym, ap, ◌∙◌, arith, ltb, eqb}
-use Rattle.std.specs.Prelude.{◌&&◌, ◌||◌, not, sum_by, take_while}
+-- Numbers: how the three numbers go on by one entry, that they tell whether a selection is fresh, and how far they,
+-- the stamps and the cookies come in a history.
+use Rattle.std.proofs.Common.{◌≡◌, ℕ, ◌+◌, ◌*◌, ◌<◌, ◌≤◌, Bool, true, false, cond, List, [], ◌∷◌, length, refl, sym, ap, subst, ◌∙◌, arith, ltb, eqb, Option, Some, None, is_some}
+use Rattle.std.specs.Prelude.{◌&&◌, ◌||◌, not, take_while}
 use Rattle.std.specs.List.{list_any, list_all}
-use Rattle.std.proofs.lemmas.List.Sums.{sum_by-cons}
+use Rattle.std.specs.Option.{option_map_or}
+use Rattle.std.proofs.lemmas.List.Sums.{sum_by-cons, take_while-cons}
+use Rattle.std.proofs.lemmas.Bool.{cond_both}
 use Rattle.std.proofs.lemmas.Bool.Decides.{nat_tests}
+use Rattle.cs_types.specs.declared.event.Ask.{Ask}
+use Rattle.cs_types.specs.declared.event.Event.{Event}
+use Rattle.cs_types.specs.declared.event.Event.TheVariants.{Turn, Resched, Block, Wake, Prctl}
+use Rattle.cs_types.specs.declared.reply.Kind.{Kind}
+use Rattle.cs_types.specs.declared.reply.Kind.TheVariants.{Selected, Adopted, Plain}
+use Rattle.cs_types.specs.declared.reply.Pick.{Pick}
+use Rattle.cs_types.specs.declared.reply.Reply.{Reply}
+use Rattle.cs_types.specs.declared.reply.Reply.TheVariants.{Picked, Slept, Woken, Zero}
 use Rattle.cs_types.specs.declared.reply.Entry.{Entry}
 use Rattle.cs_types.specs.declared.scenario.Scenario.{Scenario}
-use Rattle.cs_types.specs.Room.{RoomState}
-use Rattle.cs_types.specs.Touches.{is_selection, is_taken_by, Noted, Ledger, noted, back_to, task_number, pick_number, own_number, is_fresh, touches_by}
-use Rattle.cs_types.specs.History.{History, Moment, next, after, moment_of, ledger_of, beginning}
+use Rattle.cs_types.specs.Room.{RoomState, TaskState, sibling_of, running_on, task_of}
+use Rattle.cs_types.specs.Selection.{selected_room, selected, plain, is_plain, rescheduled, scheduled, schedule}
+use Rattle.cs_types.specs.Prctl.{Setting, setting_of, is_create, with_setting, prctl_answer, prctl_room}
+use Rattle.cs_types.specs.Step.{Stepped, step, woken, blocked, turned, dequeued, idled}
+use Rattle.cs_types.specs.Touches.{is_selected, is_adopted, pick_touches, setting_touches, set_touches, selection_of, is_selection, touches_by, Noted, Ledger, noted, back_to, task_number, pick_number, own_number, is_taken_by, is_fresh}
+use Rattle.cs_types.specs.History.{History, Moment, next, after, fold_of, ledger_of, beginning}
+
+-- ---- one entry more
 
 pub task_number-cons : (note : Noted) (ledger : Ledger) → task_number (note ∷ ledger) ≡ note.touches + task_number ledger
 task_number-cons note ledger = sum_by-cons (λ (n : Noted). n.touches) note ledger
+
+pub pick_number-cons : (note : Noted) (ledger : Ledger) →
+    pick_number (note ∷ ledger) ≡ cond (is_selection note.entry) (task_number (note ∷ ledger)) (pick_number ledger)
+pick_number-cons note ledger =
+    elim (is_selection note.entry) as (λ b. task_number (cond b (note ∷ ledger) (back_to is_selection ledger)) ≡ cond b (task_number (note ∷ ledger)) (pick_number ledger)) [
+      | true ↦ refl
+      | false ↦ refl
+    ]
+
+pub own_number-cons : (cpu : ℕ) (note : Noted) (ledger : Ledger) →
+    own_number cpu (note ∷ ledger) ≡ cond (is_taken_by cpu note.entry) (pick_number (note ∷ ledger)) (own_number cpu ledger)
+own_number-cons cpu note ledger =
+    elim (is_taken_by cpu note.entry) as (λ b. pick_number (cond b (note ∷ ledger) (back_to (is_taken_by cpu) ledger)) ≡ cond b (pick_number (note ∷ ledger)) (own_number cpu ledger)) [
+      | true ↦ refl
+      | false ↦ refl
+    ]
+
+-- The pick number is never above the task number.
+pub pick_number-le : (ledger : Ledger) → pick_number ledger ≤ task_number ledger
+pick_number-le [] = omega arith
+pick_number-le (note ∷ ledger) =
+    subst (λ n. n ≤ task_number (note ∷ ledger)) (sym (pick_number-cons note ledger))
+    (cond_both (is_selection note.entry) _ _ (λ n. n ≤ task_number (note ∷ ledger)) (λ _. omega arith)
+    (λ _. omega (arith, pick_number-le ledger, task_number-cons note ledger)))
+
+-- ---- a fresh selection
 
 -- each selection of the ledger touched
 abbrev pub SelectionsTouch : Ledger → Type 0
 SelectionsTouch [] = Unit {0}
 SelectionsTouch (note ∷ ledger) = (is_selection note.entry ≡ true → 0 < note.touches) × SelectionsTouch ledger
 
+abbrev is_fresh_by : ℕ → ℕ → Bool
+is_fresh_by pick task = ltb 0 pick && eqb pick task
+
+-- after a selection all is fresh
+by_selection : (touches task : ℕ) → 0 < touches → true ≡ is_fresh_by (touches + task) (touches + task)
+by_selection touches task some = grind (arith, nat_tests)
+
+-- after another entry it is fresh where it was and the entry did not touch
+by_other : (any all : Bool) (touches pick task : ℕ) → (any && all) ≡ is_fresh_by pick task → pick ≤ task →
+    (any && (eqb touches 0 && all)) ≡ is_fresh_by pick (touches + task)
+by_other any all touches pick task before below = grind (arith, nat_tests)
+
+-- the same for every entry, where the test says whether it is a selection
+by_entry : (b any all : Bool) (touches pick task : ℕ) → (b ≡ true → 0 < touches) → (any && all) ≡ is_fresh_by pick task → pick ≤ task →
+    ((b || any) && cond b true (eqb touches 0 && all)) ≡ is_fresh_by (cond b (touches + task) pick) (touches + task)
+by_entry true any all touches pick task some before below = by_selection touches task (some refl)
+by_entry false any all touches pick task some before below = by_other any all touches pick task before below
+
+-- whether no entry touched since the last selection
+abbrev untouched : Ledger → Bool
+untouched ledger = list_all (λ note. eqb note.touches 0) (take_while (λ note. not (is_selection note.entry)) ledger)
+
+untouched-cons : (note : Noted) (ledger : Ledger) →
+    untouched (note ∷ ledger) ≡ cond (is_selection note.entry) true (eqb note.touches 0 && untouched ledger)
+untouched-cons note ledger =
+    ap (list_all (λ n. eqb n.touches 0)) (take_while-cons (λ n. not (is_selection n.entry)) note ledger)
+    ∙ elim (is_selection note.entry) as (λ b. list_all (λ (n : Noted). eqb n.touches 0) (cond (not b) (note ∷ take_while (λ n. not (is_selection n.entry)) ledger) []) ≡ cond b true (eqb note.touches 0 && untouched ledger)) [
+      | true ↦ refl
+      | false ↦ refl
+    ]
+
+-- The numbers tell whether there was a selection, and nothing was touched since the last one.
+pub fresh_by_numbers : (ledger : Ledger) → SelectionsTouch ledger →
+    is_fresh ledger ≡ (ltb 0 (pick_number ledger) && eqb (pick_number ledger) (task_number ledger))
+unfolding is_fresh
+fresh_by_numbers [] touch = refl
+fresh_by_numbers (note ∷ ledger) touch =
+    let any = list_any (λ (n : Noted). is_selection n.entry) ledger in
+    ap (λ b. (is_selection note.entry || any) && b) (untouched-cons note ledger)
+    ∙ by_entry (is_selection note.entry) any (untouched ledger) note.touches (pick_number ledger) (task_number ledger) touch.0
+    (fresh_by_numbers ledger touch.1) (pick_number-le ledger)
+    ∙ sym (ap (λ n. is_fresh_by n (task_number (note ∷ ledger))) (pick_number-cons note ledger)
+    ∙ ap (λ n. is_fresh_by (cond (is_selection note.entry) n (pick_number ledger)) n) (task_number-cons note ledger))
+
+-- a pick of a selection touches
+selected_touches : (kind : Kind) → is_selected kind ≡ true → 0 < cond (is_adopted kind) 0 1
+selected_touches Selected h = omega arith
+selected_touches Adopted h = absurd cc
+selected_touches Plain h = absurd cc
+
+-- the kind of a pick that is told to be of a selection
+selected_kind : (pick : Pick) → is_some (cond (is_selected pick.kind) (Some pick) None) ≡ true → is_selected pick.kind ≡ true
+selected_kind pick h = grind arith
+
+selection_touches : (room : RoomState) (event : Event) (reply : Reply) → is_some (selection_of reply) ≡ true → 0 < touches_by room event reply
+selection_touches room event (Picked pick) h = selected_touches pick.kind (selected_kind pick h)
+selection_touches room event (Slept pid pick) h = omega arith
+selection_touches room event reply h = absurd cc
+
+selections_touch_after : (moment : Moment) (entries : List Entry) → SelectionsTouch moment.ledger → SelectionsTouch (after moment entries).ledger
+selections_touch_after moment [] touch = touch
+selections_touch_after moment (entry ∷ entries) touch =
+    selections_touch_after (next moment entry) entries (selection_touches moment.room entry.event entry.reply, touch)
+
+-- After every history the numbers tell it.
+pub fresh-ledger_of : (scenario : Scenario) (history : History) → let ledger = ledger_of scenario history in
+    is_fresh ledger ≡ (ltb 0 (pick_number ledger) && eqb (pick_number ledger) (task_number ledger))
+fresh-ledger_of scenario history =
+    fresh_by_numbers (ledger_of scenario history) (selections_touch_after (beginning scenario) history tt)
+
+-- ---- how far the numbers come
+
+-- An entry touches at most twice.
+setting_touches-le : (set : Setting) → setting_touches set ≤ 2
+setting_touches-le set = grind (arith, nat_tests)
+
+settings_touch-le : (set : Option Setting) → option_map_or setting_touches set 0 ≤ 2
+settings_touch-le None = omega arith
+settings_touch-le (Some set) = setting_touches-le set
+
+set_touches-le : (room : RoomState) (event : Event) → set_touches room event ≤ 2
+set_touches-le room (Prctl caller ask) = settings_touch-le (setting_of room caller ask)
+set_touches-le room event = omega arith
+
+pick_touches-le : (pick : Pick) → pick_touches pick ≤ 1
+pick_touches-le pick = cond_both (is_adopted pick.kind) 0 1 (λ n. n ≤ 1) (λ _. omega arith) (λ _. omega arith)
+
+pub touches_by-le : (room : RoomState) (event : Event) (reply : Reply) → touches_by room event reply ≤ 2
+touches_by-le room event (Woken cpu) = omega arith
+touches_by-le room event (Picked pick) = omega (arith, pick_touches-le pick)
+touches_by-le room event (Slept pid pick) = omega (arith, pick_touches-le pick)
+touches_by-le room event Zero = set_touches-le room event
+touches_by-le room event reply = omega arith
+
+touches_after : (moment : Moment) (entries : List Entry) →
+    task_number (after moment entries).ledger ≤ task_number moment.ledger + 2 * length entries
+touches_after moment [] = omega arith
+touches_after moment (entry ∷ entries) =
+    let note = noted moment.room entry in
+    omega (arith, touches_after (next moment entry) entries, task_number-cons note moment.ledger, touches_by-le moment.room entry.event entry.reply)
+
+-- So the task number is at most twice the length of the history.
+pub task_number-ledger_of : (scenario : Scenario) (history : History) → task_number (ledger_of scenario history) ≤ 2 * length history
+task_number-ledger_of scenario history = omega (arith, touches_after (beginning scenario) history)
+
+-- ---- how far the stamps and the cookies come
+
+-- what is drawn next, the stamp and the cookie
+abbrev pub draws : RoomState → ℕ × ℕ
+draws room = (room.next_stamp, room.next_cookie)
+
+draws-selected_room : (room : RoomState) (cpu core : ℕ) → draws (selected_room room cpu core) ≡ draws room
+unfolding selected_room
+draws-selected_room room cpu core = refl
+
+draws-rescheduled : (room : RoomState) (cpu : ℕ) → draws (rescheduled room cpu).room ≡ draws room
+draws-rescheduled room cpu =
+    cond_both (is_plain room cpu) (plain room cpu) (selected room cpu) (λ made. draws made.room ≡ draws room) (λ _. refl)
+    (λ _. draws-selected_room room cpu _)
+
+draws-scheduled : (room : RoomState) (fresh : Bool) (cpu : ℕ) (waiting : Option (Option ℕ)) → draws (scheduled room fresh cpu waiting).room ≡ draws room
+draws-scheduled room fresh cpu None = draws-rescheduled room cpu
+draws-scheduled room true cpu (Some run) = refl
+draws-scheduled room false cpu (Some run) = draws-rescheduled room cpu
+
+-- A schedule draws nothing.
+draws-schedule : (room : RoomState) (fresh : Bool) (cpu : ℕ) → draws (schedule room fresh cpu).room ≡ draws room
+draws-schedule room fresh cpu = draws-scheduled room fresh cpu (sibling_of room cpu).waiting
+
+-- at most one more stamp and one more cookie were drawn
+abbrev pub DrawsOne : ℕ × ℕ → ℕ × ℕ → Type 0
+DrawsOne old new = (new.0 ≤ old.0 + 1) × (new.1 ≤ old.1 + 1)
+
+draws_none : (old new : ℕ × ℕ) → new ≡ old → DrawsOne old new
+draws_none old new same = (omega (arith, ap (λ (d : ℕ × ℕ). d.0) same), omega (arith, ap (λ (d : ℕ × ℕ). d.1) same))
+
+draws-turned : (room : RoomState) (fresh : Bool) (cpu : ℕ) → DrawsOne (draws room) (draws (turned room fresh cpu).room)
+draws-turned room fresh cpu =
+    cond_both (sibling_of room cpu).pending _ _ (λ (made : Stepped). DrawsOne (draws room) (draws made.room))
+    (λ _. draws_none _ _ (draws-schedule room fresh cpu)) (λ _. draws_none _ _ refl)
+
+draws-blocked : (room : RoomState) (cpu : ℕ) (task : Option TaskState) → draws (blocked room cpu task).room ≡ draws room
+draws-blocked room cpu None = refl
+draws-blocked room cpu (Some task) = draws-schedule (idled (dequeued room task) cpu) false cpu
+
+draws-woken : (room : RoomState) (task : Option TaskState) → DrawsOne (draws room) (draws (woken room task).room)
+draws-woken room None = draws_none _ _ refl
+draws-woken room (Some task) =
+    cond_both task.queued _ _ (λ (made : Stepped). DrawsOne (draws room) (draws made.room)) (λ _. draws_none _ _ refl)
+    (λ _. (omega arith, omega arith))
+
+draws-with_setting : (room : RoomState) (ask : Ask) (set : Option Setting) → DrawsOne (draws room) (draws (with_setting room ask set))
+draws-with_setting room ask None = draws_none _ _ refl
+draws-with_setting room ask (Some set) =
+    (omega arith, cond_both (is_create ask) (room.next_cookie + 1) room.next_cookie (λ n. n ≤ room.next_cookie + 1) (λ _. omega arith) (λ _. omega arith))
+
+draws-prctl_room : (room : RoomState) (pid : ℕ) (ask : Ask) (answer : Reply) → DrawsOne (draws room) (draws (prctl_room room pid ask answer))
+draws-prctl_room room pid ask Zero = draws-with_setting room ask (setting_of room pid ask)
+draws-prctl_room room pid ask _ = draws_none _ _ refl
+
+-- A step draws at most one of each.
+pub draws-step : (room : RoomState) (fresh : Bool) (event : Event) → DrawsOne (draws room) (draws (step room fresh event).room)
+draws-step room fresh (Turn cpu) = draws-turned room fresh cpu
+draws-step room fresh (Resched cpu) = draws_none _ _ (draws-schedule room fresh cpu)
+draws-step room fresh (Block cpu) = draws_none _ _ (draws-blocked room cpu (running_on room cpu))
+draws-step room fresh (Wake pid) = draws-woken room (task_of room pid)
+draws-step room fresh (Prctl caller ask) = draws-prctl_room room caller ask (prctl_answer room caller ask)
+
+draws_after : (moment : Moment) (entries : List Entry) → let room = (after moment entries).room in
+    (room.next_stamp ≤ moment.room.next_stamp + length entries) × (room.next_cookie ≤ moment.room.next_cookie + length entries)
+draws_after moment [] = (omega arith, omega arith)
+draws_after moment (entry ∷ entries) =
+    let more = draws_after (next moment entry) entries in
+    let one = draws-step moment.room (is_fresh moment.ledger) entry.event in
+    (omega (arith, more.0, one.0), omega (arith, more.1, one.1))
+
+-- After a history as many stamps and cookies were drawn as it has entries, at most.
+pub next_stamp-fold_of : (scenario : Scenario) (history : History) → (fold_of scenario history).next_stamp ≤ length history
+next_stamp-fold_of scenario history = omega (arith, (draws_after (beginning scenario) history).0)
+
+pub next_cookie-fold_of : (scenario : Scenario) (history : History) → (fold_of scenario history).next_cookie ≤ length history + 1
+next_cookie-fold_of scenario history = omega (arith, (draws_after (beginning scenario) history).1)
