@@ -6,3 +6,4 @@ pub mod Choices
 pub mod OnlineCount
 pub mod Calls
 pub mod Sleeps
+pub mod Machines

@@ -1,15 +1,26 @@
 -- What the machine keeps, and that it is the fold of its history.
-use Rattle.std.specs.Prelude.{◌≡◌, ◌-◌, ◌≤◌, List, map, length, vec_len, vec_capacity}
+use Rattle.std.specs.Prelude.{◌≡◌, ℕ, ◌-◌, ◌≤◌, List, map, vec_len, vec_capacity}
+use Rattle.std.specs.List.{range_with_len}
 use Rattle.cs_types.specs.declared.event.Step.{Step}
 use Rattle.cs_types.specs.declared.reply.Entry.{Entry}
-use Rattle.cs_types.specs.History.{fold_of, history_of}
-use Rattle.plain_room.specs.State.{room_of, IsSound}
+use Rattle.cs_types.specs.Touches.{Ledger, task_number, pick_number, own_number}
+use Rattle.cs_types.specs.History.{fold_of, ledger_of, history_of}
+use Rattle.plain_room.specs.State.{room_of, IsSound, Numbers, numbers_of}
 use Rattle.plain_room.specs.Machine.{Machine}
 use Rattle.plain_room.specs.declared.room.PlainRoom.TheInside.{Inside}
 
 -- the steps of entries
 abbrev pub steps_of : List Entry → List Step
 steps_of entries = map (λ entry. record { actor = entry.actor; event = entry.event }) entries
+
+-- the numbers of a ledger, for so many siblings
+abbrev pub numbers_at : Ledger → ℕ → Numbers
+numbers_at ledger siblings =
+    record {
+      task = task_number ledger;
+      pick = pick_number ledger;
+      own = map (λ cpu. own_number cpu ledger) (range_with_len 0 siblings);
+    }
 
 abbrev pub machine_of : Inside → Machine
 machine_of room =
@@ -23,6 +34,8 @@ machine_of room =
 pub record IsFold (room : Inside) : Type 0 where
   pub history : room.entries.items ≡ history_of room.scenario (steps_of room.entries.items)
   pub fold : room_of room.scenario room.state ≡ fold_of room.scenario room.entries.items
+  pub numbers : numbers_of room.state ≡ numbers_at (ledger_of room.scenario room.entries.items) room.scenario.siblings
   pub sound : IsSound room.scenario.siblings room.state
-  -- each stamp was drawn by an entry
-  pub stamp : room.state.next_stamp ≤ length room.entries.items
+  pub few_siblings : room.scenario.siblings ≤ 16
+  -- so no stamp, cookie or number overflows
+  pub few_entries : vec_capacity room.entries ≤ 100000

@@ -4,7 +4,10 @@ ghost use Rattle.std.specs.Prelude.{◌≡◌, [], length, IfOk};
 ghost use Rattle.cs_types.specs.Scenario.{IsPlayable};
 
 use crate::state::State;
-use cs_types::{Actor, CoreView, Cpu, CpuView, Entry, Event, List, OutOfMemory, Pid, Reply, Room, Scenario, TaskView};
+use cs_types::{
+    Actor, CoreView, Cpu, CpuView, Entry, Event, List, OutOfMemory, Pid, Reply, Room, Scenario,
+    TaskView,
+};
 use std::alloc::Global;
 use std::marker::Model;
 
@@ -107,7 +110,10 @@ impl Room for PlainRoom {
     }
 
     fn cpu(&self, cpu: Cpu) -> Option<CpuView> {
-        self.state.siblings.get(cpu as usize).map(|sibling| sibling.view())
+        self.state
+            .siblings
+            .get(cpu as usize)
+            .map(|sibling| sibling.view())
     }
 
     fn task_after(&self, pid: Pid) -> Option<TaskView> {

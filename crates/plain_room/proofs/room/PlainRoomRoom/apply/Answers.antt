@@ -1,0 +1,77 @@
+use Rattle.std.proofs.Common.{◌≡◌, ◌<◌, ◌≤◌, ◌++◌, ◌∷◌, [], ap, sym, subst, refl, ◌∙◌, arith, length}
+use Rattle.std.specs.Prelude.{IfSome}
+use Rattle.cs_types.specs.declared.reply.Entry.{Entry}
+use Rattle.cs_types.specs.Scenario.{IsEvent}
+use Rattle.cs_types.specs.Room.{RoomState}
+use Rattle.cs_types.specs.Touches.{selection_of}
+use Rattle.cs_types.specs.History.{fold_of, reply_to, history_of}
+use Rattle.cs_types.specs.Laws.{SelectsForTheCore, scheduling_room, cpu_of}
+use Rattle.cs_types.proofs.Numbers.{task_number-ledger_of, next_stamp-fold_of, next_cookie-fold_of}
+use Rattle.cs_types.proofs.Selections.{selects}
+use Rattle.plain_room.specs.State.{Numbers}
+use Rattle.plain_room.specs.Machine.{Machine}
+use Rattle.plain_room.specs.Inside.{steps_of}
+use Rattle.plain_room.proofs.Machines.{Folds, history_more, reply_more, folds_more}
+use Rattle.plain_room.proofs.room.PlainRoomRoom.apply.Goals as goal
+
+pub apply-reply-requires-clause-stamp : goal.apply-reply-requires-clause-stamp
+apply-reply-requires-clause-stamp c =
+    let a = c.self.inside in
+    omega (arith, next_stamp-fold_of a.scenario a.entries.items, ap (λ (room : RoomState). room.next_stamp) c.self.invariant.fold, a.entries.ok.0)
+
+pub apply-reply-requires-clause-cookie : goal.apply-reply-requires-clause-cookie
+apply-reply-requires-clause-cookie c =
+    let a = c.self.inside in
+    omega (arith, next_cookie-fold_of a.scenario a.entries.items, ap (λ (room : RoomState). room.next_cookie) c.self.invariant.fold, a.entries.ok.0)
+
+pub apply-reply-requires-clause-touches : goal.apply-reply-requires-clause-touches
+apply-reply-requires-clause-touches c =
+    let a = c.self.inside in
+    omega (arith, task_number-ledger_of a.scenario a.entries.items, ap (λ (numbers : Numbers). numbers.task) c.self.invariant.numbers, a.entries.ok.0)
+
+pub invariant_of-self : goal.invariant_of-self
+invariant_of-self c =
+    let a = c.self.inside in
+    let entry : Entry = record { actor = c.args.actor; event = c.args.event; reply = c.apply-reply.result } in
+    let so_far : Folds a.scenario a.state a.entries.items = record { fold = c.self.invariant.fold; numbers = c.self.invariant.numbers } in
+    let limits = subst (λ (m : Machine). IsEvent m.scenario.siblings c.args.event) (sym c.self.view_is) c.requires.event in
+    let reply = reply_more a.scenario a.state c.apply-reply.new.self a.entries.items c.args.event c.apply-reply.result so_far c.apply-reply.ensures.makes in
+    let folds = folds_more a.scenario a.state c.apply-reply.new.self a.entries.items entry limits so_far c.apply-reply.ensures.makes in
+    record {
+      history = rw c.push_reserved.ensures.items (history_more a.scenario a.entries.items entry c.self.invariant.history reply);
+      fold = rw c.push_reserved.ensures.items folds.fold;
+      numbers = rw c.push_reserved.ensures.items folds.numbers;
+      sound = c.apply-reply.ensures.sound a.scenario.siblings c.self.invariant.sound;
+      few_siblings = c.self.invariant.few_siblings;
+      few_entries = omega (arith, c.push_reserved.ensures.capacity, c.self.invariant.few_entries);
+    }
+
+pub returns-clause-reply : goal.returns-clause-reply
+returns-clause-reply c =
+    let a = c.self.inside in
+    let so_far : Folds a.scenario a.state a.entries.items = record { fold = c.self.invariant.fold; numbers = c.self.invariant.numbers } in
+    reply_more a.scenario a.state c.apply-reply.new.self a.entries.items c.args.event c.apply-reply.result so_far c.apply-reply.ensures.makes
+    ∙ ap (λ h. reply_to a.scenario h c.args.event) c.self.invariant.history
+    ∙ ap (λ (m : Machine). reply_to m.scenario (history_of m.scenario m.steps) c.args.event) c.self.view_is
+
+pub returns-clause-entry : goal.returns-clause-entry
+returns-clause-entry c =
+    let a = c.self.inside in
+    let entry : Entry = record { actor = c.args.actor; event = c.args.event; reply = c.apply-reply.result } in
+    let so_far : Folds a.scenario a.state a.entries.items = record { fold = c.self.invariant.fold; numbers = c.self.invariant.numbers } in
+    let reply = reply_more a.scenario a.state c.apply-reply.new.self a.entries.items c.args.event c.apply-reply.result so_far c.apply-reply.ensures.makes in
+    rw c.push_reserved.ensures.items
+    (sym (history_more a.scenario a.entries.items entry c.self.invariant.history reply)
+    ∙ ap (λ h. h ++ entry ∷ []) (c.self.invariant.history ∙ ap (λ (m : Machine). history_of m.scenario m.steps) c.self.view_is))
+
+pub returns-clause-selection : goal.returns-clause-selection
+returns-clause-selection c =
+    let a = c.self.inside in
+    let m = c.args.self.now in
+    let past = history_of m.scenario m.steps in
+    let entry : Entry = record { actor = c.args.actor; event = c.args.event; reply = c.apply-reply.result } in
+    let now : fold_of m.scenario (past ++ entry ∷ []) ≡ fold_of a.scenario (history_of a.scenario (steps_of c.push_reserved.new.self.items)) =
+    ap (fold_of m.scenario) (sym (returns-clause-entry c))
+    ∙ ap (λ (other : Machine). fold_of other.scenario (history_of a.scenario (steps_of c.push_reserved.new.self.items))) (sym c.self.view_is) in
+    subst (λ (room : RoomState). IfSome (selection_of entry.reply) (λ pick. SelectsForTheCore (scheduling_room (fold_of m.scenario past) entry.event) (cpu_of entry.event) pick room)) now
+    (selects m.scenario past entry c.requires.event (returns-clause-reply c))
