@@ -1,6 +1,6 @@
 -- Machines: how the entries, the room and the numbers go on by one entry.
 use Rattle.std.proofs.Common.{◌≡◌, ℕ, zero, suc, ◌+◌, ◌<◌, Bool, true, false, cond, List, [], ◌∷◌, ◌++◌, map, set, eqb, refl, sym, ap, ◌∙◌, arith, Option, Some, None}
-use Rattle.std.specs.Prelude.{◌&&◌, ◌||◌, IfSome}
+use Rattle.std.specs.Prelude.{◌&&◌, ◌||◌, IfSome, replicate}
 use Rattle.std.specs.List.{range_with_len}
 use Rattle.std.specs.Option.{option_map_or}
 use Rattle.std.proofs.Math.Bool.{and-false, and-true}
@@ -149,3 +149,10 @@ folds_more scenario old new entries entry limits so_far makes =
           ∙ sym (numbers-noted n (fold_of scenario entries) entry (ledger_of scenario entries) limits)
           ∙ ap (λ (moment : Moment). numbers_at moment.ledger n) more;
     }
+
+-- ---- the start
+
+-- before the first entry each sibling's own number is 0
+pub own_number-start : (a n : ℕ) → replicate n 0 ≡ map (λ cpu. own_number cpu []) (range_with_len a n)
+own_number-start a zero = refl
+own_number-start a (suc n) = ap (λ (numbers : List ℕ). 0 ∷ numbers) (own_number-start (a + 1) n)

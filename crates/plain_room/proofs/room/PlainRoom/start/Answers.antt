@@ -1,0 +1,17 @@
+use Rattle.std.proofs.Common.{ℕ, List, ap, refl, ◌∙◌, arith, length}
+use Rattle.plain_room.specs.State.{Numbers}
+use Rattle.plain_room.proofs.Machines.{own_number-start}
+use Rattle.plain_room.proofs.room.PlainRoom.start.Goals as goal
+
+pub invariant_of-result : goal.invariant_of-result
+invariant_of-result c =
+    let tasks = c.of-tasks.ensures ∙ (c.in_ok-from_slice.ensures.items ∙ c.items-2.ensures) in
+    let start = λ (own : List ℕ). let numbers : Numbers = record { task = 0; pick = 0; own = own } in numbers in
+    record {
+      history = rw c.in_ok-entries.ensures.items refl;
+      fold = rw c.in_ok-entries.ensures.items (rw tasks c.in_ok-state.ensures.room);
+      numbers = rw c.in_ok-entries.ensures.items (c.in_ok-state.ensures.numbers ∙ ap start (own_number-start 0 c.args.scenario.now.siblings));
+      sound = c.in_ok-state.ensures.sound;
+      few_siblings = c.requires.siblings.1;
+      few_entries = omega (arith, c.in_ok-entries.ensures.exact, ap length c.items.ensures, c.requires.few_steps);
+    }
