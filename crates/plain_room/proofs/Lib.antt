@@ -7,3 +7,4 @@ pub mod OnlineCount
 pub mod Calls
 pub mod Sleeps
 pub mod Machines
+pub mod Views

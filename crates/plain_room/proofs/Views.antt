@@ -1,0 +1,74 @@
+-- Views: what the machine shows of its state is what the fold of its entries shows.
+use Rattle.std.proofs.Common.{◌≡◌, ℕ, ◌<◌, true, false, length, get_or, ltb, refl, sym, ap, ◌∙◌, arith, Option, Some, None, Bor, is_some}
+use Rattle.std.specs.Prelude.{IfSome, unwrap_or}
+use Rattle.std.specs.Option.{option_map}
+use Rattle.std.proofs.lemmas.List.{length-map, get_or-map}
+use Rattle.std.proofs.lemmas.List.FromFn.{get_or-map-range_with_len}
+use Rattle.std.proofs.lemmas.Bool.{cond-true, cond-false, ltb-true}
+use Rattle.cs_types.specs.declared.scenario.Scenario.{Scenario}
+use Rattle.cs_types.specs.declared.view.CpuView.{CpuView}
+use Rattle.cs_types.specs.Room.{RoomState, SiblingState, sibling_of}
+use Rattle.cs_types.specs.Touches.{own_number}
+use Rattle.cs_types.specs.View.{cpu_view, task_after, task_view}
+use Rattle.cs_types.specs.History.{History, moment_of, fold_of, ledger_of}
+use Rattle.plain_room.specs.State.{task_state, sibling_state, sibling_view, room_of, Numbers, IsSound}
+use Rattle.plain_room.specs.declared.sibling.Sibling.{Sibling}
+use Rattle.plain_room.specs.declared.state.State.{State}
+use Rattle.plain_room.specs.declared.task.Task.{Task}
+use Rattle.plain_room.proofs.States.{sibling_at}
+use Rattle.plain_room.proofs.Machines.{Folds}
+
+-- ---- a task
+
+view_of_state : (task : Option Task) → option_map (λ (t : Task). task_view (task_state t)) task ≡ option_map task_view (option_map task_state task)
+view_of_state None = refl
+view_of_state (Some task) = refl
+
+-- a task that is found in the state is shown as the fold shows it
+pub task_shown : (scenario : Scenario) (state : State) (entries : History) (pid : ℕ) (task : Option Task) → Folds scenario state entries →
+    option_map task_state task ≡ task_after (room_of scenario state) pid →
+    option_map (λ (t : Task). task_view (task_state t)) task ≡ option_map task_view (task_after (fold_of scenario entries) pid)
+task_shown scenario state entries pid task folds found =
+    view_of_state task ∙ ap (option_map task_view) (found ∙ ap (λ (room : RoomState). task_after room pid) folds.fold)
+
+-- ---- a sibling
+
+length_siblings : (scenario : Scenario) (state : State) (entries : History) → Folds scenario state entries →
+    length (fold_of scenario entries).siblings ≡ length state.siblings.items
+length_siblings scenario state entries folds =
+    ap (λ (room : RoomState). length room.siblings) (sym folds.fold) ∙ length-map state.siblings.items sibling_state
+
+none_shown : (scenario : Scenario) (state : State) (entries : History) (cpu : ℕ) → Folds scenario state entries →
+    ltb cpu (length state.siblings.items) ≡ false → None ≡ cpu_view (moment_of scenario entries) cpu
+none_shown scenario state entries cpu folds past =
+    sym (cond-false (ltb cpu (length (fold_of scenario entries).siblings)) _ None (ap (ltb cpu) (length_siblings scenario state entries folds) ∙ past))
+
+-- the own number of a sibling is that of the ledger
+number_at : (scenario : Scenario) (state : State) (entries : History) (cpu : ℕ) (x : Sibling) → Folds scenario state entries →
+    IsSound scenario.siblings state → cpu < length state.siblings.items → x ≡ get_or state.siblings.items cpu x →
+    x.number ≡ own_number cpu (ledger_of scenario entries)
+number_at scenario state entries cpu x folds sound below is =
+    ap (λ (s : Sibling). s.number) is
+    ∙ sym (get_or-map (λ (s : Sibling). s.number) state.siblings.items cpu x 0 below)
+    ∙ ap (λ (numbers : Numbers). get_or numbers.own cpu 0) folds.numbers
+    ∙ get_or-map-range_with_len (λ other. own_number other (ledger_of scenario entries)) 0 scenario.siblings cpu cpu 0 (omega (arith, sound.siblings)) (omega arith)
+
+some_shown : (scenario : Scenario) (state : State) (entries : History) (cpu : ℕ) (x : Sibling) → Folds scenario state entries →
+    IsSound scenario.siblings state → ltb cpu (length state.siblings.items) ≡ true → x ≡ get_or state.siblings.items cpu x →
+    Some (sibling_view x) ≡ cpu_view (moment_of scenario entries) cpu
+some_shown scenario state entries cpu x folds sound within is =
+    let below : cpu < length state.siblings.items = ltb-true _ _ within in
+    let here : sibling_state x ≡ sibling_of (fold_of scenario entries) cpu =
+    sym (ap (λ (room : RoomState). sibling_of room cpu) (sym folds.fold) ∙ sibling_at state.siblings.items cpu x below is) in
+    let number = number_at scenario state entries cpu x folds sound below is in
+    let view = λ (s : SiblingState) (n : ℕ). let shown : CpuView = record { online = s.online; run = unwrap_or s.run 0; number = n; pending = s.pending } in shown in
+    (λ i. Some (view (here i) (number i)))
+    ∙ sym (cond-true (ltb cpu (length (fold_of scenario entries).siblings)) _ None (ap (ltb cpu) (length_siblings scenario state entries folds) ∙ within))
+
+-- a sibling that is looked up in the state is shown as the fold shows it
+pub sibling_shown : (scenario : Scenario) (state : State) (entries : History) (cpu : ℕ) (found : Option (Bor Sibling)) →
+    Folds scenario state entries → IsSound scenario.siblings state →
+    is_some found ≡ ltb cpu (length state.siblings.items) → IfSome found (λ x. x.now ≡ get_or state.siblings.items cpu x.now) →
+    option_map (λ (x : Bor Sibling). sibling_view x.now) found ≡ cpu_view (moment_of scenario entries) cpu
+sibling_shown scenario state entries cpu None folds sound within is = none_shown scenario state entries cpu folds (sym within)
+sibling_shown scenario state entries cpu (Some x) folds sound within is = some_shown scenario state entries cpu x.now folds sound (sym within) is

@@ -1,0 +1,24 @@
+use Rattle.std.proofs.Common.{◌≡◌, List, ap, subst, ◌∙◌, rules, Bor, get_or, length, ltb}
+use Rattle.std.specs.Prelude.{IfSome}
+use Rattle.std.specs.Option.{option_map}
+use Rattle.cs_types.specs.View.{cpu_view}
+use Rattle.cs_types.specs.History.{moment_of, history_of}
+use Rattle.plain_room.specs.Machine.{Machine}
+use Rattle.plain_room.specs.declared.sibling.Sibling.{Sibling}
+use Rattle.plain_room.specs.State.{sibling_view}
+use Rattle.plain_room.proofs.Views.{sibling_shown}
+use Rattle.plain_room.proofs.room.PlainRoomRoom.cpu.Goals as goal
+
+pub returns : goal.returns
+returns c =
+    let a = c.self.inside in
+    let cpu = c.args.cpu in
+    let found : c.map.result ≡ option_map (λ (x : Bor Sibling). sibling_view x.now) c.get.result = search rules in
+    let same = c.deref.ensures.value in
+    found
+    ∙ sibling_shown a.scenario a.state a.entries.items cpu c.get.result
+    (record { fold = c.self.invariant.fold; numbers = c.self.invariant.numbers }) c.self.invariant.sound
+    (c.get.ensures.lookup.0 ∙ ap (λ (siblings : List Sibling). ltb cpu (length siblings)) same)
+    (subst (λ (siblings : List Sibling). IfSome c.get.result (λ x. x.now ≡ get_or siblings cpu x.now)) same c.get.ensures.lookup.1)
+    ∙ ap (λ h. cpu_view (moment_of a.scenario h) cpu) c.self.invariant.history
+    ∙ ap (λ (m : Machine). cpu_view (moment_of m.scenario (history_of m.scenario m.steps)) cpu) c.self.view_is
