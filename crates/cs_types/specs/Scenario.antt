@@ -56,9 +56,10 @@ abbrev pub AreLed : List TaskSpec → Type 0
 AreLed tasks = (k : ℕ) (d : TaskSpec) → k < length tasks → IsLed (take k tasks) (slice_index_or tasks k d)
 
 -- the calls of prctl that are built: `PR_SCHED_CORE_CREATE` for the caller, and `PR_SCHED_CORE_SHARE_TO` for a
--- task, each for the target alone and with no address
+-- task, from 1 to 2147483647, each for the target alone and with no address
 pub record IsAsk (ask : Ask) : Type 0 where
   pub cmd : ((ask.cmd ≡ 1) × (ask.pid ≡ pos 0)) ⊎ ((ask.cmd ≡ 2) × (pos 1 ≤ℤ ask.pid))
+  pub pid : ask.pid ≤ℤ pos 2147483647
   pub scope : ask.scope ≡ 0
   pub addr : ask.addr ≡ 0
 

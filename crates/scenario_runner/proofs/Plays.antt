@@ -5,8 +5,7 @@ use Rattle.cs_types.specs.declared.event.Step.{Step}
 use Rattle.cs_types.specs.declared.reply.Reply.{Reply}
 use Rattle.cs_types.specs.declared.reply.Entry.{Entry}
 use Rattle.cs_types.specs.declared.scenario.Scenario.{Scenario}
-use Rattle.cs_types.specs.Step.{step}
-use Rattle.cs_types.specs.History.{History, fold_of, entry_of, history_of}
+use Rattle.cs_types.specs.History.{History, moment_of, reply_to, entry_of, history_of}
 use Rattle.cs_types.proofs.Histories.{history_of-push}
 
 abbrev entry_with : Step → Reply → Entry
@@ -16,13 +15,13 @@ entry_with made reply = record { actor = made.actor; event = made.event; reply =
 pub history_more : (scenario same : Scenario) (steps : List Step) (i : ℕ) (d : Step) (past now : History) (reply : Reply) →
     i < length steps → past ≡ history_of scenario (take i steps) → same ≡ scenario →
     now ≡ past ++ record { actor = (get_or steps i d).actor; event = (get_or steps i d).event; reply = reply } ∷ [] →
-    reply ≡ (step (fold_of same past) past (get_or steps i d).event).reply →
+    reply ≡ reply_to same past (get_or steps i d).event →
     now ≡ history_of scenario (take (i + 1) steps)
 history_more scenario same steps i d past now reply lt so_far alike one_more told =
     let made = get_or steps i d in
-    let told' : reply ≡ (step (fold_of scenario past) past made.event).reply = told ∙ ap (λ (s : Scenario). (step (fold_of s past) past made.event).reply) alike in
+    let told' : reply ≡ reply_to scenario past made.event = told ∙ ap (λ (s : Scenario). reply_to s past made.event) alike in
     one_more
     ∙ ap (λ (r : Reply). past ++ entry_with made r ∷ []) told'
-    ∙ ap (λ (h : History). h ++ entry_of (fold_of scenario h) h made ∷ []) so_far
+    ∙ ap (λ (h : History). h ++ entry_of (moment_of scenario h) made ∷ []) so_far
     ∙ sym (history_of-push scenario (take i steps) made)
     ∙ ap (history_of scenario) (sym (take_more steps i d lt))

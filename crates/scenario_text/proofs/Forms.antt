@@ -22,7 +22,6 @@ use Rattle.scenario_text.specs.declared.line.Line.{Line}
 use Rattle.scenario_text.specs.declared.line.Line.TheVariants as forms
 use Rattle.scenario_text.specs.Words.{Word, policy_word, creds_words, task_words, actor_word, ask_words, event_words}
 use Rattle.scenario_text.specs.Text.{step_words, end_words}
-use Rattle.scenario_text.specs.Reader.{TargetFits}
 use Rattle.scenario_text.specs.Reading.{◌>>=◌, number_of, word_at, number_at, end_of, creds_at, cpu_of, policy_of, cpu_at, policy_at, task_at, actor_of, actor_at, sibling_event_of, sibling_event_at, target_at, ask_at, wake_at, prctl_at, caller_form_at, caller_event_at, event_at, step_at, form_at, line_of}
 use Rattle.scenario_text.proofs.Numbers.{number_takes, number_again}
 use Rattle.scenario_text.proofs.Fields.{bind, some_is, word_takes, number_at_takes, number_at_again, end_takes, creds_takes, creds_again}
@@ -173,6 +172,21 @@ actor_at_again : (siblings : ℕ) (actor : Actor) (rest : List Word) → sibling
 unfolding actor_at
 actor_at_again siblings actor rest few is = rw (actor_again siblings actor few is) refl
 
+-- the target of a call of prctl is a number that its type holds
+abbrev pub TargetFits : Event → Type 0
+TargetFits (Turn cpu) = Unit {0}
+TargetFits (Resched cpu) = Unit {0}
+TargetFits (Block cpu) = Unit {0}
+TargetFits (Wake pid) = Unit {0}
+TargetFits (Prctl caller ask) = ask.pid ≤ℤ pos 2147483647
+
+pub target_fits : (siblings : ℕ) (event : Event) → IsEvent siblings event → TargetFits event
+target_fits siblings (Turn cpu) is = tt
+target_fits siblings (Resched cpu) is = tt
+target_fits siblings (Block cpu) is = tt
+target_fits siblings (Wake pid) is = tt
+target_fits siblings (Prctl caller ask) is = is.1.pid
+
 -- the events that an actor can make
 abbrev Makes : ℕ → Actor → Event → Type 0
 Makes siblings actor event = IsEvent siblings event × IsMadeBy actor event × TargetFits event
@@ -247,7 +261,7 @@ ask_takes words x e =
     let w2 = number_at_takes 0 0 target.1 scope (omega arith) t2 in
     let w3 = number_at_takes 0 0 scope.1 addr (omega arith) t3 in
     let whole : words ≡ ask_words made.0 ++ made.1 = cc in
-    let is : IsAskText made.0 = record { is = record { cmd = w1.1.cmd; scope = omega (arith, w2.1); addr = omega (arith, w3.1) }; fits = w1.1.fits } in
+    let is : IsAskText made.0 = record { is = record { cmd = w1.1.cmd; pid = w1.1.fits; scope = omega (arith, w2.1); addr = omega (arith, w3.1) }; fits = w1.1.fits } in
     subst (λ (p : Ask × List Word). (words ≡ ask_words p.0 ++ p.1) × IsAskText p.0) (some_is made x e3) (whole, is)))))
 
 -- a caller's event is read

@@ -1,5 +1,5 @@
 -- Scenarios: what is read from a text is the scenario of the text, and the text of a scenario is read as it.
-use Rattle.std.proofs.Common.{◌≡◌, ℕ, ◌<◌, ℤ, pos, negsuc, ◌≤ℤ◌, All, Bool, true, false, List, [], ◌∷◌, ◌++◌, map, Some, None, Result, Ok, Err, refl, sym, ap, subst, ◌∙◌, arith, append_assoc, inl, inr}
+use Rattle.std.proofs.Common.{get_or, ◌≡◌, ℕ, ◌<◌, ℤ, pos, negsuc, ◌≤ℤ◌, All, Bool, true, false, List, [], ◌∷◌, ◌++◌, map, Some, None, Result, Ok, Err, refl, sym, ap, subst, ◌∙◌, arith, append_assoc, inl, inr}
 use Rattle.std.specs.Prelude.{◌⊎◌, MatchResult, IfOk, IfErr, decimal, codes}
 use Rattle.std.specs.Fmt.{signed_decimal}
 use Rattle.std.specs.List.{AllByRecursion}
@@ -23,9 +23,9 @@ use Rattle.scenario_text.specs.declared.head.Head.{Head}
 use Rattle.scenario_text.specs.Words.{Word, flag_word, policy_word, creds_words, task_words, actor_word, ask_words, event_words}
 use Rattle.scenario_text.specs.Text.{line, version_words, siblings_words, limits_words, step_words, end_words, scenario_lines}
 use Rattle.scenario_text.specs.Reading.{Gives, Contents, lines_in, head_at, plan_of, scenario_of}
-use Rattle.scenario_text.specs.Reader.{TargetFits, IsTextOf, HasNoScenario, HasOneScenario}
+use Rattle.scenario_text.specs.Reader.{IsTextOf, HasNoScenario, HasOneScenario}
 use Rattle.scenario_text.proofs.Fields.{bind, some_is}
-use Rattle.scenario_text.proofs.Forms.{IsStepText, cmd_within}
+use Rattle.scenario_text.proofs.Forms.{TargetFits, target_fits, IsStepText, cmd_within}
 use Rattle.scenario_text.proofs.Heads.{IsHead, head_lines, head_takes, head_again}
 use Rattle.scenario_text.proofs.Building.{IsPlan, plan_lines, end_lines, plan_takes, plan_again}
 use Rattle.scenario_text.proofs.Texts.{IsPlain, ArePlain, plain_decimal, plain-append, ArePlain-append, lines_in-flat_map, text_is}
@@ -63,6 +63,9 @@ empty_plan siblings limit = record {
   steps = All-nil (IsStepText siblings);
   few_steps = omega arith;
 }
+
+targets_fit : (scenario : Scenario) → IsBuilt scenario → All (λ step. TargetFits step.event) scenario.steps
+targets_fit scenario built k d lt = target_fits scenario.siblings (get_or scenario.steps k d).event (built.steps k d lt).event
 
 -- what is read is spelled so
 scenario_takes : (lines : List (List Word)) (scenario : Scenario) → scenario_of lines ≡ Some scenario → IsBuilt scenario × All (λ step. TargetFits step.event) scenario.steps × (lines ≡ scenario_lines scenario ++ nothing)
@@ -216,14 +219,14 @@ plain_scenario s built fits =
 text_again : (bytes : List ℕ) (scenario : Scenario) → IsTextOf bytes scenario → scenario_of (lines_in bytes) ≡ Some scenario
 text_again bytes scenario is =
     ap (λ (b : List ℕ). scenario_of (lines_in b)) is.text
-    ∙ ap scenario_of (lines_in-flat_map (scenario_lines scenario) (plain_scenario scenario is.built is.fits))
-    ∙ scenario_again scenario is.built is.fits
+    ∙ ap scenario_of (lines_in-flat_map (scenario_lines scenario) (plain_scenario scenario is.built (targets_fit _ is.built)))
+    ∙ scenario_again scenario is.built (targets_fit _ is.built)
 
 -- and only so
 text_takes : (bytes : List ℕ) (scenario : Scenario) → scenario_of (lines_in bytes) ≡ Some scenario → IsTextOf bytes scenario
 text_takes bytes scenario e =
     let taken = scenario_takes (lines_in bytes) scenario e in
-    record { built = taken.0; fits = taken.1; text = text_is bytes (scenario_lines scenario) taken.2 }
+    record { built = taken.0; text = text_is bytes (scenario_lines scenario) taken.2 }
 
 pub one_scenario : (bytes : List ℕ) → HasOneScenario bytes
 one_scenario bytes scenario other is is' =

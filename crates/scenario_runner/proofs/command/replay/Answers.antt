@@ -1,8 +1,13 @@
-use Rattle.std.proofs.Common.{◌∙◌, ap, rules}
+use Rattle.std.proofs.Common.{◌≡◌, ℕ, ◌<◌, List, ◌∙◌, ap, subst, rules}
+use Rattle.std.specs.Prelude.{Option, Err, IfSome, ◌↔◌}
+use Rattle.scenario_text.specs.declared.fault.BadKind.{BadKind}
+use Rattle.scenario_runner.specs.declared.stop.Stop.TheVariants.{ReadFault, TooLong, BadScenario}
+use Rattle.scenario_runner.specs.Input.{IsBad, input_limit, count_read}
 use Rattle.cs_types.specs.History.{History}
 use Rattle.cs_types.proofs.Histories.{IsLegal-history_of, events_by-file}
 use Rattle.cs_outside.specs.Device.{appended}
 use Rattle.scenario_runner.specs.Output.{history_text}
+use Rattle.scenario_runner.proofs.Completes.{stop_complete}
 use Rattle.scenario_runner.proofs.command.replay.Goals as goal
 
 pub returns-in-Ok-write_history : goal.returns-in-Ok-write_history
@@ -26,4 +31,26 @@ returns-in-Ok-write_history g c =
       write_fault = search rules;
       unwritten = search rules;
       complete = search rules;
+    }
+
+pub returns : goal.returns
+returns g c =
+    record {
+      done = search rules;
+      bad_words = search rules;
+      unread = search rules;
+      read_fault = search rules;
+      too_long = search rules;
+      bad_scenario = search rules;
+      write_fault = search rules;
+      unwritten = search rules;
+      complete = λ scenario words built is fits same_faults same_sink.
+          let now = g.S.Source.left c.played.new.source in
+          let long = λ (same : c.in-Err.stop ≡ TooLong).
+          (subst (λ (left : Option (List ℕ)). IfSome left (λ _. (c.played.result ≡ Err TooLong) ↔ (input_limit < count_read left now))) is c.played.ensures.too_long).0 (c.in-Err.is ∙ ap Err same) in
+          let bad = λ (line : ℕ) (kind : BadKind) (same : c.in-Err.stop ≡ BadScenario line kind).
+          subst (λ (left : Option (List ℕ)). IsBad line kind left now) is (c.played.ensures.bad line kind (c.in-Err.is ∙ ap Err same)) in
+          let failed = λ (same : c.in-Err.stop ≡ ReadFault). c.played.ensures.failed (c.in-Err.is ∙ ap Err same) in
+          rw c.from.ensures
+          (stop_complete c.in-Err.stop now _ _ scenario long bad failed c.requires.source built fits same_faults);
     }
