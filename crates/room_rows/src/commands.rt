@@ -187,7 +187,7 @@ fn other_words(rt: HostRuntime) {
 }
 
 /// Expects that the command ends so over this text, and writes this output.
-fn expect_text<R: AllocGlobal + Abort>(rt: &R, text: &[u8], wanted: Status, output: &[u8]) {
+pub fn expect_text<R: AllocGlobal + Abort>(rt: &R, text: &[u8], wanted: Status, output: &[u8]) {
     let mut source = source_of(rt, text, 65_536, Vec::new(rt.alloc()));
     let mut sink = sink_of(rt, 4096, Vec::new(rt.alloc()));
     expect_run(rt, &["replay"], &mut source, &mut sink, wanted, output);

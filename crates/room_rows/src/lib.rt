@@ -9,6 +9,10 @@ mod commands;
 #[cfg(test)]
 mod devices;
 #[cfg(test)]
+mod examples;
+#[cfg(test)]
 mod lines;
+#[cfg(test)]
+mod offers;
 #[cfg(test)]
 mod scenarios;

@@ -1,7 +1,7 @@
 //! The lines of entries: whole, in one piece, and up to a fault.
 
 use cs_outside::MemSink;
-use cs_types::{Actor, Cookie, Entry, Event, Kind, Pick, Pid, Reply};
+use cs_types::{Actor, Ask, Cookie, Entry, Errno, Event, Kind, Pick, Pid, Reply};
 use scenario_text::entry_text;
 use std::process::Abort;
 
@@ -17,6 +17,30 @@ fn turn(sibling: u8, reply: Reply) -> Entry {
     Entry {
         actor: Actor::Sibling(sibling),
         event: Event::Turn(sibling),
+        reply,
+    }
+}
+
+fn resched(sibling: u8, reply: Reply) -> Entry {
+    Entry {
+        actor: Actor::Sibling(sibling),
+        event: Event::Resched(sibling),
+        reply,
+    }
+}
+
+fn prctl(caller: Pid, cmd: u32, pid: i32, reply: Reply) -> Entry {
+    Entry {
+        actor: Actor::Caller(0),
+        event: Event::Prctl {
+            caller,
+            ask: Ask {
+                cmd,
+                pid,
+                scope: 0,
+                addr: 0,
+            },
+        },
         reply,
     }
 }
@@ -68,6 +92,46 @@ fn lines_of_wakes(rt: HostRuntime) {
         ),
         "c255 wake 4294967295: Slept 4294967295 Plain 4294967295 core 18446744073709551615 forced 255\n",
     );
+}
+
+#[test]
+fn lines_of_schedules(rt: HostRuntime) {
+    let selected = Pick {
+        kind: Kind::Selected,
+        ..plain(0, 2, 7)
+    };
+    let adopted = Pick {
+        kind: Kind::Adopted,
+        ..plain(3, 1, 0)
+    };
+    expect_line(
+        &rt,
+        &resched(7, Reply::Picked(selected)),
+        "s7 resched: Selected idle core 2 forced 7\n",
+    );
+    expect_line(
+        &rt,
+        &resched(1, Reply::Picked(adopted)),
+        "s1 resched: Adopted 3 core 1 forced 0\n",
+    );
+}
+
+#[test]
+fn lines_of_calls(rt: HostRuntime) {
+    expect_line(&rt, &prctl(1, 1, 0, Reply::Zero), "c0 prctl 1 1 0 0 0: 0\n");
+    expect_line(
+        &rt,
+        &prctl(999999, 2, 2147483647, Reply::NoCaller),
+        "c0 prctl 999999 2 2147483647 0 0: NoCaller\n",
+    );
+    for (errno, line) in &[
+        (Errno::Eperm, "c0 prctl 1 2 3 0 0: EPERM\n"),
+        (Errno::Esrch, "c0 prctl 1 2 3 0 0: ESRCH\n"),
+        (Errno::Enomem, "c0 prctl 1 2 3 0 0: ENOMEM\n"),
+        (Errno::Enodev, "c0 prctl 1 2 3 0 0: ENODEV\n"),
+    ] {
+        expect_line(&rt, &prctl(1, 2, 3, Reply::Refused(*errno)), line);
+    }
 }
 
 #[test]

@@ -39,15 +39,19 @@ macro_rules! after_head {
 }
 
 /// For each rule a text that breaks it alone.
-const REFUSED: [(&str, &str); 34] = [
+const REFUSED: [(&str, &str); 43] = [
     ("some line", ""),
     (
         "the version",
         "coresched 2\nsiblings 2\nlimits 8 8 65536\nend\n",
     ),
     (
-        "the siblings",
-        "coresched 1\nsiblings 3\nlimits 8 8 65536\nend\n",
+        "the least number of siblings",
+        "coresched 1\nsiblings 0\nlimits 8 8 65536\nend\n",
+    ),
+    (
+        "the greatest number of siblings",
+        "coresched 1\nsiblings 9\nlimits 8 8 65536\nend\n",
     ),
     (
         "the least limit",
@@ -83,6 +87,35 @@ const REFUSED: [(&str, &str); 34] = [
     ("a sibling's own event", after_head!("step c0 turn\nend\n")),
     ("a caller's event", after_head!("step s0 wake 1\nend\n")),
     ("an actor's sibling", after_head!("step s2 turn\nend\n")),
+    (
+        "a command of a call",
+        after_head!("step c0 prctl 1 3 1 0 0\nend\n"),
+    ),
+    (
+        "no target of a cookie that is made",
+        after_head!("step c0 prctl 1 1 1 0 0\nend\n"),
+    ),
+    (
+        "the least target of a cookie that is shared",
+        after_head!("step c0 prctl 1 2 0 0 0\nend\n"),
+    ),
+    (
+        "the greatest target",
+        after_head!("step c0 prctl 1 2 2147483648 0 0\nend\n"),
+    ),
+    ("the scope", after_head!("step c0 prctl 1 1 0 1 0\nend\n")),
+    (
+        "no address",
+        after_head!("step c0 prctl 1 1 0 0 4096\nend\n"),
+    ),
+    (
+        "a call's own actor",
+        after_head!("step s0 prctl 1 1 0 0 0\nend\n"),
+    ),
+    (
+        "a schedule's own actor",
+        after_head!("step c0 resched\nend\n"),
+    ),
     (
         "the greatest pid of a task",
         after_head!("task 10000 1 1 0 fifo:10 0 0 0 0 0 0 0 1 1\nend\n"),

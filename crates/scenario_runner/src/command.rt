@@ -9,7 +9,7 @@ ghost use Rattle.scenario_runner.specs.Replay.{Reads};
 ghost use Rattle.scenario_runner.specs.Ends.{EndsAsReplay};
 
 use crate::input::read_to_end;
-use crate::play::{play, write_history};
+use crate::playing::{play, write_history};
 use crate::status::Status;
 use crate::stop::Stop;
 use cs_outside::{Sink, Source};

@@ -3,9 +3,10 @@
 
 mod command;
 mod input;
-mod play;
+mod playing;
 mod status;
 mod stop;
 
 pub use command::{replay, run};
+pub use playing::play;
 pub use status::Status;

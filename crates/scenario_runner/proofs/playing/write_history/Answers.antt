@@ -3,7 +3,7 @@ use Rattle.std.specs.Prelude.{Option}
 use Rattle.cs_outside.specs.Device.{appended}
 use Rattle.scenario_text.specs.Text.{entry_text}
 use Rattle.scenario_runner.proofs.Outputs.{appended-appended, prefix_whole, lines_more, text_at}
-use Rattle.scenario_runner.proofs.play.write_history.Goals as goal
+use Rattle.scenario_runner.proofs.playing.write_history.Goals as goal
 
 pub returns-in_err-entry_text-clause-prefix : goal.returns-in_err-entry_text-clause-prefix
 returns-in_err-entry_text-clause-prefix g c =

@@ -2,7 +2,7 @@ use Rattle.std.proofs.Common.{◌≡◌, ◌≤◌, take}
 use Rattle.std.specs.List.{flat_map}
 use Rattle.cs_outside.specs.Device.{appended}
 use Rattle.scenario_text.specs.Text.{entry_text}
-use Rattle.scenario_runner.proofs.play.write_history.Given as goal
+use Rattle.scenario_runner.proofs.playing.write_history.Given as goal
 
 abbrev pub invariant-loop-place : goal.invariant-loop-place
 invariant-loop-place g l =

@@ -1,0 +1,46 @@
+//! The order across siblings: which of two offers is higher, and which of more leads.
+
+ghost use Rattle.std.specs.Prelude.{All};
+ghost use Rattle.sibling_priority.specs.Offers.{IsInRange};
+
+use sibling_priority::{IDLE, Offer, REAL_TIME, higher, lead};
+
+/// The offer of a real-time task.
+fn real_time(rank: u128) -> Offer
+    ensures { IsInRange result }
+{
+    Offer {
+        class: REAL_TIME,
+        rank,
+        ..Offer::default()
+    }
+}
+
+/// The offer of a sibling that runs idle.
+fn idle() -> Offer
+    ensures { IsInRange result }
+{
+    Offer {
+        class: IDLE,
+        ..Offer::default()
+    }
+}
+
+#[test]
+fn higher_offers(rt: HostRuntime) {
+    assert!(rt; higher(&real_time(10), &real_time(20)));
+    assert!(rt; !higher(&real_time(20), &real_time(20)));
+    assert!(rt; higher(&real_time(99), &idle()));
+}
+
+/// Two offers, the second one higher.
+fn second_higher() -> [Offer; 2]
+    ensures { All IsInRange result }
+{
+    [real_time(20), real_time(10)]
+}
+
+#[test]
+fn highest_offer_leads(rt: HostRuntime) {
+    assert!(rt; lead(&second_higher()) == 1);
+}
