@@ -8,7 +8,7 @@ use Rattle.std.proofs.lemmas.List.{map-append, length-map}
 use Rattle.cs_types.specs.declared.scenario.Scenario.{Scenario}
 use Rattle.std.proofs.lemmas.List.Elements.{filter-append, All-map, All-filter}
 use Rattle.std.proofs.lemmas.List.FromFn.{get_or-map-range_with_len}
-use Rattle.cs_types.specs.Room.{RoomState, TaskState, SiblingState, is_online, online, online_from, queued_on, sibling_of}
+use Rattle.cs_types.specs.Room.{RoomState, TaskState, is_online, online, online_from, queued_on, sibling_of}
 use Rattle.cs_types.specs.Order.{first_of, goes_before, foremost, outranks}
 use Rattle.cs_types.specs.Selection.{first_on, cookie_of, pid_of, queued_with, choice, is_forced, forced_count, occupation_of, is_run, handed, given, remembered, lead_from, adopted, rescheduled, scheduled, schedule}
 use Rattle.plain_room.specs.declared.choice.Choice.{Choice}
@@ -91,9 +91,9 @@ firsts_more room from cpu le =
     ∙ map-append (first_on room) (filter (is_online room) (range_with_len from n)) (filter (is_online room) ((from + n) ∷ []))
     ∙ ap (λ (m : ℕ). map (first_on room) (filter (is_online room) (range_with_len from n)) ++ map (first_on room) (cond (is_online room m) (m ∷ []) [])) there
     ∙ ap (λ (firsts : List (Option TaskState)). map (first_on room) (filter (is_online room) (range_with_len from n)) ++ firsts) (first_where (is_online room cpu)) where
-    first_where : (b : Bool) → map (first_on room) (cond b (cpu ∷ []) []) ≡ cond b (first_on room cpu ∷ []) []
-    first_where true = refl
-    first_where false = refl
+      first_where : (b : Bool) → map (first_on room) (cond b (cpu ∷ []) []) ≡ cond b (first_on room cpu ∷ []) []
+      first_where true = refl
+      first_where false = refl
 
 -- the firsts so far, after one more sibling
 pub firsts_step : (room : RoomState) (from cpu : ℕ) → from ≤ cpu → (initial before now : List (Option TaskState)) →
@@ -156,10 +156,10 @@ remembered-choices room core occupation (task ∷ tasks) same =
     ap (λ (b : Bool). record (task_state task) { occupation = cond b occupation task.occupation } ∷ task_states (map (remembered_task (choices_of room core) occupation) tasks)) (any-choices room core task.spec.pid)
     ∙ ap (λ (states : List TaskState). record (task_state task) { occupation = cond (list_any (λ cpu. is_run (pid_of (choice room core cpu)) (Some task.spec.pid)) (online room)) occupation task.occupation } ∷ states) (remembered-choices room core occupation tasks same)
     ∙ ap (λ (state : TaskState). state ∷ map (remembered room core) (task_states tasks)) (where_chosen (list_any (λ cpu. is_run (pid_of (choice room core cpu)) (Some task.spec.pid)) (online room)) occupation same) where
-    where_chosen : (b : Bool) (n : ℕ) → n ≡ occupation_of room core →
-        record (task_state task) { occupation = cond b n task.occupation } ≡ cond b (record (task_state task) { occupation = occupation_of room core }) (task_state task)
-    where_chosen true n e = ap (λ (m : ℕ). record (task_state task) { occupation = m }) e
-    where_chosen false n e = refl
+      where_chosen : (b : Bool) (n : ℕ) → n ≡ occupation_of room core →
+          record (task_state task) { occupation = cond b n task.occupation } ≡ cond b (record (task_state task) { occupation = occupation_of room core }) (task_state task)
+      where_chosen true n e = ap (λ (m : ℕ). record (task_state task) { occupation = m }) e
+      where_chosen false n e = refl
 
 -- ---- which case a schedule is
 
@@ -167,16 +167,16 @@ remembered-choices room core occupation (task ∷ tasks) same =
 pub schedule_not_adopted : (room : RoomState) (fresh : Bool) (cpu : ℕ) → None ≡ cond fresh (sibling_of room cpu).waiting None →
     schedule room fresh cpu ≡ rescheduled room cpu
 schedule_not_adopted room fresh cpu none = not_adopted fresh (sibling_of room cpu).waiting none where
-    not_adopted : (b : Bool) (waiting : Option (Option ℕ)) → None ≡ cond b waiting None → scheduled room b cpu waiting ≡ rescheduled room cpu
-    not_adopted b None e = refl
-    not_adopted false (Some run) e = refl
-    not_adopted true (Some run) e = absurd cc
+  not_adopted : (b : Bool) (waiting : Option (Option ℕ)) → None ≡ cond b waiting None → scheduled room b cpu waiting ≡ rescheduled room cpu
+  not_adopted b None e = refl
+  not_adopted false (Some run) e = refl
+  not_adopted true (Some run) e = absurd cc
 
 pub schedule_adopted : (room : RoomState) (fresh : Bool) (cpu : ℕ) (run : Option ℕ) → Some run ≡ cond fresh (sibling_of room cpu).waiting None →
     schedule room fresh cpu ≡ adopted room cpu run
 schedule_adopted room fresh cpu run some = is_adopted fresh (sibling_of room cpu).waiting some where
-    is_adopted : (b : Bool) (waiting : Option (Option ℕ)) → Some run ≡ cond b waiting None → scheduled room b cpu waiting ≡ adopted room cpu run
-    is_adopted true None e = absurd cc
-    is_adopted false None e = absurd cc
-    is_adopted false (Some other) e = absurd cc
-    is_adopted true (Some other) e = let same : other ≡ run = cc in ap (adopted room cpu) same
+  is_adopted : (b : Bool) (waiting : Option (Option ℕ)) → Some run ≡ cond b waiting None → scheduled room b cpu waiting ≡ adopted room cpu run
+  is_adopted true None e = absurd cc
+  is_adopted false None e = absurd cc
+  is_adopted false (Some other) e = absurd cc
+  is_adopted true (Some other) e = let same : other ≡ run = cc in ap (adopted room cpu) same

@@ -1,5 +1,5 @@
 -- What filters, searches and scans of a list say of the list that it stands for.
-use Rattle.std.proofs.Common.{◌≡◌, ℕ, zero, suc, ◌+◌, ◌<◌, Bool, true, false, cond, List, [], ◌∷◌, ◌++◌, map, refl, sym, ap, ◌∙◌, Option, Some, None, length, take, drop, set, get_or, arith, add-one, length-append, length-drop, length-take}
+use Rattle.std.proofs.Common.{◌≡◌, ℕ, zero, suc, ◌+◌, ◌<◌, Bool, true, false, cond, List, [], ◌∷◌, ◌++◌, map, refl, sym, ap, ◌∙◌, Some, length, take, drop, set, get_or, arith, add-one, length-append, length-drop, length-take}
 use Rattle.std.specs.Prelude.{filter, find, replicate, count_by, ◌&&◌, ◌||◌, All, IfSome}
 use Rattle.std.specs.List.{fold, reduce, enumerate_from, range_with_len, list_any}
 use Rattle.std.specs.Option.{option_map}

@@ -1,5 +1,5 @@
 -- The numbers of a sibling whose task went to sleep.
-use Rattle.std.proofs.Common.{◌≡◌, ℕ, ◌+◌, List, refl, ap, ◌∙◌, arith, set}
+use Rattle.std.proofs.Common.{◌≡◌, ℕ, ap, arith, set}
 use Rattle.cs_types.specs.declared.event.Event.TheVariants.{Block}
 use Rattle.cs_types.specs.declared.reply.Kind.{Kind}
 use Rattle.cs_types.specs.declared.reply.Kind.TheVariants.{Selected, Adopted, Plain}
@@ -12,9 +12,9 @@ use Rattle.plain_room.specs.State.{Numbers, touched, took, numbers_after}
 pub took-touched : (room : RoomState) (cpu pid : ℕ) (pick : Pick) (numbers : Numbers) →
     took cpu pick (touched 1 numbers) ≡ numbers_after room (Block cpu) (Slept pid pick) numbers
 took-touched room cpu pid pick numbers = by_kind pick.kind pick.run pick.core pick.forced where
-    by_kind : (kind : Kind) (run core forced : ℕ) →
-        took cpu (record { kind = kind; run = run; core = core; forced = forced }) (touched 1 numbers)
-        ≡ numbers_after room (Block cpu) (Slept pid (record { kind = kind; run = run; core = core; forced = forced })) numbers
-    by_kind Selected run core forced = ap (λ (n : ℕ). record { task = n; pick = n; own = set numbers.own cpu n }) (omega arith)
-    by_kind Adopted run core forced = ap (λ (n : ℕ). record { task = n; pick = numbers.pick; own = set numbers.own cpu numbers.pick }) (omega arith)
-    by_kind Plain run core forced = ap (λ (n : ℕ). record { task = n; pick = numbers.pick; own = numbers.own }) (omega arith)
+  by_kind : (kind : Kind) (run core forced : ℕ) →
+      took cpu (record { kind = kind; run = run; core = core; forced = forced }) (touched 1 numbers)
+      ≡ numbers_after room (Block cpu) (Slept pid (record { kind = kind; run = run; core = core; forced = forced })) numbers
+  by_kind Selected run core forced = ap (λ (n : ℕ). record { task = n; pick = n; own = set numbers.own cpu n }) (omega arith)
+  by_kind Adopted run core forced = ap (λ (n : ℕ). record { task = n; pick = numbers.pick; own = set numbers.own cpu numbers.pick }) (omega arith)
+  by_kind Plain run core forced = ap (λ (n : ℕ). record { task = n; pick = numbers.pick; own = numbers.own }) (omega arith)

@@ -1,5 +1,5 @@
 -- What searches, changes and counts of the lists say of the states that these stand for.
-use Rattle.std.proofs.Common.{◌≡◌, ℕ, ◌<◌, ◌+◌, cond, true, false, List, [], ◌∷◌, map, refl, sym, ap, ◌∙◌, length, set, get_or, eqb}
+use Rattle.std.proofs.Common.{◌≡◌, ℕ, ◌<◌, cond, true, false, List, [], ◌∷◌, map, refl, sym, ap, ◌∙◌, length, set, get_or, eqb}
 use Rattle.std.specs.Prelude.{All, Option, Some, None, is_none, is_some}
 use Rattle.std.specs.Option.{option_map, option_map_or}
 use Rattle.cs_types.specs.declared.reply.Pick.{Pick}
@@ -13,7 +13,7 @@ use Rattle.std.proofs.lemmas.Bool.{cond-true, cond-false, cond_both, eq-eqb, ne_
 use Rattle.cs_types.specs.declared.task.TaskSpec.{TaskSpec}
 use Rattle.cs_types.specs.declared.scenario.Scenario.{Scenario}
 use Rattle.cs_types.specs.Scenario.{IsTask, IsPolicy}
-use Rattle.cs_types.specs.Room.{TaskState, SiblingState, RoomState, asleep, idle, has_pid}
+use Rattle.cs_types.specs.Room.{TaskState, RoomState, asleep, idle, has_pid}
 use Rattle.plain_room.specs.State.{task_state, task_states, asleep_task, sibling_state, IsFit, IsSound, room_of, Schedules}
 use Rattle.plain_room.specs.declared.state.State.{State}
 use Rattle.plain_room.specs.declared.choice.Choice.{Choice}

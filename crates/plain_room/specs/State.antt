@@ -1,14 +1,13 @@
 -- What the lists of the state stand for.
-use Rattle.std.specs.Prelude.{◌≡◌, ℕ, ◌+◌, ◌<◌, ◌≤◌, ◌&&◌, ◌||◌, ◌==◌, nat_lt, Bool, false, if◌then◌else◌, List, length, map, All, slice_set, Option, Some, None, is_some, unwrap_or}
+use Rattle.std.specs.Prelude.{◌≡◌, ℕ, ◌+◌, ◌<◌, ◌&&◌, ◌||◌, ◌==◌, nat_lt, Bool, false, if◌then◌else◌, List, length, map, All, slice_set, is_some, unwrap_or}
 use Rattle.std.specs.Option.{option_map_or}
 use Rattle.cs_types.specs.declared.event.Event.{Event}
-use Rattle.cs_types.specs.declared.reply.Kind.{Kind}
 use Rattle.cs_types.specs.declared.reply.Pick.{Pick}
 use Rattle.cs_types.specs.declared.reply.Reply.{Reply}
 use Rattle.cs_types.specs.declared.task.TaskSpec.{TaskSpec}
 use Rattle.cs_types.specs.declared.scenario.Scenario.{Scenario}
 use Rattle.cs_types.specs.declared.view.CpuView.{CpuView}
-use Rattle.cs_types.specs.Scenario.{IsWithin, IsPolicy}
+use Rattle.cs_types.specs.Scenario.{IsPolicy}
 use Rattle.cs_types.specs.Room.{TaskState, SiblingState, RoomState}
 use Rattle.cs_types.specs.Selection.{Scheduled}
 use Rattle.cs_types.specs.Touches.{is_selected, is_adopted, pick_touches, pick_of, selection_of, scheduler_of, touches_by}
@@ -129,8 +128,8 @@ pub record Schedules (old new : State) (cpu : ℕ) (chosen : Pick) (change : Roo
 abbrev pub own_after : Event → Reply → ℕ → List ℕ → List ℕ
 own_after event answer pick own =
     option_map_or (λ cpu. option_map_or (λ (chosen : Pick).
-        if is_selected chosen.kind || is_adopted chosen.kind then slice_set own cpu pick else own)
-        (pick_of answer) own) (scheduler_of event) own
+    if is_selected chosen.kind || is_adopted chosen.kind then slice_set own cpu pick else own)
+    (pick_of answer) own) (scheduler_of event) own
 
 -- the numbers once an event was answered so, in this room
 abbrev pub numbers_after : RoomState → Event → Reply → Numbers → Numbers

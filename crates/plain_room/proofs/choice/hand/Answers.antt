@@ -1,4 +1,4 @@
-use Rattle.std.proofs.Common.{ℕ, List, set, ◌≡◌, ◌<◌, ◌∙◌, ap, sym, refl, map, length, get_or, arith, subst}
+use Rattle.std.proofs.Common.{ℕ, List, set, ◌≡◌, ◌<◌, ◌∙◌, ap, sym, map, length, get_or, arith}
 use Rattle.std.proofs.lemmas.List.{map-set, length-map, get_or-map, get_or_default}
 use Rattle.cs_types.specs.Room.{SiblingState, idle}
 use Rattle.cs_types.specs.Selection.{handed}

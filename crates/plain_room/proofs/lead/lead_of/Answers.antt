@@ -1,8 +1,8 @@
-use Rattle.std.proofs.Common.{ℕ, ◌≡◌, ◌<◌, ◌∙◌, List, map, ap, sym, take, length, get_or, arith, subst}
+use Rattle.std.proofs.Common.{ℕ, ◌<◌, ◌∙◌, List, map, ap, take, length, get_or, arith, subst}
 use Rattle.std.specs.Prelude.{Option, None, All}
 use Rattle.std.specs.Option.{option_map}
 use Rattle.std.proofs.lemmas.List.{take_more, map_push, get_or-map, length-map}
-use Rattle.sibling_priority.specs.Offers.{IsFirst, class_of, rank_of, AreOffersOf}
+use Rattle.sibling_priority.specs.Offers.{IsFirst}
 use Rattle.sibling_priority.proofs.Firsts.{IsInRange-offers, AreOffersOf-push}
 use Rattle.plain_room.specs.State.{task_state}
 use Rattle.plain_room.specs.declared.task.Task.{Task}

@@ -1,4 +1,4 @@
-use Rattle.std.proofs.Common.{◌∙◌, ap, refl, add-zero}
+use Rattle.std.proofs.Common.{refl, add-zero}
 use Rattle.std.proofs.lemmas.List.{map-set}
 use Rattle.plain_room.specs.State.{sibling_state}
 use Rattle.plain_room.proofs.States.{sibling_at, number_of}

@@ -4,7 +4,7 @@ use Rattle.cs_types.specs.declared.scenario.Scenario.{Scenario}
 use Rattle.cs_types.specs.Room.{RoomState}
 use Rattle.cs_types.specs.Selection.{Scheduled, schedule, rescheduled}
 use Rattle.cs_types.specs.Step.{dequeued, idled}
-use Rattle.plain_room.specs.State.{room_of, task_state, numbers_of, took, touched, Numbers}
+use Rattle.plain_room.specs.State.{room_of, task_state, numbers_of, took, Numbers}
 use Rattle.plain_room.proofs.Choices.{schedule_not_adopted}
 use Rattle.plain_room.proofs.Sleeps.{took-touched}
 use Rattle.plain_room.proofs.state.State.block.Goals as goal

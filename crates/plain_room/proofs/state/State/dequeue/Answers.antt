@@ -1,6 +1,5 @@
-use Rattle.std.proofs.Common.{ap, ◌∙◌, refl, true, false, map}
+use Rattle.std.proofs.Common.{ap, ◌∙◌, refl, false, map}
 use Rattle.plain_room.specs.declared.task.Task.{Task}
-use Rattle.plain_room.specs.State.{numbers_of}
 use Rattle.plain_room.proofs.States.{put_in, items-put, task_states-put, fit-put}
 use Rattle.plain_room.proofs.state.State.dequeue.Goals as goal
 

@@ -1,14 +1,12 @@
-use Rattle.std.proofs.Common.{◌≡◌, ◌∙◌, ap, sym, map, List, subst}
+use Rattle.std.proofs.Common.{◌∙◌, ap, sym, List, subst}
 use Rattle.std.specs.Prelude.{Option, All}
-use Rattle.std.specs.Option.{option_map, option_and_then}
+use Rattle.std.specs.Option.{option_and_then}
 use Rattle.std.proofs.lemmas.List.{length-map}
-use Rattle.cs_types.specs.declared.scenario.Scenario.{Scenario}
 use Rattle.cs_types.specs.Scenario.{IsPolicy}
 use Rattle.cs_types.specs.Room.{TaskState, online_from}
 use Rattle.cs_types.specs.Order.{foremost, outranks}
-use Rattle.cs_types.specs.Selection.{first_on}
 use Rattle.sibling_priority.specs.Offers.{IsFirst}
-use Rattle.plain_room.specs.State.{task_state, sibling_state, room_of}
+use Rattle.plain_room.specs.State.{sibling_state, room_of}
 use Rattle.plain_room.proofs.States.{some_scenario, policies}
 use Rattle.plain_room.proofs.Choices.{firsts_pushed, All-firsts, lead_is}
 use Rattle.plain_room.proofs.state.State.lead_from.Goals as goal

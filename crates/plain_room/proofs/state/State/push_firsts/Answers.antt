@@ -1,4 +1,4 @@
-use Rattle.std.proofs.Common.{◌≡◌, ◌∙◌, ap, sym, true, false, Bool, cond, List, [], ◌∷◌, ◌++◌, map, arith, ◌-◌, ◌+◌, length, append_assoc}
+use Rattle.std.proofs.Common.{◌≡◌, ◌∙◌, ap, sym, Bool, cond, List, [], ◌∷◌, ◌++◌, map, arith}
 use Rattle.std.specs.Prelude.{Option}
 use Rattle.std.specs.Option.{option_map}
 use Rattle.std.proofs.lemmas.List.{append-nil, map_push}
@@ -44,9 +44,9 @@ pushed_is c scenario =
 pub loop-cpu-preserved : goal.loop-cpu-preserved
 loop-cpu-preserved c = record {
   few = elim c.if-index.branch [
-      | then-index w ↦ omega (arith, ap array_vec_len w.firsts-is, w.push.ensures.len, c.loop-cpu.invariant.few, c.loop-cpu.auto.cpu)
-      | else-index w ↦ omega (arith, ap array_vec_len w.firsts-is, c.loop-cpu.invariant.few)
-    ];
+    | then-index w ↦ omega (arith, ap array_vec_len w.firsts-is, w.push.ensures.len, c.loop-cpu.invariant.few, c.loop-cpu.auto.cpu)
+    | else-index w ↦ omega (arith, ap array_vec_len w.firsts-is, c.loop-cpu.invariant.few)
+  ];
   pushed = λ scenario.
       firsts_step (room_of scenario c.args.self.now) c.args.from c.loop-cpu.cpu c.loop-cpu.auto.cpu (map (option_map task_state) c.args.firsts.now.items) (map (option_map task_state) c.loop-cpu.firsts.items) (map (option_map task_state) c.if-index.firsts.items)
       (c.loop-cpu.invariant.pushed scenario) (pushed_is c scenario);

@@ -4,7 +4,7 @@ use Rattle.std.proofs.lemmas.List.{map-set}
 use Rattle.cs_types.specs.declared.scenario.Scenario.{Scenario}
 use Rattle.cs_types.specs.Selection.{pid_of, first_on}
 use Rattle.plain_room.specs.State.{sibling_state, room_of}
-use Rattle.plain_room.proofs.States.{sibling_at, number_of, numbers_kept, pid_of-state}
+use Rattle.plain_room.proofs.States.{sibling_at, numbers_kept, pid_of-state}
 use Rattle.plain_room.proofs.state.State.run_first.Goals as goal
 
 -- the first that the code maps to its pid is the model's

@@ -1,4 +1,3 @@
-use Rattle.std.proofs.Common.{ap, ◌∙◌, sym}
 use Rattle.cs_types.specs.Selection.{adopted, rescheduled, schedule}
 use Rattle.plain_room.specs.State.{room_of, numbers_of, is_fresh_by}
 use Rattle.plain_room.proofs.States.{Schedules-same}

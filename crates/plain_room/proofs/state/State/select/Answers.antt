@@ -3,8 +3,7 @@ use Rattle.std.specs.Option.{option_map_or}
 use Rattle.std.proofs.lemmas.List.{map-set}
 use Rattle.std.proofs.Math.Seq.{map-set_same}
 use Rattle.cs_types.specs.declared.scenario.Scenario.{Scenario}
-use Rattle.cs_types.specs.Room.{RoomState}
-use Rattle.cs_types.specs.Selection.{cookie_of, lead_from, selected_room, forced_count}
+use Rattle.cs_types.specs.Selection.{cookie_of, lead_from}
 use Rattle.plain_room.specs.declared.sibling.Sibling.{Sibling}
 use Rattle.plain_room.specs.State.{sibling_state, room_of, Numbers}
 use Rattle.plain_room.proofs.States.{cookie_of-state, number_of}

@@ -1,9 +1,8 @@
-use Rattle.std.proofs.Common.{◌≡◌, ◌∙◌, ap, refl, sym, map, arith, length, get_or}
+use Rattle.std.proofs.Common.{◌∙◌, ap, refl, map, arith, length, get_or}
 use Rattle.std.specs.Prelude.{count_by, is_some, ◌&&◌, List}
 use Rattle.std.specs.List.{enumerate_from}
 use Rattle.std.proofs.lemmas.List.{length-map}
-use Rattle.cs_types.specs.declared.scenario.Scenario.{Scenario}
-use Rattle.cs_types.specs.Selection.{selected_room, forced_count, occupation_of, pid_of, choice}
+use Rattle.cs_types.specs.Selection.{selected_room}
 use Rattle.plain_room.specs.declared.choice.Choice.{Choice}
 use Rattle.plain_room.specs.declared.sibling.Sibling.{Sibling}
 use Rattle.plain_room.specs.State.{sibling_state, task_states, room_of}
