@@ -88,7 +88,7 @@ foremost-filter {X} lt order p xs b h k =
 
 -- ---- what a list holds
 
--- an element of a list is one of the list with one more in front
+-- an element of a list is one of the list with one more at its head
 Contains-cons : {X : Type 0} (y : X) (xs : List X) (x : X) → Contains xs x → Contains (y ∷ xs) x
 Contains-cons y xs x h = (suc h.0, omega (arith, h.1), h.2)
 

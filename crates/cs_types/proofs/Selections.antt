@@ -57,12 +57,12 @@ online_parts room cpu h =
 -- the order that begins at one sibling holds each that is online
 pub online_from_holds : (room : RoomState) (cpu other : ℕ) → other < length room.siblings → is_online room other ≡ true → Contains (online_from room cpu) other
 online_from_holds room cpu other below up =
-    let front = range_with_len cpu (length room.siblings - cpu) in
-    let back = range_with_len 0 cpu in
-    Contains-filter (is_online room) (front ++ back) other
+    let from_cpu = range_with_len cpu (length room.siblings - cpu) in
+    let up_to_cpu = range_with_len 0 cpu in
+    Contains-filter (is_online room) (from_cpu ++ up_to_cpu) other
     (elim (cases_lt other cpu) [
-      | inl before ↦ Contains-append_right front back other (Contains-range 0 cpu other (omega arith) (omega arith))
-      | inr from ↦ Contains-append_left front back other (Contains-range cpu (length room.siblings - cpu) other from (omega arith))
+      | inl before ↦ Contains-append_right from_cpu up_to_cpu other (Contains-range 0 cpu other (omega arith) (omega arith))
+      | inr from ↦ Contains-append_left from_cpu up_to_cpu other (Contains-range cpu (length room.siblings - cpu) other from (omega arith))
     ]) up
 
 -- ---- the lead
