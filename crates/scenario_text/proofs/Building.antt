@@ -1,10 +1,9 @@
 -- Building: the lines after the head are read as the plan that they spell, and no others are.
-use Rattle.std.proofs.Common.{◌≡◌, ℕ, suc, ◌+◌, ◌<◌, ◌≤◌, true, cond, eqb, ltb, List, [], ◌∷◌, ◌++◌, length, get_or, map, Some, None, refl, sym, ap, subst, ◌∙◌, arith, All, append_assoc}
-use Rattle.std.specs.Prelude.{◌&&◌}
-use Rattle.std.proofs.lemmas.Bool.{and_parts, and_from, eqb-true, ltb-true, lt-ltb}
+use Rattle.std.proofs.Common.{◌≡◌, ℕ, suc, ◌+◌, ◌<◌, ◌≤◌, Bool, true, false, eqb, ltb, List, [], ◌∷◌, ◌++◌, length, get_or, map, Ok, refl, sym, ap, subst, ◌∙◌, arith, All, append_assoc}
+use Rattle.std.specs.Prelude.{not}
+use Rattle.std.proofs.lemmas.Bool.{not-false, eqb-true, ltb-true, lt-ltb}
 use Rattle.std.proofs.lemmas.List.{append-nil, map-append, length_push, length-append, nil_from_length, get_or_at}
 use Rattle.std.proofs.lemmas.List.Elements.{All-push}
-use Rattle.std.proofs.lemmas.Option.{cond_some}
 use Rattle.cs_types.specs.declared.task.TaskSpec.{TaskSpec}
 use Rattle.cs_types.specs.declared.event.Step.{Step}
 use Rattle.cs_types.specs.Scenario.{IsTask, AreDistinct, AreLed}
@@ -13,9 +12,11 @@ use Rattle.scenario_text.specs.declared.line.Line.{Line}
 use Rattle.scenario_text.specs.declared.line.Line.TheVariants as forms
 use Rattle.scenario_text.specs.Words.{Word, task_words}
 use Rattle.scenario_text.specs.Text.{step_words, end_words}
-use Rattle.scenario_text.specs.Reading.{◌>>=◌, Contents, line_of, is_end, is_fresh, is_led, can_follow, match_line, with_task, with_step, plan_of}
-use Rattle.scenario_text.proofs.Fields.{bind}
-use Rattle.scenario_text.proofs.Forms.{IsStepText, line_words, IsLine, line_takes, line_again}
+use Rattle.scenario_text.specs.Reading.{Read, Contents, is_fresh, is_led, check, task_check, step_check, line_check, follower_of, with_task, with_step, end_of, plan_of}
+use Rattle.scenario_text.proofs.Readings.{Each, each_ok, each_refused, each_bind}
+use Rattle.scenario_text.proofs.Steps.{IsStepText}
+use Rattle.scenario_text.proofs.Forms.{line_words, IsLine, each_line, line_again, few_words}
+use Rattle.scenario_text.proofs.Plans.{each_before, goes_on}
 use Rattle.scenario_text.proofs.Followers.{distinct_push, distinct_fresh, led_push, led_test}
 
 -- what a plan keeps, in a core of so many siblings where so many tasks may live at once
@@ -37,67 +38,96 @@ end_lines = end_words ∷ ([] ∷ []) ∷ []
 
 -- ---- one more line
 
+-- whether a step stands in the plan
+abbrev has_step : Contents → Bool
+has_step plan = not (eqb (length plan.steps) 0)
+
+first_task : (plan : Contents) → has_step plan ≡ false → plan.steps ≡ []
+first_task plan none = nil_from_length plan.steps (eqb-true _ _ (not-false _ none))
+
+-- a check that holds
+each_check : (holds : Bool) → Each (check holds) (λ unit. holds ≡ true)
+each_check true = each_ok _ _ refl
+each_check false = each_refused _
+
+-- what a task keeps that may follow
 record Follows (limit : ℕ) (task : TaskSpec) (plan : Contents) : Type 0 where
-  first : plan.steps ≡ []
-  few : length plan.tasks < limit
   fresh : is_fresh plan.tasks task ≡ true
   led : is_led plan.tasks task ≡ true
+  few : length plan.tasks < limit
 
-follows_parts : (limit : ℕ) (task : TaskSpec) (plan : Contents) → can_follow limit task plan ≡ true → Follows limit task plan
-unfolding can_follow
-follows_parts limit task plan h =
-    let a = and_parts (eqb (length plan.steps) 0 && ltb (length plan.tasks) limit && is_fresh plan.tasks task) (is_led plan.tasks task) h in
-    let b = and_parts (eqb (length plan.steps) 0 && ltb (length plan.tasks) limit) (is_fresh plan.tasks task) a.0 in
-    let c = and_parts (eqb (length plan.steps) 0) (ltb (length plan.tasks) limit) b.0 in
-    record { first = nil_from_length plan.steps (eqb-true _ _ c.0); few = ltb-true _ _ c.1; fresh = b.1; led = a.1 }
+each_task_check : (limit : ℕ) (task : TaskSpec) (plan : Contents) → Each (task_check limit task plan) (λ unit. Follows limit task plan)
+unfolding task_check
+each_task_check limit task plan =
+    each_bind _ _ _ _ (each_check (is_fresh plan.tasks task)) (λ u fresh.
+    each_bind _ _ _ _ (each_check (is_led plan.tasks task)) (λ v led.
+    record { all = λ w e. record { fresh = fresh; led = led; few = ltb-true _ _ ((each_check (ltb (length plan.tasks) limit)).all w e) } }))
 
-follows_whole : (limit : ℕ) (task : TaskSpec) (tasks : List TaskSpec) → length tasks < limit → is_fresh tasks task ≡ true → is_led tasks task ≡ true → can_follow limit task (record { tasks = tasks; steps = [] }) ≡ true
-unfolding can_follow
-follows_whole limit task tasks few fresh led =
-    and_from (ltb (length tasks) limit && is_fresh tasks task) (is_led tasks task)
-    (and_from (ltb (length tasks) limit) (is_fresh tasks task) (lt-ltb _ _ few) fresh) led
+task_check_again : (limit : ℕ) (task : TaskSpec) (plan : Contents) → Follows limit task plan → task_check limit task plan ≡ Ok tt
+unfolding task_check
+task_check_again limit task plan is = rw (is.fresh, is.led, lt-ltb _ _ is.few) refl
+
+each_step_check : (plan : Contents) → Each (step_check plan) (λ unit. length plan.steps < 100000)
+unfolding step_check
+each_step_check plan = record { all = λ u e. ltb-true _ _ ((each_check (ltb (length plan.steps) 100000)).all u e) }
+
+step_check_again : (plan : Contents) → length plan.steps < 100000 → step_check plan ≡ Ok tt
+unfolding step_check
+step_check_again plan few = rw (lt-ltb (length plan.steps) 100000 few) refl
+
+-- a line that is spelled by these words, and may follow
+record Following (head : Head) (plan : Contents) (words : List Word) (line : Line) : Type 0 where
+  words_are : words ≡ line_words line
+  is : IsLine head.siblings (has_step plan) line
+  checked : line_check head.task_limit line plan ≡ Ok tt
+
+each_follower : (head : Head) (plan : Contents) (words : List Word) → Each (follower_of head plan words) (Following head plan words)
+unfolding follower_of
+each_follower head plan words =
+    each_bind _ _ _ _ (each_line head.siblings (has_step plan) words) (λ line is.
+    each_bind _ _ (λ unit. line_check head.task_limit line plan ≡ Ok tt) _ (record { all = λ unit e. e }) (λ unit checked.
+    each_ok _ _ (record { words_are = is.0; is = is.1; checked = checked })))
+
+follower_again : (head : Head) (plan : Contents) (line : Line) → head.siblings < 256 → IsLine head.siblings (has_step plan) line → line_check head.task_limit line plan ≡ Ok tt → follower_of head plan (line_words line) ≡ Ok line
+unfolding follower_of
+follower_again head plan line small is checked = rw (line_again head.siblings (has_step plan) line small is, checked) refl
 
 -- a plan grows by a line
 record Grows (siblings limit : ℕ) (plan : Contents) (words : List Word) (more : Contents) : Type 0 where
   is : IsPlan siblings limit more
   lines : plan_lines more ≡ plan_lines plan ++ words ∷ []
 
-task_grows : (siblings limit : ℕ) (plan : Contents) (task : TaskSpec) (more : Contents) → IsPlan siblings limit plan → IsTask siblings task → with_task limit task plan ≡ Some more → Grows siblings limit plan (task_words task) more
-unfolding with_task
-task_grows siblings limit plan task more is fits e =
-    let made : Contents = record { tasks = plan.tasks ++ task ∷ []; steps = plan.steps } in
-    let same = cond_some (can_follow limit task plan) made more e in
-    let follows = follows_parts limit task plan same.0 in
-    let grown : IsPlan siblings limit made = record {
-      tasks = All-push (IsTask siblings) plan.tasks task is.tasks fits;
-      distinct = distinct_push plan.tasks task is.distinct follows.fresh;
-      led = led_push plan.tasks task is.led follows.led;
-      few_tasks = let few = follows.few in omega (arith, length_push plan.tasks task);
-      steps = is.steps;
-      few_steps = is.few_steps;
-    } in
-    let lines : plan_lines made ≡ plan_lines plan ++ task_words task ∷ [] =
-    rw (follows.first, append-nil (map task_words (plan.tasks ++ task ∷ [])), append-nil (map task_words plan.tasks)) (map-append task_words plan.tasks (task ∷ [])) in
-    subst (Grows siblings limit plan (task_words task)) same.1 (record { is = grown; lines = lines })
+task_grows : (siblings limit : ℕ) (plan : Contents) (task : TaskSpec) → IsPlan siblings limit plan → IsTask siblings task → has_step plan ≡ false → task_check limit task plan ≡ Ok tt → Grows siblings limit plan (task_words task) (with_task task plan)
+task_grows siblings limit plan task is fits none checked =
+    let follows = (each_task_check limit task plan).all tt checked in
+    record {
+      is = record {
+        tasks = All-push (IsTask siblings) plan.tasks task is.tasks fits;
+        distinct = distinct_push plan.tasks task is.distinct follows.fresh;
+        led = led_push plan.tasks task is.led follows.led;
+        few_tasks = let few = follows.few in omega (arith, length_push plan.tasks task);
+        steps = is.steps;
+        few_steps = is.few_steps;
+      };
+      lines = rw (first_task plan none, append-nil (map task_words (plan.tasks ++ task ∷ [])), append-nil (map task_words plan.tasks)) (map-append task_words plan.tasks (task ∷ []));
+    }
 
-step_grows : (siblings limit : ℕ) (plan : Contents) (step : Step) (more : Contents) → IsPlan siblings limit plan → IsStepText siblings step → with_step step plan ≡ Some more → Grows siblings limit plan (step_words step) more
-unfolding with_step
-step_grows siblings limit plan step more is fits e =
-    let made : Contents = record { tasks = plan.tasks; steps = plan.steps ++ step ∷ [] } in
-    let same = cond_some (ltb (length plan.steps) 100000) made more e in
-    let few : length plan.steps < 100000 = ltb-true _ _ same.0 in
-    let grown : IsPlan siblings limit made = record {
-      tasks = is.tasks;
-      distinct = is.distinct;
-      led = is.led;
-      few_tasks = is.few_tasks;
-      steps = All-push (IsStepText siblings) plan.steps step is.steps fits;
-      few_steps = omega (arith, length_push plan.steps step);
-    } in
-    let lines : plan_lines made ≡ plan_lines plan ++ step_words step ∷ [] =
-    ap (λ (ls : List (List Word)). map task_words plan.tasks ++ ls) (map-append step_words plan.steps (step ∷ []))
-    ∙ sym (append_assoc (map task_words plan.tasks) (map step_words plan.steps) (step_words step ∷ [])) in
-    subst (Grows siblings limit plan (step_words step)) same.1 (record { is = grown; lines = lines })
+step_grows : (siblings limit : ℕ) (plan : Contents) (step : Step) → IsPlan siblings limit plan → IsStepText siblings step → step_check plan ≡ Ok tt → Grows siblings limit plan (step_words step) (with_step step plan)
+step_grows siblings limit plan step is fits checked =
+    let few = (each_step_check plan).all tt checked in
+    record {
+      is = record {
+        tasks = is.tasks;
+        distinct = is.distinct;
+        led = is.led;
+        few_tasks = is.few_tasks;
+        steps = All-push (IsStepText siblings) plan.steps step is.steps fits;
+        few_steps = omega (arith, length_push plan.steps step);
+      };
+      lines =
+          ap (λ (ls : List (List Word)). map task_words plan.tasks ++ ls) (map-append step_words plan.steps (step ∷ []))
+          ∙ sym (append_assoc (map task_words plan.tasks) (map step_words plan.steps) (step_words step ∷ []));
+    }
 
 -- ---- what is read is spelled so
 
@@ -113,39 +143,39 @@ completes_more siblings limit plan more done words lines grows rest = record {
   lines_are = sym (append_assoc (plan_lines plan) (words ∷ []) lines) ∙ ap (λ (ls : List (List Word)). ls ++ lines) (sym grows.lines) ∙ rest.lines_are;
 }
 
--- nothing stands after the end only in a text that ends there
-end_is : (lines : List (List Word)) → is_end lines ≡ true → lines ≡ ([] ∷ []) ∷ []
-end_is [] h = absurd cc
-end_is ([] ∷ lines) h = absurd cc
-end_is (([] ∷ []) ∷ []) h = refl
-end_is (([] ∷ []) ∷ line ∷ lines) h = absurd cc
-end_is (([] ∷ word ∷ words) ∷ lines) h = absurd cc
-end_is (((byte ∷ word) ∷ words) ∷ lines) h = absurd cc
+-- nothing stands after the end
+each_end : (lines : List (List Word)) → Each (end_of lines) (λ unit. lines ≡ ([] ∷ []) ∷ [])
+each_end [] = each_refused _
+each_end ([] ∷ lines) = each_refused _
+each_end (([] ∷ []) ∷ []) = each_ok _ _ refl
+each_end (([] ∷ []) ∷ line ∷ lines) = each_refused _
+each_end (([] ∷ word ∷ words) ∷ lines) = each_refused _
+each_end (((byte ∷ word) ∷ words) ∷ lines) = each_refused _
 
-by_line : (head : Head) (words : List Word) (lines : List (List Word)) (plan done : Contents) → IsPlan head.siblings head.task_limit plan
-    → ((more : Contents) → IsPlan head.siblings head.task_limit more → plan_of head more lines ≡ Some done → Completes head.siblings head.task_limit more lines done)
-    → (line : Line) → (words ≡ line_words line) × IsLine head.siblings line
-    → match_line line (λ task. with_task head.task_limit task plan >>= λ more. plan_of head more lines) (λ step. with_step step plan >>= λ more. plan_of head more lines) (cond (is_end lines) (Some plan) None) ≡ Some done
-    → Completes head.siblings head.task_limit plan (words ∷ lines) done
-by_line head words lines plan done is rest (forms.Task task) spelled e =
-    bind (with_task head.task_limit task plan) _ done e (λ more first e0.
-    let grows = task_grows head.siblings head.task_limit plan task more is spelled.1 first in
-    completes_more head.siblings head.task_limit plan more done words lines (subst (λ (ws : List Word). Grows head.siblings head.task_limit plan ws more) (sym spelled.0) grows) (rest more grows.is e0))
-by_line head words lines plan done is rest (forms.Step step) spelled e =
-    bind (with_step step plan) _ done e (λ more first e0.
-    let grows = step_grows head.siblings head.task_limit plan step more is spelled.1 first in
-    completes_more head.siblings head.task_limit plan more done words lines (subst (λ (ws : List Word). Grows head.siblings head.task_limit plan ws more) (sym spelled.0) grows) (rest more grows.is e0))
-by_line head words lines plan done is rest forms.End spelled e =
-    let same = cond_some (is_end lines) plan done e in
-    subst (Completes head.siblings head.task_limit plan (words ∷ lines)) same.1
-    (record { is = is; lines_are = rw (spelled.0, end_is lines same.0) refl })
+module _ (head : Head) (words : List Word) (lines : List (List Word)) (plan : Contents) (is : IsPlan head.siblings head.task_limit plan) (rest : (more : Contents) → IsPlan head.siblings head.task_limit more → Each (plan_of head more lines) (Completes head.siblings head.task_limit more lines)) where
+  -- the lines after a line complete what it makes of the plan
+  grown : (line : Line) (more : Contents) → Following head plan words line → Grows head.siblings head.task_limit plan (line_words line) more → Each (plan_of head more lines) (Completes head.siblings head.task_limit plan (words ∷ lines))
+  grown line more follows grows =
+      let here = subst (λ (ws : List Word). Grows head.siblings head.task_limit plan ws more) (sym follows.words_are) grows in
+      record { all = λ done e. completes_more head.siblings head.task_limit plan more done words lines here ((rest more grows.is).all done e) }
 
-pub plan_takes : (head : Head) (lines : List (List Word)) (plan done : Contents) → IsPlan head.siblings head.task_limit plan → plan_of head plan lines ≡ Some done → Completes head.siblings head.task_limit plan lines done
+  by_line : (line : Line) → Following head plan words line → Each (goes_on head plan lines line) (Completes head.siblings head.task_limit plan (words ∷ lines))
+  by_line (forms.Task task) follows =
+      grown (forms.Task task) (with_task task plan) follows (task_grows head.siblings head.task_limit plan task is follows.is.0 follows.is.1 follows.checked)
+  by_line (forms.Step step) follows =
+      grown (forms.Step step) (with_step step plan) follows (step_grows head.siblings head.task_limit plan step is follows.is follows.checked)
+  by_line forms.End follows =
+      each_bind _ _ _ _ (each_end lines) (λ unit ends.
+      each_ok _ _ (record { is = is; lines_are = rw (follows.words_are, ends) refl }))
+
+pub each_plan : (head : Head) (lines : List (List Word)) (plan : Contents) → IsPlan head.siblings head.task_limit plan → Each (plan_of head plan lines) (Completes head.siblings head.task_limit plan lines)
 unfolding plan_of
-plan_takes head [] plan done is e = absurd cc
-plan_takes head (words ∷ lines) plan done is e =
-    bind (line_of head.siblings words) _ done e (λ line first e0.
-    by_line head words lines plan done is (λ more is' e'. plan_takes head lines more done is' e') line (line_takes head.siblings words line first) e0)
+each_plan head [] plan is = each_refused _
+each_plan head (words ∷ lines) plan is =
+    each_bind _ _ _ _ (each_before lines words) (λ ws same.
+    each_bind _ _ _ _ (each_follower head plan ws) (λ line follows.
+    let here = subst (λ (w : List Word). Following head plan w line) same follows in
+    by_line head words lines plan is (λ more is'. each_plan head lines more is') line here))
 
 -- ---- what is spelled so is read
 
@@ -159,35 +189,64 @@ element_after {X = X} P all prefix more x is each =
 regrouped : {X : Type 0} (all prefix more : List X) (x : X) → all ≡ prefix ++ x ∷ more → all ≡ (prefix ++ x ∷ []) ++ more
 regrouped all prefix more x is = is ∙ sym (append_assoc prefix (x ∷ []) more)
 
-module _ (head : Head) (all : Contents) (few : head.siblings < 256) (is : IsPlan head.siblings head.task_limit all) where
-  tasks_again : (more tasks : List TaskSpec) (lines : List (List Word)) → all.tasks ≡ tasks ++ more →
-      plan_of head (record { tasks = tasks; steps = [] }) (map task_words more ++ lines) ≡ plan_of head (record { tasks = all.tasks; steps = [] }) lines
-  unfolding plan_of with_task
-  tasks_again [] tasks lines e = ap (λ (ts : List TaskSpec). plan_of head (record { tasks = ts; steps = [] }) lines) (sym (e ∙ append-nil tasks))
-  tasks_again (task ∷ more) tasks lines e =
-      let fits = element_after (IsTask head.siblings) all.tasks tasks more task e is.tasks in
-      let len : length all.tasks ≡ length tasks + suc (length more) = ap length e ∙ length-append tasks (task ∷ more) in
-      let room : length tasks < head.task_limit = let few_tasks = is.few_tasks in omega arith in
-      let can = follows_whole head.task_limit task tasks room (distinct_fresh all.tasks tasks more task e is.distinct) (led_test all.tasks tasks more task e is.led) in
-      rw (line_again head.siblings (forms.Task task) few fits, can) (tasks_again more (tasks ++ task ∷ []) lines (regrouped all.tasks tasks more task e))
+-- a list that ends in an element begins with one
+pub has_first : {X : Type 0} (xs : List X) (y : X) (ys : List X) → (first : X) × (more : List X) × (xs ++ y ∷ ys ≡ first ∷ more)
+has_first [] y ys = (y, ys, refl)
+has_first (x ∷ xs) y ys = (x, xs ++ y ∷ ys, refl)
 
-  steps_again : (more steps : List Step) (lines : List (List Word)) → all.steps ≡ steps ++ more →
-      plan_of head (record { tasks = all.tasks; steps = steps }) (map step_words more ++ lines) ≡ plan_of head all lines
-  unfolding plan_of with_step
-  steps_again [] steps lines e = ap (λ (ss : List Step). plan_of head (record { tasks = all.tasks; steps = ss }) lines) (sym (e ∙ append-nil steps))
-  steps_again (step ∷ more) steps lines e =
+-- a line that further lines follow is taken
+line_goes_on : (head : Head) (plan : Contents) (line : Line) (next : List Word) (lines : List (List Word)) → head.siblings < 256 → IsLine head.siblings (has_step plan) line → line_check head.task_limit line plan ≡ Ok tt →
+    plan_of head plan (line_words line ∷ next ∷ lines) ≡ goes_on head plan (next ∷ lines) line
+unfolding plan_of
+line_goes_on head plan line next lines small is checked =
+    rw (few_words line, follower_again head plan line small is checked) refl
+
+module _ (head : Head) (all : Contents) (small : head.siblings < 256) (is : IsPlan head.siblings head.task_limit all) where
+  abbrev kept : Contents → Read Contents
+  kept plan = Ok plan
+
+  -- lines that end in the last two, after which a plan is complete
+  abbrev ends : List (List Word) → List (List Word)
+  ends lines = lines ++ end_lines
+
+  taken : (plan : Contents) (line : Line) (lines : List (List Word)) → IsLine head.siblings (has_step plan) line → line_check head.task_limit line plan ≡ Ok tt → plan_of head plan (line_words line ∷ ends lines) ≡ goes_on head plan (ends lines) line
+  taken plan line lines fits checked =
+      let some = has_first lines end_words (([] ∷ []) ∷ []) in
+      ap (λ (ls : List (List Word)). plan_of head plan (line_words line ∷ ls)) some.2
+      ∙ line_goes_on head plan line some.0 some.1 small fits checked
+      ∙ ap (λ (ls : List (List Word)). goes_on head plan ls line) (sym some.2)
+
+  steps_again : (more steps : List Step) → all.steps ≡ steps ++ more →
+      plan_of head (record { tasks = all.tasks; steps = steps }) (ends (map step_words more)) ≡ Ok all
+  unfolding plan_of
+  steps_again [] steps e =
+      rw (follower_again head (record { tasks = all.tasks; steps = steps }) forms.End small tt refl)
+      (ap (λ (ss : List Step). kept (record { tasks = all.tasks; steps = ss })) (sym (e ∙ append-nil steps)))
+  steps_again (step ∷ more) steps e =
+      let plan : Contents = record { tasks = all.tasks; steps = steps } in
       let fits = element_after (IsStepText head.siblings) all.steps steps more step e is.steps in
       let len : length all.steps ≡ length steps + suc (length more) = ap length e ∙ length-append steps (step ∷ more) in
       let room : length steps < 100000 = let few_steps = is.few_steps in omega arith in
-      rw (line_again head.siblings (forms.Step step) few fits, lt-ltb (length steps) 100000 room) (steps_again more (steps ++ step ∷ []) lines (regrouped all.steps steps more step e))
+      taken plan (forms.Step step) (map step_words more) fits (step_check_again plan room)
+      ∙ steps_again more (steps ++ step ∷ []) (regrouped all.steps steps more step e)
 
-  end_again : plan_of head all end_lines ≡ Some all
-  unfolding plan_of
-  end_again = rw (line_again head.siblings forms.End few tt) refl
+  tasks_again : (more tasks : List TaskSpec) → all.tasks ≡ tasks ++ more →
+      plan_of head (record { tasks = tasks; steps = [] }) (ends (map task_words more ++ map step_words all.steps)) ≡ Ok all
+  tasks_again [] tasks e =
+      ap (λ (ts : List TaskSpec). plan_of head (record { tasks = ts; steps = [] }) (ends (map step_words all.steps))) (sym (e ∙ append-nil tasks))
+      ∙ steps_again all.steps [] refl
+  tasks_again (task ∷ more) tasks e =
+      let plan : Contents = record { tasks = tasks; steps = [] } in
+      let fits = element_after (IsTask head.siblings) all.tasks tasks more task e is.tasks in
+      let len : length all.tasks ≡ length tasks + suc (length more) = ap length e ∙ length-append tasks (task ∷ more) in
+      let room : length tasks < head.task_limit = let few_tasks = is.few_tasks in omega arith in
+      let follows = task_check_again head.task_limit task plan (record {
+        fresh = distinct_fresh all.tasks tasks more task e is.distinct;
+        led = led_test all.tasks tasks more task e is.led;
+        few = room;
+      }) in
+      taken plan (forms.Task task) (map task_words more ++ map step_words all.steps) (fits, refl) follows
+      ∙ tasks_again more (tasks ++ task ∷ []) (regrouped all.tasks tasks more task e)
 
-  pub plan_again : plan_of head (record { tasks = []; steps = [] }) (plan_lines all ++ end_lines) ≡ Some all
-  plan_again =
-      ap (plan_of head (record { tasks = []; steps = [] })) (append_assoc (map task_words all.tasks) (map step_words all.steps) end_lines)
-      ∙ tasks_again all.tasks [] (map step_words all.steps ++ end_lines) refl
-      ∙ steps_again all.steps [] end_lines refl
-      ∙ end_again
+  pub plan_again : plan_of head (record { tasks = []; steps = [] }) (plan_lines all ++ end_lines) ≡ Ok all
+  plan_again = tasks_again all.tasks [] refl

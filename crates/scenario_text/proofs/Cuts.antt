@@ -1,15 +1,17 @@
--- Cuts: where bytes are cut at the first separator.
-use Rattle.std.proofs.Common.{◌≡◌, ℕ, ◌+◌, ◌-◌, Bool, true, false, cond, eqb, ltb, List, [], ◌∷◌, length, take, drop, Option, Some, None, refl, sym, ap, ◌∙◌, arith, inl, inr, take_all, suc, map}
+-- Cuts: where bytes are cut at separators, a text into lines and a line into words.
+use Rattle.std.proofs.Common.{◌≡◌, ℕ, ◌+◌, ◌-◌, ◌<◌, ◌≤◌, Bool, true, false, cond, eqb, ltb, leb, List, [], ◌∷◌, ◌++◌, length, get_or, take, drop, Option, Some, None, Ok, Err, refl, sym, ap, ◌∙◌, arith, inl, inr, take_all, suc, map}
 use Rattle.std.specs.Borrow.{Bor}
-use Rattle.std.specs.Bool.{then_some}
-use Rattle.std.specs.Prelude.{not, is_some}
 use Rattle.std.specs.List.{position_or_len, slice_split, onto_first}
-use Rattle.std.proofs.lemmas.Bool.{false≢true, ne_eqb, cases_lt, lt-ltb, le-ltb}
-use Rattle.std.proofs.lemmas.List.{length-drop}
+use Rattle.std.proofs.Math.ListN.{get_or-map}
+use Rattle.std.proofs.lemmas.Bool.{ne_eqb, lt-leb, cases_lt, lt-ltb, le-ltb, le-leb, cond-true, cond-false}
+use Rattle.std.proofs.lemmas.List.{length-drop, length-take, length-map, map-append, take_more}
 use Rattle.std.proofs.lemmas.List.Splits.{slice_split_none, slice_split_first}
 use Rattle.std.proofs.lemmas.List.Sums.{fails_before_first}
 use Rattle.scenario_text.specs.Words.{Word}
-use Rattle.scenario_text.specs.Reading.{pieces, words_in, lines_in, words_left, line_at, is_end, end_of}
+use Rattle.scenario_text.specs.Reading.{Read, refused, ◌>>=◌, pieces, words_in, lines_in, parts, lent, texts, Reads, Takes, few, line_at, end_of}
+
+abbrev read : {A : Type 0} → A → Read A
+read x = Ok x
 
 -- where the first separator is, as `position` answers
 abbrev pub place_of : ℕ → List ℕ → Option ℕ
@@ -57,16 +59,46 @@ has_piece separator (byte ∷ bytes) =
       | false ↦ record { first = byte ∷ rest.first; more = rest.more; is = ap (onto_first byte) rest.is }
     ]
 
--- no word is left only where no rest of the line is
-pub end_of-words_left : (rest : Option (Bor (List ℕ))) (none : Bool) → is_some rest ≡ not none → then_some none tt ≡ end_of (words_left rest)
-unfolding words_in
-end_of-words_left None true e = refl
-end_of-words_left None false e = absurd (false≢true e)
-end_of-words_left (Some rest) true e = absurd (false≢true (sym e))
-end_of-words_left (Some rest) false e = rw (has_piece 32 rest.now).is refl
+-- ---- the words of a line
+
+module _ (all : List Word) (words : List (Bor Word)) (n : ℕ) (first : texts words ≡ take n all) where
+  -- one more word
+  pub texts_push : (word : Bor Word) → n < length all → word.now ≡ get_or all n word.now → texts (words ++ word ∷ []) ≡ take (n + 1) all
+  texts_push word more is =
+      map-append (λ (w : Bor Word). w.now) words (word ∷ [])
+      ∙ ap (λ (ws : List Word). ws ++ word.now ∷ []) first
+      ∙ ap (λ (w : Word). take n all ++ w ∷ []) is
+      ∙ sym (take_more all n word.now more)
+
+  count : length words ≡ length (take n all)
+  count = sym (length-map words (λ (w : Bor Word). w.now)) ∙ ap length first
+
+  -- a word too many
+  pub too_many : n < length all → length words ≡ 15 → few all ≡ refused
+  too_many more full = cond-false (leb (length all) 15) (Ok all) refused (lt-leb _ _ (omega (arith, count, length-take n all)))
+
+  -- no word is left
+  pub all_words : n ≡ length all → length words ≤ 15 → few all ≡ Ok (texts words)
+  all_words done fits =
+      cond-true (leb (length all) 15) (Ok all) refused (le-leb _ _ (omega (arith, count, length-take n all)))
+      ∙ ap read (sym (first ∙ take_all _ _ (omega arith)))
+
+-- words are seen alike where they are lent
+pub lent_is : (words : List (Bor Word)) → lent words ≡ parts (texts words)
+lent_is words = λ i. record {
+  count = sym (length-map words (λ (w : Bor Word). w.now)) i;
+  at = λ k. sym (get_or-map (λ (w : Bor Word). w.now) words k (record { ref_ptr = (0, 0); now = [] })) i;
+}
+
+-- ---- the lines of a text
+
+-- what a function read, with the rest that it left
+pub Takes-then : {X Y A : Type 0} (view : X → Y) (r : Read X) (read : Read Y) (rest : List A) → Reads view r read → Takes view r rest (read >>= λ y. Ok (y, rest))
+Takes-then view (Ok x) read rest h = rw h refl
+Takes-then view (Err refusal) read rest h = rw h refl
 
 -- the words of the first line, and the lines after it
-pub line_at-lines_in : (text line rest : List ℕ) → pieces 10 text ≡ line ∷ pieces 10 rest → line_at (lines_in text) ≡ Some (words_in line, lines_in rest)
+pub line_at-lines_in : (text line rest : List ℕ) → pieces 10 text ≡ line ∷ pieces 10 rest → line_at (lines_in text) ≡ (few (words_in line) >>= λ words. Ok (words, lines_in rest))
 unfolding lines_in
 line_at-lines_in text line rest cut =
     let more = has_piece 10 rest in
@@ -82,20 +114,20 @@ not_blank byte line =
       | false ↦ λ e. let whole : (byte ∷ rest.first) ∷ rest.more ≡ [] ∷ [] = ap (onto_first byte) (sym rest.is) ∙ e in absurd cc
     ]
 
-goes_on : (words : List Word) (lines : List (List Word)) → (words ≡ [] ∷ [] → ⊥) → is_end (words ∷ lines) ≡ false
+goes_on : (words : List Word) (lines : List (List Word)) → (words ≡ [] ∷ [] → ⊥) → end_of (words ∷ lines) ≡ refused
 goes_on [] lines h = refl
 goes_on ([] ∷ []) lines h = absurd (h refl)
 goes_on ([] ∷ word ∷ words) lines h = refl
 goes_on ((byte ∷ word) ∷ words) lines h = refl
 
 -- nothing is left only where no byte is
-pub is_end-lines_in : (text : List ℕ) → eqb (length text) 0 ≡ is_end (lines_in text)
+pub end_of-lines_in : (text : List ℕ) → end_of (lines_in text) ≡ cond (eqb (length text) 0) (Ok tt) refused
 unfolding lines_in words_in pieces
-is_end-lines_in [] = refl
-is_end-lines_in (byte ∷ text) =
+end_of-lines_in [] = refl
+end_of-lines_in (byte ∷ text) =
     let rest = has_piece 10 text in
-    ne_eqb (suc (length text)) 0 (λ e. omega arith)
-    ∙ elim (eqb byte 10) as (λ b. false ≡ is_end (map words_in (cond b ([] ∷ slice_split (λ x. eqb x 10) text) (onto_first byte (slice_split (λ x. eqb x 10) text))))) [
+    elim (eqb byte 10) as (λ b. end_of (map words_in (cond b ([] ∷ slice_split (λ x. eqb x 10) text) (onto_first byte (slice_split (λ x. eqb x 10) text)))) ≡ refused) [
       | true ↦ rw rest.is refl
-      | false ↦ rw rest.is (sym (goes_on (words_in (byte ∷ rest.first)) (map words_in rest.more) (not_blank byte rest.first)))
+      | false ↦ rw rest.is (goes_on (words_in (byte ∷ rest.first)) (map words_in rest.more) (not_blank byte rest.first))
     ]
+    ∙ sym (cond-false (eqb (suc (length text)) 0) (Ok tt) refused (ne_eqb (suc (length text)) 0 (λ e. omega arith)))

@@ -1,14 +1,15 @@
 -- Heads: the first three lines are read as the head that they spell, and no others are.
-use Rattle.std.proofs.Common.{◌≡◌, ℕ, List, [], ◌∷◌, ◌++◌, Some, refl, sym, ap, subst, ◌∙◌, arith}
+use Rattle.std.proofs.Common.{◌≡◌, ℕ, List, [], ◌∷◌, ◌++◌, Ok, refl, sym, ap, ◌∙◌, arith}
 use Rattle.std.specs.Prelude.{decimal, codes}
 use Rattle.std.proofs.lemmas.Fmt.{decimal_digit}
 use Rattle.cs_types.specs.Scenario.{IsWithin}
 use Rattle.scenario_text.specs.declared.head.Head.{Head}
 use Rattle.scenario_text.specs.Words.{Word}
 use Rattle.scenario_text.specs.Text.{version_words}
-use Rattle.scenario_text.specs.Reading.{keyword_at, number_at, end_of, line_at, version_of, siblings_of, head_of, head_at}
-use Rattle.scenario_text.proofs.Fields.{bind, some_is, keyword_takes, keyword_again, number_at_takes, number_at_again, end_takes}
-use Rattle.scenario_text.proofs.Plans.{first_line}
+use Rattle.scenario_text.specs.Reading.{parts, reading_named, version_of, siblings_of, limits_of, head_of, head_at}
+use Rattle.scenario_text.proofs.Numbers.{number_again}
+use Rattle.scenario_text.proofs.Readings.{Each, each_ok, each_refused, each_bind, each_counted, each_number}
+use Rattle.scenario_text.proofs.Plans.{each_line_at}
 
 -- the words of the second line
 abbrev siblings_line : ℕ → List Word
@@ -29,87 +30,75 @@ pub record IsHead (head : Head) : Type 0 where
   pub cookie_limit : IsWithin 1 256 head.cookie_limit
   pub user_top : IsWithin 8192 9223372036854775807 head.user_top
 
-version_takes : (words : List Word) (x : Unit {0}) → version_of words ≡ Some x → words ≡ version_words
+each_version : (words : List Word) → Each (version_of (parts words)) (λ unit. words ≡ version_words)
 unfolding version_of
-version_takes words x e =
-    bind (keyword_at (codes "coresched") words) _ x e (λ name t0 e0.
-    bind (number_at 1 1 name.1) _ x e0 (λ version t1 e1.
-    let w0 = keyword_takes (codes "coresched") words name t0 in
-    let w1 = number_at_takes 1 1 name.1 version (omega arith) t1 in
-    let w2 = end_takes version.1 x e1 in
-    let one : version.0 ≡ 1 = omega (arith, w1.1) in
-    let spelled = decimal_digit 1 (omega arith) in
-    w0 ∙ ap (λ (ws : List Word). codes "coresched" ∷ ws) (w1.0 ∙ rw (one, spelled, w2) refl)))
+each_version words =
+    each_counted (λ ws unit. ws ≡ version_words) words 1 _ _ (
+      each_bind _ _ _ _ (each_number 1 1 ((parts words).at 1) (omega arith)) (λ n w.
+          let one : n ≡ 1 = omega (arith, w.1) in
+          each_ok _ _ (ap (λ (v : Word). codes "coresched" ∷ v ∷ []) (w.0 ∙ ap decimal one ∙ decimal_digit 1 (omega arith)))),
+      tt,
+    ) (each_refused _)
 
-version_again : version_of version_words ≡ Some tt
-unfolding version_of
-version_again =
-    rw (keyword_again (codes "coresched"), ← decimal_digit 1 (omega arith), number_at_again 1 1 1 [] (omega arith) (omega arith, omega arith)) refl
+version_again : version_of (parts version_words) ≡ Ok tt
+unfolding version_of reading_named
+version_again = rw (← decimal_digit 1 (omega arith), number_again 1 1 1 (omega arith) (omega arith, omega arith)) refl
 
-siblings_takes : (words : List Word) (siblings : ℕ) → siblings_of words ≡ Some siblings → (words ≡ siblings_line siblings) × IsWithin 1 8 siblings
+each_siblings : (words : List Word) → Each (siblings_of (parts words)) (λ siblings. (words ≡ siblings_line siblings) × IsWithin 1 8 siblings)
 unfolding siblings_of
-siblings_takes words siblings e =
-    bind (keyword_at (codes "siblings") words) _ siblings e (λ name t0 e0.
-    bind (number_at 1 8 name.1) _ siblings e0 (λ count t1 e1.
-    bind (end_of count.1) _ siblings e1 (λ end t2 e2.
-    let w0 = keyword_takes (codes "siblings") words name t0 in
-    let w1 = number_at_takes 1 8 name.1 count (omega arith) t1 in
-    let w2 = end_takes count.1 end t2 in
-    let whole : words ≡ siblings_line count.0 = cc in
-    subst (λ (n : ℕ). (words ≡ siblings_line n) × IsWithin 1 8 n) (some_is count.0 siblings e2) (whole, w1.1))))
+each_siblings words =
+    each_counted (λ ws siblings. (ws ≡ siblings_line siblings) × IsWithin 1 8 siblings) words 1 _ _ (
+      record {
+        all = λ n e.
+            let w = (each_number 1 8 ((parts words).at 1) (omega arith)).all n e in
+            (ap (λ (c : Word). codes "siblings" ∷ c ∷ []) w.0, w.1);
+      },
+      tt,
+    ) (each_refused _)
 
-siblings_again : (siblings : ℕ) → IsWithin 1 8 siblings → siblings_of (siblings_line siblings) ≡ Some siblings
-unfolding siblings_of
-siblings_again siblings is = rw (keyword_again (codes "siblings"), number_at_again 1 8 siblings [] (omega arith) is) refl
+siblings_again : (siblings : ℕ) → IsWithin 1 8 siblings → siblings_of (parts (siblings_line siblings)) ≡ Ok siblings
+unfolding siblings_of reading_named
+siblings_again siblings is = number_again 1 8 siblings (omega arith) is
 
-limits_take : (siblings : ℕ) (words : List Word) (head : Head) → IsWithin 1 8 siblings → head_of siblings words ≡ Some head → (words ≡ limits_line head) × (head.siblings ≡ siblings) × IsHead head
+-- the third line, in a core of so many siblings
+abbrev ReadsLimits : ℕ → List Word → Head → Type 0
+ReadsLimits siblings words head = (words ≡ limits_line head) × (head.siblings ≡ siblings) × IsHead head
+
+each_limits : (siblings : ℕ) (tasks cookies top : Word) → IsWithin 1 8 siblings → Each (limits_of siblings tasks cookies top) (ReadsLimits siblings (codes "limits" ∷ tasks ∷ cookies ∷ top ∷ []))
+unfolding limits_of
+each_limits siblings tasks cookies top is =
+    each_bind _ _ _ _ (each_number 1 256 tasks (omega arith)) (λ t w0.
+    each_bind _ _ _ _ (each_number 1 256 cookies (omega arith)) (λ c w1.
+    each_bind _ _ _ _ (each_number 8192 9223372036854775807 top (omega arith)) (λ u w2.
+    each_ok _ _ ((cc), refl, record { siblings = is; task_limit = w0.1; cookie_limit = w1.1; user_top = w2.1 }))))
+
+each_head_of : (siblings : ℕ) (words : List Word) → IsWithin 1 8 siblings → Each (head_of siblings (parts words)) (ReadsLimits siblings words)
 unfolding head_of
-limits_take siblings words head few e =
-    bind (keyword_at (codes "limits") words) _ head e (λ name t0 e0.
-    bind (number_at 1 256 name.1) _ head e0 (λ tasks t1 e1.
-    bind (number_at 1 256 tasks.1) _ head e1 (λ cookies t2 e2.
-    bind (number_at 8192 9223372036854775807 cookies.1) _ head e2 (λ top t3 e3.
-    bind (end_of top.1) _ head e3 (λ end t4 e4.
-    let w0 = keyword_takes (codes "limits") words name t0 in
-    let w1 = number_at_takes 1 256 name.1 tasks (omega arith) t1 in
-    let w2 = number_at_takes 1 256 tasks.1 cookies (omega arith) t2 in
-    let w3 = number_at_takes 8192 9223372036854775807 cookies.1 top (omega arith) t3 in
-    let w4 = end_takes top.1 end t4 in
-    let made : Head = record { siblings = siblings; task_limit = tasks.0; cookie_limit = cookies.0; user_top = top.0 } in
-    let whole : words ≡ limits_line made = cc in
-    let is : IsHead made = record { siblings = few; task_limit = w1.1; cookie_limit = w2.1; user_top = w3.1 } in
-    subst (λ (h : Head). (words ≡ limits_line h) × (h.siblings ≡ siblings) × IsHead h) (some_is made head e4) (whole, refl, is))))))
+each_head_of siblings words is =
+    let at = (parts words).at in
+    each_counted (ReadsLimits siblings) words 3 _ _ (each_limits siblings (at 1) (at 2) (at 3) is, tt) (each_refused _)
 
-limits_again : (head : Head) → IsHead head → head_of head.siblings (limits_line head) ≡ Some head
-unfolding head_of
+limits_again : (head : Head) → IsHead head → head_of head.siblings (parts (limits_line head)) ≡ Ok head
+unfolding head_of reading_named limits_of
 limits_again head is =
     rw (
-      keyword_again (codes "limits"),
-      number_at_again 1 256 head.task_limit _ (omega arith) is.task_limit,
-      number_at_again 1 256 head.cookie_limit _ (omega arith) is.cookie_limit,
-      number_at_again 8192 9223372036854775807 head.user_top [] (omega arith) is.user_top,
+      number_again 1 256 head.task_limit (omega arith) is.task_limit,
+      number_again 1 256 head.cookie_limit (omega arith) is.cookie_limit,
+      number_again 8192 9223372036854775807 head.user_top (omega arith) is.user_top,
     ) refl
 
-pub head_takes : (lines : List (List Word)) (x : Head × List (List Word)) → head_at lines ≡ Some x → (lines ≡ head_lines x.0 ++ x.1) × IsHead x.0
+pub each_head : (lines : List (List Word)) → Each (head_at lines) (λ x. (lines ≡ head_lines x.0 ++ x.1) × IsHead x.0)
 unfolding head_at
-head_takes lines x e =
-    bind (line_at lines) _ x e (λ first t0 e0.
-    bind (version_of first.0) _ x e0 (λ version t1 e1.
-    bind (line_at first.1) _ x e1 (λ second t2 e2.
-    bind (siblings_of second.0) _ x e2 (λ siblings t3 e3.
-    bind (line_at second.1) _ x e3 (λ third t4 e4.
-    bind (head_of siblings third.0) _ x e4 (λ head t5 e5.
-    let l0 = first_line lines first.0 first.1 t0 in
-    let w0 = version_takes first.0 version t1 in
-    let l1 = first_line first.1 second.0 second.1 t2 in
-    let w1 = siblings_takes second.0 siblings t3 in
-    let l2 = first_line second.1 third.0 third.1 t4 in
-    let w2 = limits_take siblings third.0 head w1.1 t5 in
+each_head lines =
+    each_bind _ _ _ _ (each_line_at lines) (λ first l0.
+    each_bind _ _ _ _ (each_version first.0) (λ version w0.
+    each_bind _ _ _ _ (each_line_at first.1) (λ second l1.
+    each_bind _ _ _ _ (each_siblings second.0) (λ siblings w1.
+    each_bind _ _ _ _ (each_line_at second.1) (λ third l2.
+    each_bind _ _ _ _ (each_head_of siblings third.0 w1.1) (λ head w2.
     let whole : lines ≡ version_words ∷ siblings_line siblings ∷ limits_line head ∷ third.1 = cc (w1.0, w2.0) in
-    let same : lines ≡ head_lines head ++ third.1 = whole ∙ ap (λ (n : ℕ). version_words ∷ siblings_line n ∷ limits_line head ∷ third.1) (sym w2.1) in
-    subst (λ (p : Head × List (List Word)). (lines ≡ head_lines p.0 ++ p.1) × IsHead p.0) (some_is (head, third.1) x e5) (same, w2.2)))))))
+    each_ok _ _ (whole ∙ ap (λ (n : ℕ). version_words ∷ siblings_line n ∷ limits_line head ∷ third.1) (sym w2.1), w2.2)))))))
 
-pub head_again : (head : Head) (line : List Word) (lines : List (List Word)) → IsHead head → head_at (head_lines head ++ line ∷ lines) ≡ Some (head, line ∷ lines)
+pub head_again : (head : Head) (line : List Word) (lines : List (List Word)) → IsHead head → head_at (head_lines head ++ line ∷ lines) ≡ Ok (head, line ∷ lines)
 unfolding head_at
-head_again head line lines is =
-    rw (version_again, siblings_again head.siblings is.siblings, limits_again head is) refl
+head_again head line lines is = rw (version_again, siblings_again head.siblings is.siblings, limits_again head is) refl

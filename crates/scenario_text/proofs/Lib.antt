@@ -1,8 +1,10 @@
 pub mod Numbers
 pub mod Cuts
-pub mod Plans
-pub mod Fields
+pub mod Readings
+pub mod Tasks
+pub mod Steps
 pub mod Forms
+pub mod Plans
 pub mod Heads
 pub mod Followers
 pub mod Building

@@ -1,20 +1,17 @@
 -- Numbers: a word that is read as a number is the number's decimal, and that decimal is read as the number.
-use Rattle.std.proofs.Common.{◌≡◌, ◌≢◌, ℕ, suc, ◌^◌, ◌<◌, ◌≤◌, true, false, cond, eqb, leb, List, [], ◌∷◌, length, get_or, Some, None, Result, Ok, Err, refl, sym, ap, subst, ◌∙◌, arith, inl, inr}
-use Rattle.std.specs.Prelude.{decimal, ◌&&◌, ◌||◌, not, MatchResult, is_ok}
-use Rattle.std.specs.Borrow.{Bor}
-use Rattle.std.specs.Result.{result_ok}
+use Rattle.std.proofs.Common.{◌≡◌, ◌≢◌, ℕ, suc, ◌^◌, ◌<◌, ◌≤◌, Bool, true, false, cond, eqb, leb, [], ◌∷◌, length, get_or, Result, Ok, Err, refl, sym, ap, subst, ◌∙◌, arith, inl, inr}
+use Rattle.std.specs.Prelude.{decimal, ◌&&◌, ◌||◌, not}
 use Rattle.std.specs.Char.{is_ascii_digit}
 use Rattle.std.specs.Str.{all_ascii_digits, IsUtf8}
 use Rattle.std.specs.Str.Parse.{digits_value, ParsesUnsigned}
 use Rattle.std.proofs.lemmas.Bool.{cases_eq, and_parts, and_from, leb-true, le-leb, cond-true, cond-false, false_from_ne_true, false≢true, both_ways}
 use Rattle.std.proofs.lemmas.Bool.Decides.{nat_tests}
-use Rattle.std.proofs.lemmas.Option.{cond_some}
 use Rattle.std.proofs.lemmas.Str.{IsUtf8-from_ascii}
 use Rattle.std.proofs.lemmas.Str.Parse.{IsNumeralModel, numerals_by_value, tells_all_ascii_digits, digit_at, parse_plain}
 use Rattle.std.proofs.lemmas.Fmt.{decimal_digit, decimal_is_IsNumeral, first_decimal, decimal-digits_value, IsAscii-from_digits}
 use Rattle.cs_types.specs.Scenario.{IsWithin}
 use Rattle.scenario_text.specs.Words.{Word}
-use Rattle.scenario_text.specs.Reading.{is_canonical, is_number, number_of}
+use Rattle.scenario_text.specs.Reading.{Read, refused, is_canonical, is_number, number_of}
 
 -- the words that `parse` reads
 digits_model : IsNumeralModel (λ ds. all_ascii_digits ds ≡ true) (digits_value 10)
@@ -52,6 +49,18 @@ decimal_canonical n fits =
 
 -- ---- numbers from low to high
 
+abbrev pub taken : {A : Type 0} → A → Read A
+taken x = Ok x
+
+-- a choice of something or nothing was something
+pub kept : {A : Type 0} (b : Bool) (r : Read A) (x : A) → cond b r refused ≡ Ok x → (b ≡ true) × (r ≡ Ok x)
+kept true r x e = (refl, e)
+kept false r x e = absurd cc
+
+pub taken_is : {A : Type 0} (b : Bool) (x y : A) → cond b (taken x) refused ≡ Ok y → (b ≡ true) × (x ≡ y)
+taken_is true x y e = (refl, cc)
+taken_is false x y e = absurd cc
+
 record IsNumber (low high : ℕ) (word : Word) : Type 0 where
   canonical : is_canonical word ≡ true
   digits : all_ascii_digits word ≡ true
@@ -72,17 +81,17 @@ number_whole low high word h =
     (and_from (is_canonical word) (all_ascii_digits word) h.canonical h.digits) (le-leb _ _ h.from)) (le-leb _ _ h.to)
 
 -- what is read is spelled so
-pub number_takes : (low high : ℕ) (word : Word) (n : ℕ) → high < 2 ^ 64 → number_of low high word ≡ Some n → (word ≡ decimal n) × IsWithin low high n
+pub number_takes : (low high : ℕ) (word : Word) (n : ℕ) → high < 2 ^ 64 → number_of low high word ≡ Ok n → (word ≡ decimal n) × IsWithin low high n
 unfolding number_of
 number_takes low high word n small h =
-    let read = cond_some (is_number low high word) (digits_value 10 word) n h in
+    let read = taken_is (is_number low high word) (digits_value 10 word) n h in
     let parts = number_parts low high word read.0 in
     let first = canonical word parts.canonical in
     let spelled = decimal-digits_value digits_model word parts.digits first.some first.zero_alone (omega arith) in
     subst (λ (v : ℕ). (word ≡ decimal v) × IsWithin low high v) read.1 (sym spelled, (parts.from, parts.to))
 
 -- what is spelled so is read
-pub number_again : (low high n : ℕ) → high < 2 ^ 64 → IsWithin low high n → number_of low high (decimal n) ≡ Some n
+pub number_again : (low high n : ℕ) → high < 2 ^ 64 → IsWithin low high n → number_of low high (decimal n) ≡ Ok n
 unfolding number_of
 number_again low high n small within =
     let numeral = decimal_is_IsNumeral n (omega arith) in
@@ -93,40 +102,36 @@ number_again low high n small within =
       from = omega arith;
       to = omega arith;
     }) in
-    cond-true (is_number low high (decimal n)) (Some (digits_value 10 (decimal n))) None is_one ∙ ap Some same
+    cond-true (is_number low high (decimal n)) (Ok (digits_value 10 (decimal n))) refused is_one ∙ ap taken same
 
 -- ---- what the code finds
 
-no_number : (low high : ℕ) (word : Word) → (IsNumber low high word → ⊥) → number_of low high word ≡ None
+no_number : (low high : ℕ) (word : Word) → (IsNumber low high word → ⊥) → number_of low high word ≡ refused
 unfolding number_of
-no_number low high word refused =
-    cond-false (is_number low high word) (Some (digits_value 10 word)) None
-    (false_from_ne_true (is_number low high word) (λ h. refused (number_parts low high word h)))
+no_number low high word fails =
+    cond-false (is_number low high word) (Ok (digits_value 10 word)) refused
+    (false_from_ne_true (is_number low high word) (λ h. fails (number_parts low high word h)))
 
-pub not_canonical : (low high : ℕ) (word : Word) → is_canonical word ≡ false → number_of low high word ≡ None
+pub not_canonical : (low high : ℕ) (word : Word) → is_canonical word ≡ false → number_of low high word ≡ refused
 not_canonical low high word fails = no_number low high word (λ h. both_ways (is_canonical word) fails h.canonical)
 
 -- bytes that are no text are no digits
-pub not_text : {T E : Type 0} (low high : ℕ) (word : Word) (r : Result T E) (P : T → Type 0) (Q : E → Type 0) → MatchResult r P (λ e. ¬ (IsUtf8 word) × Q e) → false ≡ is_ok r → number_of low high word ≡ None
-not_text low high word (Ok x) P Q h e = absurd (false≢true e)
-not_text low high word (Err x) P Q h e = no_number low high word (λ parts. h.0 (IsUtf8-from_ascii word (IsAscii-from_digits word (digits_model.to word parts.digits))))
+pub not_text : (low high : ℕ) (word : Word) → ¬ (IsUtf8 word) → number_of low high word ≡ refused
+not_text low high word h =
+    no_number low high word (λ parts. h (IsUtf8-from_ascii word (IsAscii-from_digits word (digits_model.to word parts.digits))))
 
-pub text_is : {E : Type 0} (word : Word) (text : Bor (List ℕ)) (r : Result (Bor (List ℕ)) E) (Q : E → Type 0) → MatchResult r (λ s. (s.now ≡ word) × IsUtf8 word) Q → Some text ≡ result_ok r → text.now ≡ word
-text_is word text (Ok x) Q h e = let same : text ≡ x = cc in ap (λ (b : Bor (List ℕ)). b.now) same ∙ h.0
-text_is word text (Err x) Q h e = absurd cc
-
-pub not_parsed : {E : Type 0} (low high : ℕ) (word : Word) (r : Result ℕ E) → high < 2 ^ 64 → is_canonical word ≡ true → ParsesUnsigned 64 10 word r → false ≡ is_ok r → number_of low high word ≡ None
-not_parsed low high word (Ok x) small first h e = absurd (false≢true e)
-not_parsed low high word (Err x) small first h e =
+pub not_parsed : {E : Type 0} (low high : ℕ) (word : Word) (e : E) → high < 2 ^ 64 → is_canonical word ≡ true → ParsesUnsigned 64 10 word (Err e) → number_of low high word ≡ refused
+not_parsed low high word e small first h =
     let begins = canonical word first in
-    no_number low high word (λ parts. parse_plain digits_model 64 word (Err x) h begins.unsigned (parts.digits, begins.some, omega arith))
+    no_number low high word (λ parts. parse_plain digits_model 64 word (Err e) h begins.unsigned (parts.digits, begins.some, omega arith))
 
-pub parsed : {E : Type 0} (low high : ℕ) (word : Word) (n : ℕ) (r : Result ℕ E) → is_canonical word ≡ true → ParsesUnsigned 64 10 word r → Some n ≡ result_ok r → number_of low high word ≡ cond (leb low n && leb n high) (Some n) None
+abbrev known : ℕ → Result ℕ (Unit {0})
+known n = Ok n
+
+pub parsed : (low high : ℕ) (word : Word) (n : ℕ) → is_canonical word ≡ true → ParsesUnsigned 64 10 word (known n) → number_of low high word ≡ cond (leb low n && leb n high) (Ok n) refused
 unfolding number_of
-parsed {E = E} low high word n (Ok x) first h e =
+parsed low high word n first h =
     let begins = canonical word first in
-    let same : n ≡ x = cc in
-    let read = parse_plain digits_model {E = E} 64 word (Ok x) h begins.unsigned in
-    let value : digits_value 10 word ≡ n = sym (same ∙ read.1) in
+    let read = parse_plain digits_model 64 word (known n) h begins.unsigned in
+    let value : digits_value 10 word ≡ n = sym read.1 in
     rw (first, read.0.0, value) refl
-parsed low high word n (Err x) first h e = absurd cc

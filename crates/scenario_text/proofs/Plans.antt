@@ -1,76 +1,67 @@
 -- Plans: what each line does to the plan, as the loop over lines meets it.
-use Rattle.std.proofs.Common.{◌≡◌, cond, List, [], ◌∷◌, Option, Some, None, Ok, Err, refl, sym, ap}
-use Rattle.std.specs.Option.{ok_or}
-use Rattle.cs_types.specs.declared.task.TaskSpec.{TaskSpec}
-use Rattle.cs_types.specs.declared.event.Step.{Step}
+use Rattle.std.proofs.Common.{◌≡◌, ◌<◌, leb, List, [], ◌∷◌, length, Ok, Err, refl, sym, ap, ◌∙◌, arith}
 use Rattle.scenario_text.specs.declared.fault.BadKind.TheVariants.{Unbuilt}
-use Rattle.scenario_text.specs.declared.fault.ReadFault.{ReadFault}
-use Rattle.scenario_text.specs.declared.fault.ReadFault.TheVariants.{Bad, OutOfMemory}
+use Rattle.scenario_text.specs.declared.fault.ReadFault.TheVariants.{Bad}
+use Rattle.scenario_text.specs.declared.fault.Refused.{Refused}
 use Rattle.scenario_text.specs.declared.head.Head.{Head}
 use Rattle.scenario_text.specs.declared.line.Line.{Line}
-use Rattle.scenario_text.specs.declared.line.Line.TheVariants as forms
 use Rattle.scenario_text.specs.Words.{Word}
-use Rattle.scenario_text.specs.Reading.{◌>>=◌, Fails, Contents, line_at, line_of, is_end, match_line, with_task, with_step, plan_of}
+use Rattle.scenario_text.specs.Reading.{◌>>=◌, Read, refused, Fails, Contents, before, line_at, end_of, match_line, follower_of, next_of, with_task, with_step, plan_of}
+use Rattle.scenario_text.proofs.Readings.{Each, each_ok, each_refused, each_any, each_bind, each_when}
 
--- the value that `ok_or` was given
-pub given : {A E : Type 0} (o : Option A) (e : E) (x : A) → Ok x ≡ ok_or o e → o ≡ Some x
-given None e x h = absurd cc
-given (Some y) e x h = let same : x ≡ y = cc in ap Some (sym same)
+-- what stands before further lines is read as it stands
+pub each_before : (lines : List (List Word)) (words : List Word) → Each (before lines words) (λ ws. ws ≡ words)
+each_before [] words = each_refused _
+each_before (next ∷ lines) words = each_when (leb (length words) 15) _ _ (λ small. each_ok _ _ refl)
 
-pub not_given : {A E : Type 0} (o : Option A) (e d : E) → Err d ≡ ok_or o e → (o ≡ None) × (d ≡ e)
-not_given None e d h = (refl, cc)
-not_given (Some y) e d h = absurd cc
+pub each_line_at : (lines : List (List Word)) → Each (line_at lines) (λ x. lines ≡ x.0 ∷ x.1)
+each_line_at [] = each_refused _
+each_line_at (words ∷ lines) =
+    each_bind _ _ _ _ (each_before lines words) (λ ws same. each_ok _ _ (ap (λ (w : List Word). w ∷ lines) (sym same)))
 
-pub first_line : (lines : List (List Word)) (words : List Word) (rest : List (List Word)) → line_at lines ≡ Some (words, rest) → lines ≡ words ∷ rest
-first_line [] words rest h = absurd cc
-first_line (tail ∷ []) words rest h = absurd cc
-first_line (line ∷ next ∷ more) words rest h = let same : (line, next ∷ more) ≡ (words, rest) = cc in ap (λ (p : List Word × List (List Word)). p.0 ∷ p.1) same
+-- what is done with a line after a plan
+abbrev pub goes_on : Head → Contents → List (List Word) → Line → Read Contents
+goes_on head plan lines line =
+    match_line line
+    (λ task. plan_of head (with_task task plan) lines)
+    (λ step. plan_of head (with_step step plan) lines)
+    (end_of lines >>= λ end. Ok plan)
 
--- what a line does: what is read, and what it is
-module _ (head : Head) (plan : Contents) (lines : List (List Word)) (words : List Word) (rest : List (List Word)) (next : line_at lines ≡ Some (words, rest)) where
-  pub plan_of-bad : line_of head.siblings words ≡ None → plan_of head plan lines ≡ None
-  unfolding plan_of
-  plan_of-bad none = rw (first_line lines words rest next, none) refl
+abbrev with_rest : {X : Type 0} → List (List Word) → X → Read (X × List (List Word))
+with_rest lines x = Ok (x, lines)
 
-  pub plan_of-task : (task : TaskSpec) → line_of head.siblings words ≡ Some (forms.Task task) →
-      plan_of head plan lines ≡ (with_task head.task_limit task plan >>= λ more. plan_of head more rest)
-  unfolding plan_of
-  plan_of-task task is = rw (first_line lines words rest next, is) refl
+-- one line is taken
+pub plan_of-next : (head : Head) (plan : Contents) (lines : List (List Word)) →
+    plan_of head plan lines ≡ (next_of head plan lines >>= λ x. goes_on head plan x.1 x.0)
+unfolding plan_of next_of
+plan_of-next head plan [] = refl
+plan_of-next head plan (words ∷ lines) = taken (before lines words) where
+  after : (read : Read Line) → (read >>= goes_on head plan lines) ≡ (read >>= with_rest lines >>= λ x. goes_on head plan x.1 x.0)
+  after (Ok line) = refl
+  after (Err refusal) = refl
 
-  pub plan_of-step : (step : Step) → line_of head.siblings words ≡ Some (forms.Step step) →
-      plan_of head plan lines ≡ (with_step step plan >>= λ more. plan_of head more rest)
-  unfolding plan_of
-  plan_of-step step is = rw (first_line lines words rest next, is) refl
+  taken : (read : Read (List Word)) →
+      (read >>= λ ws. follower_of head plan ws >>= goes_on head plan lines)
+      ≡ (read >>= with_rest lines >>= (λ t. follower_of head plan t.0 >>= with_rest t.1) >>= λ x. goes_on head plan x.1 x.0)
+  taken (Ok ws) = after (follower_of head plan ws)
+  taken (Err refusal) = refl
 
-  pub plan_of-end : line_of head.siblings words ≡ Some forms.End → plan_of head plan lines ≡ cond (is_end rest) (Some plan) None
-  unfolding plan_of
-  plan_of-end is = rw (first_line lines words rest next, is) refl
+module _ (head : Head) (plan : Contents) (lines : List (List Word)) where
+  -- the next line is taken
+  pub plan_of-taken : (line : Line) (rest : List (List Word)) → next_of head plan lines ≡ Ok (line, rest) → plan_of head plan lines ≡ goes_on head plan rest line
+  plan_of-taken line rest e = plan_of-next head plan lines ∙ ap (λ (read : Read (Line × List (List Word))). read >>= λ x. goes_on head plan x.1 x.0) e
 
--- a fault of a step is one of the whole
-pub Fails-bind : {A B : Type 0} (fault : ReadFault) (o : Option A) (f : A → Option B) → Fails fault o → Fails fault (o >>= f)
-Fails-bind OutOfMemory o f h = tt
-Fails-bind (Bad line kind) o f h = (rw h.0 refl, h.1, h.2)
+  -- the next line is refused
+  pub plan_of-refused : (refusal : Refused) → next_of head plan lines ≡ Err refusal → plan_of head plan lines ≡ refused
+  plan_of-refused refusal e = plan_of-next head plan lines ∙ ap (λ (read : Read (Line × List (List Word))). read >>= λ x. goes_on head plan x.1 x.0) e
+
+  -- lines are left after it, fewer than before
+  pub each_next : Each (next_of head plan lines) (λ x. length x.1 < length lines)
+  unfolding next_of
+  each_next =
+      each_bind _ _ _ _ (each_line_at lines) (λ taken is.
+      each_bind _ _ _ _ (each_any (follower_of head plan taken.0)) (λ line any. each_ok _ _ (omega (arith, ap length is))))
 
 -- the text is refused where the plan is
-pub refused : {A : Type 0} (read : Option A) → read ≡ None → Fails (Bad 0 Unbuilt) read
-refused read none = (none, refl, refl)
-
-bind_none : {A B : Type 0} (o : Option A) (f : A → Option B) → ((x : A) → f x ≡ None) → (o >>= f) ≡ None
-bind_none None f h = refl
-bind_none (Some x) f h = h x
-
--- no line is the last before the end of the text
-last_line : (head : Head) (plan : Contents) (line : Line) →
-    match_line line (λ task. with_task head.task_limit task plan >>= λ more. plan_of head more []) (λ step. with_step step plan >>= λ more. plan_of head more []) (cond (is_end []) (Some plan) None) ≡ None
-unfolding plan_of
-last_line head plan (forms.Task task) = bind_none (with_task head.task_limit task plan) (λ more. plan_of head more []) (λ more. refl)
-last_line head plan (forms.Step step) = bind_none (with_step step plan) (λ more. plan_of head more []) (λ more. refl)
-last_line head plan forms.End = refl
-
--- a text that does not end by `end` and a line feed is refused
-pub plan_of-none : (head : Head) (plan : Contents) (lines : List (List Word)) → line_at lines ≡ None → plan_of head plan lines ≡ None
-unfolding plan_of
-plan_of-none head plan [] h = refl
-plan_of-none head plan (tail ∷ []) h =
-    bind_none (line_of head.siblings tail) (λ line. match_line line (λ task. with_task head.task_limit task plan >>= λ more. plan_of head more []) (λ step. with_step step plan >>= λ more. plan_of head more []) (cond (is_end []) (Some plan) None)) (last_line head plan)
-plan_of-none head plan (line ∷ next ∷ more) h = absurd cc
+pub Fails-bad : {A : Type 0} (read : Read A) → read ≡ refused → Fails (Bad 0 Unbuilt) read
+Fails-bad read none = (none, refl, refl)

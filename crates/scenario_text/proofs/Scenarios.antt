@@ -1,5 +1,5 @@
 -- Scenarios: what is read from a text is the scenario of the text, and the text of a scenario is read as it.
-use Rattle.std.proofs.Common.{get_or, ◌≡◌, ℕ, ◌<◌, ℤ, pos, negsuc, ◌≤ℤ◌, All, Bool, true, false, List, [], ◌∷◌, ◌++◌, map, Some, None, Result, Ok, Err, refl, sym, ap, subst, ◌∙◌, arith, append_assoc, inl, inr}
+use Rattle.std.proofs.Common.{get_or, ◌≡◌, ℕ, ◌<◌, ℤ, pos, negsuc, ◌≤ℤ◌, All, Bool, true, false, List, [], ◌∷◌, ◌++◌, map, Result, Ok, Err, refl, sym, ap, subst, ◌∙◌, arith, append_assoc, inl, inr}
 use Rattle.std.specs.Prelude.{◌⊎◌, MatchResult, IfOk, IfErr, decimal, codes}
 use Rattle.std.specs.Fmt.{signed_decimal}
 use Rattle.std.specs.List.{AllByRecursion}
@@ -22,12 +22,12 @@ use Rattle.scenario_text.specs.declared.fault.ReadFault.TheVariants.{Bad, OutOfM
 use Rattle.scenario_text.specs.declared.head.Head.{Head}
 use Rattle.scenario_text.specs.Words.{Word, flag_word, policy_word, creds_words, task_words, actor_word, ask_words, event_words}
 use Rattle.scenario_text.specs.Text.{line, version_words, siblings_words, limits_words, step_words, end_words, scenario_lines}
-use Rattle.scenario_text.specs.Reading.{Gives, Contents, lines_in, head_at, plan_of, scenario_of}
+use Rattle.scenario_text.specs.Reading.{Read, refused, Gives, Contents, lines_in, head_at, plan_of, scenario_of}
 use Rattle.scenario_text.specs.Reader.{IsTextOf, HasNoScenario, HasOneScenario}
-use Rattle.scenario_text.proofs.Fields.{bind, some_is}
-use Rattle.scenario_text.proofs.Forms.{TargetFits, target_fits, IsStepText, cmd_within}
-use Rattle.scenario_text.proofs.Heads.{IsHead, head_lines, head_takes, head_again}
-use Rattle.scenario_text.proofs.Building.{IsPlan, plan_lines, end_lines, plan_takes, plan_again}
+use Rattle.scenario_text.proofs.Readings.{bind, ok_is}
+use Rattle.scenario_text.proofs.Steps.{TargetFits, target_fits, IsStepText, cmd_within}
+use Rattle.scenario_text.proofs.Heads.{IsHead, head_lines, each_head, head_again}
+use Rattle.scenario_text.proofs.Building.{IsPlan, plan_lines, end_lines, has_first, each_plan, plan_again}
 use Rattle.scenario_text.proofs.Texts.{IsPlain, ArePlain, plain_decimal, plain-append, ArePlain-append, lines_in-flat_map, text_is}
 
 -- ---- the lines of a scenario
@@ -68,13 +68,13 @@ targets_fit : (scenario : Scenario) → IsBuilt scenario → All (λ step. Targe
 targets_fit scenario built k d lt = target_fits scenario.siblings (get_or scenario.steps k d).event (built.steps k d lt).event
 
 -- what is read is spelled so
-scenario_takes : (lines : List (List Word)) (scenario : Scenario) → scenario_of lines ≡ Some scenario → IsBuilt scenario × All (λ step. TargetFits step.event) scenario.steps × (lines ≡ scenario_lines scenario ++ nothing)
+scenario_takes : (lines : List (List Word)) (scenario : Scenario) → scenario_of lines ≡ Ok scenario → IsBuilt scenario × All (λ step. TargetFits step.event) scenario.steps × (lines ≡ scenario_lines scenario ++ nothing)
 unfolding scenario_of
 scenario_takes lines scenario e =
     bind (head_at lines) _ scenario e (λ head first e0.
     bind (plan_of head.0 none_read head.1) _ scenario e0 (λ plan second e1.
-    let h = head_takes lines head first in
-    let p = plan_takes head.0 head.1 none_read plan (empty_plan head.0.siblings head.0.task_limit) second in
+    let h = (each_head lines).all head first in
+    let p = (each_plan head.0 head.1 none_read (empty_plan head.0.siblings head.0.task_limit)).all plan second in
     let made = made_of head.0 plan in
     let built : IsBuilt made = record {
       siblings = h.1.siblings;
@@ -93,15 +93,10 @@ scenario_takes lines scenario e =
     let whole : lines ≡ scenario_lines made ++ nothing =
     h.0
     ∙ ap (λ (ls : List (List Word)). head_lines head.0 ++ ls) (rest ∙ sym (append_assoc (plan_lines plan) (end_words ∷ []) nothing)) in
-    subst (λ (s : Scenario). IsBuilt s × All (λ step. TargetFits step.event) s.steps × (lines ≡ scenario_lines s ++ nothing)) (some_is made scenario e1) (built, fits, whole)))
-
--- a list that ends in an element begins with one
-has_first : {X : Type 0} (xs : List X) (y : X) (ys : List X) → (first : X) × (more : List X) × (xs ++ y ∷ ys ≡ first ∷ more)
-has_first [] y ys = (y, ys, refl)
-has_first (x ∷ xs) y ys = (x, xs ++ y ∷ ys, refl)
+    subst (λ (s : Scenario). IsBuilt s × All (λ step. TargetFits step.event) s.steps × (lines ≡ scenario_lines s ++ nothing)) (ok_is made scenario e1) (built, fits, whole)))
 
 -- what is spelled so is read
-scenario_again : (scenario : Scenario) → IsBuilt scenario → All (λ step. TargetFits step.event) scenario.steps → scenario_of (scenario_lines scenario ++ nothing) ≡ Some scenario
+scenario_again : (scenario : Scenario) → IsBuilt scenario → All (λ step. TargetFits step.event) scenario.steps → scenario_of (scenario_lines scenario ++ nothing) ≡ Ok scenario
 unfolding scenario_of
 scenario_again scenario built fits =
     let head = head_of_scenario scenario in
@@ -123,10 +118,10 @@ scenario_again scenario built fits =
     let few : head.siblings < 256 = let two = built.siblings in omega arith in
     let lines = plan_lines plan ++ end_lines in
     let some = has_first (plan_lines plan) end_words nothing in
-    let start : head_at (head_lines head ++ lines) ≡ Some (head, lines) =
+    let start : head_at (head_lines head ++ lines) ≡ Ok (head, lines) =
     ap (λ (ls : List (List Word)). head_at (head_lines head ++ ls)) some.2
     ∙ head_again head some.0 some.1 is_head
-    ∙ ap (λ (ls : List (List Word)). Some (head, ls)) (sym some.2) in
+    ∙ ap (λ (ls : List (List Word)). Ok (head, ls)) (sym some.2) in
     ap (λ (ls : List (List Word)). scenario_of (head_lines head ++ ls)) (append_assoc (plan_lines plan) (end_words ∷ []) nothing)
     ∙ rw (start, plan_again head plan few is_plan) refl
 
@@ -216,31 +211,34 @@ plain_scenario s built fits =
 -- ---- the reader
 
 -- a text is read as the scenario that it is the text of
-text_again : (bytes : List ℕ) (scenario : Scenario) → IsTextOf bytes scenario → scenario_of (lines_in bytes) ≡ Some scenario
+text_again : (bytes : List ℕ) (scenario : Scenario) → IsTextOf bytes scenario → scenario_of (lines_in bytes) ≡ Ok scenario
 text_again bytes scenario is =
     ap (λ (b : List ℕ). scenario_of (lines_in b)) is.text
     ∙ ap scenario_of (lines_in-flat_map (scenario_lines scenario) (plain_scenario scenario is.built (targets_fit _ is.built)))
     ∙ scenario_again scenario is.built (targets_fit _ is.built)
 
 -- and only so
-text_takes : (bytes : List ℕ) (scenario : Scenario) → scenario_of (lines_in bytes) ≡ Some scenario → IsTextOf bytes scenario
+text_takes : (bytes : List ℕ) (scenario : Scenario) → scenario_of (lines_in bytes) ≡ Ok scenario → IsTextOf bytes scenario
 text_takes bytes scenario e =
     let taken = scenario_takes (lines_in bytes) scenario e in
     record { built = taken.0; text = text_is bytes (scenario_lines scenario) taken.2 }
 
 pub one_scenario : (bytes : List ℕ) → HasOneScenario bytes
 one_scenario bytes scenario other is is' =
-    some_is scenario other (sym (text_again bytes scenario is) ∙ text_again bytes other is')
+    ok_is scenario other (sym (text_again bytes scenario is) ∙ text_again bytes other is')
 
 pub is_found : (bytes : List ℕ) (r : Result Scenario ReadFault) → Gives (λ s. s) r (scenario_of (lines_in bytes)) → IfOk r (IsTextOf bytes)
 is_found bytes (Ok scenario) given = text_takes bytes scenario given
 is_found bytes (Err fault) given = tt
 
+abbrev nothing_read : Read Scenario
+nothing_read = refused
+
 pub is_only : (bytes : List ℕ) (r : Result Scenario ReadFault) → Gives (λ s. s) r (scenario_of (lines_in bytes)) → (scenario : Scenario) → IsTextOf bytes scenario → MatchResult r (λ read. read ≡ scenario) (λ fault. fault ≡ OutOfMemory)
-is_only bytes (Ok read) given scenario is = some_is read scenario (sym given ∙ text_again bytes scenario is)
+is_only bytes (Ok read) given scenario is = ok_is read scenario (sym given ∙ text_again bytes scenario is)
 is_only bytes (Err OutOfMemory) given scenario is = refl
 is_only bytes (Err (Bad line kind)) given scenario is =
-    let bad : None ≡ Some scenario = sym given.0 ∙ text_again bytes scenario is in absurd cc
+    let bad : nothing_read ≡ Ok scenario = sym given.0 ∙ text_again bytes scenario is in absurd cc
 
 pub is_fault : (bytes : List ℕ) (r : Result Scenario ReadFault) → Gives (λ s. s) r (scenario_of (lines_in bytes)) → IfErr r (λ fault. (fault ≡ Bad 0 Unbuilt) ⊎ (fault ≡ OutOfMemory))
 is_fault bytes (Ok read) given = tt

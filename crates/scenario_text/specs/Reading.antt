@@ -1,16 +1,14 @@
--- Reading: what the reader takes from a text, from left to right. `None` is a text that is refused.
-use Rattle.std.specs.Prelude.{◌≡◌, ℕ, Bool, true, false, ◌&&◌, ◌||◌, ◌==◌, pos, ℤ, not, nat_le, nat_lt, if◌then◌else◌, List, [], ◌∷◌, Option, Some, None, length, slice_index, map, take, drop, codes, ◌++◌, Result, Ok, Err}
+-- Reading: what the reader takes from a text, line by line. Of a line it first sees which form it has, by its
+-- words as a whole, then reads the numbers of that form, and then asks whether the line may follow those before it.
+use Rattle.std.specs.Prelude.{◌≡◌, ℕ, ◌+◌, ◌-◌, Bool, true, ◌&&◌, ◌||◌, ◌==◌, ℤ, pos, not, nat_le, nat_lt, if◌then◌else◌, List, [], ◌∷◌, length, slice_index, slice_index_or, map, take, drop, codes, ◌++◌, Result, Ok, Err}
 use Rattle.std.specs.Borrow.{Bor}
-use Rattle.std.specs.Option.{option_and_then}
 use Rattle.std.specs.Char.{is_ascii_digit}
 use Rattle.std.specs.List.{slice_split, list_any}
 use Rattle.std.specs.Str.{all_ascii_digits, bytes_eq}
 use Rattle.std.specs.Str.Parse.{digits_value}
 use Rattle.cs_types.specs.declared.task.Policy.{Policy}
 use Rattle.cs_types.specs.declared.task.Policy.TheVariants.{Fifo}
-use Rattle.cs_types.specs.declared.task.Creds.{Creds}
 use Rattle.cs_types.specs.declared.task.TaskSpec.{TaskSpec}
-use Rattle.cs_types.specs.declared.event.Actor.{Actor}
 use Rattle.cs_types.specs.declared.event.Actor.TheVariants.{Sibling, Caller}
 use Rattle.cs_types.specs.declared.event.Ask.{Ask}
 use Rattle.cs_types.specs.declared.event.Event.{Event}
@@ -22,6 +20,7 @@ use Rattle.scenario_text.specs.declared.line.Line.{Line}
 use Rattle.scenario_text.specs.declared.line.Line.TheVariants as forms
 use Rattle.scenario_text.specs.declared.plan.Plan.{Plan}
 use Rattle.scenario_text.specs.declared.fault.BadKind.TheVariants.{Unbuilt}
+use Rattle.scenario_text.specs.declared.fault.Refused.{Refused}
 use Rattle.scenario_text.specs.declared.fault.ReadFault.{ReadFault}
 use Rattle.scenario_text.specs.declared.fault.ReadFault.TheVariants.{Bad, OutOfMemory}
 use Rattle.scenario_text.specs.Words.{Word}
@@ -40,21 +39,64 @@ words_in line = pieces 32 line
 unfoldable pub lines_in : List ℕ → List (List Word)
 lines_in text = map words_in (pieces 10 text)
 
--- the words of the rest of a line, and none where it has no rest
-abbrev pub words_left : Option (Bor (List ℕ)) → List Word
-words_left None = []
-words_left (Some rest) = words_in rest.now
+-- the texts of words that are lent
+abbrev pub texts : List (Bor Word) → List Word
+texts words = map (λ word. word.now) words
 
--- ---- what is taken from the start of a list
+-- ---- what is read, or refused
+
+abbrev pub Read : Type 0 → Type 0
+Read A = Result A Refused
+
+abbrev pub refused : {A : Type 0} → Read A
+refused = Err (record {})
 
 infixl 10 ◌>>=◌
-abbrev pub ◌>>=◌ : {A B : Type 0} → Option A → (A → Option B) → Option B
-o >>= f = option_and_then f o
+abbrev pub ◌>>=◌ : {A B : Type 0} → Read A → (A → Read B) → Read B
+Ok x >>= f = f x
+Err refusal >>= f = Err refusal
 
--- what a function returned, seen by view, and the rest that it left are what reading gives
-abbrev pub Takes : {X Y A : Type 0} → (X → Y) → Option X → List A → Option (Y × List A) → Type 0
-Takes view None rest read = read ≡ None
-Takes view (Some x) rest read = read ≡ Some (view x, rest)
+-- what a function returned, seen by view, is what reading gives
+abbrev pub Reads : {X Y : Type 0} → (X → Y) → Read X → Read Y → Type 0
+Reads view (Ok x) read = read ≡ Ok (view x)
+Reads view (Err refusal) read = read ≡ Err refusal
+
+-- the same, with the rest that the function left
+abbrev pub Takes : {X Y A : Type 0} → (X → Y) → Read X → List A → Read (Y × List A) → Type 0
+Takes view (Ok x) rest read = read ≡ Ok (view x, rest)
+Takes view (Err refusal) rest read = read ≡ Err refusal
+
+-- ---- the forms of lines
+
+-- words, as a reader sees them: how many there are, and the word at each place from 0
+pub record Parts : Type 0 where
+  pub count : ℕ
+  pub at : ℕ → Word
+
+abbrev pub parts : List Word → Parts
+parts words = record { count = length words; at = λ k. slice_index_or words k [] }
+
+-- the same of words that are lent
+abbrev pub lent : List (Bor Word) → Parts
+lent words = record { count = length words; at = λ k. (slice_index_or words k (record { ref_ptr = (0, 0); now = [] })).now }
+
+-- the words after the first so many
+abbrev pub after : ℕ → Parts → Parts
+after n words = record { count = words.count - n; at = λ k. words.at (n + k) }
+
+-- whether these bytes stand in the word from a place on
+abbrev pub has_bytes : Word → ℕ → List ℕ → Bool
+has_bytes word k [] = true
+has_bytes word k (byte ∷ bytes) = (slice_index word k == byte) && has_bytes word (k + 1) bytes
+
+-- whether the word is this keyword
+abbrev pub is_word : Word → Word → Bool
+is_word word keyword = (length word == length keyword) && has_bytes word 0 keyword
+
+-- what the form reads that a word names
+unfoldable pub reading_named : {A : Type 0} → List (Word × Read A) → Word → Read A
+reading_named [] name = refused
+reading_named (form ∷ forms) name = if is_word name form.0 then form.1 else reading_named forms name
 
 -- ---- numbers
 
@@ -68,260 +110,233 @@ is_number low high word =
     is_canonical word && all_ascii_digits word && nat_le low (digits_value 10 word) && nat_le (digits_value 10 word) high
 
 -- the number from low to high that the word spells
-unfoldable pub number_of : ℕ → ℕ → Word → Option ℕ
-number_of low high word = if is_number low high word then Some (digits_value 10 word) else None
-
--- ---- words
-
--- the next word
-abbrev pub word_at : List Word → Option (Word × List Word)
-word_at [] = None
-word_at (word ∷ words) = Some (word, words)
-
--- the next word, where it is this one
-unfoldable pub keyword_at : Word → List Word → Option (Unit {0} × List Word)
-keyword_at keyword words = do
-  word ← word_at words
-  if bytes_eq word.0 keyword then Some (tt, word.1) else None
-
--- a number from low to high
-unfoldable pub number_at : ℕ → ℕ → List Word → Option (ℕ × List Word)
-number_at low high words = do
-  word ← word_at words
-  number ← number_of low high word.0
-  Some (number, word.1)
+unfoldable pub number_of : ℕ → ℕ → Word → Read ℕ
+number_of low high word = if is_number low high word then Ok (digits_value 10 word) else refused
 
 -- 1 for yes, 0 for no
-unfoldable pub flag_at : List Word → Option (Bool × List Word)
-flag_at words = do
-  number ← number_at 0 1 words
-  Some (number.0 == 1, number.1)
+unfoldable pub flag_of : Word → Read Bool
+flag_of word = do
+  flag ← number_of 0 1 word
+  Ok (flag == 1)
 
--- no word is left
-abbrev pub end_of : List Word → Option (Unit {0})
-end_of [] = Some tt
-end_of (word ∷ words) = None
+-- a sibling that the core has
+unfoldable pub cpu_of : ℕ → Word → Read ℕ
+cpu_of siblings word = do
+  cpu ← number_of 0 255 word
+  if nat_lt cpu siblings then Ok cpu else refused
 
 -- ---- tasks
 
--- a sibling that the core has
-unfoldable pub cpu_of : ℕ → Word → Option ℕ
-cpu_of siblings word = do
-  cpu ← number_of 0 255 word
-  if nat_lt cpu siblings then Some cpu else None
-
-unfoldable pub policy_of : Word → Option Policy
+-- `fifo:` and a priority
+unfoldable pub policy_of : Word → Read Policy
 policy_of word =
     if bytes_eq (take 5 word) (codes "fifo:")
-    then (number_of 1 99 (drop 5 word) >>= λ priority. Some (Fifo priority))
-    else None
-
-unfoldable pub cpu_at : ℕ → List Word → Option (ℕ × List Word)
-cpu_at siblings words = do
-  word ← word_at words
-  cpu ← cpu_of siblings word.0
-  Some (cpu, word.1)
-
-unfoldable pub policy_at : List Word → Option (Policy × List Word)
-policy_at words = do
-  word ← word_at words
-  policy ← policy_of word.0
-  Some (policy, word.1)
-
-unfoldable pub creds_at : List Word → Option (Creds × List Word)
-creds_at words = do
-  ruid ← number_at 0 65535 words
-  euid ← number_at 0 65535 ruid.1
-  suid ← number_at 0 65535 euid.1
-  rgid ← number_at 0 65535 suid.1
-  egid ← number_at 0 65535 rgid.1
-  sgid ← number_at 0 65535 egid.1
-  cap ← flag_at sgid.1
-  mm ← flag_at cap.1
-  dumpable ← flag_at mm.1
-  Some (
-    record {
-      ruid = ruid.0;
-      euid = euid.0;
-      suid = suid.0;
-      rgid = rgid.0;
-      egid = egid.0;
-      sgid = sgid.0;
-      cap = cap.0;
-      mm = mm.0;
-      dumpable = dumpable.0;
-    },
-    dumpable.1,
-  )
+    then (number_of 1 99 (drop 5 word) >>= λ priority. Ok (Fifo priority))
+    else refused
 
 -- what stands after the word `task`
-unfoldable pub task_at : ℕ → List Word → Option (TaskSpec × List Word)
-task_at siblings words = do
-  pid ← number_at 1 9999 words
-  tgid ← number_at 1 9999 pid.1
-  pgid ← number_at 1 9999 tgid.1
-  cpu ← cpu_at siblings pgid.1
-  policy ← policy_at cpu.1
-  creds ← creds_at policy.1
-  Some (
-    record { pid = pid.0; tgid = tgid.0; pgid = pgid.0; cpu = cpu.0; policy = policy.0; creds = creds.0 },
-    creds.1,
-  )
+unfoldable pub task_of : ℕ → Parts → Read TaskSpec
+task_of siblings words =
+    if words.count == 14
+    then (do
+      policy ← policy_of (words.at 4)
+      pid ← number_of 1 9999 (words.at 0)
+      tgid ← number_of 1 9999 (words.at 1)
+      pgid ← number_of 1 9999 (words.at 2)
+      cpu ← cpu_of siblings (words.at 3)
+      ruid ← number_of 0 65535 (words.at 5)
+      euid ← number_of 0 65535 (words.at 6)
+      suid ← number_of 0 65535 (words.at 7)
+      rgid ← number_of 0 65535 (words.at 8)
+      egid ← number_of 0 65535 (words.at 9)
+      sgid ← number_of 0 65535 (words.at 10)
+      cap ← flag_of (words.at 11)
+      mm ← flag_of (words.at 12)
+      dumpable ← flag_of (words.at 13)
+      Ok (record {
+        pid = pid;
+        tgid = tgid;
+        pgid = pgid;
+        cpu = cpu;
+        policy = policy;
+        creds = record {
+          ruid = ruid;
+          euid = euid;
+          suid = suid;
+          rgid = rgid;
+          egid = egid;
+          sgid = sgid;
+          cap = cap;
+          mm = mm;
+          dumpable = dumpable;
+        };
+      }))
+    else refused
 
 -- ---- steps
 
-unfoldable pub actor_of : ℕ → Word → Option Actor
-actor_of siblings [] = None
-actor_of siblings (kind ∷ digits) =
-    if kind == 115
-    then (cpu_of siblings digits >>= λ cpu. Some (Sibling cpu))
-    else (if kind == 99 then (number_of 0 7 digits >>= λ caller. Some (Caller caller)) else None)
-
-unfoldable pub actor_at : ℕ → List Word → Option (Actor × List Word)
-actor_at siblings words = do
-  word ← word_at words
-  actor ← actor_of siblings word.0
-  Some (actor, word.1)
-
 -- what a sibling does
-unfoldable pub sibling_event_of : ℕ → Word → Option Event
-sibling_event_of cpu word =
-    if bytes_eq word (codes "turn")
-    then Some (Turn cpu)
-    else (if bytes_eq word (codes "resched")
-    then Some (Resched cpu)
-    else (if bytes_eq word (codes "block") then Some (Block cpu) else None))
-
-unfoldable pub sibling_event_at : ℕ → List Word → Option (Event × List Word)
-sibling_event_at cpu words = do
-  word ← word_at words
-  event ← sibling_event_of cpu word.0
-  Some (event, word.1)
+unfoldable pub sibling_event_of : Read ℕ → Parts → Read Event
+sibling_event_of cpu words =
+    if words.count == 1
+    then reading_named (
+    (codes "turn", (cpu >>= λ i. Ok (Turn i)))
+    ∷ (codes "resched", (cpu >>= λ i. Ok (Resched i)))
+    ∷ (codes "block", (cpu >>= λ i. Ok (Block i)))
+    ∷ []
+    ) (words.at 0)
+    else refused
 
 -- the target of a command of `prctl`
-unfoldable pub target_at : ℕ → List Word → Option (ℤ × List Word)
-target_at command words = do
-  target ← if command == 1 then number_at 0 0 words else number_at 1 2147483647 words
-  Some (pos target.0, target.1)
+unfoldable pub target_of : ℕ → Word → Read ℤ
+target_of cmd word = do
+  target ← if cmd == 1 then number_of 0 0 word else number_of 1 2147483647 word
+  Ok (pos target)
 
 -- the arguments of `prctl`
-unfoldable pub ask_at : List Word → Option (Ask × List Word)
-ask_at words = do
-  cmd ← number_at 1 2 words
-  target ← target_at cmd.0 cmd.1
-  scope ← number_at 0 0 target.1
-  addr ← number_at 0 0 scope.1
-  Some (record { cmd = cmd.0; pid = target.0; scope = scope.0; addr = addr.0 }, addr.1)
+unfoldable pub ask_of : Word → Word → Word → Word → Read Ask
+ask_of cmd target scope addr = do
+  cmd ← number_of 1 2 cmd
+  pid ← target_of cmd target
+  scope ← number_of 0 0 scope
+  addr ← number_of 0 0 addr
+  Ok (record { cmd = cmd; pid = pid; scope = scope; addr = addr })
 
-unfoldable pub wake_at : List Word → Option (Event × List Word)
-wake_at words = do
-  pid ← number_at 1 999999 words
-  Some (Wake pid.0, pid.1)
+unfoldable pub wake_of : Word → Read Event
+wake_of pid = do
+  pid ← number_of 1 999999 pid
+  Ok (Wake pid)
 
-unfoldable pub prctl_at : List Word → Option (Event × List Word)
-prctl_at words = do
-  caller ← number_at 1 999999 words
-  ask ← ask_at caller.1
-  Some (Prctl caller.0 ask.0, ask.1)
-
--- what a caller does, after the first word of it
-unfoldable pub caller_form_at : Word → List Word → Option (Event × List Word)
-caller_form_at form words =
-    if bytes_eq form (codes "wake")
-    then wake_at words
-    else (if bytes_eq form (codes "prctl") then prctl_at words else None)
+unfoldable pub prctl_of : Word → Word → Word → Word → Word → Read Event
+prctl_of caller cmd target scope addr = do
+  caller ← number_of 1 999999 caller
+  ask ← ask_of cmd target scope addr
+  Ok (Prctl caller ask)
 
 -- what a caller does
-unfoldable pub caller_event_at : List Word → Option (Event × List Word)
-caller_event_at words = do
-  form ← word_at words
-  caller_form_at form.0 form.1
+unfoldable pub caller_event_of : Parts → Read Event
+caller_event_of words =
+    if words.count == 2
+    then reading_named ((codes "wake", wake_of (words.at 1)) ∷ []) (words.at 0)
+    else (if words.count == 6
+    then reading_named (
+    (codes "prctl", prctl_of (words.at 1) (words.at 2) (words.at 3) (words.at 4) (words.at 5)) ∷ []
+    ) (words.at 0)
+    else refused)
 
-abbrev pub event_at : Actor → List Word → Option (Event × List Word)
-event_at (Sibling cpu) words = sibling_event_at cpu words
-event_at (Caller caller) words = caller_event_at words
+-- what the sibling of this number does
+unfoldable pub sibling_step_of : ℕ → Word → Parts → Read Step
+sibling_step_of siblings digits words = do
+  event ← sibling_event_of (cpu_of siblings digits) words
+  cpu ← cpu_of siblings digits
+  Ok (record { actor = Sibling cpu; event = event })
+
+-- what the caller of this number does
+unfoldable pub caller_step_of : Word → Parts → Read Step
+caller_step_of digits words = do
+  event ← caller_event_of words
+  caller ← number_of 0 7 digits
+  Ok (record { actor = Caller caller; event = event })
 
 -- what stands after the word `step`
-unfoldable pub step_at : ℕ → List Word → Option (Step × List Word)
-step_at siblings words = do
-  actor ← actor_at siblings words
-  event ← event_at actor.0 actor.1
-  Some (record { actor = actor.0; event = event.0 }, event.1)
+unfoldable pub step_of : ℕ → Word → Parts → Read Step
+step_of siblings [] event = refused
+step_of siblings (kind ∷ digits) event =
+    if kind == 115
+    then sibling_step_of siblings digits event
+    else (if kind == 99 then caller_step_of digits event else refused)
 
 -- ---- lines
 
--- the next line, of which there is none where no line feed stands
-abbrev pub line_at : List (List Word) → Option (List Word × List (List Word))
-line_at [] = None
-line_at (rest ∷ []) = None
-line_at (line ∷ next ∷ lines) = Some (line, next ∷ lines)
+-- at most as many words as the longest form has
+abbrev pub few : List Word → Read (List Word)
+few words = if nat_le (length words) 15 then Ok words else refused
 
--- whether nothing stands after the last line feed
-abbrev pub is_end : List (List Word) → Bool
-is_end (([] ∷ []) ∷ []) = true
-is_end lines = false
+-- the words of a line that these lines follow, the last of which is what stands after the last line feed
+abbrev pub before : List (List Word) → List Word → Read (List Word)
+before [] words = refused
+before (next ∷ lines) words = few words
+
+-- the next line
+abbrev pub line_at : List (List Word) → Read (List Word × List (List Word))
+line_at [] = refused
+line_at (words ∷ lines) = do
+  words ← before lines words
+  Ok (words, lines)
+
+-- nothing stands after the last line feed
+abbrev pub end_of : List (List Word) → Read (Unit {0})
+end_of (([] ∷ []) ∷ []) = Ok tt
+end_of lines = refused
 
 -- ---- the head
 
 -- `coresched 1`
-unfoldable pub version_of : List Word → Option (Unit {0})
-version_of words = do
-  name ← keyword_at (codes "coresched") words
-  version ← number_at 1 1 name.1
-  end_of version.1
+unfoldable pub version_of : Parts → Read (Unit {0})
+version_of words =
+    if words.count == 2
+    then reading_named ((codes "coresched", (number_of 1 1 (words.at 1) >>= λ one. Ok tt)) ∷ []) (words.at 0)
+    else refused
 
 -- `siblings` COUNT
-unfoldable pub siblings_of : List Word → Option ℕ
-siblings_of words = do
-  name ← keyword_at (codes "siblings") words
-  siblings ← number_at 1 8 name.1
-  end ← end_of siblings.1
-  Some siblings.0
+unfoldable pub siblings_of : Parts → Read ℕ
+siblings_of words =
+    if words.count == 2
+    then reading_named ((codes "siblings", number_of 1 8 (words.at 1)) ∷ []) (words.at 0)
+    else refused
 
--- `limits` TASKS COOKIES TOP, in a core of so many siblings
-unfoldable pub head_of : ℕ → List Word → Option Head
-head_of siblings words = do
-  name ← keyword_at (codes "limits") words
-  tasks ← number_at 1 256 name.1
-  cookies ← number_at 1 256 tasks.1
-  top ← number_at 8192 9223372036854775807 cookies.1
-  end ← end_of top.1
-  Some (record { siblings = siblings; task_limit = tasks.0; cookie_limit = cookies.0; user_top = top.0 })
+-- TASKS COOKIES TOP, in a core of so many siblings
+unfoldable pub limits_of : ℕ → Word → Word → Word → Read Head
+limits_of siblings tasks cookies top = do
+  tasks ← number_of 1 256 tasks
+  cookies ← number_of 1 256 cookies
+  top ← number_of 8192 9223372036854775807 top
+  Ok (record { siblings = siblings; task_limit = tasks; cookie_limit = cookies; user_top = top })
 
-unfoldable pub head_at : List (List Word) → Option (Head × List (List Word))
+-- `limits` TASKS COOKIES TOP
+unfoldable pub head_of : ℕ → Parts → Read Head
+head_of siblings words =
+    if words.count == 4
+    then reading_named ((codes "limits", limits_of siblings (words.at 1) (words.at 2) (words.at 3)) ∷ []) (words.at 0)
+    else refused
+
+unfoldable pub head_at : List (List Word) → Read (Head × List (List Word))
 head_at lines = do
   first ← line_at lines
-  version ← version_of first.0
+  version ← version_of (parts first.0)
   second ← line_at first.1
-  siblings ← siblings_of second.0
+  siblings ← siblings_of (parts second.0)
   third ← line_at second.1
-  head ← head_of siblings third.0
-  Some (head, third.1)
+  head ← head_of siblings (parts third.0)
+  Ok (head, third.1)
 
 -- ---- the lines after the head
 
--- what stands after the first word of a line
-unfoldable pub form_at : ℕ → Word → List Word → Option (Line × List Word)
-form_at siblings form words =
-    if bytes_eq form (codes "task")
-    then (task_at siblings words >>= λ task. Some (forms.Task task.0, task.1))
-    else (if bytes_eq form (codes "step")
-    then (step_at siblings words >>= λ step. Some (forms.Step step.0, step.1))
-    else (if bytes_eq form (codes "end") then Some (forms.End, words) else None))
+-- a task line after a step line is refused
+unfoldable pub task_line : ℕ → Bool → Parts → Read Line
+task_line siblings is_after_step words =
+    if is_after_step then refused else (task_of siblings (after 1 words) >>= λ task. Ok (forms.Task task))
 
--- a line, in a core of so many siblings
-unfoldable pub line_of : ℕ → List Word → Option Line
-line_of siblings words = do
-  form ← word_at words
-  line ← form_at siblings form.0 form.1
-  end ← end_of line.1
-  Some line.0
+unfoldable pub step_line : ℕ → Parts → Read Line
+step_line siblings words =
+    if nat_le 2 words.count
+    then (step_of siblings (words.at 1) (after 2 words) >>= λ step. Ok (forms.Step step))
+    else refused
 
--- one answer for each form of a line
-abbrev pub match_line : {A : Type 0} → Line → (TaskSpec → Option A) → (Step → Option A) → Option A → Option A
-match_line (forms.Task task) f g o = f task
-match_line (forms.Step step) f g o = g step
-match_line forms.End f g o = o
+unfoldable pub end_line : Parts → Read Line
+end_line words = if words.count == 1 then Ok forms.End else refused
+
+-- a line after the head, in a core of so many siblings
+unfoldable pub line_of : ℕ → Bool → Parts → Read Line
+line_of siblings is_after_step words =
+    if nat_le 1 words.count
+    then reading_named (
+    (codes "task", task_line siblings is_after_step words)
+    ∷ (codes "step", step_line siblings words)
+    ∷ (codes "end", end_line words)
+    ∷ []
+    ) (words.at 0)
+    else refused
 
 -- ---- the plan: the tasks and the steps that are read
 
@@ -342,37 +357,70 @@ is_led tasks task =
     (task.tgid == task.pid)
     || list_any (λ leader. (leader.pid == task.tgid) && (leader.tgid == leader.pid) && (leader.pgid == task.pgid)) tasks
 
--- whether the task may follow: after no step, and as one of the tasks that may live at once
-unfoldable pub can_follow : ℕ → TaskSpec → Contents → Bool
-can_follow limit task plan =
-    (length plan.steps == 0) && nat_lt (length plan.tasks) limit && is_fresh plan.tasks task && is_led plan.tasks task
+-- a fact that a line needs
+abbrev pub check : Bool → Read (Unit {0})
+check holds = if holds then Ok tt else refused
 
-unfoldable pub with_task : ℕ → TaskSpec → Contents → Option Contents
-with_task limit task plan =
-    if can_follow limit task plan then Some (record { tasks = plan.tasks ++ task ∷ []; steps = plan.steps }) else None
+-- the task may follow: with a pid of its own, led, and as one of the tasks that may live at once
+unfoldable pub task_check : ℕ → TaskSpec → Contents → Read (Unit {0})
+task_check limit task plan = do
+  fresh ← check (is_fresh plan.tasks task)
+  led ← check (is_led plan.tasks task)
+  check (nat_lt (length plan.tasks) limit)
 
-unfoldable pub with_step : Step → Contents → Option Contents
-with_step step plan =
-    if nat_lt (length plan.steps) 100000
-    then Some (record { tasks = plan.tasks; steps = plan.steps ++ step ∷ [] })
-    else None
+-- one more step may follow
+unfoldable pub step_check : Contents → Read (Unit {0})
+step_check plan = check (nat_lt (length plan.steps) 100000)
+
+-- the line may follow
+abbrev pub line_check : ℕ → Line → Contents → Read (Unit {0})
+line_check limit (forms.Task task) plan = task_check limit task plan
+line_check limit (forms.Step step) plan = step_check plan
+line_check limit forms.End plan = Ok tt
+
+-- the line that the words spell, which may follow those of the plan
+unfoldable pub follower_of : Head → Contents → List Word → Read Line
+follower_of head plan words = do
+  line ← line_of head.siblings (not (length plan.steps == 0)) (parts words)
+  follows ← line_check head.task_limit line plan
+  Ok line
+
+-- the next line, which may follow those of the plan
+unfoldable pub next_of : Head → Contents → List (List Word) → Read (Line × List (List Word))
+next_of head plan lines = do
+  taken ← line_at lines
+  line ← follower_of head plan taken.0
+  Ok (line, taken.1)
+
+abbrev pub with_task : TaskSpec → Contents → Contents
+with_task task plan = record { tasks = plan.tasks ++ task ∷ []; steps = plan.steps }
+
+abbrev pub with_step : Step → Contents → Contents
+with_step step plan = record { tasks = plan.tasks; steps = plan.steps ++ step ∷ [] }
+
+-- one answer for each form of a line
+abbrev pub match_line : {A : Type 0} → Line → (TaskSpec → A) → (Step → A) → A → A
+match_line (forms.Task task) f g x = f task
+match_line (forms.Step step) f g x = g step
+match_line forms.End f g x = x
 
 -- the plan of the lines up to `end`, after what is read
-unfoldable pub plan_of : Head → Contents → List (List Word) → Option Contents
-plan_of head plan [] = None
+unfoldable pub plan_of : Head → Contents → List (List Word) → Read Contents
+plan_of head plan [] = refused
 plan_of head plan (words ∷ lines) = do
-  line ← line_of head.siblings words
+  words ← before lines words
+  line ← follower_of head plan words
   match_line line
-      (λ task. with_task head.task_limit task plan >>= λ more. plan_of head more lines)
-      (λ step. with_step step plan >>= λ more. plan_of head more lines)
-      (if is_end lines then Some plan else None)
+      (λ task. plan_of head (with_task task plan) lines)
+      (λ step. plan_of head (with_step step plan) lines)
+      (end_of lines >>= λ end. Ok plan)
 
 -- the scenario of a text
-unfoldable pub scenario_of : List (List Word) → Option Scenario
+unfoldable pub scenario_of : List (List Word) → Read Scenario
 scenario_of lines = do
   head ← head_at lines
   plan ← plan_of head.0 (record { tasks = []; steps = [] }) head.1
-  Some (
+  Ok (
       record {
         siblings = head.0.siblings;
         task_limit = head.0.task_limit;
@@ -386,11 +434,11 @@ scenario_of lines = do
 -- ---- what a reader that may be out of memory returned
 
 -- a fault is out of memory, or the text is refused
-abbrev pub Fails : {Y : Type 0} → ReadFault → Option Y → Type 0
+abbrev pub Fails : {Y : Type 0} → ReadFault → Read Y → Type 0
 Fails OutOfMemory read = Unit {0}
-Fails (Bad line kind) read = (read ≡ None) × (line ≡ 0) × (kind ≡ Unbuilt)
+Fails (Bad line kind) read = (read ≡ refused) × (line ≡ 0) × (kind ≡ Unbuilt)
 
 -- what a function returned, seen by view, is what reading gives, unless it was out of memory
-abbrev pub Gives : {X Y : Type 0} → (X → Y) → Result X ReadFault → Option Y → Type 0
-Gives view (Ok x) read = read ≡ Some (view x)
+abbrev pub Gives : {X Y : Type 0} → (X → Y) → Result X ReadFault → Read Y → Type 0
+Gives view (Ok x) read = read ≡ Ok (view x)
 Gives view (Err fault) read = Fails fault read

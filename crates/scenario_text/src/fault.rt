@@ -23,11 +23,23 @@ pub enum ReadFault {
     OutOfMemory,
 }
 
-/// The text as a whole is no scenario's.
-pub(crate) const UNBUILT: ReadFault = ReadFault::Bad {
-    line: 0,
-    kind: BadKind::Unbuilt,
-};
+/// A line is refused, by the first of the tests that it fails.
+#[derive(Clone, Copy)]
+pub(crate) struct Refused;
+
+impl From<Refused> for ReadFault {
+    ghost use Rattle.scenario_text.specs.declared.fault.BadKind.TheVariants.{Unbuilt};
+    ghost use Rattle.scenario_text.specs.declared.fault.ReadFault.TheVariants.{Bad};
+
+    ghost from_gives = { λ _ e. e ≡ Bad 0 Unbuilt };
+
+    fn from(_: Refused) -> Self {
+        ReadFault::Bad {
+            line: 0,
+            kind: BadKind::Unbuilt,
+        }
+    }
+}
 
 impl From<AllocError> for ReadFault {
     ghost use Rattle.scenario_text.specs.declared.fault.ReadFault.TheVariants.{OutOfMemory};

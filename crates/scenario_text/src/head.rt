@@ -2,10 +2,11 @@
 //! lines after it, which come in any number, are separate.
 
 ghost use Rattle.std.specs.Prelude.{◌≡◌};
-ghost use Rattle.scenario_text.specs.Reading.{Takes, version_of, siblings_of, head_of, head_at};
+ghost use Rattle.scenario_text.specs.Reading.{Takes, lent, version_of, siblings_of, head_of, head_at};
 
+use crate::fault::Refused;
 use crate::lines::Lines;
-use crate::words::Words;
+use crate::number::parse_number;
 
 /// The version of the texts.
 const VERSION: u64 = 1;
@@ -32,50 +33,52 @@ pub(crate) struct Head {
 }
 
 /// `coresched` and the version.
-#[tactic(auto, unfolding(crate::specs::Reading::version_of))]
-fn parse_version(mut words: Words<'_>) -> Option<()>
-    ensures { result ≡ version_of words.entry }
+#[tactic(auto, unfolding(crate::specs::Reading::reading_named, crate::specs::Reading::version_of))]
+fn parse_version(words: &[&[u8]]) -> Result<(), Refused>
+    ensures { result ≡ version_of (lent words.now) }
 {
-    words.keyword(b"coresched")?;
-    words.next_number(VERSION, VERSION)?;
-    words.end()
+    match words {
+        [b"coresched", version] => {
+            parse_number(version, VERSION, VERSION)?;
+            Ok(())
+        }
+        _ => Err(Refused),
+    }
 }
 
 /// `siblings` and their count.
-#[tactic(auto, unfolding(crate::specs::Reading::siblings_of))]
-fn parse_siblings(mut words: Words<'_>) -> Option<u8>
-    ensures { result ≡ siblings_of words.entry }
+#[tactic(auto, unfolding(crate::specs::Reading::reading_named, crate::specs::Reading::siblings_of))]
+fn parse_siblings(words: &[&[u8]]) -> Result<u8, Refused>
+    ensures { result ≡ siblings_of (lent words.now) }
 {
-    words.keyword(b"siblings")?;
-    let siblings = words.next_number(1, MOST_SIBLINGS)?;
-    words.end()?;
-    Some(siblings as u8)
+    match words {
+        [b"siblings", count] => Ok(parse_number(count, 1, MOST_SIBLINGS)? as u8),
+        _ => Err(Refused),
+    }
 }
 
 /// `limits` and the limits, in a core of so many siblings.
-#[tactic(auto, unfolding(crate::specs::Reading::head_of))]
-fn parse_limits(mut words: Words<'_>, siblings: u8) -> Option<Head>
-    ensures { result ≡ head_of siblings words.entry }
+#[tactic(auto, unfolding(crate::specs::Reading::reading_named, crate::specs::Reading::head_of, crate::specs::Reading::limits_of))]
+fn parse_limits(words: &[&[u8]], siblings: u8) -> Result<Head, Refused>
+    ensures { result ≡ head_of siblings (lent words.now) }
 {
-    words.keyword(b"limits")?;
-    let task_limit = words.next_number(1, MOST_LIMIT)?;
-    let cookie_limit = words.next_number(1, MOST_LIMIT)?;
-    let user_top = words.next_number(LEAST_TOP, MOST_TOP)?;
-    words.end()?;
-    Some(Head {
-        siblings,
-        task_limit: task_limit as u16,
-        cookie_limit: cookie_limit as u16,
-        user_top,
-    })
+    match words {
+        [b"limits", tasks, cookies, top] => Ok(Head {
+            siblings,
+            task_limit: parse_number(tasks, 1, MOST_LIMIT)? as u16,
+            cookie_limit: parse_number(cookies, 1, MOST_LIMIT)? as u16,
+            user_top: parse_number(top, LEAST_TOP, MOST_TOP)?,
+        }),
+        _ => Err(Refused),
+    }
 }
 
-/// What the next three lines say. `None` where they are no head.
-#[tactic(auto, unfolding(crate::specs::Reading::head_at))]
-pub(crate) fn next_head(lines: &mut Lines<'_>) -> Option<Head>
+/// What the next three lines say.
+#[tactic(auto, using(crate::proofs::Cuts::lent_is), unfolding(crate::specs::Reading::head_at))]
+pub(crate) fn next_head(lines: &mut Lines<'_>) -> Result<Head, Refused>
     ensures { Takes (λ head. head) result lines.new (head_at lines.old) }
 {
-    parse_version(lines.next_line()?)?;
-    let siblings = parse_siblings(lines.next_line()?)?;
-    parse_limits(lines.next_line()?, siblings)
+    parse_version(lines.next_line()?.as_slice())?;
+    let siblings = parse_siblings(lines.next_line()?.as_slice())?;
+    parse_limits(lines.next_line()?.as_slice(), siblings)
 }

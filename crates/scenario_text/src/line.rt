@@ -1,12 +1,12 @@
-//! The lines after the head, each in its form, which its first word tells. It is separate from the
-//! forms, of which a new one is a variant more here.
+//! The lines after the head, each in the form that its first word and the count of its words tell. It is
+//! separate from the forms, of which a new one is a variant more here.
 
 ghost use Rattle.std.specs.Prelude.{◌≡◌};
-ghost use Rattle.scenario_text.specs.Reading.{Takes, form_at, line_of};
+ghost use Rattle.scenario_text.specs.Reading.{lent, line_of};
 
-use crate::step::next_step;
-use crate::task::next_task;
-use crate::words::Words;
+use crate::fault::Refused;
+use crate::step::parse_step;
+use crate::task::parse_task;
 use cs_types::{Step, TaskSpec};
 
 /// What a line after the head says.
@@ -17,26 +17,20 @@ pub(crate) enum Line {
     End,
 }
 
-/// The line whose first word is this one, and the next words the others.
-#[tactic(auto, unfolding(crate::specs::Reading::form_at))]
-fn next_form(words: &mut Words<'_>, form: &[u8], siblings: u8) -> Option<Line>
-    ensures { Takes (λ line. line) result words.new (form_at siblings form.now words.old) }
+/// The line that the words spell, in a core of so many siblings. After a step line no task line may
+/// stand.
+#[tactic(auto, unfolding(crate::specs::Reading::reading_named, crate::specs::Reading::line_of, crate::specs::Reading::task_line, crate::specs::Reading::step_line, crate::specs::Reading::end_line))]
+pub(crate) fn parse_line(
+    words: &[&[u8]],
+    siblings: u8,
+    is_after_step: bool,
+) -> Result<Line, Refused>
+    ensures { result ≡ line_of siblings is_after_step (lent words.now) }
 {
-    match form {
-        b"task" => Some(Line::Task(next_task(words, siblings)?)),
-        b"step" => Some(Line::Step(next_step(words, siblings)?)),
-        b"end" => Some(Line::End),
-        _ => None,
+    match words {
+        [b"task", task @ ..] if !is_after_step => Ok(Line::Task(parse_task(task, siblings)?)),
+        [b"step", actor, event @ ..] => Ok(Line::Step(parse_step(actor, event, siblings)?)),
+        [b"end"] => Ok(Line::End),
+        _ => Err(Refused),
     }
-}
-
-/// The line that the words spell. `None` where they spell none of a core of so many siblings.
-#[tactic(auto, unfolding(crate::specs::Reading::line_of))]
-pub(crate) fn parse_line(mut words: Words<'_>, siblings: u8) -> Option<Line>
-    ensures { result ≡ line_of siblings words.entry }
-{
-    let form = words.next_word()?;
-    let line = next_form(&mut words, form, siblings)?;
-    words.end()?;
-    Some(line)
 }

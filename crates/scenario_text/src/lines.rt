@@ -1,11 +1,12 @@
-//! The lines of a text, taken one after the other. It is separate so that what reads lines speaks of
-//! their words alone, and of no line feeds.
+//! The lines of a text, taken one after the other, each as its words. It is separate so that what reads
+//! lines speaks of their words alone, and of no line feeds.
 
 ghost use Rattle.std.specs.Prelude.{◌≡◌};
-ghost use Rattle.scenario_text.specs.Reading.{lines_in, Takes, line_at, is_end};
+ghost use Rattle.scenario_text.specs.Reading.{lines_in, texts, Takes, line_at, end_of};
 
+use crate::fault::Refused;
 use crate::pieces::cut;
-use crate::words::Words;
+use crate::words::{Words, words_of};
 use std::marker::Model;
 
 /// The lines of a text that are still to be taken.
@@ -31,20 +32,25 @@ impl<'a> Lines<'a> {
         Lines { rest: text }
     }
 
-    /// The words of the next line. `None` where no line feed is left.
+    /// The words of the next line. A line that no line feed ends is refused.
     #[tactic(auto, unfolding(crate::specs::Reading::lines_in))]
-    pub fn next_line(&mut self) -> Option<Words<'a>>
-        ensures { Takes (λ words. words) result self.new (line_at self.old) }
+    pub fn next_line(&mut self) -> Result<Words<'a>, Refused>
+        ensures { Takes (λ words. texts words.items) result self.new (line_at self.old) }
     {
-        let (line, rest) = cut(self.rest, b'\n')?;
+        let Some((line, rest)) = cut(self.rest, b'\n') else {
+            return Err(Refused);
+        };
         self.rest = rest;
-        Some(Words::of(line))
+        words_of(line)
     }
 
-    /// Whether nothing is left, not even a line with no line feed.
-    pub fn is_done(&self) -> bool
-        ensures { result ≡ is_end self.now }
+    /// A text of which anything is left, be it a line with no line feed, is refused.
+    pub fn end(&self) -> Result<(), Refused>
+        ensures { result ≡ end_of self.now }
     {
-        self.rest.is_empty()
+        if !self.rest.is_empty() {
+            return Err(Refused);
+        }
+        Ok(())
     }
 }

@@ -1,10 +1,12 @@
 //! Numbers, as words spell them: decimal digits, with no sign and no leading 0. It is separate since
 //! every form of a line but the last has them.
 
-ghost use Rattle.std.specs.Prelude.{◌≡◌, IfSome};
+ghost use Rattle.std.specs.Prelude.{◌≡◌, IfOk};
 ghost use Rattle.cs_types.specs.Scenario.{IsWithin};
-ghost use Rattle.scenario_text.specs.Reading.{is_canonical, number_of};
+ghost use Rattle.scenario_text.specs.Reading.{is_canonical, number_of, flag_of, cpu_of};
 
+use crate::fault::Refused;
+use cs_types::Cpu;
 use std::str;
 
 /// Whether the word begins with a digit, and with 0 only where it is `0`.
@@ -14,14 +16,42 @@ fn is_canonical(word: &[u8]) -> bool
     matches!(word, [b'0'] | [b'1'..=b'9', ..])
 }
 
-/// The number from `low` to `high` that the word spells. `None` where it spells another, or none.
-pub(crate) fn parse_number(word: &[u8], low: u64, high: u64) -> Option<u64>
+/// The number from `low` to `high` that the word spells.
+pub(crate) fn parse_number(word: &[u8], low: u64, high: u64) -> Result<u64, Refused>
     ensures spelled { result ≡ number_of low high word.now }
-    ensures within { IfSome result (λ n. IsWithin low high n) }
+    ensures within { IfOk result (λ n. IsWithin low high n) }
 {
     if !is_canonical(word) {
-        return None;
+        return Err(Refused);
     }
-    let number = str::from_utf8(word).ok()?.parse::<u64>().ok()?;
-    (low..=high).contains(&number).then_some(number)
+    let Ok(text) = str::from_utf8(word) else {
+        return Err(Refused);
+    };
+    let Ok(number) = text.parse::<u64>() else {
+        return Err(Refused);
+    };
+    if !(low..=high).contains(&number) {
+        return Err(Refused);
+    }
+    Ok(number)
+}
+
+/// 1 for yes and 0 for no.
+#[tactic(auto, unfolding(crate::specs::Reading::flag_of))]
+pub(crate) fn parse_flag(word: &[u8]) -> Result<bool, Refused>
+    ensures { result ≡ flag_of word.now }
+{
+    Ok(parse_number(word, 0, 1)? == 1)
+}
+
+/// The number of a sibling that the core has.
+#[tactic(auto, unfolding(crate::specs::Reading::cpu_of))]
+pub(crate) fn parse_cpu(word: &[u8], siblings: u8) -> Result<Cpu, Refused>
+    ensures { result ≡ cpu_of siblings word.now }
+{
+    let cpu = parse_number(word, 0, u8::MAX as u64)? as u8;
+    if cpu >= siblings {
+        return Err(Refused);
+    }
+    Ok(cpu)
 }

@@ -4,7 +4,8 @@
 ghost use Rattle.std.specs.Prelude.{◌≡◌, []};
 ghost use Rattle.scenario_text.specs.Reading.{is_fresh, is_led};
 
-use crate::fault::{ReadFault, UNBUILT};
+use crate::fault::Refused;
+use crate::line::Line;
 use cs_types::{Step, TaskSpec};
 use std::alloc::Global;
 
@@ -39,7 +40,7 @@ fn is_led(tasks: &[TaskSpec], task: &TaskSpec) -> bool
 }
 
 impl Plan {
-    ghost use Rattle.scenario_text.specs.Reading.{Gives, contents, can_follow, with_task, with_step};
+    ghost use Rattle.scenario_text.specs.Reading.{contents, task_check, step_check, line_check};
 
     /// A plan of no task and no step.
     pub fn new(alloc: Global) -> Self
@@ -51,39 +52,43 @@ impl Plan {
         }
     }
 
-    /// Whether the task may follow: after no step, as one of the tasks that may live at once, with a
-    /// pid of its own, and led.
-    #[tactic(auto, unfolding(crate::specs::Reading::can_follow))]
-    fn can_follow(&self, task: &TaskSpec, limit: u16) -> bool
-        ensures { result ≡ can_follow limit task.now (contents self.now) }
+    /// Whether the task may follow: with a pid of its own, led, and as one of the tasks that may
+    /// live at once.
+    #[tactic(auto, unfolding(crate::specs::Reading::task_check))]
+    fn check_task(&self, task: &TaskSpec, limit: u16) -> Result<(), Refused>
+        ensures { result ≡ task_check limit task.now (contents self.now) }
     {
-        self.steps.is_empty()
-            && self.tasks.len() < limit as usize
-            && is_fresh(&self.tasks, task)
-            && is_led(&self.tasks, task)
-    }
-
-    /// Adds the task of the next line. The text is refused where the task may not follow.
-    #[tactic(auto, unfolding(crate::specs::Reading::with_task))]
-    pub fn add_task(&mut self, task: TaskSpec, limit: u16) -> Result<(), ReadFault>
-        ensures { Gives (λ unit. contents self.new) result (with_task limit task (contents self.old)) }
-    {
-        if !self.can_follow(&task, limit) {
-            return Err(UNBUILT);
+        if !is_fresh(&self.tasks, task) {
+            return Err(Refused);
         }
-        self.tasks.push(task)?;
+        if !is_led(&self.tasks, task) {
+            return Err(Refused);
+        }
+        if self.tasks.len() >= limit as usize {
+            return Err(Refused);
+        }
         Ok(())
     }
 
-    /// Adds the step of the next line. The text is refused where it has more steps than a scenario.
-    #[tactic(auto, unfolding(crate::specs::Reading::with_step))]
-    pub fn add_step(&mut self, step: Step) -> Result<(), ReadFault>
-        ensures { Gives (λ unit. contents self.new) result (with_step step (contents self.old)) }
+    /// Whether one more step may follow.
+    #[tactic(auto, unfolding(crate::specs::Reading::step_check))]
+    fn check_step(&self) -> Result<(), Refused>
+        ensures { result ≡ step_check (contents self.now) }
     {
         if self.steps.len() >= MOST_STEPS {
-            return Err(UNBUILT);
+            return Err(Refused);
         }
-        self.steps.push(step)?;
         Ok(())
+    }
+
+    /// Whether the line may follow, where so many tasks may live at once.
+    pub fn check(&self, line: &Line, limit: u16) -> Result<(), Refused>
+        ensures { result ≡ line_check limit line.now (contents self.now) }
+    {
+        match line {
+            Line::Task(task) => self.check_task(task, limit),
+            Line::Step(_) => self.check_step(),
+            Line::End => Ok(()),
+        }
     }
 }

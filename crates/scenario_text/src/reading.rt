@@ -2,10 +2,10 @@
 
 ghost use Rattle.std.specs.Prelude.{◌≡◌, ◌⊎◌, [], MatchResult, IfOk, IfErr, IsErrOf};
 ghost use Rattle.cs_types.specs.declared.scenario.Scenario.{Scenario};
-ghost use Rattle.scenario_text.specs.Reading.{Gives, contents, plan_of, scenario_of};
+ghost use Rattle.scenario_text.specs.Reading.{Takes, Gives, contents, next_of, plan_of, scenario_of};
 ghost use Rattle.scenario_text.specs.Reader.{IsTextOf, HasNoScenario, HasOneScenario};
 
-use crate::fault::{BadKind, ReadFault, UNBUILT};
+use crate::fault::{BadKind, ReadFault, Refused};
 use crate::head::{Head, next_head};
 use crate::line::{Line, parse_line};
 use crate::lines::Lines;
@@ -13,20 +13,31 @@ use crate::plan::Plan;
 use cs_types::{List, Scenario};
 use std::alloc::Global;
 
+/// The next line, which may follow those of the plan.
+#[tactic(auto, using(crate::proofs::Cuts::lent_is), unfolding(crate::specs::Reading::next_of, crate::specs::Reading::follower_of))]
+fn next_line(lines: &mut Lines<'_>, head: Head, plan: &Plan) -> Result<Line, Refused>
+    ensures { Takes (λ line. line) result lines.new (next_of head (contents plan.now) lines.old) }
+{
+    let words = lines.next_line()?;
+    let line = parse_line(words.as_slice(), head.siblings, !plan.steps.is_empty())?;
+    plan.check(&line, head.task_limit)?;
+    Ok(line)
+}
+
 /// The tasks and the steps of the lines up to `end`, after which nothing stands.
 fn read_plan(alloc: Global, lines: &mut Lines<'_>, head: Head) -> Result<Plan, ReadFault>
     ensures { Gives contents result (plan_of head (record { tasks = []; steps = [] }) lines.old) }
 {
     let mut plan = Plan::new(alloc);
-    while let Some(words) = lines.next_line() {
-        match parse_line(words, head.siblings).ok_or(UNBUILT)? {
-            Line::Task(task) => plan.add_task(task, head.task_limit)?,
-            Line::Step(step) => plan.add_step(step)?,
-            Line::End if lines.is_done() => return Ok(plan),
-            Line::End => return Err(UNBUILT),
+    loop {
+        match next_line(lines, head, &plan)? {
+            Line::Task(task) => plan.tasks.push(task)?,
+            Line::Step(step) => plan.steps.push(step)?,
+            Line::End => break,
         }
     }
-    Err(UNBUILT)
+    lines.end()?;
+    Ok(plan)
 }
 
 /// The scenario of the lines, after which nothing stands.
@@ -34,7 +45,7 @@ fn read_plan(alloc: Global, lines: &mut Lines<'_>, head: Head) -> Result<Plan, R
 fn read_lines(alloc: Global, mut lines: Lines<'_>) -> Result<Scenario, ReadFault>
     ensures { Gives (λ scenario. scenario) result (scenario_of lines.entry) }
 {
-    let head = next_head(&mut lines).ok_or(UNBUILT)?;
+    let head = next_head(&mut lines)?;
     let plan = read_plan(alloc, &mut lines, head)?;
     Ok(Scenario {
         siblings: head.siblings,

@@ -2,12 +2,11 @@
 //! with which it shares no more than siblings.
 
 ghost use Rattle.std.specs.Prelude.{◌≡◌};
-ghost use Rattle.scenario_text.specs.Reading.{Takes, actor_of, actor_at, sibling_event_of, sibling_event_at, target_at, ask_at, caller_form_at, caller_event_at, event_at, step_at};
+ghost use Rattle.scenario_text.specs.Reading.{lent, number_of, sibling_event_of, target_of, ask_of, caller_event_of, sibling_step_of, caller_step_of, step_of};
 
-use crate::number::parse_number;
-use crate::task::parse_cpu;
-use crate::words::Words;
-use cs_types::{Actor, Ask, Cpu, Event, Step};
+use crate::fault::Refused;
+use crate::number::{parse_cpu, parse_number};
+use cs_types::{Actor, Ask, Cpu, Event, Pid, Step};
 
 /// The greatest number of a caller. The least is 0.
 const MOST_CALLER: u64 = 7;
@@ -16,123 +15,105 @@ const MOST_CALLER: u64 = 7;
 const MOST_NAMED_PID: u64 = 999_999;
 
 /// The command `PR_SCHED_CORE_CREATE`.
-const CREATE: u64 = 1;
+const CREATE: u32 = 1;
 
 /// The command `PR_SCHED_CORE_SHARE_TO`.
-const SHARE_TO: u64 = 2;
+const SHARE_TO: u32 = 2;
 
 /// The greatest pid of a task with which a caller may share. The least is 1.
 const MOST_TARGET: u64 = 2_147_483_647;
 
-/// `s` and a sibling that the core has, or `c` and a caller.
-#[tactic(auto, unfolding(crate::specs::Reading::actor_of))]
-fn parse_actor(word: &[u8], siblings: u8) -> Option<Actor>
-    ensures { result ≡ actor_of siblings word.now }
+/// What a sibling does to itself. Its number is looked at only in a form.
+#[tactic(auto, unfolding(crate::specs::Reading::reading_named, crate::specs::Reading::sibling_event_of))]
+fn parse_sibling_event(words: &[&[u8]], cpu: Result<Cpu, Refused>) -> Result<Event, Refused>
+    ensures { result ≡ sibling_event_of cpu (lent words.now) }
 {
-    let (kind, digits) = word.split_first()?;
-    match kind {
-        b's' => Some(Actor::Sibling(parse_cpu(digits, siblings)?)),
-        b'c' => Some(Actor::Caller(parse_number(digits, 0, MOST_CALLER)? as u8)),
-        _ => None,
+    match words {
+        [b"turn"] => Ok(Event::Turn(cpu?)),
+        [b"resched"] => Ok(Event::Resched(cpu?)),
+        [b"block"] => Ok(Event::Block(cpu?)),
+        _ => Err(Refused),
     }
 }
 
-/// The next word, an actor.
-#[tactic(auto, unfolding(crate::specs::Reading::actor_at))]
-fn next_actor(words: &mut Words<'_>, siblings: u8) -> Option<Actor>
-    ensures { Takes (λ actor. actor) result words.new (actor_at siblings words.old) }
+/// The target of a command of `prctl`.
+#[tactic(auto, unfolding(crate::specs::Reading::target_of))]
+fn parse_target(word: &[u8], cmd: u32) -> Result<i32, Refused>
+    ensures { result ≡ target_of cmd word.now }
 {
-    parse_actor(words.next_word()?, siblings)
-}
-
-/// What the sibling does to itself.
-#[tactic(auto, unfolding(crate::specs::Reading::sibling_event_of))]
-fn parse_sibling_event(word: &[u8], cpu: Cpu) -> Option<Event>
-    ensures { result ≡ sibling_event_of cpu word.now }
-{
-    match word {
-        b"turn" => Some(Event::Turn(cpu)),
-        b"resched" => Some(Event::Resched(cpu)),
-        b"block" => Some(Event::Block(cpu)),
-        _ => None,
+    if cmd == CREATE {
+        parse_number(word, 0, 0)?;
+        return Ok(0);
     }
+    Ok(parse_number(word, 1, MOST_TARGET)? as i32)
 }
 
-/// The next word, what the sibling does to itself.
-#[tactic(auto, unfolding(crate::specs::Reading::sibling_event_at))]
-fn next_sibling_event(words: &mut Words<'_>, cpu: Cpu) -> Option<Event>
-    ensures { Takes (λ event. event) result words.new (sibling_event_at cpu words.old) }
+/// The arguments of `prctl`.
+#[tactic(auto, unfolding(crate::specs::Reading::ask_of))]
+fn parse_ask(cmd: &[u8], target: &[u8], scope: &[u8], addr: &[u8]) -> Result<Ask, Refused>
+    ensures { result ≡ ask_of cmd.now target.now scope.now addr.now }
 {
-    parse_sibling_event(words.next_word()?, cpu)
-}
-
-/// The next word, the target of a command of `prctl`.
-#[tactic(auto, unfolding(crate::specs::Reading::target_at))]
-fn next_target(words: &mut Words<'_>, command: u64) -> Option<i32>
-    ensures { Takes (λ target. target) result words.new (target_at command words.old) }
-{
-    if command == CREATE {
-        words.next_number(0, 0)?;
-        Some(0)
-    } else {
-        Some(words.next_number(1, MOST_TARGET)? as i32)
-    }
-}
-
-/// The next four words, the arguments of `prctl`.
-#[tactic(auto, unfolding(crate::specs::Reading::ask_at))]
-fn next_ask(words: &mut Words<'_>) -> Option<Ask>
-    ensures { Takes (λ ask. ask) result words.new (ask_at words.old) }
-{
-    let cmd = words.next_number(CREATE, SHARE_TO)?;
-    Some(Ask {
-        cmd: cmd as u32,
-        pid: next_target(words, cmd)?,
-        scope: words.next_number(0, 0)? as u32,
-        addr: words.next_number(0, 0)?,
+    let cmd = parse_number(cmd, CREATE as u64, SHARE_TO as u64)? as u32;
+    Ok(Ask {
+        cmd,
+        pid: parse_target(target, cmd)?,
+        scope: parse_number(scope, 0, 0)? as u32,
+        addr: parse_number(addr, 0, 0)?,
     })
 }
 
-/// The next words, what a caller asks for.
-#[tactic(auto, unfolding(crate::specs::Reading::caller_form_at, crate::specs::Reading::wake_at, crate::specs::Reading::prctl_at))]
-fn next_caller_form(words: &mut Words<'_>, form: &[u8]) -> Option<Event>
-    ensures { Takes (λ event. event) result words.new (caller_form_at form.now words.old) }
+/// The pid of a task that a caller names.
+fn parse_named_pid(word: &[u8]) -> Result<Pid, Refused>
+    ensures { result ≡ number_of 1 999999 word.now }
 {
-    match form {
-        b"wake" => Some(Event::Wake(words.next_number(1, MOST_NAMED_PID)? as u32)),
-        b"prctl" => Some(Event::Prctl {
-            caller: words.next_number(1, MOST_NAMED_PID)? as u32,
-            ask: next_ask(words)?,
+    Ok(parse_number(word, 1, MOST_NAMED_PID)? as u32)
+}
+
+/// What a caller does.
+#[tactic(auto, unfolding(crate::specs::Reading::reading_named, crate::specs::Reading::caller_event_of, crate::specs::Reading::wake_of, crate::specs::Reading::prctl_of))]
+fn parse_caller_event(words: &[&[u8]]) -> Result<Event, Refused>
+    ensures { result ≡ caller_event_of (lent words.now) }
+{
+    match words {
+        [b"wake", pid] => Ok(Event::Wake(parse_named_pid(pid)?)),
+        [b"prctl", caller, cmd, target, scope, addr] => Ok(Event::Prctl {
+            caller: parse_named_pid(caller)?,
+            ask: parse_ask(cmd, target, scope, addr)?,
         }),
-        _ => None,
+        _ => Err(Refused),
     }
 }
 
-/// The next words, what a caller does.
-#[tactic(auto, unfolding(crate::specs::Reading::caller_event_at))]
-fn next_caller_event(words: &mut Words<'_>) -> Option<Event>
-    ensures { Takes (λ event. event) result words.new (caller_event_at words.old) }
+/// What the sibling of this number does.
+#[tactic(auto, unfolding(crate::specs::Reading::sibling_step_of))]
+fn parse_sibling_step(digits: &[u8], event: &[&[u8]], siblings: u8) -> Result<Step, Refused>
+    ensures { result ≡ sibling_step_of siblings digits.now (lent event.now) }
 {
-    let form = words.next_word()?;
-    next_caller_form(words, form)
+    let cpu = parse_cpu(digits, siblings);
+    let event = parse_sibling_event(event, cpu)?;
+    let actor = Actor::Sibling(cpu?);
+    Ok(Step { actor, event })
 }
 
-/// The next words, what the actor does.
-fn next_event(words: &mut Words<'_>, actor: Actor) -> Option<Event>
-    ensures { Takes (λ event. event) result words.new (event_at actor words.old) }
+/// What the caller of this number does.
+#[tactic(auto, unfolding(crate::specs::Reading::caller_step_of))]
+fn parse_caller_step(digits: &[u8], event: &[&[u8]]) -> Result<Step, Refused>
+    ensures { result ≡ caller_step_of digits.now (lent event.now) }
+{
+    let event = parse_caller_event(event)?;
+    let actor = Actor::Caller(parse_number(digits, 0, MOST_CALLER)? as u8);
+    Ok(Step { actor, event })
+}
+
+/// What stands after the word `step`, in a core of so many siblings. The letter of the actor tells
+/// whose event it is, and the event is read before the actor's number, since it has a form.
+#[tactic(auto, unfolding(crate::specs::Reading::step_of))]
+pub(crate) fn parse_step(actor: &[u8], event: &[&[u8]], siblings: u8) -> Result<Step, Refused>
+    ensures { result ≡ step_of siblings actor.now (lent event.now) }
 {
     match actor {
-        Actor::Sibling(cpu) => next_sibling_event(words, cpu),
-        Actor::Caller(_) => next_caller_event(words),
+        [b's', digits @ ..] => parse_sibling_step(digits, event, siblings),
+        [b'c', digits @ ..] => parse_caller_step(digits, event),
+        _ => Err(Refused),
     }
-}
-
-/// What stands after the word `step`. `None` where that is no step of a core of so many siblings.
-#[tactic(auto, unfolding(crate::specs::Reading::step_at))]
-pub(crate) fn next_step(words: &mut Words<'_>, siblings: u8) -> Option<Step>
-    ensures { Takes (λ step. step) result words.new (step_at siblings words.old) }
-{
-    let actor = next_actor(words, siblings)?;
-    let event = next_event(words, actor)?;
-    Some(Step { actor, event })
 }

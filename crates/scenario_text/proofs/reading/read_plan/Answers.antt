@@ -1,64 +1,52 @@
-use Rattle.std.proofs.Common.{Option, Some, sym, ap, ◌∙◌}
-use Rattle.std.proofs.lemmas.Bool.{cond-true, cond-false}
+use Rattle.std.proofs.Common.{List, Ok, sym, ap, ◌∙◌}
 use Rattle.std.proofs.lemmas.Result.{err_from_is_err_and}
-use Rattle.scenario_text.specs.declared.fault.BadKind.TheVariants.{Unbuilt}
-use Rattle.scenario_text.specs.declared.fault.ReadFault.TheVariants.{Bad}
-use Rattle.scenario_text.specs.Reading.{◌>>=◌, Contents, contents, with_task, with_step, plan_of}
-use Rattle.scenario_text.proofs.Plans.{not_given, refused, Fails-bind, plan_of-bad, plan_of-task, plan_of-step, plan_of-end, plan_of-none}
+use Rattle.cs_types.specs.declared.task.TaskSpec.{TaskSpec}
+use Rattle.cs_types.specs.declared.event.Step.{Step}
+use Rattle.scenario_text.specs.Reading.{◌>>=◌, Read, contents, plan_of}
+use Rattle.scenario_text.proofs.Plans.{goes_on, plan_of-taken, plan_of-refused, each_next, Fails-bad}
 use Rattle.scenario_text.proofs.reading.read_plan.Goals as goal
 
 pub returns-in_err-task : goal.returns-in_err-task
 returns-in_err-task c =
     let fault = err_from_is_err_and c.from_residual.result c.from_residual.ensures.1 in
-    let given = not_given c.parse_line.result (Bad 0 Unbuilt) c.in_err-task.field-0.0 c.in_err-task.ensures.value in
-    let bad = plan_of-bad c.args.head (contents c.loop-words.plan) c.loop-words.lines c.in-Some.words c.next_line.new.self c.in-Some.ensures (sym c.parse_line.ensures ∙ given.0) in
-    rw (fault.1, fault.2, given.1) (refused _ (sym c.loop-words.invariant ∙ bad))
+    let bad = plan_of-refused c.args.head (contents c.loop-plan.plan) c.loop-plan.lines _ c.in_err-task.ensures in
+    rw (fault.1, fault.2) (Fails-bad _ (sym c.loop-plan.invariant ∙ bad))
 
-pub loop-words-preserved-in-Continue-branch-3 : goal.loop-words-preserved-in-Continue-branch-3
-loop-words-preserved-in-Continue-branch-3 c =
-    let line = sym c.parse_line.ensures ∙ c.in_ok-task.ensures.ok_part ∙ ap Some c.in-Task.is in
-    let read = plan_of-task c.args.head (contents c.loop-words.plan) c.loop-words.lines c.in-Some.words c.next_line.new.self c.in-Some.ensures c.in-Task.task line in
-    sym (read ∙ ap (λ (o : Option Contents). o >>= λ more. plan_of c.args.head more c.next_line.new.self) c.in_ok-add_task-in-Task.ensures)
-    ∙ c.loop-words.invariant
+pub loop-plan-smaller-in-Continue-branch-3 : goal.loop-plan-smaller-in-Continue-branch-3
+loop-plan-smaller-in-Continue-branch-3 c =
+    (each_next c.args.head (contents c.loop-plan.plan) c.loop-plan.lines).all _ c.in_ok-task.ensures
 
-pub returns-in_err-add_task-in-Task : goal.returns-in_err-add_task-in-Task
-returns-in_err-add_task-in-Task c =
-    let fault = err_from_is_err_and c.from_residual-in_err-add_task-in-Task.result c.from_residual-in_err-add_task-in-Task.ensures.1 in
-    let line = sym c.parse_line.ensures ∙ c.in_ok-task.ensures.ok_part ∙ ap Some c.in-Task.is in
-    let read = plan_of-task c.args.head (contents c.loop-words.plan) c.loop-words.lines c.in-Some.words c.next_line.new.self c.in-Some.ensures c.in-Task.task line in
-    let fails = Fails-bind c.in_err-add_task-in-Task.field-0.0 (with_task c.args.head.task_limit c.in-Task.task (contents c.loop-words.plan)) (λ more. plan_of c.args.head more c.next_line.new.self) c.in_err-add_task-in-Task.ensures in
-    rw (fault.1, fault.2, ← c.loop-words.invariant, read) fails
+pub loop-plan-preserved-in-Continue-branch-3 : goal.loop-plan-preserved-in-Continue-branch-3
+loop-plan-preserved-in-Continue-branch-3 c =
+    let taken = plan_of-taken c.args.head (contents c.loop-plan.plan) c.loop-plan.lines _ _ c.in_ok-task.ensures in
+    let more = taken ∙ ap (goes_on c.args.head (contents c.loop-plan.plan) c.next_line.new.lines) c.in-Task.is in
+    ap (λ (tasks : List TaskSpec). plan_of c.args.head (record { tasks = tasks; steps = c.loop-plan.plan.steps.items }) c.next_line.new.lines) c.in_ok-push-in-Task.ensures.items
+    ∙ sym more
+    ∙ c.loop-plan.invariant
 
-pub loop-words-preserved : goal.loop-words-preserved
-loop-words-preserved c =
-    let line = sym c.parse_line.ensures ∙ c.in_ok-task.ensures.ok_part ∙ ap Some c.in-Step.is in
-    let read = plan_of-step c.args.head (contents c.loop-words.plan) c.loop-words.lines c.in-Some.words c.next_line.new.self c.in-Some.ensures c.in-Step.step line in
-    sym (read ∙ ap (λ (o : Option Contents). o >>= λ more. plan_of c.args.head more c.next_line.new.self) c.in_ok-add_step-in-Step.ensures)
-    ∙ c.loop-words.invariant
+pub loop-plan-smaller : goal.loop-plan-smaller
+loop-plan-smaller c =
+    (each_next c.args.head (contents c.loop-plan.plan) c.loop-plan.lines).all _ c.in_ok-task.ensures
 
-pub returns-in_err-add_step-in-Step : goal.returns-in_err-add_step-in-Step
-returns-in_err-add_step-in-Step c =
-    let fault = err_from_is_err_and c.from_residual-in_err-add_step-in-Step.result c.from_residual-in_err-add_step-in-Step.ensures.1 in
-    let line = sym c.parse_line.ensures ∙ c.in_ok-task.ensures.ok_part ∙ ap Some c.in-Step.is in
-    let read = plan_of-step c.args.head (contents c.loop-words.plan) c.loop-words.lines c.in-Some.words c.next_line.new.self c.in-Some.ensures c.in-Step.step line in
-    let fails = Fails-bind c.in_err-add_step-in-Step.field-0.0 (with_step c.in-Step.step (contents c.loop-words.plan)) (λ more. plan_of c.args.head more c.next_line.new.self) c.in_err-add_step-in-Step.ensures in
-    rw (fault.1, fault.2, ← c.loop-words.invariant, read) fails
+pub loop-plan-preserved : goal.loop-plan-preserved
+loop-plan-preserved c =
+    let taken = plan_of-taken c.args.head (contents c.loop-plan.plan) c.loop-plan.lines _ _ c.in_ok-task.ensures in
+    let more = taken ∙ ap (goes_on c.args.head (contents c.loop-plan.plan) c.next_line.new.lines) c.in-Step.is in
+    ap (λ (steps : List Step). plan_of c.args.head (record { tasks = c.loop-plan.plan.tasks.items; steps = steps }) c.next_line.new.lines) c.in_ok-push-in-Step.ensures.items
+    ∙ sym more
+    ∙ c.loop-plan.invariant
 
-pub returns-in-End : goal.returns-in-End
-returns-in-End c =
-    let line = sym c.parse_line.ensures ∙ c.in_ok-task.ensures.ok_part ∙ ap Some c.in-End.is in
-    sym c.loop-words.invariant
-    ∙ plan_of-end c.args.head (contents c.loop-words.plan) c.loop-words.lines c.in-Some.words c.next_line.new.self c.in-Some.ensures line
-    ∙ cond-true _ _ _ (sym c.if-is_done.ensures)
-
-pub returns-in-End-2 : goal.returns-in-End-2
-returns-in-End-2 c =
-    let line = sym c.parse_line.ensures ∙ c.in_ok-task.ensures.ok_part ∙ ap Some c.in-End-2.is in
-    refused _
-    (sym c.loop-words.invariant
-    ∙ plan_of-end c.args.head (contents c.loop-words.plan) c.loop-words.lines c.in-Some.words c.next_line.new.self c.in-Some.ensures line
-    ∙ cond-false _ _ _ (sym c.if-is_done.ensures))
+pub returns-in_err-end : goal.returns-in_err-end
+returns-in_err-end c =
+    let fault = err_from_is_err_and c.from_residual-in_err-end.result c.from_residual-in_err-end.ensures.1 in
+    let taken = plan_of-taken c.args.head (contents c.loop-plan.plan) c.loop-plan.lines _ _ c.in_ok-task.ensures in
+    let done = taken ∙ ap (goes_on c.args.head (contents c.loop-plan.plan) c.next_line.new.lines) c.in-End.is ∙ ap (λ (read : Read (Unit {0})). read >>= λ end. Ok (contents c.loop-plan.plan)) (sym c.in_err-end.ensures) in
+    rw (fault.1, fault.2) (Fails-bad _ (sym c.loop-plan.invariant ∙ done))
 
 pub returns : goal.returns
 returns c =
-    refused _ (sym c.loop-words.invariant ∙ plan_of-none c.args.head (contents c.loop-words.plan) c.loop-words.lines c.in_default.ensures)
+    let taken = plan_of-taken c.args.head (contents c.loop-plan.plan) c.loop-plan.lines _ _ c.in_ok-task.ensures in
+    sym c.loop-plan.invariant
+    ∙ taken
+    ∙ ap (goes_on c.args.head (contents c.loop-plan.plan) c.next_line.new.lines) c.in-End.is
+    ∙ ap (λ (read : Read (Unit {0})). read >>= λ end. Ok (contents c.loop-plan.plan)) (sym c.in_ok-end.ensures)
