@@ -4,9 +4,9 @@ use Rattle.std.specs.Prelude.{◌&&◌, ◌||◌}
 use Rattle.std.specs.Cmp.{IsStrictWeakOrder}
 use Rattle.std.specs.List.{reduce}
 use Rattle.std.proofs.lemmas.Bool.Decides.{nat_tests}
+use Rattle.cs_types.specs.declared.task.Task.{Task}
 use Rattle.cs_types.specs.declared.task.Policy.{Policy}
 use Rattle.cs_types.specs.declared.task.Policy.TheVariants.{Fifo}
-use Rattle.cs_types.specs.Room.{TaskState}
 use Rattle.cs_types.specs.Order.{is_higher_policy, outranks, goes_before, first_of}
 use Rattle.cs_types.proofs.Foremost.{better, foremost_reduce}
 
@@ -47,12 +47,12 @@ higher_one_way (Fifo p) (Fifo q) h = grind (arith, nat_tests)
 higher_chain : (a b c : Policy) → is_higher_policy a b ≡ false → is_higher_policy b c ≡ false → is_higher_policy a c ≡ false
 higher_chain (Fifo p) (Fifo q) (Fifo r) h k = grind (arith, nat_tests)
 
-outranks_one_way : (a b : Option TaskState) → outranks a b ≡ true → outranks b a ≡ false
+outranks_one_way : (a b : Option Task) → outranks a b ≡ true → outranks b a ≡ false
 outranks_one_way None b h = absurd cc
 outranks_one_way (Some a) None h = refl
 outranks_one_way (Some a) (Some b) h = higher_one_way a.spec.policy b.spec.policy h
 
-outranks_chain : (a b c : Option TaskState) → outranks a b ≡ false → outranks b c ≡ false → outranks a c ≡ false
+outranks_chain : (a b c : Option Task) → outranks a b ≡ false → outranks b c ≡ false → outranks a c ≡ false
 outranks_chain None b c h k = refl
 outranks_chain (Some a) None c h k = absurd cc
 outranks_chain (Some a) (Some b) None h k = absurd cc
@@ -64,5 +64,5 @@ outranks_is_order = record { one_way = outranks_one_way; chain = outranks_chain 
 -- ---- the first
 
 -- a scan that keeps the better of two finds the first
-pub first_of_reduce : (tasks : List TaskState) → first_of tasks ≡ reduce (better goes_before goes_before_is_order) tasks
+pub first_of_reduce : (tasks : List Task) → first_of tasks ≡ reduce (better goes_before goes_before_is_order) tasks
 first_of_reduce tasks = foremost_reduce goes_before goes_before_is_order tasks

@@ -1,6 +1,8 @@
 pub mod Histories
 pub mod Foremost
 pub mod First
+pub mod Tasks
+pub mod Settings
 pub mod Siblings
 pub mod Filtered
 pub mod Selections

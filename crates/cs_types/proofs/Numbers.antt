@@ -1,12 +1,14 @@
 -- Numbers: how the three numbers go on by one entry, that they tell whether a selection is fresh, and how far they,
 -- the stamps and the cookies come in a history.
 use Rattle.std.proofs.Common.{◌≡◌, ℕ, ◌+◌, ◌*◌, ◌<◌, ◌≤◌, Bool, true, false, cond, List, [], ◌∷◌, length, refl, sym, ap, subst, ◌∙◌, arith, ltb, eqb, Option, Some, None, is_some}
-use Rattle.std.specs.Prelude.{◌&&◌, ◌||◌, not, take_while}
+use Rattle.std.specs.Prelude.{◌&&◌, ◌||◌, not, take_while, sum_by}
 use Rattle.std.specs.List.{list_any, list_all}
 use Rattle.std.specs.Option.{option_map_or}
 use Rattle.std.proofs.lemmas.List.Sums.{sum_by-cons, take_while-cons}
+use Rattle.std.proofs.lemmas.List.Filters.{length-filter_both}
 use Rattle.std.proofs.lemmas.Bool.{cond_both}
 use Rattle.std.proofs.lemmas.Bool.Decides.{nat_tests}
+use Rattle.cs_types.specs.declared.task.Task.{Task}
 use Rattle.cs_types.specs.declared.event.Ask.{Ask}
 use Rattle.cs_types.specs.declared.event.Event.{Event}
 use Rattle.cs_types.specs.declared.event.Event.TheVariants.{Turn, Resched, Block, Wake, Prctl}
@@ -17,12 +19,13 @@ use Rattle.cs_types.specs.declared.reply.Reply.{Reply}
 use Rattle.cs_types.specs.declared.reply.Reply.TheVariants.{Picked, Slept, Woken, Zero}
 use Rattle.cs_types.specs.declared.reply.Entry.{Entry}
 use Rattle.cs_types.specs.declared.scenario.Scenario.{Scenario}
-use Rattle.cs_types.specs.Room.{RoomState, TaskState, sibling_of, running_on, task_of}
+use Rattle.cs_types.specs.Room.{RoomState, sibling_of, running_on, task_of}
 use Rattle.cs_types.specs.Selection.{selected_room, selected, plain, is_plain, rescheduled, scheduled, schedule}
-use Rattle.cs_types.specs.Prctl.{Setting, setting_of, is_create, with_setting, prctl_answer, prctl_room}
+use Rattle.cs_types.specs.Prctl.{Setting, target_of, setting_by, setting_of, is_share_from, is_in_scope, makes_cookie, with_made, with_answer, prctl_answer, prctl_room}
 use Rattle.cs_types.specs.Step.{Stepped, step, woken, blocked, turned, dequeued, idled}
-use Rattle.cs_types.specs.Touches.{is_selected, is_adopted, pick_touches, setting_touches, set_touches, selection_of, is_selection, touches_by, Noted, Ledger, noted, back_to, task_number, pick_number, own_number, is_taken_by, is_fresh}
+use Rattle.cs_types.specs.Touches.{is_selected, is_adopted, pick_touches, cookie_touches, set_touches, selection_of, is_selection, touches_by, Noted, Ledger, noted, back_to, task_number, pick_number, own_number, is_taken_by, is_fresh}
 use Rattle.cs_types.specs.History.{History, Moment, next, after, fold_of, ledger_of, beginning}
+use Rattle.cs_types.proofs.Tasks.{length-asleep_tasks, length-tasks-step}
 
 -- ---- one entry more
 
@@ -132,38 +135,63 @@ fresh-ledger_of scenario history =
 
 -- ---- how far the numbers come
 
--- An entry touches at most twice.
-setting_touches-le : (set : Setting) → setting_touches set ≤ 2
-setting_touches-le set = grind (arith, nat_tests)
+-- A task whose cookie is set touches at most twice.
+cookie_touches-le : (cookie : ℕ) (task : Task) → cookie_touches cookie task ≤ 2
+cookie_touches-le cookie task = grind (arith, nat_tests)
 
-settings_touch-le : (set : Option Setting) → option_map_or setting_touches set 0 ≤ 2
-settings_touch-le None = omega arith
-settings_touch-le (Some set) = setting_touches-le set
+pub touches_of_tasks-le : (cookie : ℕ) (tasks : List Task) → sum_by (cookie_touches cookie) tasks ≤ 2 * length tasks
+touches_of_tasks-le cookie [] = omega arith
+touches_of_tasks-le cookie (task ∷ tasks) =
+    omega (arith, sum_by-cons (cookie_touches cookie) task tasks, cookie_touches-le cookie task, touches_of_tasks-le cookie tasks)
 
-set_touches-le : (room : RoomState) (event : Event) → set_touches room event ≤ 2
-set_touches-le room (Prctl caller ask) = settings_touch-le (setting_of room caller ask)
+-- One call sets at most all tasks, or its caller.
+setting_by-few : (room : RoomState) (caller target : Task) (ask : Ask) → length (setting_by room caller target ask).tasks ≤ length room.tasks + 1
+setting_by-few room caller target ask =
+    cond_both (is_share_from ask) _ _ (λ (set : Setting). length set.tasks ≤ length room.tasks + 1) (λ _. omega arith)
+    (λ _. omega (arith, length-filter_both (λ (task : Task). is_in_scope ask.scope target.spec task.spec) (λ task. not (is_in_scope ask.scope target.spec task.spec)) (λ task. refl) room.tasks))
+
+setting_of-few : (room : RoomState) (pid : ℕ) (ask : Ask) → length (setting_of room pid ask).tasks ≤ length room.tasks + 1
+setting_of-few room pid ask = go (task_of room pid) where
+  for_target : (caller : Task) (target : Option Task) →
+      length (option_map_or (λ target. setting_by room caller target ask) target (record { tasks = []; cookie = 0 })).tasks ≤ length room.tasks + 1
+  for_target caller None = omega arith
+  for_target caller (Some target) = setting_by-few room caller target ask
+
+  go : (caller : Option Task) →
+      length (option_map_or (λ caller. option_map_or (λ target. setting_by room caller target ask) (target_of room pid ask) (record { tasks = []; cookie = 0 })) caller (record { tasks = []; cookie = 0 })).tasks ≤ length room.tasks + 1
+  go None = omega arith
+  go (Some caller) = for_target caller (target_of room pid ask)
+
+set_touches-le : (room : RoomState) (event : Event) → set_touches room event ≤ 2 * length room.tasks + 2
+set_touches-le room (Prctl caller ask) =
+    let set = setting_of room caller ask in
+    omega (arith, touches_of_tasks-le set.cookie set.tasks, setting_of-few room caller ask)
 set_touches-le room event = omega arith
 
 pick_touches-le : (pick : Pick) → pick_touches pick ≤ 1
 pick_touches-le pick = cond_both (is_adopted pick.kind) 0 1 (λ n. n ≤ 1) (λ _. omega arith) (λ _. omega arith)
 
-pub touches_by-le : (room : RoomState) (event : Event) (reply : Reply) → touches_by room event reply ≤ 2
+-- An entry touches at most twice for each task, and twice more.
+pub touches_by-le : (room : RoomState) (event : Event) (reply : Reply) → touches_by room event reply ≤ 2 * length room.tasks + 2
 touches_by-le room event (Woken cpu) = omega arith
 touches_by-le room event (Picked pick) = omega (arith, pick_touches-le pick)
 touches_by-le room event (Slept pid pick) = omega (arith, pick_touches-le pick)
 touches_by-le room event Zero = set_touches-le room event
 touches_by-le room event reply = omega arith
 
-touches_after : (moment : Moment) (entries : List Entry) →
-    task_number (after moment entries).ledger ≤ task_number moment.ledger + 2 * length entries
-touches_after moment [] = omega arith
-touches_after moment (entry ∷ entries) =
+touches_after : (moment : Moment) (entries : List Entry) → length moment.room.tasks ≤ 256 →
+    task_number (after moment entries).ledger ≤ task_number moment.ledger + 514 * length entries
+touches_after moment [] few = omega arith
+touches_after moment (entry ∷ entries) few =
     let note = noted moment.room entry in
-    omega (arith, touches_after (next moment entry) entries, task_number-cons note moment.ledger, touches_by-le moment.room entry.event entry.reply)
+    let more = touches_after (next moment entry) entries (subst (λ n. n ≤ 256) (sym (length-tasks-step moment.room (is_fresh moment.ledger) entry.event)) few) in
+    omega (arith, few, more, task_number-cons note moment.ledger, touches_by-le moment.room entry.event entry.reply)
 
--- So the task number is at most twice the length of the history.
-pub task_number-ledger_of : (scenario : Scenario) (history : History) → task_number (ledger_of scenario history) ≤ 2 * length history
-task_number-ledger_of scenario history = omega (arith, touches_after (beginning scenario) history)
+-- So the task number of a history of at most 256 tasks is at most 514 times its length.
+pub task_number-ledger_of : (scenario : Scenario) (history : History) → length scenario.tasks ≤ 256 →
+    task_number (ledger_of scenario history) ≤ 514 * length history
+task_number-ledger_of scenario history few =
+    omega (arith, touches_after (beginning scenario) history (subst (λ n. n ≤ 256) (sym (length-asleep_tasks scenario.tasks)) few))
 
 -- ---- how far the stamps and the cookies come
 
@@ -201,24 +229,28 @@ draws-turned room fresh cpu =
     cond_both (sibling_of room cpu).pending _ _ (λ (made : Stepped). DrawsOne (draws room) (draws made.room))
     (λ _. draws_none _ _ (draws-schedule room fresh cpu)) (λ _. draws_none _ _ refl)
 
-draws-blocked : (room : RoomState) (cpu : ℕ) (task : Option TaskState) → draws (blocked room cpu task).room ≡ draws room
+draws-blocked : (room : RoomState) (cpu : ℕ) (task : Option Task) → draws (blocked room cpu task).room ≡ draws room
 draws-blocked room cpu None = refl
 draws-blocked room cpu (Some task) = draws-schedule (idled (dequeued room task) cpu) false cpu
 
-draws-woken : (room : RoomState) (task : Option TaskState) → DrawsOne (draws room) (draws (woken room task).room)
+draws-woken : (room : RoomState) (task : Option Task) → DrawsOne (draws room) (draws (woken room task).room)
 draws-woken room None = draws_none _ _ refl
 draws-woken room (Some task) =
     cond_both task.queued _ _ (λ (made : Stepped). DrawsOne (draws room) (draws made.room)) (λ _. draws_none _ _ refl)
     (λ _. (omega arith, omega arith))
 
-draws-with_setting : (room : RoomState) (ask : Ask) (set : Option Setting) → DrawsOne (draws room) (draws (with_setting room ask set))
-draws-with_setting room ask None = draws_none _ _ refl
-draws-with_setting room ask (Some set) =
-    (omega arith, cond_both (is_create ask) (room.next_cookie + 1) room.next_cookie (λ n. n ≤ room.next_cookie + 1) (λ _. omega arith) (λ _. omega arith))
+draws-with_made : (room : RoomState) (makes : Bool) → DrawsOne (draws room) (draws (with_made room makes))
+draws-with_made room makes =
+    (omega arith, cond_both makes (room.next_cookie + 1) room.next_cookie (λ n. n ≤ room.next_cookie + 1) (λ _. omega arith) (λ _. omega arith))
 
-draws-prctl_room : (room : RoomState) (pid : ℕ) (ask : Ask) (answer : Reply) → DrawsOne (draws room) (draws (prctl_room room pid ask answer))
-draws-prctl_room room pid ask Zero = draws-with_setting room ask (setting_of room pid ask)
-draws-prctl_room room pid ask _ = draws_none _ _ refl
+draws-with_answer : (room : RoomState) (set : Setting) (answer : Reply) → draws (with_answer room set answer) ≡ draws room
+draws-with_answer room set Zero = refl
+draws-with_answer room set answer = refl
+
+draws-prctl_room : (room : RoomState) (pid : ℕ) (ask : Ask) → DrawsOne (draws room) (draws (prctl_room room pid ask))
+draws-prctl_room room pid ask =
+    subst (DrawsOne (draws room)) (sym (draws-with_answer (with_made room (makes_cookie room pid ask)) (setting_of room pid ask) (prctl_answer room pid ask)))
+    (draws-with_made room (makes_cookie room pid ask))
 
 -- A step draws at most one of each.
 pub draws-step : (room : RoomState) (fresh : Bool) (event : Event) → DrawsOne (draws room) (draws (step room fresh event).room)
@@ -226,7 +258,7 @@ draws-step room fresh (Turn cpu) = draws-turned room fresh cpu
 draws-step room fresh (Resched cpu) = draws_none _ _ (draws-schedule room fresh cpu)
 draws-step room fresh (Block cpu) = draws_none _ _ (draws-blocked room cpu (running_on room cpu))
 draws-step room fresh (Wake pid) = draws-woken room (task_of room pid)
-draws-step room fresh (Prctl caller ask) = draws-prctl_room room caller ask (prctl_answer room caller ask)
+draws-step room fresh (Prctl caller ask) = draws-prctl_room room caller ask
 
 draws_after : (moment : Moment) (entries : List Entry) → let room = (after moment entries).room in
     (room.next_stamp ≤ moment.room.next_stamp + length entries) × (room.next_cookie ≤ moment.room.next_cookie + length entries)

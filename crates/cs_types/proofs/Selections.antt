@@ -9,6 +9,7 @@ use Rattle.std.proofs.lemmas.List.{length-map, get_or-map}
 use Rattle.std.proofs.lemmas.List.Elements.{All-from_recursion, recursion_from_All, All-contains, Contains-append_left, Contains-append_right, filter_passes}
 use Rattle.std.proofs.lemmas.List.FromFn.{length-enumerate_from, get_or-enumerate_from}
 use Rattle.std.proofs.lemmas.Option.{MatchOption-from_none}
+use Rattle.cs_types.specs.declared.task.Task.{Task}
 use Rattle.cs_types.specs.declared.event.Event.{Event}
 use Rattle.cs_types.specs.declared.event.Event.TheVariants.{Turn, Resched, Block, Wake, Prctl}
 use Rattle.cs_types.specs.declared.event.Ask.{Ask}
@@ -16,10 +17,10 @@ use Rattle.cs_types.specs.declared.reply.Reply.TheVariants.{Picked}
 use Rattle.cs_types.specs.declared.reply.Entry.{Entry}
 use Rattle.cs_types.specs.declared.scenario.Scenario.{Scenario}
 use Rattle.cs_types.specs.Scenario.{IsEvent}
-use Rattle.cs_types.specs.Room.{RoomState, TaskState, SiblingState, idle, queued_on, sibling_of, is_online, online, online_from, running_on, task_of}
+use Rattle.cs_types.specs.Room.{RoomState, SiblingState, idle, queued_on, sibling_of, is_online, online, online_from, running_on, task_of}
 use Rattle.cs_types.specs.Order.{foremost, is_higher, outranks, goes_before, first_of}
 use Rattle.cs_types.specs.Selection.{first_on, cookie_of, pid_of, lead_from, choice, eligible, is_forced, is_run, told, handed, given, occupation_of, selected_room, selected, Scheduled, is_plain, plain, rescheduled, scheduled, schedule}
-use Rattle.cs_types.specs.Prctl.{prctl_answer}
+use Rattle.cs_types.specs.Prctl.{Row, first_answer, rows_before_making, rows_after_making, prctl_answer}
 use Rattle.cs_types.specs.Touches.{selection_of, is_fresh}
 use Rattle.cs_types.specs.Step.{Stepped, step, turned, blocked, woken, idled, dequeued}
 use Rattle.cs_types.specs.History.{History, moment_of, fold_of, ledger_of, reply_to, step_at}
@@ -33,13 +34,13 @@ use Rattle.cs_types.proofs.Siblings.{onlines-idled, length-alike, is_online-alik
 -- ---- the first of a list of tasks
 
 -- where there is no first, there is no task
-no_first : (tasks : List TaskState) → first_of tasks ≡ None → tasks ≡ []
+no_first : (tasks : List Task) → first_of tasks ≡ None → tasks ≡ []
 no_first tasks none = foremost_none goes_before goes_before_is_order tasks none
 
 -- No task of a list outranks its first.
-pub none_outranks_first : (tasks : List TaskState) → AllByRecursion (λ task. outranks (Some task) (first_of tasks) ≡ false) tasks
+pub none_outranks_first : (tasks : List Task) → AllByRecursion (λ task. outranks (Some task) (first_of tasks) ≡ false) tasks
 none_outranks_first tasks = go (first_of tasks) refl where
-  go : (first : Option TaskState) → first_of tasks ≡ first → AllByRecursion (λ task. outranks (Some task) first ≡ false) tasks
+  go : (first : Option Task) → first_of tasks ≡ first → AllByRecursion (λ task. outranks (Some task) first ≡ false) tasks
   go None none = subst (AllByRecursion (λ task. outranks (Some task) None ≡ false)) (sym (no_first tasks none)) tt
   go (Some first) found =
       each_weaker (λ task. goes_before task first ≡ false) (λ task. outranks (Some task) (Some first) ≡ false) tasks
@@ -72,17 +73,17 @@ pub lead_found : (room : RoomState) (cpu : ℕ) → cpu < length room.siblings �
     foremost outranks (map (first_on room) (online_from room cpu)) ≡ Some (lead_from room cpu)
 unfolding lead_from
 lead_found room cpu below up = go (foremost outranks firsts) refl where
-  firsts : List (Option TaskState)
+  firsts : List (Option Task)
   firsts = map (first_on room) (online_from room cpu)
 
-  go : (found : Option (Option TaskState)) → foremost outranks firsts ≡ found → found ≡ Some (option_and_then (λ lead. lead) found)
+  go : (found : Option (Option Task)) → foremost outranks firsts ≡ found → found ≡ Some (option_and_then (λ lead. lead) found)
   go None none =
       let held = online_from_holds room cpu cpu below up in
       absurd (omega (arith, held.1, length-map (online_from room cpu) (first_on room), ap length (foremost_none outranks outranks_is_order firsts none)))
   go (Some lead) found = refl
 
 -- No task queued on an online sibling is higher than the lead.
-none_outranks_lead : (room : RoomState) (cpu other : ℕ) (lead : Option TaskState) → foremost outranks (map (first_on room) (online_from room cpu)) ≡ Some lead →
+none_outranks_lead : (room : RoomState) (cpu other : ℕ) (lead : Option Task) → foremost outranks (map (first_on room) (online_from room cpu)) ≡ Some lead →
     Contains (online_from room cpu) other → All (λ task. outranks (Some task) lead ≡ false) (queued_on room other)
 none_outranks_lead room cpu other lead earliest held =
     let least = each_of_map (λ first. outranks first lead ≡ false) (first_on room) (online_from room cpu)
@@ -96,11 +97,11 @@ none_outranks_lead room cpu other lead earliest held =
 -- ---- the choice of a sibling
 
 -- the choice among a sibling's tasks, by their first
-chosen : (tasks : List TaskState) (core : ℕ) (first : Option TaskState) → first_of tasks ≡ first →
+chosen : (tasks : List Task) (core : ℕ) (first : Option Task) → first_of tasks ≡ first →
     cond (is_none first || (cookie_of first == core)) first (cond (core == 0) None (first_of (filter (λ task. task.cookie == core) tasks)))
     ≡ first_of (cond (core == 0) (filter (λ task. task.cookie == 0) (option_to_list first)) (filter (λ task. task.cookie == core) tasks))
 chosen tasks core None none =
-    rw (no_first tasks none) (cond_both (core == 0) [] [] (λ (ts : List TaskState). None ≡ first_of ts) (λ _. refl) (λ _. refl))
+    rw (no_first tasks none) (cond_both (core == 0) [] [] (λ (ts : List Task). None ≡ first_of ts) (λ _. refl) (λ _. refl))
 chosen tasks core (Some first) found =
     elim (cases_Bool (first.cookie == core)) [
       | inl same ↦ elim (cases_Bool (core == 0)) [
@@ -120,9 +121,9 @@ unfolding choice
 choice_is_first room core cpu = chosen (queued_on room cpu) core (first_on room cpu) refl
 
 -- a filter by a cookie keeps tasks that have it
-each_with : (cookie : ℕ) (tasks : List TaskState) → AllByRecursion (λ task. task.cookie ≡ cookie) (filter (λ task. task.cookie == cookie) tasks)
+each_with : (cookie : ℕ) (tasks : List Task) → AllByRecursion (λ task. task.cookie ≡ cookie) (filter (λ task. task.cookie == cookie) tasks)
 each_with cookie tasks =
-    let kept = filter (λ (task : TaskState). task.cookie == cookie) tasks in
+    let kept = filter (λ (task : Task). task.cookie == cookie) tasks in
     each_weaker (λ task. (task.cookie == cookie) ≡ true) (λ task. task.cookie ≡ cookie) kept (λ task pass. eqb-true task.cookie cookie pass)
     (recursion_from_All (λ task. (task.cookie == cookie) ≡ true) kept (filter_passes (λ task. task.cookie == cookie) tasks))
 
@@ -130,32 +131,32 @@ each_with cookie tasks =
 pub each_eligible : (room : RoomState) (core cpu : ℕ) → AllByRecursion (λ task. task.cookie ≡ core) (eligible room core cpu)
 each_eligible room core cpu =
     let first = option_to_list (first_on room cpu) in
-    cond_both (core == 0) _ _ (AllByRecursion (λ (task : TaskState). task.cookie ≡ core))
+    cond_both (core == 0) _ _ (AllByRecursion (λ (task : Task). task.cookie ≡ core))
     (λ none. subst (λ cookie. AllByRecursion (λ task. task.cookie ≡ cookie) (filter (λ task. task.cookie == 0) first)) (sym (eqb-true core 0 none)) (each_with 0 first))
     (λ _. each_with core (queued_on room cpu))
 
 -- A choice is idle, or has the core cookie.
 choice_matches : (room : RoomState) (core cpu : ℕ) → (choice room core cpu ≡ None) ⊎ (cookie_of (choice room core cpu) ≡ core)
 choice_matches room core cpu = go (choice room core cpu) (sym (choice_is_first room core cpu)) where
-  go : (made : Option TaskState) → first_of (eligible room core cpu) ≡ made → (made ≡ None) ⊎ (cookie_of made ≡ core)
+  go : (made : Option Task) → first_of (eligible room core cpu) ≡ made → (made ≡ None) ⊎ (cookie_of made ≡ core)
   go None none = inl refl
   go (Some task) found = inr (each_found (λ t. t.cookie ≡ core) _ (eligible room core cpu) task found (each_eligible room core cpu))
 
 -- there is a first exactly where there is a task
-some_first : (tasks : List TaskState) → (is_some (first_of tasks) ≡ true) ↔ (0 < length tasks)
+some_first : (tasks : List Task) → (is_some (first_of tasks) ≡ true) ↔ (0 < length tasks)
 some_first tasks = (there tasks, go (first_of tasks) refl) where
-  there : (tasks : List TaskState) → is_some (first_of tasks) ≡ true → 0 < length tasks
+  there : (tasks : List Task) → is_some (first_of tasks) ≡ true → 0 < length tasks
   there [] some = absurd cc
   there (task ∷ tasks) some = omega arith
 
-  go : (first : Option TaskState) → first_of tasks ≡ first → 0 < length tasks → is_some first ≡ true
+  go : (first : Option Task) → first_of tasks ≡ first → 0 < length tasks → is_some first ≡ true
   go None none long = absurd (omega (arith, ap length (no_first tasks none)))
   go (Some first) found long = refl
 
 -- and none exactly where there is none
-none_first : (tasks : List TaskState) → (is_none (first_of tasks) ≡ true) ↔ (tasks ≡ [])
+none_first : (tasks : List Task) → (is_none (first_of tasks) ≡ true) ↔ (tasks ≡ [])
 none_first tasks = (go (first_of tasks) refl, λ none. ap (λ ts. is_none (first_of ts)) none) where
-  go : (first : Option TaskState) → first_of tasks ≡ first → is_none first ≡ true → tasks ≡ []
+  go : (first : Option Task) → first_of tasks ≡ first → is_none first ≡ true → tasks ≡ []
   go None none idle = no_first tasks none
   go (Some first) found idle = absurd cc
 
@@ -254,7 +255,7 @@ turned_keeps_law room fresh cpu below up =
     cond_both (sibling_of room cpu).pending _ _ (StepKeepsLaw room (Turn cpu)) (λ _. schedule_keeps_law room fresh cpu below up) (λ _. tt)
 
 -- a sibling that blocks schedules in the room without the task that went to sleep, where the same siblings are online
-blocked_keeps_law : (room : RoomState) (cpu : ℕ) (task : Option TaskState) → cpu < length room.siblings → is_online room cpu ≡ true →
+blocked_keeps_law : (room : RoomState) (cpu : ℕ) (task : Option Task) → cpu < length room.siblings → is_online room cpu ≡ true →
     IfSome (selection_of (blocked room cpu task).reply)
     (λ pick. SelectsForTheCore (option_map_or (λ task. idled (dequeued room task) cpu) task room) cpu pick (blocked room cpu task).room)
 blocked_keeps_law room cpu None below up = tt
@@ -264,14 +265,27 @@ blocked_keeps_law room cpu (Some task) below up =
     schedule_keeps_law room_then false cpu (subst (λ n. cpu < n) (sym (length-alike room_then room same)) below)
     (is_online-alike room_then room same cpu ∙ up)
 
-woken_keeps_law : (room : RoomState) (pid : ℕ) (task : Option TaskState) → StepKeepsLaw room (Wake pid) (woken room task)
+woken_keeps_law : (room : RoomState) (pid : ℕ) (task : Option Task) → StepKeepsLaw room (Wake pid) (woken room task)
 woken_keeps_law room pid None = tt
 woken_keeps_law room pid (Some task) = cond_both task.queued _ _ (StepKeepsLaw room (Wake pid)) (λ _. tt) (λ _. tt)
 
+-- no answer of these rows tells a selection
+abbrev pub SelectNothing : List Row → Type 0
+SelectNothing [] = Unit {0}
+SelectNothing (row ∷ rows) = (selection_of row.answer ≡ None) × SelectNothing rows
+
+first_answer_selects_nothing : (rows : List Row) → SelectNothing rows → selection_of (first_answer rows) ≡ None
+first_answer_selects_nothing [] none = refl
+first_answer_selects_nothing (row ∷ rows) none =
+    cond_both row.holds row.answer (first_answer rows) (λ answer. selection_of answer ≡ None) (λ _. none.0)
+    (λ _. first_answer_selects_nothing rows none.1)
+
 -- A call tells no selection.
 prctl_selects_nothing : (room : RoomState) (caller : ℕ) (ask : Ask) → selection_of (prctl_answer room caller ask) ≡ None
-unfolding prctl_answer
-prctl_selects_nothing room caller ask = grind arith
+unfolding rows_before_making rows_after_making
+prctl_selects_nothing room caller ask =
+    first_answer_selects_nothing (rows_before_making room caller ask ++ rows_after_making room caller ask)
+    (refl, (refl, (refl, (refl, (refl, (refl, (refl, (refl, (refl, (refl, (refl, (refl, (refl, tt)))))))))))))
 
 -- Every step of an online sibling keeps the law, and the other steps select nothing.
 pub step_keeps_law : (room : RoomState) (fresh : Bool) (event : Event) → IsEvent (length room.siblings) event →

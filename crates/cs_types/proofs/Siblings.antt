@@ -1,9 +1,10 @@
 -- Siblings: no step adds a sibling, takes one away, or changes whether one is online.
 use Rattle.std.proofs.Common.{◌≡◌, ℕ, zero, suc, ◌+◌, ◌<◌, Bool, true, false, List, [], ◌∷◌, map, length, get_or, set, refl, sym, ap, ◌∙◌, Option, Some, None}
-use Rattle.std.specs.Prelude.{◌==◌}
+use Rattle.std.specs.Prelude.{◌==◌, ◌||◌}
 use Rattle.std.specs.List.{enumerate_from}
 use Rattle.std.proofs.lemmas.Bool.{cond_both}
 use Rattle.std.proofs.lemmas.List.{length-map, length-replicate, get_or-replicate}
+use Rattle.cs_types.specs.declared.task.Task.{Task}
 use Rattle.cs_types.specs.declared.event.Event.{Event}
 use Rattle.cs_types.specs.declared.event.Event.TheVariants.{Turn, Resched, Block, Wake, Prctl}
 use Rattle.cs_types.specs.declared.event.Ask.{Ask}
@@ -11,9 +12,9 @@ use Rattle.cs_types.specs.declared.reply.Reply.{Reply}
 use Rattle.cs_types.specs.declared.reply.Reply.TheVariants.{Zero}
 use Rattle.cs_types.specs.declared.reply.Entry.{Entry}
 use Rattle.cs_types.specs.declared.scenario.Scenario.{Scenario}
-use Rattle.cs_types.specs.Room.{RoomState, TaskState, SiblingState, idle, sibling_of, running_on, is_online, task_of, with_sibling, start}
+use Rattle.cs_types.specs.Room.{RoomState, SiblingState, idle, sibling_of, running_on, is_online, task_of, with_sibling, start}
 use Rattle.cs_types.specs.Selection.{is_run, told, handed, given, selected_room, selected, plain, is_plain, rescheduled, scheduled, schedule}
-use Rattle.cs_types.specs.Prctl.{Setting, setting_of, with_setting, prctl_answer, prctl_room}
+use Rattle.cs_types.specs.Prctl.{Setting, setting_of, runs_one, makes_cookie, with_made, with_answer, prctl_answer, prctl_room}
 use Rattle.cs_types.specs.Step.{Stepped, step, woken, blocked, turned, dequeued, idled, enqueued}
 use Rattle.cs_types.specs.Touches.{is_fresh}
 use Rattle.cs_types.specs.History.{History, Moment, beginning, next, after, fold_of}
@@ -83,26 +84,32 @@ onlines-turned room fresh cpu =
     cond_both (sibling_of room cpu).pending _ _ (λ (made : Stepped). onlines made.room ≡ onlines room) (λ _. onlines-schedule room fresh cpu) (λ _. refl)
 
 -- the task that a sibling runs goes to sleep, and the sibling runs idle
-pub onlines-idled : (room : RoomState) (cpu : ℕ) (task : TaskState) → onlines (idled (dequeued room task) cpu) ≡ onlines room
+pub onlines-idled : (room : RoomState) (cpu : ℕ) (task : Task) → onlines (idled (dequeued room task) cpu) ≡ onlines room
 onlines-idled room cpu task = onlines-with_sibling (dequeued room task) cpu _ refl
 
-onlines-blocked : (room : RoomState) (cpu : ℕ) (task : Option TaskState) → onlines (blocked room cpu task).room ≡ onlines room
+onlines-blocked : (room : RoomState) (cpu : ℕ) (task : Option Task) → onlines (blocked room cpu task).room ≡ onlines room
 onlines-blocked room cpu None = refl
 onlines-blocked room cpu (Some task) = onlines-schedule (idled (dequeued room task) cpu) false cpu ∙ onlines-idled room cpu task
 
-onlines-woken : (room : RoomState) (task : Option TaskState) → onlines (woken room task).room ≡ onlines room
+onlines-woken : (room : RoomState) (task : Option Task) → onlines (woken room task).room ≡ onlines room
 onlines-woken room None = refl
 onlines-woken room (Some task) =
     cond_both task.queued _ _ (λ (made : Stepped). onlines made.room ≡ onlines room) (λ _. refl)
     (λ _. onlines-with_sibling (enqueued room task) task.home _ refl)
 
-onlines-with_setting : (room : RoomState) (ask : Ask) (set : Option Setting) → onlines (with_setting room ask set) ≡ onlines room
-onlines-with_setting room ask None = refl
-onlines-with_setting room ask (Some set) = onlines-with_sibling room set.target.home _ refl
+-- a change of every sibling that keeps whether it is online
+map-map_alike : {X Y : Type 0} (f : X → Y) (g : X → X) → ((x : X) → f (g x) ≡ f x) → (xs : List X) → map f (map g xs) ≡ map f xs
+map-map_alike f g same [] = refl
+map-map_alike f g same (x ∷ xs) = cc (same x, map-map_alike f g same xs)
 
-onlines-prctl_room : (room : RoomState) (pid : ℕ) (ask : Ask) (answer : Reply) → onlines (prctl_room room pid ask answer) ≡ onlines room
-onlines-prctl_room room pid ask Zero = onlines-with_setting room ask (setting_of room pid ask)
-onlines-prctl_room room pid ask _ = refl
+onlines-with_answer : (room : RoomState) (set : Setting) (answer : Reply) → onlines (with_answer room set answer) ≡ onlines room
+onlines-with_answer room set Zero =
+    map-map_alike (λ (s : SiblingState). s.online) (λ s. record s { pending = s.pending || runs_one set s }) (λ s. refl) room.siblings
+onlines-with_answer room set answer = refl
+
+onlines-prctl_room : (room : RoomState) (pid : ℕ) (ask : Ask) → onlines (prctl_room room pid ask) ≡ onlines room
+onlines-prctl_room room pid ask =
+    onlines-with_answer (with_made room (makes_cookie room pid ask)) (setting_of room pid ask) (prctl_answer room pid ask)
 
 -- No step adds or takes a sibling, or changes whether one is online.
 pub onlines-step : (room : RoomState) (fresh : Bool) (event : Event) →
@@ -111,7 +118,7 @@ onlines-step room fresh (Turn cpu) = onlines-turned room fresh cpu
 onlines-step room fresh (Resched cpu) = onlines-schedule room fresh cpu
 onlines-step room fresh (Block cpu) = onlines-blocked room cpu (running_on room cpu)
 onlines-step room fresh (Wake pid) = onlines-woken room (task_of room pid)
-onlines-step room fresh (Prctl caller ask) = onlines-prctl_room room caller ask (prctl_answer room caller ask)
+onlines-step room fresh (Prctl caller ask) = onlines-prctl_room room caller ask
 
 -- ---- what is read from whether the siblings are online
 

@@ -1,10 +1,11 @@
 -- Laws: what the rules come to, said without them.
 use Rattle.std.specs.Prelude.{◌≡◌, ◌↔◌, ℕ, ◌<◌, false, ◌⊎◌, [], map, length, count_by, All, Contains, IsTrue, Option, Some, None, unwrap_or}
 use Rattle.std.specs.Option.{option_map_or}
+use Rattle.cs_types.specs.declared.task.Task.{Task}
 use Rattle.cs_types.specs.declared.event.Event.{Event}
 use Rattle.cs_types.specs.declared.event.Event.TheVariants.{Block}
 use Rattle.cs_types.specs.declared.reply.Pick.{Pick}
-use Rattle.cs_types.specs.Room.{RoomState, TaskState, SiblingState, queued_on, sibling_of, running_on, online, online_from}
+use Rattle.cs_types.specs.Room.{RoomState, SiblingState, queued_on, sibling_of, running_on, online, online_from}
 use Rattle.cs_types.specs.Order.{foremost, outranks, first_of}
 use Rattle.cs_types.specs.Selection.{first_on, cookie_of, pid_of, choice, eligible, is_forced}
 use Rattle.cs_types.specs.Touches.{scheduler_of}
@@ -26,7 +27,7 @@ to_run sibling = unwrap_or sibling.waiting sibling.run
 -- What a selection for the core that a sibling made in the one room leaves in the other.
 pub record SelectsForTheCore (before : RoomState) (cpu : ℕ) (pick : Pick) (now : RoomState) : Type 0 where
   -- The lead is the earliest first, from the sibling that selects on, than which no other first is higher.
-  pub lead : Option TaskState
+  pub lead : Option Task
   pub earliest : foremost outranks (map (first_on before) (online_from before cpu)) ≡ Some lead
   -- No task queued on any online sibling is higher than the lead.
   pub highest : (other : ℕ) → Contains (online before) other →

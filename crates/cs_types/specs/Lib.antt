@@ -2,6 +2,7 @@ pub mod Scenario
 pub mod Room
 pub mod Order
 pub mod Selection
+pub mod Errno
 pub mod Access
 pub mod Prctl
 pub mod Touches

@@ -1,15 +1,17 @@
 -- Prctl: the calls `prctl(PR_SCHED_CORE, ..)`, their answers, and the cookies that they set
 -- (`sched_core_share_pid`, kernel/sched/core_sched.c).
-use Rattle.std.specs.Prelude.{ℕ, zero, suc, ◌+◌, ℤ, pos, negsuc, Bool, false, ◌==◌, ◌&&◌, not, nat_lt, if◌then◌else◌, List, [], ◌∷◌, length, map, filter, Option, Some, None, is_none}
-use Rattle.std.specs.List.{list_any}
-use Rattle.std.specs.Option.{option_and_then, option_map}
+use Rattle.std.specs.Prelude.{ℕ, zero, suc, ◌+◌, ◌-◌, ◌%◌, ℤ, pos, negsuc, Bool, true, false, ◌==◌, ◌&&◌, ◌||◌, not, nat_lt, if◌then◌else◌, List, [], ◌∷◌, ◌++◌, length, map, filter, Option, Some, None, is_none}
+use Rattle.std.specs.List.{list_any, list_all}
+use Rattle.std.specs.Option.{option_and_then, option_map_or}
+use Rattle.cs_types.specs.declared.task.Task.{Task}
+use Rattle.cs_types.specs.declared.task.TaskSpec.{TaskSpec}
 use Rattle.cs_types.specs.declared.event.Ask.{Ask}
-use Rattle.cs_types.specs.declared.reply.Errno.TheVariants.{Eperm, Esrch, Enomem, Enodev}
+use Rattle.cs_types.specs.declared.reply.Errno.TheVariants.{Eperm, Esrch, Enomem, Efault, Enodev, Einval}
 use Rattle.cs_types.specs.declared.reply.Reply.{Reply}
-use Rattle.cs_types.specs.declared.reply.Reply.TheVariants.{Zero, Refused, NoCaller}
+use Rattle.cs_types.specs.declared.reply.Reply.TheVariants.{Zero, Value, Refused, NoCaller}
 use Rattle.cs_types.specs.Access.{may_access}
-use Rattle.cs_types.specs.Room.{RoomState, TaskState, task_of, sibling_of, online, with_task, flagged}
-use Rattle.cs_types.specs.Selection.{is_run}
+use Rattle.cs_types.specs.Room.{RoomState, SiblingState, has_pid, task_of, online}
+use Rattle.cs_types.specs.Selection.{cookie_of}
 
 -- ---- live cookies
 
@@ -19,40 +21,69 @@ distinct [] = []
 distinct (x ∷ xs) = if list_any (λ other. other == x) xs then distinct xs else x ∷ distinct xs
 
 -- A cookie is live while a living task has it.
-abbrev pub live_cookies : List TaskState → List ℕ
+abbrev pub live_cookies : List Task → List ℕ
 live_cookies tasks = filter (λ cookie. not (cookie == 0)) (distinct (map (λ task. task.cookie) tasks))
 
--- ---- whom a call speaks of
+-- ---- the arguments
 
--- the target: the caller for 0, else the living task with the pid
-abbrev pub target_of : RoomState → TaskState → ℤ → Option TaskState
-target_of room caller (pos zero) = Some caller
-target_of room caller (pos (suc n)) = task_of room (suc n)
-target_of room caller (negsuc n) = None
+-- the commands (`PR_SCHED_CORE_GET` to `PR_SCHED_CORE_SHARE_FROM`)
+abbrev pub is_get : Ask → Bool
+is_get ask = ask.cmd == 0
 
--- `PR_SCHED_CORE_CREATE`, the other built command being `PR_SCHED_CORE_SHARE_TO`
 abbrev pub is_create : Ask → Bool
 is_create ask = ask.cmd == 1
 
--- a task whose cookie is set, and to what
-pub record Setting : Type 0 where
-  pub target : TaskState
-  pub cookie : ℕ
+abbrev pub is_share_to : Ask → Bool
+is_share_to ask = ask.cmd == 2
 
--- what a call sets where it succeeds: the target's cookie, to a new one or to the caller's
-abbrev pub setting_of : RoomState → ℕ → Ask → Option Setting
-setting_of room pid ask =
-    option_and_then (λ caller. option_map
-    (λ target. record { target = target; cookie = if is_create ask then room.next_cookie else caller.cookie })
-    (target_of room caller ask.pid)) (task_of room pid)
+abbrev pub is_share_from : Ask → Bool
+is_share_from ask = ask.cmd == 3
+
+-- the scope of the target alone (`PR_SCHED_CORE_SCOPE_THREAD`); 1 and 2 are a thread group and a process group
+abbrev pub is_thread : Ask → Bool
+is_thread ask = ask.scope == 0
+
+-- whether the target's pid is below 0
+abbrev pub is_below_0 : ℤ → Bool
+is_below_0 (pos n) = false
+is_below_0 (negsuc n) = true
+
+-- whether an argument is valid for no command, or the address is given with another command than GET
+abbrev pub is_invalid : Ask → Bool
+is_invalid ask =
+    nat_lt 2 ask.scope || nat_lt 3 ask.cmd || is_below_0 ask.pid || (not (ask.addr == 0) && not (is_get ask))
+
+-- the task that a pid names: the caller for 0, else the living task that has it
+abbrev pub named_by : RoomState → Task → ℤ → Option Task
+named_by room caller (pos zero) = Some caller
+named_by room caller (pos (suc n)) = task_of room (suc n)
+named_by room caller (negsuc n) = None
+
+-- the target of a call by the task with the pid
+abbrev pub target_of : RoomState → ℕ → Ask → Option Task
+target_of room pid ask = option_and_then (λ caller. named_by room caller ask.pid) (task_of room pid)
+
+-- whether a task is in a scope of the target: the target itself, its thread group or its process group
+abbrev pub is_in_scope : ℕ → TaskSpec → TaskSpec → Bool
+is_in_scope scope target task =
+    if scope == 0 then task.pid == target.pid else (if scope == 1 then task.tgid == target.tgid else task.pgid == target.pgid)
+
+-- the members of a scope of the target: the living tasks that are in it, by rising pid
+abbrev pub members : RoomState → ℕ → Task → List Task
+members room scope target = filter (λ task. is_in_scope scope target.spec task.spec) room.tasks
 
 -- ---- the answer
 
--- whether the caller may access the target, where both are there
-abbrev pub may_access_target : Option TaskState → Option TaskState → Bool
-may_access_target None target = false
-may_access_target (Some caller) None = false
-may_access_target (Some caller) (Some target) = may_access caller.spec target.spec
+-- whether the one task may access the other, where both are there
+abbrev pub may_access_each : Option Task → Option Task → Bool
+may_access_each None target = false
+may_access_each (Some caller) None = false
+may_access_each (Some caller) (Some target) = may_access caller.spec target.spec
+
+-- whether the caller may access every member of a scope of the target
+abbrev pub may_access_members : RoomState → ℕ → Option Task → Option Task → Bool
+may_access_members room scope caller target =
+    option_map_or (λ target. list_all (λ member. may_access_each caller (Some member)) (members room scope target)) target true
 
 -- a condition, and the answer where it holds
 pub record Row : Type 0 where
@@ -64,41 +95,88 @@ abbrev pub first_answer : List Row → Reply
 first_answer [] = Zero
 first_answer (row ∷ rows) = if row.holds then row.answer else first_answer rows
 
--- the answer of a call
-unfoldable pub prctl_answer : RoomState → ℕ → Ask → Reply
-prctl_answer room pid ask =
+-- the rows that come before a cookie is made
+unfoldable pub rows_before_making : RoomState → ℕ → Ask → List Row
+rows_before_making room pid ask =
     let caller = task_of room pid in
-    let target = option_and_then (λ task. target_of room task ask.pid) caller in
-    first_answer (
+    let target = target_of room pid ask in
     record { holds = is_none caller; answer = NoCaller }
     ∷ record { holds = nat_lt (length (online room)) 2; answer = Refused Enodev }
+    ∷ record { holds = is_invalid ask; answer = Refused Einval }
     ∷ record { holds = is_none target; answer = Refused Esrch }
-    ∷ record { holds = not (may_access_target caller target); answer = Refused Eperm }
+    ∷ record { holds = not (may_access_each caller target); answer = Refused Eperm }
+    ∷ record { holds = is_get ask && (not (is_thread ask) || not (ask.addr % 8 == 0)); answer = Refused Einval }
+    ∷ record { holds = is_get ask && (nat_lt ask.addr 4096 || nat_lt (room.user_top - 8) ask.addr); answer = Refused Efault }
+    ∷ record { holds = is_get ask; answer = Value (cookie_of target) }
     ∷ record { holds = is_create ask && (length (live_cookies room.tasks) == room.cookie_limit); answer = Refused Enomem }
     ∷ []
-    )
 
--- ---- setting a cookie (`sched_core_update_cookie`)
+-- the rows that come after it
+unfoldable pub rows_after_making : RoomState → ℕ → Ask → List Row
+rows_after_making room pid ask =
+    let caller = task_of room pid in
+    let target = target_of room pid ask in
+    record { holds = is_share_from ask && not (is_thread ask); answer = Refused Einval }
+    ∷ record { holds = is_share_from ask; answer = Zero }
+    ∷ record { holds = not (is_thread ask) && not (may_access_members room ask.scope caller target); answer = Refused Eperm }
+    ∷ record { holds = true; answer = Zero }
+    ∷ []
 
--- whether the task is the one that its home runs
-abbrev pub is_running : RoomState → TaskState → Bool
-is_running room task = is_run (sibling_of room task.home).run (Some task.spec.pid)
+-- the answer of a call by the task with the pid
+abbrev pub prctl_answer : RoomState → ℕ → Ask → Reply
+prctl_answer room pid ask = first_answer (rows_before_making room pid ask ++ rows_after_making room pid ask)
 
--- The task has the cookie, and where it runs its sibling becomes pending, also where the cookie is the same.
-abbrev pub with_cookie : RoomState → Setting → RoomState
-with_cookie room set =
-    flagged (with_task room (record set.target { cookie = set.cookie })) set.target.home (is_running room set.target)
+-- ---- the cookies after it
 
--- A command that creates draws the next cookie, which is never drawn again.
-abbrev pub drawn : RoomState → Ask → RoomState
-drawn room ask = record room { next_cookie = if is_create ask then room.next_cookie + 1 else room.next_cookie }
+-- whether a call makes a cookie: a command that creates, where no row before the making holds
+abbrev pub makes_cookie : RoomState → ℕ → Ask → Bool
+makes_cookie room pid ask = is_create ask && not (list_any (λ row. row.holds) (rows_before_making room pid ask))
 
--- the room after a call that set this
-abbrev pub with_setting : RoomState → Ask → Option Setting → RoomState
-with_setting room ask None = room
-with_setting room ask (Some set) = with_cookie (drawn room ask) set
+-- tasks whose cookie is set, and to what
+pub record Setting : Type 0 where
+  pub tasks : List Task
+  pub cookie : ℕ
+
+-- what a call sets where its answer is 0: the caller's cookie to the target's, or that of each member to a new one
+-- or to the caller's
+abbrev pub setting_by : RoomState → Task → Task → Ask → Setting
+setting_by room caller target ask =
+    if is_share_from ask
+    then record { tasks = caller ∷ []; cookie = target.cookie }
+    else record { tasks = members room ask.scope target; cookie = if is_create ask then room.next_cookie else caller.cookie }
+
+-- the same for a call by the task with the pid; nothing where there is no such task, or no target
+abbrev pub setting_of : RoomState → ℕ → Ask → Setting
+setting_of room pid ask =
+    option_map_or (λ caller. option_map_or (λ target. setting_by room caller target ask)
+    (target_of room pid ask) (record { tasks = []; cookie = 0 })) (task_of room pid) (record { tasks = []; cookie = 0 })
+
+-- whether the task with this pid is among those that are set
+abbrev pub is_set : Setting → ℕ → Bool
+is_set set pid = list_any (has_pid pid) set.tasks
+
+-- whether a sibling runs one of them
+abbrev pub runs_one : Setting → SiblingState → Bool
+runs_one set sibling = option_map_or (is_set set) sibling.run false
+
+-- The tasks have the cookie. Each sibling that runs one of them becomes pending, also where the cookie is the same
+-- (`sched_core_update_cookie`).
+abbrev pub with_cookies : RoomState → Setting → RoomState
+with_cookies room set =
+    record room {
+      tasks = map (λ (task : Task). if is_set set task.spec.pid then record task { cookie = set.cookie } else task) room.tasks;
+      siblings = map (λ (sibling : SiblingState). record sibling { pending = sibling.pending || runs_one set sibling }) room.siblings;
+    }
+
+-- A cookie that is made is the next, and is never made again, also where the call is then refused.
+abbrev pub with_made : RoomState → Bool → RoomState
+with_made room makes = record room { next_cookie = if makes then room.next_cookie + 1 else room.next_cookie }
 
 -- the room after a call that was answered so
-abbrev pub prctl_room : RoomState → ℕ → Ask → Reply → RoomState
-prctl_room room pid ask Zero = with_setting room ask (setting_of room pid ask)
-prctl_room room pid ask answer = room
+abbrev pub with_answer : RoomState → Setting → Reply → RoomState
+with_answer room set Zero = with_cookies room set
+with_answer room set answer = room
+
+abbrev pub prctl_room : RoomState → ℕ → Ask → RoomState
+prctl_room room pid ask =
+    with_answer (with_made room (makes_cookie room pid ask)) (setting_of room pid ask) (prctl_answer room pid ask)

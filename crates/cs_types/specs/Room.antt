@@ -1,20 +1,10 @@
 -- The room: the state of the core and its tasks, and how it starts. Beside each part stands the kernel's field.
-use Rattle.std.specs.Prelude.{ℕ, Bool, true, false, ◌==◌, ◌&&◌, ◌||◌, ◌-◌, if◌then◌else◌, List, ◌++◌, length, map, filter, find, replicate, slice_index_or, slice_set, Option, None}
+use Rattle.std.specs.Prelude.{ℕ, Bool, true, false, ◌==◌, ◌&&◌, ◌||◌, ◌-◌, nat_lt, if◌then◌else◌, List, [], ◌∷◌, ◌++◌, length, map, filter, find, fold, replicate, slice_index_or, slice_set, Option, None}
 use Rattle.std.specs.List.{range_with_len}
 use Rattle.std.specs.Option.{option_and_then}
+use Rattle.cs_types.specs.declared.task.Task.{Task}
 use Rattle.cs_types.specs.declared.task.TaskSpec.{TaskSpec}
 use Rattle.cs_types.specs.declared.scenario.Scenario.{Scenario}
-
--- a living task: its scenario line, its cookie (`core_cookie`), the sibling on which it queues, whether it is
--- queued or asleep (`on_rq`), the stamp of its last enqueue, and the occupation that it remembers
--- (`core_occupation`)
-pub record TaskState : Type 0 where
-  pub spec : TaskSpec
-  pub cookie : ℕ
-  pub home : ℕ
-  pub queued : Bool
-  pub stamp : ℕ
-  pub occupation : ℕ
 
 -- What waits for a sibling is none, idle or a task.
 abbrev pub Waiting : Type 0
@@ -30,14 +20,14 @@ pub record SiblingState : Type 0 where
   pub waiting : Waiting
   pub occupation : ℕ
 
--- the core, with the limits of its scenario, which no step changes: the next stamp and the next cookie, the core
+-- the core, with the limits of its scenario, which no step changes: its living tasks, by rising pid, the next stamp and the next cookie, the core
 -- cookie (`core_cookie` of `rq->core`), how many siblings are forced idle (`core_forceidle_count`), and for how many
 -- a task was chosen (`core_forceidle_occupation`)
 pub record RoomState : Type 0 where
   pub task_limit : ℕ
   pub cookie_limit : ℕ
   pub user_top : ℕ
-  pub tasks : List TaskState
+  pub tasks : List Task
   pub siblings : List SiblingState
   pub next_stamp : ℕ
   pub next_cookie : ℕ
@@ -48,8 +38,18 @@ pub record RoomState : Type 0 where
 -- ---- the start
 
 -- a task of the scenario before its first wake: asleep, with no cookie, at home on the sibling of its line
-abbrev pub asleep : TaskSpec → TaskState
+abbrev pub asleep : TaskSpec → Task
 asleep spec = record { spec = spec; cookie = 0; home = spec.cpu; queued = false; stamp = 0; occupation = 0 }
+
+-- the tasks, by rising pid, with one more in its place
+abbrev pub placed : Task → List Task → List Task
+placed task [] = task ∷ []
+placed task (first ∷ rest) =
+    if nat_lt task.spec.pid first.spec.pid then task ∷ first ∷ rest else first ∷ placed task rest
+
+-- the tasks of these lines before the first wake, by rising pid
+abbrev pub asleep_tasks : List TaskSpec → List Task
+asleep_tasks specs = fold (λ tasks spec. placed (asleep spec) tasks) [] specs
 
 -- a sibling that is online, runs idle and is not pending
 abbrev pub idle : SiblingState
@@ -62,7 +62,7 @@ start scenario =
       task_limit = scenario.task_limit;
       cookie_limit = scenario.cookie_limit;
       user_top = scenario.user_top;
-      tasks = map asleep scenario.tasks;
+      tasks = asleep_tasks scenario.tasks;
       siblings = replicate scenario.siblings idle;
       next_stamp = 0;
       next_cookie = 1;
@@ -74,15 +74,15 @@ start scenario =
 -- ---- parts of a room
 
 -- whether the task has this pid
-abbrev pub has_pid : ℕ → TaskState → Bool
+abbrev pub has_pid : ℕ → Task → Bool
 has_pid pid task = task.spec.pid == pid
 
 -- the living task with the pid
-abbrev pub task_of : RoomState → ℕ → Option TaskState
+abbrev pub task_of : RoomState → ℕ → Option Task
 task_of room pid = find (has_pid pid) room.tasks
 
 -- the tasks queued on a sibling: those that are queued and whose home it is (the running one is among them)
-abbrev pub queued_on : RoomState → ℕ → List TaskState
+abbrev pub queued_on : RoomState → ℕ → List Task
 queued_on room cpu = filter (λ task. task.queued && (task.home == cpu)) room.tasks
 
 -- the sibling of this number
@@ -90,7 +90,7 @@ abbrev pub sibling_of : RoomState → ℕ → SiblingState
 sibling_of room cpu = slice_index_or room.siblings cpu idle
 
 -- the task that a sibling runs, none where it runs idle
-abbrev pub running_on : RoomState → ℕ → Option TaskState
+abbrev pub running_on : RoomState → ℕ → Option Task
 running_on room cpu = option_and_then (task_of room) (sibling_of room cpu).run
 
 -- whether a sibling is online, and the numbers of those that are
@@ -112,7 +112,7 @@ abbrev pub with_sibling : RoomState → ℕ → SiblingState → RoomState
 with_sibling room cpu sibling = record room { siblings = slice_set room.siblings cpu sibling }
 
 -- the task in the place of the one with its pid
-abbrev pub with_task : RoomState → TaskState → RoomState
+abbrev pub with_task : RoomState → Task → RoomState
 with_task room task =
     record room { tasks = map (λ other. if has_pid task.spec.pid other then task else other) room.tasks }
 

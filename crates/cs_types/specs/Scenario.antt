@@ -1,5 +1,5 @@
 -- Scenarios: the limits that each of them keeps, and the script of each actor.
-use Rattle.std.specs.Prelude.{◌≡◌, ◌≢◌, ◌⊎◌, ℕ, ◌<◌, ◌≤◌, pos, ◌≤ℤ◌, Bool, false, ◌==◌, List, length, map, filter, take, All, Any, AllPairs, slice_index_or}
+use Rattle.std.specs.Prelude.{◌≡◌, ◌≢◌, ◌⊎◌, ℕ, ◌<◌, ◌≤◌, ◌^◌, ℤ, pos, negsuc, Bool, false, ◌==◌, List, length, map, filter, take, All, Any, AllPairs, slice_index_or}
 use Rattle.cs_types.specs.declared.task.Policy.{Policy}
 use Rattle.cs_types.specs.declared.task.Policy.TheVariants.{Fifo}
 use Rattle.cs_types.specs.declared.task.Creds.{Creds}
@@ -55,13 +55,17 @@ IsLed earlier task =
 abbrev pub AreLed : List TaskSpec → Type 0
 AreLed tasks = (k : ℕ) (d : TaskSpec) → k < length tasks → IsLed (take k tasks) (slice_index_or tasks k d)
 
--- the calls of prctl that are built: `PR_SCHED_CORE_CREATE` for the caller, and `PR_SCHED_CORE_SHARE_TO` for a
--- task, from 1 to 2147483647, each for the target alone and with no address
+-- a number of 31 bits and a sign; `negsuc n` is -1 - n
+abbrev pub IsPid : ℤ → Type 0
+IsPid (pos n) = n < 2 ^ 31
+IsPid (negsuc n) = n < 2 ^ 31
+
+-- the arguments of a call: its command and scope have 32 bits, its address 64, its pid 31 and a sign
 pub record IsAsk (ask : Ask) : Type 0 where
-  pub cmd : ((ask.cmd ≡ 1) × (ask.pid ≡ pos 0)) ⊎ ((ask.cmd ≡ 2) × (pos 1 ≤ℤ ask.pid))
-  pub pid : ask.pid ≤ℤ pos 2147483647
-  pub scope : ask.scope ≡ 0
-  pub addr : ask.addr ≡ 0
+  pub cmd : ask.cmd < 2 ^ 32
+  pub pid : IsPid ask.pid
+  pub scope : ask.scope < 2 ^ 32
+  pub addr : ask.addr < 2 ^ 64
 
 -- the numbers of an event: a sibling of the core, a pid from 1 to 999999
 abbrev pub IsEvent : ℕ → Event → Type 0

@@ -3,38 +3,39 @@
 use Rattle.std.specs.Prelude.{ℕ, Bool, true, false, ◌==◌, ◌&&◌, ◌||◌, if◌then◌else◌, List, map, filter, count_by, Option, Some, None, is_none, is_some, unwrap_or}
 use Rattle.std.specs.List.{list_any, enumerate_from}
 use Rattle.std.specs.Option.{option_map, option_and_then, option_to_list}
+use Rattle.cs_types.specs.declared.task.Task.{Task}
 use Rattle.cs_types.specs.declared.reply.Kind.TheVariants.{Selected, Adopted, Plain}
 use Rattle.cs_types.specs.declared.reply.Pick.{Pick}
-use Rattle.cs_types.specs.Room.{RoomState, TaskState, SiblingState, queued_on, sibling_of, online, online_from, with_sibling}
+use Rattle.cs_types.specs.Room.{RoomState, SiblingState, queued_on, sibling_of, online, online_from, with_sibling}
 use Rattle.cs_types.specs.Order.{foremost, outranks, first_of}
 
 -- ---- what a sibling has for a core cookie
 
 -- the first task queued on a sibling, none for idle (`pick_task`)
-abbrev pub first_on : RoomState → ℕ → Option TaskState
+abbrev pub first_on : RoomState → ℕ → Option Task
 first_on room cpu = first_of (queued_on room cpu)
 
 -- a task's cookie, and 0 for idle
-abbrev pub cookie_of : Option TaskState → ℕ
+abbrev pub cookie_of : Option Task → ℕ
 cookie_of None = 0
 cookie_of (Some task) = task.cookie
 
 -- a task's pid, none for idle
-abbrev pub pid_of : Option TaskState → Option ℕ
-pid_of task = option_map (λ (task : TaskState). task.spec.pid) task
+abbrev pub pid_of : Option Task → Option ℕ
+pid_of task = option_map (λ (task : Task). task.spec.pid) task
 
 -- the tasks queued on a sibling that have this cookie (`core_tree`)
-abbrev pub queued_with : RoomState → ℕ → ℕ → List TaskState
+abbrev pub queued_with : RoomState → ℕ → ℕ → List Task
 queued_with room cookie cpu = filter (λ task. task.cookie == cookie) (queued_on room cpu)
 
 -- The lead of a selection that a sibling makes: the earliest first of the online siblings, in the order that begins
 -- at it, than which no other first is higher (`max` in `pick_next_task`).
-unfoldable pub lead_from : RoomState → ℕ → Option TaskState
+unfoldable pub lead_from : RoomState → ℕ → Option Task
 lead_from room cpu = option_and_then (λ first. first) (foremost outranks (map (first_on room) (online_from room cpu)))
 
 -- What a sibling gets for a core cookie: its first, where that is idle or has the cookie; else the first task queued
 -- there with the cookie (`sched_core_find`), which is searched for no cookie 0; else idle.
-unfoldable pub choice : RoomState → ℕ → ℕ → Option TaskState
+unfoldable pub choice : RoomState → ℕ → ℕ → Option Task
 choice room core cpu =
     if is_none (first_on room cpu) || (cookie_of (first_on room cpu) == core)
     then first_on room cpu
@@ -42,7 +43,7 @@ choice room core cpu =
 
 -- The tasks of a sibling that may run for a core cookie: those queued there that have it. For cookie 0 the kernel
 -- searches nothing, so only the first may, where its cookie is 0.
-abbrev pub eligible : RoomState → ℕ → ℕ → List TaskState
+abbrev pub eligible : RoomState → ℕ → ℕ → List Task
 eligible room core cpu =
     if core == 0
     then filter (λ task. task.cookie == 0) (option_to_list (first_on room cpu))
@@ -105,7 +106,7 @@ plain room cpu =
 -- ---- selected
 
 -- A chosen task remembers the occupation.
-abbrev pub remembered : RoomState → ℕ → TaskState → TaskState
+abbrev pub remembered : RoomState → ℕ → Task → Task
 remembered room core task =
     if list_any (λ cpu. is_run (pid_of (choice room core cpu)) (Some task.spec.pid)) (online room)
     then record task { occupation = occupation_of room core }

@@ -1,12 +1,13 @@
 -- Steps: what each event does to the room, and what it answers.
 use Rattle.std.specs.Prelude.{ℕ, ◌+◌, Bool, true, false, if◌then◌else◌, Option, Some, None}
 use Rattle.std.specs.Option.{option_map_or}
+use Rattle.cs_types.specs.declared.task.Task.{Task}
 use Rattle.cs_types.specs.declared.event.Event.{Event}
 use Rattle.cs_types.specs.declared.event.Event.TheVariants.{Turn, Resched, Block, Wake, Prctl}
 use Rattle.cs_types.specs.declared.reply.Reply.{Reply}
 use Rattle.cs_types.specs.declared.reply.Reply.TheVariants.{Picked, Nothing, Slept, Idle, Woken, Awake, NoTask}
 use Rattle.cs_types.specs.declared.reply.Pick.{Pick}
-use Rattle.cs_types.specs.Room.{RoomState, TaskState, task_of, sibling_of, running_on, with_sibling, with_task, flagged}
+use Rattle.cs_types.specs.Room.{RoomState, task_of, sibling_of, running_on, with_sibling, with_task, flagged}
 use Rattle.cs_types.specs.Order.{is_higher}
 use Rattle.cs_types.specs.Selection.{Scheduled, schedule}
 use Rattle.cs_types.specs.Prctl.{prctl_answer, prctl_room}
@@ -19,21 +20,21 @@ pub record Stepped : Type 0 where
 -- ---- wake (`try_to_wake_up`, kernel/sched/core.c)
 
 -- An enqueue gives the task the next stamp (`enqueue_task`; the stamp is this project's rule).
-abbrev pub enqueued : RoomState → TaskState → RoomState
+abbrev pub enqueued : RoomState → Task → RoomState
 enqueued room task =
     record (with_task room (record task { queued = true; stamp = room.next_stamp })) { next_stamp = room.next_stamp + 1 }
 
 -- A woken task asks its sibling to reschedule where that runs idle or a lower task (after
 -- `check_preempt_curr`; this project's rule).
-abbrev pub preempts : RoomState → TaskState → Bool
+abbrev pub preempts : RoomState → Task → Bool
 preempts room task = option_map_or (λ running. is_higher task running) (running_on room task.home) true
 
 -- The task is queued at its home, which may become pending (after `ttwu_do_activate`; this project's rule).
-abbrev pub queued_at_home : RoomState → TaskState → RoomState
+abbrev pub queued_at_home : RoomState → Task → RoomState
 queued_at_home room task = flagged (enqueued room task) task.home (preempts room task)
 
 -- There is no such task, or it is awake already, or it is queued and its home is told (`try_to_wake_up`).
-abbrev pub woken : RoomState → Option TaskState → Stepped
+abbrev pub woken : RoomState → Option Task → Stepped
 woken room None = record { reply = NoTask; room = room }
 woken room (Some task) =
     if task.queued
@@ -56,7 +57,7 @@ turned room is_fresh cpu =
 -- ---- block (`deactivate_task` in `__schedule`, kernel/sched/core.c)
 
 -- The task is asleep and no longer queued (`dequeue_task`).
-abbrev pub dequeued : RoomState → TaskState → RoomState
+abbrev pub dequeued : RoomState → Task → RoomState
 dequeued room task = with_task room (record task { queued = false })
 
 -- The sibling runs idle.
@@ -65,7 +66,7 @@ idled room cpu = with_sibling room cpu (record (sibling_of room cpu) { run = Non
 
 -- The sibling runs idle already, or its running task goes to sleep and then it schedules. The dequeue touched, so
 -- that schedule adopts nothing.
-abbrev pub blocked : RoomState → ℕ → Option TaskState → Stepped
+abbrev pub blocked : RoomState → ℕ → Option Task → Stepped
 blocked room cpu None = record { reply = Idle; room = room }
 blocked room cpu (Some task) = picked (Slept task.spec.pid) (schedule (idled (dequeued room task) cpu) false cpu)
 
@@ -78,4 +79,4 @@ step room is_fresh (Resched cpu) = picked Picked (schedule room is_fresh cpu)
 step room is_fresh (Block cpu) = blocked room cpu (running_on room cpu)
 step room is_fresh (Wake pid) = woken room (task_of room pid)
 step room is_fresh (Prctl caller ask) =
-    record { reply = prctl_answer room caller ask; room = prctl_room room caller ask (prctl_answer room caller ask) }
+    record { reply = prctl_answer room caller ask; room = prctl_room room caller ask }

@@ -13,6 +13,7 @@ use Rattle.cs_types.specs.declared.reply.Reply.{Reply}
 use Rattle.cs_types.specs.declared.reply.Reply.TheVariants.{Picked, Slept, Woken, Zero}
 use Rattle.cs_types.specs.declared.reply.Entry.{Entry}
 use Rattle.cs_types.specs.Room.{RoomState}
+use Rattle.cs_types.specs.declared.task.Task.{Task}
 use Rattle.cs_types.specs.Prctl.{Setting, setting_of}
 
 -- ---- the pick of an entry
@@ -63,15 +64,19 @@ pick_touches pick = if is_adopted pick.kind then 0 else 1
 
 -- the cookie of a queued task leaves the order of cookies where it is not 0, and enters it where it is not 0
 -- (`sched_core_dequeue` and `sched_core_enqueue`; that each touches is this project's rule)
-abbrev pub setting_touches : Setting → ℕ
-setting_touches set =
-    if set.target.queued
-    then (if set.target.cookie == 0 then 0 else 1) + (if set.cookie == 0 then 0 else 1)
+abbrev pub cookie_touches : ℕ → Task → ℕ
+cookie_touches cookie task =
+    if task.queued
+    then (if task.cookie == 0 then 0 else 1) + (if cookie == 0 then 0 else 1)
     else 0
 
--- what a call that succeeded sets, in the room before it
+-- the same for all tasks that are set
+abbrev pub setting_touches : Setting → ℕ
+setting_touches set = sum_by (cookie_touches set.cookie) set.tasks
+
+-- what a call that was answered with 0 sets, in the room before it
 abbrev pub set_touches : RoomState → Event → ℕ
-set_touches room (Prctl caller ask) = option_map_or setting_touches (setting_of room caller ask) 0
+set_touches room (Prctl caller ask) = setting_touches (setting_of room caller ask)
 set_touches room event = 0
 
 -- how often an entry touches the queues, read in the room before it

@@ -1,10 +1,10 @@
 -- Views: what a machine shows of the core, a sibling and a task, from the fold of its history.
-use Rattle.std.specs.Prelude.{ℕ, nat_lt, filter, length, Option, Some, None, unwrap_or, if◌then◌else◌}
+use Rattle.std.specs.Prelude.{ℕ, nat_lt, find, length, Option, Some, None, unwrap_or, if◌then◌else◌}
+use Rattle.cs_types.specs.declared.task.Task.{Task}
 use Rattle.cs_types.specs.declared.view.CoreView.{CoreView}
 use Rattle.cs_types.specs.declared.view.CpuView.{CpuView}
 use Rattle.cs_types.specs.declared.view.TaskView.{TaskView}
-use Rattle.cs_types.specs.Room.{RoomState, TaskState, sibling_of}
-use Rattle.cs_types.specs.Order.{foremost}
+use Rattle.cs_types.specs.Room.{RoomState, sibling_of}
 use Rattle.cs_types.specs.Touches.{own_number}
 use Rattle.cs_types.specs.History.{Moment}
 
@@ -23,10 +23,9 @@ cpu_view moment cpu =
     })
     else None
 
--- the living task with the least pid above this one, none where there is none
-abbrev pub task_after : RoomState → ℕ → Option TaskState
-task_after room pid =
-    foremost (λ a b. nat_lt a.spec.pid b.spec.pid) (filter (λ task. nat_lt pid task.spec.pid) room.tasks)
+-- the living task with the least pid above this one, none where there is none; the tasks stand by rising pid
+abbrev pub task_after : RoomState → ℕ → Option Task
+task_after room pid = find (λ task. nat_lt pid task.spec.pid) room.tasks
 
-abbrev pub task_view : TaskState → TaskView
+abbrev pub task_view : Task → TaskView
 task_view task = record { pid = task.spec.pid; cpu = task.home; queued = task.queued; cookie = task.cookie }

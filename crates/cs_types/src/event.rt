@@ -14,13 +14,15 @@ pub enum Actor {
 /// The arguments of `prctl(PR_SCHED_CORE, ..)`.
 #[derive(Clone, Copy)]
 pub struct Ask {
-    /// The command: 1 for `PR_SCHED_CORE_CREATE`, 2 for `PR_SCHED_CORE_SHARE_TO`.
+    /// The command: 0 for `PR_SCHED_CORE_GET`, 1 for `PR_SCHED_CORE_CREATE`, 2 for
+    /// `PR_SCHED_CORE_SHARE_TO`, 3 for `PR_SCHED_CORE_SHARE_FROM`. No other is valid.
     pub cmd: u32,
-    /// The target's pid, 0 for the caller.
+    /// The target's pid, 0 for the caller. None below 0 is valid.
     pub pid: i32,
-    /// The scope: 0 for the target alone.
+    /// The scope: 0 for the target alone, 1 for its thread group, 2 for its process group. No other
+    /// is valid.
     pub scope: u32,
-    /// The user address of the answer, 0 where none is asked for.
+    /// The user address at which a GET writes its answer, in bytes. 0 for every other command.
     pub addr: u64,
 }
 

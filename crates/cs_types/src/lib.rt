@@ -16,5 +16,5 @@ pub use memory::OutOfMemory;
 pub use reply::{Entry, Errno, Kind, Pick, Reply};
 pub use room::Room;
 pub use scenario::Scenario;
-pub use task::{Cookie, Cpu, Creds, Pid, Policy, TaskSpec};
+pub use task::{Cookie, Cpu, Creds, Pid, Policy, Task, TaskSpec};
 pub use view::{CoreView, CpuView, TaskView};

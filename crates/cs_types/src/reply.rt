@@ -1,5 +1,8 @@
 //! What the machine answers to an event.
 
+ghost use Rattle.std.specs.Prelude.{◌≡◌, pos};
+ghost use Rattle.cs_types.specs.Errno.{errno_number};
+
 use crate::event::{Actor, Event};
 use crate::task::{Cookie, Cpu, Pid};
 
@@ -29,14 +32,34 @@ pub struct Pick {
 /// The errors of `prctl`.
 #[derive(Clone, Copy)]
 pub enum Errno {
-    /// The caller may not access the target.
+    /// The caller may not access the target, or one of its group.
     Eperm,
     /// No living task has the target's pid.
     Esrch,
     /// As many cookies live as the scenario allows.
     Enomem,
+    /// The address of the answer is none of the caller's.
+    Efault,
     /// Fewer than two siblings are online.
     Enodev,
+    /// An argument is not valid, or not valid with the command.
+    Einval,
+}
+
+impl Errno {
+    /// Linux' number for the error (include/uapi/asm-generic/errno-base.h).
+    pub fn number(self) -> i32
+        ensures { result ≡ pos (errno_number self) }
+    {
+        match self {
+            Errno::Eperm => 1,
+            Errno::Esrch => 3,
+            Errno::Enomem => 12,
+            Errno::Efault => 14,
+            Errno::Enodev => 19,
+            Errno::Einval => 22,
+        }
+    }
 }
 
 /// The answer to an event.
@@ -58,6 +81,8 @@ pub enum Reply {
     NoTask,
     /// The call of `prctl` returned 0.
     Zero,
+    /// The call of `prctl` returned 0, and wrote this cookie for its caller.
+    Value(Cookie),
     /// Refused: the call of `prctl` failed with this error.
     Refused(Errno),
     /// Refused: no living task has the caller's pid.

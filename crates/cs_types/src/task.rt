@@ -53,3 +53,20 @@ pub struct TaskSpec {
     pub policy: Policy,
     pub creds: Creds,
 }
+
+/// A living task.
+#[derive(Clone, Copy)]
+pub struct Task {
+    /// Its line in the scenario.
+    pub spec: TaskSpec,
+    /// Its cookie, 0 for none (`core_cookie`).
+    pub cookie: Cookie,
+    /// The sibling on which it queues.
+    pub home: Cpu,
+    /// Whether it is queued, as a running task is too, or asleep (`on_rq`).
+    pub queued: bool,
+    /// The stamp of its last enqueue.
+    pub stamp: u64,
+    /// The occupation of the last selection for the core that chose it, a count (`core_occupation`).
+    pub occupation: u8,
+}

@@ -5,10 +5,10 @@ use Rattle.std.proofs.lemmas.List.{get_or_default, length-map, map_push}
 use Rattle.std.proofs.lemmas.List.Elements.{All-push}
 use Rattle.std.proofs.lemmas.Bool.Decides.{nat_tests}
 use Rattle.std.specs.List.{IsFirstBest}
+use Rattle.cs_types.specs.declared.task.Task.{Task}
 use Rattle.cs_types.specs.declared.task.Policy.{Policy}
 use Rattle.cs_types.specs.declared.task.Policy.TheVariants.{Fifo}
 use Rattle.cs_types.specs.Scenario.{IsPolicy}
-use Rattle.cs_types.specs.Room.{TaskState}
 use Rattle.cs_types.specs.Order.{is_higher_policy, outranks, foremost}
 use Rattle.sibling_priority.specs.declared.offer.Offer.{Offer}
 use Rattle.sibling_priority.specs.Offers.{real_time_class, fair_class, idle_class}
@@ -31,7 +31,7 @@ idle_is_lower (Fifo q) r u v = refl
 task_is_higher : (a : Policy) (r u v : ℕ) → true ≡ higher_by (class_of_policy a) idle_class r 0 u v
 task_is_higher (Fifo q) r u v = refl
 
-by_class_and_rank : (a b : Option TaskState) (u v : ℕ) → IsFirst a → IsFirst b →
+by_class_and_rank : (a b : Option Task) (u v : ℕ) → IsFirst a → IsFirst b →
     outranks a b ≡ higher_by (class_of a) (class_of b) (rank_of a) (rank_of b) u v
 by_class_and_rank None None u v h k = refl
 by_class_and_rank None (Some b) u v h k = idle_is_lower b.spec.policy (rank_of_policy b.spec.policy) u v
@@ -39,24 +39,24 @@ by_class_and_rank (Some a) None u v h k = task_is_higher a.spec.policy (rank_of_
 by_class_and_rank (Some a) (Some b) u v h k = policies a.spec.policy b.spec.policy u v h k
 
 -- It is the order of their offers, from whatever siblings and snapshots.
-pub outranks-offer_of : (i j s t : ℕ) (a b : Option TaskState) → IsFirst a → IsFirst b →
+pub outranks-offer_of : (i j s t : ℕ) (a b : Option Task) → IsFirst a → IsFirst b →
     outranks a b ≡ is_higher_offer (offer_of i s a) (offer_of j t b)
 outranks-offer_of i j s t a b h k = by_class_and_rank a b s t h k
 
 -- ---- the order of lists of them
 
 -- what a read past the end of the offers gives, where one past the end of the firsts gives this
-abbrev unread : Option TaskState → Offer
+abbrev unread : Option Task → Offer
 unread first = offer_of 0 0 first
 
-module _ (firsts : List (Option TaskState)) (offers : List Offer) (are : AreOffersOf firsts offers) where
-  class_at : (k : ℕ) (d : Option TaskState) → class_of (get_or firsts k d) ≡ (get_or offers k (unread d)).class
+module _ (firsts : List (Option Task)) (offers : List Offer) (are : AreOffersOf firsts offers) where
+  class_at : (k : ℕ) (d : Option Task) → class_of (get_or firsts k d) ≡ (get_or offers k (unread d)).class
   class_at k d =
       sym (get_or-map class_of firsts k d)
       ∙ ap (λ (classes : List ℕ). get_or classes k (class_of d)) (sym are.classes)
       ∙ get_or-map (λ (offer : Offer). offer.class) offers k (unread d)
 
-  rank_at : (k : ℕ) (d : Option TaskState) → rank_of (get_or firsts k d) ≡ (get_or offers k (unread d)).rank
+  rank_at : (k : ℕ) (d : Option Task) → rank_of (get_or firsts k d) ≡ (get_or offers k (unread d)).rank
   rank_at k d =
       sym (get_or-map rank_of firsts k d)
       ∙ ap (λ (ranks : List ℕ). get_or ranks k (rank_of d)) (sym are.ranks)
@@ -66,7 +66,7 @@ module _ (firsts : List (Option TaskState)) (offers : List Offer) (are : AreOffe
   same_length =
       sym (length-map offers (λ (offer : Offer). offer.class)) ∙ ap length are.classes ∙ length-map firsts class_of
 
-  order_at : (j k : ℕ) (d : Option TaskState) → j < length firsts → k < length firsts →
+  order_at : (j k : ℕ) (d : Option Task) → j < length firsts → k < length firsts →
       outranks (get_or firsts j d) (get_or firsts k d) ≡ is_higher_offer (get_or offers j (unread d)) (get_or offers k (unread d))
   order_at j k d l m =
       let x = get_or offers j (unread d) in
@@ -97,12 +97,12 @@ module _ (firsts : List (Option TaskState)) (offers : List Offer) (are : AreOffe
         not_fair_policy : (policy : Policy) → class_of_policy policy ≢ fair_class
         not_fair_policy (Fifo priority) e = omega arith
 
-        not_fair : (first : Option TaskState) → class_of first ≢ fair_class
+        not_fair : (first : Option Task) → class_of first ≢ fair_class
         not_fair None e = omega arith
         not_fair (Some task) e = not_fair_policy task.spec.policy e
 
   -- One more first task and its offer, each at the end.
-  pub AreOffersOf-push : (first : Option TaskState) (offer : Offer) → offer.class ≡ class_of first → offer.rank ≡ rank_of first → IsFirst first →
+  pub AreOffersOf-push : (first : Option Task) (offer : Offer) → offer.class ≡ class_of first → offer.rank ≡ rank_of first → IsFirst first →
       AreOffersOf (firsts ++ first ∷ []) (offers ++ offer ∷ [])
   AreOffersOf-push first offer class rank is_first = record {
     classes = map_push (λ (o : Offer). o.class) offers offer ∙ rw (are.classes, class) (sym (map_push class_of firsts first));
@@ -111,7 +111,7 @@ module _ (firsts : List (Option TaskState)) (offers : List Offer) (are : AreOffe
   }
 
 -- first tasks and offers that come of the same things, in order
-pub AreOffersOf-map : {X : Type 0} (first_at : X → Option TaskState) (offer_at : X → Offer) (xs : List X) →
+pub AreOffersOf-map : {X : Type 0} (first_at : X → Option Task) (offer_at : X → Offer) (xs : List X) →
     ((x : X) → (offer_at x).class ≡ class_of (first_at x)) → ((x : X) → (offer_at x).rank ≡ rank_of (first_at x)) → All IsFirst (map first_at xs) →
     AreOffersOf (map first_at xs) (map offer_at xs)
 AreOffersOf-map {X} first_at offer_at xs class rank are_firsts = record { classes = classes xs; ranks = ranks xs; priorities = are_firsts } where

@@ -1,10 +1,10 @@
 -- Offers: which of two is higher (`prio_less`, kernel/sched/core.c), and which offer stands for a task.
 use Rattle.std.specs.Prelude.{◌≡◌, ℕ, ◌+◌, ◌-◌, ◌^◌, ◌<◌, Bool, ◌==◌, ◌&&◌, ◌||◌, not, nat_lt, List, map, All, Option, Some, None, IfSome, unwrap_or}
 use Rattle.std.specs.List.{list_all}
+use Rattle.cs_types.specs.declared.task.Task.{Task}
 use Rattle.cs_types.specs.declared.task.Policy.{Policy}
 use Rattle.cs_types.specs.declared.task.Policy.TheVariants.{Fifo}
 use Rattle.cs_types.specs.Scenario.{IsPolicy}
-use Rattle.cs_types.specs.Room.{TaskState}
 use Rattle.cs_types.specs.Selection.{pid_of}
 use Rattle.sibling_priority.specs.declared.offer.Offer.{Offer}
 
@@ -56,16 +56,16 @@ abbrev pub rank_of_policy : Policy → ℕ
 rank_of_policy (Fifo priority) = 99 - priority
 
 -- the same of a sibling's first task, none for idle
-abbrev pub class_of : Option TaskState → ℕ
+abbrev pub class_of : Option Task → ℕ
 class_of None = idle_class
 class_of (Some task) = class_of_policy task.spec.policy
 
-abbrev pub rank_of : Option TaskState → ℕ
+abbrev pub rank_of : Option Task → ℕ
 rank_of None = 0
 rank_of (Some task) = rank_of_policy task.spec.policy
 
 -- the offer of a sibling, from its snapshot and its first task
-abbrev pub offer_of : ℕ → ℕ → Option TaskState → Offer
+abbrev pub offer_of : ℕ → ℕ → Option Task → Offer
 offer_of cpu snapshot first =
     record {
       cpu = cpu;
@@ -76,12 +76,12 @@ offer_of cpu snapshot first =
     }
 
 -- a first task whose priority is in range, or idle
-abbrev pub IsFirst : Option TaskState → Type 0
+abbrev pub IsFirst : Option Task → Type 0
 IsFirst first = IfSome first (λ task. IsPolicy task.spec.policy)
 
 -- The offers are those of these first tasks, in order: each has the class and the rank of its first, whatever its
 -- sibling, its pid and its snapshot.
-pub record AreOffersOf (firsts : List (Option TaskState)) (offers : List Offer) : Type 0 where
+pub record AreOffersOf (firsts : List (Option Task)) (offers : List Offer) : Type 0 where
   pub classes : map (λ offer. offer.class) offers ≡ map class_of firsts
   pub ranks : map (λ offer. offer.rank) offers ≡ map rank_of firsts
   pub priorities : All IsFirst firsts

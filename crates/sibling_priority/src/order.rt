@@ -2,7 +2,7 @@
 //! siblings here, and nothing else decides between siblings.
 
 ghost use Rattle.std.specs.Prelude.{◌≡◌, ◌<◌, length, All, List, Option, Some, None, position, slice_index_or};
-ghost use Rattle.cs_types.specs.Room.{TaskState};
+ghost use Rattle.cs_types.specs.declared.task.Task.{Task};
 ghost use Rattle.cs_types.specs.Order.{foremost, outranks};
 ghost use Rattle.sibling_priority.specs.Offers.{is_higher_offer, is_highest, IsInRange, AreOffersOf};
 
@@ -36,7 +36,7 @@ pub fn lead(offers: &[Offer]) -> usize
     ensures first { position (is_highest offers.now) offers.now ≡ Some result }
 
     // The lead of the siblings' offers is at the place of the lead of their first tasks.
-    ensures model { (firsts : List (Option TaskState)) → AreOffersOf firsts offers.now →
+    ensures model { (firsts : List (Option Task)) → AreOffersOf firsts offers.now →
         foremost outranks firsts ≡ Some (slice_index_or firsts result None) }
 {
     let mut best = 0;
