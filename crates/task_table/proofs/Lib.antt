@@ -1,0 +1,4 @@
+pub mod Rising
+pub mod Slots
+pub mod Kept
+pub mod Tables

@@ -1,0 +1,35 @@
+-- How a table keeps its tasks: in slots, with an index of entries. No public clause cites this module.
+use Rattle.std.specs.Prelude.{◌≡◌, ℕ, ◌<◌, ◌≤◌, ◌^◌, List, map, length, Option, Some}
+use Rattle.std.specs.List.{filter_map}
+use Rattle.slab.specs.Slab.{Slab, get, slab_len}
+use Rattle.cs_types.specs.declared.task.Task.{Task}
+use Rattle.task_table.specs.declared.entry.Entry.{Entry}
+use Rattle.task_table.specs.Table.{Rises}
+use Rattle.task_table.specs.Places.{IsIndexOf}
+
+-- the task in the slot of an entry
+abbrev pub slot_of : Slab Task → Entry → Option Task
+slot_of slots entry = get slots entry.key
+
+-- the tasks in the slots of the entries
+abbrev pub tasks_at : Slab Task → List Entry → List Task
+tasks_at slots entries = filter_map (slot_of slots) entries
+
+-- the slots of the entries have these tasks
+abbrev pub Holds : Slab Task → List Entry → List Task → Type 0
+Holds slots entries tasks = map (slot_of slots) entries ≡ map Some tasks
+
+-- each entry's slot has a task
+abbrev pub EachFilled : Slab Task → List Entry → Type 0
+EachFilled slots entries = Holds slots entries (tasks_at slots entries)
+
+-- the entries name all slots that have a task, these tasks by rising pid, and there is room for the limit
+pub record IsKept (slots : Slab Task) (entries : List Entry) (room limit : ℕ) (tasks : List Task) : Type 0 where
+  pub holds : Holds slots entries tasks
+  pub index : IsIndexOf entries tasks
+  pub rising : Rises tasks
+  pub counted : slab_len slots ≡ length entries
+  pub few : length entries ≤ limit
+  pub limit_fits : limit < 2 ^ 16
+  pub room_for_entries : limit ≤ room
+  pub room_for_tasks : limit ≤ slots.capacity

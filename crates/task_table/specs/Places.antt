@@ -1,0 +1,29 @@
+-- Where a task stands among tasks that rise by pid. No public clause cites this module.
+use Rattle.std.specs.Prelude.{◌≡◌, ℕ, zero, suc, ◌+◌, ◌<◌, List, [], ◌∷◌, map}
+use Rattle.cs_types.specs.declared.task.Task.{Task}
+use Rattle.task_table.specs.declared.entry.Entry.{Entry}
+use Rattle.task_table.specs.Table.{pid_of, RisesFrom}
+
+-- there is an entry for each task, in the tasks' order
+abbrev pub IsIndexOf : List Entry → List Task → Type 0
+IsIndexOf entries tasks = map (λ entry. entry.pid) entries ≡ map pid_of tasks
+
+-- the task at the place has the pid, those before it have a lower one, and those behind it rise from above it
+abbrev pub IsAt : ℕ → ℕ → List Task → Type 0
+IsAt pid place [] = ⊥
+IsAt pid zero (task ∷ rest) = (task.spec.pid ≡ pid) × RisesFrom (pid + 1) rest
+IsAt pid (suc place) (task ∷ rest) = (task.spec.pid < pid) × IsAt pid place rest
+
+-- the tasks before the place have a pid below the one number, and those from it on rise from the other
+abbrev pub IsSplit : ℕ → ℕ → ℕ → List Task → Type 0
+IsSplit below from zero tasks = RisesFrom from tasks
+IsSplit below from (suc place) [] = ⊥
+IsSplit below from (suc place) (task ∷ rest) = (task.spec.pid < below) × IsSplit below from place rest
+
+-- the tasks before the place have a lower pid, and those from it on a higher one
+abbrev pub IsGap : ℕ → ℕ → List Task → Type 0
+IsGap pid place tasks = IsSplit pid (pid + 1) place tasks
+
+-- the tasks before the place have no higher pid, and those from it on have a higher one
+abbrev pub IsAbove : ℕ → ℕ → List Task → Type 0
+IsAbove pid place tasks = IsSplit (pid + 1) (pid + 1) place tasks

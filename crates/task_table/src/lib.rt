@@ -1,0 +1,14 @@
+//! The living tasks of a core, found by pid and walked by rising pid. Slots are set aside once, so
+//! that no later call takes memory.
+#![tactic(auto)]
+
+mod entry;
+mod fault;
+mod group;
+mod table;
+mod tasks;
+
+pub use fault::AddFault;
+pub use group::Group;
+pub use table::TaskTable;
+pub use tasks::Tasks;

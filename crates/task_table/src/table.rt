@@ -1,0 +1,201 @@
+//! The table. It is apart since it alone keeps the slots and the index in step.
+
+ghost use Rattle.std.specs.Prelude.{◌≡◌, ◌≤◌, ◌&&◌, nat_lt, [], ◌∷◌, length, map, drop, filter, find, not, if◌then◌else◌, IfOk, IfNone, IfSome, OnOk, OnErr, MatchResult, MatchOption, option_copied};
+ghost use Rattle.std.specs.Option.{option_map};
+ghost use Rattle.cs_types.specs.Room.{asleep, placed, has_pid};
+ghost use Rattle.task_table.specs.Table.{Table, pid_of, IsSound, add_answer};
+ghost use Rattle.task_table.specs.Group.{is_in_group, group_above};
+ghost use Rattle.task_table.specs.Walk.{WalksInOrder};
+ghost use Rattle.task_table.specs.Places.{IsAt, IsGap};
+
+use crate::entry::{Entry, place_above, place_of};
+use crate::fault::AddFault;
+use crate::group::Group;
+use crate::tasks::Tasks;
+use cs_types::{OutOfMemory, Pid, Task, TaskSpec};
+use slab::Slab;
+use std::alloc::Global;
+use std::marker::Model;
+
+/// The living tasks, no two with one pid, and at most as many as its limit.
+#[derive(Drop)]
+pub struct TaskTable {
+    slots: Slab<Task>,
+    /// An entry for each task, by rising pid.
+    entries: Vec<Entry>,
+    limit: u16,
+}
+
+impl Model for TaskTable {
+    ghost use Rattle.std.specs.Prelude.{vec_capacity};
+    ghost use Rattle.task_table.specs.Table.{Table};
+    ghost use Rattle.task_table.specs.Inside.{tasks_at, IsKept};
+
+    ghost Value = { Table };
+
+    ghost view = { λ table. record { tasks = tasks_at table.slots table.entries.items; limit = table.limit } };
+
+    ghost invariant = { λ table. IsKept table.slots table.entries.items (vec_capacity table.entries) table.limit
+        (tasks_at table.slots table.entries.items) };
+}
+
+/// A task before its first wake.
+fn asleep(spec: TaskSpec) -> Task
+    ensures { result ≡ asleep spec }
+{
+    Task {
+        spec,
+        cookie: 0,
+        home: spec.cpu,
+        queued: false,
+        stamp: 0,
+        occupation: 0,
+    }
+}
+
+impl TaskTable {
+    /// An empty table with room for `limit` tasks. This call alone takes memory.
+    pub fn with_limit(alloc: Global, limit: u16) -> Result<TaskTable, OutOfMemory>
+        ensures empty { IfOk result (λ table. table.tasks ≡ []) }
+        ensures limit { IfOk result (λ table. table.limit ≡ limit) }
+        ensures sound { IfOk result IsSound }
+    {
+        Ok(TaskTable {
+            slots: Slab::with_capacity(alloc, limit as usize)?,
+            entries: Vec::with_capacity(alloc, limit as usize)?,
+            limit,
+        })
+    }
+
+    /// The place of the task with the pid, or the place where it would go.
+    fn place_of(&self, pid: Pid) -> Result<usize, usize>
+        ensures place { MatchResult result (λ place. IsAt pid place self.now.tasks) (λ place. IsGap pid place self.now.tasks) }
+        ensures sound { IsSound self.now }
+    {
+        place_of(&self.entries, pid)
+    }
+
+    /// Puts a task asleep into the table. `Twice` comes exactly where a task has its pid, and else
+    /// `Full` exactly where the table has as many tasks as its limit. An `Err` changes nothing.
+    pub fn add(&mut self, spec: TaskSpec) -> Result<(), AddFault>
+        ensures answer { result ≡ add_answer self.old spec }
+        ensures added { OnOk result (self.new ≡ record self.old { tasks = placed (asleep spec) self.old.tasks }) }
+        ensures unchanged { OnErr result (self.new ≡ self.old) }
+        ensures sound { IsSound self.new }
+    {
+        match self.place_of(spec.pid) {
+            Ok(_) => Err(AddFault::Twice(spec.pid)),
+            Err(place) => self.insert(place, spec),
+        }
+    }
+
+    /// Puts a task asleep at the place of its pid, unless the table is full.
+    fn insert(&mut self, place: usize, spec: TaskSpec) -> Result<(), AddFault>
+        requires { IsGap spec.pid place self.old.tasks }
+        ensures answer { result ≡ add_answer self.old spec }
+        ensures added { OnOk result (self.new ≡ record self.old { tasks = placed (asleep spec) self.old.tasks }) }
+        ensures unchanged { OnErr result (self.new ≡ self.old) }
+        ensures sound { IsSound self.new }
+    {
+        if self.entries.len() == self.limit as usize {
+            return Err(AddFault::Full(self.limit));
+        }
+        let key = self.slots.insert_reserved(asleep(spec));
+        let entry = Entry { pid: spec.pid, key };
+        self.entries.insert(place, entry).unwrap();
+        Ok(())
+    }
+
+    /// The task with the pid. `None` exactly where there is none.
+    pub fn find(&self, pid: Pid) -> Option<&Task>
+        ensures task { option_copied result ≡ find (has_pid pid) self.now.tasks }
+        ensures sound { IsSound self.now }
+    {
+        match self.place_of(pid) {
+            Ok(place) => self.slots.get(self.entries[place].key),
+            Err(_) => None,
+        }
+    }
+
+    /// Puts the task in the place of the one with its pid, which it gives back. `None` exactly where
+    /// there is none, and then nothing changes.
+    pub fn change(&mut self, task: Task) -> Option<Task>
+        ensures old { result ≡ find (has_pid task.spec.pid) self.old.tasks }
+        ensures changed { self.new ≡ record self.old { tasks = map (λ other. if has_pid task.spec.pid other then task else other) self.old.tasks } }
+        ensures absent { IfNone result (self.new ≡ self.old) }
+        ensures sound { IsSound self.new }
+    {
+        let Ok(place) = self.place_of(task.spec.pid) else {
+            return None;
+        };
+        let slot = &mut self.slots[self.entries[place].key];
+        let old = *slot;
+        *slot = task;
+        Some(old)
+    }
+
+    /// Takes the task with the pid out. `None` exactly where there is none, and then nothing changes.
+    pub fn remove(&mut self, pid: Pid) -> Option<Task>
+        ensures task { result ≡ find (has_pid pid) self.old.tasks }
+        ensures removed { self.new ≡ record self.old { tasks = filter (λ task. not (has_pid pid task)) self.old.tasks } }
+        ensures absent { IfNone result (self.new ≡ self.old) }
+        ensures sound { IsSound self.new }
+    {
+        let Ok(place) = self.place_of(pid) else {
+            return None;
+        };
+        let entry = self.entries.remove(place);
+        self.slots.try_remove(entry.key)
+    }
+
+    /// The least pid above `after` of a task of the group. `None` exactly where there is none.
+    pub fn next_in(&self, group: Group, after: Pid) -> Option<Pid>
+        ensures next { result ≡ option_map pid_of (find (λ task. is_in_group group task && nat_lt after task.spec.pid) self.now.tasks) }
+        ensures rest { MatchOption result (group_above group after self.now.tasks ≡ [])
+            (λ pid. map pid_of (group_above group after self.now.tasks) ≡ pid ∷ map pid_of (group_above group pid self.now.tasks)) }
+        ensures member { IfSome result (λ pid. find (has_pid pid) self.now.tasks ≡
+            find (λ task. is_in_group group task && nat_lt after task.spec.pid) self.now.tasks) }
+        ensures sound { IsSound self.now }
+    {
+        let next = self.member_above(group, after)?;
+        Some(next.spec.pid)
+    }
+
+    /// The task of the group with the least pid above `after`.
+    fn member_above(&self, group: Group, after: Pid) -> Option<&Task>
+        ensures member { option_copied result ≡ find (λ task. is_in_group group task && nat_lt after task.spec.pid) self.now.tasks }
+        ensures sound { IsSound self.now }
+    {
+        self.tasks_from(place_above(&self.entries, after))
+            .find(|task| group.has(task))
+    }
+
+    /// How many tasks there are, 0 to the limit.
+    pub fn len(&self) -> u16
+        ensures len { result ≡ length self.now.tasks }
+        ensures sound { IsSound self.now }
+    {
+        self.entries.len() as u16
+    }
+
+    /// The tasks by rising pid.
+    pub fn iter(&self) -> Tasks<'_>
+        ensures tasks { result ≡ self.now.tasks }
+        ensures runs { WalksInOrder }
+        ensures sound { IsSound self.now }
+    {
+        self.tasks_from(0)
+    }
+
+    /// The tasks from a place on, by rising pid.
+    fn tasks_from(&self, place: usize) -> Tasks<'_>
+        requires { place ≤ length self.now.tasks }
+        ensures tasks { result ≡ drop place self.now.tasks }
+        ensures sound { IsSound self.now }
+    {
+        Tasks {
+            entries: &self.entries[place..],
+            slots: &self.slots,
+        }
+    }
+}
