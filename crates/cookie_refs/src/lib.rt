@@ -1,0 +1,6 @@
+//! The reference counts of core-scheduling cookies, apart from the tasks that have them.
+#![tactic(auto)]
+
+mod refs;
+
+pub use refs::{CookieFull, CookieRefs};

@@ -1,0 +1,163 @@
+//! How many references each live cookie has, in one vector by rising serial.
+
+ghost use Rattle.std.specs.Prelude.{◌≡◌, ◌≢◌, ℕ, ◌+◌, ◌^◌, ◌<◌, ◌↔◌, ◌==◌, if◌then◌else◌, IsErr, IfOk, IfErr, OnOk, OnErr, IfSome, IfNone, ◌≤◌, length};
+ghost use Rattle.cs_types.specs.Prctl.{live_cookies};
+ghost use Rattle.cookie_refs.specs.Refs.{count_of, live_count, references, Agree, IsAt};
+
+use cs_types::{Cookie, OutOfMemory};
+use std::alloc::Global;
+use std::marker::Model;
+use thiserror::Error;
+
+/// No cookie was made, since as many are live as may be: `limit`, 0 to 65535.
+#[derive(Debug, Drop, Error)]
+#[error("{limit} cookies are live, and no more may be")]
+pub struct CookieFull {
+    pub limit: u16,
+}
+
+/// A live cookie and how many references it has, 1 or more.
+#[derive(Clone, Copy)]
+struct LiveCookie {
+    cookie: Cookie,
+    count: u32,
+}
+
+/// The live cookies with their counts, of the tasks that have them and of the calls that hold one
+/// for a while (`struct sched_core_cookie`). The serials begin at 1, rise, and are never used
+/// again.
+#[derive(Drop)]
+pub struct CookieRefs {
+    live: Vec<LiveCookie>,
+    next: Cookie,
+    limit: u16,
+}
+
+impl Model for CookieRefs {
+    ghost use Rattle.cookie_refs.specs.Refs.{Refs};
+
+    ghost Value = { Refs };
+
+    ghost use Rattle.cookie_refs.specs.Inside.{refs_of, IsSound};
+
+    ghost view = { refs_of };
+
+    ghost invariant = { IsSound };
+}
+
+impl CookieRefs {
+    /// No live cookie yet, and 1 the next serial. It takes memory for `limit` live cookies, 0 to
+    /// 65535, and no later call takes any.
+    pub fn with_limit(alloc: Global, limit: u16) -> Result<CookieRefs, OutOfMemory>
+        ensures counts { IfOk result (λ refs. (cookie : ℕ) → count_of refs cookie ≡ 0) }
+        ensures live { IfOk result (λ refs. live_count refs ≡ 0) }
+        ensures next { IfOk result (λ refs. refs.next ≡ 1) }
+        ensures limit { IfOk result (λ refs. refs.limit ≡ limit) }
+    {
+        let live = Vec::with_capacity(alloc, usize::from(limit))?;
+        Ok(CookieRefs {
+            live,
+            next: 1,
+            limit,
+        })
+    }
+
+    /// A new cookie with one reference, the caller's, under the next serial
+    /// (`sched_core_alloc_cookie`). It is refused exactly where as many are live as may be.
+    pub fn make(&mut self) -> Result<Cookie, CookieFull>
+        requires { self.old.next < 2 ^ 63 }
+        ensures full { IsErr result ↔ (live_count self.old ≡ self.old.limit) }
+        ensures error { IfErr result (λ full. full.limit ≡ self.old.limit) }
+        ensures refused { OnErr result (self.new ≡ self.old) }
+
+        ensures cookie { IfOk result (λ cookie. cookie ≡ self.old.next) }
+        ensures counts { IfOk result (λ made. (cookie : ℕ) →
+            count_of self.new cookie ≡ (if cookie == made then 1 else count_of self.old cookie)) }
+        ensures live { OnOk result (live_count self.new ≡ live_count self.old + 1) }
+        ensures next { OnOk result (self.new.next ≡ self.old.next + 1) }
+        ensures limit { self.new.limit ≡ self.old.limit }
+
+        // The next serial is a cookie, and of none before. Where the counts are those of a list of
+        // tasks, the live cookies are those that its tasks have.
+        ensures above_0 { 0 < self.old.next }
+        ensures unused { count_of self.old self.old.next ≡ 0 }
+        ensures tasks { (tasks : _) → Agree self.old tasks →
+            live_count self.old ≡ length (live_cookies tasks) }
+    {
+        if self.live.len() == usize::from(self.limit) {
+            return Err(CookieFull { limit: self.limit });
+        }
+        let cookie = self.next;
+        self.live.push_reserved(LiveCookie { cookie, count: 1 });
+        self.next += 1;
+        Ok(cookie)
+    }
+
+    /// One more reference to a cookie (`sched_core_get_cookie`). Nothing changes for 0, which is no
+    /// cookie.
+    pub fn get(&mut self, cookie: Cookie)
+        requires live { cookie ≢ 0 → 0 < count_of self.old cookie }
+        requires room { count_of self.old cookie < 2 ^ 31 }
+        ensures counts { (other : ℕ) →
+            count_of self.new other ≡ count_of self.old other + references cookie other }
+        ensures live { live_count self.new ≡ live_count self.old }
+        ensures next { self.new.next ≡ self.old.next }
+        ensures limit { self.new.limit ≡ self.old.limit }
+    {
+        if let Some(place) = self.place_of(cookie) {
+            self.live[place].count += 1;
+        }
+    }
+
+    /// One reference to a cookie less (`sched_core_put_cookie`). At the last the cookie is no longer
+    /// live. Nothing changes for 0.
+    pub fn put(&mut self, cookie: Cookie)
+        requires { cookie ≢ 0 → 0 < count_of self.old cookie }
+        ensures counts { (other : ℕ) →
+            count_of self.new other + references cookie other ≡ count_of self.old other }
+        ensures live { live_count self.new + (if count_of self.old cookie == 1 then 1 else 0)
+            ≡ live_count self.old }
+        ensures next { self.new.next ≡ self.old.next }
+        ensures limit { self.new.limit ≡ self.old.limit }
+    {
+        if let Some(place) = self.place_of(cookie) {
+            if self.live[place].count == 1 {
+                self.live.remove(place);
+            } else {
+                self.live[place].count -= 1;
+            }
+        }
+    }
+
+    /// How many references a cookie has: 0 where it is not live, and for 0.
+    pub fn count(&self, cookie: Cookie) -> u32
+        ensures count { result ≡ count_of self.now cookie }
+        ensures none { cookie ≡ 0 → result ≡ 0 }
+    {
+        match self.place_of(cookie) {
+            Some(place) => self.live[place].count,
+            None => 0,
+        }
+    }
+
+    /// How many cookies are live, 0 to the limit.
+    pub fn live(&self) -> u16
+        ensures count { result ≡ live_count self.now }
+        ensures limit { result ≤ self.now.limit }
+
+        // Where the counts are those of a list of tasks, these are the cookies that its tasks have.
+        ensures tasks { (tasks : _) → Agree self.now tasks → result ≡ length (live_cookies tasks) }
+    {
+        self.live.len() as u16
+    }
+
+    /// The place of a live cookie.
+    fn place_of(&self, cookie: Cookie) -> Option<usize>
+        ensures found { IfSome result (IsAt self.now cookie) }
+        ensures none { IfNone result (count_of self.now cookie ≡ 0) }
+    {
+        self.live
+            .binary_search_by_key(&cookie, |live| live.cookie)
+            .ok()
+    }
+}
