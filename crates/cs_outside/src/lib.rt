@@ -3,6 +3,7 @@
 
 mod fault;
 mod gathered;
+mod guard;
 mod memory_sink;
 mod memory_source;
 mod retried;
@@ -12,6 +13,7 @@ mod std_sink;
 mod std_source;
 
 pub use fault::Failed;
+pub use guard::Guard;
 pub use memory_sink::MemSink;
 pub use memory_source::MemSource;
 pub use retried::{read_some, write_some};
