@@ -1,0 +1,168 @@
+-- Commands: what a call that is admitted comes to, and what it sets.
+use Rattle.std.proofs.Common.{◌≡◌, ℕ, ◌+◌, Bool, true, false, List, [], ◌∷◌, length, refl, sym, ap, ◌∙◌, subst, Some, inl, inr}
+use Rattle.std.specs.Prelude.{◌==◌, ◌&&◌, ◌||◌, ◌%◌, ◌-◌, not, nat_lt, ◌≢◌, filter, Result, Ok, Err}
+use Rattle.std.specs.List.{list_all}
+use Rattle.std.proofs.lemmas.Bool.{cases_Bool, eqb-true, eq-eqb, ne_eqb}
+use Rattle.cs_types.specs.declared.task.Task.{Task}
+use Rattle.cs_types.specs.declared.event.Ask.{Ask}
+use Rattle.cs_types.specs.declared.reply.Errno.{Errno}
+use Rattle.cs_types.specs.declared.reply.Errno.TheVariants.{Enomem}
+use Rattle.cs_types.specs.declared.reply.Reply.TheVariants.{Refused}
+use Rattle.cs_types.specs.Access.{may_access}
+use Rattle.cs_types.specs.Room.{RoomState}
+use Rattle.cs_types.specs.Prctl.{is_thread, is_in_scope, live_cookies, may_access_members, setting_by, setting_of, prctl_answer, makes_cookie, with_made}
+use Rattle.task_table.specs.Table.{Table}
+use Rattle.task_table.proofs.Tables.{found_alone}
+use Rattle.prctl_core.specs.declared.admitted.Called.{Called}
+use Rattle.prctl_core.specs.declared.arguments.Command.TheVariants.{Get, Create, ShareTo, ShareFrom}
+use Rattle.cookie_refs.specs.Refs.{Refs}
+use Rattle.prctl_core.specs.declared.decision.Planned.{Planned}
+use Rattle.prctl_core.specs.declared.decision.Target.{Target}
+use Rattle.prctl_core.specs.declared.decision.Target.TheVariants.{One}
+use Rattle.prctl_core.specs.Plan.{command_number, named, IsCall, AreThere, Settles, may_access_all, is_alone, NamesMembers, NamesCaller, IsRoomOf, reply_of, SetsIn, get_plan, gift, IsFull, IsMade}
+use Rattle.prctl_core.proofs.Rows.{get_misplaced, get_outside, got, full, from_many, from_one, create_refused, created, share_refused, shared}
+
+-- a plan in a room
+pub record IsPlanOf (room : RoomState) (pid : ℕ) (ask : Ask) (planned : Planned) (refs : Refs) : Type 0 where
+  pub answer : prctl_answer room pid ask ≡ reply_of planned
+  pub sets : SetsIn room pid ask planned
+  pub serial : refs.next ≡ (with_made room (makes_cookie room pid ask)).next_cookie
+
+-- ---- what the room says of a call's members
+
+module _ (room : RoomState) (pid : ℕ) (ask : Ask) (called : Called) (is : IsCall room pid ask called) where
+  -- the scope is the target alone
+  alone : is_thread ask ≡ is_alone called
+  alone = ap (λ n. n == 0) (sym is.scope)
+
+  -- the caller may access the members
+  allowed : (tasks : List Task) → room.tasks ≡ tasks → may_access_members room ask.scope (Some called.caller) (Some called.target) ≡ may_access_all tasks called
+  allowed tasks same =
+      let scope = sym is.scope in
+      λ i. list_all (λ member. may_access called.caller.spec member.spec) (filter (λ task. is_in_scope (scope i) called.target.spec task.spec) (same i))
+
+  -- ---- the answer of each command
+
+  pub get_settles : (top : ℕ) → room.user_top ≡ top → called.command ≡ Get → Settles room pid ask (reply_of (get_plan called ask.addr top)) false
+  get_settles top same command =
+      let cmd : ask.cmd ≡ 0 = sym is.command ∙ ap command_number command in
+      let misplaced : (not (is_thread ask) || not (ask.addr % 8 == 0)) ≡ (not (is_alone called) || not (ask.addr % 8 == 0)) =
+      ap (λ b. not b || not (ask.addr % 8 == 0)) alone in
+      let outside : (nat_lt ask.addr 4096 || nat_lt (room.user_top - 8) ask.addr) ≡ (nat_lt ask.addr 4096 || nat_lt (top - 8) ask.addr) =
+      ap (λ n. nat_lt ask.addr 4096 || nat_lt (n - 8) ask.addr) same in
+      by_place (not (is_alone called) || not (ask.addr % 8 == 0)) (nat_lt ask.addr 4096 || nat_lt (top - 8) ask.addr) refl refl cmd misplaced outside where
+        by_place : (a b : Bool) → (not (is_alone called) || not (ask.addr % 8 == 0)) ≡ a → (nat_lt ask.addr 4096 || nat_lt (top - 8) ask.addr) ≡ b →
+            ask.cmd ≡ 0 →
+            (not (is_thread ask) || not (ask.addr % 8 == 0)) ≡ (not (is_alone called) || not (ask.addr % 8 == 0)) →
+            (nat_lt ask.addr 4096 || nat_lt (room.user_top - 8) ask.addr) ≡ (nat_lt ask.addr 4096 || nat_lt (top - 8) ask.addr) →
+            Settles room pid ask (reply_of (get_plan called ask.addr top)) false
+        by_place true b at to cmd misplaced outside =
+            rw at (get_misplaced room pid ask called.caller called.target is.admitted cmd (misplaced ∙ at))
+        by_place false true at to cmd misplaced outside =
+            rw (at, to) (get_outside room pid ask called.caller called.target is.admitted cmd (misplaced ∙ at) (outside ∙ to))
+        by_place false false at to cmd misplaced outside =
+            rw (at, to) (got room pid ask called.caller called.target is.admitted cmd (misplaced ∙ at) (outside ∙ to))
+
+  -- whether there is room for one more cookie
+  room_test : (limit : ℕ) (test : Bool) (tasks : List Task) → room.tasks ≡ tasks → room.cookie_limit ≡ limit →
+      (length (live_cookies tasks) == limit) ≡ test → (length (live_cookies room.tasks) == room.cookie_limit) ≡ test
+  room_test limit test tasks same there is_test = (λ i. length (live_cookies (same i)) == there i) ∙ is_test
+
+  create_full : (tasks : List Task) (limit : ℕ) → room.tasks ≡ tasks → room.cookie_limit ≡ limit → called.command ≡ Create →
+      length (live_cookies tasks) ≡ limit → Settles room pid ask (Refused Enomem) false
+  create_full tasks limit same there command is_full =
+      full room pid ask called.caller called.target is.admitted (sym is.command ∙ ap command_number command)
+      (room_test limit true tasks same there (eq-eqb _ _ is_full))
+
+  -- what is given where the caller may access all
+  may_give : (tasks : List Task) → room.tasks ≡ tasks → (not (is_alone called) && not (may_access_all tasks called)) ≡ false →
+      (not (is_thread ask) && not (may_access_members room ask.scope (Some called.caller) (Some called.target))) ≡ false
+  may_give tasks same may = (λ i. not (alone i) && not (allowed tasks same i)) ∙ may
+
+  create_settles : (tasks : List Task) (limit cookie : ℕ) (to : Result Target Errno) → room.tasks ≡ tasks → room.cookie_limit ≡ limit → called.command ≡ Create →
+      length (live_cookies tasks) ≢ limit → NamesMembers tasks called to → Settles room pid ask (reply_of (gift cookie to)) true
+  create_settles tasks limit cookie (Ok to) same there command room_left names =
+      created room pid ask called.caller called.target is.admitted (sym is.command ∙ ap command_number command)
+      (room_test limit false tasks same there (ne_eqb _ _ room_left)) (may_give tasks same names.1)
+  create_settles tasks limit cookie (Err errno) same there command room_left names =
+      subst (λ e. Settles room pid ask (Refused e) true) (sym names.0)
+      (create_refused room pid ask called.caller called.target is.admitted (sym is.command ∙ ap command_number command)
+      (room_test limit false tasks same there (ne_eqb _ _ room_left)) (alone ∙ names.1) (allowed tasks same ∙ names.2))
+
+  pub share_settles : (tasks : List Task) (cookie : ℕ) (to : Result Target Errno) → room.tasks ≡ tasks → called.command ≡ ShareTo →
+      NamesMembers tasks called to → Settles room pid ask (reply_of (gift cookie to)) false
+  share_settles tasks cookie (Ok to) same command names =
+      shared room pid ask called.caller called.target is.admitted (sym is.command ∙ ap command_number command) (may_give tasks same names.1)
+  share_settles tasks cookie (Err errno) same command names =
+      subst (λ e. Settles room pid ask (Refused e) false) (sym names.0)
+      (share_refused room pid ask called.caller called.target is.admitted (sym is.command ∙ ap command_number command)
+      (alone ∙ names.1) (allowed tasks same ∙ names.2))
+
+  pub from_settles : (cookie : ℕ) (to : Result Target Errno) → called.command ≡ ShareFrom → NamesCaller called to → Settles room pid ask (reply_of (gift cookie to)) false
+  from_settles cookie (Ok to) command names =
+      from_one room pid ask called.caller called.target is.admitted (sym is.command ∙ ap command_number command) (alone ∙ names.1)
+  from_settles cookie (Err errno) command names =
+      subst (λ e. Settles room pid ask (Refused e) false) (sym names.0)
+      (from_many room pid ask called.caller called.target is.admitted (sym is.command ∙ ap command_number command) (alone ∙ names.1))
+
+  -- ---- what each command sets
+
+  setting_is : setting_of room pid ask ≡ setting_by room called.caller called.target ask
+  setting_is = rw (is.admitted.target, is.admitted.caller) refl
+
+  -- the members get a cookie
+  members_set : (tasks : List Task) (cookie : ℕ) (to : Result Target Errno) → room.tasks ≡ tasks → NamesMembers tasks called to →
+      setting_by room called.caller called.target ask ≡ record { tasks = filter (λ task. is_in_scope ask.scope called.target.spec task.spec) room.tasks; cookie = cookie } →
+      SetsIn room pid ask (gift cookie to)
+  members_set tasks cookie (Err errno) same names gives = tt
+  members_set tasks cookie (Ok to) same names gives =
+      let scope = sym is.scope in
+      let there = ap (named to) same ∙ names.0 ∙ sym (λ j. filter (λ task. is_in_scope (scope j) called.target.spec task.spec) (same j)) in
+      λ zero. (λ i. record { tasks = there i; cookie = cookie }) ∙ sym (setting_is ∙ gives)
+
+  create_sets : (tasks : List Task) (cookie : ℕ) (to : Result Target Errno) → room.tasks ≡ tasks → room.next_cookie ≡ cookie → called.command ≡ Create →
+      NamesMembers tasks called to → SetsIn room pid ask (gift cookie to)
+  create_sets tasks cookie to same next command names =
+      members_set tasks cookie to same names (rw (sym is.command ∙ ap command_number command) (rw next refl))
+
+  pub share_sets : (tasks : List Task) (to : Result Target Errno) → room.tasks ≡ tasks → called.command ≡ ShareTo →
+      NamesMembers tasks called to → SetsIn room pid ask (gift called.caller.cookie to)
+  share_sets tasks to same command names =
+      members_set tasks called.caller.cookie to same names (rw (sym is.command ∙ ap command_number command) refl)
+
+  pub from_sets : (table : Table) (to : Result Target Errno) → room.tasks ≡ table.tasks → AreThere table called → called.command ≡ ShareFrom →
+      NamesCaller called to → SetsIn room pid ask (gift called.target.cookie to)
+  from_sets table (Err errno) same there command names = tt
+  from_sets table (Ok to) same there command names =
+      let alone_caller : named to room.tasks ≡ called.caller ∷ [] =
+      ap (λ t. named t room.tasks) names.0 ∙ ap (named (One called.caller.spec.pid)) same
+      ∙ found_alone 0 called.caller.spec.pid table.tasks called.caller there.sound.rising there.caller in
+      λ zero. (λ i. record { tasks = alone_caller i; cookie = called.target.cookie })
+      ∙ sym (setting_is ∙ (rw (sym is.command ∙ ap command_number command) refl))
+
+  -- ---- a CREATE, at the limit and below it
+
+  pub create_plan : (table : Table) (old new : Refs) (online top : ℕ) (planned : Planned) → IsRoomOf room table old online top → called.command ≡ Create →
+      (length (live_cookies table.tasks) ≡ old.limit → IsFull old new planned) →
+      (length (live_cookies table.tasks) ≢ old.limit → IsMade old new table.tasks called planned) → IsPlanOf room pid ask planned new
+  create_plan table old new online top planned of command at_limit below =
+      elim (cases_Bool (length (live_cookies table.tasks) == old.limit)) [
+        | inl same ↦
+            let is_full = eqb-true (length (live_cookies table.tasks)) old.limit same in
+            let made = at_limit is_full in
+            let settles = create_full table.tasks old.limit of.tasks of.cookie_limit command is_full in
+            subst (λ p. IsPlanOf room pid ask p new) (sym made.refused) (record {
+              answer = settles.answer;
+              sets = tt;
+              serial = made.next ∙ sym of.next_cookie ∙ ap (λ b. (with_made room b).next_cookie) (sym settles.makes);
+            })
+        | inr other ↦
+            let room_left : length (live_cookies table.tasks) ≢ old.limit = λ e. let is_full = eq-eqb _ _ e in absurd cc in
+            let made = below room_left in
+            let settles = create_settles table.tasks old.limit old.next made.to of.tasks of.cookie_limit command room_left made.members in
+            subst (λ p. IsPlanOf room pid ask p new) (sym made.plan) (record {
+              answer = settles.answer;
+              sets = create_sets table.tasks old.next made.to of.tasks of.next_cookie command made.members;
+              serial = made.next ∙ ap (λ n. n + 1) (sym of.next_cookie) ∙ ap (λ b. (with_made room b).next_cookie) (sym settles.makes);
+            })
+      ]

@@ -1,0 +1,71 @@
+//! Whether a call is admitted: what is asked of every command before it comes to its own conditions.
+
+ghost use Rattle.std.specs.Prelude.{◌≡◌, length, find, IfSome, Some, IfOk, IfErr};
+ghost use Rattle.cs_types.specs.Room.{RoomState, has_pid, online as siblings_online};
+ghost use Rattle.cs_types.specs.Prctl.{named_by};
+ghost use Rattle.prctl_core.specs.Plan.{Admits, IsRefusal, AreThere};
+
+use crate::arguments::{Command, Scope, arguments};
+use cs_types::{Ask, Errno, Pid, Reply, Task};
+use ptrace_check::{Guards, may_access};
+use task_table::TaskTable;
+
+/// A call that is admitted: its caller and its target, which the caller may access, and what it asks
+/// for.
+#[derive(Clone, Copy)]
+pub struct Called {
+    pub caller: Task,
+    pub target: Task,
+    pub command: Command,
+    pub scope: Scope,
+}
+
+/// The task that a pid names: the caller for 0, else the living task that has it.
+fn named_by(table: &TaskTable, caller: &Task, pid: i32) -> Option<Task>
+    requires there { find (has_pid caller.now.spec.pid) table.now.tasks ≡ Some caller.now }
+    ensures named { (room : RoomState) → room.tasks ≡ table.now.tasks → result ≡ named_by room caller.now pid }
+    ensures there { IfSome result (λ task. find (has_pid task.spec.pid) table.now.tasks ≡ Some task) }
+{
+    match u32::try_from(pid) {
+        Ok(0) => Some(*caller),
+        Ok(pid) => table.find(pid).copied(),
+        Err(_) => None,
+    }
+}
+
+/// The call, where it is admitted, or its answer.
+pub fn admit(
+    table: &TaskTable,
+    guards: &mut Guards,
+    online: u8,
+    caller: Pid,
+    ask: &Ask,
+) -> Result<Called, Reply>
+    ensures admits { (room : RoomState) → room.tasks ≡ table.now.tasks → length (siblings_online room) ≡ online →
+        Admits room caller ask.now result }
+    ensures refused { IfErr result IsRefusal }
+    ensures there { IfOk result (λ called. AreThere table.now called) }
+    ensures guards { guards.new ≡ guards.old }
+{
+    let Some(by) = table.find(caller).copied() else {
+        return Err(Reply::NoCaller);
+    };
+    if online < 2 {
+        return Err(Reply::Refused(Errno::Enodev));
+    }
+    let Some((command, scope)) = arguments(ask) else {
+        return Err(Reply::Refused(Errno::Einval));
+    };
+    let Some(target) = named_by(table, &by, ask.pid) else {
+        return Err(Reply::Refused(Errno::Esrch));
+    };
+    if !may_access(&by.spec, &target.spec, guards) {
+        return Err(Reply::Refused(Errno::Eperm));
+    }
+    Ok(Called {
+        caller: by,
+        target,
+        command,
+        scope,
+    })
+}
