@@ -6,15 +6,14 @@ use Rattle.std.proofs.lemmas.List.{append-nil, map-append, length_push, length-a
 use Rattle.std.proofs.lemmas.List.Elements.{All-push}
 use Rattle.cs_types.specs.declared.task.TaskSpec.{TaskSpec}
 use Rattle.cs_types.specs.declared.event.Step.{Step}
-use Rattle.cs_types.specs.Scenario.{IsTask, AreDistinct, AreLed}
+use Rattle.cs_types.specs.Scenario.{IsTask, IsStep, AreDistinct, AreLed}
 use Rattle.scenario_text.specs.declared.head.Head.{Head}
 use Rattle.scenario_text.specs.declared.line.Line.{Line}
 use Rattle.scenario_text.specs.declared.line.Line.TheVariants as forms
 use Rattle.scenario_text.specs.Words.{Word, task_words}
 use Rattle.scenario_text.specs.Text.{step_words, end_words}
-use Rattle.scenario_text.specs.Reading.{Read, Contents, is_fresh, is_led, check, task_check, step_check, line_check, follower_of, with_task, with_step, end_of, plan_of}
-use Rattle.scenario_text.proofs.Readings.{Each, each_ok, each_refused, each_bind}
-use Rattle.scenario_text.proofs.Steps.{IsStepText}
+use Rattle.scenario_text.specs.Reading.{Read, Contents, is_fresh, is_led, task_check, step_check, line_check, follower_of, with_task, with_step, end_of, plan_of}
+use Rattle.scenario_text.proofs.Readings.{Each, each_ok, each_refused, each_bind, each_check}
 use Rattle.scenario_text.proofs.Forms.{line_words, IsLine, each_line, line_again, few_words}
 use Rattle.scenario_text.proofs.Plans.{each_before, goes_on}
 use Rattle.scenario_text.proofs.Followers.{distinct_push, distinct_fresh, led_push, led_test}
@@ -25,7 +24,7 @@ pub record IsPlan (siblings limit : ℕ) (plan : Contents) : Type 0 where
   pub distinct : AreDistinct plan.tasks
   pub led : AreLed plan.tasks
   pub few_tasks : length plan.tasks ≤ limit
-  pub steps : All (IsStepText siblings) plan.steps
+  pub steps : All (IsStep siblings) plan.steps
   pub few_steps : length plan.steps ≤ 100000
 
 -- the words of a plan's lines
@@ -44,11 +43,6 @@ has_step plan = not (eqb (length plan.steps) 0)
 
 first_task : (plan : Contents) → has_step plan ≡ false → plan.steps ≡ []
 first_task plan none = nil_from_length plan.steps (eqb-true _ _ (not-false _ none))
-
--- a check that holds
-each_check : (holds : Bool) → Each (check holds) (λ unit. holds ≡ true)
-each_check true = each_ok _ _ refl
-each_check false = each_refused _
 
 -- what a task keeps that may follow
 record Follows (limit : ℕ) (task : TaskSpec) (plan : Contents) : Type 0 where
@@ -112,7 +106,7 @@ task_grows siblings limit plan task is fits none checked =
       lines = rw (first_task plan none, append-nil (map task_words (plan.tasks ++ task ∷ [])), append-nil (map task_words plan.tasks)) (map-append task_words plan.tasks (task ∷ []));
     }
 
-step_grows : (siblings limit : ℕ) (plan : Contents) (step : Step) → IsPlan siblings limit plan → IsStepText siblings step → step_check plan ≡ Ok tt → Grows siblings limit plan (step_words step) (with_step step plan)
+step_grows : (siblings limit : ℕ) (plan : Contents) (step : Step) → IsPlan siblings limit plan → IsStep siblings step → step_check plan ≡ Ok tt → Grows siblings limit plan (step_words step) (with_step step plan)
 step_grows siblings limit plan step is fits checked =
     let few = (each_step_check plan).all tt checked in
     record {
@@ -121,7 +115,7 @@ step_grows siblings limit plan step is fits checked =
         distinct = is.distinct;
         led = is.led;
         few_tasks = is.few_tasks;
-        steps = All-push (IsStepText siblings) plan.steps step is.steps fits;
+        steps = All-push (IsStep siblings) plan.steps step is.steps fits;
         few_steps = omega (arith, length_push plan.steps step);
       };
       lines =
@@ -224,7 +218,7 @@ module _ (head : Head) (all : Contents) (small : head.siblings < 256) (is : IsPl
       (ap (λ (ss : List Step). kept (record { tasks = all.tasks; steps = ss })) (sym (e ∙ append-nil steps)))
   steps_again (step ∷ more) steps e =
       let plan : Contents = record { tasks = all.tasks; steps = steps } in
-      let fits = element_after (IsStepText head.siblings) all.steps steps more step e is.steps in
+      let fits = element_after (IsStep head.siblings) all.steps steps more step e is.steps in
       let len : length all.steps ≡ length steps + suc (length more) = ap length e ∙ length-append steps (step ∷ more) in
       let room : length steps < 100000 = let few_steps = is.few_steps in omega arith in
       taken plan (forms.Step step) (map step_words more) fits (step_check_again plan room)

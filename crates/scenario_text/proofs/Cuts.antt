@@ -4,11 +4,11 @@ use Rattle.std.specs.Borrow.{Bor}
 use Rattle.std.specs.List.{position_or_len, slice_split, onto_first}
 use Rattle.std.proofs.Math.ListN.{get_or-map}
 use Rattle.std.proofs.lemmas.Bool.{ne_eqb, lt-leb, cases_lt, lt-ltb, le-ltb, le-leb, cond-true, cond-false}
-use Rattle.std.proofs.lemmas.List.{length-drop, length-take, length-map, map-append, take_more}
+use Rattle.std.proofs.lemmas.List.{length-drop, get_or-drop, length-take, length-map, map-append, take_more}
 use Rattle.std.proofs.lemmas.List.Splits.{slice_split_none, slice_split_first}
 use Rattle.std.proofs.lemmas.List.Sums.{fails_before_first}
 use Rattle.scenario_text.specs.Words.{Word}
-use Rattle.scenario_text.specs.Reading.{Read, refused, ◌>>=◌, pieces, words_in, lines_in, parts, lent, texts, Reads, Takes, few, line_at, end_of}
+use Rattle.scenario_text.specs.Reading.{Read, refused, ◌>>=◌, pieces, words_in, lines_in, parts, lent, after, texts, Reads, Takes, few, line_at, end_of}
 
 abbrev read : {A : Type 0} → A → Read A
 read x = Ok x
@@ -89,6 +89,15 @@ lent_is words = λ i. record {
   count = sym (length-map words (λ (w : Bor Word). w.now)) i;
   at = λ k. sym (get_or-map (λ (w : Bor Word). w.now) words k (record { ref_ptr = (0, 0); now = [] })) i;
 }
+
+-- the words after the first so many, as a pattern lends them
+pub lent-rest : (n : ℕ) (words : List (Bor Word)) → lent (take (length words - n) (drop n words)) ≡ after n (lent words)
+lent-rest n words =
+    let rest : take (length words - n) (drop n words) ≡ drop n words = take_all _ _ (omega (arith, length-drop n words)) in
+    ap lent rest ∙ (λ i. record {
+      count = length-drop n words i;
+      at = λ k. (get_or-drop n words k (record { ref_ptr = (0, 0); now = [] }) i).now;
+    })
 
 -- ---- the lines of a text
 

@@ -1,38 +1,20 @@
 -- Followers: which task may follow others, by the tests and by what a scenario keeps.
-use Rattle.std.proofs.Common.{◌≡◌, ◌≢◌, ℕ, zero, suc, ◌+◌, ◌<◌, Bool, true, false, eqb, List, [], ◌∷◌, ◌++◌, length, get_or, take, refl, sym, ap, subst, ◌∙◌, arith, inl, inr}
-use Rattle.std.specs.Prelude.{◌&&◌, Any}
+use Rattle.std.proofs.Common.{◌≡◌, ◌≢◌, suc, ◌+◌, Bool, true, false, eqb, List, [], ◌∷◌, ◌++◌, length, get_or, take, refl, sym, ap, subst, ◌∙◌, arith, inl, inr}
+use Rattle.std.specs.Prelude.{◌&&◌, All}
 use Rattle.std.specs.List.{list_any}
-use Rattle.std.proofs.lemmas.Bool.{cases_lt, false≢true, not-true, not_from_false, or_cases, or_parts, or_from, or_left, or_right, and_parts, and_from, eqb-true, eqb-false, eq-eqb, ne_eqb}
+use Rattle.std.proofs.lemmas.Bool.{cases_lt, false_from_ne_true, both_ways, not-true, not_from_false, or_cases, or_left, or_right, eqb-true, eqb-false, eq-eqb, ne_eqb}
 use Rattle.std.proofs.lemmas.List.{length_push, length-append, take_at, get_or_at, take-append-le, get_or_append_left}
+use Rattle.std.proofs.lemmas.Bool.Decides.{nat_tests}
+use Rattle.std.proofs.lemmas.List.Folds.{list_any_at, list_any_none, list_any-from_Any, Any-from_list_any}
 use Rattle.std.proofs.lemmas.List.Quantifiers.{all_pairs_push}
 use Rattle.cs_types.specs.declared.task.TaskSpec.{TaskSpec}
 use Rattle.cs_types.specs.Scenario.{AreDistinct, IsLed, AreLed}
 use Rattle.scenario_text.specs.Reading.{is_fresh, is_led}
 
--- ---- a test of any element
-
-any_false : {X : Type 0} (p : X → Bool) (xs : List X) → ((k : ℕ) (d : X) → k < length xs → p (get_or xs k d) ≡ false) → list_any p xs ≡ false
-any_false p [] h = refl
-any_false p (x ∷ xs) h =
-    or_from (p x) (list_any p xs) (h 0 x (omega arith)) (any_false p xs (λ k d lt. h (suc k) d (omega arith)))
-
-any_fails : {X : Type 0} (p : X → Bool) (xs : List X) → list_any p xs ≡ false → (k : ℕ) (d : X) → k < length xs → p (get_or xs k d) ≡ false
-any_fails p [] h k d lt = absurd (omega arith)
-any_fails p (x ∷ xs) h zero d lt = (or_parts (p x) (list_any p xs) h).0
-any_fails p (x ∷ xs) h (suc k) d lt = any_fails p xs (or_parts (p x) (list_any p xs) h).1 k d (omega arith)
-
-any_true : {X : Type 0} (p : X → Bool) (xs : List X) (k : ℕ) (d : X) → k < length xs → p (get_or xs k d) ≡ true → list_any p xs ≡ true
-any_true p [] k d lt h = absurd (omega arith)
-any_true p (x ∷ xs) zero d lt h = or_left (p x) (list_any p xs) h
-any_true p (x ∷ xs) (suc k) d lt h = or_right (p x) (list_any p xs) (any_true p xs k d (omega arith) h)
-
-any_passes : {X : Type 0} (p : X → Bool) (xs : List X) → list_any p xs ≡ true → Any (λ x. p x ≡ true) xs
-any_passes p [] h = absurd (false≢true h)
-any_passes p (x ∷ xs) h =
-    elim (or_cases (p x) (list_any p xs) h) [
-      | inl here ↦ (0, x, omega arith, refl, here)
-      | inr there ↦ let found = any_passes p xs there in (suc found.0, found.1, omega (arith, found.2), found.3, found.4)
-    ]
+-- no element passes a test that not any does
+any_fails : {X : Type 0} (p : X → Bool) (xs : List X) → list_any p xs ≡ false → All (λ x. p x ≡ false) xs
+any_fails p xs none k d lt =
+    false_from_ne_true (p (get_or xs k d)) (λ passes. both_ways (list_any p xs) none (list_any_at p xs k d lt passes))
 
 -- ---- distinct pids
 
@@ -45,7 +27,7 @@ distinct_push tasks task distinct fresh =
 pub distinct_fresh : (all tasks more : List TaskSpec) (task : TaskSpec) → all ≡ tasks ++ task ∷ more → AreDistinct all → is_fresh tasks task ≡ true
 unfolding is_fresh
 distinct_fresh all tasks more task is distinct =
-    not_from_false _ (any_false (λ other. eqb other.pid task.pid) tasks (λ k d lt.
+    not_from_false _ (list_any_none (λ other. eqb other.pid task.pid) tasks (λ k d lt.
     let len : length all ≡ length tasks + suc (length more) = ap length is ∙ length-append tasks (task ∷ more) in
     let ne = distinct k (length tasks) d lt (omega arith) in
     let here : get_or all k d ≡ get_or tasks k d = ap (λ (l : List TaskSpec). get_or l k d) is ∙ get_or_append_left tasks (task ∷ more) d k lt in
@@ -59,15 +41,10 @@ abbrev leads : TaskSpec → TaskSpec → Bool
 leads task leader = eqb leader.pid task.tgid && eqb leader.tgid leader.pid && eqb leader.pgid task.pgid
 
 leads_parts : (task leader : TaskSpec) → leads task leader ≡ true → (leader.pid ≡ task.tgid) × (leader.tgid ≡ leader.pid) × (leader.pgid ≡ task.pgid)
-leads_parts task leader h =
-    let a = and_parts (eqb leader.pid task.tgid && eqb leader.tgid leader.pid) (eqb leader.pgid task.pgid) h in
-    let b = and_parts (eqb leader.pid task.tgid) (eqb leader.tgid leader.pid) a.0 in
-    (eqb-true _ _ b.0, eqb-true _ _ b.1, eqb-true _ _ a.1)
+leads_parts task leader h = grind (arith, nat_tests)
 
 leads_whole : (task leader : TaskSpec) → (leader.pid ≡ task.tgid) × (leader.tgid ≡ leader.pid) × (leader.pgid ≡ task.pgid) → leads task leader ≡ true
-leads_whole task leader h =
-    and_from (eqb leader.pid task.tgid && eqb leader.tgid leader.pid) (eqb leader.pgid task.pgid)
-    (and_from (eqb leader.pid task.tgid) (eqb leader.tgid leader.pid) (eq-eqb _ _ h.0) (eq-eqb _ _ h.1)) (eq-eqb _ _ h.2)
+leads_whole task leader h = grind (arith, nat_tests)
 
 IsLed-from_test : (tasks : List TaskSpec) (task : TaskSpec) → is_led tasks task ≡ true → IsLed tasks task
 unfolding is_led
@@ -75,7 +52,7 @@ IsLed-from_test tasks task h =
     elim (or_cases (eqb task.tgid task.pid) (list_any (leads task) tasks) h) [
       | inl own ↦ inl (eqb-true _ _ own)
       | inr other ↦
-          let found = any_passes (leads task) tasks other in
+          let found = Any-from_list_any (leads task) tasks other in
           inr (found.0, found.1, found.2, found.3, leads_parts task found.1 found.4)
     ]
 
@@ -84,7 +61,7 @@ unfolding is_led
 test_from_IsLed tasks task (inl own) = or_left (eqb task.tgid task.pid) (list_any (leads task) tasks) (eq-eqb _ _ own)
 test_from_IsLed tasks task (inr found) =
     or_right (eqb task.tgid task.pid) (list_any (leads task) tasks)
-    (any_true (leads task) tasks found.0 found.1 found.2 (ap (leads task) found.3 ∙ leads_whole task found.1 found.4))
+    (list_any-from_Any (leads task) tasks (found.0, found.1, found.2, found.3, leads_whole task found.1 found.4))
 
 pub led_push : (tasks : List TaskSpec) (task : TaskSpec) → AreLed tasks → is_led tasks task ≡ true → AreLed (tasks ++ task ∷ [])
 led_push tasks task led test k d lt =

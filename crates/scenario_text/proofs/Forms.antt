@@ -1,23 +1,23 @@
 -- Forms: what is read from a line after the head is spelled by its words, and what is spelled so is read.
-use Rattle.std.proofs.Common.{◌≡◌, ℕ, ◌<◌, Bool, false, eqb, leb, List, [], ◌∷◌, length, drop, Ok, refl, sym, ap, subst, ◌∙◌, arith}
+use Rattle.std.proofs.Common.{◌≡◌, ℕ, ◌<◌, Bool, false, eqb, leb, List, ◌∷◌, length, drop, Ok, refl, sym, ap, subst, ◌∙◌, arith}
 use Rattle.std.proofs.lemmas.Bool.{eqb-true, leb-true, le-leb}
-use Rattle.std.proofs.lemmas.List.{length-drop, nil_from_length}
+use Rattle.std.proofs.lemmas.List.{nil_from_length}
 use Rattle.std.specs.Prelude.{codes}
 use Rattle.cs_types.specs.declared.event.Actor.{Actor}
 use Rattle.cs_types.specs.declared.event.Event.{Event}
 use Rattle.cs_types.specs.declared.event.Event.TheVariants.{Turn, Resched, Block, Wake, Prctl}
 use Rattle.cs_types.specs.declared.event.Step.{Step}
 use Rattle.cs_types.specs.declared.task.TaskSpec.{TaskSpec}
-use Rattle.cs_types.specs.Scenario.{IsTask}
+use Rattle.cs_types.specs.Scenario.{IsTask, IsStep}
 use Rattle.scenario_text.specs.declared.line.Line.{Line}
 use Rattle.scenario_text.specs.declared.line.Line.TheVariants as forms
 use Rattle.scenario_text.specs.Words.{Word, task_words, actor_word, made_words}
 use Rattle.scenario_text.specs.Text.{step_words, end_words}
-use Rattle.scenario_text.specs.Reading.{◌>>=◌, Read, Parts, parts, reading_named, task_of, step_of, task_line, step_line, end_line, line_of, few}
-use Rattle.scenario_text.proofs.Readings.{Each, each_ok, each_refused, each_bind, each_if, each_when, each_first, second_word, after_is}
+use Rattle.scenario_text.specs.Reading.{◌>>=◌, Read, Parts, parts, reading_named, step_of, task_line, step_line, end_line, line_forms, line_of, few}
+use Rattle.scenario_text.proofs.Readings.{Each, each_ok, each_refused, each_bind, each_if, each_when, each_first, first_word, after_is}
 use Rattle.scenario_text.proofs.Numbers.{taken}
-use Rattle.scenario_text.proofs.Tasks.{each_task, task_again}
-use Rattle.scenario_text.proofs.Steps.{IsStepText, by, each_step, step_again}
+use Rattle.scenario_text.proofs.Tasks.{task_rest, each_task, task_again}
+use Rattle.scenario_text.proofs.Steps.{by, each_step, step_again}
 
 -- the words of a line
 abbrev pub line_words : Line → List Word
@@ -28,60 +28,65 @@ line_words forms.End = end_words
 -- a line that may stand after a step or after none, in a core of so many siblings
 abbrev pub IsLine : ℕ → Bool → Line → Type 0
 IsLine siblings is_after_step (forms.Task task) = IsTask siblings task × (is_after_step ≡ false)
-IsLine siblings is_after_step (forms.Step step) = IsStepText siblings step
+IsLine siblings is_after_step (forms.Step step) = IsStep siblings step
 IsLine siblings is_after_step forms.End = Unit {0}
 
 -- a line that is spelled by these words
 abbrev ReadsLine : ℕ → Bool → List Word → Line → Type 0
 ReadsLine siblings is_after_step words line = (words ≡ line_words line) × IsLine siblings is_after_step line
 
-each_task_line : (siblings : ℕ) (is_after_step : Bool) (words : List Word) → Each (task_line siblings is_after_step (parts words)) (ReadsLine siblings is_after_step (codes "task" ∷ drop 1 words))
+-- each of the three lines, by the words after its first
+
+each_task_line : (siblings : ℕ) (is_after_step : Bool) (rest : List Word) → Each (task_line siblings is_after_step (parts rest)) (ReadsLine siblings is_after_step (codes "task" ∷ rest))
 unfolding task_line
-each_task_line siblings is_after_step words =
+each_task_line siblings is_after_step rest =
     each_if is_after_step _ _ _ (λ is. each_refused _)
     (λ before.
-    each_bind _ _ _ _ (subst (λ (p : Parts). Each (task_of siblings p) (λ task. (codes "task" ∷ drop 1 words ≡ task_words task) × IsTask siblings task)) (sym (after_is 1 words)) (each_task siblings (drop 1 words)))
-    (λ task is. each_ok _ _ (is.0, (is.1, before))))
+    each_bind _ _ _ _ (each_task siblings rest) (λ task is. each_ok _ _ (is.0, (is.1, before))))
 
-each_step_line : (siblings : ℕ) (is_after_step : Bool) (words : List Word) → Each (step_line siblings (parts words)) (ReadsLine siblings is_after_step (codes "step" ∷ drop 1 words))
+each_step_line : (siblings : ℕ) (is_after_step : Bool) (rest : List Word) → Each (step_line siblings (parts rest)) (ReadsLine siblings is_after_step (codes "step" ∷ rest))
 unfolding step_line
-each_step_line siblings is_after_step words =
-    each_when (leb 2 (length words)) _ _ (λ two.
-    each_bind _ _ _ _ (subst (λ (p : Parts). Each (step_of siblings ((parts words).at 1) p) (λ step. (codes "step" ∷ (parts words).at 1 ∷ drop 2 words ≡ step_words step) × IsStepText siblings step)) (sym (after_is 2 words)) (each_step siblings ((parts words).at 1) (drop 2 words)))
+each_step_line siblings is_after_step rest =
+    let actor = (parts rest).at 0 in
+    each_when (leb 1 (length rest)) _ _ (λ some.
+    each_bind _ _ _ _ (subst (λ (p : Parts). Each (step_of siblings actor p) (λ step. (codes "step" ∷ actor ∷ drop 1 rest ≡ step_words step) × IsStep siblings step)) (sym (after_is 1 rest)) (each_step siblings actor (drop 1 rest)))
     (λ step is.
-    let rest = second_word words (leb-true _ _ two) in
-    each_ok _ _ (ap (λ (ws : List Word). codes "step" ∷ ws) rest ∙ is.0, is.1)))
+    each_ok _ _ (ap (λ (ws : List Word). codes "step" ∷ ws) (first_word rest (leb-true _ _ some)) ∙ is.0, is.1)))
 
-each_end_line : (siblings : ℕ) (is_after_step : Bool) (words : List Word) → Each (end_line (parts words)) (ReadsLine siblings is_after_step (codes "end" ∷ drop 1 words))
+each_end_line : (siblings : ℕ) (is_after_step : Bool) (rest : List Word) → Each (end_line (parts rest)) (ReadsLine siblings is_after_step (codes "end" ∷ rest))
 unfolding end_line
-each_end_line siblings is_after_step words =
-    each_when (eqb (length words) 1) _ _ (λ one.
-    let none : drop 1 words ≡ [] = nil_from_length (drop 1 words) (omega (arith, length-drop 1 words, eqb-true _ _ one)) in
-    each_ok _ _ (ap (λ (ws : List Word). codes "end" ∷ ws) none, tt))
+each_end_line siblings is_after_step rest =
+    each_when (eqb (length rest) 0) _ _ (λ none.
+    each_ok _ _ (ap (λ (ws : List Word). codes "end" ∷ ws) (nil_from_length rest (eqb-true _ _ none)), tt))
 
 pub each_line : (siblings : ℕ) (is_after_step : Bool) (words : List Word) → Each (line_of siblings is_after_step (parts words)) (ReadsLine siblings is_after_step words)
 unfolding line_of
 each_line siblings is_after_step words =
-    each_first (ReadsLine siblings is_after_step) words _ (
-      each_task_line siblings is_after_step words,
-      (each_step_line siblings is_after_step words, (each_end_line siblings is_after_step words, tt)),
+    let rest = drop 1 words in
+    each_first (ReadsLine siblings is_after_step) words (line_forms siblings is_after_step) (
+      each_task_line siblings is_after_step rest,
+      (each_step_line siblings is_after_step rest, (each_end_line siblings is_after_step rest, tt)),
     )
 
-step_line_again : (siblings : ℕ) (actor : Actor) (event : Event) → siblings < 256 → IsStepText siblings (by actor event) → step_line siblings (parts (step_words (by actor event))) ≡ Ok (forms.Step (by actor event))
+step_line_again : (siblings : ℕ) (actor : Actor) (event : Event) → siblings < 256 → IsStep siblings (by actor event) → step_line siblings (parts (made_words actor event)) ≡ Ok (forms.Step (by actor event))
 unfolding step_line
 step_line_again siblings actor event small is =
-    rw (le-leb 2 (length (step_words (by actor event))) (omega arith))
-    (ap (λ (p : Parts). step_of siblings (actor_word actor) p >>= λ s. taken (forms.Step s)) (after_is 2 (step_words (by actor event)))
+    rw (le-leb 1 (length (made_words actor event)) (omega arith))
+    (ap (λ (p : Parts). step_of siblings (actor_word actor) p >>= λ s. taken (forms.Step s)) (after_is 1 (made_words actor event))
     ∙ ap (λ (read : Read Step). read >>= λ s. taken (forms.Step s)) (step_again siblings actor event small is))
 
+task_line_again : (siblings : ℕ) (task : TaskSpec) → siblings < 256 → IsTask siblings task → task_line siblings false (parts (task_rest task)) ≡ Ok (forms.Task task)
+unfolding task_line
+task_line_again siblings task small is = rw (task_again siblings task small is) refl
+
 pub line_again : (siblings : ℕ) (is_after_step : Bool) (line : Line) → siblings < 256 → IsLine siblings is_after_step line → line_of siblings is_after_step (parts (line_words line)) ≡ Ok line
-unfolding line_of reading_named task_line step_line end_line
+unfolding line_of reading_named end_line
 line_again siblings is_after_step (forms.Task task) small is =
     rw is.1
-    (ap (λ (p : Parts). task_of siblings p >>= λ t. taken (forms.Task t)) (after_is 1 (task_words task))
-    ∙ ap (λ (read : Read TaskSpec). read >>= λ t. taken (forms.Task t)) (task_again siblings task small is.0))
+    (ap (task_line siblings false) (after_is 1 (task_words task)) ∙ task_line_again siblings task small is.0)
 line_again siblings is_after_step (forms.Step step) small is =
-    rw (le-leb 1 (length (step_words step)) (omega arith)) (step_line_again siblings step.actor step.event small is)
+    rw (le-leb 1 (length (step_words step)) (omega arith))
+    (ap (step_line siblings) (after_is 1 (step_words step)) ∙ step_line_again siblings step.actor step.event small is)
 line_again siblings is_after_step forms.End small is = refl
 
 few_step : (actor : Actor) (event : Event) → few (codes "step" ∷ made_words actor event) ≡ Ok (codes "step" ∷ made_words actor event)

@@ -1,14 +1,14 @@
 -- Heads: the first three lines are read as the head that they spell, and no others are.
 use Rattle.std.proofs.Common.{◌≡◌, ℕ, List, [], ◌∷◌, ◌++◌, Ok, refl, sym, ap, ◌∙◌, arith}
 use Rattle.std.specs.Prelude.{decimal, codes}
-use Rattle.std.proofs.lemmas.Fmt.{decimal_digit}
+use Rattle.std.proofs.lemmas.Slice.Eq.{bytes_eq-Decides}
 use Rattle.cs_types.specs.Scenario.{IsWithin}
 use Rattle.scenario_text.specs.declared.head.Head.{Head}
 use Rattle.scenario_text.specs.Words.{Word}
 use Rattle.scenario_text.specs.Text.{version_words}
-use Rattle.scenario_text.specs.Reading.{parts, reading_named, version_of, siblings_of, limits_of, head_of, head_at}
+use Rattle.scenario_text.specs.Reading.{parts, is_word, reading_named, version_of, siblings_of, limits_of, head_of, head_at}
 use Rattle.scenario_text.proofs.Numbers.{number_again}
-use Rattle.scenario_text.proofs.Readings.{Each, each_ok, each_refused, each_bind, each_counted, each_number}
+use Rattle.scenario_text.proofs.Readings.{Each, each_ok, each_refused, each_bind, each_check, each_counted, each_number}
 use Rattle.scenario_text.proofs.Plans.{each_line_at}
 
 -- the words of the second line
@@ -33,16 +33,19 @@ pub record IsHead (head : Head) : Type 0 where
 each_version : (words : List Word) → Each (version_of (parts words)) (λ unit. words ≡ version_words)
 unfolding version_of
 each_version words =
+    let version = (parts words).at 1 in
     each_counted (λ ws unit. ws ≡ version_words) words 1 _ _ (
-      each_bind _ _ _ _ (each_number 1 1 ((parts words).at 1) (omega arith)) (λ n w.
-          let one : n ≡ 1 = omega (arith, w.1) in
-          each_ok _ _ (ap (λ (v : Word). codes "coresched" ∷ v ∷ []) (w.0 ∙ ap decimal one ∙ decimal_digit 1 (omega arith)))),
+      record {
+        all = λ unit e.
+            let one = (each_check (is_word version (codes "1"))).all unit e in
+            ap (λ (v : Word). codes "coresched" ∷ v ∷ []) ((bytes_eq-Decides version (codes "1")).0 one);
+      },
       tt,
     ) (each_refused _)
 
 version_again : version_of (parts version_words) ≡ Ok tt
 unfolding version_of reading_named
-version_again = rw (← decimal_digit 1 (omega arith), number_again 1 1 1 (omega arith) (omega arith, omega arith)) refl
+version_again = refl
 
 each_siblings : (words : List Word) → Each (siblings_of (parts words)) (λ siblings. (words ≡ siblings_line siblings) × IsWithin 1 8 siblings)
 unfolding siblings_of

@@ -1,10 +1,10 @@
 -- Numbers: a word that is read as a number is the number's decimal, and that decimal is read as the number.
-use Rattle.std.proofs.Common.{◌≡◌, ◌≢◌, ℕ, suc, ◌^◌, ◌<◌, ◌≤◌, Bool, true, false, cond, eqb, leb, [], ◌∷◌, length, get_or, Result, Ok, Err, refl, sym, ap, subst, ◌∙◌, arith, inl, inr}
+use Rattle.std.proofs.Common.{◌≡◌, ℕ, suc, ◌^◌, ◌<◌, ◌≤◌, Bool, true, false, cond, eqb, leb, [], ◌∷◌, length, get_or, Result, Ok, Err, refl, sym, ap, subst, ◌∙◌, arith, inl, inr}
 use Rattle.std.specs.Prelude.{decimal, ◌&&◌, ◌||◌, not}
 use Rattle.std.specs.Char.{is_ascii_digit}
 use Rattle.std.specs.Str.{all_ascii_digits, IsUtf8}
 use Rattle.std.specs.Str.Parse.{digits_value, ParsesUnsigned}
-use Rattle.std.proofs.lemmas.Bool.{cases_eq, and_parts, and_from, leb-true, le-leb, cond-true, cond-false, false_from_ne_true, false≢true, both_ways}
+use Rattle.std.proofs.lemmas.Bool.{cases_eq, ne_eqb, and_parts, leb-true, le-leb, cond-true, cond-false, false_from_ne_true, false≢true, both_ways}
 use Rattle.std.proofs.lemmas.Bool.Decides.{nat_tests}
 use Rattle.std.proofs.lemmas.Str.{IsUtf8-from_ascii}
 use Rattle.std.proofs.lemmas.Str.Parse.{IsNumeralModel, numerals_by_value, tells_all_ascii_digits, digit_at, parse_plain}
@@ -21,17 +21,17 @@ digits_model = numerals_by_value (λ ds. all_ascii_digits ds ≡ true) tells_all
 
 record IsCanonical (word : Word) : Type 0 where
   some : 0 < length word
-  unsigned : get_or word 0 0 ≢ 43
+  digit : 48 ≤ get_or word 0 0
   zero_alone : get_or word 0 0 ≡ 48 → length word ≡ 1
 
-first_byte : (byte len : ℕ) → (is_ascii_digit byte && (eqb len 1 || not (eqb byte 48))) ≡ true → (byte ≢ 0) × (byte ≢ 43) × (byte ≡ 48 → len ≡ 1)
+first_byte : (byte len : ℕ) → (is_ascii_digit byte && (eqb len 1 || not (eqb byte 48))) ≡ true → (48 ≤ byte) × (byte ≡ 48 → len ≡ 1)
 first_byte byte len h = grind (arith, nat_tests)
 
 canonical : (word : Word) → is_canonical word ≡ true → IsCanonical word
 canonical [] h = absurd (false≢true h)
 canonical (byte ∷ rest) h =
     let parts = first_byte byte (suc (length rest)) h in
-    record { some = omega arith; unsigned = parts.1; zero_alone = parts.2 }
+    record { some = omega arith; digit = parts.0; zero_alone = parts.1 }
 
 first_digit : (byte len : ℕ) → 48 ≤ byte → byte ≤ 57 → (byte ≡ 48 → len ≡ 1) → (is_ascii_digit byte && (eqb len 1 || not (eqb byte 48))) ≡ true
 first_digit byte len low high alone = grind (arith, nat_tests)
@@ -46,6 +46,12 @@ decimal_canonical n fits =
           let above = first_decimal n (omega arith) fits in
           first_digit (get_or (decimal n) 0 0) (length (decimal n)) (omega arith) range.1 (λ is. omega arith)
     ]
+
+-- a number from 0 begins with no sign
+pub decimal_unsigned : (n : ℕ) → n < 2 ^ 64 → eqb (get_or (decimal n) 0 0) 45 ≡ false
+decimal_unsigned n fits =
+    let digit = (canonical (decimal n) (decimal_canonical n fits)).digit in
+    ne_eqb (get_or (decimal n) 0 0) 45 (λ minus. omega arith)
 
 -- ---- numbers from low to high
 
@@ -76,9 +82,7 @@ number_parts low high word h =
 
 number_whole : (low high : ℕ) (word : Word) → IsNumber low high word → is_number low high word ≡ true
 number_whole low high word h =
-    and_from (is_canonical word && all_ascii_digits word && leb low (digits_value 10 word)) (leb (digits_value 10 word) high)
-    (and_from (is_canonical word && all_ascii_digits word) (leb low (digits_value 10 word))
-    (and_from (is_canonical word) (all_ascii_digits word) h.canonical h.digits) (le-leb _ _ h.from)) (le-leb _ _ h.to)
+    rw (h.canonical, h.digits, le-leb _ _ h.from, le-leb _ _ h.to) refl
 
 -- what is read is spelled so
 pub number_takes : (low high : ℕ) (word : Word) (n : ℕ) → high < 2 ^ 64 → number_of low high word ≡ Ok n → (word ≡ decimal n) × IsWithin low high n
@@ -123,7 +127,7 @@ not_text low high word h =
 pub not_parsed : {E : Type 0} (low high : ℕ) (word : Word) (e : E) → high < 2 ^ 64 → is_canonical word ≡ true → ParsesUnsigned 64 10 word (Err e) → number_of low high word ≡ refused
 not_parsed low high word e small first h =
     let begins = canonical word first in
-    no_number low high word (λ parts. parse_plain digits_model 64 word (Err e) h begins.unsigned (parts.digits, begins.some, omega arith))
+    no_number low high word (λ parts. parse_plain digits_model 64 word (Err e) h (λ plus. omega arith) (parts.digits, begins.some, omega arith))
 
 abbrev known : ℕ → Result ℕ (Unit {0})
 known n = Ok n
@@ -132,6 +136,6 @@ pub parsed : (low high : ℕ) (word : Word) (n : ℕ) → is_canonical word ≡ 
 unfolding number_of
 parsed low high word n first h =
     let begins = canonical word first in
-    let read = parse_plain digits_model 64 word (known n) h begins.unsigned in
+    let read = parse_plain digits_model 64 word (known n) h (λ plus. omega arith) in
     let value : digits_value 10 word ≡ n = sym read.1 in
     rw (first, read.0.0, value) refl

@@ -1,17 +1,18 @@
 -- Readings: what is read has what each of its parts has, and what is spelled so is read.
-use Rattle.std.proofs.Common.{◌≡◌, ℕ, zero, suc, ◌+◌, ◌^◌, ◌<◌, ◌≤◌, Bool, true, false, cond, eqb, ltb, leb, List, [], ◌∷◌, length, get_or, map, drop, Ok, Err, refl, sym, subst, ◌∙◌, arith, zero-le, add-one}
-use Rattle.std.specs.Prelude.{decimal}
+use Rattle.std.proofs.Common.{◌≡◌, ℕ, suc, ◌^◌, ◌<◌, ◌≤◌, Bool, true, false, cond, eqb, ltb, leb, List, [], ◌∷◌, length, map, drop, Ok, Err, refl, sym, subst, ◌∙◌, arith, zero-le}
+use Rattle.std.specs.Prelude.{decimal, ℤ, pos, negsuc, ◌-◌}
+use Rattle.std.specs.Fmt.{signed_decimal}
 use Rattle.std.specs.List.{range_with_len}
-use Rattle.std.proofs.lemmas.Bool.{and_parts, eqb-true, leb-true, ltb-true, lt-ltb}
-use Rattle.std.proofs.lemmas.Slice.Eq.{HasBytesAt, text_from_reads}
-use Rattle.std.proofs.lemmas.Fmt.{decimal_digit}
+use Rattle.std.specs.Str.{bytes_eq}
+use Rattle.std.proofs.lemmas.Bool.{eqb-true, leb-true, ltb-true, lt-ltb}
+use Rattle.std.proofs.lemmas.Slice.Eq.{bytes_eq-Decides}
 use Rattle.std.proofs.lemmas.List.{ext_get_or, length-drop, get_or-drop}
 use Rattle.std.proofs.lemmas.List.FromFn.{length-map-range_with_len, get_or-map-range_with_len}
-use Rattle.cs_types.specs.Scenario.{IsWithin}
+use Rattle.cs_types.specs.Scenario.{IsWithin, IsPid}
 use Rattle.scenario_text.specs.declared.fault.Refused.{Refused}
 use Rattle.scenario_text.specs.Words.{Word, flag_word}
-use Rattle.scenario_text.specs.Reading.{◌>>=◌, Read, refused, parts, after, has_bytes, is_word, reading_named, number_of, flag_of, cpu_of}
-use Rattle.scenario_text.proofs.Numbers.{taken, number_takes, number_again}
+use Rattle.scenario_text.specs.Reading.{◌>>=◌, Read, refused, check, Parts, parts, after, reading_named, number_of, signed_of, flag_of, cpu_of}
+use Rattle.scenario_text.proofs.Numbers.{taken, decimal_unsigned, number_takes, number_again}
 
 -- whatever is read has the property
 pub record Each {A : Type 0} (read : Read A) (P : A → Type 0) : Type 0 where
@@ -43,18 +44,12 @@ each_if false x y P h k = k refl
 pub each_when : {A : Type 0} (b : Bool) (read : Read A) (P : A → Type 0) → (b ≡ true → Each read P) → Each (cond b read refused) P
 each_when b read P h = each_if b read refused P h (λ no. each_refused P)
 
+-- a check that holds
+pub each_check : (holds : Bool) → Each (check holds) (λ unit. holds ≡ true)
+each_check true = each_ok _ _ refl
+each_check false = each_refused _
+
 -- ---- forms
-
-has_bytes_at : (word : Word) (k : ℕ) (bytes : List ℕ) → has_bytes word k bytes ≡ true → HasBytesAt word k bytes
-has_bytes_at word k [] h = tt
-has_bytes_at word k (byte ∷ bytes) h =
-    let parts = and_parts (eqb (get_or word k 0) byte) (has_bytes word (k + 1) bytes) h in
-    (eqb-true _ _ parts.0, subst (λ (n : ℕ). HasBytesAt word n bytes) (add-one k) (has_bytes_at word (k + 1) bytes parts.1))
-
-word_is : (word keyword : Word) → is_word word keyword ≡ true → word ≡ keyword
-word_is word keyword h =
-    let parts = and_parts (eqb (length word) (length keyword)) (has_bytes word 0 keyword) h in
-    text_from_reads word keyword (eqb-true _ _ parts.0) (has_bytes_at word 0 keyword parts.1)
 
 -- each form reads what has the property at its name
 abbrev pub EachForm : {A : Type 0} → (Word → A → Type 0) → List (Word × Read A) → Type 0
@@ -65,8 +60,8 @@ pub each_named : {A : Type 0} (P : Word → A → Type 0) (forms : List (Word ×
 unfolding reading_named
 each_named P [] name h = each_refused (P name)
 each_named P (form ∷ forms) name h =
-    each_if (is_word name form.0) form.1 (reading_named forms name) (P name)
-    (λ is. subst (λ (w : Word). Each form.1 (P w)) (sym (word_is name form.0 is)) h.0)
+    each_if (bytes_eq name form.0) form.1 (reading_named forms name) (P name)
+    (λ is. subst (λ (w : Word). Each form.1 (P w)) (sym ((bytes_eq-Decides name form.0).0 is)) h.0)
     (λ no. each_named P forms name h.1)
 
 -- what is read is read after one reading, and then another
@@ -90,12 +85,6 @@ pub first_word : (words : List Word) → 1 ≤ length words → words ≡ (parts
 first_word [] some = absurd (omega arith)
 first_word (word ∷ words) some = refl
 
--- the second word, and those after it
-pub second_word : (words : List Word) → 2 ≤ length words → drop 1 words ≡ (parts words).at 1 ∷ drop 2 words
-second_word [] some = absurd (omega arith)
-second_word (word ∷ []) some = absurd (omega arith)
-second_word (word ∷ next ∷ words) some = refl
-
 -- the words after the first so many
 pub after_is : (n : ℕ) (words : List Word) → after n (parts words) ≡ parts (drop n words)
 after_is n words = λ i. record {
@@ -103,14 +92,17 @@ after_is n words = λ i. record {
   at = λ k. sym (get_or-drop n words k []) i;
 }
 
--- words, the first of which names a form
-pub each_first : {A : Type 0} (P : List Word → A → Type 0) (words : List Word) (forms : List (Word × Read A)) →
-    EachForm (λ name. P (name ∷ drop 1 words)) forms → Each (cond (leb 1 (length words)) (reading_named forms ((parts words).at 0)) refused) (P words)
+-- words, the first of which names a form of those after it
+pub each_first : {A : Type 0} (P : List Word → A → Type 0) (words : List Word) (forms : Parts → List (Word × Read A)) →
+    EachForm (λ name. P (name ∷ drop 1 words)) (forms (parts (drop 1 words))) →
+    Each (cond (leb 1 (length words)) (reading_named (forms (after 1 (parts words))) ((parts words).at 0)) refused) (P words)
 each_first P words forms h =
-    each_when (leb 1 (length words)) (reading_named forms ((parts words).at 0)) (P words)
+    let name = (parts words).at 0 in
+    each_when (leb 1 (length words)) (reading_named (forms (after 1 (parts words))) name) (P words)
     (λ some.
-    subst (λ (ws : List Word). Each (reading_named forms ((parts words).at 0)) (P ws)) (sym (first_word words (leb-true _ _ some)))
-    (each_named (λ name. P (name ∷ drop 1 words)) forms ((parts words).at 0) h))
+    subst (λ (ws : List Word). Each (reading_named (forms (after 1 (parts words))) name) (P ws)) (sym (first_word words (leb-true _ _ some)))
+    (subst (λ (rest : Parts). Each (reading_named (forms rest) name) (P (name ∷ drop 1 words))) (sym (after_is 1 words))
+    (each_named (λ name. P (name ∷ drop 1 words)) (forms (parts (drop 1 words))) name h)))
 
 -- so many words, the first of which names a form
 pub each_counted : {A : Type 0} (P : List Word → A → Type 0) (words : List Word) (n : ℕ) (forms : List (Word × Read A)) (other : Read A) →
@@ -128,20 +120,35 @@ each_counted P words n forms other h k =
 pub each_number : (low high : ℕ) (word : Word) → high < 2 ^ 64 → Each (number_of low high word) (λ n. (word ≡ decimal n) × IsWithin low high n)
 each_number low high word small = record { all = λ n e. number_takes low high word n small e }
 
-one_flag : (n : ℕ) → n ≤ 1 → decimal n ≡ flag_word (eqb n 1)
-one_flag zero h = decimal_digit 0 (omega arith)
-one_flag (suc zero) h = decimal_digit 1 (omega arith)
-one_flag (suc (suc n)) h = absurd (omega arith)
+pub each_signed : (word : Word) → Each (signed_of word) (λ z. (word ≡ signed_decimal z) × IsPid z)
+unfolding signed_of
+each_signed [] = each_bind _ _ _ _ (each_number 0 2147483647 [] (omega arith)) (λ n is. each_ok _ _ (is.0, omega (arith, is.1)))
+each_signed (first ∷ digits) =
+    each_if (eqb first 45) _ _ _
+    (λ minus.
+    each_bind _ _ _ _ (each_number 1 2147483648 digits (omega arith)) (λ n is.
+    let whole : suc (n - 1) ≡ n = omega (arith, is.1) in
+    each_ok _ _ (rw (eqb-true first 45 minus, is.0, whole) refl, omega (arith, is.1))))
+    (λ plus.
+    each_bind _ _ _ _ (each_number 0 2147483647 (first ∷ digits) (omega arith)) (λ n is.
+    each_ok _ _ (is.0, omega (arith, is.1))))
+
+pub signed_again : (z : ℤ) → IsPid z → signed_of (signed_decimal z) ≡ Ok z
+unfolding signed_of
+signed_again (pos n) is =
+    rw (decimal_unsigned n (omega arith), number_again 0 2147483647 n (omega arith) (zero-le, omega arith)) refl
+signed_again (negsuc n) is =
+    let below : suc n - 1 ≡ n = omega arith in
+    rw (number_again 1 2147483648 (suc n) (omega arith) (omega arith, omega arith), below) refl
 
 pub each_flag : (word : Word) → Each (flag_of word) (λ flag. word ≡ flag_word flag)
 unfolding flag_of
-each_flag word =
-    each_bind _ _ _ _ (each_number 0 1 word (omega arith)) (λ n is. each_ok _ _ (is.0 ∙ one_flag n (omega (arith, is.1))))
+each_flag word = each_named (λ name flag. name ≡ flag_word flag) _ word (each_ok _ _ refl, (each_ok _ _ refl, tt))
 
 pub flag_again : (flag : Bool) → flag_of (flag_word flag) ≡ Ok flag
-unfolding flag_of
-flag_again true = rw (← decimal_digit 1 (omega arith), number_again 0 1 1 (omega arith) (omega arith, omega arith)) refl
-flag_again false = rw (← decimal_digit 0 (omega arith), number_again 0 1 0 (omega arith) (omega arith, omega arith)) refl
+unfolding flag_of reading_named
+flag_again true = refl
+flag_again false = refl
 
 pub each_cpu : (siblings : ℕ) (word : Word) → Each (cpu_of siblings word) (λ cpu. (word ≡ decimal cpu) × (cpu < siblings))
 unfolding cpu_of

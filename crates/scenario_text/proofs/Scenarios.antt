@@ -1,9 +1,7 @@
 -- Scenarios: what is read from a text is the scenario of the text, and the text of a scenario is read as it.
-use Rattle.std.proofs.Common.{get_or, ◌≡◌, ℕ, ◌<◌, ℤ, pos, negsuc, ◌≤ℤ◌, All, Bool, true, false, List, [], ◌∷◌, ◌++◌, map, Result, Ok, Err, refl, sym, ap, subst, ◌∙◌, arith, append_assoc, inl, inr}
+use Rattle.std.proofs.Common.{◌≡◌, ℕ, ◌<◌, Bool, true, false, List, [], ◌∷◌, ◌++◌, map, Result, Ok, Err, refl, sym, ap, subst, ◌∙◌, arith, append_assoc, inl, inr}
 use Rattle.std.specs.Prelude.{◌⊎◌, MatchResult, IfOk, IfErr, decimal, codes}
-use Rattle.std.specs.Fmt.{signed_decimal}
 use Rattle.std.specs.List.{AllByRecursion}
-use Rattle.std.proofs.lemmas.Int.{ints}
 use Rattle.std.proofs.lemmas.List.Elements.{recursion_from_All, All-nil}
 use Rattle.cs_types.specs.declared.task.Policy.{Policy}
 use Rattle.cs_types.specs.declared.task.Policy.TheVariants.{Fifo}
@@ -15,7 +13,7 @@ use Rattle.cs_types.specs.declared.event.Event.{Event}
 use Rattle.cs_types.specs.declared.event.Event.TheVariants.{Turn, Resched, Block, Wake, Prctl}
 use Rattle.cs_types.specs.declared.event.Step.{Step}
 use Rattle.cs_types.specs.declared.scenario.Scenario.{Scenario}
-use Rattle.cs_types.specs.Scenario.{IsPolicy, IsTask, IsAsk, IsEvent, IsMadeBy, IsBuilt}
+use Rattle.cs_types.specs.Scenario.{IsPolicy, IsTask, IsAsk, IsEvent, IsStep, IsBuilt}
 use Rattle.scenario_text.specs.declared.fault.BadKind.TheVariants.{Unbuilt}
 use Rattle.scenario_text.specs.declared.fault.ReadFault.{ReadFault}
 use Rattle.scenario_text.specs.declared.fault.ReadFault.TheVariants.{Bad, OutOfMemory}
@@ -25,10 +23,10 @@ use Rattle.scenario_text.specs.Text.{line, version_words, siblings_words, limits
 use Rattle.scenario_text.specs.Reading.{Read, refused, Gives, Contents, lines_in, head_at, plan_of, scenario_of}
 use Rattle.scenario_text.specs.Reader.{IsTextOf, HasNoScenario, HasOneScenario}
 use Rattle.scenario_text.proofs.Readings.{bind, ok_is}
-use Rattle.scenario_text.proofs.Steps.{TargetFits, target_fits, IsStepText, cmd_within}
+use Rattle.scenario_text.proofs.Steps.{by, sibling_within, caller_within}
 use Rattle.scenario_text.proofs.Heads.{IsHead, head_lines, each_head, head_again}
 use Rattle.scenario_text.proofs.Building.{IsPlan, plan_lines, end_lines, has_first, each_plan, plan_again}
-use Rattle.scenario_text.proofs.Texts.{IsPlain, ArePlain, plain_decimal, plain-append, ArePlain-append, lines_in-flat_map, text_is}
+use Rattle.scenario_text.proofs.Texts.{IsPlain, ArePlain, plain_word, plain_decimal, plain_signed, plain-append, ArePlain-append, lines_in-flat_map, text_is}
 
 -- ---- the lines of a scenario
 
@@ -60,15 +58,12 @@ empty_plan siblings limit = record {
   distinct = λ i j d lt below. absurd (omega arith);
   led = λ k d below. absurd (omega arith);
   few_tasks = omega arith;
-  steps = All-nil (IsStepText siblings);
+  steps = All-nil (IsStep siblings);
   few_steps = omega arith;
 }
 
-targets_fit : (scenario : Scenario) → IsBuilt scenario → All (λ step. TargetFits step.event) scenario.steps
-targets_fit scenario built k d lt = target_fits scenario.siblings (get_or scenario.steps k d).event (built.steps k d lt).event
-
 -- what is read is spelled so
-scenario_takes : (lines : List (List Word)) (scenario : Scenario) → scenario_of lines ≡ Ok scenario → IsBuilt scenario × All (λ step. TargetFits step.event) scenario.steps × (lines ≡ scenario_lines scenario ++ nothing)
+scenario_takes : (lines : List (List Word)) (scenario : Scenario) → scenario_of lines ≡ Ok scenario → IsBuilt scenario × (lines ≡ scenario_lines scenario ++ nothing)
 unfolding scenario_of
 scenario_takes lines scenario e =
     bind (head_at lines) _ scenario e (λ head first e0.
@@ -85,20 +80,19 @@ scenario_takes lines scenario e =
       distinct = p.is.distinct;
       led = p.is.led;
       few_tasks = p.is.few_tasks;
-      steps = λ k d lt. (p.is.steps k d lt).is;
+      steps = p.is.steps;
       few_steps = p.is.few_steps;
     } in
-    let fits : All (λ step. TargetFits step.event) made.steps = λ k d lt. (p.is.steps k d lt).fits in
     let rest : head.1 ≡ plan_lines plan ++ end_lines = p.lines_are in
     let whole : lines ≡ scenario_lines made ++ nothing =
     h.0
     ∙ ap (λ (ls : List (List Word)). head_lines head.0 ++ ls) (rest ∙ sym (append_assoc (plan_lines plan) (end_words ∷ []) nothing)) in
-    subst (λ (s : Scenario). IsBuilt s × All (λ step. TargetFits step.event) s.steps × (lines ≡ scenario_lines s ++ nothing)) (ok_is made scenario e1) (built, fits, whole)))
+    subst (λ (s : Scenario). IsBuilt s × (lines ≡ scenario_lines s ++ nothing)) (ok_is made scenario e1) (built, whole)))
 
 -- what is spelled so is read
-scenario_again : (scenario : Scenario) → IsBuilt scenario → All (λ step. TargetFits step.event) scenario.steps → scenario_of (scenario_lines scenario ++ nothing) ≡ Ok scenario
+scenario_again : (scenario : Scenario) → IsBuilt scenario → scenario_of (scenario_lines scenario ++ nothing) ≡ Ok scenario
 unfolding scenario_of
-scenario_again scenario built fits =
+scenario_again scenario built =
     let head = head_of_scenario scenario in
     let plan : Contents = record { tasks = scenario.tasks; steps = scenario.steps } in
     let is_head : IsHead head = record {
@@ -112,7 +106,7 @@ scenario_again scenario built fits =
       distinct = built.distinct;
       led = built.led;
       few_tasks = built.few_tasks;
-      steps = λ k d lt. record { is = built.steps k d lt; fits = fits k d lt };
+      steps = built.steps;
       few_steps = built.few_steps;
     } in
     let few : head.siblings < 256 = let two = built.siblings in omega arith in
@@ -128,12 +122,12 @@ scenario_again scenario built fits =
 -- ---- plain words
 
 plain_flag : (flag : Bool) → IsPlain (flag_word flag)
-plain_flag true = record { no_feed = refl; no_space = refl }
-plain_flag false = record { no_feed = refl; no_space = refl }
+plain_flag true = plain_word _ refl refl
+plain_flag false = plain_word _ refl refl
 
 plain_policy : (policy : Policy) → IsPolicy policy → IsPlain (policy_word policy)
 plain_policy (Fifo priority) is =
-    plain-append (codes "fifo:") (decimal priority) (record { no_feed = refl; no_space = refl }) (plain_decimal priority (omega arith))
+    plain-append (codes "fifo:") (decimal priority) (plain_word _ refl refl) (plain_decimal priority (omega arith))
 
 plain_task : (siblings : ℕ) (task : TaskSpec) → siblings < 256 → IsTask siblings task → AllByRecursion IsPlain (task_words task)
 plain_task siblings task few is =
@@ -141,62 +135,50 @@ plain_task siblings task few is =
     let cpu = is.cpu in
     let creds : AllByRecursion IsPlain (creds_words task.creds) =
     (plain_decimal task.creds.ruid (omega arith), (plain_decimal task.creds.euid (omega arith), (plain_decimal task.creds.suid (omega arith), (plain_decimal task.creds.rgid (omega arith), (plain_decimal task.creds.egid (omega arith), (plain_decimal task.creds.sgid (omega arith), (plain_flag task.creds.cap, (plain_flag task.creds.mm, (plain_flag task.creds.dumpable, tt))))))))) in
-    (record { no_feed = refl; no_space = refl }, (plain_decimal task.pid (omega (arith, is.pid)), (plain_decimal task.tgid (omega (arith, is.tgid)), (plain_decimal task.pgid (omega (arith, is.pgid)), (plain_decimal task.cpu (omega arith), (plain_policy task.policy is.policy, creds))))))
+    (plain_word _ refl refl, (plain_decimal task.pid (omega (arith, is.pid)), (plain_decimal task.tgid (omega (arith, is.tgid)), (plain_decimal task.pgid (omega (arith, is.pgid)), (plain_decimal task.cpu (omega arith), (plain_policy task.policy is.policy, creds))))))
 
-plain_actor : (siblings : ℕ) (actor : Actor) (event : Event) → siblings < 256 → IsEvent siblings event → IsMadeBy actor event → IsPlain (actor_word actor)
-plain_actor siblings (Sibling i) (Turn cpu) few is by =
-    plain-append (codes "s") (decimal i) (record { no_feed = refl; no_space = refl }) (plain_decimal i (omega arith))
-plain_actor siblings (Sibling i) (Resched cpu) few is by =
-    plain-append (codes "s") (decimal i) (record { no_feed = refl; no_space = refl }) (plain_decimal i (omega arith))
-plain_actor siblings (Sibling i) (Block cpu) few is by =
-    plain-append (codes "s") (decimal i) (record { no_feed = refl; no_space = refl }) (plain_decimal i (omega arith))
-plain_actor siblings (Sibling i) event few is by = absurd by
-plain_actor siblings (Caller j) (Wake pid) few is by =
-    plain-append (codes "c") (decimal j) (record { no_feed = refl; no_space = refl }) (plain_decimal j (omega arith))
-plain_actor siblings (Caller j) (Prctl caller ask) few is by =
-    plain-append (codes "c") (decimal j) (record { no_feed = refl; no_space = refl }) (plain_decimal j (omega arith))
-plain_actor siblings (Caller j) event few is by = absurd by
+plain_actor : (siblings : ℕ) (actor : Actor) (event : Event) → siblings < 256 → IsStep siblings (by actor event) → IsPlain (actor_word actor)
+plain_actor siblings (Sibling i) event few is =
+    let within = sibling_within siblings i event is in
+    plain-append (codes "s") (decimal i) (plain_word _ refl refl) (plain_decimal i (omega arith))
+plain_actor siblings (Caller j) event few is =
+    let within = caller_within siblings j event is in
+    plain-append (codes "c") (decimal j) (plain_word _ refl refl) (plain_decimal j (omega arith))
 
-plain_target : (target : ℤ) → (target ≡ pos 0) ⊎ (pos 1 ≤ℤ target) → target ≤ℤ pos 2147483647 → IsPlain (signed_decimal target)
-plain_target (pos n) is fits = plain_decimal n (omega (arith, ints))
-plain_target (negsuc n) (inl none) fits = absurd cc
-plain_target (negsuc n) (inr some) fits = absurd (omega (arith, ints))
+plain_ask : (ask : Ask) → IsAsk ask → AllByRecursion IsPlain (ask_words ask)
+plain_ask ask is =
+    (plain_decimal ask.cmd (omega (arith, is.cmd)), (plain_signed ask.pid is.pid, (plain_decimal ask.scope (omega (arith, is.scope)), (plain_decimal ask.addr is.addr, tt))))
 
-plain_ask : (ask : Ask) → IsAsk ask → ask.pid ≤ℤ pos 2147483647 → AllByRecursion IsPlain (ask_words ask)
-plain_ask ask is fits =
-    let target : (ask.pid ≡ pos 0) ⊎ (pos 1 ≤ℤ ask.pid) = elim is.cmd [ inl none ↦ inl none.1 | inr some ↦ inr some.1 ] in
-    (plain_decimal ask.cmd (omega (arith, cmd_within ask is)), (plain_target ask.pid target fits, (plain_decimal ask.scope (omega (arith, is.scope)), (plain_decimal ask.addr (omega (arith, is.addr)), tt))))
+plain_event : (siblings : ℕ) (event : Event) → IsEvent siblings event → AllByRecursion IsPlain (event_words event)
+plain_event siblings (Turn cpu) is = (plain_word _ refl refl, tt)
+plain_event siblings (Resched cpu) is = (plain_word _ refl refl, tt)
+plain_event siblings (Block cpu) is = (plain_word _ refl refl, tt)
+plain_event siblings (Wake pid) is = (plain_word _ refl refl, (plain_decimal pid (omega arith), tt))
+plain_event siblings (Prctl caller ask) is =
+    (plain_word _ refl refl, (plain_decimal caller (omega (arith, is.0)), plain_ask ask is.1))
 
-plain_event : (siblings : ℕ) (event : Event) → IsEvent siblings event → TargetFits event → AllByRecursion IsPlain (event_words event)
-plain_event siblings (Turn cpu) is fits = (record { no_feed = refl; no_space = refl }, tt)
-plain_event siblings (Resched cpu) is fits = (record { no_feed = refl; no_space = refl }, tt)
-plain_event siblings (Block cpu) is fits = (record { no_feed = refl; no_space = refl }, tt)
-plain_event siblings (Wake pid) is fits = (record { no_feed = refl; no_space = refl }, (plain_decimal pid (omega arith), tt))
-plain_event siblings (Prctl caller ask) is fits =
-    (record { no_feed = refl; no_space = refl }, (plain_decimal caller (omega (arith, is.0)), plain_ask ask is.1 fits))
-
-plain_step : (siblings : ℕ) (step : Step) → siblings < 256 → IsStepText siblings step → AllByRecursion IsPlain (step_words step)
+plain_step : (siblings : ℕ) (step : Step) → siblings < 256 → IsStep siblings step → AllByRecursion IsPlain (step_words step)
 plain_step siblings step few is =
-    (record { no_feed = refl; no_space = refl }, (plain_actor siblings step.actor step.event few is.is.event is.is.actor, plain_event siblings step.event is.is.event is.fits))
+    (plain_word _ refl refl, (plain_actor siblings step.actor step.event few is, plain_event siblings step.event is.event))
 
 plain_tasks : (siblings : ℕ) (tasks : List TaskSpec) → siblings < 256 → AllByRecursion (IsTask siblings) tasks → ArePlain (map task_words tasks)
 plain_tasks siblings [] few is = tt
 plain_tasks siblings (task ∷ tasks) few is = (plain_task siblings task few is.0, plain_tasks siblings tasks few is.1)
 
-plain_steps : (siblings : ℕ) (steps : List Step) → siblings < 256 → AllByRecursion (IsStepText siblings) steps → ArePlain (map step_words steps)
+plain_steps : (siblings : ℕ) (steps : List Step) → siblings < 256 → AllByRecursion (IsStep siblings) steps → ArePlain (map step_words steps)
 plain_steps siblings [] few is = tt
 plain_steps siblings (step ∷ steps) few is = (plain_step siblings step few is.0, plain_steps siblings steps few is.1)
 
-plain_scenario : (scenario : Scenario) → IsBuilt scenario → All (λ step. TargetFits step.event) scenario.steps → ArePlain (scenario_lines scenario)
-plain_scenario s built fits =
+plain_scenario : (scenario : Scenario) → IsBuilt scenario → ArePlain (scenario_lines scenario)
+plain_scenario s built =
     let few : s.siblings < 256 = let two = built.siblings in omega arith in
-    let word : IsPlain (codes "end") = record { no_feed = refl; no_space = refl } in
+    let word : IsPlain (codes "end") = plain_word _ refl refl in
     let tasks = plain_tasks s.siblings s.tasks few (recursion_from_All (IsTask s.siblings) s.tasks built.tasks) in
-    let steps = plain_steps s.siblings s.steps few (recursion_from_All (IsStepText s.siblings) s.steps (λ k d lt. record { is = built.steps k d lt; fits = fits k d lt })) in
-    let version : AllByRecursion IsPlain version_words = (record { no_feed = refl; no_space = refl }, (record { no_feed = refl; no_space = refl }, tt)) in
-    let siblings : AllByRecursion IsPlain (siblings_words s) = (record { no_feed = refl; no_space = refl }, (plain_decimal s.siblings (omega arith), tt)) in
+    let steps = plain_steps s.siblings s.steps few (recursion_from_All (IsStep s.siblings) s.steps built.steps) in
+    let version : AllByRecursion IsPlain version_words = (plain_word _ refl refl, (plain_word _ refl refl, tt)) in
+    let siblings : AllByRecursion IsPlain (siblings_words s) = (plain_word _ refl refl, (plain_decimal s.siblings (omega arith), tt)) in
     let limits : AllByRecursion IsPlain (limits_words s) = (
-      record { no_feed = refl; no_space = refl },
+      plain_word _ refl refl,
       (
         plain_decimal s.task_limit (omega (arith, built.task_limit)),
         (
@@ -214,14 +196,14 @@ plain_scenario s built fits =
 text_again : (bytes : List ℕ) (scenario : Scenario) → IsTextOf bytes scenario → scenario_of (lines_in bytes) ≡ Ok scenario
 text_again bytes scenario is =
     ap (λ (b : List ℕ). scenario_of (lines_in b)) is.text
-    ∙ ap scenario_of (lines_in-flat_map (scenario_lines scenario) (plain_scenario scenario is.built (targets_fit _ is.built)))
-    ∙ scenario_again scenario is.built (targets_fit _ is.built)
+    ∙ ap scenario_of (lines_in-flat_map (scenario_lines scenario) (plain_scenario scenario is.built))
+    ∙ scenario_again scenario is.built
 
 -- and only so
 text_takes : (bytes : List ℕ) (scenario : Scenario) → scenario_of (lines_in bytes) ≡ Ok scenario → IsTextOf bytes scenario
 text_takes bytes scenario e =
     let taken = scenario_takes (lines_in bytes) scenario e in
-    record { built = taken.0; text = text_is bytes (scenario_lines scenario) taken.2 }
+    record { built = taken.0; text = text_is bytes (scenario_lines scenario) taken.1 }
 
 pub one_scenario : (bytes : List ℕ) → HasOneScenario bytes
 one_scenario bytes scenario other is is' =

@@ -1,17 +1,18 @@
 -- Tasks: what is read from a task line is spelled by its words, and what is spelled so is read.
-use Rattle.std.proofs.Common.{◌≡◌, ℕ, ◌<◌, eqb, List, ◌∷◌, ◌++◌, length, take, drop, Ok, refl, sym, ap, ◌∙◌, arith, zero-le, take-append-drop}
+use Rattle.std.proofs.Common.{◌≡◌, ℕ, ◌<◌, ◌≤◌, eqb, leb, List, [], ◌∷◌, ◌++◌, length, take, drop, Ok, refl, sym, ap, subst, ◌∙◌, arith, zero-le, take-append-drop, drop-cons}
 use Rattle.std.specs.Prelude.{decimal, codes}
 use Rattle.std.specs.Str.{bytes_eq}
-use Rattle.std.proofs.lemmas.Bool.{eqb-true}
+use Rattle.std.proofs.lemmas.Bool.{eqb-true, leb-true}
 use Rattle.std.proofs.lemmas.Slice.Eq.{bytes_eq-Decides}
 use Rattle.cs_types.specs.declared.task.Policy.{Policy}
 use Rattle.cs_types.specs.declared.task.Policy.TheVariants.{Fifo}
+use Rattle.cs_types.specs.declared.task.Creds.{Creds}
 use Rattle.cs_types.specs.declared.task.TaskSpec.{TaskSpec}
-use Rattle.cs_types.specs.Scenario.{IsPolicy, IsTask}
+use Rattle.cs_types.specs.Scenario.{IsPolicy, AreCreds, IsTask}
 use Rattle.scenario_text.specs.Words.{Word, policy_word, creds_words, task_words}
-use Rattle.scenario_text.specs.Reading.{parts, policy_of, task_of}
+use Rattle.scenario_text.specs.Reading.{Parts, parts, policy_of, creds_of, task_of}
 use Rattle.scenario_text.proofs.Numbers.{number_again}
-use Rattle.scenario_text.proofs.Readings.{Each, each_ok, each_bind, each_when, each_number, each_flag, flag_again, each_cpu, cpu_again, words_are}
+use Rattle.scenario_text.proofs.Readings.{Each, each_ok, each_bind, each_when, each_number, each_flag, flag_again, each_cpu, cpu_again, words_are, after_is}
 
 each_policy : (word : Word) → Each (policy_of word) (λ policy. (word ≡ policy_word policy) × IsPolicy policy)
 unfolding policy_of
@@ -27,36 +28,67 @@ policy_again : (policy : Policy) → IsPolicy policy → policy_of (policy_word 
 unfolding policy_of
 policy_again (Fifo priority) within = rw (number_again 1 99 priority (omega arith) within) refl
 
+each_creds : (words : List Word) → Each (creds_of (parts words)) (λ creds. (words ≡ creds_words creds) × AreCreds creds)
+unfolding creds_of
+each_creds words =
+    let at = (parts words).at in
+    each_when (eqb (length words) 9) _ _ (λ count.
+    each_bind _ _ _ _ (each_number 0 65535 (at 0) (omega arith)) (λ ruid w0.
+    each_bind _ _ _ _ (each_number 0 65535 (at 1) (omega arith)) (λ euid w1.
+    each_bind _ _ _ _ (each_number 0 65535 (at 2) (omega arith)) (λ suid w2.
+    each_bind _ _ _ _ (each_number 0 65535 (at 3) (omega arith)) (λ rgid w3.
+    each_bind _ _ _ _ (each_number 0 65535 (at 4) (omega arith)) (λ egid w4.
+    each_bind _ _ _ _ (each_number 0 65535 (at 5) (omega arith)) (λ sgid w5.
+    each_bind _ _ _ _ (each_flag (at 6)) (λ cap w6.
+    each_bind _ _ _ _ (each_flag (at 7)) (λ mm w7.
+    each_bind _ _ _ _ (each_flag (at 8)) (λ dumpable w8.
+    each_ok _ _ (
+      words_are words 9 (eqb-true _ _ count) ∙ (cc),
+      record { ruid = w0.1.1; euid = w1.1.1; suid = w2.1.1; rgid = w3.1.1; egid = w4.1.1; sgid = w5.1.1 },
+    )))))))))))
+
+creds_again : (creds : Creds) → AreCreds creds → creds_of (parts (creds_words creds)) ≡ Ok creds
+unfolding creds_of
+creds_again creds are =
+    rw (
+      number_again 0 65535 creds.ruid (omega arith) (zero-le, are.ruid),
+      number_again 0 65535 creds.euid (omega arith) (zero-le, are.euid),
+      number_again 0 65535 creds.suid (omega arith) (zero-le, are.suid),
+      number_again 0 65535 creds.rgid (omega arith) (zero-le, are.rgid),
+      number_again 0 65535 creds.egid (omega arith) (zero-le, are.egid),
+      number_again 0 65535 creds.sgid (omega arith) (zero-le, are.sgid),
+      flag_again creds.cap,
+      flag_again creds.mm,
+      flag_again creds.dumpable,
+    ) refl
+
+-- the first five words, and those after them
+five_words : (words : List Word) → 5 ≤ length words →
+    words ≡ (parts words).at 0 ∷ (parts words).at 1 ∷ (parts words).at 2 ∷ (parts words).at 3 ∷ (parts words).at 4 ∷ drop 5 words
+five_words words some =
+    let w0 = drop-cons words 0 [] (omega arith) in
+    let w1 = drop-cons words 1 [] (omega arith) in
+    let w2 = drop-cons words 2 [] (omega arith) in
+    let w3 = drop-cons words 3 [] (omega arith) in
+    let w4 = drop-cons words 4 [] (omega arith) in
+    cc
+
 pub each_task : (siblings : ℕ) (words : List Word) → Each (task_of siblings (parts words)) (λ task. (codes "task" ∷ words ≡ task_words task) × IsTask siblings task)
 unfolding task_of
 each_task siblings words =
-    each_when (eqb (length words) 14) _ _ (λ count.
-    each_bind _ _ _ _ (each_policy ((parts words).at 4)) (λ policy w4.
-    each_bind _ _ _ _ (each_number 1 9999 ((parts words).at 0) (omega arith)) (λ pid w0.
-    each_bind _ _ _ _ (each_number 1 9999 ((parts words).at 1) (omega arith)) (λ tgid w1.
-    each_bind _ _ _ _ (each_number 1 9999 ((parts words).at 2) (omega arith)) (λ pgid w2.
-    each_bind _ _ _ _ (each_cpu siblings ((parts words).at 3)) (λ cpu w3.
-    each_bind _ _ _ _ (each_number 0 65535 ((parts words).at 5) (omega arith)) (λ ruid w5.
-    each_bind _ _ _ _ (each_number 0 65535 ((parts words).at 6) (omega arith)) (λ euid w6.
-    each_bind _ _ _ _ (each_number 0 65535 ((parts words).at 7) (omega arith)) (λ suid w7.
-    each_bind _ _ _ _ (each_number 0 65535 ((parts words).at 8) (omega arith)) (λ rgid w8.
-    each_bind _ _ _ _ (each_number 0 65535 ((parts words).at 9) (omega arith)) (λ egid w9.
-    each_bind _ _ _ _ (each_number 0 65535 ((parts words).at 10) (omega arith)) (λ sgid w10.
-    each_bind _ _ _ _ (each_flag ((parts words).at 11)) (λ cap w11.
-    each_bind _ _ _ _ (each_flag ((parts words).at 12)) (λ mm w12.
-    each_bind _ _ _ _ (each_flag ((parts words).at 13)) (λ dumpable w13.
-    let all = words_are words 14 (eqb-true _ _ count) in
+    let at = (parts words).at in
+    each_when (leb 5 (length words)) _ _ (λ count.
+    each_bind _ _ _ _ (each_number 1 9999 (at 0) (omega arith)) (λ pid w0.
+    each_bind _ _ _ _ (each_number 1 9999 (at 1) (omega arith)) (λ tgid w1.
+    each_bind _ _ _ _ (each_number 1 9999 (at 2) (omega arith)) (λ pgid w2.
+    each_bind _ _ _ _ (each_cpu siblings (at 3)) (λ cpu w3.
+    each_bind _ _ _ _ (each_policy (at 4)) (λ policy w4.
+    each_bind _ _ _ _ (subst (λ (p : Parts). Each (creds_of p) (λ creds. (drop 5 words ≡ creds_words creds) × AreCreds creds)) (sym (after_is 5 words)) (each_creds (drop 5 words))) (λ creds w5.
+    let all = five_words words (leb-true _ _ count) in
     each_ok _ _ (
       ap (λ (ws : List Word). codes "task" ∷ ws) all ∙ (cc),
-      record {
-        pid = w0.1;
-        tgid = w1.1;
-        pgid = w2.1;
-        cpu = w3.1;
-        policy = w4.1;
-        creds = record { ruid = w5.1.1; euid = w6.1.1; suid = w7.1.1; rgid = w8.1.1; egid = w9.1.1; sgid = w10.1.1 };
-      },
-    ))))))))))))))))
+      record { pid = w0.1; tgid = w1.1; pgid = w2.1; cpu = w3.1; policy = w4.1; creds = w5.1 },
+    ))))))))
 
 -- the words after `task`
 abbrev pub task_rest : TaskSpec → List Word
@@ -67,18 +99,11 @@ pub task_again : (siblings : ℕ) (task : TaskSpec) → siblings < 256 → IsTas
 unfolding task_of
 task_again siblings task few is =
     rw (
-      policy_again task.policy is.policy,
       number_again 1 9999 task.pid (omega arith) is.pid,
       number_again 1 9999 task.tgid (omega arith) is.tgid,
       number_again 1 9999 task.pgid (omega arith) is.pgid,
       cpu_again siblings task.cpu few is.cpu,
-      number_again 0 65535 task.creds.ruid (omega arith) (zero-le, is.creds.ruid),
-      number_again 0 65535 task.creds.euid (omega arith) (zero-le, is.creds.euid),
-      number_again 0 65535 task.creds.suid (omega arith) (zero-le, is.creds.suid),
-      number_again 0 65535 task.creds.rgid (omega arith) (zero-le, is.creds.rgid),
-      number_again 0 65535 task.creds.egid (omega arith) (zero-le, is.creds.egid),
-      number_again 0 65535 task.creds.sgid (omega arith) (zero-le, is.creds.sgid),
-      flag_again task.creds.cap,
-      flag_again task.creds.mm,
-      flag_again task.creds.dumpable,
+      policy_again task.policy is.policy,
+      after_is 5 (task_rest task),
+      creds_again task.creds is.creds,
     ) refl

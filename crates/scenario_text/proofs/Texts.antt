@@ -1,6 +1,7 @@
 -- Texts: a text is cut into the lines and the words that it is made of.
-use Rattle.std.proofs.Common.{◌≡◌, ℕ, ◌^◌, ◌<◌, Bool, true, false, eqb, List, [], ◌∷◌, ◌++◌, map, refl, sym, ap, ◌∙◌, arith, append_assoc}
-use Rattle.std.specs.Prelude.{◌&&◌, not, decimal}
+use Rattle.std.proofs.Common.{◌≡◌, ℕ, suc, ◌^◌, ◌<◌, Bool, true, false, eqb, List, [], ◌∷◌, ◌++◌, map, refl, sym, ap, ◌∙◌, arith, append_assoc}
+use Rattle.std.specs.Prelude.{◌&&◌, ℤ, pos, negsuc, not, codes, decimal}
+use Rattle.std.specs.Fmt.{signed_decimal}
 use Rattle.std.specs.List.{All, AllByRecursion, flat_map, join_with_byte}
 use Rattle.std.specs.Str.Parse.{AllDigits}
 use Rattle.std.proofs.lemmas.Bool.{and_parts, and_from, not-true, not_from_false, ne_eqb}
@@ -8,6 +9,7 @@ use Rattle.std.proofs.lemmas.List.Elements.{All-from_recursion}
 use Rattle.std.proofs.lemmas.List.Splits.{slice_split_none, slice_split_at, join_with_byte-slice_split}
 use Rattle.std.proofs.lemmas.Str.Parse.{digit_from_value}
 use Rattle.std.proofs.lemmas.Fmt.{decimal_is_IsNumeral}
+use Rattle.cs_types.specs.Scenario.{IsPid}
 use Rattle.scenario_text.specs.Words.{Word}
 use Rattle.scenario_text.specs.Text.{spaced, line}
 use Rattle.scenario_text.specs.Reading.{pieces, words_in, lines_in}
@@ -23,6 +25,10 @@ lacks byte (first ∷ word) = not (eqb first byte) && lacks byte word
 pub record IsPlain (word : Word) : Type 0 where
   pub no_feed : lacks 10 word ≡ true
   pub no_space : lacks 32 word ≡ true
+
+-- a word that is given is plain by computation
+pub plain_word : (word : Word) → lacks 10 word ≡ true → lacks 32 word ≡ true → IsPlain word
+plain_word word feed space = record { no_feed = feed; no_space = space }
 
 each_lacks : (byte : ℕ) (word : Word) → lacks byte word ≡ true → AllByRecursion (λ b. eqb b byte ≡ false) word
 each_lacks byte [] h = tt
@@ -53,6 +59,11 @@ plain_decimal n fits =
 pub plain-append : (a b : Word) → IsPlain a → IsPlain b → IsPlain (a ++ b)
 plain-append a b h k =
     record { no_feed = lacks-append 10 a b h.no_feed k.no_feed; no_space = lacks-append 32 a b h.no_space k.no_space }
+
+pub plain_signed : (z : ℤ) → IsPid z → IsPlain (signed_decimal z)
+plain_signed (pos n) is = plain_decimal n (omega arith)
+plain_signed (negsuc n) is =
+    plain-append (codes "-") (decimal (suc n)) (plain_word _ refl refl) (plain_decimal (suc n) (omega arith))
 
 -- ---- lines
 

@@ -1,6 +1,7 @@
 -- Reading: what the reader takes from a text, line by line. Of a line it first sees which form it has, by its
--- words as a whole, then reads the numbers of that form, and then asks whether the line may follow those before it.
-use Rattle.std.specs.Prelude.{◌≡◌, ℕ, ◌+◌, ◌-◌, Bool, true, ◌&&◌, ◌||◌, ◌==◌, ℤ, pos, not, nat_le, nat_lt, if◌then◌else◌, List, [], ◌∷◌, length, slice_index, slice_index_or, map, take, drop, codes, ◌++◌, Result, Ok, Err}
+-- first word and the count of them, then reads the words of that form, and then asks whether the line may follow
+-- those before it.
+use Rattle.std.specs.Prelude.{◌≡◌, ℕ, ◌+◌, ◌-◌, Bool, true, false, ◌&&◌, ◌||◌, ◌==◌, ℤ, pos, negsuc, not, nat_le, nat_lt, if◌then◌else◌, List, [], ◌∷◌, length, slice_index, slice_index_or, map, take, drop, codes, ◌++◌, Result, Ok, Err}
 use Rattle.std.specs.Borrow.{Bor}
 use Rattle.std.specs.Char.{is_ascii_digit}
 use Rattle.std.specs.List.{slice_split, list_any}
@@ -8,6 +9,7 @@ use Rattle.std.specs.Str.{all_ascii_digits, bytes_eq}
 use Rattle.std.specs.Str.Parse.{digits_value}
 use Rattle.cs_types.specs.declared.task.Policy.{Policy}
 use Rattle.cs_types.specs.declared.task.Policy.TheVariants.{Fifo}
+use Rattle.cs_types.specs.declared.task.Creds.{Creds}
 use Rattle.cs_types.specs.declared.task.TaskSpec.{TaskSpec}
 use Rattle.cs_types.specs.declared.event.Actor.TheVariants.{Sibling, Caller}
 use Rattle.cs_types.specs.declared.event.Ask.{Ask}
@@ -56,6 +58,10 @@ abbrev pub ◌>>=◌ : {A B : Type 0} → Read A → (A → Read B) → Read B
 Ok x >>= f = f x
 Err refusal >>= f = Err refusal
 
+-- a fact that a line needs
+abbrev pub check : Bool → Read (Unit {0})
+check holds = if holds then Ok tt else refused
+
 -- what a function returned, seen by view, is what reading gives
 abbrev pub Reads : {X Y : Type 0} → (X → Y) → Read X → Read Y → Type 0
 Reads view (Ok x) read = read ≡ Ok (view x)
@@ -84,14 +90,9 @@ lent words = record { count = length words; at = λ k. (slice_index_or words k (
 abbrev pub after : ℕ → Parts → Parts
 after n words = record { count = words.count - n; at = λ k. words.at (n + k) }
 
--- whether these bytes stand in the word from a place on
-abbrev pub has_bytes : Word → ℕ → List ℕ → Bool
-has_bytes word k [] = true
-has_bytes word k (byte ∷ bytes) = (slice_index word k == byte) && has_bytes word (k + 1) bytes
-
 -- whether the word is this keyword
 abbrev pub is_word : Word → Word → Bool
-is_word word keyword = (length word == length keyword) && has_bytes word 0 keyword
+is_word word keyword = bytes_eq word keyword
 
 -- what the form reads that a word names
 unfoldable pub reading_named : {A : Type 0} → List (Word × Read A) → Word → Read A
@@ -113,11 +114,16 @@ is_number low high word =
 unfoldable pub number_of : ℕ → ℕ → Word → Read ℕ
 number_of low high word = if is_number low high word then Ok (digits_value 10 word) else refused
 
+-- the signed number of 32 bits that the word spells: `-` and a magnitude, or a number from 0
+unfoldable pub signed_of : Word → Read ℤ
+signed_of word =
+    if slice_index word 0 == 45
+    then (number_of 1 2147483648 (drop 1 word) >>= λ magnitude. Ok (negsuc (magnitude - 1)))
+    else (number_of 0 2147483647 word >>= λ number. Ok (pos number))
+
 -- 1 for yes, 0 for no
 unfoldable pub flag_of : Word → Read Bool
-flag_of word = do
-  flag ← number_of 0 1 word
-  Ok (flag == 1)
+flag_of word = reading_named ((codes "1", Ok true) ∷ (codes "0", Ok false) ∷ []) word
 
 -- a sibling that the core has
 unfoldable pub cpu_of : ℕ → Word → Read ℕ
@@ -134,72 +140,68 @@ policy_of word =
     then (number_of 1 99 (drop 5 word) >>= λ priority. Ok (Fifo priority))
     else refused
 
+-- what stands after the policy
+unfoldable pub creds_of : Parts → Read Creds
+creds_of words =
+    if words.count == 9
+    then (do
+      ruid ← number_of 0 65535 (words.at 0)
+      euid ← number_of 0 65535 (words.at 1)
+      suid ← number_of 0 65535 (words.at 2)
+      rgid ← number_of 0 65535 (words.at 3)
+      egid ← number_of 0 65535 (words.at 4)
+      sgid ← number_of 0 65535 (words.at 5)
+      cap ← flag_of (words.at 6)
+      mm ← flag_of (words.at 7)
+      dumpable ← flag_of (words.at 8)
+      Ok (record {
+        ruid = ruid;
+        euid = euid;
+        suid = suid;
+        rgid = rgid;
+        egid = egid;
+        sgid = sgid;
+        cap = cap;
+        mm = mm;
+        dumpable = dumpable;
+      }))
+    else refused
+
 -- what stands after the word `task`
 unfoldable pub task_of : ℕ → Parts → Read TaskSpec
 task_of siblings words =
-    if words.count == 14
+    if nat_le 5 words.count
     then (do
-      policy ← policy_of (words.at 4)
       pid ← number_of 1 9999 (words.at 0)
       tgid ← number_of 1 9999 (words.at 1)
       pgid ← number_of 1 9999 (words.at 2)
       cpu ← cpu_of siblings (words.at 3)
-      ruid ← number_of 0 65535 (words.at 5)
-      euid ← number_of 0 65535 (words.at 6)
-      suid ← number_of 0 65535 (words.at 7)
-      rgid ← number_of 0 65535 (words.at 8)
-      egid ← number_of 0 65535 (words.at 9)
-      sgid ← number_of 0 65535 (words.at 10)
-      cap ← flag_of (words.at 11)
-      mm ← flag_of (words.at 12)
-      dumpable ← flag_of (words.at 13)
-      Ok (record {
-        pid = pid;
-        tgid = tgid;
-        pgid = pgid;
-        cpu = cpu;
-        policy = policy;
-        creds = record {
-          ruid = ruid;
-          euid = euid;
-          suid = suid;
-          rgid = rgid;
-          egid = egid;
-          sgid = sgid;
-          cap = cap;
-          mm = mm;
-          dumpable = dumpable;
-        };
-      }))
+      policy ← policy_of (words.at 4)
+      creds ← creds_of (after 5 words)
+      Ok (record { pid = pid; tgid = tgid; pgid = pgid; cpu = cpu; policy = policy; creds = creds }))
     else refused
 
 -- ---- steps
 
 -- what a sibling does
-unfoldable pub sibling_event_of : Read ℕ → Parts → Read Event
+unfoldable pub sibling_event_of : ℕ → Parts → Read Event
 sibling_event_of cpu words =
     if words.count == 1
     then reading_named (
-    (codes "turn", (cpu >>= λ i. Ok (Turn i)))
-    ∷ (codes "resched", (cpu >>= λ i. Ok (Resched i)))
-    ∷ (codes "block", (cpu >>= λ i. Ok (Block i)))
+    (codes "turn", Ok (Turn cpu))
+    ∷ (codes "resched", Ok (Resched cpu))
+    ∷ (codes "block", Ok (Block cpu))
     ∷ []
     ) (words.at 0)
     else refused
 
--- the target of a command of `prctl`
-unfoldable pub target_of : ℕ → Word → Read ℤ
-target_of cmd word = do
-  target ← if cmd == 1 then number_of 0 0 word else number_of 1 2147483647 word
-  Ok (pos target)
-
 -- the arguments of `prctl`
 unfoldable pub ask_of : Word → Word → Word → Word → Read Ask
 ask_of cmd target scope addr = do
-  cmd ← number_of 1 2 cmd
-  pid ← target_of cmd target
-  scope ← number_of 0 0 scope
-  addr ← number_of 0 0 addr
+  cmd ← number_of 0 4294967295 cmd
+  pid ← signed_of target
+  scope ← number_of 0 4294967295 scope
+  addr ← number_of 0 18446744073709551615 addr
   Ok (record { cmd = cmd; pid = pid; scope = scope; addr = addr })
 
 unfoldable pub wake_of : Word → Read Event
@@ -227,15 +229,15 @@ caller_event_of words =
 -- what the sibling of this number does
 unfoldable pub sibling_step_of : ℕ → Word → Parts → Read Step
 sibling_step_of siblings digits words = do
-  event ← sibling_event_of (cpu_of siblings digits) words
   cpu ← cpu_of siblings digits
+  event ← sibling_event_of cpu words
   Ok (record { actor = Sibling cpu; event = event })
 
 -- what the caller of this number does
 unfoldable pub caller_step_of : Word → Parts → Read Step
 caller_step_of digits words = do
-  event ← caller_event_of words
   caller ← number_of 0 7 digits
+  event ← caller_event_of words
   Ok (record { actor = Caller caller; event = event })
 
 -- what stands after the word `step`
@@ -275,7 +277,7 @@ end_of lines = refused
 unfoldable pub version_of : Parts → Read (Unit {0})
 version_of words =
     if words.count == 2
-    then reading_named ((codes "coresched", (number_of 1 1 (words.at 1) >>= λ one. Ok tt)) ∷ []) (words.at 0)
+    then reading_named ((codes "coresched", check (is_word (words.at 1) (codes "1"))) ∷ []) (words.at 0)
     else refused
 
 -- `siblings` COUNT
@@ -315,27 +317,30 @@ head_at lines = do
 -- a task line after a step line is refused
 unfoldable pub task_line : ℕ → Bool → Parts → Read Line
 task_line siblings is_after_step words =
-    if is_after_step then refused else (task_of siblings (after 1 words) >>= λ task. Ok (forms.Task task))
+    if is_after_step then refused else (task_of siblings words >>= λ task. Ok (forms.Task task))
 
 unfoldable pub step_line : ℕ → Parts → Read Line
 step_line siblings words =
-    if nat_le 2 words.count
-    then (step_of siblings (words.at 1) (after 2 words) >>= λ step. Ok (forms.Step step))
+    if nat_le 1 words.count
+    then (step_of siblings (words.at 0) (after 1 words) >>= λ step. Ok (forms.Step step))
     else refused
 
 unfoldable pub end_line : Parts → Read Line
-end_line words = if words.count == 1 then Ok forms.End else refused
+end_line words = if words.count == 0 then Ok forms.End else refused
+
+-- what the words after the first say, by what the first names
+abbrev pub line_forms : ℕ → Bool → Parts → List (Word × Read Line)
+line_forms siblings is_after_step words =
+    (codes "task", task_line siblings is_after_step words)
+    ∷ (codes "step", step_line siblings words)
+    ∷ (codes "end", end_line words)
+    ∷ []
 
 -- a line after the head, in a core of so many siblings
 unfoldable pub line_of : ℕ → Bool → Parts → Read Line
 line_of siblings is_after_step words =
     if nat_le 1 words.count
-    then reading_named (
-    (codes "task", task_line siblings is_after_step words)
-    ∷ (codes "step", step_line siblings words)
-    ∷ (codes "end", end_line words)
-    ∷ []
-    ) (words.at 0)
+    then reading_named (line_forms siblings is_after_step (after 1 words)) (words.at 0)
     else refused
 
 -- ---- the plan: the tasks and the steps that are read
@@ -356,10 +361,6 @@ unfoldable pub is_led : List TaskSpec → TaskSpec → Bool
 is_led tasks task =
     (task.tgid == task.pid)
     || list_any (λ leader. (leader.pid == task.tgid) && (leader.tgid == leader.pid) && (leader.pgid == task.pgid)) tasks
-
--- a fact that a line needs
-abbrev pub check : Bool → Read (Unit {0})
-check holds = if holds then Ok tt else refused
 
 -- the task may follow: with a pid of its own, led, and as one of the tasks that may live at once
 unfoldable pub task_check : ℕ → TaskSpec → Contents → Read (Unit {0})

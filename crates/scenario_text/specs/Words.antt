@@ -15,10 +15,10 @@ use Rattle.cs_types.specs.declared.event.Event.TheVariants.{Turn, Resched, Block
 use Rattle.cs_types.specs.declared.reply.Kind.{Kind}
 use Rattle.cs_types.specs.declared.reply.Kind.TheVariants.{Selected, Adopted, Plain}
 use Rattle.cs_types.specs.declared.reply.Errno.{Errno}
-use Rattle.cs_types.specs.declared.reply.Errno.TheVariants.{Eperm, Esrch, Enomem, Enodev}
+use Rattle.cs_types.specs.declared.reply.Errno.TheVariants.{Eperm, Esrch, Enomem, Efault, Enodev, Einval}
 use Rattle.cs_types.specs.declared.reply.Pick.{Pick}
 use Rattle.cs_types.specs.declared.reply.Reply.{Reply}
-use Rattle.cs_types.specs.declared.reply.Reply.TheVariants.{Picked, Nothing, Slept, Idle, Woken, Awake, NoTask, Zero, Refused, NoCaller}
+use Rattle.cs_types.specs.declared.reply.Reply.TheVariants.{Picked, Nothing, Slept, Idle, Woken, Awake, NoTask, Zero, Value, Refused, NoCaller}
 
 -- a word is its bytes
 abbrev pub Word : Type 0
@@ -90,7 +90,9 @@ abbrev pub errno_word : Errno → Word
 errno_word Eperm = codes "EPERM"
 errno_word Esrch = codes "ESRCH"
 errno_word Enomem = codes "ENOMEM"
+errno_word Efault = codes "EFAULT"
 errno_word Enodev = codes "ENODEV"
+errno_word Einval = codes "EINVAL"
 
 abbrev pub reply_words : Reply → List Word
 reply_words (Picked pick) = pick_words pick
@@ -101,5 +103,6 @@ reply_words (Woken cpu) = codes "Woken" ∷ decimal cpu ∷ []
 reply_words Awake = codes "Awake" ∷ []
 reply_words NoTask = codes "NoTask" ∷ []
 reply_words Zero = codes "0" ∷ []
+reply_words (Value cookie) = codes "0" ∷ codes "value" ∷ decimal cookie ∷ []
 reply_words (Refused errno) = errno_word errno ∷ []
 reply_words NoCaller = codes "NoCaller" ∷ []

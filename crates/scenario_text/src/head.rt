@@ -7,9 +7,7 @@ ghost use Rattle.scenario_text.specs.Reading.{Takes, lent, version_of, siblings_
 use crate::fault::Refused;
 use crate::lines::Lines;
 use crate::number::parse_number;
-
-/// The version of the texts.
-const VERSION: u64 = 1;
+use crate::words::is_word;
 
 /// The greatest number of SMT siblings of a core. The least is 1.
 const MOST_SIBLINGS: u64 = 8;
@@ -32,16 +30,13 @@ pub(crate) struct Head {
     pub user_top: u64,
 }
 
-/// `coresched` and the version.
+/// `coresched` and the version, which is 1.
 #[tactic(auto, unfolding(crate::specs::Reading::reading_named, crate::specs::Reading::version_of))]
 fn parse_version(words: &[&[u8]]) -> Result<(), Refused>
     ensures { result ≡ version_of (lent words.now) }
 {
-    match words {
-        [b"coresched", version] => {
-            parse_number(version, VERSION, VERSION)?;
-            Ok(())
-        }
+    match *words {
+        [name, version] if is_word(name, "coresched") && is_word(version, "1") => Ok(()),
         _ => Err(Refused),
     }
 }
@@ -51,8 +46,10 @@ fn parse_version(words: &[&[u8]]) -> Result<(), Refused>
 fn parse_siblings(words: &[&[u8]]) -> Result<u8, Refused>
     ensures { result ≡ siblings_of (lent words.now) }
 {
-    match words {
-        [b"siblings", count] => Ok(parse_number(count, 1, MOST_SIBLINGS)? as u8),
+    match *words {
+        [name, count] if is_word(name, "siblings") => {
+            Ok(parse_number(count, 1, MOST_SIBLINGS)? as u8)
+        }
         _ => Err(Refused),
     }
 }
@@ -62,8 +59,8 @@ fn parse_siblings(words: &[&[u8]]) -> Result<u8, Refused>
 fn parse_limits(words: &[&[u8]], siblings: u8) -> Result<Head, Refused>
     ensures { result ≡ head_of siblings (lent words.now) }
 {
-    match words {
-        [b"limits", tasks, cookies, top] => Ok(Head {
+    match *words {
+        [name, tasks, cookies, top] if is_word(name, "limits") => Ok(Head {
             siblings,
             task_limit: parse_number(tasks, 1, MOST_LIMIT)? as u16,
             cookie_limit: parse_number(cookies, 1, MOST_LIMIT)? as u16,

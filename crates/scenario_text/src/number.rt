@@ -1,13 +1,20 @@
-//! Numbers, as words spell them: decimal digits, with no sign and no leading 0. It is separate since
-//! every form of a line but the last has them.
+//! Numbers, as words spell them: decimal digits with no leading 0, and no sign but the `-` of a negative
+//! number. It is separate since every form of a line but the last has them.
 
 ghost use Rattle.std.specs.Prelude.{◌≡◌, IfOk};
 ghost use Rattle.cs_types.specs.Scenario.{IsWithin};
-ghost use Rattle.scenario_text.specs.Reading.{is_canonical, number_of, flag_of, cpu_of};
+ghost use Rattle.scenario_text.specs.Reading.{is_canonical, number_of, signed_of, flag_of, cpu_of};
 
 use crate::fault::Refused;
+use crate::words::is_word;
 use cs_types::Cpu;
 use std::str;
+
+/// The greatest signed number of 32 bits.
+const MOST_ABOVE: u64 = 2_147_483_647;
+
+/// The magnitude of the least signed number of 32 bits.
+const MOST_BELOW: u64 = 2_147_483_648;
 
 /// Whether the word begins with a digit, and with 0 only where it is `0`.
 fn is_canonical(word: &[u8]) -> bool
@@ -36,12 +43,30 @@ pub(crate) fn parse_number(word: &[u8], low: u64, high: u64) -> Result<u64, Refu
     Ok(number)
 }
 
+/// The signed number of 32 bits that the word spells: where it is negative, `-` and the digits of its
+/// magnitude.
+#[tactic(auto, unfolding(crate::specs::Reading::signed_of))]
+pub(crate) fn parse_signed(word: &[u8]) -> Result<i32, Refused>
+    ensures { result ≡ signed_of word.now }
+{
+    match word {
+        [b'-', digits @ ..] => Ok(-(parse_number(digits, 1, MOST_BELOW)? as i64) as i32),
+        _ => Ok(parse_number(word, 0, MOST_ABOVE)? as i32),
+    }
+}
+
 /// 1 for yes and 0 for no.
-#[tactic(auto, unfolding(crate::specs::Reading::flag_of))]
+#[tactic(auto, unfolding(crate::specs::Reading::reading_named, crate::specs::Reading::flag_of))]
 pub(crate) fn parse_flag(word: &[u8]) -> Result<bool, Refused>
     ensures { result ≡ flag_of word.now }
 {
-    Ok(parse_number(word, 0, 1)? == 1)
+    if is_word(word, "1") {
+        Ok(true)
+    } else if is_word(word, "0") {
+        Ok(false)
+    } else {
+        Err(Refused)
+    }
 }
 
 /// The number of a sibling that the core has.

@@ -2,10 +2,11 @@
 //! with which it shares no more than siblings.
 
 ghost use Rattle.std.specs.Prelude.{◌≡◌};
-ghost use Rattle.scenario_text.specs.Reading.{lent, number_of, sibling_event_of, target_of, ask_of, caller_event_of, sibling_step_of, caller_step_of, step_of};
+ghost use Rattle.scenario_text.specs.Reading.{lent, number_of, sibling_event_of, ask_of, caller_event_of, sibling_step_of, caller_step_of, step_of};
 
 use crate::fault::Refused;
-use crate::number::{parse_cpu, parse_number};
+use crate::number::{parse_cpu, parse_number, parse_signed};
+use crate::words::is_word;
 use cs_types::{Actor, Ask, Cpu, Event, Pid, Step};
 
 /// The greatest number of a caller. The least is 0.
@@ -14,38 +15,17 @@ const MOST_CALLER: u64 = 7;
 /// The greatest pid that a caller may name, of a task or of none. The least is 1.
 const MOST_NAMED_PID: u64 = 999_999;
 
-/// The command `PR_SCHED_CORE_CREATE`.
-const CREATE: u32 = 1;
-
-/// The command `PR_SCHED_CORE_SHARE_TO`.
-const SHARE_TO: u32 = 2;
-
-/// The greatest pid of a task with which a caller may share. The least is 1.
-const MOST_TARGET: u64 = 2_147_483_647;
-
-/// What a sibling does to itself. Its number is looked at only in a form.
+/// What a sibling does to itself.
 #[tactic(auto, unfolding(crate::specs::Reading::reading_named, crate::specs::Reading::sibling_event_of))]
-fn parse_sibling_event(words: &[&[u8]], cpu: Result<Cpu, Refused>) -> Result<Event, Refused>
+fn parse_sibling_event(words: &[&[u8]], cpu: Cpu) -> Result<Event, Refused>
     ensures { result ≡ sibling_event_of cpu (lent words.now) }
 {
-    match words {
-        [b"turn"] => Ok(Event::Turn(cpu?)),
-        [b"resched"] => Ok(Event::Resched(cpu?)),
-        [b"block"] => Ok(Event::Block(cpu?)),
+    match *words {
+        [name] if is_word(name, "turn") => Ok(Event::Turn(cpu)),
+        [name] if is_word(name, "resched") => Ok(Event::Resched(cpu)),
+        [name] if is_word(name, "block") => Ok(Event::Block(cpu)),
         _ => Err(Refused),
     }
-}
-
-/// The target of a command of `prctl`.
-#[tactic(auto, unfolding(crate::specs::Reading::target_of))]
-fn parse_target(word: &[u8], cmd: u32) -> Result<i32, Refused>
-    ensures { result ≡ target_of cmd word.now }
-{
-    if cmd == CREATE {
-        parse_number(word, 0, 0)?;
-        return Ok(0);
-    }
-    Ok(parse_number(word, 1, MOST_TARGET)? as i32)
 }
 
 /// The arguments of `prctl`.
@@ -53,12 +33,11 @@ fn parse_target(word: &[u8], cmd: u32) -> Result<i32, Refused>
 fn parse_ask(cmd: &[u8], target: &[u8], scope: &[u8], addr: &[u8]) -> Result<Ask, Refused>
     ensures { result ≡ ask_of cmd.now target.now scope.now addr.now }
 {
-    let cmd = parse_number(cmd, CREATE as u64, SHARE_TO as u64)? as u32;
     Ok(Ask {
-        cmd,
-        pid: parse_target(target, cmd)?,
-        scope: parse_number(scope, 0, 0)? as u32,
-        addr: parse_number(addr, 0, 0)?,
+        cmd: parse_number(cmd, 0, u32::MAX as u64)? as u32,
+        pid: parse_signed(target)?,
+        scope: parse_number(scope, 0, u32::MAX as u64)? as u32,
+        addr: parse_number(addr, 0, u64::MAX)?,
     })
 }
 
@@ -74,9 +53,9 @@ fn parse_named_pid(word: &[u8]) -> Result<Pid, Refused>
 fn parse_caller_event(words: &[&[u8]]) -> Result<Event, Refused>
     ensures { result ≡ caller_event_of (lent words.now) }
 {
-    match words {
-        [b"wake", pid] => Ok(Event::Wake(parse_named_pid(pid)?)),
-        [b"prctl", caller, cmd, target, scope, addr] => Ok(Event::Prctl {
+    match *words {
+        [name, pid] if is_word(name, "wake") => Ok(Event::Wake(parse_named_pid(pid)?)),
+        [name, caller, cmd, target, scope, addr] if is_word(name, "prctl") => Ok(Event::Prctl {
             caller: parse_named_pid(caller)?,
             ask: parse_ask(cmd, target, scope, addr)?,
         }),
@@ -89,10 +68,11 @@ fn parse_caller_event(words: &[&[u8]]) -> Result<Event, Refused>
 fn parse_sibling_step(digits: &[u8], event: &[&[u8]], siblings: u8) -> Result<Step, Refused>
     ensures { result ≡ sibling_step_of siblings digits.now (lent event.now) }
 {
-    let cpu = parse_cpu(digits, siblings);
-    let event = parse_sibling_event(event, cpu)?;
-    let actor = Actor::Sibling(cpu?);
-    Ok(Step { actor, event })
+    let cpu = parse_cpu(digits, siblings)?;
+    Ok(Step {
+        actor: Actor::Sibling(cpu),
+        event: parse_sibling_event(event, cpu)?,
+    })
 }
 
 /// What the caller of this number does.
@@ -100,13 +80,15 @@ fn parse_sibling_step(digits: &[u8], event: &[&[u8]], siblings: u8) -> Result<St
 fn parse_caller_step(digits: &[u8], event: &[&[u8]]) -> Result<Step, Refused>
     ensures { result ≡ caller_step_of digits.now (lent event.now) }
 {
-    let event = parse_caller_event(event)?;
-    let actor = Actor::Caller(parse_number(digits, 0, MOST_CALLER)? as u8);
-    Ok(Step { actor, event })
+    let caller = parse_number(digits, 0, MOST_CALLER)? as u8;
+    Ok(Step {
+        actor: Actor::Caller(caller),
+        event: parse_caller_event(event)?,
+    })
 }
 
-/// What stands after the word `step`, in a core of so many siblings. The letter of the actor tells
-/// whose event it is, and the event is read before the actor's number, since it has a form.
+/// What stands after the word `step`, in a core of so many siblings. The letter of the actor tells whose
+/// event it is.
 #[tactic(auto, unfolding(crate::specs::Reading::step_of))]
 pub(crate) fn parse_step(actor: &[u8], event: &[&[u8]], siblings: u8) -> Result<Step, Refused>
     ensures { result ≡ step_of siblings actor.now (lent event.now) }

@@ -2,11 +2,11 @@
 //! elsewhere, with the plan.
 
 ghost use Rattle.std.specs.Prelude.{◌≡◌};
-ghost use Rattle.scenario_text.specs.Reading.{lent, policy_of, task_of};
+ghost use Rattle.scenario_text.specs.Reading.{lent, number_of, policy_of, creds_of, task_of};
 
 use crate::fault::Refused;
 use crate::number::{parse_cpu, parse_flag, parse_number};
-use cs_types::{Creds, Policy, TaskSpec};
+use cs_types::{Creds, Pid, Policy, TaskSpec};
 
 /// The greatest number of a task, a thread group or a process group. The least is 1.
 const MOST_PID: u64 = 9999;
@@ -28,48 +28,55 @@ fn parse_policy(word: &[u8]) -> Result<Policy, Refused>
     Ok(Policy::Fifo(parse_number(priority, 1, MOST_PRIORITY)? as u8))
 }
 
-/// What stands after the word `task`, in a core of so many siblings. The policy is read before the
-/// numbers, since its word has a form of its own.
+/// A task, a thread group or a process group.
+fn parse_pid(word: &[u8]) -> Result<Pid, Refused>
+    ensures { result ≡ number_of 1 9999 word.now }
+{
+    Ok(parse_number(word, 1, MOST_PID)? as u32)
+}
+
+/// A user or a group.
+fn parse_id(word: &[u8]) -> Result<u32, Refused>
+    ensures { result ≡ number_of 0 65535 word.now }
+{
+    Ok(parse_number(word, 0, MOST_ID)? as u32)
+}
+
+/// What stands after the policy: who the task is, and what it may do.
+#[tactic(auto, unfolding(crate::specs::Reading::creds_of))]
+fn parse_creds(words: &[&[u8]]) -> Result<Creds, Refused>
+    ensures { result ≡ creds_of (lent words.now) }
+{
+    let [ruid, euid, suid, rgid, egid, sgid, cap, mm, dumpable] = *words else {
+        return Err(Refused);
+    };
+    Ok(Creds {
+        ruid: parse_id(ruid)?,
+        euid: parse_id(euid)?,
+        suid: parse_id(suid)?,
+        rgid: parse_id(rgid)?,
+        egid: parse_id(egid)?,
+        sgid: parse_id(sgid)?,
+        cap: parse_flag(cap)?,
+        mm: parse_flag(mm)?,
+        dumpable: parse_flag(dumpable)?,
+    })
+}
+
+/// What stands after the word `task`, in a core of so many siblings.
 #[tactic(auto, unfolding(crate::specs::Reading::task_of))]
 pub(crate) fn parse_task(words: &[&[u8]], siblings: u8) -> Result<TaskSpec, Refused>
     ensures { result ≡ task_of siblings (lent words.now) }
 {
-    let [
-        pid,
-        tgid,
-        pgid,
-        cpu,
-        policy,
-        ruid,
-        euid,
-        suid,
-        rgid,
-        egid,
-        sgid,
-        cap,
-        mm,
-        dumpable,
-    ] = words
-    else {
+    let [pid, tgid, pgid, cpu, policy, ref creds @ ..] = *words else {
         return Err(Refused);
     };
-    let policy = parse_policy(policy)?;
     Ok(TaskSpec {
-        pid: parse_number(pid, 1, MOST_PID)? as u32,
-        tgid: parse_number(tgid, 1, MOST_PID)? as u32,
-        pgid: parse_number(pgid, 1, MOST_PID)? as u32,
+        pid: parse_pid(pid)?,
+        tgid: parse_pid(tgid)?,
+        pgid: parse_pid(pgid)?,
         cpu: parse_cpu(cpu, siblings)?,
-        policy,
-        creds: Creds {
-            ruid: parse_number(ruid, 0, MOST_ID)? as u32,
-            euid: parse_number(euid, 0, MOST_ID)? as u32,
-            suid: parse_number(suid, 0, MOST_ID)? as u32,
-            rgid: parse_number(rgid, 0, MOST_ID)? as u32,
-            egid: parse_number(egid, 0, MOST_ID)? as u32,
-            sgid: parse_number(sgid, 0, MOST_ID)? as u32,
-            cap: parse_flag(cap)?,
-            mm: parse_flag(mm)?,
-            dumpable: parse_flag(dumpable)?,
-        },
+        policy: parse_policy(policy)?,
+        creds: parse_creds(creds)?,
     })
 }

@@ -1,7 +1,7 @@
 //! The words of a line, cut before any of them is looked at, since a line's form is told by them all.
 
 ghost use Rattle.std.specs.Prelude.{◌≡◌};
-ghost use Rattle.scenario_text.specs.Reading.{words_in, texts, Reads, few};
+ghost use Rattle.scenario_text.specs.Reading.{words_in, texts, Reads, few, is_word};
 
 use crate::fault::Refused;
 use arrayvec::ArrayVec;
@@ -25,4 +25,11 @@ pub(crate) fn words_of(line: &[u8]) -> Result<Words<'_>, Refused>
         words.push(word);
     }
     Ok(words)
+}
+
+/// Whether the word is this keyword.
+pub(crate) fn is_word(word: &[u8], keyword: &str) -> bool
+    ensures { result ≡ is_word word.now keyword.now }
+{
+    word == keyword.as_bytes()
 }

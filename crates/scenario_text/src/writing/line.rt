@@ -140,6 +140,10 @@ impl Line {
             Reply::Awake => self.text("Awake"),
             Reply::NoTask => self.text("NoTask"),
             Reply::Zero => self.text("0"),
+            Reply::Value(cookie) => {
+                self.text("0 value ");
+                self.number(cookie);
+            }
             Reply::Refused(errno) => self.errno(errno),
             Reply::NoCaller => self.text("NoCaller"),
         }
@@ -180,7 +184,9 @@ impl Line {
             Errno::Eperm => self.text("EPERM"),
             Errno::Esrch => self.text("ESRCH"),
             Errno::Enomem => self.text("ENOMEM"),
+            Errno::Efault => self.text("EFAULT"),
             Errno::Enodev => self.text("ENODEV"),
+            Errno::Einval => self.text("EINVAL"),
         }
     }
 
