@@ -2,40 +2,40 @@
 use Rattle.std.proofs.Common.{◌≡◌, ℕ, suc, ◌+◌, ◌-◌, ◌<◌, ◌≤◌, Bool, true, false, cond, List, [], ◌∷◌, ◌++◌, map, length, get_or, refl, sym, ap, ◌∙◌, append_assoc, arith}
 use Rattle.std.specs.Prelude.{◌||◌, ◌&&◌, ◌==◌, filter, count_by, All, Option, Some, None, is_none, is_some, IfSome, not}
 use Rattle.std.specs.List.{list_any, list_all, range_with_len, enumerate_from}
-use Rattle.std.specs.Option.{option_map, option_and_then}
+use Rattle.std.specs.Option.{option_and_then}
 use Rattle.std.proofs.lemmas.Bool.{cond-false, ne_eqb}
 use Rattle.std.proofs.lemmas.List.{map-append, length-map}
 use Rattle.cs_types.specs.declared.scenario.Scenario.{Scenario}
 use Rattle.std.proofs.lemmas.List.Elements.{filter-append, All-map, All-filter}
 use Rattle.std.proofs.lemmas.List.FromFn.{get_or-map-range_with_len}
-use Rattle.cs_types.specs.Room.{RoomState, TaskState, is_online, online, online_from, queued_on, sibling_of}
+use Rattle.cs_types.specs.Room.{RoomState, is_online, online, online_from, queued_on, sibling_of}
 use Rattle.cs_types.specs.Order.{first_of, goes_before, foremost, outranks}
 use Rattle.cs_types.specs.Selection.{first_on, cookie_of, pid_of, queued_with, choice, is_forced, forced_count, occupation_of, is_run, handed, given, remembered, lead_from, adopted, rescheduled, scheduled, schedule}
 use Rattle.plain_room.specs.declared.choice.Choice.{Choice}
-use Rattle.plain_room.specs.declared.task.Task.{Task}
+use Rattle.cs_types.specs.declared.task.Task.{Task}
 use Rattle.plain_room.specs.declared.state.State.{State}
-use Rattle.plain_room.specs.State.{task_state, task_states, sibling_state, room_of}
+use Rattle.plain_room.specs.State.{sibling_state, room_of}
 use Rattle.plain_room.specs.Choice.{choice_at, handed_choice, remembered_task}
 use Rattle.plain_room.proofs.Lists.{count_at, any_at, map_places, range_more, All-find}
 
 -- what a sibling with this first gets, where the search for the core cookie gives the other
-choice_by : Option TaskState → ℕ → Option TaskState → Option TaskState
+choice_by : Option Task → ℕ → Option Task → Option Task
 choice_by first core found = cond (is_none first || (cookie_of first == core)) first found
 
 -- a first with another cookie makes way for what the search gives
-pub choice_searched : (room : RoomState) (core cpu : ℕ) (task : TaskState) → Some task ≡ first_on room cpu → (task.cookie ≡ core → ⊥) →
+pub choice_searched : (room : RoomState) (core cpu : ℕ) (task : Task) → Some task ≡ first_on room cpu → (task.cookie ≡ core → ⊥) →
     cond (core == 0) None (first_of (queued_with room core cpu)) ≡ choice room core cpu
 unfolding choice
 choice_searched room core cpu task first other =
     let found = cond (core == 0) None (first_of (queued_with room core cpu)) in
     sym (cond-false (task.cookie == core) (Some task) found (ne_eqb task.cookie core other))
-    ∙ ap (λ (f : Option TaskState). cond (is_none f || (cookie_of f == core)) f found) first
+    ∙ ap (λ (f : Option Task). cond (is_none f || (cookie_of f == core)) f found) first
 
-is_none-pid_of : (task : Option TaskState) → is_none (pid_of task) ≡ is_none task
+is_none-pid_of : (task : Option Task) → is_none (pid_of task) ≡ is_none task
 is_none-pid_of None = refl
 is_none-pid_of (Some task) = refl
 
-is_some-pid_of : (task : Option TaskState) → is_some (pid_of task) ≡ is_some task
+is_some-pid_of : (task : Option Task) → is_some (pid_of task) ≡ is_some task
 is_some-pid_of None = refl
 is_some-pid_of (Some task) = refl
 
@@ -90,22 +90,22 @@ firsts_more room from cpu le =
     ∙ ap (map (first_on room)) (filter-append (is_online room) (range_with_len from n) ((from + n) ∷ []))
     ∙ map-append (first_on room) (filter (is_online room) (range_with_len from n)) (filter (is_online room) ((from + n) ∷ []))
     ∙ ap (λ (m : ℕ). map (first_on room) (filter (is_online room) (range_with_len from n)) ++ map (first_on room) (cond (is_online room m) (m ∷ []) [])) there
-    ∙ ap (λ (firsts : List (Option TaskState)). map (first_on room) (filter (is_online room) (range_with_len from n)) ++ firsts) (first_where (is_online room cpu)) where
+    ∙ ap (λ (firsts : List (Option Task)). map (first_on room) (filter (is_online room) (range_with_len from n)) ++ firsts) (first_where (is_online room cpu)) where
       first_where : (b : Bool) → map (first_on room) (cond b (cpu ∷ []) []) ≡ cond b (first_on room cpu ∷ []) []
       first_where true = refl
       first_where false = refl
 
 -- the firsts so far, after one more sibling
-pub firsts_step : (room : RoomState) (from cpu : ℕ) → from ≤ cpu → (initial before now : List (Option TaskState)) →
+pub firsts_step : (room : RoomState) (from cpu : ℕ) → from ≤ cpu → (initial before now : List (Option Task)) →
     before ≡ initial ++ map (first_on room) (filter (is_online room) (range_with_len from (cpu - from))) →
     now ≡ before ++ cond (is_online room cpu) (first_on room cpu ∷ []) [] →
     now ≡ initial ++ map (first_on room) (filter (is_online room) (range_with_len from (cpu + 1 - from)))
 firsts_step room from cpu le initial before now so_far step =
     let more = cond (is_online room cpu) (first_on room cpu ∷ []) [] in
     step
-    ∙ ap (λ (firsts : List (Option TaskState)). firsts ++ more) so_far
+    ∙ ap (λ (firsts : List (Option Task)). firsts ++ more) so_far
     ∙ append_assoc initial (map (first_on room) (filter (is_online room) (range_with_len from (cpu - from)))) more
-    ∙ ap (λ (firsts : List (Option TaskState)). initial ++ firsts) (sym (firsts_more room from cpu le))
+    ∙ ap (λ (firsts : List (Option Task)). initial ++ firsts) (sym (firsts_more room from cpu le))
 
 -- the firsts from a sibling on, and then those before it
 pub firsts_from : (room : RoomState) (cpu : ℕ) →
@@ -118,47 +118,48 @@ firsts_from room cpu =
     ∙ map-append (first_on room) (filter (is_online room) later) (filter (is_online room) earlier))
 
 -- the firsts of the online siblings from one to another
-abbrev pub firsts_between : RoomState → ℕ → ℕ → List (Option TaskState)
+abbrev pub firsts_between : RoomState → ℕ → ℕ → List (Option Task)
 firsts_between room from to = map (first_on room) (filter (is_online room) (range_with_len from (to - from)))
 
 -- what is pushed from a sibling on, and then up to it, are the firsts from it on
 pub firsts_pushed : (room : RoomState) (cpu count : ℕ) (none later all firsts : List (Option Task)) → count ≡ length room.siblings → none ≡ [] →
-    map (option_map task_state) later ≡ map (option_map task_state) none ++ firsts_between room cpu count →
-    map (option_map task_state) all ≡ map (option_map task_state) later ++ firsts_between room 0 cpu → firsts ≡ all →
-    map (option_map task_state) firsts ≡ map (first_on room) (online_from room cpu)
+    later ≡ none ++ firsts_between room cpu count →
+    all ≡ later ++ firsts_between room 0 cpu → firsts ≡ all →
+    firsts ≡ map (first_on room) (online_from room cpu)
 firsts_pushed room cpu count none later all firsts counted empty first second same =
     let whole : cpu - 0 ≡ cpu = omega arith in
-    ap (map (option_map task_state)) same
+    same
     ∙ second
-    ∙ ap (λ (states : List (Option TaskState)). states ++ firsts_between room 0 cpu) (first
-    ∙ ap (λ (tasks : List (Option Task)). map (option_map task_state) tasks ++ firsts_between room cpu count) empty
+    ∙ ap (λ (states : List (Option Task)). states ++ firsts_between room 0 cpu) (first
+    ∙ ap (λ (tasks : List (Option Task)). tasks ++ firsts_between room cpu count) empty
     ∙ ap (λ (n : ℕ). firsts_between room cpu n) counted)
     ∙ ap (λ (n : ℕ). firsts_between room cpu (length room.siblings) ++ map (first_on room) (filter (is_online room) (range_with_len 0 n))) whole
     ∙ firsts_from room cpu
 
 -- each first is a task of the room
-pub All-firsts : (P : TaskState → Type 0) (room : RoomState) (cpus : List ℕ) → All P room.tasks → All (λ first. IfSome first P) (map (first_on room) cpus)
+pub All-firsts : (P : Task → Type 0) (room : RoomState) (cpus : List ℕ) → All P room.tasks → All (λ first. IfSome first P) (map (first_on room) cpus)
 All-firsts P room cpus all =
-    All-map (λ (first : Option TaskState). IfSome first P) (first_on room) cpus (λ k d lt.
+    All-map (λ (first : Option Task). IfSome first P) (first_on room) cpus (λ k d lt.
     All-find P (λ task. list_all (λ other. not (goes_before other task)) (queued_on room (get_or cpus k d))) (queued_on room (get_or cpus k d))
     (All-filter (λ task. task.queued && (task.home == get_or cpus k d)) P room.tasks all))
 
 -- the lead among the firsts, by its definition
-pub lead_is : (room : RoomState) (cpu : ℕ) → option_and_then (λ (first : Option TaskState). first) (foremost outranks (map (first_on room) (online_from room cpu))) ≡ lead_from room cpu
+pub lead_is : (room : RoomState) (cpu : ℕ) → option_and_then (λ (first : Option Task). first) (foremost outranks (map (first_on room) (online_from room cpu))) ≡ lead_from room cpu
 unfolding lead_from
 lead_is room cpu = refl
 
 -- the tasks that remember an occupation, as the code finds them among the choices
 pub remembered-choices : (room : RoomState) (core occupation : ℕ) (tasks : List Task) → occupation ≡ occupation_of room core →
-    task_states (map (remembered_task (choices_of room core) occupation) tasks) ≡ map (remembered room core) (task_states tasks)
+    map (remembered_task (choices_of room core) occupation) tasks ≡ map (remembered room core) tasks
 remembered-choices room core occupation [] same = refl
 remembered-choices room core occupation (task ∷ tasks) same =
-    ap (λ (b : Bool). record (task_state task) { occupation = cond b occupation task.occupation } ∷ task_states (map (remembered_task (choices_of room core) occupation) tasks)) (any-choices room core task.spec.pid)
-    ∙ ap (λ (states : List TaskState). record (task_state task) { occupation = cond (list_any (λ cpu. is_run (pid_of (choice room core cpu)) (Some task.spec.pid)) (online room)) occupation task.occupation } ∷ states) (remembered-choices room core occupation tasks same)
-    ∙ ap (λ (state : TaskState). state ∷ map (remembered room core) (task_states tasks)) (where_chosen (list_any (λ cpu. is_run (pid_of (choice room core cpu)) (Some task.spec.pid)) (online room)) occupation same) where
+    let chosen = list_any (λ cpu. is_run (pid_of (choice room core cpu)) (Some task.spec.pid)) (online room) in
+    let one : remembered_task (choices_of room core) occupation task ≡ remembered room core task =
+    ap (λ (b : Bool). record task { occupation = cond b occupation task.occupation }) (any-choices room core task.spec.pid) ∙ where_chosen chosen occupation same in
+    λ i. one i ∷ remembered-choices room core occupation tasks same i where
       where_chosen : (b : Bool) (n : ℕ) → n ≡ occupation_of room core →
-          record (task_state task) { occupation = cond b n task.occupation } ≡ cond b (record (task_state task) { occupation = occupation_of room core }) (task_state task)
-      where_chosen true n e = ap (λ (m : ℕ). record (task_state task) { occupation = m }) e
+          record task { occupation = cond b n task.occupation } ≡ cond b (record task { occupation = occupation_of room core }) task
+      where_chosen true n e = ap (λ (m : ℕ). record task { occupation = m }) e
       where_chosen false n e = refl
 
 -- ---- which case a schedule is

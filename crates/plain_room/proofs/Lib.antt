@@ -1,10 +1,8 @@
 pub mod Lists
-pub mod Orders
 pub mod States
-pub mod LiveCookies
 pub mod Choices
+pub mod Settings
 pub mod OnlineCount
-pub mod Calls
 pub mod Sleeps
 pub mod Machines
 pub mod Views

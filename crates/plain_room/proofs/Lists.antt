@@ -1,15 +1,11 @@
 -- What filters, searches and scans of a list say of the list that it stands for.
 use Rattle.std.proofs.Common.{◌≡◌, ℕ, zero, suc, ◌+◌, ◌<◌, Bool, true, false, cond, List, [], ◌∷◌, ◌++◌, map, refl, sym, ap, ◌∙◌, Some, length, take, drop, set, get_or, arith, add-one, length-append, length-drop, length-take}
 use Rattle.std.specs.Prelude.{filter, find, replicate, count_by, ◌&&◌, ◌||◌, All, IfSome}
-use Rattle.std.specs.List.{fold, reduce, enumerate_from, range_with_len, list_any}
-use Rattle.std.specs.Option.{option_map}
-use Rattle.std.specs.Cmp.{IsStrictWeakOrder}
+use Rattle.std.specs.List.{enumerate_from, range_with_len, list_any}
 use Rattle.std.proofs.lemmas.List.{length-map, get_or_default}
 use Rattle.std.proofs.lemmas.List.Edits.{map_over_more}
 use Rattle.std.proofs.lemmas.List.Sums.{length-filter}
 use Rattle.std.proofs.lemmas.List.Elements.{All-head, All-tail}
-use Rattle.cs_types.specs.Order.{foremost}
-use Rattle.cs_types.proofs.Foremost.{better, foremost_reduce}
 
 -- ---- lists that stand for others
 
@@ -28,44 +24,6 @@ filter-filter {X} p q (x ∷ xs) =
       | true ↦ ap (λ (ys : List X). cond (q x) (x ∷ ys) ys) (filter-filter p q xs)
       | false ↦ filter-filter p q xs
     ]
-
-pub find-map : {X Y : Type 0} (f : X → Y) (p : Y → Bool) (xs : List X) → find p (map f xs) ≡ option_map f (find (λ x. p (f x)) xs)
-find-map f p [] = refl
-find-map f p (x ∷ xs) =
-    elim (p (f x)) as (λ b. cond b (Some (f x)) (find p (map f xs)) ≡ option_map f (cond b (Some x) (find (λ z. p (f z)) xs))) [
-      | true ↦ refl
-      | false ↦ find-map f p xs
-    ]
-
-fold-map : {X Y : Type 0} (f : X → Y) (g : X → X → X) (h : Y → Y → Y) → ((a b : X) → f (g a b) ≡ h (f a) (f b)) →
-    (a : X) (xs : List X) → fold h (f a) (map f xs) ≡ f (fold g a xs)
-fold-map f g h same a [] = refl
-fold-map f g h same a (x ∷ xs) = ap (λ b. fold h b (map f xs)) (sym (same a x)) ∙ fold-map f g h same (g a x) xs
-
-reduce-map : {X Y : Type 0} (f : X → Y) (g : X → X → X) (h : Y → Y → Y) → ((a b : X) → f (g a b) ≡ h (f a) (f b)) →
-    (xs : List X) → reduce h (map f xs) ≡ option_map f (reduce g xs)
-reduce-map f g h same [] = refl
-reduce-map f g h same (x ∷ xs) = ap Some (fold-map f g h same x xs)
-
--- the better of two that stand for others, as a scan keeps it
-abbrev pub better_by : {X Y : Type 0} (f : X → Y) (before : Y → Y → Bool) → X → X → X
-better_by f before first x = cond (before (f x) (f first)) x first
-
-same_better : {X Y : Type 0} (f : X → Y) (before : Y → Y → Bool) (order : IsStrictWeakOrder before) (a b : X) →
-    f (better_by f before a b) ≡ better before order (f a) (f b)
-same_better f before order a b =
-    elim (before (f b) (f a)) as (λ t. f (cond t b a) ≡ cond t (f b) (f a)) [
-      | true ↦ refl
-      | false ↦ refl
-    ]
-
--- a scan of those that pass finds the foremost of those that pass
-pub scan_is : {X Y : Type 0} (f : X → Y) (before : Y → Y → Bool) (order : IsStrictWeakOrder before) (test : Y → Bool) (xs : List X) →
-    option_map f (reduce (better_by f before) (filter (λ x. test (f x)) xs)) ≡ foremost before (filter test (map f xs))
-scan_is f before order test xs =
-    sym (reduce-map f (better_by f before) (better before order) (same_better f before order) (filter (λ x. test (f x)) xs))
-    ∙ ap (reduce (better before order)) (sym (filter-map f test xs))
-    ∙ sym (foremost_reduce before order (filter test (map f xs)))
 
 pub map-replicate : {X Y : Type 0} (f : X → Y) (n : ℕ) (x : X) → map f (replicate n x) ≡ replicate n (f x)
 map-replicate f zero x = refl

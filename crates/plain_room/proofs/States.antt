@@ -1,58 +1,41 @@
 -- What searches, changes and counts of the lists say of the states that these stand for.
-use Rattle.std.proofs.Common.{◌≡◌, ℕ, ◌<◌, cond, true, false, List, [], ◌∷◌, map, refl, sym, ap, ◌∙◌, length, set, get_or, eqb}
-use Rattle.std.specs.Prelude.{All, Option, Some, None, is_none, is_some}
-use Rattle.std.specs.Option.{option_map, option_map_or}
+use Rattle.std.proofs.Common.{◌≡◌, ℕ, ◌+◌, ◌<◌, ◌≤◌, cond, false, List, [], ◌∷◌, map, refl, subst, sym, ap, ◌∙◌, length, set, take, length-take, get_or, ltb, eqb, arith}
+use Rattle.std.specs.Prelude.{All, Option, Some, None, Result, Ok, IfSome, find, fold, sum_by}
+use Rattle.std.specs.List.{AllByRecursion}
+use Rattle.std.specs.Result.{IsOk}
+use Rattle.std.specs.Option.{option_map_or}
 use Rattle.cs_types.specs.declared.reply.Pick.{Pick}
-use Rattle.cs_types.specs.Selection.{pid_of, cookie_of, Scheduled}
+use Rattle.cs_types.specs.Selection.{cookie_of, Scheduled}
 use Rattle.std.specs.Global.{Vec}
 use Rattle.std.specs.Vec.{with_items}
-use Rattle.std.proofs.lemmas.List.{get_or-map, length-map, with_items_is}
-use Rattle.std.proofs.lemmas.List.Elements.{All-map, All-weaker}
+use Rattle.std.proofs.lemmas.List.{get_or-take, get_or_default, get_or-map, length-map, with_items_is}
+use Rattle.std.proofs.lemmas.List.Elements.{All-map, All-weaker, All-head, All-tail, All-from_recursion}
+use Rattle.std.proofs.lemmas.List.Sums.{sum_by-cons}
 use Rattle.std.proofs.Math.Seq.{map-set_same}
-use Rattle.std.proofs.lemmas.Bool.{cond-true, cond-false, cond_both, eq-eqb, ne_eqb}
+use Rattle.std.proofs.lemmas.Bool.{cond_both, cond-false, ne_eqb}
 use Rattle.cs_types.specs.declared.task.TaskSpec.{TaskSpec}
 use Rattle.cs_types.specs.declared.scenario.Scenario.{Scenario}
-use Rattle.cs_types.specs.Scenario.{IsTask, IsPolicy}
-use Rattle.cs_types.specs.Room.{TaskState, RoomState, asleep, idle, has_pid}
-use Rattle.plain_room.specs.State.{task_state, task_states, asleep_task, sibling_state, IsFit, IsSound, room_of, Schedules}
+use Rattle.cs_types.specs.Scenario.{IsTask, IsPolicy, AreDistinct}
+use Rattle.cs_types.specs.Room.{RoomState, asleep, placed, asleep_tasks, idle, has_pid}
+use Rattle.task_table.specs.Table.{Table, Rises, add_answer}
+use Rattle.task_table.specs.declared.fault.AddFault.{AddFault}
+use Rattle.cs_types.proofs.Tasks.{length-asleep_tasks}
+use Rattle.task_table.proofs.Tables.{changed_each}
+use Rattle.cookie_refs.specs.Refs.{Refs, references, AgreeBut}
+use Rattle.plain_room.specs.State.{sibling_state, IsFit, IsSound, room_of, Schedules}
 use Rattle.plain_room.specs.declared.state.State.{State}
 use Rattle.plain_room.specs.declared.choice.Choice.{Choice}
 use Rattle.plain_room.specs.Choice.{remembered_task}
-use Rattle.plain_room.specs.declared.task.Task.{Task}
+use Rattle.cs_types.specs.declared.task.Task.{Task}
 use Rattle.plain_room.specs.declared.sibling.Sibling.{Sibling}
+use Rattle.plain_room.proofs.Lists.{All-find}
 
-pub task_states-asleep : (specs : List TaskSpec) → task_states (map asleep_task specs) ≡ map asleep specs
-task_states-asleep [] = refl
-task_states-asleep (spec ∷ specs) = ap (λ (tasks : List TaskState). asleep spec ∷ tasks) (task_states-asleep specs)
+-- a task's cookie, as the code takes it, is the model's
+pub cookie_of-task : (task : Option Task) → option_map_or (λ (t : Task). t.cookie) task 0 ≡ cookie_of task
+cookie_of-task None = refl
+cookie_of-task (Some task) = refl
 
--- a task's pid, as the code takes it, is that of the task that it stands for
-pub pid_of-state : (task : Option Task) → option_map (λ (t : Task). t.spec.pid) task ≡ pid_of (option_map task_state task)
-pid_of-state None = refl
-pid_of-state (Some task) = refl
-
-pub is_none-state : (task : Option Task) → is_none task ≡ is_none (option_map task_state task)
-is_none-state None = refl
-is_none-state (Some task) = refl
-
-pub is_some-state : (task : Option Task) → is_some task ≡ is_some (option_map task_state task)
-is_some-state None = refl
-is_some-state (Some task) = refl
-
-pub cookie_of-state : (task : Option Task) → option_map_or (λ (t : Task). t.cookie) task 0 ≡ cookie_of (option_map task_state task)
-cookie_of-state None = refl
-cookie_of-state (Some task) = refl
-
--- ---- a put
-
--- the task where the other has its pid, else the other
-abbrev pub put_in : Task → Task → Task
-put_in task other = cond (eqb other.spec.pid task.spec.pid) task other
-
-pub put_in_same : (task other : Task) → other.spec.pid ≡ task.spec.pid → put_in task other ≡ task
-put_in_same task other same = cond-true (eqb other.spec.pid task.spec.pid) task other (eq-eqb _ _ same)
-
-pub put_in_other : (task other : Task) → (other.spec.pid ≡ task.spec.pid → ⊥) → put_in task other ≡ other
-put_in_other task other ne = cond-false (eqb other.spec.pid task.spec.pid) task other (ne_eqb _ _ ne)
+-- ---- vectors
 
 -- the vector's items after a change of each of its items, and after one that keeps their number
 pub items-with : {X : Type 0} (v : Vec X) (after : List X) (f : X → X) → after ≡ map f v.items → (with_items v after).items ≡ map f v.items
@@ -61,36 +44,49 @@ items-with v after f e = with_items_is v after (ap length e ∙ length-map v.ite
 pub items-as_many : {X : Type 0} (v : Vec X) (after : List X) → length after ≡ length v.items → (with_items v after).items ≡ after
 items-as_many v after e = with_items_is v after (e ∙ sym v.ok.0)
 
--- the vector's items after a put of its items
-pub items-put : (tasks : Vec Task) (task : Task) (after : List Task) → after ≡ map (put_in task) tasks.items →
-    (with_items tasks after).items ≡ map (put_in task) tasks.items
-items-put tasks task after e =
-    with_items_is tasks after (ap length e ∙ length-map tasks.items (put_in task) ∙ sym tasks.ok.0) ∙ e
+-- ---- tasks
 
--- a put of a task that fits keeps all so
-pub fit-put : (count : ℕ) (task : Task) (tasks : List Task) → IsFit count task → All (IsFit count) tasks →
-    All (IsFit count) (map (put_in task) tasks)
-fit-put count task tasks fit all =
-    All-map (IsFit count) (put_in task) tasks
-    (All-weaker (IsFit count) (λ (t : Task). IsFit count (put_in task t))
-    (λ t h. cond_both (eqb t.spec.pid task.spec.pid) task t (IsFit count) (λ _. fit) (λ _. h)) tasks all)
+-- a change of a task to one that fits keeps all so
+pub fit-changed : (count : ℕ) (task : Task) (tasks : List Task) → IsFit count task → All (IsFit count) tasks →
+    All (IsFit count) (map (λ other. cond (has_pid task.spec.pid other) task other) tasks)
+fit-changed count task tasks fit all =
+    All-map (IsFit count) (λ other. cond (has_pid task.spec.pid other) task other) tasks
+    (All-weaker (IsFit count) (λ (t : Task). IsFit count (cond (has_pid task.spec.pid t) task t))
+    (λ t h. cond_both (has_pid task.spec.pid t) task t (IsFit count) (λ _. fit) (λ _. h)) tasks all)
+
+-- what is said of the task that was found
+pub found_fits : (count : ℕ) (pid : ℕ) (tasks : List Task) (task : Task) → All (IsFit count) tasks → find (has_pid pid) tasks ≡ Some task → IsFit count task
+found_fits count pid tasks task all found =
+    let fit = All-find (IsFit count) (has_pid pid) tasks all in
+    subst (λ (one : Option Task). IfSome one (IsFit count)) found fit
+
+sum_alike : {X : Type 0} (f : X → ℕ) (g : X → X) → ((x : X) → f (g x) ≡ f x) → (xs : List X) → sum_by f (map g xs) ≡ sum_by f xs
+sum_alike f g same [] = refl
+sum_alike f g same (x ∷ xs) =
+    sum_by-cons f (g x) (map g xs) ∙ (λ i. same x i + sum_alike f g same xs i) ∙ sym (sum_by-cons f x xs)
+
+-- a change of tasks that keeps each one's cookie keeps the counts of the cookies
+pub agree-map : (refs : Refs) (held : ℕ) (change : Task → Task) → ((task : Task) → (change task).cookie ≡ task.cookie) → (tasks : List Task) →
+    AgreeBut refs tasks held → AgreeBut refs (map change tasks) held
+agree-map refs held change same tasks agree cookie =
+    agree cookie ∙ ap (λ n. n + references held cookie)
+    (sym (sum_alike (λ (task : Task). references task.cookie cookie) change (λ task. ap (λ own. references own cookie) (same task)) tasks))
+
+-- and so does one of the task that was found
+pub agree-changed : (refs : Refs) (held : ℕ) (change : Task → Task) → ((task : Task) → (change task).cookie ≡ task.cookie) → (tasks : List Task) (task : Task) →
+    Rises tasks → find (has_pid task.spec.pid) tasks ≡ Some task → AgreeBut refs tasks held →
+    AgreeBut refs (map (λ other. cond (has_pid task.spec.pid other) (change task) other) tasks) held
+agree-changed refs held change same tasks task rises found agree =
+    subst (λ (ts : List Task). AgreeBut refs ts held) (sym (changed_each change tasks task rises found))
+    (agree-map refs held (λ other. cond (has_pid task.spec.pid other) (change other) other)
+    (λ other. cond_both (has_pid task.spec.pid other) (change other) other (λ (t : Task). t.cookie ≡ other.cookie) (λ _. same other) (λ _. refl)) tasks agree)
 
 -- tasks that remember an occupation fit as they did
 pub fit-remembered : (count : ℕ) (choices : List Choice) (occupation : ℕ) (tasks : List Task) → All (IsFit count) tasks →
     All (IsFit count) (map (remembered_task choices occupation) tasks)
 fit-remembered count choices occupation tasks all =
     All-map (IsFit count) (remembered_task choices occupation) tasks
-    (All-weaker (IsFit count) (λ (t : Task). IsFit count (remembered_task choices occupation t)) (λ t fit. record { home = fit.home; policy = fit.policy }) tasks all)
-
--- the states after a put
-pub task_states-put : (task : Task) (tasks : List Task) →
-    task_states (map (put_in task) tasks) ≡ map (λ other. cond (has_pid task.spec.pid other) (task_state task) other) (task_states tasks)
-task_states-put task [] = refl
-task_states-put task (other ∷ tasks) =
-    elim (eqb other.spec.pid task.spec.pid) as (λ b. task_state (cond b task other) ∷ task_states (map (put_in task) tasks) ≡ cond b (task_state task) (task_state other) ∷ map (λ x. cond (has_pid task.spec.pid x) (task_state task) x) (task_states tasks)) [
-      | true ↦ ap (λ (states : List TaskState). task_state task ∷ states) (task_states-put task tasks)
-      | false ↦ ap (λ (states : List TaskState). task_state other ∷ states) (task_states-put task tasks)
-    ]
+    (All-weaker (IsFit count) (λ (t : Task). IsFit count (remembered_task choices occupation t)) (λ t fit. record { pid = fit.pid; home = fit.home; policy = fit.policy }) tasks all)
 
 -- ---- siblings
 
@@ -110,10 +106,56 @@ numbers_kept siblings cpu x y is same = map-set_same number_of siblings cpu y x 
 
 -- ---- the start
 
--- the tasks of a scenario fit the siblings that there are
-pub fit-asleep : (count : ℕ) (specs : List TaskSpec) → All (IsTask count) specs → All (IsFit count) (map asleep_task specs)
+-- what holds of each of some tasks, and of those that are added
+placed_all : (P : Task → Type 0) (task : Task) (tasks : List Task) → P task → AllByRecursion P tasks → AllByRecursion P (placed task tasks)
+placed_all P task [] here all = (here, tt)
+placed_all P task (first ∷ rest) here all =
+    cond_both (ltb task.spec.pid first.spec.pid) (task ∷ first ∷ rest) (first ∷ placed task rest) (AllByRecursion P)
+    (λ _. (here, all)) (λ _. (all.0, placed_all P task rest here all.1))
+
+added_all : (P : Task → Type 0) (tasks : List Task) (specs : List TaskSpec) → AllByRecursion P tasks → All (λ spec. P (asleep spec)) specs →
+    AllByRecursion P (fold (λ ts spec. placed (asleep spec) ts) tasks specs)
+added_all P tasks [] all each = all
+added_all P tasks (spec ∷ specs) all each =
+    added_all P (placed (asleep spec) tasks) specs (placed_all P (asleep spec) tasks (All-head (λ spec. P (asleep spec)) spec specs each) all)
+    (All-tail (λ spec. P (asleep spec)) spec specs each)
+
+-- the tasks of a scenario fit the siblings that there are, and have no cookie
+pub fit-asleep : (count : ℕ) (specs : List TaskSpec) → All (IsTask count) specs → All (IsFit count) (asleep_tasks specs)
 fit-asleep count specs tasks =
-    All-map (IsFit count) asleep_task specs (All-weaker (IsTask count) (λ (spec : TaskSpec). IsFit count (asleep_task spec)) (λ spec task. record { home = task.cpu; policy = task.policy }) specs tasks)
+    All-from_recursion (IsFit count) (asleep_tasks specs)
+    (added_all (IsFit count) [] specs tt
+    (All-weaker (IsTask count) (λ (spec : TaskSpec). IsFit count (asleep spec)) (λ spec task. record { pid = task.pid.0; home = task.cpu; policy = task.policy }) specs tasks))
+
+pub cookieless-asleep : (specs : List TaskSpec) → All (λ (task : Task). task.cookie ≡ 0) (asleep_tasks specs)
+cookieless-asleep specs =
+    All-from_recursion (λ (task : Task). task.cookie ≡ 0) (asleep_tasks specs)
+    (added_all (λ (task : Task). task.cookie ≡ 0) [] specs tt (λ k d lt. refl))
+
+find_none : (pid : ℕ) (tasks : List Task) → AllByRecursion (λ task. has_pid pid task ≡ false) tasks → find (has_pid pid) tasks ≡ None
+find_none pid [] none = refl
+find_none pid (task ∷ tasks) none = cond-false (has_pid pid task) (Some task) (find (has_pid pid) tasks) none.0 ∙ find_none pid tasks none.1
+
+-- each task of a scenario can be added to those before it
+asleep_added : (specs : List TaskSpec) (limit i : ℕ) (d : TaskSpec) → AreDistinct specs → i < length specs → length specs ≤ limit →
+    add_answer (record { tasks = asleep_tasks (take i specs); limit = limit }) (get_or specs i d) ≡ Ok tt
+asleep_added specs limit i d distinct below few =
+    let pid = (get_or specs i d).pid in
+    let earlier : find (has_pid pid) (asleep_tasks (take i specs)) ≡ None =
+    find_none pid (asleep_tasks (take i specs)) (added_all (λ task. has_pid pid task ≡ false) [] (take i specs) tt (λ k e lt.
+    let before : k < i = omega (arith, length-take i specs, lt) in
+    ap (λ (spec : TaskSpec). eqb spec.pid pid) (get_or-take i specs k e before)
+    ∙ ne_eqb _ _ (λ same. distinct k i d before below (ap (λ (spec : TaskSpec). spec.pid) (get_or_default specs k d e (omega (arith, before, below))) ∙ same)))) in
+    let room_left : eqb (length (asleep_tasks (take i specs))) limit ≡ false =
+    ne_eqb _ _ (λ full. omega (arith, full, length-asleep_tasks (take i specs), length-take i specs, below, few)) in
+    rw (earlier, room_left) refl
+
+pub added_ok : (table : Table) (specs : List TaskSpec) (limit i : ℕ) (d : TaskSpec) (answer : Result (Unit {0}) AddFault) →
+    table.tasks ≡ asleep_tasks (take i specs) → table.limit ≡ limit → answer ≡ add_answer table (get_or specs i d) →
+    AreDistinct specs → i < length specs → length specs ≤ limit → IsOk answer
+added_ok table specs limit i d answer tasks same is distinct below few =
+    let now : table ≡ record { tasks = asleep_tasks (take i specs); limit = limit } = λ j. record { tasks = tasks j; limit = same j } in
+    subst IsOk (sym (is ∙ ap (λ (t : Table). add_answer t (get_or specs i d)) now ∙ asleep_added specs limit i d distinct below few)) refl
 
 -- ---- what holds of every room of a state
 
@@ -122,10 +164,9 @@ pub some_scenario : Scenario
 some_scenario = record { siblings = 0; task_limit = 0; cookie_limit = 0; user_top = 0; tasks = []; steps = [] }
 
 -- the policies of a sound state keep their limits
-pub policies : (count : ℕ) (state : State) → IsSound count state → All (λ task. IsPolicy task.spec.policy) (task_states state.tasks.items)
+pub policies : (count : ℕ) (state : State) → IsSound count state → All (λ task. IsPolicy task.spec.policy) state.tasks.tasks
 policies count state sound =
-    All-map (λ (task : TaskState). IsPolicy task.spec.policy) task_state state.tasks.items
-    (All-weaker (IsFit count) (λ (task : Task). IsPolicy task.spec.policy) (λ task fit. fit.policy) state.tasks.items sound.tasks)
+    All-weaker (IsFit count) (λ (task : Task). IsPolicy task.spec.policy) (λ task fit. fit.policy) state.tasks.tasks sound.tasks
 
 -- a schedule by one change is one by another that does the same in the old room
 pub Schedules-same : (old new : State) (cpu : ℕ) (chosen : Pick) (change other : RoomState → Scheduled) →

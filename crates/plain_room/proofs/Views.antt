@@ -1,5 +1,5 @@
 -- Views: what the machine shows of its state is what the fold of its entries shows.
-use Rattle.std.proofs.Common.{◌≡◌, ℕ, ◌<◌, true, false, length, get_or, ltb, refl, sym, ap, ◌∙◌, arith, Option, Some, None, Bor, is_some}
+use Rattle.std.proofs.Common.{◌≡◌, ℕ, ◌<◌, true, false, length, get_or, ltb, sym, ap, ◌∙◌, arith, Option, Some, None, Bor, is_some}
 use Rattle.std.specs.Prelude.{IfSome, unwrap_or}
 use Rattle.std.specs.Option.{option_map}
 use Rattle.std.proofs.lemmas.List.{length-map, get_or-map}
@@ -11,25 +11,21 @@ use Rattle.cs_types.specs.Room.{RoomState, SiblingState, sibling_of}
 use Rattle.cs_types.specs.Touches.{own_number}
 use Rattle.cs_types.specs.View.{cpu_view, task_after, task_view}
 use Rattle.cs_types.specs.History.{History, moment_of, fold_of, ledger_of}
-use Rattle.plain_room.specs.State.{task_state, sibling_state, sibling_view, room_of, Numbers, IsSound}
+use Rattle.plain_room.specs.State.{sibling_state, sibling_view, room_of, Numbers, IsSound}
 use Rattle.plain_room.specs.declared.sibling.Sibling.{Sibling}
 use Rattle.plain_room.specs.declared.state.State.{State}
-use Rattle.plain_room.specs.declared.task.Task.{Task}
+use Rattle.cs_types.specs.declared.task.Task.{Task}
 use Rattle.plain_room.proofs.States.{sibling_at}
 use Rattle.plain_room.proofs.Machines.{Folds}
 
 -- ---- a task
 
-view_of_state : (task : Option Task) → option_map (λ (t : Task). task_view (task_state t)) task ≡ option_map task_view (option_map task_state task)
-view_of_state None = refl
-view_of_state (Some task) = refl
-
 -- a task that is found in the state is shown as the fold shows it
 pub task_shown : (scenario : Scenario) (state : State) (entries : History) (pid : ℕ) (task : Option Task) → Folds scenario state entries →
-    option_map task_state task ≡ task_after (room_of scenario state) pid →
-    option_map (λ (t : Task). task_view (task_state t)) task ≡ option_map task_view (task_after (fold_of scenario entries) pid)
+    task ≡ task_after (room_of scenario state) pid →
+    option_map (λ (t : Task). task_view t) task ≡ option_map task_view (task_after (fold_of scenario entries) pid)
 task_shown scenario state entries pid task folds found =
-    view_of_state task ∙ ap (option_map task_view) (found ∙ ap (λ (room : RoomState). task_after room pid) folds.fold)
+    ap (option_map task_view) (found ∙ ap (λ (room : RoomState). task_after room pid) folds.fold)
 
 -- ---- a sibling
 

@@ -1,40 +1,23 @@
 -- What the lists of the state stand for.
-use Rattle.std.specs.Prelude.{◌≡◌, ℕ, ◌+◌, ◌<◌, ◌&&◌, ◌||◌, ◌==◌, nat_lt, Bool, false, if◌then◌else◌, List, length, map, All, slice_set, is_some, unwrap_or}
+use Rattle.std.specs.Prelude.{◌≡◌, ℕ, ◌+◌, ◌<◌, ◌&&◌, ◌||◌, ◌==◌, nat_lt, Bool, if◌then◌else◌, List, length, map, find, Some, All, slice_set, is_some, unwrap_or}
 use Rattle.std.specs.Option.{option_map_or}
 use Rattle.cs_types.specs.declared.event.Event.{Event}
 use Rattle.cs_types.specs.declared.reply.Pick.{Pick}
 use Rattle.cs_types.specs.declared.reply.Reply.{Reply}
-use Rattle.cs_types.specs.declared.task.TaskSpec.{TaskSpec}
+use Rattle.cs_types.specs.declared.task.Task.{Task}
 use Rattle.cs_types.specs.declared.scenario.Scenario.{Scenario}
 use Rattle.cs_types.specs.declared.view.CpuView.{CpuView}
 use Rattle.cs_types.specs.Scenario.{IsPolicy}
-use Rattle.cs_types.specs.Room.{TaskState, SiblingState, RoomState}
+use Rattle.cs_types.specs.Room.{SiblingState, RoomState, has_pid}
+use Rattle.task_table.specs.Table.{IsSound as IsTable}
+use Rattle.cookie_refs.specs.Refs.{AgreeBut}
 use Rattle.cs_types.specs.Selection.{Scheduled}
 use Rattle.cs_types.specs.Touches.{is_selected, is_adopted, pick_touches, pick_of, selection_of, scheduler_of, touches_by}
 use Rattle.cs_types.specs.Step.{step}
-use Rattle.plain_room.specs.declared.task.Task.{Task}
 use Rattle.plain_room.specs.declared.sibling.Sibling.{Sibling}
 use Rattle.plain_room.specs.declared.state.State.{State}
 
 -- ---- the room
-
-abbrev pub task_state : Task → TaskState
-task_state task =
-    record {
-      spec = task.spec;
-      cookie = task.cookie;
-      home = task.home;
-      queued = task.queued;
-      stamp = task.stamp;
-      occupation = task.occupation;
-    }
-
-abbrev pub task_states : List Task → List TaskState
-task_states tasks = map task_state tasks
-
--- a task of the scenario before its first wake
-abbrev pub asleep_task : TaskSpec → Task
-asleep_task spec = record { spec = spec; cookie = 0; home = spec.cpu; queued = false; stamp = 0; occupation = 0 }
 
 abbrev pub sibling_state : Sibling → SiblingState
 sibling_state sibling =
@@ -51,31 +34,43 @@ abbrev pub sibling_view : Sibling → CpuView
 sibling_view sibling =
     record { online = sibling.online; run = unwrap_or sibling.run 0; number = sibling.number; pending = sibling.pending }
 
--- the room that the lists stand for, under a scenario's limits
+-- the room that the state stands for, of a scenario
 abbrev pub room_of : Scenario → State → RoomState
 room_of scenario state =
     record {
-      task_limit = scenario.task_limit;
-      cookie_limit = scenario.cookie_limit;
+      task_limit = state.tasks.limit;
+      cookie_limit = state.refs.limit;
       user_top = scenario.user_top;
-      tasks = task_states state.tasks.items;
+      tasks = state.tasks.tasks;
       siblings = map sibling_state state.siblings.items;
       next_stamp = state.next_stamp;
-      next_cookie = state.next_cookie;
+      next_cookie = state.refs.next;
       core_cookie = state.core_cookie;
       forced = state.forced;
       occupation = state.occupation;
     }
 
--- the task is at home on one of so many siblings, and its policy keeps its limits
+-- the task has a pid, is at home on one of so many siblings, and its policy keeps its limits
 pub record IsFit (count : ℕ) (task : Task) : Type 0 where
+  pub pid : 0 < task.spec.pid
   pub home : task.home < count
   pub policy : IsPolicy task.spec.policy
 
--- there are so many siblings, and each task fits them
-pub record IsSound (count : ℕ) (state : State) : Type 0 where
+-- the task is one of the state's
+abbrev pub Has : State → Task → Type 0
+Has state task = find (has_pid task.spec.pid) state.tasks.tasks ≡ Some task
+
+-- there are so many siblings, each task fits them, and the references are those of the tasks, and one more for a
+-- cookie that is held beside them
+pub record IsSoundBut (count : ℕ) (state : State) (held : ℕ) : Type 0 where
   pub siblings : length state.siblings.items ≡ count
-  pub tasks : All (IsFit count) state.tasks.items
+  pub table : IsTable state.tasks
+  pub tasks : All (IsFit count) state.tasks.tasks
+  pub refs : AgreeBut state.refs state.tasks.tasks held
+
+-- the same with no cookie held beside them
+abbrev pub IsSound : ℕ → State → Type 0
+IsSound count state = IsSoundBut count state 0
 
 -- the state stays sound
 abbrev pub StaysSound : State → State → Type 0

@@ -1,16 +1,17 @@
 //! What each sibling gets in a selection for the core. It is a file of its own since the selection
 //! counts the choices, and then hands them to siblings and tasks.
 
-ghost use Rattle.std.specs.Prelude.{◌≡◌, ◌≤◌, ◌&&◌, count_by, is_some, length, map};
+ghost use Rattle.std.specs.Prelude.{◌≡◌, ◌≤◌, ◌&&◌, count_by, is_some, length, map, find, Some, IfSome};
 ghost use Rattle.std.specs.List.{list_any, enumerate_from};
-ghost use Rattle.cs_types.specs.Selection.{is_run};
+ghost use Rattle.cs_types.specs.Room.{has_pid};
+ghost use Rattle.task_table.specs.Table.{IsSound as IsTable};
 ghost use Rattle.plain_room.specs.State.{sibling_state};
-ghost use Rattle.plain_room.specs.Choice.{remembered_task, handed_choice};
+ghost use Rattle.plain_room.specs.Choice.{chosen_among, remembering, remembered_task, handed_choice};
 
 use crate::sibling::Sibling;
-use crate::task::Task;
 use arrayvec::ArrayVec;
-use cs_types::{Cpu, Pid};
+use cs_types::{Cpu, Pid, Task};
+use task_table::TaskTable;
 
 /// The most siblings of a core.
 pub const MOST_SIBLINGS: usize = 16;
@@ -45,21 +46,36 @@ pub fn occupation(choices: &[Choice]) -> u8
         .count() as u8
 }
 
-/// Whether the task is chosen for a sibling.
-fn is_chosen(choices: &[Choice], pid: Pid) -> bool
-    ensures { result ≡ list_any (λ choice. choice.is_online && is_run choice.run (Some pid)) choices.now }
+/// The task that is chosen for the sibling, if one is.
+fn chosen(tasks: &TaskTable, choice: &Choice) -> Option<Task>
+    ensures chosen { result ≡ chosen_among tasks.now.tasks choice.now }
+    ensures there { IfSome result (λ task. find (has_pid task.spec.pid) tasks.now.tasks ≡ Some task) }
 {
-    choices
-        .iter()
-        .any(|choice| choice.is_online && choice.run == Some(pid))
+    if !choice.is_online {
+        return None;
+    }
+    tasks.find(choice.run?).copied()
+}
+
+/// The task that is chosen for the sibling, if one is, remembers the occupation.
+fn remember_one(tasks: &mut TaskTable, choice: &Choice, occupation: u8)
+    requires { IsTable tasks.old }
+    ensures remembered { tasks.new ≡ record tasks.old { tasks = map (remembering choice.now occupation) tasks.old.tasks } }
+    ensures sound { IsTable tasks.new }
+{
+    if let Some(task) = chosen(tasks, choice) {
+        tasks.change(Task { occupation, ..task });
+    }
 }
 
 /// The chosen tasks remember the occupation.
-pub fn remember(tasks: &mut [Task], choices: &[Choice], occupation: u8)
-    ensures { tasks.new ≡ map (remembered_task choices.now occupation) tasks.old }
+pub fn remember(tasks: &mut TaskTable, choices: &[Choice], occupation: u8)
+    requires { IsTable tasks.old }
+    ensures remembered { tasks.new ≡ record tasks.old { tasks = map (remembered_task choices.now occupation) tasks.old.tasks } }
+    ensures sound { IsTable tasks.new }
 {
-    for task in tasks.iter_mut() {
-        *task = task.remembering(is_chosen(choices, task.spec.pid), occupation);
+    for choice in choices {
+        remember_one(tasks, choice, occupation);
     }
 }
 

@@ -1,165 +1,144 @@
-//! Cookies: which calls of `prctl` are refused, and what the others set.
+//! Cookies: what a plan of `prctl` sets.
 
-ghost use Rattle.std.specs.Prelude.{◌≡◌, ◌+◌, ◌^◌, ◌<◌, ◌≤◌, length, IfSome, ◌==◌, ◌&&◌, not};
-ghost use Rattle.std.specs.List.{list_any};
-ghost use Rattle.std.specs.Option.{option_map};
+ghost use Rattle.std.specs.Prelude.{◌≡◌, ◌+◌, ◌*◌, ◌^◌, ◌<◌, ◌≤◌, ◌∷◌, [], length, map, IfSome, IfNone};
 ghost use Rattle.cs_types.specs.declared.scenario.Scenario.{Scenario};
 ghost use Rattle.cs_types.specs.declared.event.Event.TheVariants.{Prctl};
-ghost use Rattle.cs_types.specs.Access.{is_same_user, may_access};
-ghost use Rattle.cs_types.specs.Room.{online};
-ghost use Rattle.cs_types.specs.Prctl.{target_of, live_cookies, is_create, is_running, with_cookie};
-ghost use Rattle.cs_types.specs.Touches.{setting_touches};
-ghost use Rattle.plain_room.specs.State.{task_state, task_states, room_of, IsFit, IsSound, StaysSound, Becomes, numbers_of, touched, Makes};
-ghost use Rattle.plain_room.specs.Cookies.{setting, Admits};
+ghost use Rattle.cs_types.specs.Scenario.{IsWithin};
+ghost use Rattle.cs_types.specs.Room.{online as siblings_online};
+ghost use Rattle.cs_types.specs.Touches.{cookie_touches};
+ghost use Rattle.task_table.specs.Group.{group_above};
+ghost use Rattle.prctl_core.specs.Plan.{named};
+ghost use Rattle.plain_room.specs.State.{sibling_state, room_of, Has, IsSound, IsSoundBut, StaysSound, numbers_of, Makes};
+ghost use Rattle.plain_room.specs.Cookies.{flagged_for, SetsCookies};
 
-use crate::state::{State, put};
-use crate::task::Task;
-use cs_types::{Ask, Cookie, Creds, Errno, Pid, Reply, Scenario, TaskSpec};
+use crate::sibling::Sibling;
+use crate::state::State;
+use cs_types::{Ask, Cookie, Pid, Reply, Task};
+use prctl_core::{Planned, Target, plan};
+use task_table::Group;
 
-/// The command `PR_SCHED_CORE_CREATE`.
-const CREATE: u32 = 1;
-
-/// Whether the caller's real user is the target's real, effective and saved user, and so for the
-/// groups.
-fn is_same_user(caller: &Creds, target: &Creds) -> bool
-    ensures { result ≡ is_same_user caller.now target.now }
+/// Each sibling that runs the task with the pid becomes pending.
+fn flag_runners(siblings: &mut [Sibling], pid: Pid)
+    ensures states { map sibling_state siblings.new ≡ map (flagged_for pid) (map sibling_state siblings.old) }
+    ensures numbers { map (λ sibling. sibling.number) siblings.new ≡ map (λ sibling. sibling.number) siblings.old }
 {
-    target.ruid == caller.ruid
-        && target.euid == caller.ruid
-        && target.suid == caller.ruid
-        && target.rgid == caller.rgid
-        && target.egid == caller.rgid
-        && target.sgid == caller.rgid
-}
-
-/// Whether the caller may access the target.
-fn may_access(caller: &TaskSpec, target: &TaskSpec) -> bool
-    ensures { result ≡ may_access caller.now target.now }
-{
-    let is_undumpable = target.creds.mm && !target.creds.dumpable;
-    caller.tgid == target.tgid
-        || ((is_same_user(&caller.creds, &target.creds) || caller.creds.cap)
-            && (!is_undumpable || caller.creds.cap)
-            && (!target.creds.cap || caller.creds.cap))
-}
-
-/// Whether one of the tasks has the cookie.
-fn is_had(tasks: &[Task], cookie: Cookie) -> bool
-    ensures { result ≡ list_any (λ task. task.cookie == cookie) tasks.now }
-{
-    tasks.iter().any(|task| task.cookie == cookie)
-}
-
-/// Whether the task has a cookie, and none of the others has it.
-fn is_last(task: &Task, others: &[Task]) -> bool
-    ensures { result ≡ (not (task.now.cookie == 0) && not (list_any (λ other. other.cookie == task.now.cookie) others.now)) }
-{
-    task.cookie != 0 && !is_had(others, task.cookie)
-}
-
-/// How many distinct cookies the tasks have.
-fn live_cookies(tasks: &[Task]) -> usize
-    ensures { result ≡ length (live_cookies (task_states tasks.now)) }
-{
-    let mut live = 0;
-    for (place, task) in tasks.iter().enumerate() {
-        if is_last(task, &tasks[place + 1..]) {
-            live += 1;
-        }
+    for sibling in siblings.iter_mut() {
+        *sibling = sibling.flagged_for(pid);
     }
-    live
+}
+
+/// How often the queues are touched where the task gets the cookie.
+fn touches(task: &Task, cookie: Cookie) -> u64
+    ensures touches { result ≡ cookie_touches cookie task.now }
+    ensures few { result ≤ 2 }
+{
+    if !task.queued {
+        return 0;
+    }
+    u64::from(task.cookie != 0) + u64::from(cookie != 0)
 }
 
 impl State {
     /// How many siblings are online.
-    fn online_count(&self) -> usize
-        ensures { (scenario : Scenario) → result ≡ length (online (room_of scenario self.now)) }
+    fn online_count(&self) -> u8
+        requires { length self.now.siblings.items ≤ 16 }
+        ensures { (scenario : Scenario) → result ≡ length (siblings_online (room_of scenario self.now)) }
     {
         self.siblings
             .iter()
             .filter(|sibling| sibling.online)
-            .count()
+            .count() as u8
     }
 
-    /// The target of a call: the caller for 0, else the living task with the pid.
-    fn target_of(&self, caller: Task, pid: i32) -> Option<Task>
-        ensures target { (scenario : Scenario) → option_map task_state result ≡ target_of (room_of scenario self.now) (task_state caller) pid }
-        ensures fit { (count : _) → IsSound count self.now → IsFit count caller → IfSome result (IsFit count) }
-    {
-        match u32::try_from(pid) {
-            Ok(0) => Some(caller),
-            Ok(pid) => self.task_of(pid),
-            Err(_) => None,
-        }
-    }
-
-    /// The caller and the target of a call that succeeds, or the answer of one that is refused.
-    fn admitted(&self, scenario: &Scenario, pid: Pid, ask: Ask) -> Result<(Task, Task), Reply>
-        ensures { Admits scenario.now self.now pid ask result }
-    {
-        let Some(caller) = self.task_of(pid) else {
-            return Err(Reply::NoCaller);
-        };
-        if self.online_count() < 2 {
-            return Err(Reply::Refused(Errno::Enodev));
-        }
-        let Some(target) = self.target_of(caller, ask.pid) else {
-            return Err(Reply::Refused(Errno::Esrch));
-        };
-        if !may_access(&caller.spec, &target.spec) {
-            return Err(Reply::Refused(Errno::Eperm));
-        }
-        let is_full = live_cookies(&self.tasks) == scenario.cookie_limit as usize;
-        if ask.cmd == CREATE && is_full {
-            return Err(Reply::Refused(Errno::Enomem));
-        }
-        Ok((caller, target))
-    }
-
-    /// The task has the cookie, and where it runs its sibling becomes pending.
+    /// The task has the cookie, with a reference of its own, and where it runs its sibling becomes
+    /// pending.
     fn set_cookie(&mut self, task: Task, cookie: Cookie)
-        requires home { task.home < length self.old.siblings.items }
+        requires sound { IsSoundBut (length self.old.siblings.items) self.old cookie }
+        requires there { Has self.old task }
         requires touches { self.old.task_number + 2 < 2 ^ 64 }
-        ensures room { Becomes self.old self.new (λ room. with_cookie room (setting task cookie)) }
-        ensures numbers { numbers_of self.new ≡ touched (setting_touches (setting task cookie)) (numbers_of self.old) }
-        ensures sound { (count : _) → IsSound count self.old → IsFit count task → IsSound count self.new }
+        ensures sets { SetsCookies self.old self.new (task ∷ []) cookie }
+        ensures sound { IsSoundBut (length self.old.siblings.items) self.new cookie }
     {
-        let is_running = self.siblings[task.home as usize].run == Some(task.spec.pid);
-        put(&mut self.tasks, Task { cookie, ..task });
-        self.touch_where(task.queued && task.cookie != 0);
-        self.touch_where(task.queued && cookie != 0);
-        self.flag(task.home, is_running);
+        self.refs.get(cookie);
+        self.refs.put(task.cookie);
+        self.tasks.change(Task { cookie, ..task });
+        self.task_number += touches(&task, cookie);
+        flag_runners(&mut self.siblings, task.spec.pid);
     }
 
-    /// The next cookie, which is never drawn again.
-    fn draw_cookie(&mut self) -> Cookie
-        requires { self.old.next_cookie + 1 < 2 ^ 64 }
-        ensures cookie { result ≡ self.old.next_cookie }
-        ensures next { self.new ≡ record self.old { next_cookie = self.old.next_cookie + 1 } }
+    /// The member of the group with the least pid above this one.
+    fn member_after(&self, group: Group, after: Pid) -> Option<Task>
+        ensures some { IfSome result (λ task. group_above group after self.now.tasks.tasks ≡ task ∷ group_above group task.spec.pid self.now.tasks.tasks) }
+        ensures there { IfSome result (Has self.now) }
+        ensures none { IfNone result (group_above group after self.now.tasks.tasks ≡ []) }
     {
-        let cookie = self.next_cookie;
-        self.next_cookie += 1;
-        cookie
+        let next = self.tasks.next_in(group, after)?;
+        self.tasks.find(next).copied()
     }
 
-    /// A call of `prctl(PR_SCHED_CORE, ..)` by the task with the pid.
-    pub fn prctl(&mut self, scenario: &Scenario, pid: Pid, ask: Ask) -> Reply
+    /// The members of the group have the cookie, by rising pid.
+    fn set_group(&mut self, group: Group, cookie: Cookie)
+        requires sound { IsSoundBut (length self.old.siblings.items) self.old cookie }
+        requires touches { self.old.task_number + 2 * length self.old.tasks.tasks + 2 < 2 ^ 64 }
+        ensures sets { SetsCookies self.old self.new (group_above group 0 self.old.tasks.tasks) cookie }
+        ensures sound { IsSoundBut (length self.old.siblings.items) self.new cookie }
+    {
+        let mut after = 0;
+        for _ in 0..self.tasks.len() {
+            let Some(task) = self.member_after(group, after) else {
+                return;
+            };
+            self.set_cookie(task, cookie);
+            after = task.spec.pid;
+        }
+    }
+
+    /// The tasks that the target names have the cookie.
+    fn set_cookies(&mut self, to: Target, cookie: Cookie)
+        requires sound { IsSoundBut (length self.old.siblings.items) self.old cookie }
+        requires touches { self.old.task_number + 2 * length self.old.tasks.tasks + 2 < 2 ^ 64 }
+        ensures sets { SetsCookies self.old self.new (named to self.old.tasks.tasks) cookie }
+        ensures sound { IsSoundBut (length self.old.siblings.items) self.new cookie }
+    {
+        match to {
+            Target::Nobody => {}
+            Target::One(pid) => {
+                if let Some(task) = self.task_of(pid) {
+                    self.set_cookie(task, cookie);
+                }
+            }
+            Target::Threads(tgid) => self.set_group(Group::Threads(tgid), cookie),
+            Target::Process(pgid) => self.set_group(Group::Process(pgid), cookie),
+        }
+    }
+
+    /// A call of `prctl(PR_SCHED_CORE, ..)` by the task with the pid, in an address space of this size.
+    pub fn prctl(&mut self, user_top: u64, pid: Pid, ask: Ask) -> Reply
+        requires user_top { IsWithin 8192 9223372036854775807 user_top }
+        requires few { length self.old.siblings.items ≤ 16 }
         requires sound { IsSound (length self.old.siblings.items) self.old }
-        requires touches { self.old.task_number + 2 < 2 ^ 64 }
-        requires cookie { self.old.next_cookie + 1 < 2 ^ 64 }
-        ensures makes { Makes scenario.now self.old self.new (Prctl pid ask) result }
+        requires touches { self.old.task_number + 2 * length self.old.tasks.tasks + 2 < 2 ^ 64 }
+        requires serial { self.old.refs.next < 2 ^ 63 }
+        ensures makes { (scenario : Scenario) → scenario.user_top ≡ user_top →
+            Makes scenario self.old self.new (Prctl pid ask) result }
         ensures sound { StaysSound self.old self.new }
     {
-        match self.admitted(scenario, pid, ask) {
-            Err(reply) => reply,
-            Ok((caller, target)) => {
-                let cookie = if ask.cmd == CREATE {
-                    self.draw_cookie()
-                } else {
-                    caller.cookie
-                };
-                self.set_cookie(target, cookie);
-                Reply::Zero
+        let online = self.online_count();
+        let planned = plan(
+            &self.tasks,
+            &mut self.refs,
+            &mut self.guards,
+            online,
+            user_top,
+            pid,
+            &ask,
+        );
+        match planned {
+            Planned::Answer(reply) => reply,
+            Planned::Go(decision) => {
+                self.set_cookies(decision.to, decision.cookie);
+                self.refs.put(decision.cookie);
+                decision.reply
             }
         }
     }

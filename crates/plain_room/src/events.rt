@@ -1,14 +1,14 @@
 //! What each event does to the state.
 
-ghost use Rattle.std.specs.Prelude.{◌≡◌, ◌+◌, ◌^◌, ◌<◌, ◌≤◌, length};
+ghost use Rattle.std.specs.Prelude.{◌≡◌, ◌+◌, ◌*◌, ◌^◌, ◌<◌, ◌≤◌, length};
 ghost use Rattle.cs_types.specs.declared.scenario.Scenario.{Scenario};
-ghost use Rattle.cs_types.specs.Scenario.{IsEvent};
+ghost use Rattle.cs_types.specs.Scenario.{IsWithin, IsEvent};
 ghost use Rattle.cs_types.specs.Step.{preempts};
-ghost use Rattle.plain_room.specs.State.{task_state, room_of, IsSound, StaysSound, Makes};
+ghost use Rattle.plain_room.specs.State.{room_of, IsSound, StaysSound, Makes};
 
 use crate::state::State;
-use crate::task::Task;
-use cs_types::{Cpu, Event, Pid, Reply, Scenario};
+use crate::task::is_higher;
+use cs_types::{Cpu, Event, Pid, Reply, Scenario, Task};
 
 impl State {
     /// A pending reschedule is taken.
@@ -50,11 +50,11 @@ impl State {
     /// Whether the task, once it is woken, asks its sibling to reschedule: that runs idle or a lower one.
     fn preempts(&self, task: &Task) -> bool
         requires { task.now.home < length self.now.siblings.items }
-        ensures { (scenario : Scenario) → result ≡ preempts (room_of scenario self.now) (task_state task.now) }
+        ensures { (scenario : Scenario) → result ≡ preempts (room_of scenario self.now) task.now }
     {
         match self.running_on(task.home) {
             None => true,
-            Some(running) => task.is_higher(&running),
+            Some(running) => is_higher(task, &running),
         }
     }
 
@@ -84,8 +84,9 @@ impl State {
         requires sound { IsSound (length self.old.siblings.items) self.old }
         requires few { length self.old.siblings.items ≤ 16 }
         requires stamp { self.old.next_stamp + 1 < 2 ^ 64 }
-        requires cookie { self.old.next_cookie + 1 < 2 ^ 64 }
-        requires touches { self.old.task_number + 2 < 2 ^ 64 }
+        requires serial { self.old.refs.next < 2 ^ 63 }
+        requires touches { self.old.task_number + 2 * length self.old.tasks.tasks + 2 < 2 ^ 64 }
+        requires user_top { IsWithin 8192 9223372036854775807 scenario.now.user_top }
         ensures makes { Makes scenario.now self.old self.new event result }
         ensures sound { StaysSound self.old self.new }
     {
@@ -94,7 +95,7 @@ impl State {
             Event::Resched(cpu) => Reply::Picked(self.schedule(cpu)),
             Event::Block(cpu) => self.block(cpu),
             Event::Wake(pid) => self.wake(pid),
-            Event::Prctl { caller, ask } => self.prctl(scenario, caller, ask),
+            Event::Prctl { caller, ask } => self.prctl(scenario.user_top, caller, ask),
         }
     }
 }

@@ -4,12 +4,10 @@ ghost use Rattle.std.specs.Prelude.{◌≡◌, ◌≤◌, length, map, All, IfSo
 ghost use Rattle.std.specs.Option.{option_map, option_and_then};
 ghost use Rattle.cs_types.specs.Order.{foremost, outranks};
 ghost use Rattle.sibling_priority.specs.Offers.{IsFirst, class_of, rank_of};
-ghost use Rattle.plain_room.specs.State.{task_state};
 
 use crate::choice::MOST_SIBLINGS;
-use crate::task::Task;
 use arrayvec::ArrayVec;
-use cs_types::Policy;
+use cs_types::{Policy, Task};
 use sibling_priority::{IDLE, Offer, REAL_TIME, lead};
 
 /// The first tasks of siblings, none for one that runs idle.
@@ -17,9 +15,9 @@ pub type Firsts = ArrayVec<Option<Task>, MOST_SIBLINGS>;
 
 /// What a sibling with this first task offers.
 fn offer(first: Option<Task>) -> Offer
-    requires { IsFirst (option_map task_state first) }
-    ensures class { result.class ≡ class_of (option_map task_state first) }
-    ensures rank { result.rank ≡ rank_of (option_map task_state first) }
+    requires { IsFirst first }
+    ensures class { result.class ≡ class_of first }
+    ensures rank { result.rank ≡ rank_of first }
 {
     match first {
         None => Offer {
@@ -44,9 +42,9 @@ fn offer(first: Option<Task>) -> Offer
 /// The earliest of the first tasks than which no other is higher, none for idle.
 pub fn lead_of(firsts: &[Option<Task>]) -> Option<Task>
     requires few { length firsts.now ≤ 16 }
-    requires priorities { All IsFirst (map (option_map task_state) firsts.now) }
-    ensures { option_map task_state result ≡
-        option_and_then (λ first. first) (foremost outranks (map (option_map task_state) firsts.now)) }
+    requires priorities { All IsFirst (firsts.now) }
+    ensures { result ≡
+        option_and_then (λ first. first) (foremost outranks (firsts.now)) }
 {
     let mut offers: ArrayVec<Offer, MOST_SIBLINGS> = ArrayVec::new();
     for first in firsts {

@@ -4,10 +4,12 @@ ghost use Rattle.std.specs.Prelude.{◌≡◌, [], length, IfOk};
 ghost use Rattle.cs_types.specs.Scenario.{IsPlayable};
 
 use crate::state::State;
+use crate::task::view;
 use cs_types::{
     Actor, CoreView, Cpu, CpuView, Entry, Event, List, OutOfMemory, Pid, Reply, Room, Scenario,
     TaskView,
 };
+use ptrace_check::Guards;
 use std::alloc::Global;
 use std::marker::Model;
 
@@ -35,13 +37,17 @@ impl Model for PlainRoom {
 impl PlainRoom {
     /// The room of a scenario before its first step. It takes memory for as many entries as the
     /// scenario has steps, and no later call takes any. The core has 1 to 16 siblings.
-    pub fn start(alloc: Global, scenario: &Scenario) -> Result<PlainRoom, OutOfMemory>
+    pub fn start(
+        alloc: Global,
+        scenario: &Scenario,
+        guards: Guards,
+    ) -> Result<PlainRoom, OutOfMemory>
         requires { IsPlayable scenario.now }
         ensures scenario { IfOk result (λ room. room.scenario ≡ scenario.now) }
         ensures empty { IfOk result (λ room. room.steps ≡ []) }
         ensures free { IfOk result (λ room. room.free ≡ length scenario.now.steps) }
     {
-        let state = State::start(alloc, scenario)?;
+        let state = State::start(alloc, scenario, guards)?;
         let entries = Vec::with_capacity(alloc, scenario.steps.items().len())?;
         let tasks = List::of(Vec::from_slice(alloc, scenario.tasks.items())?);
         let steps = List::of(Vec::from_slice(alloc, scenario.steps.items())?);
@@ -117,7 +123,7 @@ impl Room for PlainRoom {
     }
 
     fn task_after(&self, pid: Pid) -> Option<TaskView> {
-        self.state.task_after(pid).map(|task| task.view())
+        self.state.task_after(pid).map(|task| view(&task))
     }
 
     ghost legal = { λ room. IsLegal-history_of room.scenario room.steps };

@@ -4,6 +4,7 @@ ghost use Rattle.std.specs.Prelude.{◌≡◌, ◌+◌, ◌^◌, ◌<◌, ◌≤
 ghost use Rattle.cs_types.specs.declared.scenario.Scenario.{Scenario};
 ghost use Rattle.cs_types.specs.Room.{sibling_of};
 ghost use Rattle.cs_types.specs.Selection.{pid_of, choice, forced_count, is_plain, adopted, plain, selected_room, selected, rescheduled, schedule};
+ghost use Rattle.task_table.specs.Table.{IsSound as IsTable};
 ghost use Rattle.plain_room.specs.State.{Schedules, IsSound, StaysSound, Becomes, room_of, numbers_of, is_fresh_by};
 
 use crate::choice::{forced_count, hand, occupation, remember};
@@ -55,6 +56,7 @@ impl State {
     fn select_for(&mut self, cpu: Cpu, core: Cookie) -> Option<Pid>
         requires cpu { cpu < length self.old.siblings.items }
         requires few { length self.old.siblings.items ≤ 16 }
+        requires table { IsTable self.old.tasks }
         ensures room { Becomes self.old self.new (λ room. selected_room room cpu core) }
         ensures run { (scenario : Scenario) → result ≡ pid_of (choice (room_of scenario self.old) core cpu) }
         ensures forced { (scenario : Scenario) → self.new.forced ≡ forced_count (room_of scenario self.old) core }

@@ -9,25 +9,25 @@ ghost use Rattle.cs_types.specs.declared.scenario.Scenario.{Scenario};
 ghost use Rattle.cs_types.specs.Room.{is_online};
 ghost use Rattle.cs_types.specs.Order.{first_of};
 ghost use Rattle.cs_types.specs.Selection.{first_on, queued_with, choice, lead_from};
-ghost use Rattle.plain_room.specs.State.{task_state, task_states, room_of, IsSound};
+ghost use Rattle.plain_room.specs.State.{room_of, IsSound};
 ghost use Rattle.plain_room.specs.Choice.{choice_at};
 
 use crate::choice::{Choice, Choices};
 use crate::lead::{Firsts, lead_of};
 use crate::state::State;
-use crate::task::Task;
-use cs_types::{Cookie, Cpu};
+use crate::task::goes_before;
+use cs_types::{Cookie, Cpu, Task};
 
 impl State {
     /// The first task queued on a sibling, none for idle.
     pub fn first_on(&self, cpu: Cpu) -> Option<Task>
-        ensures { (scenario : Scenario) → option_map task_state result ≡ first_on (room_of scenario self.now) cpu }
+        ensures { (scenario : Scenario) → result ≡ first_on (room_of scenario self.now) cpu }
     {
         self.tasks
             .iter()
             .copied()
             .filter(|task| task.queued && task.home == cpu)
-            .reduce(|first, task| if task.goes_before(&first) {
+            .reduce(|first, task| if goes_before(&task, &first) {
                 task
             } else {
                 first
@@ -36,7 +36,7 @@ impl State {
 
     /// The first task queued on a sibling that has the cookie. None has cookie 0 here.
     fn first_with(&self, cookie: Cookie, cpu: Cpu) -> Option<Task>
-        ensures { (scenario : Scenario) → option_map task_state result ≡
+        ensures { (scenario : Scenario) → result ≡
             (if cookie == 0 then None else first_of (queued_with (room_of scenario self.now) cookie cpu)) }
     {
         if cookie == 0 {
@@ -46,7 +46,7 @@ impl State {
             .iter()
             .copied()
             .filter(|task| task.queued && task.home == cpu && task.cookie == cookie)
-            .reduce(|first, task| if task.goes_before(&first) {
+            .reduce(|first, task| if goes_before(&task, &first) {
                 task
             } else {
                 first
@@ -56,8 +56,8 @@ impl State {
     /// The task that a sibling with this first task gets for a core cookie, none for idle.
     #[tactic(auto, unfolding(cs_types::specs::Selection::choice))]
     fn chosen(&self, first: Option<Task>, core: Cookie, cpu: Cpu) -> Option<Task>
-        ensures { (scenario : Scenario) → option_map task_state first ≡ first_on (room_of scenario self.now) cpu →
-            option_map task_state result ≡ choice (room_of scenario self.now) core cpu }
+        ensures { (scenario : Scenario) → first ≡ first_on (room_of scenario self.now) cpu →
+            result ≡ choice (room_of scenario self.now) core cpu }
     {
         match first {
             Some(task) if task.cookie != core => self.first_with(core, cpu),
@@ -100,7 +100,7 @@ impl State {
         requires within { to ≤ length self.now.siblings.items }
         requires few { length self.now.siblings.items ≤ 16 }
         requires room { array_vec_len firsts.old + (to - from) ≤ 16 }
-        ensures pushed { (scenario : Scenario) → map (option_map task_state) firsts.new.items ≡ map (option_map task_state) firsts.old.items
+        ensures pushed { (scenario : Scenario) → firsts.new.items ≡ firsts.old.items
             ++ map (first_on (room_of scenario self.now)) (filter (is_online (room_of scenario self.now)) (range_with_len from (to - from))) }
         ensures length { array_vec_len firsts.new ≤ array_vec_len firsts.old + (to - from) }
     {
@@ -116,7 +116,7 @@ impl State {
         requires cpu { cpu < length self.now.siblings.items }
         requires few { length self.now.siblings.items ≤ 16 }
         requires sound { IsSound (length self.now.siblings.items) self.now }
-        ensures { (scenario : Scenario) → option_map task_state result ≡ lead_from (room_of scenario self.now) cpu }
+        ensures { (scenario : Scenario) → result ≡ lead_from (room_of scenario self.now) cpu }
     {
         let mut firsts = Firsts::new();
         self.push_firsts(&mut firsts, cpu as usize, self.siblings.len());

@@ -3,6 +3,7 @@
 ghost use Rattle.std.specs.Prelude.{◌≡◌};
 ghost use Rattle.cs_types.specs.Selection.{running, told, handed};
 ghost use Rattle.plain_room.specs.State.{sibling_state, sibling_view};
+ghost use Rattle.plain_room.specs.Cookies.{flagged_for};
 
 use cs_types::{Cpu, CpuView, Pid};
 
@@ -84,6 +85,17 @@ impl Sibling {
                 told.occupation
             },
             ..told
+        }
+    }
+
+    /// It becomes pending where it runs the task with the pid.
+    pub fn flagged_for(self, pid: Pid) -> Sibling
+        ensures state { sibling_state result ≡ flagged_for pid (sibling_state self) }
+        ensures number { result.number ≡ self.number }
+    {
+        Sibling {
+            pending: self.pending || self.run == Some(pid),
+            ..self
         }
     }
 

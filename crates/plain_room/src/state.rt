@@ -1,29 +1,30 @@
-//! The state of the core as plain lists: how it starts, what is looked up in it, and the small changes
-//! that the events are made of. It is a file of its own so that each change has its whole contract,
-//! whatever the machine keeps beside.
+//! The state of the core: how it starts, what is looked up in it, and the small changes that the events
+//! are made of. It is a file of its own so that each change has its whole contract, whatever the machine
+//! keeps beside.
 
 ghost use Rattle.std.specs.Prelude.{◌≡◌, ◌+◌, ◌^◌, ◌<◌, ◌≤◌, length, find, Option, IfOk, IfSome, ◌==◌, if◌then◌else◌, map, replicate};
-ghost use Rattle.std.specs.Option.{option_map};
 ghost use Rattle.cs_types.specs.declared.scenario.Scenario.{Scenario};
-ghost use Rattle.cs_types.specs.Scenario.{IsPlayable};
-ghost use Rattle.cs_types.specs.Room.{start, has_pid, running_on, flagged};
+ghost use Rattle.cs_types.specs.Scenario.{IsPlayable, AreDistinct};
+ghost use Rattle.cs_types.specs.Room.{start, asleep_tasks, has_pid, running_on, flagged};
 ghost use Rattle.cs_types.specs.Step.{dequeued, idled, enqueued};
 ghost use Rattle.cs_types.specs.View.{task_after};
-ghost use Rattle.plain_room.specs.State.{task_state, task_states};
+ghost use Rattle.task_table.specs.Table.{IsSound as IsTable};
 
 use crate::sibling::Sibling;
-use crate::task::{Task, asleep_tasks};
-use cs_types::{Cookie, Cpu, Pid, Scenario};
-use std::alloc::{AllocError, Global};
+use cookie_refs::CookieRefs;
+use cs_types::{Cookie, Cpu, OutOfMemory, Pid, Scenario, Task, TaskSpec};
+use ptrace_check::Guards;
+use std::alloc::Global;
+use task_table::{Group, TaskTable};
 
 /// The tasks and the siblings of the core, and its numbers.
 #[derive(Drop)]
 pub struct State {
-    pub tasks: Vec<Task>,
+    pub tasks: TaskTable,
+    pub refs: CookieRefs,
+    pub guards: Guards,
     pub siblings: Vec<Sibling>,
     pub next_stamp: u64,
-    /// The cookie that is made next. None is made twice.
-    pub next_cookie: Cookie,
     /// The cookie that the core runs under, 0 for none.
     pub core_cookie: Cookie,
     /// How many siblings the last selection for the core forced idle, a count.
@@ -37,22 +38,24 @@ pub struct State {
 }
 
 impl State {
-    ghost use Rattle.plain_room.specs.State.{room_of, IsFit, IsSound, StaysSound, Becomes, numbers_of, touched, is_fresh_by};
+    ghost use Rattle.plain_room.specs.State.{room_of, IsFit, Has, IsSound, StaysSound, Becomes, numbers_of, touched, is_fresh_by};
 
     /// The start of a scenario: all tasks asleep at home, all siblings idle.
-    pub fn start(alloc: Global, scenario: &Scenario) -> Result<State, AllocError>
+    pub fn start(alloc: Global, scenario: &Scenario, guards: Guards) -> Result<State, OutOfMemory>
         requires { IsPlayable scenario.now }
         ensures room { IfOk result (λ state. room_of scenario.now state ≡ start scenario.now) }
         ensures sound { IfOk result (IsSound scenario.now.siblings) }
         ensures numbers { IfOk result (λ state. numbers_of state ≡ record { task = 0; pick = 0; own = replicate scenario.now.siblings 0 }) }
     {
-        let tasks = asleep_tasks(alloc, scenario.tasks.items())?;
+        let tasks = asleep_tasks(alloc, scenario.task_limit, scenario.tasks.items())?;
+        let refs = CookieRefs::with_limit(alloc, scenario.cookie_limit)?;
         let siblings = vec![in alloc; Sibling::IDLE; scenario.siblings as usize]?;
         Ok(State {
             tasks,
+            refs,
+            guards,
             siblings,
             next_stamp: 0,
-            next_cookie: 1,
             core_cookie: 0,
             forced: 0,
             occupation: 0,
@@ -63,16 +66,18 @@ impl State {
 
     /// The living task with the pid.
     pub fn task_of(&self, pid: Pid) -> Option<Task>
-        ensures task { option_map task_state result ≡ find (has_pid pid) (task_states self.now.tasks.items) }
+        ensures task { result ≡ find (has_pid pid) self.now.tasks.tasks }
+        ensures there { IfSome result (Has self.now) }
         ensures fit { (count : _) → IsSound count self.now → IfSome result (IsFit count) }
     {
-        self.tasks.iter().find(|task| task.spec.pid == pid).copied()
+        self.tasks.find(pid).copied()
     }
 
     /// The task that a sibling runs, none where it runs idle.
     pub fn running_on(&self, cpu: Cpu) -> Option<Task>
         requires { cpu < length self.now.siblings.items }
-        ensures task { (scenario : Scenario) → option_map task_state result ≡ running_on (room_of scenario self.now) cpu }
+        ensures task { (scenario : Scenario) → result ≡ running_on (room_of scenario self.now) cpu }
+        ensures there { IfSome result (Has self.now) }
         ensures fit { (count : _) → IsSound count self.now → IfSome result (IsFit count) }
     {
         self.task_of(self.siblings[cpu as usize].run?)
@@ -80,17 +85,10 @@ impl State {
 
     /// The living task with the least pid above this one.
     pub fn task_after(&self, pid: Pid) -> Option<Task>
-        ensures { (scenario : Scenario) → option_map task_state result ≡ task_after (room_of scenario self.now) pid }
+        ensures { (scenario : Scenario) → result ≡ task_after (room_of scenario self.now) pid }
     {
-        self.tasks
-            .iter()
-            .copied()
-            .filter(|task| task.spec.pid > pid)
-            .reduce(|least, task| if task.spec.pid < least.spec.pid {
-                task
-            } else {
-                least
-            })
+        let next = self.tasks.next_in(Group::All, pid)?;
+        self.tasks.find(next).copied()
     }
 
     /// Whether there was a selection for the core, and nothing was touched since the last one.
@@ -108,31 +106,19 @@ impl State {
         self.task_number += 1;
     }
 
-    /// The queues are touched once more where the test says so.
-    pub fn touch_where(&mut self, test: bool)
-        requires { self.old.task_number + 1 < 2 ^ 64 }
-        ensures { self.new ≡ record self.old { task_number = self.old.task_number + (if test then 1 else 0) } }
-    {
-        if test {
-            self.touch();
-        }
-    }
-
     /// The task is asleep.
     pub fn dequeue(&mut self, task: Task)
-        requires { self.old.task_number + 1 < 2 ^ 64 }
-        ensures room { Becomes self.old self.new (λ room. dequeued room (task_state task)) }
-        ensures sound { (count : _) → IsSound count self.old → IsFit count task → IsSound count self.new }
+        requires there { Has self.old task }
+        requires touches { self.old.task_number + 1 < 2 ^ 64 }
+        ensures room { Becomes self.old self.new (λ room. dequeued room task) }
+        ensures sound { StaysSound self.old self.new }
         ensures siblings { self.new.siblings ≡ self.old.siblings }
         ensures numbers { numbers_of self.new ≡ touched 1 (numbers_of self.old) }
     {
-        put(
-            &mut self.tasks,
-            Task {
-                queued: false,
-                ..task
-            },
-        );
+        self.tasks.change(Task {
+            queued: false,
+            ..task
+        });
         self.touch();
     }
 
@@ -149,21 +135,19 @@ impl State {
 
     /// The task is queued, with the next stamp.
     pub fn enqueue(&mut self, task: Task)
+        requires there { Has self.old task }
         requires stamp { self.old.next_stamp + 1 < 2 ^ 64 }
         requires touches { self.old.task_number + 1 < 2 ^ 64 }
-        ensures room { Becomes self.old self.new (λ room. enqueued room (task_state task)) }
-        ensures sound { (count : _) → IsSound count self.old → IsFit count task → IsSound count self.new }
+        ensures room { Becomes self.old self.new (λ room. enqueued room task) }
+        ensures sound { StaysSound self.old self.new }
         ensures siblings { self.new.siblings ≡ self.old.siblings }
         ensures numbers { numbers_of self.new ≡ touched 1 (numbers_of self.old) }
     {
-        put(
-            &mut self.tasks,
-            Task {
-                queued: true,
-                stamp: self.next_stamp,
-                ..task
-            },
-        );
+        self.tasks.change(Task {
+            queued: true,
+            stamp: self.next_stamp,
+            ..task
+        });
         self.next_stamp += 1;
         self.touch();
     }
@@ -180,15 +164,17 @@ impl State {
     }
 }
 
-/// Puts the task in the place of the one with its pid.
-pub fn put(tasks: &mut [Task], task: Task)
-    ensures { tasks.new ≡ map (λ other. if other.spec.pid == task.spec.pid then task else other) tasks.old }
+/// The tasks of a scenario before the first wake.
+fn asleep_tasks(alloc: Global, limit: u16, specs: &[TaskSpec]) -> Result<TaskTable, OutOfMemory>
+    requires distinct { AreDistinct specs.now }
+    requires few { length specs.now ≤ limit }
+    ensures tasks { IfOk result (λ table. table.tasks ≡ asleep_tasks specs.now) }
+    ensures sound { IfOk result IsTable }
+    ensures limit { IfOk result (λ table. table.limit ≡ limit) }
 {
-    for other in tasks.iter_mut() {
-        *other = if other.spec.pid == task.spec.pid {
-            task
-        } else {
-            *other
-        };
+    let mut tasks = TaskTable::with_limit(alloc, limit)?;
+    for spec in specs {
+        tasks.add(*spec).unwrap();
     }
+    Ok(tasks)
 }

@@ -15,6 +15,7 @@ use crate::stop::Stop;
 use cs_outside::{Sink, Source};
 use cs_types::Room;
 use plain_room::PlainRoom;
+use ptrace_check::Guards;
 use scenario_text::read;
 use std::alloc::Global;
 
@@ -32,7 +33,7 @@ fn played<S: Source>(alloc: Global, source: &mut S) -> Result<PlainRoom, Stop>
 {
     let input = read_to_end(alloc, source)?;
     let scenario = read(alloc, &input)?;
-    let mut room = PlainRoom::start(alloc, &scenario)?;
+    let mut room = PlainRoom::start(alloc, &scenario, Guards::none())?;
     play(&mut room, scenario.steps.items());
     Ok(room)
 }

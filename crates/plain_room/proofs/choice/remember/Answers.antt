@@ -1,19 +1,29 @@
-use Rattle.std.proofs.Common.{◌≡◌, ℕ, Bool, cond, List, ◌∙◌, ap}
-use Rattle.std.specs.Prelude.{Some, ◌&&◌}
-use Rattle.std.specs.List.{list_any}
-use Rattle.cs_types.specs.Selection.{is_run}
-use Rattle.plain_room.specs.declared.task.Task.{Task}
+use Rattle.std.proofs.Common.{◌∙◌, None, false, sym, ap, List, map, get_or, take}
+use Rattle.std.proofs.lemmas.List.{take_more}
+use Rattle.cs_types.specs.declared.task.Task.{Task}
+use Rattle.task_table.specs.Table.{Table}
 use Rattle.plain_room.specs.declared.choice.Choice.{Choice}
-use Rattle.plain_room.specs.Choice.{remembered_task}
-use Rattle.plain_room.proofs.Lists.{mapped_more}
+use Rattle.plain_room.specs.Choice.{remembering, remembered_task}
+use Rattle.plain_room.proofs.Settings.{remembered_none, remembered-push}
 use Rattle.plain_room.proofs.choice.remember.Goals as goal
 
-remembering_is : (choices : List Choice) (occupation : ℕ) (task : Task) (b : Bool) (now : Task) →
-    b ≡ list_any (λ choice. choice.is_online && is_run choice.run (Some task.spec.pid)) choices →
-    now ≡ record task { occupation = cond b occupation task.occupation } → now ≡ remembered_task choices occupation task
-remembering_is choices occupation task b now chosen is =
-    is ∙ ap (λ (t : Bool). record task { occupation = cond t occupation task.occupation }) chosen
+pub loop-choice-init : goal.loop-choice-init
+loop-choice-init c = record {
+  sound = record { rising = c.requires.rising; few = c.requires.few; limit = c.requires.limit };
+  so_far = ap (λ (tasks : List Task). let table : Table = record { tasks = tasks; limit = c.args.tasks.now.limit } in table)
+      (sym (remembered_none c.args.occupation c.args.tasks.now.tasks));
+}
 
-pub loop-task-preserved : goal.loop-task-preserved
-loop-task-preserved c =
-    mapped_more (remembered_task c.args.choices.now c.args.occupation) c.args.tasks.now c.loop-task.tasks c.loop-task.task-index c.remembering.result _ c.loop-task-test.true c.loop-task.invariant (remembering_is c.args.choices.now c.args.occupation _ c.is_chosen.result c.remembering.result c.is_chosen.ensures c.remembering.ensures)
+pub loop-choice-preserved : goal.loop-choice-preserved
+loop-choice-preserved c =
+    let i = c.loop-choice.choice-index in
+    let choices = c.args.choices.now in
+    let nothing : Choice = record { run = None; is_online = false; is_forced = false } in
+    record {
+      sound = c.remember_one.ensures.sound;
+      so_far = c.remember_one.ensures.remembered
+          ∙ ap (λ (table : Table). let now : Table = record table { tasks = map (remembering (get_or choices i nothing) c.args.occupation) table.tasks } in now) c.loop-choice.invariant.so_far
+          ∙ ap (λ (tasks : List Task). let table : Table = record { tasks = tasks; limit = c.args.tasks.now.limit } in table)
+          (remembered-push (take i choices) (get_or choices i nothing) c.args.occupation c.args.tasks.now.tasks
+          ∙ ap (λ (so_far : List Choice). map (remembered_task so_far c.args.occupation) c.args.tasks.now.tasks) (sym (take_more choices i nothing c.loop-choice-test.true)));
+    }

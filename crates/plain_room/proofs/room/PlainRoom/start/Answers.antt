@@ -13,5 +13,7 @@ invariant_of-result c =
       numbers = rw c.in_ok-entries.ensures.items (c.in_ok-state.ensures.numbers ∙ ap start (own_number-start 0 c.args.scenario.now.siblings));
       sound = c.in_ok-state.ensures.sound;
       few_siblings = c.requires.siblings.1;
+      few_tasks = omega (arith, ap length tasks, c.requires.few_tasks, c.requires.task_limit.1);
+      user_top = c.requires.user_top;
       few_entries = omega (arith, c.in_ok-entries.ensures.exact, ap length c.items.ensures, c.requires.few_steps);
     }

@@ -1,4 +1,4 @@
-use Rattle.std.proofs.Common.{◌≡◌, ◌++◌, ◌∷◌, [], ap, sym, subst, ◌∙◌, arith}
+use Rattle.std.proofs.Common.{◌≡◌, ◌++◌, ◌∷◌, [], length, ap, sym, subst, ◌∙◌, arith}
 use Rattle.std.specs.Prelude.{IfSome}
 use Rattle.cs_types.specs.declared.reply.Entry.{Entry}
 use Rattle.cs_types.specs.Scenario.{IsEvent}
@@ -7,6 +7,7 @@ use Rattle.cs_types.specs.Touches.{selection_of}
 use Rattle.cs_types.specs.History.{fold_of, reply_to, history_of}
 use Rattle.cs_types.specs.Laws.{SelectsForTheCore, scheduling_room, cpu_of}
 use Rattle.cs_types.proofs.Numbers.{task_number-ledger_of, next_stamp-fold_of, next_cookie-fold_of}
+use Rattle.cs_types.proofs.Tasks.{length-tasks-fold_of}
 use Rattle.cs_types.proofs.Selections.{selects}
 use Rattle.plain_room.specs.State.{Numbers}
 use Rattle.plain_room.specs.Machine.{Machine}
@@ -19,15 +20,24 @@ apply-reply-requires-clause-stamp c =
     let a = c.self.inside in
     omega (arith, next_stamp-fold_of a.scenario a.entries.items, ap (λ (room : RoomState). room.next_stamp) c.self.invariant.fold, a.entries.ok.0)
 
-pub apply-reply-requires-clause-cookie : goal.apply-reply-requires-clause-cookie
-apply-reply-requires-clause-cookie c =
+pub apply-reply-requires-clause-serial : goal.apply-reply-requires-clause-serial
+apply-reply-requires-clause-serial c =
     let a = c.self.inside in
     omega (arith, next_cookie-fold_of a.scenario a.entries.items, ap (λ (room : RoomState). room.next_cookie) c.self.invariant.fold, a.entries.ok.0)
 
 pub apply-reply-requires-clause-touches : goal.apply-reply-requires-clause-touches
 apply-reply-requires-clause-touches c =
     let a = c.self.inside in
-    omega (arith, task_number-ledger_of a.scenario a.entries.items, ap (λ (numbers : Numbers). numbers.task) c.self.invariant.numbers, a.entries.ok.0)
+    let few = length-tasks-fold_of a.scenario a.entries.items in
+    omega (
+      arith,
+      task_number-ledger_of a.scenario a.entries.items c.self.invariant.few_tasks,
+      ap (λ (numbers : Numbers). numbers.task) c.self.invariant.numbers,
+      a.entries.ok.0,
+      ap (λ (room : RoomState). length room.tasks) c.self.invariant.fold,
+      few,
+      c.self.invariant.few_tasks,
+    )
 
 pub invariant_of-self : goal.invariant_of-self
 invariant_of-self c =
@@ -43,6 +53,8 @@ invariant_of-self c =
       numbers = rw c.push_reserved.ensures.items folds.numbers;
       sound = c.apply-reply.ensures.sound a.scenario.siblings c.self.invariant.sound;
       few_siblings = c.self.invariant.few_siblings;
+      few_tasks = c.self.invariant.few_tasks;
+      user_top = c.self.invariant.user_top;
       few_entries = omega (arith, c.push_reserved.ensures.capacity, c.self.invariant.few_entries);
     }
 

@@ -4,7 +4,7 @@ use Rattle.cs_types.specs.declared.scenario.Scenario.{Scenario}
 use Rattle.cs_types.specs.Room.{RoomState}
 use Rattle.cs_types.specs.Selection.{Scheduled, schedule, rescheduled}
 use Rattle.cs_types.specs.Step.{dequeued, idled}
-use Rattle.plain_room.specs.State.{room_of, task_state, numbers_of, took, Numbers}
+use Rattle.plain_room.specs.State.{room_of, numbers_of, took, Numbers}
 use Rattle.plain_room.proofs.Choices.{schedule_not_adopted}
 use Rattle.plain_room.proofs.Sleeps.{took-touched}
 use Rattle.plain_room.proofs.state.State.block.Goals as goal
@@ -12,10 +12,10 @@ use Rattle.plain_room.proofs.state.State.block.Goals as goal
 -- the schedule that the code makes, from the room without the task, is the model's
 scheduled_is : (c : goal.After-reschedule) (scenario : Scenario) →
     rescheduled (room_of scenario c.idle.new.self) c.args.cpu
-    ≡ schedule (idled (dequeued (room_of scenario c.args.self.now) (task_state c.in-Some.task)) c.args.cpu) false c.args.cpu
+    ≡ schedule (idled (dequeued (room_of scenario c.args.self.now) c.in-Some.task) c.args.cpu) false c.args.cpu
 scheduled_is c scenario =
     ap (λ (room : RoomState). rescheduled room c.args.cpu) (c.idle.ensures.room scenario ∙ ap (λ (room : RoomState). idled room c.args.cpu) (c.dequeue.ensures.room scenario))
-    ∙ sym (schedule_not_adopted (idled (dequeued (room_of scenario c.args.self.now) (task_state c.in-Some.task)) c.args.cpu) false c.args.cpu refl)
+    ∙ sym (schedule_not_adopted (idled (dequeued (room_of scenario c.args.self.now) c.in-Some.task) c.args.cpu) false c.args.cpu refl)
 
 pub returns-clause-makes : goal.returns-clause-makes
 returns-clause-makes c scenario = record {

@@ -1,7 +1,7 @@
 use Rattle.std.proofs.Common.{◌≡◌, ◌∙◌, ap, refl, rules}
 use Rattle.std.specs.Option.{option_map}
 use Rattle.cs_types.specs.Selection.{pid_of}
-use Rattle.plain_room.proofs.States.{sibling_at, pid_of-state, is_none-state, is_some-state}
+use Rattle.plain_room.proofs.States.{sibling_at}
 use Rattle.plain_room.proofs.state.State.choice.Goals as goal
 
 pub returns : goal.returns
@@ -9,6 +9,6 @@ returns c scenario =
     let first = c.first_on-first.ensures scenario in
     let chosen = c.chosen-chosen.ensures scenario first in
     let mapped : c.map.result ≡ option_map (λ task. task.spec.pid) c.chosen-chosen.result = search rules in
-    let run = mapped ∙ pid_of-state c.chosen-chosen.result ∙ ap pid_of chosen in
+    let run = mapped ∙ ap pid_of chosen in
     let at = sibling_at c.args.self.now.siblings.items c.args.cpu c.index.result.now c.requires c.index.ensures in
-    rw (at, run, c.is_forced.ensures, is_none-state c.chosen-chosen.result, is_some-state c.first_on-first.result, chosen, first) refl
+    rw (at, run, c.is_forced.ensures, chosen, first) refl

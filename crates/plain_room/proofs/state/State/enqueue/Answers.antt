@@ -1,19 +1,16 @@
-use Rattle.std.proofs.Common.{ap, ◌∙◌, refl, true, map}
-use Rattle.plain_room.specs.declared.task.Task.{Task}
-use Rattle.plain_room.proofs.States.{put_in, items-put, task_states-put, fit-put}
+use Rattle.std.proofs.Common.{refl, subst, true}
+use Rattle.cs_types.specs.declared.task.Task.{Task}
+use Rattle.task_table.specs.Table.{IsSound as IsTable}
+use Rattle.plain_room.proofs.States.{found_fits, fit-changed, agree-changed}
 use Rattle.plain_room.proofs.state.State.enqueue.Goals as goal
 
-pub returns-clause-room : goal.returns-clause-room
-returns-clause-room c scenario =
-    let task : Task = record c.args.task { queued = true; stamp = c.args.self.now.next_stamp } in
-    let items = items-put c.args.self.now.tasks task c.put.new.tasks (c.put.ensures ∙ ap (map (put_in task)) c.deref_mut.ensures.value) in
-    rw c.touch.ensures (rw items (rw (task_states-put task c.args.self.now.tasks.items) refl))
-
 pub returns-clause-sound : goal.returns-clause-sound
-returns-clause-sound c count sound fit =
+returns-clause-sound c count sound =
+    let fit = found_fits count c.args.task.spec.pid c.args.self.now.tasks.tasks c.args.task sound.tasks c.requires.there in
     let task : Task = record c.args.task { queued = true; stamp = c.args.self.now.next_stamp } in
-    let items = items-put c.args.self.now.tasks task c.put.new.tasks (c.put.ensures ∙ ap (map (put_in task)) c.deref_mut.ensures.value) in
-    rw c.touch.ensures (record {
+    rw (c.touch.ensures, c.change.ensures.changed) (record {
       siblings = sound.siblings;
-      tasks = rw items (fit-put count task c.args.self.now.tasks.items (record { home = fit.home; policy = fit.policy }) sound.tasks);
+      table = subst IsTable c.change.ensures.changed c.change.ensures.sound;
+      tasks = fit-changed count task c.args.self.now.tasks.tasks (record { pid = fit.pid; home = fit.home; policy = fit.policy }) sound.tasks;
+      refs = agree-changed c.args.self.now.refs 0 (λ t. record t { queued = true; stamp = c.args.self.now.next_stamp }) (λ t. refl) c.args.self.now.tasks.tasks c.args.task sound.table.rising c.requires.there sound.refs;
     })

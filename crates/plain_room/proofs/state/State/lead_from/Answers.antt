@@ -2,8 +2,9 @@ use Rattle.std.proofs.Common.{◌∙◌, ap, sym, List, subst}
 use Rattle.std.specs.Prelude.{Option, All}
 use Rattle.std.specs.Option.{option_and_then}
 use Rattle.std.proofs.lemmas.List.{length-map}
+use Rattle.cs_types.specs.declared.task.Task.{Task}
 use Rattle.cs_types.specs.Scenario.{IsPolicy}
-use Rattle.cs_types.specs.Room.{TaskState, online_from}
+use Rattle.cs_types.specs.Room.{online_from}
 use Rattle.cs_types.specs.Order.{foremost, outranks}
 use Rattle.sibling_priority.specs.Offers.{IsFirst}
 use Rattle.plain_room.specs.State.{sibling_state, room_of}
@@ -17,7 +18,7 @@ lead_of-requires-clause-priorities c =
     let there = c.len.ensures ∙ c.args.self.now.siblings.ok.0 ∙ sym (length-map c.args.self.now.siblings.items sibling_state) in
     let firsts = firsts_pushed room c.args.cpu c.len.result c.new-firsts.result.items c.push_firsts.new.firsts.items c.push_firsts-2.new.firsts.items c.deref.result.now
     there c.new-firsts.ensures (c.push_firsts.ensures.pushed some_scenario) (c.push_firsts-2.ensures.pushed some_scenario) c.deref.ensures.0 in
-    subst (λ (states : List (Option TaskState)). All IsFirst states) (sym firsts)
+    subst (λ (states : List (Option Task)). All IsFirst states) (sym firsts)
     (All-firsts (λ task. IsPolicy task.spec.policy) room (online_from room c.args.cpu) (policies _ c.args.self.now c.requires.sound))
 
 pub returns : goal.returns
@@ -27,5 +28,5 @@ returns c scenario =
     let firsts = firsts_pushed room c.args.cpu c.len.result c.new-firsts.result.items c.push_firsts.new.firsts.items c.push_firsts-2.new.firsts.items c.deref.result.now
     there c.new-firsts.ensures (c.push_firsts.ensures.pushed scenario) (c.push_firsts-2.ensures.pushed scenario) c.deref.ensures.0 in
     c.lead_of.ensures
-    ∙ ap (λ (states : List (Option TaskState)). option_and_then (λ (first : Option TaskState). first) (foremost outranks states)) firsts
+    ∙ ap (λ (states : List (Option Task)). option_and_then (λ (first : Option Task). first) (foremost outranks states)) firsts
     ∙ lead_is room c.args.cpu

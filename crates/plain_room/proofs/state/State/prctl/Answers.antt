@@ -1,26 +1,17 @@
-use Rattle.std.proofs.Common.{◌≡◌, ◌∙◌, eq-eqb}
-use Rattle.std.proofs.lemmas.Bool.{ne_eqb}
-use Rattle.plain_room.specs.State.{task_state}
-use Rattle.plain_room.proofs.Calls.{drawn_state, drawn_cookie, makes_nothing, makes_setting}
+use Rattle.std.proofs.Common.{sym, refl}
+use Rattle.prctl_core.specs.Plan.{IsRoomOf}
+use Rattle.plain_room.specs.State.{room_of}
+use Rattle.plain_room.proofs.Settings.{makes_call}
 use Rattle.plain_room.proofs.state.State.prctl.Goals as goal
-use Rattle.plain_room.proofs.state.State.prctl.Goals.{then-ask-eq-CREATE, else-ask-eq-CREATE}
 
-pub returns-in-Err-clause-makes : goal.returns-in-Err-clause-makes
-returns-in-Err-clause-makes c =
-    makes_nothing c.args.scenario.now c.args.self.now c.args.pid c.args.ask c.in-Err.reply c.in-Err.ensures.same c.in-Err.ensures.refused
-
-pub returns-after-ask-eq-CREATE-clause-makes : goal.returns-after-ask-eq-CREATE-clause-makes
-returns-after-ask-eq-CREATE-clause-makes c =
-    let is : record { state : c.if-ask-eq-CREATE.self ≡ drawn_state c.args.self.now c.args.ask; cookie : c.if-ask-eq-CREATE.cookie ≡ drawn_cookie c.args.self.now c.args.ask (task_state c.in-Ok.caller) } =
-    elim c.if-ask-eq-CREATE.branch [
-      | then-ask-eq-CREATE w ↦ record {
-        state = rw (eq-eqb _ _ w.if-ask-eq-CREATE.true) (w.self-is ∙ w.draw_cookie-cookie.ensures.next);
-        cookie = rw (eq-eqb _ _ w.if-ask-eq-CREATE.true) (w.cookie-is ∙ w.draw_cookie-cookie.ensures.cookie);
-      }
-      | else-ask-eq-CREATE w ↦ record {
-        state = rw (ne_eqb _ _ w.if-ask-eq-CREATE.false) w.self-is;
-        cookie = rw (ne_eqb _ _ w.if-ask-eq-CREATE.false) w.cookie-is;
-      }
-    ] in
-    makes_setting c.args.scenario.now c.args.self.now c.if-ask-eq-CREATE.self c.set_cookie.new.self c.args.pid c.args.ask (task_state c.in-Ok.caller) (task_state c.in-Ok.target)
-    c.if-ask-eq-CREATE.cookie c.in-Ok.ensures.answer c.in-Ok.ensures.caller c.in-Ok.ensures.target is.state is.cookie c.set_cookie.ensures.room c.set_cookie.ensures.numbers
+pub returns-in-Go-clause-makes : goal.returns-in-Go-clause-makes
+returns-in-Go-clause-makes c scenario top =
+    let room = room_of scenario c.args.self.now in
+    let is : IsRoomOf room c.args.self.now.tasks c.args.self.now.refs c.online_count-online.result c.args.user_top =
+    record { tasks = refl; online = sym (c.online_count-online.ensures scenario); user_top = top; cookie_limit = refl; next_cookie = refl } in
+    makes_call scenario c.args.self.now _ c.set_cookies.new.self _ c.args.pid c.args.ask c.in-Go.decision
+    (c.in-Go.ensures.answer room is) (c.in-Go.ensures.sets room is)
+    (λ i. record room { cookie_limit = c.in-Go.ensures.limit i; next_cookie = c.in-Go.ensures.serial room is i }) refl
+    c.set_cookies.ensures.sets
+    (λ i. record (room_of scenario c.set_cookies.new.self) { cookie_limit = c.put.ensures.limit i; next_cookie = c.put.ensures.next i }) refl
+    c.in-Go.ensures.planned

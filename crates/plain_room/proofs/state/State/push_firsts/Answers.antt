@@ -1,13 +1,12 @@
-use Rattle.std.proofs.Common.{◌≡◌, ◌∙◌, ap, sym, Bool, cond, List, [], ◌∷◌, ◌++◌, map, arith}
+use Rattle.std.proofs.Common.{◌≡◌, ◌∙◌, ap, sym, Bool, cond, List, [], ◌∷◌, ◌++◌, arith}
 use Rattle.std.specs.Prelude.{Option}
-use Rattle.std.specs.Option.{option_map}
-use Rattle.std.proofs.lemmas.List.{append-nil, map_push}
+use Rattle.std.proofs.lemmas.List.{append-nil}
 use Rattle.arrayvec.specs.ArrayVec.{array_vec_len}
 use Rattle.cs_types.specs.declared.scenario.Scenario.{Scenario}
-use Rattle.cs_types.specs.Room.{TaskState, is_online}
+use Rattle.cs_types.specs.Room.{is_online}
 use Rattle.cs_types.specs.Selection.{first_on}
-use Rattle.plain_room.specs.State.{task_state, room_of}
-use Rattle.plain_room.specs.declared.task.Task.{Task}
+use Rattle.plain_room.specs.State.{room_of}
+use Rattle.cs_types.specs.declared.task.Task.{Task}
 use Rattle.plain_room.proofs.States.{sibling_at}
 use Rattle.plain_room.proofs.Choices.{firsts_step}
 use Rattle.plain_room.proofs.state.State.push_firsts.Goals as goal
@@ -21,22 +20,21 @@ online_is c scenario =
 
 -- the firsts after the turn are one more where the sibling is online
 pushed_is : (c : goal.Joined-index) (scenario : Scenario) →
-    map (option_map task_state) c.if-index.firsts.items
-    ≡ map (option_map task_state) c.loop-cpu.firsts.items
+    c.if-index.firsts.items
+    ≡ c.loop-cpu.firsts.items
     ++ cond (is_online (room_of scenario c.args.self.now) c.loop-cpu.cpu) (first_on (room_of scenario c.args.self.now) c.loop-cpu.cpu ∷ []) []
 pushed_is c scenario =
-    let states = λ (firsts : List (Option Task)). map (option_map task_state) firsts in
-    let before = states c.loop-cpu.firsts.items in
+    let states = λ (firsts : List (Option Task)). firsts in
+    let before = c.loop-cpu.firsts.items in
     let first = first_on (room_of scenario c.args.self.now) c.loop-cpu.cpu in
     elim c.if-index.branch [
       | then-index w ↦
-          ap (λ firsts. states firsts.items) w.firsts-is
-          ∙ ap states w.push.ensures.items
-          ∙ map_push (option_map task_state) c.loop-cpu.firsts.items w.first_on.result
-          ∙ ap (λ (o : Option TaskState). before ++ o ∷ []) (w.first_on.ensures scenario)
+          ap (λ firsts. firsts.items) w.firsts-is
+          ∙ w.push.ensures.items
+          ∙ ap (λ (o : Option Task). before ++ o ∷ []) (w.first_on.ensures scenario)
           ∙ ap (λ (b : Bool). before ++ cond b (first ∷ []) []) (sym (online_is c scenario ∙ w.if-index.true))
       | else-index w ↦
-          ap (λ firsts. states firsts.items) w.firsts-is
+          ap (λ firsts. firsts.items) w.firsts-is
           ∙ sym (append-nil before)
           ∙ ap (λ (b : Bool). before ++ cond b (first ∷ []) []) (sym (online_is c scenario ∙ w.if-index.false))
     ]
@@ -48,7 +46,7 @@ loop-cpu-preserved c = record {
     | else-index w ↦ omega (arith, ap array_vec_len w.firsts-is, c.loop-cpu.invariant.few)
   ];
   pushed = λ scenario.
-      firsts_step (room_of scenario c.args.self.now) c.args.from c.loop-cpu.cpu c.loop-cpu.auto.cpu (map (option_map task_state) c.args.firsts.now.items) (map (option_map task_state) c.loop-cpu.firsts.items) (map (option_map task_state) c.if-index.firsts.items)
+      firsts_step (room_of scenario c.args.self.now) c.args.from c.loop-cpu.cpu c.loop-cpu.auto.cpu c.args.firsts.now.items c.loop-cpu.firsts.items c.if-index.firsts.items
       (c.loop-cpu.invariant.pushed scenario) (pushed_is c scenario);
 }
 

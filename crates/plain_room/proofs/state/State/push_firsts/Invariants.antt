@@ -1,17 +1,16 @@
 use Rattle.std.proofs.Common.{◌≡◌, ◌+◌, ◌-◌, ◌≤◌, ◌++◌, map}
 use Rattle.std.specs.Prelude.{filter}
 use Rattle.std.specs.List.{range_with_len}
-use Rattle.std.specs.Option.{option_map}
 use Rattle.arrayvec.specs.ArrayVec.{array_vec_len}
 use Rattle.cs_types.specs.declared.scenario.Scenario.{Scenario}
 use Rattle.cs_types.specs.Room.{is_online}
 use Rattle.cs_types.specs.Selection.{first_on}
-use Rattle.plain_room.specs.State.{task_state, room_of}
+use Rattle.plain_room.specs.State.{room_of}
 use Rattle.plain_room.proofs.state.State.push_firsts.Given as goal
 
 abbrev pub invariant-loop-cpu : goal.invariant-loop-cpu
 invariant-loop-cpu l = record {
   few : array_vec_len l.firsts ≤ array_vec_len l.initial.firsts + (l.cpu - l.from);
-  pushed : (scenario : Scenario) → map (option_map task_state) l.firsts.items ≡ map (option_map task_state) l.initial.firsts.items
+  pushed : (scenario : Scenario) → l.firsts.items ≡ l.initial.firsts.items
       ++ map (first_on (room_of scenario l.self)) (filter (is_online (room_of scenario l.self)) (range_with_len l.from (l.cpu - l.from)));
 }

@@ -4,14 +4,14 @@ use Rattle.std.proofs.lemmas.List.{map-set}
 use Rattle.cs_types.specs.declared.scenario.Scenario.{Scenario}
 use Rattle.cs_types.specs.Selection.{pid_of, first_on}
 use Rattle.plain_room.specs.State.{sibling_state, room_of}
-use Rattle.plain_room.proofs.States.{sibling_at, numbers_kept, pid_of-state}
+use Rattle.plain_room.proofs.States.{sibling_at, numbers_kept}
 use Rattle.plain_room.proofs.state.State.run_first.Goals as goal
 
 -- the first that the code maps to its pid is the model's
 run_is : (c : goal.After-unwrap_or) (scenario : Scenario) → c.map-run.result ≡ pid_of (first_on (room_of scenario c.args.self.now) c.args.cpu)
 run_is c scenario =
     let mapped : c.map-run.result ≡ option_map (λ task. task.spec.pid) c.first_on.result = search rules in
-    mapped ∙ pid_of-state c.first_on.result ∙ ap pid_of (c.first_on.ensures scenario)
+    mapped ∙ ap pid_of (c.first_on.ensures scenario)
 
 pub returns-clause-schedules : goal.returns-clause-schedules
 returns-clause-schedules c =

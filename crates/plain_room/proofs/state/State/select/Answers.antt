@@ -6,14 +6,14 @@ use Rattle.cs_types.specs.declared.scenario.Scenario.{Scenario}
 use Rattle.cs_types.specs.Selection.{cookie_of, lead_from}
 use Rattle.plain_room.specs.declared.sibling.Sibling.{Sibling}
 use Rattle.plain_room.specs.State.{sibling_state, room_of, Numbers}
-use Rattle.plain_room.proofs.States.{cookie_of-state, number_of}
+use Rattle.plain_room.proofs.States.{cookie_of-task, number_of}
 use Rattle.plain_room.proofs.state.State.select.Goals as goal
 
 -- the core cookie is the lead's
 core_is : (c : goal.After-unwrap_or) (scenario : Scenario) → c.map_or-core.result ≡ cookie_of (lead_from (room_of scenario c.args.self.now) c.args.cpu)
 core_is c scenario =
     let mapped : c.map_or-core.result ≡ option_map_or (λ task. task.cookie) c.lead_from.result 0 = search rules in
-    mapped ∙ cookie_of-state c.lead_from.result ∙ ap cookie_of (c.lead_from.ensures scenario)
+    mapped ∙ cookie_of-task c.lead_from.result ∙ ap cookie_of (c.lead_from.ensures scenario)
 
 pub returns-clause-schedules : goal.returns-clause-schedules
 returns-clause-schedules c =

@@ -5,9 +5,9 @@ use Rattle.std.proofs.lemmas.List.{length-map}
 use Rattle.cs_types.specs.Selection.{selected_room}
 use Rattle.plain_room.specs.declared.choice.Choice.{Choice}
 use Rattle.plain_room.specs.declared.sibling.Sibling.{Sibling}
-use Rattle.plain_room.specs.State.{sibling_state, task_states, room_of}
+use Rattle.plain_room.specs.State.{sibling_state, room_of}
 use Rattle.plain_room.specs.Choice.{handed_choice, remembered_task}
-use Rattle.plain_room.proofs.States.{items-with, items-as_many, fit-remembered}
+use Rattle.plain_room.proofs.States.{items-as_many, fit-remembered, agree-map}
 use Rattle.plain_room.proofs.Choices.{choices_of, choices_are, forced_count-choices, occupation-choices, choice_in, handed-choices, remembered-choices}
 use Rattle.plain_room.proofs.state.State.select_for.Goals as goal
 
@@ -18,17 +18,15 @@ returns-clause-room c scenario =
     let are = choices_are scenario c.args.self.now c.args.core c.choices-choices.result.items (c.choices-choices.ensures.each scenario) in
     let forced = c.forced_count-self.ensures ∙ ap (count_by (λ (choice : Choice). choice.is_forced)) (c.deref.ensures.0 ∙ are) ∙ forced_count-choices room c.args.core in
     let occupation = c.occupation-self.ensures ∙ ap (count_by (λ (choice : Choice). choice.is_online && is_some choice.run)) (c.deref-2.ensures.0 ∙ are) ∙ occupation-choices room c.args.core in
-    let kept = items-with c.args.self.now.tasks c.remember.new.tasks (remembered_task c.deref-3.result.now c.occupation-self.result) (c.remember.ensures ∙ ap (map (remembered_task c.deref-3.result.now c.occupation-self.result)) c.deref_mut.ensures.value) in
-    let tasks = ap task_states kept
-    ∙ ap (λ (choices : List Choice). task_states (map (remembered_task choices c.occupation-self.result) c.args.self.now.tasks.items)) (c.deref-3.ensures.0 ∙ are)
-    ∙ remembered-choices room c.args.core c.occupation-self.result c.args.self.now.tasks.items occupation in
-    let kept_siblings = items-as_many c.args.self.now.siblings c.hand.new.siblings (c.hand.auto.siblings ∙ ap length c.deref_mut-2.ensures.value) in
+    let tasks = ap (λ (choices : List Choice). map (remembered_task choices c.occupation-self.result) c.args.self.now.tasks.tasks) (c.deref-3.ensures.0 ∙ are)
+    ∙ remembered-choices room c.args.core c.occupation-self.result c.args.self.now.tasks.tasks occupation in
+    let kept_siblings = items-as_many c.args.self.now.siblings c.hand.new.siblings (c.hand.auto.siblings ∙ ap length c.deref_mut.ensures.value) in
     let siblings = ap (map sibling_state) kept_siblings
     ∙ c.hand.ensures.states
-    ∙ ap (λ (choices : List Choice). map (handed_choice c.args.cpu c.occupation-self.result choices) (enumerate_from 0 (map sibling_state c.deref_mut-2.result.now))) (c.deref-4.ensures.0 ∙ are)
-    ∙ ap (λ (siblings : List Sibling). map (handed_choice c.args.cpu c.occupation-self.result (choices_of room c.args.core)) (enumerate_from 0 (map sibling_state siblings))) c.deref_mut-2.ensures.value
+    ∙ ap (λ (choices : List Choice). map (handed_choice c.args.cpu c.occupation-self.result choices) (enumerate_from 0 (map sibling_state c.deref_mut.result.now))) (c.deref-4.ensures.0 ∙ are)
+    ∙ ap (λ (siblings : List Sibling). map (handed_choice c.args.cpu c.occupation-self.result (choices_of room c.args.core)) (enumerate_from 0 (map sibling_state siblings))) c.deref_mut.ensures.value
     ∙ handed-choices room c.args.core c.args.cpu c.occupation-self.result occupation in
-    rw (tasks, siblings, forced, occupation) refl
+    rw c.remember.ensures.remembered (rw (tasks, siblings, forced, occupation) refl)
 
 pub returns-clause-run : goal.returns-clause-run
 returns-clause-run c scenario =
@@ -44,9 +42,11 @@ returns-clause-forced c scenario =
 
 pub returns-clause-sound : goal.returns-clause-sound
 returns-clause-sound c count sound =
-    let kept = items-with c.args.self.now.tasks c.remember.new.tasks (remembered_task c.deref-3.result.now c.occupation-self.result) (c.remember.ensures ∙ ap (map (remembered_task c.deref-3.result.now c.occupation-self.result)) c.deref_mut.ensures.value) in
-    let kept_siblings = items-as_many c.args.self.now.siblings c.hand.new.siblings (c.hand.auto.siblings ∙ ap length c.deref_mut-2.ensures.value) in
+    let kept_siblings = items-as_many c.args.self.now.siblings c.hand.new.siblings (c.hand.auto.siblings ∙ ap length c.deref_mut.ensures.value) in
+    let remembers = remembered_task c.deref-3.result.now c.occupation-self.result in
     record {
-      siblings = ap length kept_siblings ∙ c.hand.auto.siblings ∙ ap length c.deref_mut-2.ensures.value ∙ sound.siblings;
-      tasks = rw kept (fit-remembered count c.deref-3.result.now c.occupation-self.result c.args.self.now.tasks.items sound.tasks);
+      siblings = ap length kept_siblings ∙ c.hand.auto.siblings ∙ ap length c.deref_mut.ensures.value ∙ sound.siblings;
+      table = c.remember.ensures.sound;
+      tasks = rw c.remember.ensures.remembered (fit-remembered count c.deref-3.result.now c.occupation-self.result c.args.self.now.tasks.tasks sound.tasks);
+      refs = rw c.remember.ensures.remembered (agree-map c.args.self.now.refs 0 remembers (λ task. refl) c.args.self.now.tasks.tasks sound.refs);
     }

@@ -1,36 +1,65 @@
-use Rattle.std.proofs.Common.{◌≡◌, ℕ, eqb, ap, ◌∙◌, sym, refl, map, Option, Some, None}
-use Rattle.std.specs.Option.{option_eq}
-use Rattle.cs_types.specs.Room.{SiblingState}
-use Rattle.cs_types.specs.Selection.{is_run}
-use Rattle.cs_types.specs.Prctl.{is_running}
-use Rattle.plain_room.specs.declared.task.Task.{Task}
-use Rattle.plain_room.specs.State.{task_state, room_of}
-use Rattle.plain_room.proofs.States.{put_in, items-put, task_states-put, fit-put, sibling_at}
+use Rattle.std.proofs.Common.{◌∙◌, ◌+◌, ap, map, refl, length, arith}
+use Rattle.cs_types.specs.declared.task.Task.{Task}
+use Rattle.cookie_refs.proofs.Agreements.{AgreeBut-with_cookie, own_cookie_is_live, count_of-le}
+use Rattle.task_table.specs.Table.{Table}
+use Rattle.task_table.proofs.Tables.{rising_pairs}
+use Rattle.std.specs.Vec.{with_items}
+use Rattle.plain_room.specs.declared.state.State.{State}
+use Rattle.plain_room.specs.Cookies.{flagged_for}
+use Rattle.plain_room.specs.State.{sibling_state, numbers_of}
+use Rattle.plain_room.proofs.States.{items-as_many, found_fits, fit-changed, number_of}
+use Rattle.plain_room.proofs.Settings.{sets_one, sets_numbers}
 use Rattle.plain_room.proofs.state.State.set_cookie.Goals as goal
 
-same_run : (a b : Option ℕ) → option_eq eqb a b ≡ is_run a b
-same_run None None = refl
-same_run None (Some b) = refl
-same_run (Some a) None = refl
-same_run (Some a) (Some b) = refl
+pub get-requires-clause-room : goal.get-requires-clause-room
+get-requires-clause-room c =
+    omega (arith, c.requires.sound.table.few, c.requires.sound.table.limit, count_of-le c.args.self.now.refs c.args.self.now.tasks.tasks c.args.cookie c.requires.sound.refs c.args.cookie)
 
-pub returns-clause-room : goal.returns-clause-room
-returns-clause-room c scenario =
-    let state = c.args.self.now in
-    let task : Task = record c.args.task { cookie = c.args.cookie } in
-    let items = items-put state.tasks task c.put.new.tasks (c.put.ensures ∙ ap (map (put_in task)) c.deref_mut.ensures.value) in
-    let running : c.eq-is_running.result ≡ is_running (room_of scenario state) (task_state c.args.task) =
-    c.eq-is_running.ensures
-    ∙ same_run c.index.result.now.run (Some c.args.task.spec.pid)
-    ∙ ap (λ (sibling : SiblingState). is_run sibling.run (Some c.args.task.spec.pid)) (sym (sibling_at state.siblings.items c.args.task.home c.index.result.now c.requires.home c.index.ensures)) in
-    c.flag.ensures.room scenario
-    ∙ (rw (c.touch_where-2.ensures, c.touch_where.ensures, items, task_states-put task state.tasks.items, running) refl)
+pub put-requires : goal.put-requires
+put-requires c own =
+    omega (
+      arith,
+      c.get.ensures.counts c.args.task.cookie,
+      own_cookie_is_live c.args.self.now.refs c.args.self.now.tasks.tasks c.args.cookie c.args.task.spec.pid c.args.task c.requires.there c.requires.sound.refs own,
+    )
+
+pub returns-clause-sets : goal.returns-clause-sets
+returns-clause-sets c =
+    let kept = items-as_many c.args.self.now.siblings c.flag_runners.new.siblings (c.flag_runners.auto.siblings ∙ ap length c.deref_mut.ensures.value) in
+    let old = c.args.self.now in
+    let new : State = record {
+      tasks = c.change.new.self;
+      refs = c.put.new.self;
+      guards = old.guards;
+      siblings = with_items old.siblings c.flag_runners.new.siblings;
+      next_stamp = old.next_stamp;
+      core_cookie = old.core_cookie;
+      forced = old.forced;
+      occupation = old.occupation;
+      task_number = old.task_number + c.touches.result;
+      pick_number = old.pick_number;
+    } in
+    record {
+      room = λ scenario.
+          sets_one scenario old new c.args.task c.args.cookie c.requires.sound.table.rising c.requires.there c.change.ensures.changed
+          (c.put.ensures.limit ∙ c.get.ensures.limit) (c.put.ensures.next ∙ c.get.ensures.next)
+          (ap (map sibling_state) kept ∙ c.flag_runners.ensures.states ∙ ap (λ siblings. map (flagged_for c.args.task.spec.pid) (map sibling_state siblings)) c.deref_mut.ensures.value) refl refl refl refl;
+      numbers =
+          sets_numbers (numbers_of c.args.self.now) c.args.task c.args.cookie c.touches.result _
+          (ap (map number_of) kept ∙ c.flag_runners.ensures.numbers ∙ ap (map number_of) c.deref_mut.ensures.value) c.touches.ensures.touches;
+    }
 
 pub returns-clause-sound : goal.returns-clause-sound
-returns-clause-sound c count sound fit =
+returns-clause-sound c =
+    let count = length c.args.self.now.siblings.items in
+    let kept = items-as_many c.args.self.now.siblings c.flag_runners.new.siblings (c.flag_runners.auto.siblings ∙ ap length c.deref_mut.ensures.value) in
     let task : Task = record c.args.task { cookie = c.args.cookie } in
-    let items = items-put c.args.self.now.tasks task c.put.new.tasks (c.put.ensures ∙ ap (map (put_in task)) c.deref_mut.ensures.value) in
-    c.flag.ensures.sound count (rw (c.touch_where-2.ensures, c.touch_where.ensures) (record {
-      siblings = sound.siblings;
-      tasks = rw items (fit-put count task c.args.self.now.tasks.items (record { home = fit.home; policy = fit.policy }) sound.tasks);
-    }))
+    let fit = found_fits count c.args.task.spec.pid c.args.self.now.tasks.tasks c.args.task c.requires.sound.tasks c.requires.there in
+    let tasks = ap (λ (table : Table). table.tasks) c.change.ensures.changed in
+    record {
+      siblings = ap length kept ∙ c.flag_runners.auto.siblings ∙ ap length c.deref_mut.ensures.value;
+      table = c.change.ensures.sound;
+      tasks = rw tasks (fit-changed count task c.args.self.now.tasks.tasks (record { pid = fit.pid; home = fit.home; policy = fit.policy }) c.requires.sound.tasks);
+      refs = rw tasks (AgreeBut-with_cookie c.args.self.now.refs c.get.new.self c.put.new.self c.args.self.now.tasks.tasks c.args.cookie c.args.task.spec.pid c.args.cookie c.args.task
+          (rising_pairs 0 c.args.self.now.tasks.tasks c.requires.sound.table.rising) c.requires.there c.get.ensures.counts c.put.ensures.counts c.requires.sound.refs);
+    }

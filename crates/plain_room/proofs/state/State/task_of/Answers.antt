@@ -1,15 +1,20 @@
-use Rattle.std.proofs.Common.{rules, ◌∙◌, sym, ap}
-use borrow.Author.Tests.{tests}
-use Rattle.std.specs.Prelude.{◌==◌}
-use Rattle.std.specs.Option.{option_map}
-use Rattle.std.proofs.lemmas.Iterator.{YieldsList-from_slice}
-use Rattle.std.proofs.lemmas.Iterator.Search.{find_from_yields_List}
+use Rattle.std.proofs.Common.{◌≡◌, ◌∙◌, sym}
+use Rattle.std.specs.Prelude.{find, Option, Some, None, IfSome}
+use Rattle.cs_types.specs.declared.task.Task.{Task}
 use Rattle.cs_types.specs.Room.{has_pid}
-use Rattle.plain_room.specs.State.{task_state}
-use Rattle.plain_room.proofs.Lists.{find-map}
+use Rattle.cs_types.proofs.Tasks.{found_again}
+use Rattle.plain_room.specs.State.{IsFit, Has}
+use Rattle.plain_room.proofs.States.{found_fits}
 use Rattle.plain_room.proofs.state.State.task_of.Goals as goal
 
-pub returns-clause-task : goal.returns-clause-task
-returns-clause-task c =
-    let found = find_from_yields_List (λ task. task.spec.pid == c.args.pid) _ _ c.find.result c.find.ensures.ran (YieldsList-from_slice c.args.self.now.tasks.items cc) (λ x b q k. search (rules, tests)) in
-    ap (option_map task_state) (c.copied.ensures ∙ found) ∙ sym (find-map task_state (has_pid c.args.pid) c.args.self.now.tasks.items)
+pub returns-clause-fit : goal.returns-clause-fit
+returns-clause-fit c count sound = go c.copied.result (c.copied.ensures ∙ c.find.ensures.task) where
+  go : (found : Option Task) → found ≡ find (has_pid c.args.pid) c.args.self.now.tasks.tasks → IfSome found (IsFit count)
+  go None is = tt
+  go (Some task) is = found_fits count c.args.pid c.args.self.now.tasks.tasks task sound.tasks (sym is)
+
+pub returns-clause-there : goal.returns-clause-there
+returns-clause-there c = go c.copied.result (c.copied.ensures ∙ c.find.ensures.task) where
+  go : (found : Option Task) → found ≡ find (has_pid c.args.pid) c.args.self.now.tasks.tasks → IfSome found (Has c.args.self.now)
+  go None is = tt
+  go (Some task) is = found_again c.args.pid c.args.self.now.tasks.tasks task (sym is)
