@@ -4,6 +4,7 @@
 use crate::commands::expect_text;
 use cs_types::{Cookie, Cpu, Pid, Room};
 use plain_room::PlainRoom;
+use ptrace_check::Guards;
 use scenario_runner::{Status, play};
 use scenario_text::read;
 use std::process::Abort;
@@ -92,10 +93,62 @@ const STALE_PICK: Example = Example {
     cpus: [(1, 4, false), (3, 6, false)],
 };
 
+/// The refusals of calls, and who may access whom: 2 and 4 are another user's, 3 and 4 are one process
+/// group, 5 may not be dumped, 6 has the capability, 7 too.
+const REFUSALS: &str = concat!(
+    "coresched 1\nsiblings 2\nlimits 8 1 65536\n",
+    "task 1 1 1 0 fifo:1 1000 1000 1000 1000 1000 1000 0 1 1\n",
+    "task 2 2 2 0 fifo:1 2000 2000 2000 2000 2000 2000 0 1 1\n",
+    "task 3 3 7 0 fifo:1 1000 1000 1000 1000 1000 1000 0 1 1\n",
+    "task 4 4 7 0 fifo:1 2000 2000 2000 2000 2000 2000 0 1 1\n",
+    "task 5 5 5 0 fifo:1 1000 1000 1000 1000 1000 1000 0 1 0\n",
+    "task 6 6 6 0 fifo:1 0 0 0 0 0 0 1 1 1\n",
+    "task 7 7 8 0 fifo:1 1000 1000 1000 1000 1000 1000 1 1 1\n",
+    "step c0 prctl 9 0 0 0 4096\nstep c0 prctl 1 4 0 0 0\nstep c0 prctl 1 1 -1 0 0\n",
+    "step c0 prctl 1 1 99 3 0\nstep c0 prctl 1 1 0 0 8\nstep c0 prctl 1 1 99 0 0\n",
+    "step c0 prctl 1 0 2 1 4096\nstep c0 prctl 1 0 1 1 4096\nstep c0 prctl 1 0 1 0 4097\n",
+    "step c0 prctl 1 0 1 0 0\nstep c0 prctl 1 0 1 0 65528\nstep c0 prctl 1 0 1 0 65536\n",
+    "step c0 prctl 1 3 1 1 0\nstep c0 prctl 1 1 3 2 0\nstep c0 prctl 1 1 0 0 0\n",
+    "step c0 prctl 1 0 0 0 4096\nstep c0 prctl 1 1 3 2 0\nstep c0 prctl 1 2 5 0 0\n",
+    "step c0 prctl 6 2 5 0 0\nstep c0 prctl 1 2 6 0 0\nstep c0 prctl 1 2 7 0 0\nend\n",
+);
+
+/// The group's call that was refused has used cookie 1.
+const REFUSED: &str = concat!(
+    "c0 prctl 9 0 0 0 4096: NoCaller\nc0 prctl 1 4 0 0 0: EINVAL\nc0 prctl 1 1 -1 0 0: EINVAL\n",
+    "c0 prctl 1 1 99 3 0: EINVAL\nc0 prctl 1 1 0 0 8: EINVAL\nc0 prctl 1 1 99 0 0: ESRCH\n",
+    "c0 prctl 1 0 2 1 4096: EPERM\nc0 prctl 1 0 1 1 4096: EINVAL\nc0 prctl 1 0 1 0 4097: EINVAL\n",
+    "c0 prctl 1 0 1 0 0: EFAULT\nc0 prctl 1 0 1 0 65528: 0 value 0\nc0 prctl 1 0 1 0 65536: EFAULT\n",
+    "c0 prctl 1 3 1 1 0: EINVAL\nc0 prctl 1 1 3 2 0: EPERM\nc0 prctl 1 1 0 0 0: 0\n",
+    "c0 prctl 1 0 0 0 4096: 0 value 2\nc0 prctl 1 1 3 2 0: ENOMEM\nc0 prctl 1 2 5 0 0: EPERM\n",
+    "c0 prctl 6 2 5 0 0: 0\nc0 prctl 1 2 6 0 0: EPERM\nc0 prctl 1 2 7 0 0: EPERM\ndone\n",
+);
+
+/// A last reference that is given back makes room under the limit.
+const LAST_REFERENCE: &str = concat!(
+    "coresched 1\nsiblings 2\nlimits 8 1 65536\n",
+    "task 1 1 1 0 fifo:1 1000 1000 1000 1000 1000 1000 0 1 1\n",
+    "task 2 2 2 0 fifo:1 1000 1000 1000 1000 1000 1000 0 1 1\n",
+    "step c0 prctl 1 1 0 0 0\nstep c0 prctl 2 1 0 0 0\nstep c0 prctl 2 2 1 1 0\n",
+    "step c0 prctl 2 1 0 0 0\nstep c0 prctl 2 0 0 0 4096\nend\n",
+);
+
+const GIVEN_BACK: &str = concat!(
+    "c0 prctl 1 1 0 0 0: 0\nc0 prctl 2 1 0 0 0: ENOMEM\nc0 prctl 2 2 1 1 0: 0\n",
+    "c0 prctl 2 1 0 0 0: 0\nc0 prctl 2 0 0 0 4096: 0 value 2\ndone\n",
+);
+
+#[test]
+fn calls(rt: HostRuntime) {
+    for (text, output) in &[(REFUSALS, REFUSED), (LAST_REFERENCE, GIVEN_BACK)] {
+        expect_text(&rt, text.as_bytes(), Status::Done, output.as_bytes());
+    }
+}
+
 /// The machine of a text after all its steps.
 fn played<R: AllocGlobal + Abort>(rt: &R, text: &[u8]) -> PlainRoom {
     let scenario = read(rt.alloc(), text).expect(rt, "a scenario");
-    let mut room = PlainRoom::start(rt.alloc(), &scenario).expect(rt, "room");
+    let mut room = PlainRoom::start(rt.alloc(), &scenario, Guards::none()).expect(rt, "room");
     play(&mut room, scenario.steps.items());
     room
 }

@@ -15,4 +15,6 @@ mod lines;
 #[cfg(test)]
 mod offers;
 #[cfg(test)]
+mod parts;
+#[cfg(test)]
 mod scenarios;

@@ -128,9 +128,54 @@ fn lines_of_calls(rt: HostRuntime) {
         (Errno::Eperm, "c0 prctl 1 2 3 0 0: EPERM\n"),
         (Errno::Esrch, "c0 prctl 1 2 3 0 0: ESRCH\n"),
         (Errno::Enomem, "c0 prctl 1 2 3 0 0: ENOMEM\n"),
+        (Errno::Efault, "c0 prctl 1 2 3 0 0: EFAULT\n"),
         (Errno::Enodev, "c0 prctl 1 2 3 0 0: ENODEV\n"),
+        (Errno::Einval, "c0 prctl 1 2 3 0 0: EINVAL\n"),
     ] {
         expect_line(&rt, &prctl(1, 2, 3, Reply::Refused(*errno)), line);
+    }
+}
+
+#[test]
+fn lines_of_calls_that_tell(rt: HostRuntime) {
+    expect_line(
+        &rt,
+        &prctl(1, 0, 0, Reply::Value(2)),
+        "c0 prctl 1 0 0 0 0: 0 value 2\n",
+    );
+    expect_line(
+        &rt,
+        &Entry {
+            actor: Actor::Caller(255),
+            event: Event::Prctl {
+                caller: 4294967295,
+                ask: Ask {
+                    cmd: 4294967295,
+                    pid: -2147483648,
+                    scope: 4294967295,
+                    addr: 18446744073709551615,
+                },
+            },
+            reply: Reply::Value(18446744073709551615),
+        },
+        "c255 prctl 4294967295 4294967295 -2147483648 4294967295 18446744073709551615: 0 value 18446744073709551615\n",
+    );
+}
+
+/// Linux' numbers of the errors.
+const NUMBERS: [(Errno, i32); 6] = [
+    (Errno::Eperm, 1),
+    (Errno::Esrch, 3),
+    (Errno::Enomem, 12),
+    (Errno::Efault, 14),
+    (Errno::Enodev, 19),
+    (Errno::Einval, 22),
+];
+
+#[test]
+fn numbers_of_errors(rt: HostRuntime) {
+    for (errno, number) in &NUMBERS {
+        assert!(rt; errno.number() == *number);
     }
 }
 

@@ -39,7 +39,7 @@ macro_rules! after_head {
 }
 
 /// For each rule a text that breaks it alone.
-const REFUSED: [(&str, &str); 43] = [
+const REFUSED: [(&str, &str); 47] = [
     ("some line", ""),
     (
         "the version",
@@ -88,25 +88,44 @@ const REFUSED: [(&str, &str); 43] = [
     ("a caller's event", after_head!("step s0 wake 1\nend\n")),
     ("an actor's sibling", after_head!("step s2 turn\nend\n")),
     (
-        "a command of a call",
-        after_head!("step c0 prctl 1 3 1 0 0\nend\n"),
-    ),
-    (
-        "no target of a cookie that is made",
-        after_head!("step c0 prctl 1 1 1 0 0\nend\n"),
-    ),
-    (
-        "the least target of a cookie that is shared",
-        after_head!("step c0 prctl 1 2 0 0 0\nend\n"),
+        "the greatest command",
+        after_head!("step c0 prctl 1 4294967296 0 0 0\nend\n"),
     ),
     (
         "the greatest target",
         after_head!("step c0 prctl 1 2 2147483648 0 0\nend\n"),
     ),
-    ("the scope", after_head!("step c0 prctl 1 1 0 1 0\nend\n")),
     (
-        "no address",
-        after_head!("step c0 prctl 1 1 0 0 4096\nend\n"),
+        "the least target",
+        after_head!("step c0 prctl 1 2 -2147483649 0 0\nend\n"),
+    ),
+    (
+        "no sign of a target 0",
+        after_head!("step c0 prctl 1 2 -0 0 0\nend\n"),
+    ),
+    (
+        "a sign before digits",
+        after_head!("step c0 prctl 1 2 - 0 0\nend\n"),
+    ),
+    (
+        "no leading 0 behind a sign",
+        after_head!("step c0 prctl 1 2 -01 0 0\nend\n"),
+    ),
+    (
+        "no sign of a scope",
+        after_head!("step c0 prctl 1 2 1 -1 0\nend\n"),
+    ),
+    (
+        "the greatest scope",
+        after_head!("step c0 prctl 1 1 0 4294967296 0\nend\n"),
+    ),
+    (
+        "the greatest address",
+        after_head!("step c0 prctl 1 0 0 0 18446744073709551616\nend\n"),
+    ),
+    (
+        "five arguments",
+        after_head!("step c0 prctl 1 1 0 0\nend\n"),
     ),
     (
         "a call's own actor",
@@ -167,6 +186,24 @@ const REFUSED: [(&str, &str); 43] = [
         after_head!("step s0 turn\ntask 2 2 2 0 fifo:10 0 0 0 0 0 0 0 1 1\nend\n"),
     ),
 ];
+
+/// For each argument of a call the least and the greatest.
+const CALLS: [&str; 4] = [
+    after_head!("step c0 prctl 1 0 -2147483648 0 0\nend\n"),
+    after_head!(
+        "step c7 prctl 999999 4294967295 2147483647 4294967295 18446744073709551615\nend\n"
+    ),
+    after_head!("step c0 prctl 1 3 -1 2 4096\nend\n"),
+    after_head!("step c0 prctl 1 2 0 1 1\nend\n"),
+];
+
+#[test]
+fn reads_calls(rt: HostRuntime) {
+    for text in &CALLS {
+        let scenario = read(rt.alloc(), text.as_bytes()).expect(&rt, text);
+        assert!(rt; scenario.steps.items().len() == 1);
+    }
+}
 
 fn is_refused(alloc: Global, text: &[u8]) -> bool {
     matches!(

@@ -1,0 +1,233 @@
+//! The parts of a machine: the table of tasks, the references of cookies, the access check, and the plan
+//! of a call.
+
+ghost use Rattle.std.specs.Prelude.{◌≡◌, All};
+ghost use Rattle.cookie_refs.specs.Refs.{Agree};
+
+use cookie_refs::{CookieFull, CookieRefs};
+use cs_types::{Ask, Creds, Errno, Pid, Policy, Reply, Task, TaskSpec};
+use prctl_core::{Decision, Planned, Target, plan};
+use ptrace_check::{Guards, may_access};
+use std::process::Abort;
+use task_table::{AddFault, Group, TaskTable};
+
+/// A user's task, which may be dumped.
+const USER: Creds = Creds {
+    ruid: 1000,
+    euid: 1000,
+    suid: 1000,
+    rgid: 1000,
+    egid: 1000,
+    sgid: 1000,
+    cap: false,
+    mm: true,
+    dumpable: true,
+};
+
+/// No two ids are one, and none is the user's.
+const OTHER_USER: Creds = Creds {
+    ruid: 1,
+    euid: 2,
+    suid: 3,
+    rgid: 4,
+    egid: 5,
+    sgid: 6,
+    ..USER
+};
+
+/// A task with these credentials, in this thread group and this process group.
+fn task_with(pid: Pid, tgid: Pid, pgid: u32, creds: Creds) -> TaskSpec {
+    TaskSpec {
+        pid,
+        tgid,
+        pgid,
+        cpu: 1,
+        policy: Policy::Fifo(1),
+        creds,
+    }
+}
+
+/// A task of the user, in this thread group and this process group.
+fn spec(pid: Pid, tgid: Pid, pgid: u32) -> TaskSpec {
+    task_with(pid, tgid, pgid, USER)
+}
+
+/// The tasks 1 to 3 of the user, of which 1 leads 2. They are added in another order.
+fn three_tasks<R: AllocGlobal + Abort>(rt: &R) -> TaskTable
+    ensures { All (λ task. task.cookie ≡ 0) result.tasks }
+{
+    let mut table = TaskTable::with_limit(rt.alloc(), 3).expect(rt, "room");
+    for spec in &[spec(3, 3, 3), spec(1, 1, 1), spec(2, 1, 1)] {
+        table.add(*spec).expect(rt, "a task more");
+    }
+    table
+}
+
+#[test]
+fn tasks_of_a_table(rt: HostRuntime) {
+    let table = three_tasks(&rt);
+    assert!(rt; table.len() == 3);
+    assert!(rt; table.iter().map(|task| task.spec.pid).eq([1, 2, 3]));
+    let task = table.find(2).expect(&rt, "a task");
+    assert!(rt; task.spec.tgid == 1 && task.home == 1 && !task.queued);
+    assert!(rt; task.cookie == 0 && task.stamp == 0 && task.occupation == 0);
+}
+
+#[test]
+fn tasks_that_are_not_added(rt: HostRuntime) {
+    let mut table = three_tasks(&rt);
+    let twice = table.add(spec(2, 2, 2));
+    assert!(rt; matches!(twice, Err(AddFault::Twice(2))));
+    let full = table.add(spec(4, 4, 4));
+    assert!(rt; matches!(full, Err(AddFault::Full(3))));
+    assert!(rt; table.len() == 3);
+}
+
+#[test]
+fn tasks_that_change(rt: HostRuntime) {
+    let mut table = three_tasks(&rt);
+    let task = *table.find(2).expect(&rt, "a task");
+    let old = table.change(Task { cookie: 7, ..task });
+    assert!(rt; matches!(old, Some(Task { cookie: 0, .. })));
+    let removed = table.remove(2);
+    assert!(rt; matches!(removed, Some(Task { cookie: 7, .. })));
+    assert!(rt; table.find(2).is_none());
+    assert!(rt; table.remove(2).is_none());
+    assert!(rt; table.len() == 2);
+}
+
+#[test]
+fn tasks_of_a_group(rt: HostRuntime) {
+    let table = three_tasks(&rt);
+    for (group, after, next) in [
+        (Group::All, 0, Some(1)),
+        (Group::All, 2, Some(3)),
+        (Group::All, 3, None),
+        (Group::Threads(1), 1, Some(2)),
+        (Group::Threads(1), 2, None),
+        (Group::Process(3), 0, Some(3)),
+    ] {
+        assert!(rt; table.next_in(group, after) == next, "after {after}");
+    }
+}
+
+#[test]
+fn faults_are_told(rt: HostRuntime) {
+    let twice = format!(in rt.alloc(); "{}", AddFault::Twice(2)).expect(&rt, "room");
+    assert!(rt; twice.as_str() == "there is a task 2 already");
+    let full = format!(in rt.alloc(); "{}", AddFault::Full(3)).expect(&rt, "room");
+    assert!(rt; full.as_str() == "there are 3 tasks already, which is the limit");
+    let no_more = format!(in rt.alloc(); "{}", CookieFull { limit: 1 }).expect(&rt, "room");
+    assert!(rt; no_more.as_str() == "1 cookies are live, and no more may be");
+}
+
+#[test]
+fn references_of_a_cookie(rt: HostRuntime) {
+    let mut refs = CookieRefs::with_limit(rt.alloc(), 1).expect(&rt, "room");
+    assert!(rt; refs.make().expect(&rt, "a cookie") == 1);
+    assert!(rt; refs.live() == 1 && refs.count(1) == 1);
+    assert!(rt; matches!(refs.make(), Err(CookieFull { limit: 1 })));
+    refs.get(1);
+    assert!(rt; refs.count(1) == 2);
+    refs.put(1);
+    assert!(rt; refs.live() == 1 && refs.count(1) == 1);
+    refs.put(1);
+    assert!(rt; refs.live() == 0 && refs.count(1) == 0);
+    assert!(rt; refs.make().expect(&rt, "a cookie") == 2);
+}
+
+#[test]
+fn no_references_of_cookie_0(rt: HostRuntime) {
+    let mut refs = CookieRefs::with_limit(rt.alloc(), 1).expect(&rt, "room");
+    refs.get(0);
+    refs.put(0);
+    assert!(rt; refs.live() == 0 && refs.count(0) == 0);
+}
+
+#[test]
+fn tasks_that_may_be_accessed(rt: HostRuntime) {
+    let mut guards = Guards::none();
+    let other_saved = Creds { suid: 1001, ..USER };
+    let capable = Creds { cap: true, ..USER };
+    for (caller, target, may) in &[
+        (spec(1, 1, 1), task_with(2, 1, 1, OTHER_USER), true),
+        (spec(1, 1, 1), spec(2, 2, 2), true),
+        (spec(1, 1, 1), task_with(2, 2, 2, other_saved), false),
+        (
+            task_with(1, 1, 1, capable),
+            task_with(2, 2, 2, other_saved),
+            true,
+        ),
+    ] {
+        assert!(rt; may_access(caller, target, &mut guards) == *may);
+    }
+}
+
+/// The three tasks, and no cookie yet.
+fn parts<R: AllocGlobal + Abort>(rt: &R) -> (TaskTable, CookieRefs)
+    ensures agree { Agree result.1 result.0.tasks }
+    ensures next { result.1.next ≡ 1 }
+{
+    let table = three_tasks(rt);
+    let refs = CookieRefs::with_limit(rt.alloc(), 8).expect(rt, "room");
+    (table, refs)
+}
+
+#[test]
+fn plan_of_a_create(rt: HostRuntime) {
+    let (table, mut refs) = parts(&rt);
+    let ask = Ask {
+        cmd: 1,
+        pid: 0,
+        scope: 1,
+        addr: 0,
+    };
+    let planned = plan(&table, &mut refs, &mut Guards::none(), 2, 65_536, 1, &ask);
+    assert!(rt;
+        matches!(
+            planned,
+            Planned::Go(Decision {
+                to: Target::Threads(1),
+                cookie: 1,
+                reply: Reply::Zero,
+            })
+        )
+    );
+    assert!(rt; refs.count(1) == 1);
+}
+
+#[test]
+fn plan_of_a_get(rt: HostRuntime) {
+    let (table, mut refs) = parts(&rt);
+    let ask = Ask {
+        cmd: 0,
+        pid: 3,
+        scope: 0,
+        addr: 4096,
+    };
+    let planned = plan(&table, &mut refs, &mut Guards::none(), 2, 65_536, 1, &ask);
+    assert!(rt;
+        matches!(
+            planned,
+            Planned::Go(Decision {
+                to: Target::Nobody,
+                cookie: 0,
+                reply: Reply::Value(0),
+            })
+        )
+    );
+}
+
+#[test]
+fn plan_without_a_target(rt: HostRuntime) {
+    let (table, mut refs) = parts(&rt);
+    let ask = Ask {
+        cmd: 1,
+        pid: 9,
+        scope: 0,
+        addr: 0,
+    };
+    let planned = plan(&table, &mut refs, &mut Guards::none(), 2, 65_536, 1, &ask);
+    assert!(rt; matches!(planned, Planned::Answer(Reply::Refused(Errno::Esrch))));
+    assert!(rt; refs.live() == 0);
+}
