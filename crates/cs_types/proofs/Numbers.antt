@@ -1,6 +1,6 @@
 -- Numbers: how the three numbers go on by one entry, that they tell whether a selection is fresh, and how far they,
--- the stamps and the cookies come in a history.
-use Rattle.std.proofs.Common.{◌≡◌, ℕ, ◌+◌, ◌*◌, ◌<◌, ◌≤◌, Bool, true, false, cond, List, [], ◌∷◌, length, refl, sym, ap, subst, ◌∙◌, arith, ltb, eqb, Option, Some, None, is_some}
+-- the stamps, the cookies and the pids come in a history.
+use Rattle.std.proofs.Common.{◌≡◌, ℕ, ◌+◌, ◌*◌, ◌<◌, ◌≤◌, Bool, true, false, cond, List, [], ◌∷◌, length, length-append, refl, sym, ap, subst, ◌∙◌, arith, ltb, eqb, Option, Some, None, is_some}
 use Rattle.std.specs.Prelude.{◌&&◌, ◌||◌, not, take_while, sum_by}
 use Rattle.std.specs.List.{list_any, list_all}
 use Rattle.std.specs.Option.{option_map_or}
@@ -11,21 +11,21 @@ use Rattle.std.proofs.lemmas.Bool.Decides.{nat_tests}
 use Rattle.cs_types.specs.declared.task.Task.{Task}
 use Rattle.cs_types.specs.declared.event.Ask.{Ask}
 use Rattle.cs_types.specs.declared.event.Event.{Event}
-use Rattle.cs_types.specs.declared.event.Event.TheVariants.{Turn, Resched, Block, Wake, Prctl}
+use Rattle.cs_types.specs.declared.event.Event.TheVariants.{Turn, Resched, Block, Exit, Wake, Fork, Prctl}
 use Rattle.cs_types.specs.declared.reply.Kind.{Kind}
 use Rattle.cs_types.specs.declared.reply.Kind.TheVariants.{Selected, Adopted, Plain}
 use Rattle.cs_types.specs.declared.reply.Pick.{Pick}
 use Rattle.cs_types.specs.declared.reply.Reply.{Reply}
-use Rattle.cs_types.specs.declared.reply.Reply.TheVariants.{Picked, Slept, Woken, Zero}
+use Rattle.cs_types.specs.declared.reply.Reply.TheVariants.{Picked, Slept, Ended, Woken, Child, Zero}
 use Rattle.cs_types.specs.declared.reply.Entry.{Entry}
 use Rattle.cs_types.specs.declared.scenario.Scenario.{Scenario}
-use Rattle.cs_types.specs.Room.{RoomState, sibling_of, running_on, task_of}
+use Rattle.cs_types.specs.Room.{RoomState, first_pid, sibling_of, running_on, task_of}
 use Rattle.cs_types.specs.Selection.{selected_room, selected, plain, is_plain, rescheduled, scheduled, schedule}
 use Rattle.cs_types.specs.Prctl.{Setting, target_of, setting_by, setting_of, is_share_from, is_in_scope, makes_cookie, with_made, with_answer, prctl_answer, prctl_room}
-use Rattle.cs_types.specs.Step.{Stepped, step, woken, blocked, turned, dequeued, idled}
+use Rattle.cs_types.specs.Step.{Stepped, step, woken, blocked, exited, forked, turned, dequeued, without, has_threads, idled}
 use Rattle.cs_types.specs.Touches.{is_selected, is_adopted, pick_touches, cookie_touches, set_touches, selection_of, is_selection, touches_by, Noted, Ledger, noted, back_to, task_number, pick_number, own_number, is_taken_by, is_fresh}
 use Rattle.cs_types.specs.History.{History, Moment, next, after, fold_of, ledger_of, beginning}
-use Rattle.cs_types.proofs.Tasks.{length-asleep_tasks, length-tasks-step}
+use Rattle.cs_types.proofs.Tasks.{length-asleep_tasks, few-step}
 
 -- ---- one entry more
 
@@ -120,6 +120,7 @@ selected_kind pick h = grind arith
 selection_touches : (room : RoomState) (event : Event) (reply : Reply) → is_some (selection_of reply) ≡ true → 0 < touches_by room event reply
 selection_touches room event (Picked pick) h = selected_touches pick.kind (selected_kind pick h)
 selection_touches room event (Slept pid pick) h = omega arith
+selection_touches room event (Ended pid pick) h = omega arith
 selection_touches room event reply h = absurd cc
 
 selections_touch_after : (moment : Moment) (entries : List Entry) → SelectionsTouch moment.ledger → SelectionsTouch (after moment entries).ledger
@@ -174,30 +175,33 @@ pick_touches-le pick = cond_both (is_adopted pick.kind) 0 1 (λ n. n ≤ 1) (λ 
 -- An entry touches at most twice for each task, and twice more.
 pub touches_by-le : (room : RoomState) (event : Event) (reply : Reply) → touches_by room event reply ≤ 2 * length room.tasks + 2
 touches_by-le room event (Woken cpu) = omega arith
+touches_by-le room event (Child pid) = omega arith
 touches_by-le room event (Picked pick) = omega (arith, pick_touches-le pick)
 touches_by-le room event (Slept pid pick) = omega (arith, pick_touches-le pick)
+touches_by-le room event (Ended pid pick) = omega (arith, pick_touches-le pick)
 touches_by-le room event Zero = set_touches-le room event
 touches_by-le room event reply = omega arith
 
-touches_after : (moment : Moment) (entries : List Entry) → length moment.room.tasks ≤ 256 →
+touches_after : (moment : Moment) (entries : List Entry) → length moment.room.tasks ≤ moment.room.task_limit → moment.room.task_limit ≤ 256 →
     task_number (after moment entries).ledger ≤ task_number moment.ledger + 514 * length entries
-touches_after moment [] few = omega arith
-touches_after moment (entry ∷ entries) few =
+touches_after moment [] few low = omega arith
+touches_after moment (entry ∷ entries) few low =
     let note = noted moment.room entry in
-    let more = touches_after (next moment entry) entries (subst (λ n. n ≤ 256) (sym (length-tasks-step moment.room (is_fresh moment.ledger) entry.event)) few) in
-    omega (arith, few, more, task_number-cons note moment.ledger, touches_by-le moment.room entry.event entry.reply)
+    let one = few-step moment.room (is_fresh moment.ledger) entry.event in
+    let more = touches_after (next moment entry) entries (subst (λ n. length (next moment entry).room.tasks ≤ n) (sym one.limit) (one.few few)) (omega (arith, low, one.limit)) in
+    omega (arith, few, low, more, task_number-cons note moment.ledger, touches_by-le moment.room entry.event entry.reply)
 
--- So the task number of a history of at most 256 tasks is at most 514 times its length.
-pub task_number-ledger_of : (scenario : Scenario) (history : History) → length scenario.tasks ≤ 256 →
+-- So the task number of a history with at most 256 tasks at once is at most 514 times its length.
+pub task_number-ledger_of : (scenario : Scenario) (history : History) → length scenario.tasks ≤ scenario.task_limit → scenario.task_limit ≤ 256 →
     task_number (ledger_of scenario history) ≤ 514 * length history
-task_number-ledger_of scenario history few =
-    omega (arith, touches_after (beginning scenario) history (subst (λ n. n ≤ 256) (sym (length-asleep_tasks scenario.tasks)) few))
+task_number-ledger_of scenario history few low =
+    omega (arith, touches_after (beginning scenario) history (subst (λ n. n ≤ scenario.task_limit) (sym (length-asleep_tasks scenario.tasks)) few) low)
 
--- ---- how far the stamps and the cookies come
+-- ---- how far the stamps, the cookies, the pids and the list of the ended come
 
--- what is drawn next, the stamp and the cookie
-abbrev pub draws : RoomState → ℕ × ℕ
-draws room = (room.next_stamp, room.next_cookie)
+-- what is drawn next, the stamp, the cookie and the pid, and how many tasks ended
+abbrev pub draws : RoomState → ℕ × ℕ × ℕ × ℕ
+draws room = (room.next_stamp, room.next_cookie, room.next_pid, length room.ended)
 
 draws-selected_room : (room : RoomState) (cpu core : ℕ) → draws (selected_room room cpu core) ≡ draws room
 unfolding selected_room
@@ -217,12 +221,20 @@ draws-scheduled room false cpu (Some run) = draws-rescheduled room cpu
 draws-schedule : (room : RoomState) (fresh : Bool) (cpu : ℕ) → draws (schedule room fresh cpu).room ≡ draws room
 draws-schedule room fresh cpu = draws-scheduled room fresh cpu (sibling_of room cpu).waiting
 
--- at most one more stamp and one more cookie were drawn
-abbrev pub DrawsOne : ℕ × ℕ → ℕ × ℕ → Type 0
-DrawsOne old new = (new.0 ≤ old.0 + 1) × (new.1 ≤ old.1 + 1)
+-- at most one more of each was drawn
+pub record DrawsOne (old new : ℕ × ℕ × ℕ × ℕ) : Type 0 where
+  pub stamp : new.0 ≤ old.0 + 1
+  pub cookie : new.1 ≤ old.1 + 1
+  pub pid : new.2 ≤ old.2 + 1
+  pub ended : new.3 ≤ old.3 + 1
 
-draws_none : (old new : ℕ × ℕ) → new ≡ old → DrawsOne old new
-draws_none old new same = (omega (arith, ap (λ (d : ℕ × ℕ). d.0) same), omega (arith, ap (λ (d : ℕ × ℕ). d.1) same))
+draws_none : (old new : ℕ × ℕ × ℕ × ℕ) → new ≡ old → DrawsOne old new
+draws_none old new same = record {
+  stamp = omega (arith, ap (λ (d : ℕ × ℕ × ℕ × ℕ). d.0) same);
+  cookie = omega (arith, ap (λ (d : ℕ × ℕ × ℕ × ℕ). d.1) same);
+  pid = omega (arith, ap (λ (d : ℕ × ℕ × ℕ × ℕ). d.2) same);
+  ended = omega (arith, ap (λ (d : ℕ × ℕ × ℕ × ℕ). d.3) same);
+}
 
 draws-turned : (room : RoomState) (fresh : Bool) (cpu : ℕ) → DrawsOne (draws room) (draws (turned room fresh cpu).room)
 draws-turned room fresh cpu =
@@ -237,11 +249,33 @@ draws-woken : (room : RoomState) (task : Option Task) → DrawsOne (draws room) 
 draws-woken room None = draws_none _ _ refl
 draws-woken room (Some task) =
     cond_both task.queued _ _ (λ (made : Stepped). DrawsOne (draws room) (draws made.room)) (λ _. draws_none _ _ refl)
-    (λ _. (omega arith, omega arith))
+    (λ _. record { stamp = omega arith; cookie = omega arith; pid = omega arith; ended = omega arith })
+
+draws-exited : (room : RoomState) (cpu : ℕ) (task : Option Task) → DrawsOne (draws room) (draws (exited room cpu task).room)
+draws-exited room cpu None = draws_none _ _ refl
+draws-exited room cpu (Some task) =
+    cond_both (has_threads room task) _ _ (λ (made : Stepped). DrawsOne (draws room) (draws made.room)) (λ _. draws_none _ _ refl)
+    (λ _. subst (DrawsOne (draws room)) (sym (draws-schedule (idled (without room task) cpu) false cpu)) (record {
+      stamp = omega arith;
+      cookie = omega arith;
+      pid = omega arith;
+      ended = omega (arith, length-append room.ended (task.spec.pid ∷ []));
+    }))
+
+draws-forked : (room : RoomState) (thread : Bool) (caller : Option Task) → DrawsOne (draws room) (draws (forked room thread caller).room)
+draws-forked room thread None = draws_none _ _ refl
+draws-forked room thread (Some caller) =
+    cond_both (eqb (length room.tasks) room.task_limit) _ _ (λ (made : Stepped). DrawsOne (draws room) (draws made.room)) (λ _. draws_none _ _ refl)
+    (λ _. record { stamp = omega arith; cookie = omega arith; pid = omega arith; ended = omega arith })
 
 draws-with_made : (room : RoomState) (makes : Bool) → DrawsOne (draws room) (draws (with_made room makes))
 draws-with_made room makes =
-    (omega arith, cond_both makes (room.next_cookie + 1) room.next_cookie (λ n. n ≤ room.next_cookie + 1) (λ _. omega arith) (λ _. omega arith))
+    record {
+      stamp = omega arith;
+      cookie = cond_both makes (room.next_cookie + 1) room.next_cookie (λ n. n ≤ room.next_cookie + 1) (λ _. omega arith) (λ _. omega arith);
+      pid = omega arith;
+      ended = omega arith;
+    }
 
 draws-with_answer : (room : RoomState) (set : Setting) (answer : Reply) → draws (with_answer room set answer) ≡ draws room
 draws-with_answer room set Zero = refl
@@ -257,20 +291,29 @@ pub draws-step : (room : RoomState) (fresh : Bool) (event : Event) → DrawsOne 
 draws-step room fresh (Turn cpu) = draws-turned room fresh cpu
 draws-step room fresh (Resched cpu) = draws_none _ _ (draws-schedule room fresh cpu)
 draws-step room fresh (Block cpu) = draws_none _ _ (draws-blocked room cpu (running_on room cpu))
+draws-step room fresh (Exit cpu) = draws-exited room cpu (running_on room cpu)
 draws-step room fresh (Wake pid) = draws-woken room (task_of room pid)
+draws-step room fresh (Fork caller thread) = draws-forked room thread (task_of room caller)
 draws-step room fresh (Prctl caller ask) = draws-prctl_room room caller ask
 
 draws_after : (moment : Moment) (entries : List Entry) → let room = (after moment entries).room in
     (room.next_stamp ≤ moment.room.next_stamp + length entries) × (room.next_cookie ≤ moment.room.next_cookie + length entries)
-draws_after moment [] = (omega arith, omega arith)
+    × (room.next_pid ≤ moment.room.next_pid + length entries) × (length room.ended ≤ length moment.room.ended + length entries)
+draws_after moment [] = (omega arith, omega arith, omega arith, omega arith)
 draws_after moment (entry ∷ entries) =
     let more = draws_after (next moment entry) entries in
     let one = draws-step moment.room (is_fresh moment.ledger) entry.event in
-    (omega (arith, more.0, one.0), omega (arith, more.1, one.1))
+    (omega (arith, more.0, one.stamp), omega (arith, more.1, one.cookie), omega (arith, more.2, one.pid), omega (arith, more.3, one.ended))
 
--- After a history as many stamps and cookies were drawn as it has entries, at most.
+-- After a history as many stamps, cookies and pids were drawn as it has entries, and as many tasks ended, at most.
 pub next_stamp-fold_of : (scenario : Scenario) (history : History) → (fold_of scenario history).next_stamp ≤ length history
 next_stamp-fold_of scenario history = omega (arith, (draws_after (beginning scenario) history).0)
 
 pub next_cookie-fold_of : (scenario : Scenario) (history : History) → (fold_of scenario history).next_cookie ≤ length history + 1
 next_cookie-fold_of scenario history = omega (arith, (draws_after (beginning scenario) history).1)
+
+pub next_pid-fold_of : (scenario : Scenario) (history : History) → (fold_of scenario history).next_pid ≤ first_pid scenario.tasks + length history
+next_pid-fold_of scenario history = (draws_after (beginning scenario) history).2
+
+pub ended-fold_of : (scenario : Scenario) (history : History) → length (fold_of scenario history).ended ≤ length history
+ended-fold_of scenario history = omega (arith, (draws_after (beginning scenario) history).3)

@@ -11,7 +11,7 @@ use Rattle.std.proofs.lemmas.List.FromFn.{length-enumerate_from, get_or-enumerat
 use Rattle.std.proofs.lemmas.Option.{MatchOption-from_none}
 use Rattle.cs_types.specs.declared.task.Task.{Task}
 use Rattle.cs_types.specs.declared.event.Event.{Event}
-use Rattle.cs_types.specs.declared.event.Event.TheVariants.{Turn, Resched, Block, Wake, Prctl}
+use Rattle.cs_types.specs.declared.event.Event.TheVariants.{Turn, Resched, Block, Exit, Wake, Fork, Prctl}
 use Rattle.cs_types.specs.declared.event.Ask.{Ask}
 use Rattle.cs_types.specs.declared.reply.Reply.TheVariants.{Picked}
 use Rattle.cs_types.specs.declared.reply.Entry.{Entry}
@@ -22,14 +22,14 @@ use Rattle.cs_types.specs.Order.{foremost, is_higher, outranks, goes_before, fir
 use Rattle.cs_types.specs.Selection.{first_on, cookie_of, pid_of, lead_from, choice, eligible, is_forced, is_run, told, handed, given, occupation_of, selected_room, selected, Scheduled, is_plain, plain, rescheduled, scheduled, schedule}
 use Rattle.cs_types.specs.Prctl.{Row, first_answer, rows_before_making, rows_after_making, prctl_answer}
 use Rattle.cs_types.specs.Touches.{selection_of, is_fresh}
-use Rattle.cs_types.specs.Step.{Stepped, step, turned, blocked, woken, idled, dequeued}
+use Rattle.cs_types.specs.Step.{Stepped, step, turned, blocked, woken, idled, dequeued, exited, forked, without, has_threads}
 use Rattle.cs_types.specs.History.{History, moment_of, fold_of, ledger_of, reply_to, step_at}
 use Rattle.cs_types.specs.Laws.{to_run, SelectsForTheCore, scheduling_room, cpu_of}
 use Rattle.cs_types.proofs.Foremost.{each_weaker, foremost_none, foremost_one}
 use Rattle.cs_types.proofs.First.{goes_before_is_order, outranks_is_order}
 use Rattle.cs_types.proofs.Filtered.{each_of_map, each_found, foremost_least, foremost-filter, Contains-filter, Contains-filter_parts, Contains-range, Contains-range_within}
 use Rattle.cs_types.proofs.Histories.{moment_of-push}
-use Rattle.cs_types.proofs.Siblings.{onlines-idled, length-alike, is_online-alike, length-fold_of, is_online-fold_of}
+use Rattle.cs_types.proofs.Siblings.{onlines-idled, onlines-without, length-alike, is_online-alike, length-fold_of, is_online-fold_of}
 
 -- ---- the first of a list of tasks
 
@@ -265,6 +265,23 @@ blocked_keeps_law room cpu (Some task) below up =
     schedule_keeps_law room_then false cpu (subst (λ n. cpu < n) (sym (length-alike room_then room same)) below)
     (is_online-alike room_then room same cpu ∙ up)
 
+exited_keeps_law : (room : RoomState) (cpu : ℕ) (task : Option Task) → cpu < length room.siblings → is_online room cpu ≡ true →
+    IfSome (selection_of (exited room cpu task).reply)
+    (λ pick. SelectsForTheCore (option_map_or (λ task. idled (without room task) cpu) task room) cpu pick (exited room cpu task).room)
+exited_keeps_law room cpu None below up = tt
+exited_keeps_law room cpu (Some task) below up =
+    let room_then = idled (without room task) cpu in
+    let same = onlines-without room cpu task in
+    cond_both (has_threads room task) _ _ (λ (made : Stepped). IfSome (selection_of made.reply) (λ pick. SelectsForTheCore room_then cpu pick made.room))
+    (λ _. tt)
+    (λ _. schedule_keeps_law room_then false cpu (subst (λ n. cpu < n) (sym (length-alike room_then room same)) below)
+    (is_online-alike room_then room same cpu ∙ up))
+
+forked_keeps_law : (room : RoomState) (pid : ℕ) (thread : Bool) (caller : Option Task) → StepKeepsLaw room (Fork pid thread) (forked room thread caller)
+forked_keeps_law room pid thread None = tt
+forked_keeps_law room pid thread (Some caller) =
+    cond_both (length room.tasks == room.task_limit) _ _ (StepKeepsLaw room (Fork pid thread)) (λ _. tt) (λ _. tt)
+
 woken_keeps_law : (room : RoomState) (pid : ℕ) (task : Option Task) → StepKeepsLaw room (Wake pid) (woken room task)
 woken_keeps_law room pid None = tt
 woken_keeps_law room pid (Some task) = cond_both task.queued _ _ (StepKeepsLaw room (Wake pid)) (λ _. tt) (λ _. tt)
@@ -293,7 +310,9 @@ pub step_keeps_law : (room : RoomState) (fresh : Bool) (event : Event) → IsEve
 step_keeps_law room fresh (Turn cpu) below up = turned_keeps_law room fresh cpu below (up cpu below)
 step_keeps_law room fresh (Resched cpu) below up = schedule_keeps_law room fresh cpu below (up cpu below)
 step_keeps_law room fresh (Block cpu) below up = blocked_keeps_law room cpu (running_on room cpu) below (up cpu below)
+step_keeps_law room fresh (Exit cpu) below up = exited_keeps_law room cpu (running_on room cpu) below (up cpu below)
 step_keeps_law room fresh (Wake pid) limits up = woken_keeps_law room pid (task_of room pid)
+step_keeps_law room fresh (Fork caller thread) limits up = forked_keeps_law room caller thread (task_of room caller)
 step_keeps_law room fresh (Prctl caller ask) limits up =
     MatchOption-from_none (selection_of (prctl_answer room caller ask)) _ (prctl_selects_nothing room caller ask)
 

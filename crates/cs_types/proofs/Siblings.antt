@@ -6,7 +6,7 @@ use Rattle.std.proofs.lemmas.Bool.{cond_both}
 use Rattle.std.proofs.lemmas.List.{length-map, length-replicate, get_or-replicate}
 use Rattle.cs_types.specs.declared.task.Task.{Task}
 use Rattle.cs_types.specs.declared.event.Event.{Event}
-use Rattle.cs_types.specs.declared.event.Event.TheVariants.{Turn, Resched, Block, Wake, Prctl}
+use Rattle.cs_types.specs.declared.event.Event.TheVariants.{Turn, Resched, Block, Exit, Wake, Fork, Prctl}
 use Rattle.cs_types.specs.declared.event.Ask.{Ask}
 use Rattle.cs_types.specs.declared.reply.Reply.{Reply}
 use Rattle.cs_types.specs.declared.reply.Reply.TheVariants.{Zero}
@@ -15,7 +15,7 @@ use Rattle.cs_types.specs.declared.scenario.Scenario.{Scenario}
 use Rattle.cs_types.specs.Room.{RoomState, SiblingState, idle, sibling_of, running_on, is_online, task_of, with_sibling, start}
 use Rattle.cs_types.specs.Selection.{is_run, told, handed, given, selected_room, selected, plain, is_plain, rescheduled, scheduled, schedule}
 use Rattle.cs_types.specs.Prctl.{Setting, setting_of, runs_one, makes_cookie, with_made, with_answer, prctl_answer, prctl_room}
-use Rattle.cs_types.specs.Step.{Stepped, step, woken, blocked, turned, dequeued, idled, enqueued}
+use Rattle.cs_types.specs.Step.{Stepped, step, woken, blocked, exited, forked, turned, dequeued, without, has_threads, child_of, with_child, idled, enqueued}
 use Rattle.cs_types.specs.Touches.{is_fresh}
 use Rattle.cs_types.specs.History.{History, Moment, beginning, next, after, fold_of}
 
@@ -102,6 +102,22 @@ map-map_alike : {X Y : Type 0} (f : X → Y) (g : X → X) → ((x : X) → f (g
 map-map_alike f g same [] = refl
 map-map_alike f g same (x ∷ xs) = cc (same x, map-map_alike f g same xs)
 
+pub onlines-without : (room : RoomState) (cpu : ℕ) (task : Task) → onlines (idled (without room task) cpu) ≡ onlines room
+onlines-without room cpu task = onlines-with_sibling (without room task) cpu _ refl
+
+onlines-exited : (room : RoomState) (cpu : ℕ) (task : Option Task) → onlines (exited room cpu task).room ≡ onlines room
+onlines-exited room cpu None = refl
+onlines-exited room cpu (Some task) =
+    cond_both (has_threads room task) _ _ (λ (made : Stepped). onlines made.room ≡ onlines room) (λ _. refl)
+    (λ _. onlines-schedule (idled (without room task) cpu) false cpu ∙ onlines-without room cpu task)
+
+onlines-forked : (room : RoomState) (thread : Bool) (caller : Option Task) → onlines (forked room thread caller).room ≡ onlines room
+onlines-forked room thread None = refl
+onlines-forked room thread (Some caller) =
+    let child = child_of caller thread room.next_pid in
+    cond_both (length room.tasks == room.task_limit) _ _ (λ (made : Stepped). onlines made.room ≡ onlines room) (λ _. refl)
+    (λ _. onlines-with_sibling (enqueued (with_child room child) child) child.home _ refl)
+
 onlines-with_answer : (room : RoomState) (set : Setting) (answer : Reply) → onlines (with_answer room set answer) ≡ onlines room
 onlines-with_answer room set Zero =
     map-map_alike (λ (s : SiblingState). s.online) (λ s. record s { pending = s.pending || runs_one set s }) (λ s. refl) room.siblings
@@ -117,7 +133,9 @@ pub onlines-step : (room : RoomState) (fresh : Bool) (event : Event) →
 onlines-step room fresh (Turn cpu) = onlines-turned room fresh cpu
 onlines-step room fresh (Resched cpu) = onlines-schedule room fresh cpu
 onlines-step room fresh (Block cpu) = onlines-blocked room cpu (running_on room cpu)
+onlines-step room fresh (Exit cpu) = onlines-exited room cpu (running_on room cpu)
 onlines-step room fresh (Wake pid) = onlines-woken room (task_of room pid)
+onlines-step room fresh (Fork caller thread) = onlines-forked room thread (task_of room caller)
 onlines-step room fresh (Prctl caller ask) = onlines-prctl_room room caller ask
 
 -- ---- what is read from whether the siblings are online

@@ -1,20 +1,25 @@
--- Tasks: no step adds a task or takes one away.
-use Rattle.std.proofs.Common.{◌≡◌, ℕ, suc, ◌+◌, Bool, true, false, List, [], ◌∷◌, length, refl, subst, sym, ap, ◌∙◌, arith, ltb, Option, Some, None}
-use Rattle.std.specs.Prelude.{fold, find}
-use Rattle.std.proofs.lemmas.Bool.{cond_both, eqb-true}
+-- Tasks: how many there are, and that one is found by its pid.
+use Rattle.std.proofs.Common.{◌≡◌, ℕ, suc, ◌+◌, ◌<◌, ◌≤◌, max, All, Bool, cond, true, false, List, [], ◌∷◌, length, refl, subst, sym, ap, ◌∙◌, arith, ltb, Option, Some, None}
+use Rattle.std.specs.Prelude.{fold, find, not, ◌==◌}
+use Rattle.std.proofs.lemmas.Bool.{cond_both, eqb-true, eqb-false}
+use Rattle.std.proofs.lemmas.List.Filters.{length-filter_both}
 use Rattle.std.proofs.lemmas.List.{length-map}
+use Rattle.std.specs.List.{AllByRecursion}
+use Rattle.std.proofs.Math.Nat.{le-max_left, le-max_right, max-le}
+use Rattle.std.proofs.lemmas.List.Elements.{All-head, All-tail}
 use Rattle.cs_types.specs.declared.task.Task.{Task}
 use Rattle.cs_types.specs.declared.task.TaskSpec.{TaskSpec}
 use Rattle.cs_types.specs.declared.event.Event.{Event}
-use Rattle.cs_types.specs.declared.event.Event.TheVariants.{Turn, Resched, Block, Wake, Prctl}
+use Rattle.cs_types.specs.declared.event.Event.TheVariants.{Turn, Resched, Block, Exit, Wake, Fork, Prctl}
 use Rattle.cs_types.specs.declared.reply.Reply.{Reply}
-use Rattle.cs_types.specs.declared.reply.Reply.TheVariants.{Zero}
+use Rattle.cs_types.specs.declared.reply.Reply.TheVariants.{Zero, Child, Refused}
+use Rattle.cs_types.specs.declared.reply.Errno.TheVariants.{Eagain}
 use Rattle.cs_types.specs.declared.reply.Entry.{Entry}
 use Rattle.cs_types.specs.declared.scenario.Scenario.{Scenario}
-use Rattle.cs_types.specs.Room.{RoomState, has_pid, sibling_of, running_on, task_of, asleep, placed, asleep_tasks}
+use Rattle.cs_types.specs.Room.{RoomState, first_pid, has_pid, sibling_of, running_on, task_of, asleep, placed, asleep_tasks}
 use Rattle.cs_types.specs.Selection.{remembered, selected_room, selected, plain, is_plain, rescheduled, scheduled, schedule}
-use Rattle.cs_types.specs.Prctl.{Setting, setting_of, makes_cookie, with_made, with_answer, prctl_answer}
-use Rattle.cs_types.specs.Step.{Stepped, step, woken, blocked, turned, dequeued, idled}
+use Rattle.cs_types.specs.Prctl.{Setting, setting_of, makes_cookie, with_made, with_answer, prctl_answer, prctl_room}
+use Rattle.cs_types.specs.Step.{Stepped, step, woken, blocked, exited, forked, turned, dequeued, without, has_threads, child_of, with_child, queued_at_home, idled}
 use Rattle.cs_types.specs.Touches.{is_fresh}
 use Rattle.cs_types.specs.History.{History, Moment, beginning, next, after, fold_of}
 use Rattle.cs_types.proofs.Foremost.{find_passes}
@@ -45,55 +50,132 @@ found_again pid tasks task found =
 
 -- ---- at a step
 
-length-tasks-rescheduled : (room : RoomState) (cpu : ℕ) → length (rescheduled room cpu).room.tasks ≡ length room.tasks
+-- the limit of tasks is the same, and where there were no more than it allows, there are no more
+pub record KeepsFew (old new : RoomState) : Type 0 where
+  pub limit : new.task_limit ≡ old.task_limit
+  pub few : length old.tasks ≤ old.task_limit → length new.tasks ≤ old.task_limit
+
+-- as many tasks stay as many
+as_many : (old new : RoomState) → new.task_limit ≡ old.task_limit → length new.tasks ≡ length old.tasks → KeepsFew old new
+as_many old new limit same = record { limit = limit; few = λ few. omega (arith, same, few) }
+
+few-trans : (old mid new : RoomState) → KeepsFew old mid → KeepsFew mid new → KeepsFew old new
+few-trans old mid new one two = record {
+  limit = two.limit ∙ one.limit;
+  few = λ few. subst (λ n. length new.tasks ≤ n) one.limit (two.few (subst (λ n. length mid.tasks ≤ n) (sym one.limit) (one.few few)));
+}
+
+few-rescheduled : (room : RoomState) (cpu : ℕ) → KeepsFew room (rescheduled room cpu).room
 unfolding selected_room
-length-tasks-rescheduled room cpu =
-    cond_both (is_plain room cpu) (plain room cpu) (selected room cpu) (λ made. length made.room.tasks ≡ length room.tasks) (λ _. refl)
-    (λ _. length-map room.tasks (remembered room _))
+few-rescheduled room cpu =
+    cond_both (is_plain room cpu) (plain room cpu) (selected room cpu) (λ made. KeepsFew room made.room)
+    (λ _. as_many room (plain room cpu).room refl refl)
+    (λ _. as_many room (selected room cpu).room refl (length-map room.tasks (remembered room _)))
 
-length-tasks-scheduled : (room : RoomState) (fresh : Bool) (cpu : ℕ) (waiting : Option (Option ℕ)) →
-    length (scheduled room fresh cpu waiting).room.tasks ≡ length room.tasks
-length-tasks-scheduled room fresh cpu None = length-tasks-rescheduled room cpu
-length-tasks-scheduled room true cpu (Some run) = refl
-length-tasks-scheduled room false cpu (Some run) = length-tasks-rescheduled room cpu
+few-scheduled : (room : RoomState) (fresh : Bool) (cpu : ℕ) (waiting : Option (Option ℕ)) → KeepsFew room (scheduled room fresh cpu waiting).room
+few-scheduled room fresh cpu None = few-rescheduled room cpu
+few-scheduled room true cpu (Some run) = as_many room (scheduled room true cpu (Some run)).room refl refl
+few-scheduled room false cpu (Some run) = few-rescheduled room cpu
 
-length-tasks-schedule : (room : RoomState) (fresh : Bool) (cpu : ℕ) → length (schedule room fresh cpu).room.tasks ≡ length room.tasks
-length-tasks-schedule room fresh cpu = length-tasks-scheduled room fresh cpu (sibling_of room cpu).waiting
+few-schedule : (room : RoomState) (fresh : Bool) (cpu : ℕ) → KeepsFew room (schedule room fresh cpu).room
+few-schedule room fresh cpu = few-scheduled room fresh cpu (sibling_of room cpu).waiting
 
-length-tasks-turned : (room : RoomState) (fresh : Bool) (cpu : ℕ) → length (turned room fresh cpu).room.tasks ≡ length room.tasks
-length-tasks-turned room fresh cpu =
-    cond_both (sibling_of room cpu).pending _ _ (λ (made : Stepped). length made.room.tasks ≡ length room.tasks)
-    (λ _. length-tasks-schedule room fresh cpu) (λ _. refl)
+few-turned : (room : RoomState) (fresh : Bool) (cpu : ℕ) → KeepsFew room (turned room fresh cpu).room
+few-turned room fresh cpu =
+    cond_both (sibling_of room cpu).pending _ _ (λ (made : Stepped). KeepsFew room made.room)
+    (λ _. few-schedule room fresh cpu) (λ _. as_many room room refl refl)
 
-length-tasks-blocked : (room : RoomState) (cpu : ℕ) (task : Option Task) → length (blocked room cpu task).room.tasks ≡ length room.tasks
-length-tasks-blocked room cpu None = refl
-length-tasks-blocked room cpu (Some task) =
-    length-tasks-schedule (idled (dequeued room task) cpu) false cpu ∙ length-map room.tasks _
+few-blocked : (room : RoomState) (cpu : ℕ) (task : Option Task) → KeepsFew room (blocked room cpu task).room
+few-blocked room cpu None = as_many room room refl refl
+few-blocked room cpu (Some task) =
+    few-trans room (idled (dequeued room task) cpu) (blocked room cpu (Some task)).room
+    (as_many room (idled (dequeued room task) cpu) refl (length-map room.tasks _)) (few-schedule (idled (dequeued room task) cpu) false cpu)
 
-length-tasks-woken : (room : RoomState) (task : Option Task) → length (woken room task).room.tasks ≡ length room.tasks
-length-tasks-woken room None = refl
-length-tasks-woken room (Some task) =
-    cond_both task.queued _ _ (λ (made : Stepped). length made.room.tasks ≡ length room.tasks) (λ _. refl)
-    (λ _. length-map room.tasks _)
+few-exited : (room : RoomState) (cpu : ℕ) (task : Option Task) → KeepsFew room (exited room cpu task).room
+few-exited room cpu None = as_many room room refl refl
+few-exited room cpu (Some task) =
+    cond_both (has_threads room task) _ _ (λ (made : Stepped). KeepsFew room made.room) (λ _. as_many room room refl refl)
+    (λ _. few-trans room (idled (without room task) cpu) (schedule (idled (without room task) cpu) false cpu).room
+    (record {
+      limit = refl;
+      few = λ few. omega (arith, few, length-filter_both (λ other. not (has_pid task.spec.pid other)) (λ other. not (not (has_pid task.spec.pid other))) (λ other. refl) room.tasks);
+    })
+    (few-schedule (idled (without room task) cpu) false cpu))
 
-length-tasks-with_answer : (room : RoomState) (set : Setting) (answer : Reply) → length (with_answer room set answer).tasks ≡ length room.tasks
-length-tasks-with_answer room set Zero = length-map room.tasks _
-length-tasks-with_answer room set answer = refl
+few-woken : (room : RoomState) (task : Option Task) → KeepsFew room (woken room task).room
+few-woken room None = as_many room room refl refl
+few-woken room (Some task) =
+    cond_both task.queued _ _ (λ (made : Stepped). KeepsFew room made.room) (λ _. as_many room room refl refl)
+    (λ _. as_many room (queued_at_home room task) refl (length-map room.tasks _))
 
--- No step adds a task or takes one away.
-pub length-tasks-step : (room : RoomState) (fresh : Bool) (event : Event) → length (step room fresh event).room.tasks ≡ length room.tasks
-length-tasks-step room fresh (Turn cpu) = length-tasks-turned room fresh cpu
-length-tasks-step room fresh (Resched cpu) = length-tasks-schedule room fresh cpu
-length-tasks-step room fresh (Block cpu) = length-tasks-blocked room cpu (running_on room cpu)
-length-tasks-step room fresh (Wake pid) = length-tasks-woken room (task_of room pid)
-length-tasks-step room fresh (Prctl caller ask) =
-    length-tasks-with_answer (with_made room (makes_cookie room caller ask)) (setting_of room caller ask) (prctl_answer room caller ask)
+-- a child comes only below the limit
+few-forked : (room : RoomState) (thread : Bool) (caller : Option Task) → KeepsFew room (forked room thread caller).room
+few-forked room thread None = as_many room room refl refl
+few-forked room thread (Some caller) = by_limit (child_of caller thread room.next_pid) (length room.tasks == room.task_limit) refl where
+  made : Bool → Task → Stepped
+  made test child = cond test (record { reply = Refused Eagain; room = room }) (record { reply = Child child.spec.pid; room = queued_at_home (with_child room child) child })
 
-length-tasks-after : (moment : Moment) (entries : List Entry) → length (after moment entries).room.tasks ≡ length moment.room.tasks
-length-tasks-after moment [] = refl
-length-tasks-after moment (entry ∷ entries) =
-    length-tasks-after (next moment entry) entries ∙ length-tasks-step moment.room (is_fresh moment.ledger) entry.event
+  by_limit : (child : Task) (test : Bool) → (length room.tasks == room.task_limit) ≡ test → KeepsFew room (made test child).room
+  by_limit child true is = as_many room room refl refl
+  by_limit child false is = record {
+    limit = refl;
+    few = λ few. omega (arith, few, eqb-false (length room.tasks) room.task_limit is, length-map (placed child room.tasks) (λ other. cond (has_pid child.spec.pid other) (record child { queued = true; stamp = room.next_stamp }) other), length-placed child room.tasks);
+  }
 
--- So after a history there are as many as at the start.
-pub length-tasks-fold_of : (scenario : Scenario) (history : History) → length (fold_of scenario history).tasks ≡ length scenario.tasks
-length-tasks-fold_of scenario history = length-tasks-after (beginning scenario) history ∙ length-asleep_tasks scenario.tasks
+few-with_answer : (room : RoomState) (set : Setting) (answer : Reply) → KeepsFew room (with_answer room set answer)
+few-with_answer room set Zero = as_many room (with_answer room set Zero) refl (length-map room.tasks _)
+few-with_answer room set answer = as_many room room refl refl
+
+-- No step goes beyond the limit.
+pub few-step : (room : RoomState) (fresh : Bool) (event : Event) → KeepsFew room (step room fresh event).room
+few-step room fresh (Turn cpu) = few-turned room fresh cpu
+few-step room fresh (Resched cpu) = few-schedule room fresh cpu
+few-step room fresh (Block cpu) = few-blocked room cpu (running_on room cpu)
+few-step room fresh (Exit cpu) = few-exited room cpu (running_on room cpu)
+few-step room fresh (Wake pid) = few-woken room (task_of room pid)
+few-step room fresh (Fork caller thread) = few-forked room thread (task_of room caller)
+few-step room fresh (Prctl caller ask) =
+    few-trans room (with_made room (makes_cookie room caller ask)) (prctl_room room caller ask)
+    (as_many room (with_made room (makes_cookie room caller ask)) refl refl)
+    (few-with_answer (with_made room (makes_cookie room caller ask)) (setting_of room caller ask) (prctl_answer room caller ask))
+
+few-after : (moment : Moment) (entries : List Entry) → KeepsFew moment.room (after moment entries).room
+few-after moment [] = as_many moment.room moment.room refl refl
+few-after moment (entry ∷ entries) =
+    few-trans moment.room (next moment entry).room (after (next moment entry) entries).room
+    (few-step moment.room (is_fresh moment.ledger) entry.event) (few-after (next moment entry) entries)
+
+-- So after a history there are no more tasks than the scenario allows.
+pub few-fold_of : (scenario : Scenario) (history : History) → length scenario.tasks ≤ scenario.task_limit → length (fold_of scenario history).tasks ≤ scenario.task_limit
+few-fold_of scenario history few =
+    (few-after (beginning scenario) history).few (subst (λ n. n ≤ scenario.task_limit) (sym (length-asleep_tasks scenario.tasks)) few)
+
+pub task_limit-fold_of : (scenario : Scenario) (history : History) → (fold_of scenario history).task_limit ≡ scenario.task_limit
+task_limit-fold_of scenario history = (few-after (beginning scenario) history).limit
+
+-- ---- the first pid
+
+most_of : (most : ℕ) (specs : List TaskSpec) → most ≤ fold (λ pid spec. max pid spec.pid) most specs
+most_of most [] = omega arith
+most_of most (spec ∷ specs) = omega (arith, most_of (max most spec.pid) specs, le-max_left most spec.pid)
+
+each_of : (most : ℕ) (specs : List TaskSpec) → AllByRecursion (λ spec. spec.pid ≤ fold (λ pid spec. max pid spec.pid) most specs) specs
+each_of most [] = tt
+each_of most (spec ∷ specs) = (omega (arith, most_of (max most spec.pid) specs, le-max_right most spec.pid), each_of (max most spec.pid) specs)
+
+weaker : {X : Type 0} (P Q : X → Type 0) → ((x : X) → P x → Q x) → (xs : List X) → AllByRecursion P xs → AllByRecursion Q xs
+weaker P Q step [] all = tt
+weaker P Q step (x ∷ xs) all = (step x all.0, weaker P Q step xs all.1)
+
+-- it is above each pid of the lines
+pub below_first_pid : (specs : List TaskSpec) → AllByRecursion (λ spec. spec.pid < first_pid specs) specs
+below_first_pid specs =
+    weaker (λ spec. spec.pid ≤ fold (λ pid s. max pid s.pid) 0 specs) (λ spec. spec.pid < first_pid specs) (λ spec le. omega (arith, le)) specs (each_of 0 specs)
+
+-- and at most one above their greatest
+pub first_pid-le : (limit : ℕ) (specs : List TaskSpec) → All (λ spec. spec.pid ≤ limit) specs → first_pid specs ≤ limit + 1
+first_pid-le limit specs all = omega (arith, go 0 specs (omega arith) all) where
+  go : (most : ℕ) (specs : List TaskSpec) → most ≤ limit → All (λ spec. spec.pid ≤ limit) specs → fold (λ pid spec. max pid spec.pid) most specs ≤ limit
+  go most [] low all = low
+  go most (spec ∷ specs) low all =
+      go (max most spec.pid) specs (max-le low (All-head (λ s. s.pid ≤ limit) spec specs all)) (All-tail (λ s. s.pid ≤ limit) spec specs all)

@@ -3,21 +3,22 @@ use Rattle.std.specs.Prelude.{◌≡◌, ◌↔◌, ℕ, ◌<◌, false, ◌⊎�
 use Rattle.std.specs.Option.{option_map_or}
 use Rattle.cs_types.specs.declared.task.Task.{Task}
 use Rattle.cs_types.specs.declared.event.Event.{Event}
-use Rattle.cs_types.specs.declared.event.Event.TheVariants.{Block}
+use Rattle.cs_types.specs.declared.event.Event.TheVariants.{Block, Exit}
 use Rattle.cs_types.specs.declared.reply.Pick.{Pick}
 use Rattle.cs_types.specs.Room.{RoomState, SiblingState, queued_on, sibling_of, running_on, online, online_from}
 use Rattle.cs_types.specs.Order.{foremost, outranks, first_of}
 use Rattle.cs_types.specs.Selection.{first_on, cookie_of, pid_of, choice, eligible, is_forced}
 use Rattle.cs_types.specs.Touches.{scheduler_of}
-use Rattle.cs_types.specs.Step.{dequeued, idled}
+use Rattle.cs_types.specs.Step.{dequeued, without, idled}
 
 -- the sibling that an event makes schedule
 abbrev pub cpu_of : Event → ℕ
 cpu_of event = unwrap_or (scheduler_of event) 0
 
--- the room in which a sibling schedules: at a block it is the one without the task that went to sleep
+-- the room in which a sibling schedules: at a block and at an exit it is the one without the task that went
 abbrev pub scheduling_room : RoomState → Event → RoomState
 scheduling_room room (Block cpu) = option_map_or (λ task. idled (dequeued room task) cpu) (running_on room cpu) room
+scheduling_room room (Exit cpu) = option_map_or (λ task. idled (without room task) cpu) (running_on room cpu) room
 scheduling_room room event = room
 
 -- what a sibling is to run: what waits for it, and what it runs where nothing waits

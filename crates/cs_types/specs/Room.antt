@@ -1,5 +1,5 @@
 -- The room: the state of the core and its tasks, and how it starts. Beside each part stands the kernel's field.
-use Rattle.std.specs.Prelude.{ℕ, Bool, true, false, ◌==◌, ◌&&◌, ◌||◌, ◌-◌, nat_lt, if◌then◌else◌, List, [], ◌∷◌, ◌++◌, length, map, filter, find, fold, replicate, slice_index_or, slice_set, Option, None}
+use Rattle.std.specs.Prelude.{ℕ, ◌+◌, max, Bool, true, false, ◌==◌, ◌&&◌, ◌||◌, ◌-◌, nat_lt, if◌then◌else◌, List, [], ◌∷◌, ◌++◌, length, map, filter, find, fold, replicate, slice_index_or, slice_set, Option, None}
 use Rattle.std.specs.List.{range_with_len}
 use Rattle.std.specs.Option.{option_and_then}
 use Rattle.cs_types.specs.declared.task.Task.{Task}
@@ -20,7 +20,8 @@ pub record SiblingState : Type 0 where
   pub waiting : Waiting
   pub occupation : ℕ
 
--- the core, with the limits of its scenario, which no step changes: its living tasks, by rising pid, the next stamp and the next cookie, the core
+-- the core, with the limits of its scenario, which no step changes: its living tasks, by rising pid, the pids of those
+-- that ended, in the order of their ends, the next pid, the next stamp and the next cookie, the core
 -- cookie (`core_cookie` of `rq->core`), how many siblings are forced idle (`core_forceidle_count`), and for how many
 -- a task was chosen (`core_forceidle_occupation`)
 pub record RoomState : Type 0 where
@@ -28,7 +29,9 @@ pub record RoomState : Type 0 where
   pub cookie_limit : ℕ
   pub user_top : ℕ
   pub tasks : List Task
+  pub ended : List ℕ
   pub siblings : List SiblingState
+  pub next_pid : ℕ
   pub next_stamp : ℕ
   pub next_cookie : ℕ
   pub core_cookie : ℕ
@@ -55,7 +58,11 @@ asleep_tasks specs = fold (λ tasks spec. placed (asleep spec) tasks) [] specs
 abbrev pub idle : SiblingState
 idle = record { online = true; run = None; pending = false; waiting = None; occupation = 0 }
 
--- all tasks asleep, all siblings idle, all numbers 0, and 1 the first cookie
+-- one above the greatest pid of these lines, 1 where there is none
+abbrev pub first_pid : List TaskSpec → ℕ
+first_pid specs = fold (λ pid spec. max pid spec.pid) 0 specs + 1
+
+-- all tasks asleep, all siblings idle, all numbers 0, 1 the first cookie, and the first pid above those of the lines
 abbrev pub start : Scenario → RoomState
 start scenario =
     record {
@@ -63,7 +70,9 @@ start scenario =
       cookie_limit = scenario.cookie_limit;
       user_top = scenario.user_top;
       tasks = asleep_tasks scenario.tasks;
+      ended = [];
       siblings = replicate scenario.siblings idle;
+      next_pid = first_pid scenario.tasks;
       next_stamp = 0;
       next_cookie = 1;
       core_cookie = 0;

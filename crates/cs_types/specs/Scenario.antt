@@ -8,7 +8,7 @@ use Rattle.cs_types.specs.declared.event.Actor.{Actor}
 use Rattle.cs_types.specs.declared.event.Actor.TheVariants.{Sibling, Caller}
 use Rattle.cs_types.specs.declared.event.Ask.{Ask}
 use Rattle.cs_types.specs.declared.event.Event.{Event}
-use Rattle.cs_types.specs.declared.event.Event.TheVariants.{Turn, Resched, Block, Wake, Prctl}
+use Rattle.cs_types.specs.declared.event.Event.TheVariants.{Turn, Resched, Block, Exit, Wake, Fork, Prctl}
 use Rattle.cs_types.specs.declared.event.Step.{Step}
 use Rattle.cs_types.specs.declared.scenario.Scenario.{Scenario}
 
@@ -72,7 +72,9 @@ abbrev pub IsEvent : ℕ → Event → Type 0
 IsEvent siblings (Turn cpu) = cpu < siblings
 IsEvent siblings (Resched cpu) = cpu < siblings
 IsEvent siblings (Block cpu) = cpu < siblings
+IsEvent siblings (Exit cpu) = cpu < siblings
 IsEvent siblings (Wake pid) = IsWithin 1 999999 pid
+IsEvent siblings (Fork caller thread) = IsWithin 1 999999 caller
 IsEvent siblings (Prctl caller ask) = IsWithin 1 999999 caller × IsAsk ask
 
 -- A sibling makes its own events, on itself; a caller, 0 to 7, makes the others.
@@ -80,13 +82,17 @@ abbrev pub IsMadeBy : Actor → Event → Type 0
 IsMadeBy (Sibling i) (Turn cpu) = cpu ≡ i
 IsMadeBy (Sibling i) (Resched cpu) = cpu ≡ i
 IsMadeBy (Sibling i) (Block cpu) = cpu ≡ i
+IsMadeBy (Sibling i) (Exit cpu) = cpu ≡ i
 IsMadeBy (Caller j) (Wake pid) = j < 8
+IsMadeBy (Caller j) (Fork caller thread) = j < 8
 IsMadeBy (Caller j) (Prctl caller ask) = j < 8
 IsMadeBy (Sibling i) (Wake pid) = ⊥
+IsMadeBy (Sibling i) (Fork caller thread) = ⊥
 IsMadeBy (Sibling i) (Prctl caller ask) = ⊥
 IsMadeBy (Caller j) (Turn cpu) = ⊥
 IsMadeBy (Caller j) (Resched cpu) = ⊥
 IsMadeBy (Caller j) (Block cpu) = ⊥
+IsMadeBy (Caller j) (Exit cpu) = ⊥
 
 -- a step line, in a core of so many siblings
 pub record IsStep (siblings : ℕ) (step : Step) : Type 0 where

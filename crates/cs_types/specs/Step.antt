@@ -1,13 +1,16 @@
 -- Steps: what each event does to the room, and what it answers.
-use Rattle.std.specs.Prelude.{ℕ, ◌+◌, Bool, true, false, if◌then◌else◌, Option, Some, None}
+use Rattle.std.specs.Prelude.{ℕ, ◌+◌, Bool, true, false, ◌==◌, ◌&&◌, not, if◌then◌else◌, [], ◌∷◌, ◌++◌, length, filter, Option, Some, None}
+use Rattle.std.specs.List.{list_any}
 use Rattle.std.specs.Option.{option_map_or}
 use Rattle.cs_types.specs.declared.task.Task.{Task}
+use Rattle.cs_types.specs.declared.task.TaskSpec.{TaskSpec}
 use Rattle.cs_types.specs.declared.event.Event.{Event}
-use Rattle.cs_types.specs.declared.event.Event.TheVariants.{Turn, Resched, Block, Wake, Prctl}
+use Rattle.cs_types.specs.declared.event.Event.TheVariants.{Turn, Resched, Block, Exit, Wake, Fork, Prctl}
 use Rattle.cs_types.specs.declared.reply.Reply.{Reply}
-use Rattle.cs_types.specs.declared.reply.Reply.TheVariants.{Picked, Nothing, Slept, Idle, Woken, Awake, NoTask}
+use Rattle.cs_types.specs.declared.reply.Reply.TheVariants.{Picked, Nothing, Slept, Ended, Idle, HasThreads, Woken, Awake, NoTask, Child, Refused, NoCaller}
+use Rattle.cs_types.specs.declared.reply.Errno.TheVariants.{Eagain}
 use Rattle.cs_types.specs.declared.reply.Pick.{Pick}
-use Rattle.cs_types.specs.Room.{RoomState, task_of, sibling_of, running_on, with_sibling, with_task, flagged}
+use Rattle.cs_types.specs.Room.{RoomState, asleep, placed, has_pid, task_of, sibling_of, running_on, with_sibling, with_task, flagged}
 use Rattle.cs_types.specs.Order.{is_higher}
 use Rattle.cs_types.specs.Selection.{Scheduled, schedule}
 use Rattle.cs_types.specs.Prctl.{prctl_answer, prctl_room}
@@ -70,6 +73,65 @@ abbrev pub blocked : RoomState → ℕ → Option Task → Stepped
 blocked room cpu None = record { reply = Idle; room = room }
 blocked room cpu (Some task) = picked (Slept task.spec.pid) (schedule (idled (dequeued room task) cpu) false cpu)
 
+-- ---- exit (`do_exit`, kernel/exit.c, and `sched_core_free`, kernel/sched/core_sched.c)
+
+-- whether a task leads a thread group that has another member (there are no zombies; this project's rule)
+abbrev pub has_threads : RoomState → Task → Bool
+has_threads room task =
+    (task.spec.tgid == task.spec.pid)
+    && list_any (λ other. (other.spec.tgid == task.spec.pid) && not (has_pid task.spec.pid other)) room.tasks
+
+-- The task is no longer among the living, and its pid is the last of the ended.
+abbrev pub without : RoomState → Task → RoomState
+without room task =
+    record room {
+      tasks = filter (λ other. not (has_pid task.spec.pid other)) room.tasks;
+      ended = room.ended ++ task.spec.pid ∷ [];
+    }
+
+-- The sibling runs idle, or its running task leads others, or it ends and then the sibling schedules. The dequeue
+-- touched, so that schedule adopts nothing.
+abbrev pub exited : RoomState → ℕ → Option Task → Stepped
+exited room cpu None = record { reply = Idle; room = room }
+exited room cpu (Some task) =
+    if has_threads room task
+    then record { reply = HasThreads; room = room }
+    else picked (Ended task.spec.pid) (schedule (idled (without room task) cpu) false cpu)
+
+-- ---- fork (`copy_process`, kernel/fork.c, and `sched_core_fork`, kernel/sched/core_sched.c)
+
+-- A child is at home where its caller is, and has its policy, credentials and process group. A thread is in its
+-- caller's thread group, and a process leads its own.
+abbrev pub child_spec : Task → Bool → ℕ → TaskSpec
+child_spec caller thread pid =
+    record {
+      pid = pid;
+      tgid = if thread then caller.spec.tgid else pid;
+      pgid = caller.spec.pgid;
+      cpu = caller.home;
+      policy = caller.spec.policy;
+      creds = caller.spec.creds;
+    }
+
+-- A child has its caller's cookie (`sched_core_clone_cookie`). It is asleep until it is queued, and its numbers are 0.
+abbrev pub child_of : Task → Bool → ℕ → Task
+child_of caller thread pid = record (asleep (child_spec caller thread pid)) { cookie = caller.cookie }
+
+-- The child is among the living, and its pid is never given again.
+abbrev pub with_child : RoomState → Task → RoomState
+with_child room child = record room { tasks = placed child room.tasks; next_pid = room.next_pid + 1 }
+
+-- There is no such caller, or as many tasks live as may, or the child is queued at its home (`wake_up_new_task`).
+abbrev pub forked : RoomState → Bool → Option Task → Stepped
+forked room thread None = record { reply = NoCaller; room = room }
+forked room thread (Some caller) =
+    if length room.tasks == room.task_limit
+    then record { reply = Refused Eagain; room = room }
+    else (
+    let child = child_of caller thread room.next_pid in
+    record { reply = Child child.spec.pid; room = queued_at_home (with_child room child) child }
+    )
+
 -- ---- every event
 
 -- what each event does, where the test says whether nothing was touched since the last selection for the core
@@ -77,6 +139,8 @@ abbrev pub step : RoomState → Bool → Event → Stepped
 step room is_fresh (Turn cpu) = turned room is_fresh cpu
 step room is_fresh (Resched cpu) = picked Picked (schedule room is_fresh cpu)
 step room is_fresh (Block cpu) = blocked room cpu (running_on room cpu)
+step room is_fresh (Exit cpu) = exited room cpu (running_on room cpu)
 step room is_fresh (Wake pid) = woken room (task_of room pid)
+step room is_fresh (Fork caller thread) = forked room thread (task_of room caller)
 step room is_fresh (Prctl caller ask) =
     record { reply = prctl_answer room caller ask; room = prctl_room room caller ask }

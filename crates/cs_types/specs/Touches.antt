@@ -5,12 +5,12 @@ use Rattle.std.specs.Prelude.{ℕ, ◌+◌, Bool, true, false, ◌==◌, ◌&&�
 use Rattle.std.specs.List.{list_any, list_all}
 use Rattle.std.specs.Option.{option_map_or, option_and_then}
 use Rattle.cs_types.specs.declared.event.Event.{Event}
-use Rattle.cs_types.specs.declared.event.Event.TheVariants.{Turn, Resched, Block, Wake, Prctl}
+use Rattle.cs_types.specs.declared.event.Event.TheVariants.{Turn, Resched, Block, Exit, Wake, Fork, Prctl}
 use Rattle.cs_types.specs.declared.reply.Kind.{Kind}
 use Rattle.cs_types.specs.declared.reply.Kind.TheVariants.{Selected, Adopted, Plain}
 use Rattle.cs_types.specs.declared.reply.Pick.{Pick}
 use Rattle.cs_types.specs.declared.reply.Reply.{Reply}
-use Rattle.cs_types.specs.declared.reply.Reply.TheVariants.{Picked, Slept, Woken, Zero}
+use Rattle.cs_types.specs.declared.reply.Reply.TheVariants.{Picked, Slept, Ended, Woken, Child, Zero}
 use Rattle.cs_types.specs.declared.reply.Entry.{Entry}
 use Rattle.cs_types.specs.Room.{RoomState}
 use Rattle.cs_types.specs.declared.task.Task.{Task}
@@ -32,6 +32,7 @@ is_adopted Plain = false
 abbrev pub pick_of : Reply → Option Pick
 pick_of (Picked pick) = Some pick
 pick_of (Slept pid pick) = Some pick
+pick_of (Ended pid pick) = Some pick
 pick_of reply = None
 
 -- the sibling that an event makes schedule, if it makes one
@@ -39,7 +40,9 @@ abbrev pub scheduler_of : Event → Option ℕ
 scheduler_of (Turn cpu) = Some cpu
 scheduler_of (Resched cpu) = Some cpu
 scheduler_of (Block cpu) = Some cpu
+scheduler_of (Exit cpu) = Some cpu
 scheduler_of (Wake pid) = None
+scheduler_of (Fork caller thread) = None
 scheduler_of (Prctl caller ask) = None
 
 -- the pick of a selection for the core, if a reply tells one
@@ -82,8 +85,10 @@ set_touches room event = 0
 -- how often an entry touches the queues, read in the room before it
 abbrev pub touches_by : RoomState → Event → Reply → ℕ
 touches_by room event (Woken cpu) = 1
+touches_by room event (Child pid) = 1
 touches_by room event (Picked pick) = pick_touches pick
 touches_by room event (Slept pid pick) = 1 + pick_touches pick
+touches_by room event (Ended pid pick) = 1 + pick_touches pick
 touches_by room event Zero = set_touches room event
 touches_by room event reply = 0
 

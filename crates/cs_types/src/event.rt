@@ -35,8 +35,12 @@ pub enum Event {
     Resched(Cpu),
     /// The sibling's running task goes to sleep.
     Block(Cpu),
+    /// The sibling's running task ends.
+    Exit(Cpu),
     /// The task, 1 to 999999, is woken.
     Wake(Pid),
+    /// The task, 1 to 999999, makes a child: a thread of its own thread group, or a process.
+    Fork { caller: Pid, thread: bool },
     /// The task, 1 to 999999, calls `prctl(PR_SCHED_CORE, ..)`.
     Prctl { caller: Pid, ask: Ask },
 }

@@ -29,13 +29,15 @@ pub struct Pick {
     pub forced: u8,
 }
 
-/// The errors of `prctl`.
+/// The errors of `prctl` and `fork`.
 #[derive(Clone, Copy)]
 pub enum Errno {
     /// The caller may not access the target, or one of its group.
     Eperm,
     /// No living task has the target's pid.
     Esrch,
+    /// As many tasks live as the scenario allows.
+    Eagain,
     /// As many cookies live as the scenario allows.
     Enomem,
     /// The address of the answer is none of the caller's.
@@ -54,6 +56,7 @@ impl Errno {
         match self {
             Errno::Eperm => 1,
             Errno::Esrch => 3,
+            Errno::Eagain => 11,
             Errno::Enomem => 12,
             Errno::Efault => 14,
             Errno::Enodev => 19,
@@ -71,19 +74,25 @@ pub enum Reply {
     Nothing,
     /// The task went to sleep, and its sibling took this pick.
     Slept { pid: Pid, pick: Pick },
+    /// The task ended, and its sibling took this pick.
+    Ended { pid: Pid, pick: Pick },
     /// Refused: the sibling runs no task.
     Idle,
+    /// Refused: the task leads a thread group that has another member.
+    HasThreads,
     /// The task is queued now, on this sibling.
     Woken(Cpu),
     /// Refused: the task is queued already.
     Awake,
     /// Refused: no living task has the pid.
     NoTask,
+    /// This child was made, and is queued now.
+    Child(Pid),
     /// The call of `prctl` returned 0.
     Zero,
     /// The call of `prctl` returned 0, and wrote this cookie for its caller.
     Value(Cookie),
-    /// Refused: the call of `prctl` failed with this error.
+    /// Refused: the call of `prctl` or `fork` failed with this error.
     Refused(Errno),
     /// Refused: no living task has the caller's pid.
     NoCaller,

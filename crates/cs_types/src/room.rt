@@ -29,7 +29,7 @@ pub trait Room: Drop {
     /// Makes one step, and answers what the rules answer. It takes no memory.
     ///
     /// There has to be room for an entry, and what the event names keeps its limits: a sibling that
-    /// the core has, a pid from 1 to 999999, and of the calls of `prctl` the two that are built.
+    /// the core has, and a pid from 1 to 999999.
     fn apply(&mut self, actor: Actor, event: Event) -> Reply
         requires room { 0 < free self.old }
         requires event { IsEvent (scenario self.old).siblings event }
