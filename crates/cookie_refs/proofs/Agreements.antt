@@ -1,12 +1,14 @@
 -- What keeps the counts in agreement with the tasks, and what follows from it.
-use Rattle.std.proofs.Common.{◌≡◌, ℕ, suc, ◌+◌, ◌<◌, ◌≤◌, Bool, false, cond, List, [], ◌∷◌, map, length, Some, refl, sym, ap, ◌∙◌, inl, inr, subst, arith}
+use Rattle.std.proofs.Common.{◌≡◌, ℕ, suc, ◌+◌, ◌<◌, ◌≤◌, Bool, false, not, cond, ltb, List, [], ◌∷◌, map, length, Some, refl, sym, ap, ◌∙◌, inl, inr, subst, arith}
 use Rattle.std.specs.Prelude.{◌≢◌, ◌==◌}
-use Rattle.std.specs.List.{All, AllPairs, find, sum_by}
-use Rattle.std.proofs.lemmas.Bool.{cases_Bool, cond-true, cond-false, eqb-true}
+use Rattle.std.specs.List.{All, AllPairs, filter, find, sum_by}
+use Rattle.std.proofs.lemmas.Bool.{cases_Bool, cond-true, cond-false, cond_both, eqb-true}
 use Rattle.std.proofs.lemmas.Bool.Decides.{nat_tests}
 use Rattle.std.proofs.lemmas.List.Elements.{All-head, All-tail}
+use Rattle.std.proofs.lemmas.List.Filters.{sum_by-filter_both}
 use Rattle.std.proofs.lemmas.List.Sums.{sum_by-cons, sum_by-le}
 use Rattle.cs_types.specs.declared.task.Task.{Task}
+use Rattle.cs_types.specs.Room.{has_pid, placed}
 use Rattle.cs_types.proofs.Foremost.{find_passes}
 use Rattle.cookie_refs.specs.Refs.{Refs, count_of, references, Agree, AgreeBut}
 use Rattle.cookie_refs.proofs.Counts.{sum_by_none}
@@ -59,6 +61,14 @@ module _ {X : Type 0} (key : X → ℕ) (f : X → ℕ) (wanted : ℕ) (new : X)
         | inr past ↦ omega (arith, sum_by-cons f x xs, term-le xs old (sym (cond-false _ (Some x) (find (λ x. key x == wanted) xs) past) ∙ found))
       ]
 
+-- one more task in its place adds its term to the sum
+sum_by-placed : (f : Task → ℕ) (task : Task) (tasks : List Task) → sum_by f (placed task tasks) ≡ sum_by f tasks + f task
+sum_by-placed f task [] = omega (arith, sum_by-cons f task [])
+sum_by-placed f task (first ∷ rest) =
+    cond_both (ltb task.spec.pid first.spec.pid) _ _ (λ (ts : List Task). sum_by f ts ≡ sum_by f (first ∷ rest) + f task)
+    (λ _. omega (arith, sum_by-cons f task (first ∷ rest)))
+    (λ _. omega (arith, sum_by-cons f first (placed task rest), sum_by-cons f first rest, sum_by-placed f task rest))
+
 -- ---- agreements
 
 -- a reference to the own cookie
@@ -110,6 +120,22 @@ AgreeBut-with_cookie refs got put tasks held pid cookie task rising found gets p
     let replaced = sum_by-replaced (λ (task : Task). task.spec.pid) (λ (task : Task). references task.cookie other) task.spec.pid (record task { cookie = cookie }) tasks task rising
     (subst (λ n. find (λ (other : Task). other.spec.pid == n) tasks ≡ Some task) (sym pid_is) found) in
     omega (arith, gets other, puts other, agree other, replaced)
+
+-- A task is placed among the others, and its cookie got.
+pub AgreeBut-placed : (refs got : Refs) (tasks : List Task) (held : ℕ) (task : Task) →
+    ((other : ℕ) → count_of got other ≡ count_of refs other + references task.cookie other) →
+    AgreeBut refs tasks held → AgreeBut got (placed task tasks) held
+AgreeBut-placed refs got tasks held task gets agree other =
+    omega (arith, gets other, agree other, sum_by-placed (λ (task : Task). references task.cookie other) task tasks)
+
+-- The one task with a pid goes, and its cookie is put.
+pub AgreeBut-without : (refs put : Refs) (tasks : List Task) (held pid : ℕ) (task : Task) → filter (has_pid pid) tasks ≡ task ∷ [] →
+    ((other : ℕ) → count_of put other + references task.cookie other ≡ count_of refs other) →
+    AgreeBut refs tasks held → AgreeBut put (filter (λ other. not (has_pid pid other)) tasks) held
+AgreeBut-without refs put tasks held pid task alone puts agree other =
+    let own : Task → ℕ = λ task. references task.cookie other in
+    let parts = sum_by-filter_both (has_pid pid) (λ other. not (has_pid pid other)) (λ other. refl) own tasks in
+    omega (arith, puts other, agree other, parts, ap (sum_by own) alone, sum_by-cons own task [])
 
 -- A task's own cookie is live.
 pub own_cookie_is_live : (refs : Refs) (tasks : List Task) (held pid : ℕ) (task : Task) → find (λ other. other.spec.pid == pid) tasks ≡ Some task →

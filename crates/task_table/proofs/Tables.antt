@@ -2,18 +2,19 @@
 use Rattle.std.proofs.Common.{◌≡◌, ℕ, ◌+◌, ◌<◌, ◌≤◌, Bool, true, false, cond, List, [], ◌∷◌, map, refl, sym, ap, ◌∙◌, arith, ltb, eqb, Some, None, inl, inr}
 use Rattle.std.specs.Prelude.{◌==◌, ◌&&◌, ◌||◌, filter, find, All as Every, AllPairs}
 use Rattle.std.specs.List.{AllByRecursion}
-use Rattle.std.proofs.lemmas.Bool.{cases_Bool, cond-true, cond-false, eqb-true}
+use Rattle.std.proofs.lemmas.Bool.{cases_Bool, cond-true, cond-false, eqb-true, eq-eqb}
 use Rattle.std.proofs.lemmas.Bool.Decides.{nat_tests}
 use Rattle.std.proofs.lemmas.List.Elements.{All-head, All-tail, All-from_recursion}
 use Rattle.std.proofs.lemmas.List.Kept.{AllPairs-cons}
 use Rattle.cs_types.specs.declared.task.Task.{Task}
 use Rattle.cs_types.specs.declared.task.TaskSpec.{TaskSpec}
-use Rattle.cs_types.specs.Room.{has_pid}
+use Rattle.cs_types.specs.Room.{has_pid, asleep, placed}
 use Rattle.cs_types.specs.Prctl.{is_set}
 use Rattle.task_table.specs.Table.{RisesFrom, Rises}
 use Rattle.task_table.specs.declared.group.Group.{Group}
 use Rattle.task_table.specs.declared.group.Group.TheVariants.{All, Threads, Process}
 use Rattle.task_table.specs.Group.{is_in_group, group_above}
+use Rattle.task_table.proofs.Rising.{NoneHas, with_none}
 
 -- ---- lists
 
@@ -128,6 +129,35 @@ found_none pid (first ∷ rest) none =
           cond-false _ (first ∷ filter (has_pid pid) rest) (filter (has_pid pid) rest) past
           ∙ found_none pid rest (sym (cond-false _ (Some first) (find (has_pid pid) rest) past) ∙ none)
     ]
+
+-- ---- a task that is put in its place
+
+-- none has a pid that a search did not find
+pub none_found : (pid : ℕ) (tasks : List Task) → find (has_pid pid) tasks ≡ None → NoneHas pid tasks
+none_found pid [] none = tt
+none_found pid (first ∷ rest) none =
+    elim (cases_Bool (has_pid pid first)) [
+      | inl here ↦ let some = sym (cond-true _ (Some first) (find (has_pid pid) rest) here) ∙ none in absurd cc
+      | inr past ↦ (past, none_found pid rest (sym (cond-false _ (Some first) (find (has_pid pid) rest) past) ∙ none))
+    ]
+
+-- To put a task asleep in its place and then change it puts the changed one there.
+pub placed_changed : (task : Task) (tasks : List Task) → find (has_pid task.spec.pid) tasks ≡ None →
+    map (λ other. cond (has_pid task.spec.pid other) task other) (placed (asleep task.spec) tasks) ≡ placed task tasks
+placed_changed task tasks none = go tasks (none_found task.spec.pid tasks none) where
+  change : List Task → List Task
+  change ts = map (λ other. cond (has_pid task.spec.pid other) task other) ts
+
+  its_own : has_pid task.spec.pid (asleep task.spec) ≡ true
+  its_own = eq-eqb task.spec.pid task.spec.pid refl
+
+  go : (ts : List Task) → NoneHas task.spec.pid ts → change (placed (asleep task.spec) ts) ≡ placed task ts
+  go [] none = ap (λ b. cond b task (asleep task.spec) ∷ []) its_own
+  go (first ∷ rest) none =
+      elim (ltb task.spec.pid first.spec.pid) as (λ b. change (cond b (asleep task.spec ∷ first ∷ rest) (first ∷ placed (asleep task.spec) rest)) ≡ cond b (task ∷ first ∷ rest) (first ∷ placed task rest)) [
+        | true ↦ (λ i. cond (its_own i) task (asleep task.spec) ∷ with_none task (first ∷ rest) none i)
+        | false ↦ (λ i. cond-false _ task first none.0 i ∷ go rest none.1 i)
+      ]
 
 -- ---- a task whose cookie is set
 

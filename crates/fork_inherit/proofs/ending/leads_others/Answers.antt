@@ -1,0 +1,16 @@
+use Rattle.std.proofs.Common.{Bor, List, ◌∙◌, sym, ap, eqb, not, rules, tests, eq-eqb}
+use Rattle.std.specs.Prelude.{◌&&◌}
+use Rattle.std.specs.List.{list_any}
+use Rattle.std.proofs.lemmas.Iterator.Consumers.{YieldsList-from_first}
+use Rattle.std.proofs.lemmas.Iterator.Search.{any_from_yields_List}
+use Rattle.cs_types.specs.declared.task.Task.{Task}
+use Rattle.fork_inherit.proofs.ending.leads_others.Goals as goal
+
+pub returns-then-task-leader : goal.returns-then-task-leader
+returns-then-task-leader c room same =
+    let leader = c.args.task.now.spec.pid in
+    let is_other : Task → _ = λ (task : Task). eqb task.spec.tgid leader && not (eqb task.spec.pid leader) in
+    let walk = YieldsList-from_first (λ (x : Bor Task). x.now) (λ (left : List Task). left) c.args.table.now.tasks c.iter.ensures.tasks in
+    any_from_yields_List is_other _ _ c.any.result c.any.ensures.ran walk (λ x b q k. search (rules, tests))
+    ∙ ap (list_any is_other) (sym same)
+    ∙ ap (λ b. b && list_any is_other room.tasks) (sym (eq-eqb _ _ c.if-task-leader.true))

@@ -1,0 +1,13 @@
+use Rattle.std.proofs.Common.{◌∙◌, ap, cond, map}
+use Rattle.cs_types.specs.Room.{has_pid}
+use Rattle.task_table.specs.Table.{Table}
+use Rattle.task_table.proofs.Tables.{placed_changed}
+use Rattle.fork_inherit.proofs.forking.place.Goals as goal
+
+pub returns-clause-placed : goal.returns-clause-placed
+returns-clause-placed c =
+    let task = c.args.task in
+    let added = rw c.unwrap.ensures at c.add.ensures.added in
+    let changed : Table → Table = λ (table : Table). record table { tasks = map (λ other. cond (has_pid task.spec.pid other) task other) table.tasks } in
+    c.change.ensures.changed ∙ ap changed added
+    ∙ ap (λ tasks. let table : Table = record c.args.table.now { tasks = tasks } in table) (placed_changed task c.args.table.now.tasks c.requires.free)

@@ -1,0 +1,61 @@
+//! The end of a task.
+
+ghost use Rattle.std.specs.Prelude.{◌≡◌, filter, find, not, false, Some, IsSomeAnd, OnOk, OnErr};
+ghost use Rattle.cs_types.specs.declared.task.Task.{Task as SomeTask};
+ghost use Rattle.cs_types.specs.Room.{RoomState, has_pid};
+ghost use Rattle.cs_types.specs.Step.{has_threads};
+ghost use Rattle.task_table.specs.Table.{IsSound};
+ghost use Rattle.cookie_refs.specs.Refs.{Agree};
+ghost use Rattle.fork_inherit.specs.Answers.{end_answer};
+
+use cookie_refs::CookieRefs;
+use cs_types::{Pid, Task};
+use task_table::{Group, TaskTable};
+use thiserror::Error;
+
+/// The task leads a thread group that has another member, so it does not end.
+#[derive(Debug, Drop, Error)]
+#[error("the task leads a thread group that has another member")]
+pub struct HasThreads;
+
+/// Whether the task leads a thread group that has another member.
+pub fn leads_others(table: &TaskTable, task: &Task) -> bool
+    ensures { (room : RoomState) → room.tasks ≡ table.now.tasks → result ≡ has_threads room task.now }
+{
+    let leader = task.spec.pid;
+    let group = Group::Threads(leader);
+    task.spec.tgid == leader
+        && table
+            .iter()
+            .any(|other| group.has(other) && other.spec.pid != leader)
+}
+
+/// The task with the pid, which is asleep, is no longer among the living (`do_exit`, kernel/exit.c),
+/// and the reference to its cookie is given back (`sched_core_free`, kernel/sched/core_sched.c).
+///
+/// `HasThreads` comes exactly where the task leads a thread group that has another member: there are
+/// no zombies. It changes nothing.
+pub fn end(table: &mut TaskTable, refs: &mut CookieRefs, pid: Pid) -> Result<Task, HasThreads>
+    requires asleep { IsSomeAnd (find (has_pid pid) table.old.tasks) (λ task. task.queued ≡ false) }
+    requires agree { Agree refs.old table.old.tasks }
+
+    ensures answer { (room : RoomState) (task : SomeTask) → room.tasks ≡ table.old.tasks →
+        find (has_pid pid) table.old.tasks ≡ Some task → result ≡ end_answer room task }
+    ensures ended { OnOk result (table.new ≡
+        record table.old { tasks = filter (λ other. not (has_pid pid other)) table.old.tasks }) }
+    ensures unchanged { OnErr result (table.new ≡ table.old) }
+    ensures same_refs { OnErr result (refs.new ≡ refs.old) }
+
+    ensures agree { Agree refs.new table.new.tasks }
+    ensures next { refs.new.next ≡ refs.old.next }
+    ensures limit { refs.new.limit ≡ refs.old.limit }
+    ensures sound { IsSound table.new }
+{
+    let task = table.find(pid).copied().unwrap();
+    if leads_others(table, &task) {
+        return Err(HasThreads);
+    }
+    table.remove(pid);
+    refs.put(task.cookie);
+    Ok(task)
+}

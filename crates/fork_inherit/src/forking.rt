@@ -1,0 +1,101 @@
+//! A fork: a child with what it inherits.
+
+ghost use Rattle.std.specs.Prelude.{◌≡◌, ◌≢◌, length, find, None, Some, OnOk, OnErr};
+ghost use Rattle.cs_types.specs.declared.task.Task.{Task as SomeTask};
+ghost use Rattle.cs_types.specs.Room.{has_pid, placed};
+ghost use Rattle.cs_types.specs.Step.{child_of};
+ghost use Rattle.task_table.specs.Table.{IsSound};
+ghost use Rattle.cookie_refs.specs.Refs.{Agree};
+ghost use Rattle.fork_inherit.specs.Answers.{fork_answer};
+
+use cookie_refs::CookieRefs;
+use cs_types::{Pid, Task, TaskSpec};
+use task_table::TaskTable;
+use thiserror::Error;
+
+/// Why there is no child.
+#[derive(Debug, Drop, Error)]
+pub enum ForkFault {
+    /// No living task has the caller's pid.
+    #[error("no living task has the caller's pid")]
+    NoCaller,
+    /// The caller is there, and as many tasks live as may.
+    #[error("as many tasks live as may")]
+    Eagain,
+}
+
+/// A child as it is born: asleep, at home where its caller is, with its caller's policy, credentials,
+/// process group and cookie, and with all numbers 0. A thread is in its caller's thread group, and a
+/// process leads its own.
+fn child_of(caller: &Task, thread: bool, pid: Pid) -> Task
+    ensures { result ≡ child_of caller.now thread pid }
+{
+    let spec = TaskSpec {
+        pid,
+        tgid: if thread { caller.spec.tgid } else { pid },
+        pgid: caller.spec.pgid,
+        cpu: caller.home,
+        policy: caller.spec.policy,
+        creds: caller.spec.creds,
+    };
+    Task {
+        spec,
+        cookie: caller.cookie,
+        home: spec.cpu,
+        queued: false,
+        stamp: 0,
+        occupation: 0,
+    }
+}
+
+/// Puts the task into a table that has a place left and no task with its pid.
+fn place(table: &mut TaskTable, task: Task)
+    requires free { find (has_pid task.spec.pid) table.old.tasks ≡ None }
+    requires room { length table.old.tasks ≢ table.old.limit }
+    ensures placed { table.new ≡ record table.old { tasks = placed task table.old.tasks } }
+    ensures sound { IsSound table.new }
+{
+    table.add(task.spec).unwrap();
+    table.change(task);
+}
+
+/// The task with the pid `caller` gets a child with the pid `child`, a thread of its group or a
+/// process of its own (`copy_process`, kernel/fork.c). The child has its caller's cookie and one
+/// reference to it (`sched_core_fork`, kernel/sched/core_sched.c).
+///
+/// `NoCaller` comes exactly where no living task has the pid of the caller, and else `Eagain` exactly
+/// where there are `limit` tasks, 0 to 65535. An `Err` changes nothing.
+pub fn fork(
+    table: &mut TaskTable,
+    refs: &mut CookieRefs,
+    limit: u16,
+    caller: Pid,
+    thread: bool,
+    child: Pid,
+) -> Result<(), ForkFault>
+    requires limit { table.old.limit ≡ limit }
+    requires unused { find (has_pid child) table.old.tasks ≡ None }
+    requires agree { Agree refs.old table.old.tasks }
+
+    ensures answer { result ≡ fork_answer table.old (find (has_pid caller) table.old.tasks) }
+    ensures child { (by : SomeTask) → find (has_pid caller) table.old.tasks ≡ Some by →
+        OnOk result (table.new ≡
+        record table.old { tasks = placed (child_of by thread child) table.old.tasks }) }
+    ensures unchanged { OnErr result (table.new ≡ table.old) }
+    ensures same_refs { OnErr result (refs.new ≡ refs.old) }
+
+    ensures agree { Agree refs.new table.new.tasks }
+    ensures next { refs.new.next ≡ refs.old.next }
+    ensures limit { refs.new.limit ≡ refs.old.limit }
+    ensures sound { IsSound table.new }
+{
+    let Some(by) = table.find(caller).copied() else {
+        return Err(ForkFault::NoCaller);
+    };
+    if table.len() == limit {
+        return Err(ForkFault::Eagain);
+    }
+    place(table, child_of(&by, thread, child));
+    refs.get(by.cookie);
+    Ok(())
+}

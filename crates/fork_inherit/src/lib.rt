@@ -1,0 +1,9 @@
+//! How a task is born and how one ends: what becomes of the table of the living and of the references
+//! to their cookies. It queues nobody and schedules nothing, which is a machine's.
+#![tactic(auto)]
+
+mod ending;
+mod forking;
+
+pub use ending::{HasThreads, end, leads_others};
+pub use forking::{ForkFault, fork};
