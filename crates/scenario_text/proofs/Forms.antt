@@ -5,7 +5,7 @@ use Rattle.std.proofs.lemmas.List.{nil_from_length}
 use Rattle.std.specs.Prelude.{codes}
 use Rattle.cs_types.specs.declared.event.Actor.{Actor}
 use Rattle.cs_types.specs.declared.event.Event.{Event}
-use Rattle.cs_types.specs.declared.event.Event.TheVariants.{Turn, Resched, Block, Wake, Prctl}
+use Rattle.cs_types.specs.declared.event.Event.TheVariants.{Turn, Resched, Block, Exit, Wake, Fork, Prctl}
 use Rattle.cs_types.specs.declared.event.Step.{Step}
 use Rattle.cs_types.specs.declared.task.TaskSpec.{TaskSpec}
 use Rattle.cs_types.specs.Scenario.{IsTask, IsStep}
@@ -93,7 +93,9 @@ few_step : (actor : Actor) (event : Event) → few (codes "step" ∷ made_words 
 few_step actor (Turn cpu) = refl
 few_step actor (Resched cpu) = refl
 few_step actor (Block cpu) = refl
+few_step actor (Exit cpu) = refl
 few_step actor (Wake pid) = refl
+few_step actor (Fork caller thread) = refl
 few_step actor (Prctl caller ask) = refl
 
 -- no line has too many words

@@ -10,7 +10,7 @@ use Rattle.cs_types.specs.declared.event.Actor.{Actor}
 use Rattle.cs_types.specs.declared.event.Actor.TheVariants.{Sibling, Caller}
 use Rattle.cs_types.specs.declared.event.Ask.{Ask}
 use Rattle.cs_types.specs.declared.event.Event.{Event}
-use Rattle.cs_types.specs.declared.event.Event.TheVariants.{Turn, Resched, Block, Wake, Prctl}
+use Rattle.cs_types.specs.declared.event.Event.TheVariants.{Turn, Resched, Block, Exit, Wake, Fork, Prctl}
 use Rattle.cs_types.specs.declared.event.Step.{Step}
 use Rattle.cs_types.specs.declared.scenario.Scenario.{Scenario}
 use Rattle.cs_types.specs.Scenario.{IsPolicy, IsTask, IsAsk, IsEvent, IsStep, IsBuilt}
@@ -18,7 +18,7 @@ use Rattle.scenario_text.specs.declared.fault.BadKind.TheVariants.{Unbuilt}
 use Rattle.scenario_text.specs.declared.fault.ReadFault.{ReadFault}
 use Rattle.scenario_text.specs.declared.fault.ReadFault.TheVariants.{Bad, OutOfMemory}
 use Rattle.scenario_text.specs.declared.head.Head.{Head}
-use Rattle.scenario_text.specs.Words.{Word, flag_word, policy_word, creds_words, task_words, actor_word, ask_words, event_words}
+use Rattle.scenario_text.specs.Words.{Word, flag_word, policy_word, creds_words, task_words, actor_word, ask_words, child_word, event_words}
 use Rattle.scenario_text.specs.Text.{line, version_words, siblings_words, limits_words, step_words, end_words, scenario_lines}
 use Rattle.scenario_text.specs.Reading.{Read, refused, Gives, Contents, lines_in, head_at, plan_of, scenario_of}
 use Rattle.scenario_text.specs.Reader.{IsTextOf, HasNoScenario, HasOneScenario}
@@ -149,11 +149,18 @@ plain_ask : (ask : Ask) → IsAsk ask → AllByRecursion IsPlain (ask_words ask)
 plain_ask ask is =
     (plain_decimal ask.cmd (omega (arith, is.cmd)), (plain_signed ask.pid is.pid, (plain_decimal ask.scope (omega (arith, is.scope)), (plain_decimal ask.addr is.addr, tt))))
 
+plain_child : (thread : Bool) → IsPlain (child_word thread)
+plain_child true = plain_word _ refl refl
+plain_child false = plain_word _ refl refl
+
 plain_event : (siblings : ℕ) (event : Event) → IsEvent siblings event → AllByRecursion IsPlain (event_words event)
 plain_event siblings (Turn cpu) is = (plain_word _ refl refl, tt)
 plain_event siblings (Resched cpu) is = (plain_word _ refl refl, tt)
 plain_event siblings (Block cpu) is = (plain_word _ refl refl, tt)
+plain_event siblings (Exit cpu) is = (plain_word _ refl refl, tt)
 plain_event siblings (Wake pid) is = (plain_word _ refl refl, (plain_decimal pid (omega arith), tt))
+plain_event siblings (Fork caller thread) is =
+    (plain_word _ refl refl, (plain_decimal caller (omega arith), (plain_child thread, tt)))
 plain_event siblings (Prctl caller ask) is =
     (plain_word _ refl refl, (plain_decimal caller (omega (arith, is.0)), plain_ask ask is.1))
 

@@ -1,5 +1,5 @@
 -- Steps: what is read from a step line is spelled by its words, and what is spelled so is read.
-use Rattle.std.proofs.Common.{◌≡◌, ℕ, ◌<◌, eqb, List, [], ◌∷◌, ◌++◌, Ok, refl, sym, ap, subst, arith, zero-le}
+use Rattle.std.proofs.Common.{◌≡◌, ℕ, ◌<◌, Bool, true, false, eqb, List, [], ◌∷◌, ◌++◌, Ok, refl, sym, ap, subst, arith, zero-le}
 use Rattle.std.specs.Prelude.{decimal, codes}
 use Rattle.std.specs.Fmt.{signed_decimal}
 use Rattle.std.proofs.lemmas.Bool.{eqb-true}
@@ -7,14 +7,14 @@ use Rattle.cs_types.specs.declared.event.Actor.{Actor}
 use Rattle.cs_types.specs.declared.event.Actor.TheVariants.{Sibling, Caller}
 use Rattle.cs_types.specs.declared.event.Ask.{Ask}
 use Rattle.cs_types.specs.declared.event.Event.{Event}
-use Rattle.cs_types.specs.declared.event.Event.TheVariants.{Turn, Resched, Block, Wake, Prctl}
+use Rattle.cs_types.specs.declared.event.Event.TheVariants.{Turn, Resched, Block, Exit, Wake, Fork, Prctl}
 use Rattle.cs_types.specs.declared.event.Step.{Step}
 use Rattle.cs_types.specs.Scenario.{IsAsk, IsStep}
-use Rattle.scenario_text.specs.Words.{Word, actor_word, ask_words, event_words}
+use Rattle.scenario_text.specs.Words.{Word, actor_word, ask_words, child_word, event_words}
 use Rattle.scenario_text.specs.Text.{step_words}
-use Rattle.scenario_text.specs.Reading.{parts, reading_named, ask_of, wake_of, prctl_of, sibling_event_of, caller_event_of, sibling_step_of, caller_step_of, step_of}
+use Rattle.scenario_text.specs.Reading.{parts, reading_named, ask_of, wake_of, child_of, fork_of, prctl_of, sibling_event_of, caller_event_of, sibling_step_of, caller_step_of, step_of}
 use Rattle.scenario_text.proofs.Numbers.{number_again}
-use Rattle.scenario_text.proofs.Readings.{Each, each_ok, each_refused, each_bind, each_if, each_when, each_counted, each_number, each_signed, each_cpu, cpu_again, signed_again}
+use Rattle.scenario_text.proofs.Readings.{Each, each_ok, each_refused, each_bind, each_if, each_when, each_named, each_counted, each_number, each_signed, each_cpu, cpu_again, signed_again}
 
 -- ---- the arguments of prctl
 
@@ -40,6 +40,17 @@ ask_again ask is =
       number_again 0 18446744073709551615 ask.addr (omega arith) (zero-le, omega (arith, is.addr)),
     ) refl
 
+-- ---- what a child is
+
+each_child : (word : Word) → Each (child_of word) (λ thread. word ≡ child_word thread)
+unfolding child_of
+each_child word = each_named (λ name thread. name ≡ child_word thread) _ word (each_ok _ _ refl, (each_ok _ _ refl, tt))
+
+child_again : (thread : Bool) → child_of (child_word thread) ≡ Ok thread
+unfolding child_of reading_named
+child_again true = refl
+child_again false = refl
+
 -- ---- events
 
 abbrev pub by : Actor → Event → Step
@@ -60,7 +71,10 @@ each_sibling_event siblings i words below =
       each_ok _ _ (refl, record { event = below; actor = refl }),
       (
         each_ok _ _ (refl, record { event = below; actor = refl }),
-        (each_ok _ _ (refl, record { event = below; actor = refl }), tt),
+        (
+          each_ok _ _ (refl, record { event = below; actor = refl }),
+          (each_ok _ _ (refl, record { event = below; actor = refl }), tt),
+        ),
       ),
     ) (each_refused _)
 
@@ -74,6 +88,13 @@ each_wake pid =
     each_bind _ _ _ _ (each_number 1 999999 pid (omega arith)) (λ n w.
     each_ok _ _ ((cc), λ siblings j few. record { event = w.1; actor = few }))
 
+each_fork : (caller child : Word) → Each (fork_of caller child) (ReadsCaller (codes "fork" ∷ caller ∷ child ∷ []))
+unfolding fork_of
+each_fork caller child =
+    each_bind _ _ _ _ (each_number 1 999999 caller (omega arith)) (λ n w0.
+    each_bind _ _ _ _ (each_child child) (λ thread w1.
+    each_ok _ _ ((cc), λ siblings j few. record { event = w0.1; actor = few })))
+
 each_prctl : (caller cmd target scope addr : Word) → Each (prctl_of caller cmd target scope addr) (ReadsCaller (codes "prctl" ∷ caller ∷ cmd ∷ target ∷ scope ∷ addr ∷ []))
 unfolding prctl_of
 each_prctl caller cmd target scope addr =
@@ -86,7 +107,8 @@ unfolding caller_event_of
 each_caller_event words =
     let at = (parts words).at in
     each_counted ReadsCaller words 1 _ _ (each_wake (at 1), tt)
-    (each_counted ReadsCaller words 5 _ _ (each_prctl (at 1) (at 2) (at 3) (at 4) (at 5), tt) (each_refused _))
+    (each_counted ReadsCaller words 2 _ _ (each_fork (at 1) (at 2), tt)
+    (each_counted ReadsCaller words 5 _ _ (each_prctl (at 1) (at 2) (at 3) (at 4) (at 5), tt) (each_refused _)))
 
 -- the number of an actor
 
@@ -94,10 +116,12 @@ pub sibling_within : (siblings i : ℕ) (event : Event) → IsSiblings siblings 
 sibling_within siblings i (Turn cpu) is = subst (λ (n : ℕ). n < siblings) is.actor is.event
 sibling_within siblings i (Resched cpu) is = subst (λ (n : ℕ). n < siblings) is.actor is.event
 sibling_within siblings i (Block cpu) is = subst (λ (n : ℕ). n < siblings) is.actor is.event
+sibling_within siblings i (Exit cpu) is = subst (λ (n : ℕ). n < siblings) is.actor is.event
 sibling_within siblings i event is = absurd is.actor
 
 pub caller_within : (siblings j : ℕ) (event : Event) → IsStep siblings (by (Caller j) event) → j < 8
 caller_within siblings j (Wake pid) is = is.actor
+caller_within siblings j (Fork caller thread) is = is.actor
 caller_within siblings j (Prctl caller ask) is = is.actor
 caller_within siblings j event is = absurd is.actor
 
@@ -108,11 +132,14 @@ unfolding sibling_event_of reading_named
 sibling_event_again siblings i (Turn cpu) is = ap (λ (n : ℕ). Ok (Turn n)) (sym is.actor)
 sibling_event_again siblings i (Resched cpu) is = ap (λ (n : ℕ). Ok (Resched n)) (sym is.actor)
 sibling_event_again siblings i (Block cpu) is = ap (λ (n : ℕ). Ok (Block n)) (sym is.actor)
+sibling_event_again siblings i (Exit cpu) is = ap (λ (n : ℕ). Ok (Exit n)) (sym is.actor)
 sibling_event_again siblings i event is = absurd is.actor
 
 caller_event_again : (siblings j : ℕ) (event : Event) → IsStep siblings (by (Caller j) event) → caller_event_of (parts (event_words event)) ≡ Ok event
-unfolding caller_event_of reading_named wake_of prctl_of
+unfolding caller_event_of reading_named wake_of fork_of prctl_of
 caller_event_again siblings j (Wake pid) is = rw (number_again 1 999999 pid (omega arith) is.event) refl
+caller_event_again siblings j (Fork caller thread) is =
+    rw (number_again 1 999999 caller (omega arith) is.event, child_again thread) refl
 caller_event_again siblings j (Prctl caller ask) is =
     rw (number_again 1 999999 caller (omega arith) is.event.0, ask_again ask is.event.1) refl
 caller_event_again siblings j event is = absurd is.actor

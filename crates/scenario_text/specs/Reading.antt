@@ -14,7 +14,7 @@ use Rattle.cs_types.specs.declared.task.TaskSpec.{TaskSpec}
 use Rattle.cs_types.specs.declared.event.Actor.TheVariants.{Sibling, Caller}
 use Rattle.cs_types.specs.declared.event.Ask.{Ask}
 use Rattle.cs_types.specs.declared.event.Event.{Event}
-use Rattle.cs_types.specs.declared.event.Event.TheVariants.{Turn, Resched, Block, Wake, Prctl}
+use Rattle.cs_types.specs.declared.event.Event.TheVariants.{Turn, Resched, Block, Exit, Wake, Fork, Prctl}
 use Rattle.cs_types.specs.declared.event.Step.{Step}
 use Rattle.cs_types.specs.declared.scenario.Scenario.{Scenario}
 use Rattle.scenario_text.specs.declared.head.Head.{Head}
@@ -191,6 +191,7 @@ sibling_event_of cpu words =
     (codes "turn", Ok (Turn cpu))
     ∷ (codes "resched", Ok (Resched cpu))
     ∷ (codes "block", Ok (Block cpu))
+    ∷ (codes "exit", Ok (Exit cpu))
     ∷ []
     ) (words.at 0)
     else refused
@@ -209,6 +210,16 @@ wake_of pid = do
   pid ← number_of 1 999999 pid
   Ok (Wake pid)
 
+-- `thread` or `process`
+unfoldable pub child_of : Word → Read Bool
+child_of word = reading_named ((codes "thread", Ok true) ∷ (codes "process", Ok false) ∷ []) word
+
+unfoldable pub fork_of : Word → Word → Read Event
+fork_of caller child = do
+  caller ← number_of 1 999999 caller
+  thread ← child_of child
+  Ok (Fork caller thread)
+
 unfoldable pub prctl_of : Word → Word → Word → Word → Word → Read Event
 prctl_of caller cmd target scope addr = do
   caller ← number_of 1 999999 caller
@@ -220,11 +231,13 @@ unfoldable pub caller_event_of : Parts → Read Event
 caller_event_of words =
     if words.count == 2
     then reading_named ((codes "wake", wake_of (words.at 1)) ∷ []) (words.at 0)
+    else (if words.count == 3
+    then reading_named ((codes "fork", fork_of (words.at 1) (words.at 2)) ∷ []) (words.at 0)
     else (if words.count == 6
     then reading_named (
     (codes "prctl", prctl_of (words.at 1) (words.at 2) (words.at 3) (words.at 4) (words.at 5)) ∷ []
     ) (words.at 0)
-    else refused)
+    else refused))
 
 -- what the sibling of this number does
 unfoldable pub sibling_step_of : ℕ → Word → Parts → Read Step

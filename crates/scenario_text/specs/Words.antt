@@ -11,14 +11,14 @@ use Rattle.cs_types.specs.declared.event.Actor.{Actor}
 use Rattle.cs_types.specs.declared.event.Actor.TheVariants.{Sibling, Caller}
 use Rattle.cs_types.specs.declared.event.Ask.{Ask}
 use Rattle.cs_types.specs.declared.event.Event.{Event}
-use Rattle.cs_types.specs.declared.event.Event.TheVariants.{Turn, Resched, Block, Wake, Prctl}
+use Rattle.cs_types.specs.declared.event.Event.TheVariants.{Turn, Resched, Block, Exit, Wake, Fork, Prctl}
 use Rattle.cs_types.specs.declared.reply.Kind.{Kind}
 use Rattle.cs_types.specs.declared.reply.Kind.TheVariants.{Selected, Adopted, Plain}
 use Rattle.cs_types.specs.declared.reply.Errno.{Errno}
-use Rattle.cs_types.specs.declared.reply.Errno.TheVariants.{Eperm, Esrch, Enomem, Efault, Enodev, Einval}
+use Rattle.cs_types.specs.declared.reply.Errno.TheVariants.{Eperm, Esrch, Eagain, Enomem, Efault, Enodev, Einval}
 use Rattle.cs_types.specs.declared.reply.Pick.{Pick}
 use Rattle.cs_types.specs.declared.reply.Reply.{Reply}
-use Rattle.cs_types.specs.declared.reply.Reply.TheVariants.{Picked, Nothing, Slept, Idle, Woken, Awake, NoTask, Zero, Value, Refused, NoCaller}
+use Rattle.cs_types.specs.declared.reply.Reply.TheVariants.{Picked, Nothing, Slept, Ended, Idle, HasThreads, Woken, Awake, NoTask, Child, Zero, Value, Refused, NoCaller}
 
 -- a word is its bytes
 abbrev pub Word : Type 0
@@ -59,11 +59,18 @@ actor_word (Caller j) = codes "c" ++ decimal j
 abbrev pub ask_words : Ask → List Word
 ask_words ask = decimal ask.cmd ∷ signed_decimal ask.pid ∷ decimal ask.scope ∷ decimal ask.addr ∷ []
 
+-- what a child is: a thread of its parent's thread group, or a process
+abbrev pub child_word : Bool → Word
+child_word true = codes "thread"
+child_word false = codes "process"
+
 abbrev pub event_words : Event → List Word
 event_words (Turn cpu) = codes "turn" ∷ []
 event_words (Resched cpu) = codes "resched" ∷ []
 event_words (Block cpu) = codes "block" ∷ []
+event_words (Exit cpu) = codes "exit" ∷ []
 event_words (Wake pid) = codes "wake" ∷ decimal pid ∷ []
+event_words (Fork caller thread) = codes "fork" ∷ decimal caller ∷ child_word thread ∷ []
 event_words (Prctl caller ask) = codes "prctl" ∷ decimal caller ∷ ask_words ask
 
 -- the actor, and what it does
@@ -89,6 +96,7 @@ pick_words pick =
 abbrev pub errno_word : Errno → Word
 errno_word Eperm = codes "EPERM"
 errno_word Esrch = codes "ESRCH"
+errno_word Eagain = codes "EAGAIN"
 errno_word Enomem = codes "ENOMEM"
 errno_word Efault = codes "EFAULT"
 errno_word Enodev = codes "ENODEV"
@@ -98,10 +106,13 @@ abbrev pub reply_words : Reply → List Word
 reply_words (Picked pick) = pick_words pick
 reply_words Nothing = codes "Nothing" ∷ []
 reply_words (Slept pid pick) = codes "Slept" ∷ decimal pid ∷ pick_words pick
+reply_words (Ended pid pick) = codes "Ended" ∷ decimal pid ∷ pick_words pick
 reply_words Idle = codes "Idle" ∷ []
+reply_words HasThreads = codes "HasThreads" ∷ []
 reply_words (Woken cpu) = codes "Woken" ∷ decimal cpu ∷ []
 reply_words Awake = codes "Awake" ∷ []
 reply_words NoTask = codes "NoTask" ∷ []
+reply_words (Child pid) = codes "Child" ∷ decimal pid ∷ []
 reply_words Zero = codes "0" ∷ []
 reply_words (Value cookie) = codes "0" ∷ codes "value" ∷ decimal cookie ∷ []
 reply_words (Refused errno) = errno_word errno ∷ []

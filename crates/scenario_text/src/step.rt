@@ -2,7 +2,7 @@
 //! with which it shares no more than siblings.
 
 ghost use Rattle.std.specs.Prelude.{◌≡◌};
-ghost use Rattle.scenario_text.specs.Reading.{lent, number_of, sibling_event_of, ask_of, caller_event_of, sibling_step_of, caller_step_of, step_of};
+ghost use Rattle.scenario_text.specs.Reading.{lent, number_of, sibling_event_of, ask_of, child_of, fork_of, caller_event_of, sibling_step_of, caller_step_of, step_of};
 
 use crate::fault::Refused;
 use crate::number::{parse_cpu, parse_number, parse_signed};
@@ -24,6 +24,7 @@ fn parse_sibling_event(words: &[&[u8]], cpu: Cpu) -> Result<Event, Refused>
         [name] if is_word(name, "turn") => Ok(Event::Turn(cpu)),
         [name] if is_word(name, "resched") => Ok(Event::Resched(cpu)),
         [name] if is_word(name, "block") => Ok(Event::Block(cpu)),
+        [name] if is_word(name, "exit") => Ok(Event::Exit(cpu)),
         _ => Err(Refused),
     }
 }
@@ -48,6 +49,31 @@ fn parse_named_pid(word: &[u8]) -> Result<Pid, Refused>
     Ok(parse_number(word, 1, MOST_NAMED_PID)? as u32)
 }
 
+/// What a child is to be: true for `thread`, one of its parent's thread group, and false for `process`.
+#[tactic(auto, unfolding(crate::specs::Reading::reading_named, crate::specs::Reading::child_of))]
+fn parse_child(word: &[u8]) -> Result<bool, Refused>
+    ensures { result ≡ child_of word.now }
+{
+    if is_word(word, "thread") {
+        Ok(true)
+    } else if is_word(word, "process") {
+        Ok(false)
+    } else {
+        Err(Refused)
+    }
+}
+
+/// A call of `fork`, by the words after its name.
+#[tactic(auto, unfolding(crate::specs::Reading::fork_of))]
+fn parse_fork(caller: &[u8], child: &[u8]) -> Result<Event, Refused>
+    ensures { result ≡ fork_of caller.now child.now }
+{
+    Ok(Event::Fork {
+        caller: parse_named_pid(caller)?,
+        thread: parse_child(child)?,
+    })
+}
+
 /// What a caller does.
 #[tactic(auto, unfolding(crate::specs::Reading::reading_named, crate::specs::Reading::caller_event_of, crate::specs::Reading::wake_of, crate::specs::Reading::prctl_of))]
 fn parse_caller_event(words: &[&[u8]]) -> Result<Event, Refused>
@@ -55,6 +81,7 @@ fn parse_caller_event(words: &[&[u8]]) -> Result<Event, Refused>
 {
     match *words {
         [name, pid] if is_word(name, "wake") => Ok(Event::Wake(parse_named_pid(pid)?)),
+        [name, caller, child] if is_word(name, "fork") => parse_fork(caller, child),
         [name, caller, cmd, target, scope, addr] if is_word(name, "prctl") => Ok(Event::Prctl {
             caller: parse_named_pid(caller)?,
             ask: parse_ask(cmd, target, scope, addr)?,

@@ -1,8 +1,8 @@
 //! A line while it is put together. It lies on the stack and has room for the longest entry, so it
 //! takes no memory and cannot fail, and a sink is given it whole.
 
-ghost use Rattle.std.specs.Prelude.{◌≡◌, ◌+◌, ◌≤◌, [], ◌++◌, length};
-ghost use Rattle.scenario_text.specs.Words.{made_words, actor_word, ask_words, event_words, reply_words, pick_words, kind_word, run_word, errno_word};
+ghost use Rattle.std.specs.Prelude.{◌≡◌, ◌+◌, ◌≤◌, [], ◌∷◌, ◌++◌, length, decimal};
+ghost use Rattle.scenario_text.specs.Words.{made_words, actor_word, ask_words, child_word, event_words, reply_words, pick_words, kind_word, run_word, errno_word};
 ghost use Rattle.scenario_text.specs.Text.{spaced, entry_text};
 
 use arrayvec::ArrayString;
@@ -91,9 +91,16 @@ impl Line {
             Event::Turn(_) => self.text("turn"),
             Event::Resched(_) => self.text("resched"),
             Event::Block(_) => self.text("block"),
+            Event::Exit(_) => self.text("exit"),
             Event::Wake(pid) => {
                 self.text("wake ");
                 self.number(pid);
+            }
+            Event::Fork { caller, thread } => {
+                self.text("fork ");
+                self.number(caller);
+                self.text(" ");
+                self.child(thread);
             }
             Event::Prctl { caller, ask } => {
                 self.text("prctl ");
@@ -101,6 +108,18 @@ impl Line {
                 self.text(" ");
                 self.ask(ask);
             }
+        }
+    }
+
+    fn child(&mut self, is_thread: bool)
+        requires { length self.old + 7 ≤ ROOM }
+        ensures text { self.new ≡ self.old ++ child_word is_thread }
+        ensures room { length self.new ≤ length self.old + 7 }
+    {
+        if is_thread {
+            self.text("thread");
+        } else {
+            self.text("process");
         }
     }
 
@@ -128,17 +147,24 @@ impl Line {
             Reply::Nothing => self.text("Nothing"),
             Reply::Slept { pid, pick } => {
                 self.text("Slept ");
-                self.number(pid);
-                self.text(" ");
-                self.pick(pick);
+                self.task_and_pick(pid, pick);
+            }
+            Reply::Ended { pid, pick } => {
+                self.text("Ended ");
+                self.task_and_pick(pid, pick);
             }
             Reply::Idle => self.text("Idle"),
+            Reply::HasThreads => self.text("HasThreads"),
             Reply::Woken(cpu) => {
                 self.text("Woken ");
                 self.number(cpu);
             }
             Reply::Awake => self.text("Awake"),
             Reply::NoTask => self.text("NoTask"),
+            Reply::Child(pid) => {
+                self.text("Child ");
+                self.number(pid);
+            }
             Reply::Zero => self.text("0"),
             Reply::Value(cookie) => {
                 self.text("0 value ");
@@ -147,6 +173,17 @@ impl Line {
             Reply::Refused(errno) => self.errno(errno),
             Reply::NoCaller => self.text("NoCaller"),
         }
+    }
+
+    /// The task that left its sibling, and the pick that the sibling took.
+    fn task_and_pick(&mut self, pid: Pid, pick: Pick)
+        requires { length self.old + 67 ≤ ROOM }
+        ensures text { self.new ≡ self.old ++ spaced (decimal pid ∷ pick_words pick) }
+        ensures room { length self.new ≤ length self.old + 67 }
+    {
+        self.number(pid);
+        self.text(" ");
+        self.pick(pick);
     }
 
     fn pick(&mut self, pick: Pick)
@@ -183,6 +220,7 @@ impl Line {
         match errno {
             Errno::Eperm => self.text("EPERM"),
             Errno::Esrch => self.text("ESRCH"),
+            Errno::Eagain => self.text("EAGAIN"),
             Errno::Enomem => self.text("ENOMEM"),
             Errno::Efault => self.text("EFAULT"),
             Errno::Enodev => self.text("ENODEV"),
