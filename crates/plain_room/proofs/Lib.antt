@@ -6,3 +6,4 @@ pub mod OnlineCount
 pub mod Sleeps
 pub mod Machines
 pub mod Views
+pub mod Lives

@@ -7,7 +7,7 @@ use Rattle.std.proofs.Math.Bool.{and-false, and-true}
 use Rattle.std.proofs.lemmas.List.{map_push}
 use Rattle.std.proofs.lemmas.Bool.{cond-true, cond-false, eq-eqb, ne_eqb}
 use Rattle.cs_types.specs.declared.event.Event.{Event}
-use Rattle.cs_types.specs.declared.event.Event.TheVariants.{Turn, Resched, Block, Wake, Prctl}
+use Rattle.cs_types.specs.declared.event.Event.TheVariants.{Turn, Resched, Block, Exit, Wake, Fork, Prctl}
 use Rattle.cs_types.specs.declared.event.Step.{Step}
 use Rattle.cs_types.specs.declared.reply.Pick.{Pick}
 use Rattle.cs_types.specs.declared.reply.Reply.{Reply}
@@ -93,7 +93,9 @@ scheduler_below : (n : ℕ) (event : Event) → IsEvent n event → IfSome (sche
 scheduler_below n (Turn cpu) limits = limits
 scheduler_below n (Resched cpu) limits = limits
 scheduler_below n (Block cpu) limits = limits
+scheduler_below n (Exit cpu) limits = limits
 scheduler_below n (Wake pid) limits = tt
+scheduler_below n (Fork caller thread) limits = tt
 scheduler_below n (Prctl caller ask) limits = tt
 
 own_more : (n : ℕ) (note : Noted) (ledger : Ledger) → IsEvent n note.entry.event →

@@ -178,9 +178,10 @@ pub sets_one : (scenario : Scenario) (old new : State) (task : Task) (cookie : �
     new.tasks ≡ record old.tasks { tasks = map (λ other. cond (has_pid task.spec.pid other) (record task { cookie = cookie }) other) old.tasks.tasks } →
     new.refs.limit ≡ old.refs.limit → new.refs.next ≡ old.refs.next →
     map sibling_state new.siblings.items ≡ map (flagged_for task.spec.pid) (map sibling_state old.siblings.items) →
+    new.ended ≡ old.ended → new.next_pid ≡ old.next_pid →
     new.next_stamp ≡ old.next_stamp → new.core_cookie ≡ old.core_cookie → new.forced ≡ old.forced → new.occupation ≡ old.occupation →
     room_of scenario new ≡ with_cookies (room_of scenario old) (setting (task ∷ []) cookie)
-sets_one scenario old new task cookie rises there tasks limit next siblings stamp core forced occupation =
+sets_one scenario old new task cookie rises there tasks limit next siblings ended pid stamp core forced occupation =
     let each = ap (λ (table : Table). table.tasks) tasks ∙ set_each cookie old.tasks.tasks task rises there in
     let limits = ap (λ (table : Table). table.limit) tasks in
     let flags = siblings ∙ flagged_alike task cookie (map sibling_state old.siblings.items) in
@@ -189,7 +190,9 @@ sets_one scenario old new task cookie rises there tasks limit next siblings stam
       cookie_limit = limit i;
       user_top = scenario.user_top;
       tasks = each i;
+      ended = (ended i).items;
       siblings = flags i;
+      next_pid = pid i;
       next_stamp = stamp i;
       next_cookie = next i;
       core_cookie = core i;
@@ -246,16 +249,16 @@ and_above false n above = refl
 
 -- ---- the tasks that a target names
 
-pub named_threads : (count tgid : ℕ) (tasks : List Task) → All (IsFit count) tasks → group_above (Threads tgid) 0 tasks ≡ filter (λ task. task.spec.tgid == tgid) tasks
-named_threads count tgid tasks fit =
+pub named_threads : (count next tgid : ℕ) (tasks : List Task) → All (IsFit count next) tasks → group_above (Threads tgid) 0 tasks ≡ filter (λ task. task.spec.tgid == tgid) tasks
+named_threads count next tgid tasks fit =
     filter_alike (λ task. (task.spec.tgid == tgid) && ltb 0 task.spec.pid) (λ task. task.spec.tgid == tgid) tasks
-    (All-weaker (IsFit count) (λ (task : Task). ((task.spec.tgid == tgid) && ltb 0 task.spec.pid) ≡ (task.spec.tgid == tgid))
+    (All-weaker (IsFit count next) (λ (task : Task). ((task.spec.tgid == tgid) && ltb 0 task.spec.pid) ≡ (task.spec.tgid == tgid))
     (λ task fits. and_above (task.spec.tgid == tgid) task.spec.pid fits.pid) tasks fit)
 
-pub named_process : (count pgid : ℕ) (tasks : List Task) → All (IsFit count) tasks → group_above (Process pgid) 0 tasks ≡ filter (λ task. task.spec.pgid == pgid) tasks
-named_process count pgid tasks fit =
+pub named_process : (count next pgid : ℕ) (tasks : List Task) → All (IsFit count next) tasks → group_above (Process pgid) 0 tasks ≡ filter (λ task. task.spec.pgid == pgid) tasks
+named_process count next pgid tasks fit =
     filter_alike (λ task. (task.spec.pgid == pgid) && ltb 0 task.spec.pid) (λ task. task.spec.pgid == pgid) tasks
-    (All-weaker (IsFit count) (λ (task : Task). ((task.spec.pgid == pgid) && ltb 0 task.spec.pid) ≡ (task.spec.pgid == pgid))
+    (All-weaker (IsFit count next) (λ (task : Task). ((task.spec.pgid == pgid) && ltb 0 task.spec.pid) ≡ (task.spec.pgid == pgid))
     (λ task fits. and_above (task.spec.pgid == pgid) task.spec.pid fits.pid) tasks fit)
 
 -- no task gets a cookie

@@ -1,10 +1,10 @@
--- The numbers of a sibling whose task went to sleep.
+-- The numbers of a sibling whose task went to sleep or ended.
 use Rattle.std.proofs.Common.{◌≡◌, ℕ, ap, arith, set}
-use Rattle.cs_types.specs.declared.event.Event.TheVariants.{Block}
+use Rattle.cs_types.specs.declared.event.Event.TheVariants.{Block, Exit}
 use Rattle.cs_types.specs.declared.reply.Kind.{Kind}
 use Rattle.cs_types.specs.declared.reply.Kind.TheVariants.{Selected, Adopted, Plain}
 use Rattle.cs_types.specs.declared.reply.Pick.{Pick}
-use Rattle.cs_types.specs.declared.reply.Reply.TheVariants.{Slept}
+use Rattle.cs_types.specs.declared.reply.Reply.TheVariants.{Slept, Ended}
 use Rattle.cs_types.specs.Room.{RoomState}
 use Rattle.plain_room.specs.State.{Numbers, touched, took, numbers_after}
 
@@ -18,3 +18,8 @@ took-touched room cpu pid pick numbers = by_kind pick.kind pick.run pick.core pi
   by_kind Selected run core forced = ap (λ (n : ℕ). record { task = n; pick = n; own = set numbers.own cpu n }) (omega arith)
   by_kind Adopted run core forced = ap (λ (n : ℕ). record { task = n; pick = numbers.pick; own = set numbers.own cpu numbers.pick }) (omega arith)
   by_kind Plain run core forced = ap (λ (n : ℕ). record { task = n; pick = numbers.pick; own = numbers.own }) (omega arith)
+
+-- and so where the task ended
+pub took-ended : (room : RoomState) (cpu pid : ℕ) (pick : Pick) (numbers : Numbers) →
+    took cpu pick (touched 1 numbers) ≡ numbers_after room (Exit cpu) (Ended pid pick) numbers
+took-ended room cpu pid pick numbers = took-touched room cpu pid pick numbers

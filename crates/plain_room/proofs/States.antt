@@ -9,17 +9,17 @@ use Rattle.cs_types.specs.Selection.{cookie_of, Scheduled}
 use Rattle.std.specs.Global.{Vec}
 use Rattle.std.specs.Vec.{with_items}
 use Rattle.std.proofs.lemmas.List.{get_or-take, get_or_default, get_or-map, length-map, with_items_is}
-use Rattle.std.proofs.lemmas.List.Elements.{All-map, All-weaker, All-head, All-tail, All-from_recursion}
+use Rattle.std.proofs.lemmas.List.Elements.{All-map, All-weaker, All-head, All-tail, All-from_recursion, recursion_from_All}
 use Rattle.std.proofs.lemmas.List.Sums.{sum_by-cons}
 use Rattle.std.proofs.Math.Seq.{map-set_same}
 use Rattle.std.proofs.lemmas.Bool.{cond_both, cond-false, ne_eqb}
 use Rattle.cs_types.specs.declared.task.TaskSpec.{TaskSpec}
 use Rattle.cs_types.specs.declared.scenario.Scenario.{Scenario}
 use Rattle.cs_types.specs.Scenario.{IsTask, IsPolicy, AreDistinct}
-use Rattle.cs_types.specs.Room.{RoomState, asleep, placed, asleep_tasks, idle, has_pid}
+use Rattle.cs_types.specs.Room.{RoomState, first_pid, asleep, placed, asleep_tasks, idle, has_pid}
 use Rattle.task_table.specs.Table.{Table, Rises, add_answer}
 use Rattle.task_table.specs.declared.fault.AddFault.{AddFault}
-use Rattle.cs_types.proofs.Tasks.{length-asleep_tasks}
+use Rattle.cs_types.proofs.Tasks.{length-asleep_tasks, below_first_pid}
 use Rattle.task_table.proofs.Tables.{changed_each}
 use Rattle.cookie_refs.specs.Refs.{Refs, references, AgreeBut}
 use Rattle.plain_room.specs.State.{sibling_state, IsFit, IsSound, room_of, Schedules}
@@ -47,18 +47,18 @@ items-as_many v after e = with_items_is v after (e ∙ sym v.ok.0)
 -- ---- tasks
 
 -- a change of a task to one that fits keeps all so
-pub fit-changed : (count : ℕ) (task : Task) (tasks : List Task) → IsFit count task → All (IsFit count) tasks →
-    All (IsFit count) (map (λ other. cond (has_pid task.spec.pid other) task other) tasks)
-fit-changed count task tasks fit all =
-    All-map (IsFit count) (λ other. cond (has_pid task.spec.pid other) task other) tasks
-    (All-weaker (IsFit count) (λ (t : Task). IsFit count (cond (has_pid task.spec.pid t) task t))
-    (λ t h. cond_both (has_pid task.spec.pid t) task t (IsFit count) (λ _. fit) (λ _. h)) tasks all)
+pub fit-changed : (count next : ℕ) (task : Task) (tasks : List Task) → IsFit count next task → All (IsFit count next) tasks →
+    All (IsFit count next) (map (λ other. cond (has_pid task.spec.pid other) task other) tasks)
+fit-changed count next task tasks fit all =
+    All-map (IsFit count next) (λ other. cond (has_pid task.spec.pid other) task other) tasks
+    (All-weaker (IsFit count next) (λ (t : Task). IsFit count next (cond (has_pid task.spec.pid t) task t))
+    (λ t h. cond_both (has_pid task.spec.pid t) task t (IsFit count next) (λ _. fit) (λ _. h)) tasks all)
 
 -- what is said of the task that was found
-pub found_fits : (count : ℕ) (pid : ℕ) (tasks : List Task) (task : Task) → All (IsFit count) tasks → find (has_pid pid) tasks ≡ Some task → IsFit count task
-found_fits count pid tasks task all found =
-    let fit = All-find (IsFit count) (has_pid pid) tasks all in
-    subst (λ (one : Option Task). IfSome one (IsFit count)) found fit
+pub found_fits : (count next pid : ℕ) (tasks : List Task) (task : Task) → All (IsFit count next) tasks → find (has_pid pid) tasks ≡ Some task → IsFit count next task
+found_fits count next pid tasks task all found =
+    let fit = All-find (IsFit count next) (has_pid pid) tasks all in
+    subst (λ (one : Option Task). IfSome one (IsFit count next)) found fit
 
 sum_alike : {X : Type 0} (f : X → ℕ) (g : X → X) → ((x : X) → f (g x) ≡ f x) → (xs : List X) → sum_by f (map g xs) ≡ sum_by f xs
 sum_alike f g same [] = refl
@@ -82,11 +82,11 @@ agree-changed refs held change same tasks task rises found agree =
     (λ other. cond_both (has_pid task.spec.pid other) (change other) other (λ (t : Task). t.cookie ≡ other.cookie) (λ _. same other) (λ _. refl)) tasks agree)
 
 -- tasks that remember an occupation fit as they did
-pub fit-remembered : (count : ℕ) (choices : List Choice) (occupation : ℕ) (tasks : List Task) → All (IsFit count) tasks →
-    All (IsFit count) (map (remembered_task choices occupation) tasks)
-fit-remembered count choices occupation tasks all =
-    All-map (IsFit count) (remembered_task choices occupation) tasks
-    (All-weaker (IsFit count) (λ (t : Task). IsFit count (remembered_task choices occupation t)) (λ t fit. record { pid = fit.pid; home = fit.home; policy = fit.policy }) tasks all)
+pub fit-remembered : (count next : ℕ) (choices : List Choice) (occupation : ℕ) (tasks : List Task) → All (IsFit count next) tasks →
+    All (IsFit count next) (map (remembered_task choices occupation) tasks)
+fit-remembered count next choices occupation tasks all =
+    All-map (IsFit count next) (remembered_task choices occupation) tasks
+    (All-weaker (IsFit count next) (λ (t : Task). IsFit count next (remembered_task choices occupation t)) (λ t fit. record { pid = fit.pid; below = fit.below; home = fit.home; policy = fit.policy }) tasks all)
 
 -- ---- siblings
 
@@ -113,6 +113,11 @@ placed_all P task (first ∷ rest) here all =
     cond_both (ltb task.spec.pid first.spec.pid) (task ∷ first ∷ rest) (first ∷ placed task rest) (AllByRecursion P)
     (λ _. (here, all)) (λ _. (all.0, placed_all P task rest here all.1))
 
+-- a task that fits, placed among others that do
+pub fit-placed : (count next : ℕ) (task : Task) (tasks : List Task) → IsFit count next task → All (IsFit count next) tasks → All (IsFit count next) (placed task tasks)
+fit-placed count next task tasks fit all =
+    All-from_recursion (IsFit count next) (placed task tasks) (placed_all (IsFit count next) task tasks fit (recursion_from_All (IsFit count next) tasks all))
+
 added_all : (P : Task → Type 0) (tasks : List Task) (specs : List TaskSpec) → AllByRecursion P tasks → All (λ spec. P (asleep spec)) specs →
     AllByRecursion P (fold (λ ts spec. placed (asleep spec) ts) tasks specs)
 added_all P tasks [] all each = all
@@ -121,11 +126,12 @@ added_all P tasks (spec ∷ specs) all each =
     (All-tail (λ spec. P (asleep spec)) spec specs each)
 
 -- the tasks of a scenario fit the siblings that there are, and have no cookie
-pub fit-asleep : (count : ℕ) (specs : List TaskSpec) → All (IsTask count) specs → All (IsFit count) (asleep_tasks specs)
+pub fit-asleep : (count : ℕ) (specs : List TaskSpec) → All (IsTask count) specs → All (IsFit count (first_pid specs)) (asleep_tasks specs)
 fit-asleep count specs tasks =
-    All-from_recursion (IsFit count) (asleep_tasks specs)
-    (added_all (IsFit count) [] specs tt
-    (All-weaker (IsTask count) (λ (spec : TaskSpec). IsFit count (asleep spec)) (λ spec task. record { pid = task.pid.0; home = task.cpu; policy = task.policy }) specs tasks))
+    All-from_recursion (IsFit count (first_pid specs)) (asleep_tasks specs)
+    (added_all (IsFit count (first_pid specs)) [] specs tt (λ k d lt.
+    let task = tasks k d lt in
+    record { pid = task.pid.0; below = All-from_recursion (λ spec. spec.pid < first_pid specs) specs (below_first_pid specs) k d lt; home = task.cpu; policy = task.policy }))
 
 pub cookieless-asleep : (specs : List TaskSpec) → All (λ (task : Task). task.cookie ≡ 0) (asleep_tasks specs)
 cookieless-asleep specs =
@@ -166,7 +172,7 @@ some_scenario = record { siblings = 0; task_limit = 0; cookie_limit = 0; user_to
 -- the policies of a sound state keep their limits
 pub policies : (count : ℕ) (state : State) → IsSound count state → All (λ task. IsPolicy task.spec.policy) state.tasks.tasks
 policies count state sound =
-    All-weaker (IsFit count) (λ (task : Task). IsPolicy task.spec.policy) (λ task fit. fit.policy) state.tasks.tasks sound.tasks
+    All-weaker (IsFit count state.next_pid) (λ (task : Task). IsPolicy task.spec.policy) (λ task fit. fit.policy) state.tasks.tasks sound.tasks
 
 -- a schedule by one change is one by another that does the same in the old room
 pub Schedules-same : (old new : State) (cpu : ℕ) (chosen : Pick) (change other : RoomState → Scheduled) →

@@ -4,6 +4,7 @@ use Rattle.std.specs.List.{range_with_len}
 use Rattle.cs_types.specs.declared.event.Step.{Step}
 use Rattle.cs_types.specs.declared.reply.Entry.{Entry}
 use Rattle.cs_types.specs.Scenario.{IsWithin}
+use Rattle.cs_types.specs.Room.{first_pid}
 use Rattle.cs_types.specs.Touches.{Ledger, task_number, pick_number, own_number}
 use Rattle.cs_types.specs.History.{fold_of, ledger_of, history_of}
 use Rattle.plain_room.specs.State.{room_of, IsSound, Numbers, numbers_of}
@@ -38,7 +39,11 @@ pub record IsFold (room : Inside) : Type 0 where
   pub numbers : numbers_of room.state ≡ numbers_at (ledger_of room.scenario room.entries.items) room.scenario.siblings
   pub sound : IsSound room.scenario.siblings room.state
   pub few_siblings : room.scenario.siblings ≤ 16
-  pub few_tasks : length room.scenario.tasks ≤ 256
+  pub few_tasks : length room.scenario.tasks ≤ room.scenario.task_limit
+  pub low_limit : room.scenario.task_limit ≤ 256
+  pub low_pids : first_pid room.scenario.tasks ≤ 10000
+  -- so no task that ends takes memory
+  pub room_for_ended : vec_capacity room.entries ≤ vec_capacity room.state.ended
   pub user_top : IsWithin 8192 9223372036854775807 room.scenario.user_top
   -- so no stamp, cookie or number overflows
   pub few_entries : vec_capacity room.entries ≤ 100000

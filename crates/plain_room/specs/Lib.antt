@@ -1,5 +1,6 @@
 pub mod State
 pub mod Choice
 pub mod Cookies
+pub mod Life
 pub mod Machine
 pub mod Inside

@@ -42,7 +42,9 @@ room_of scenario state =
       cookie_limit = state.refs.limit;
       user_top = scenario.user_top;
       tasks = state.tasks.tasks;
+      ended = state.ended.items;
       siblings = map sibling_state state.siblings.items;
+      next_pid = state.next_pid;
       next_stamp = state.next_stamp;
       next_cookie = state.refs.next;
       core_cookie = state.core_cookie;
@@ -50,9 +52,10 @@ room_of scenario state =
       occupation = state.occupation;
     }
 
--- the task has a pid, is at home on one of so many siblings, and its policy keeps its limits
-pub record IsFit (count : ℕ) (task : Task) : Type 0 where
+-- the task has a pid below the next, is at home on one of so many siblings, and its policy keeps its limits
+pub record IsFit (count next : ℕ) (task : Task) : Type 0 where
   pub pid : 0 < task.spec.pid
+  pub below : task.spec.pid < next
   pub home : task.home < count
   pub policy : IsPolicy task.spec.policy
 
@@ -65,7 +68,7 @@ Has state task = find (has_pid task.spec.pid) state.tasks.tasks ≡ Some task
 pub record IsSoundBut (count : ℕ) (state : State) (held : ℕ) : Type 0 where
   pub siblings : length state.siblings.items ≡ count
   pub table : IsTable state.tasks
-  pub tasks : All (IsFit count) state.tasks.tasks
+  pub tasks : All (IsFit count state.next_pid) state.tasks.tasks
   pub refs : AgreeBut state.refs state.tasks.tasks held
 
 -- the same with no cookie held beside them

@@ -58,6 +58,7 @@ impl State {
         requires touches { self.old.task_number + 2 < 2 ^ 64 }
         ensures sets { SetsCookies self.old self.new (task ∷ []) cookie }
         ensures sound { IsSoundBut (length self.old.siblings.items) self.new cookie }
+        ensures ended { self.new.ended ≡ self.old.ended }
     {
         self.refs.get(cookie);
         self.refs.put(task.cookie);
@@ -82,6 +83,7 @@ impl State {
         requires touches { self.old.task_number + 2 * length self.old.tasks.tasks + 2 < 2 ^ 64 }
         ensures sets { SetsCookies self.old self.new (group_above group 0 self.old.tasks.tasks) cookie }
         ensures sound { IsSoundBut (length self.old.siblings.items) self.new cookie }
+        ensures ended { self.new.ended ≡ self.old.ended }
     {
         let mut after = 0;
         for _ in 0..self.tasks.len() {
@@ -99,6 +101,7 @@ impl State {
         requires touches { self.old.task_number + 2 * length self.old.tasks.tasks + 2 < 2 ^ 64 }
         ensures sets { SetsCookies self.old self.new (named to self.old.tasks.tasks) cookie }
         ensures sound { IsSoundBut (length self.old.siblings.items) self.new cookie }
+        ensures ended { self.new.ended ≡ self.old.ended }
     {
         match to {
             Target::Nobody => {}
@@ -122,6 +125,7 @@ impl State {
         ensures makes { (scenario : Scenario) → scenario.user_top ≡ user_top →
             Makes scenario self.old self.new (Prctl pid ask) result }
         ensures sound { StaysSound self.old self.new }
+        ensures ended { self.new.ended ≡ self.old.ended }
     {
         let online = self.online_count();
         let planned = plan(

@@ -1,14 +1,13 @@
 //! What each event does to the state.
 
-ghost use Rattle.std.specs.Prelude.{◌≡◌, ◌+◌, ◌*◌, ◌^◌, ◌<◌, ◌≤◌, length};
+ghost use Rattle.std.specs.Prelude.{◌≡◌, ◌+◌, ◌*◌, ◌^◌, ◌<◌, ◌≤◌, length, vec_len, vec_capacity};
 ghost use Rattle.cs_types.specs.declared.scenario.Scenario.{Scenario};
 ghost use Rattle.cs_types.specs.Scenario.{IsWithin, IsEvent};
-ghost use Rattle.cs_types.specs.Step.{preempts};
 ghost use Rattle.plain_room.specs.State.{room_of, IsSound, StaysSound, Makes};
 
 use crate::state::State;
-use crate::task::is_higher;
-use cs_types::{Cpu, Event, Pid, Reply, Scenario, Task};
+use cs_types::{Cpu, Errno, Event, Pid, Reply, Scenario};
+use fork_inherit::{ForkFault, leads_others};
 
 impl State {
     /// A pending reschedule is taken.
@@ -19,6 +18,7 @@ impl State {
         requires touches { self.old.task_number + 1 < 2 ^ 64 }
         ensures makes { (scenario : Scenario) → Makes scenario self.old self.new (Event.Turn cpu) result }
         ensures sound { StaysSound self.old self.new }
+        ensures ended { self.new.ended ≡ self.old.ended }
     {
         if self.siblings[cpu as usize].pending {
             Reply::Picked(self.schedule(cpu))
@@ -35,6 +35,7 @@ impl State {
         requires touches { self.old.task_number + 2 < 2 ^ 64 }
         ensures makes { (scenario : Scenario) → Makes scenario self.old self.new (Event.Block cpu) result }
         ensures sound { StaysSound self.old self.new }
+        ensures ended { self.new.ended ≡ self.old.ended }
     {
         let Some(task) = self.running_on(cpu) else {
             return Reply::Idle;
@@ -47,17 +48,6 @@ impl State {
         }
     }
 
-    /// Whether the task, once it is woken, asks its sibling to reschedule: that runs idle or a lower one.
-    fn preempts(&self, task: &Task) -> bool
-        requires { task.now.home < length self.now.siblings.items }
-        ensures { (scenario : Scenario) → result ≡ preempts (room_of scenario self.now) task.now }
-    {
-        match self.running_on(task.home) {
-            None => true,
-            Some(running) => is_higher(task, &running),
-        }
-    }
-
     /// A sleeping task is queued at its home.
     fn wake(&mut self, pid: Pid) -> Reply
         requires sound { IsSound (length self.old.siblings.items) self.old }
@@ -65,6 +55,7 @@ impl State {
         requires touches { self.old.task_number + 1 < 2 ^ 64 }
         ensures makes { (scenario : Scenario) → Makes scenario self.old self.new (Event.Wake pid) result }
         ensures sound { StaysSound self.old self.new }
+        ensures ended { self.new.ended ≡ self.old.ended }
     {
         let Some(task) = self.task_of(pid) else {
             return Reply::NoTask;
@@ -72,10 +63,54 @@ impl State {
         if task.queued {
             return Reply::Awake;
         }
-        let preempts = self.preempts(&task);
-        self.enqueue(task);
-        self.flag(task.home, preempts);
+        self.queue_at_home(task);
         Reply::Woken(task.home)
+    }
+
+    /// The running task ends, unless it leads others, and its sibling takes the next.
+    fn exit(&mut self, cpu: Cpu) -> Reply
+        requires sound { IsSound (length self.old.siblings.items) self.old }
+        requires cpu { cpu < length self.old.siblings.items }
+        requires few { length self.old.siblings.items ≤ 16 }
+        requires touches { self.old.task_number + 2 < 2 ^ 64 }
+        requires room { vec_len self.old.ended < vec_capacity self.old.ended }
+        ensures makes { (scenario : Scenario) → Makes scenario self.old self.new (Event.Exit cpu) result }
+        ensures sound { StaysSound self.old self.new }
+        ensures ended { vec_capacity self.new.ended ≡ vec_capacity self.old.ended }
+    {
+        let Some(task) = self.running_on(cpu) else {
+            return Reply::Idle;
+        };
+        if leads_others(&self.tasks, &task) {
+            return Reply::HasThreads;
+        }
+        self.end(task);
+        self.idle(cpu);
+        Reply::Ended {
+            pid: task.spec.pid,
+            pick: self.reschedule(cpu),
+        }
+    }
+
+    /// A task makes a child, which is queued at its home.
+    fn fork(&mut self, limit: u16, caller: Pid, thread: bool) -> Reply
+        requires sound { IsSound (length self.old.siblings.items) self.old }
+        requires limit { self.old.tasks.limit ≡ limit }
+        requires stamp { self.old.next_stamp + 1 < 2 ^ 64 }
+        requires pid { self.old.next_pid + 1 < 2 ^ 32 }
+        requires touches { self.old.task_number + 1 < 2 ^ 64 }
+        ensures makes { (scenario : Scenario) → Makes scenario self.old self.new (Event.Fork caller thread) result }
+        ensures sound { StaysSound self.old self.new }
+        ensures ended { self.new.ended ≡ self.old.ended }
+    {
+        match self.make_child(limit, caller, thread) {
+            Ok(child) => {
+                self.queue_at_home(child);
+                Reply::Child(child.spec.pid)
+            }
+            Err(ForkFault::NoCaller) => Reply::NoCaller,
+            Err(ForkFault::Eagain) => Reply::Refused(Errno::Eagain),
+        }
     }
 
     /// Makes the step of an event, and answers what the rules answer.
@@ -85,16 +120,22 @@ impl State {
         requires few { length self.old.siblings.items ≤ 16 }
         requires stamp { self.old.next_stamp + 1 < 2 ^ 64 }
         requires serial { self.old.refs.next < 2 ^ 63 }
+        requires limit { self.old.tasks.limit ≡ scenario.now.task_limit }
+        requires pid { self.old.next_pid + 1 < 2 ^ 32 }
+        requires room { vec_len self.old.ended < vec_capacity self.old.ended }
         requires touches { self.old.task_number + 2 * length self.old.tasks.tasks + 2 < 2 ^ 64 }
         requires user_top { IsWithin 8192 9223372036854775807 scenario.now.user_top }
         ensures makes { Makes scenario.now self.old self.new event result }
         ensures sound { StaysSound self.old self.new }
+        ensures ended { vec_capacity self.new.ended ≡ vec_capacity self.old.ended }
     {
         match event {
             Event::Turn(cpu) => self.turn(cpu),
             Event::Resched(cpu) => Reply::Picked(self.schedule(cpu)),
             Event::Block(cpu) => self.block(cpu),
+            Event::Exit(cpu) => self.exit(cpu),
             Event::Wake(pid) => self.wake(pid),
+            Event::Fork { caller, thread } => self.fork(scenario.task_limit, caller, thread),
             Event::Prctl { caller, ask } => self.prctl(scenario.user_top, caller, ask),
         }
     }

@@ -5,6 +5,7 @@ mod choice;
 mod cookies;
 mod events;
 mod lead;
+mod life;
 mod room;
 mod schedule;
 mod selection;

@@ -18,6 +18,7 @@ impl State {
         requires { cpu < length self.old.siblings.items }
         ensures schedules { Schedules self.old self.new cpu result (λ room. adopted room cpu run) }
         ensures sound { StaysSound self.old self.new }
+        ensures ended { self.new.ended ≡ self.old.ended }
     {
         self.siblings[cpu as usize] = Sibling {
             number: self.pick_number,
@@ -37,6 +38,7 @@ impl State {
         requires touches { self.old.task_number + 1 < 2 ^ 64 }
         ensures schedules { Schedules self.old self.new cpu result (λ room. plain room cpu) }
         ensures sound { StaysSound self.old self.new }
+        ensures ended { self.new.ended ≡ self.old.ended }
     {
         let run = self.first_on(cpu).map(|task| task.spec.pid);
         self.forced = 0;
@@ -62,6 +64,7 @@ impl State {
         ensures forced { (scenario : Scenario) → self.new.forced ≡ forced_count (room_of scenario self.old) core }
         ensures numbers { numbers_of self.new ≡ numbers_of self.old }
         ensures sound { StaysSound self.old self.new }
+        ensures ended { self.new.ended ≡ self.old.ended }
     {
         let choices = self.choices(core);
         self.core_cookie = core;
@@ -80,6 +83,7 @@ impl State {
         requires touches { self.old.task_number + 1 < 2 ^ 64 }
         ensures schedules { Schedules self.old self.new cpu result (λ room. selected room cpu) }
         ensures sound { StaysSound self.old self.new }
+        ensures ended { self.new.ended ≡ self.old.ended }
     {
         let core = self.lead_from(cpu).map_or(0, |task| task.cookie);
         let run = self.select_for(cpu, core);
@@ -110,6 +114,7 @@ impl State {
         requires touches { self.old.task_number + 1 < 2 ^ 64 }
         ensures schedules { Schedules self.old self.new cpu result (λ room. rescheduled room cpu) }
         ensures sound { StaysSound self.old self.new }
+        ensures ended { self.new.ended ≡ self.old.ended }
     {
         if self.is_plain(cpu) {
             self.run_first(cpu)
@@ -140,6 +145,7 @@ impl State {
         ensures schedules { Schedules self.old self.new cpu result
             (λ room. schedule room (is_fresh_by (numbers_of self.old)) cpu) }
         ensures sound { StaysSound self.old self.new }
+        ensures ended { self.new.ended ≡ self.old.ended }
     {
         match self.adoptable(cpu) {
             Some(run) => self.adopt(cpu, run),

@@ -2,15 +2,16 @@
 //! are made of. It is a file of its own so that each change has its whole contract, whatever the machine
 //! keeps beside.
 
-ghost use Rattle.std.specs.Prelude.{◌≡◌, ◌+◌, ◌^◌, ◌<◌, ◌≤◌, length, find, Option, IfOk, IfSome, ◌==◌, if◌then◌else◌, map, replicate};
+ghost use Rattle.std.specs.Prelude.{◌≡◌, ◌+◌, ◌^◌, ◌<◌, ◌≤◌, length, find, Option, IfOk, IfSome, ◌==◌, if◌then◌else◌, map, replicate, All, vec_capacity};
 ghost use Rattle.cs_types.specs.declared.scenario.Scenario.{Scenario};
 ghost use Rattle.cs_types.specs.Scenario.{IsPlayable, AreDistinct};
-ghost use Rattle.cs_types.specs.Room.{start, asleep_tasks, has_pid, running_on, flagged};
-ghost use Rattle.cs_types.specs.Step.{dequeued, idled, enqueued};
+ghost use Rattle.cs_types.specs.Room.{start, first_pid, asleep_tasks, has_pid, running_on, flagged};
+ghost use Rattle.cs_types.specs.Step.{dequeued, idled, enqueued, preempts, queued_at_home};
 ghost use Rattle.cs_types.specs.View.{task_after};
 ghost use Rattle.task_table.specs.Table.{IsSound as IsTable};
 
 use crate::sibling::Sibling;
+use crate::task::is_higher;
 use cookie_refs::CookieRefs;
 use cs_types::{Cookie, Cpu, OutOfMemory, Pid, Scenario, Task, TaskSpec};
 use ptrace_check::Guards;
@@ -23,7 +24,11 @@ pub struct State {
     pub tasks: TaskTable,
     pub refs: CookieRefs,
     pub guards: Guards,
+    /// The tasks that ended, in the order of their ends.
+    pub ended: Vec<Pid>,
     pub siblings: Vec<Sibling>,
+    /// The pid of the next child. None is given twice.
+    pub next_pid: Pid,
     pub next_stamp: u64,
     /// The cookie that the core runs under, 0 for none.
     pub core_cookie: Cookie,
@@ -45,16 +50,20 @@ impl State {
         requires { IsPlayable scenario.now }
         ensures room { IfOk result (λ state. room_of scenario.now state ≡ start scenario.now) }
         ensures sound { IfOk result (IsSound scenario.now.siblings) }
+        ensures room_for_ended { IfOk result (λ state. length scenario.now.steps ≤ vec_capacity state.ended) }
         ensures numbers { IfOk result (λ state. numbers_of state ≡ record { task = 0; pick = 0; own = replicate scenario.now.siblings 0 }) }
     {
         let tasks = asleep_tasks(alloc, scenario.task_limit, scenario.tasks.items())?;
         let refs = CookieRefs::with_limit(alloc, scenario.cookie_limit)?;
+        let ended = Vec::with_capacity(alloc, scenario.steps.items().len())?;
         let siblings = vec![in alloc; Sibling::IDLE; scenario.siblings as usize]?;
         Ok(State {
             tasks,
             refs,
             guards,
+            ended,
             siblings,
+            next_pid: first_pid(scenario.tasks.items()),
             next_stamp: 0,
             core_cookie: 0,
             forced: 0,
@@ -68,7 +77,7 @@ impl State {
     pub fn task_of(&self, pid: Pid) -> Option<Task>
         ensures task { result ≡ find (has_pid pid) self.now.tasks.tasks }
         ensures there { IfSome result (Has self.now) }
-        ensures fit { (count : _) → IsSound count self.now → IfSome result (IsFit count) }
+        ensures fit { (count : _) → IsSound count self.now → IfSome result (IsFit count self.now.next_pid) }
     {
         self.tasks.find(pid).copied()
     }
@@ -78,7 +87,7 @@ impl State {
         requires { cpu < length self.now.siblings.items }
         ensures task { (scenario : Scenario) → result ≡ running_on (room_of scenario self.now) cpu }
         ensures there { IfSome result (Has self.now) }
-        ensures fit { (count : _) → IsSound count self.now → IfSome result (IsFit count) }
+        ensures fit { (count : _) → IsSound count self.now → IfSome result (IsFit count self.now.next_pid) }
     {
         self.task_of(self.siblings[cpu as usize].run?)
     }
@@ -114,6 +123,7 @@ impl State {
         ensures sound { StaysSound self.old self.new }
         ensures siblings { self.new.siblings ≡ self.old.siblings }
         ensures numbers { numbers_of self.new ≡ touched 1 (numbers_of self.old) }
+        ensures ended { self.new.ended ≡ self.old.ended }
     {
         self.tasks.change(Task {
             queued: false,
@@ -129,6 +139,7 @@ impl State {
         ensures sound { StaysSound self.old self.new }
         ensures numbers { numbers_of self.new ≡ numbers_of self.old }
         ensures length { length self.new.siblings.items ≡ length self.old.siblings.items }
+        ensures ended { self.new.ended ≡ self.old.ended }
     {
         self.siblings[cpu as usize].run = None;
     }
@@ -142,6 +153,7 @@ impl State {
         ensures sound { StaysSound self.old self.new }
         ensures siblings { self.new.siblings ≡ self.old.siblings }
         ensures numbers { numbers_of self.new ≡ touched 1 (numbers_of self.old) }
+        ensures ended { self.new.ended ≡ self.old.ended }
     {
         self.tasks.change(Task {
             queued: true,
@@ -152,6 +164,33 @@ impl State {
         self.touch();
     }
 
+    /// Whether the task, once it is queued, asks its sibling to reschedule: that runs idle or a lower one.
+    fn preempts(&self, task: &Task) -> bool
+        requires { task.now.home < length self.now.siblings.items }
+        ensures { (scenario : Scenario) → result ≡ preempts (room_of scenario self.now) task.now }
+    {
+        match self.running_on(task.home) {
+            None => true,
+            Some(running) => is_higher(task, &running),
+        }
+    }
+
+    /// The task is queued at its home, which may become pending.
+    pub fn queue_at_home(&mut self, task: Task)
+        requires there { Has self.old task }
+        requires home { task.home < length self.old.siblings.items }
+        requires stamp { self.old.next_stamp + 1 < 2 ^ 64 }
+        requires touches { self.old.task_number + 1 < 2 ^ 64 }
+        ensures room { Becomes self.old self.new (λ room. queued_at_home room task) }
+        ensures sound { StaysSound self.old self.new }
+        ensures numbers { numbers_of self.new ≡ touched 1 (numbers_of self.old) }
+        ensures ended { self.new.ended ≡ self.old.ended }
+    {
+        let preempts = self.preempts(&task);
+        self.enqueue(task);
+        self.flag(task.home, preempts);
+    }
+
     /// The sibling is pending where it was, and where the test says so.
     pub fn flag(&mut self, cpu: Cpu, test: bool)
         requires { cpu < length self.old.siblings.items }
@@ -159,9 +198,18 @@ impl State {
         ensures sound { StaysSound self.old self.new }
         ensures numbers { numbers_of self.new ≡ numbers_of self.old }
         ensures length { length self.new.siblings.items ≡ length self.old.siblings.items }
+        ensures ended { self.new.ended ≡ self.old.ended }
     {
         self.siblings[cpu as usize].pending |= test;
     }
+}
+
+/// One above the greatest pid of the lines, 1 where there is none.
+fn first_pid(specs: &[TaskSpec]) -> Pid
+    requires { All (λ spec. spec.pid ≤ 9999) specs.now }
+    ensures { result ≡ first_pid specs.now }
+{
+    specs.iter().fold(0, |pid, spec| spec.pid.max(pid)) + 1
 }
 
 /// The tasks of a scenario before the first wake.

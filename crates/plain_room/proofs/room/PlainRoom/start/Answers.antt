@@ -1,4 +1,8 @@
-use Rattle.std.proofs.Common.{ℕ, List, ap, refl, ◌∙◌, arith, length}
+use Rattle.std.proofs.Common.{ℕ, List, ap, subst, sym, refl, ◌≤◌, ◌∙◌, arith, length}
+use Rattle.std.proofs.lemmas.List.Elements.{All-weaker}
+use Rattle.cs_types.specs.Scenario.{IsTask}
+use Rattle.cs_types.specs.Room.{first_pid}
+use Rattle.cs_types.proofs.Tasks.{first_pid-le}
 use Rattle.plain_room.specs.State.{Numbers}
 use Rattle.plain_room.proofs.Machines.{own_number-start}
 use Rattle.plain_room.proofs.room.PlainRoom.start.Goals as goal
@@ -13,7 +17,10 @@ invariant_of-result c =
       numbers = rw c.in_ok-entries.ensures.items (c.in_ok-state.ensures.numbers ∙ ap start (own_number-start 0 c.args.scenario.now.siblings));
       sound = c.in_ok-state.ensures.sound;
       few_siblings = c.requires.siblings.1;
-      few_tasks = omega (arith, ap length tasks, c.requires.few_tasks, c.requires.task_limit.1);
+      few_tasks = omega (arith, ap length tasks, c.requires.few_tasks);
+      low_limit = c.requires.task_limit.1;
+      low_pids = subst (λ specs. first_pid specs ≤ 10000) (sym tasks) (first_pid-le 9999 c.args.scenario.now.tasks (All-weaker (IsTask c.args.scenario.now.siblings) (λ spec. spec.pid ≤ 9999) (λ spec task. task.pid.1) c.args.scenario.now.tasks c.requires.tasks));
+      room_for_ended = omega (arith, c.in_ok-entries.ensures.exact, ap length c.items.ensures, c.in_ok-state.ensures.room_for_ended);
       user_top = c.requires.user_top;
       few_entries = omega (arith, c.in_ok-entries.ensures.exact, ap length c.items.ensures, c.requires.few_steps);
     }

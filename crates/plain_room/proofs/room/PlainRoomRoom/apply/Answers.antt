@@ -6,8 +6,8 @@ use Rattle.cs_types.specs.Room.{RoomState}
 use Rattle.cs_types.specs.Touches.{selection_of}
 use Rattle.cs_types.specs.History.{fold_of, reply_to, history_of}
 use Rattle.cs_types.specs.Laws.{SelectsForTheCore, scheduling_room, cpu_of}
-use Rattle.cs_types.proofs.Numbers.{task_number-ledger_of, next_stamp-fold_of, next_cookie-fold_of}
-use Rattle.cs_types.proofs.Tasks.{length-tasks-fold_of}
+use Rattle.cs_types.proofs.Numbers.{task_number-ledger_of, next_stamp-fold_of, next_cookie-fold_of, next_pid-fold_of, ended-fold_of}
+use Rattle.cs_types.proofs.Tasks.{few-fold_of, task_limit-fold_of}
 use Rattle.cs_types.proofs.Selections.{selects}
 use Rattle.plain_room.specs.State.{Numbers}
 use Rattle.plain_room.specs.Machine.{Machine}
@@ -25,18 +25,40 @@ apply-reply-requires-clause-serial c =
     let a = c.self.inside in
     omega (arith, next_cookie-fold_of a.scenario a.entries.items, ap (λ (room : RoomState). room.next_cookie) c.self.invariant.fold, a.entries.ok.0)
 
+pub apply-reply-requires-clause-limit : goal.apply-reply-requires-clause-limit
+apply-reply-requires-clause-limit c =
+    let a = c.self.inside in
+    ap (λ (room : RoomState). room.task_limit) c.self.invariant.fold ∙ task_limit-fold_of a.scenario a.entries.items
+
+pub apply-reply-requires-clause-pid : goal.apply-reply-requires-clause-pid
+apply-reply-requires-clause-pid c =
+    let a = c.self.inside in
+    omega (arith, next_pid-fold_of a.scenario a.entries.items, ap (λ (room : RoomState). room.next_pid) c.self.invariant.fold, a.entries.ok.0, c.self.invariant.low_pids, c.self.invariant.few_entries)
+
+pub apply-reply-requires-clause-room : goal.apply-reply-requires-clause-room
+apply-reply-requires-clause-room c =
+    let a = c.self.inside in
+    omega (
+      arith,
+      ended-fold_of a.scenario a.entries.items,
+      ap (λ (room : RoomState). length room.ended) c.self.invariant.fold,
+      a.entries.ok.0,
+      c.requires.room,
+      ap (λ (m : Machine). m.free) c.self.view_is,
+      c.self.invariant.room_for_ended,
+    )
+
 pub apply-reply-requires-clause-touches : goal.apply-reply-requires-clause-touches
 apply-reply-requires-clause-touches c =
     let a = c.self.inside in
-    let few = length-tasks-fold_of a.scenario a.entries.items in
     omega (
       arith,
-      task_number-ledger_of a.scenario a.entries.items c.self.invariant.few_tasks,
+      task_number-ledger_of a.scenario a.entries.items c.self.invariant.few_tasks c.self.invariant.low_limit,
       ap (λ (numbers : Numbers). numbers.task) c.self.invariant.numbers,
       a.entries.ok.0,
       ap (λ (room : RoomState). length room.tasks) c.self.invariant.fold,
-      few,
-      c.self.invariant.few_tasks,
+      few-fold_of a.scenario a.entries.items c.self.invariant.few_tasks,
+      c.self.invariant.low_limit,
     )
 
 pub invariant_of-self : goal.invariant_of-self
@@ -54,6 +76,9 @@ invariant_of-self c =
       sound = c.apply-reply.ensures.sound a.scenario.siblings c.self.invariant.sound;
       few_siblings = c.self.invariant.few_siblings;
       few_tasks = c.self.invariant.few_tasks;
+      low_limit = c.self.invariant.low_limit;
+      low_pids = c.self.invariant.low_pids;
+      room_for_ended = omega (arith, c.push_reserved.ensures.capacity, c.apply-reply.ensures.ended, c.self.invariant.room_for_ended);
       user_top = c.self.invariant.user_top;
       few_entries = omega (arith, c.push_reserved.ensures.capacity, c.self.invariant.few_entries);
     }

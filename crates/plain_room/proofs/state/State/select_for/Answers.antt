@@ -47,6 +47,6 @@ returns-clause-sound c count sound =
     record {
       siblings = ap length kept_siblings ∙ c.hand.auto.siblings ∙ ap length c.deref_mut.ensures.value ∙ sound.siblings;
       table = c.remember.ensures.sound;
-      tasks = rw c.remember.ensures.remembered (fit-remembered count c.deref-3.result.now c.occupation-self.result c.args.self.now.tasks.tasks sound.tasks);
+      tasks = rw c.remember.ensures.remembered (fit-remembered count c.args.self.now.next_pid c.deref-3.result.now c.occupation-self.result c.args.self.now.tasks.tasks sound.tasks);
       refs = rw c.remember.ensures.remembered (agree-map c.args.self.now.refs 0 remembers (λ task. refl) c.args.self.now.tasks.tasks sound.refs);
     }

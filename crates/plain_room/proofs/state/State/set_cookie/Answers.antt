@@ -31,7 +31,9 @@ returns-clause-sets c =
       tasks = c.change.new.self;
       refs = c.put.new.self;
       guards = old.guards;
+      ended = old.ended;
       siblings = with_items old.siblings c.flag_runners.new.siblings;
+      next_pid = old.next_pid;
       next_stamp = old.next_stamp;
       core_cookie = old.core_cookie;
       forced = old.forced;
@@ -43,7 +45,7 @@ returns-clause-sets c =
       room = λ scenario.
           sets_one scenario old new c.args.task c.args.cookie c.requires.sound.table.rising c.requires.there c.change.ensures.changed
           (c.put.ensures.limit ∙ c.get.ensures.limit) (c.put.ensures.next ∙ c.get.ensures.next)
-          (ap (map sibling_state) kept ∙ c.flag_runners.ensures.states ∙ ap (λ siblings. map (flagged_for c.args.task.spec.pid) (map sibling_state siblings)) c.deref_mut.ensures.value) refl refl refl refl;
+          (ap (map sibling_state) kept ∙ c.flag_runners.ensures.states ∙ ap (λ siblings. map (flagged_for c.args.task.spec.pid) (map sibling_state siblings)) c.deref_mut.ensures.value) refl refl refl refl refl refl;
       numbers =
           sets_numbers (numbers_of c.args.self.now) c.args.task c.args.cookie c.touches.result _
           (ap (map number_of) kept ∙ c.flag_runners.ensures.numbers ∙ ap (map number_of) c.deref_mut.ensures.value) c.touches.ensures.touches;
@@ -54,12 +56,12 @@ returns-clause-sound c =
     let count = length c.args.self.now.siblings.items in
     let kept = items-as_many c.args.self.now.siblings c.flag_runners.new.siblings (c.flag_runners.auto.siblings ∙ ap length c.deref_mut.ensures.value) in
     let task : Task = record c.args.task { cookie = c.args.cookie } in
-    let fit = found_fits count c.args.task.spec.pid c.args.self.now.tasks.tasks c.args.task c.requires.sound.tasks c.requires.there in
+    let fit = found_fits count c.args.self.now.next_pid c.args.task.spec.pid c.args.self.now.tasks.tasks c.args.task c.requires.sound.tasks c.requires.there in
     let tasks = ap (λ (table : Table). table.tasks) c.change.ensures.changed in
     record {
       siblings = ap length kept ∙ c.flag_runners.auto.siblings ∙ ap length c.deref_mut.ensures.value;
       table = c.change.ensures.sound;
-      tasks = rw tasks (fit-changed count task c.args.self.now.tasks.tasks (record { pid = fit.pid; home = fit.home; policy = fit.policy }) c.requires.sound.tasks);
+      tasks = rw tasks (fit-changed count c.args.self.now.next_pid task c.args.self.now.tasks.tasks (record { pid = fit.pid; below = fit.below; home = fit.home; policy = fit.policy }) c.requires.sound.tasks);
       refs = rw tasks (AgreeBut-with_cookie c.args.self.now.refs c.get.new.self c.put.new.self c.args.self.now.tasks.tasks c.args.cookie c.args.task.spec.pid c.args.cookie c.args.task
           (rising_pairs 0 c.args.self.now.tasks.tasks c.requires.sound.table.rising) c.requires.there c.get.ensures.counts c.put.ensures.counts c.requires.sound.refs);
     }

@@ -26,10 +26,10 @@ pub returns-in-Threads-clause-sets : goal.returns-in-Threads-clause-sets
 returns-in-Threads-clause-sets c =
     let tasks = c.args.self.now.tasks.tasks in
     sets_alike c.args.self.now c.set_group.new.self _ _ c.args.cookie
-    (named_threads _ c.in-Threads.tgid tasks c.requires.sound.tasks ∙ ap (λ to. named to tasks) (sym c.in-Threads.is)) c.set_group.ensures.sets
+    (named_threads _ _ c.in-Threads.tgid tasks c.requires.sound.tasks ∙ ap (λ to. named to tasks) (sym c.in-Threads.is)) c.set_group.ensures.sets
 
 pub returns-in-Process-clause-sets : goal.returns-in-Process-clause-sets
 returns-in-Process-clause-sets c =
     let tasks = c.args.self.now.tasks.tasks in
     sets_alike c.args.self.now c.set_group-in-Process.new.self _ _ c.args.cookie
-    (named_process _ c.in-Process.pgid tasks c.requires.sound.tasks ∙ ap (λ to. named to tasks) (sym c.in-Process.is)) c.set_group-in-Process.ensures.sets
+    (named_process _ _ c.in-Process.pgid tasks c.requires.sound.tasks ∙ ap (λ to. named to tasks) (sym c.in-Process.is)) c.set_group-in-Process.ensures.sets

@@ -24,6 +24,7 @@ loop-init c = record {
   sound = c.requires.sound;
   room = λ scenario. refl;
   numbers = refl;
+  ended = refl;
   left = omega (arith, few_members c.args.group c.args.self.now.tasks.tasks, c.len-end.ensures.len);
 }
 
@@ -58,6 +59,7 @@ loop-preserved c =
       sound = subst (λ n. IsSoundBut n c.set_cookie.new.self c.args.cookie) (sym c.set_cookie.ensures.sound.siblings) c.set_cookie.ensures.sound;
       room = group_room c.args.self.now c.loop.self c.args.cookie left all c.loop.invariant.room c.loop.invariant.numbers c.set_cookie.new.self task rest is c.set_cookie.ensures.sets;
       numbers = group_numbers c.args.self.now c.loop.self c.args.cookie left all c.loop.invariant.room c.loop.invariant.numbers c.set_cookie.new.self task rest is c.set_cookie.ensures.sets;
+      ended = c.set_cookie.ensures.ended ∙ c.loop.invariant.ended;
       left = omega (arith, ap length is, c.loop.invariant.left);
     }
 

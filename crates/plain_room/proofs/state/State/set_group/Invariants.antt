@@ -16,5 +16,6 @@ invariant-loop l =
       sound : IsSoundBut (length l.self.siblings.items) l.self l.cookie;
       room : (scenario : Scenario) → with_cookies (room_of scenario l.self) (setting left l.cookie) ≡ with_cookies (room_of scenario l.initial.self) (setting all l.cookie);
       numbers : touched (setting_touches (setting left l.cookie)) (numbers_of l.self) ≡ touched (setting_touches (setting all l.cookie)) (numbers_of l.initial.self);
+      ended : l.self.ended ≡ l.initial.self.ended;
       left : length left + l.counter ≤ l.end;
     }

@@ -1,0 +1,73 @@
+use Rattle.std.proofs.Common.{◌≡◌, ◌≢◌, ◌+◌, ap, ◌∙◌, refl, sym, subst, length, arith, eq-eqb}
+use Rattle.std.specs.Prelude.{Option, Some, None, Ok, Err, find, unwrap_or}
+use Rattle.std.specs.Option.{IsSome}
+use Rattle.std.proofs.lemmas.Bool.{cond-true}
+use Rattle.std.proofs.lemmas.List.Elements.{All-weaker}
+use Rattle.cs_types.specs.declared.task.Task.{Task}
+use Rattle.cs_types.specs.Room.{has_pid}
+use Rattle.cs_types.specs.Step.{child_of, with_child}
+use Rattle.task_table.specs.Table.{Table}
+use Rattle.fork_inherit.specs.Answers.{fork_answer}
+use Rattle.fork_inherit.specs.declared.forking.ForkFault.TheVariants.{Eagain}
+use Rattle.plain_room.specs.State.{IsFit, room_of}
+use Rattle.plain_room.proofs.States.{found_fits, fit-placed}
+use Rattle.plain_room.proofs.Lives.{find-placed, next_is_unused}
+use Rattle.plain_room.proofs.state.State.make_child.Goals as goal
+
+-- where a child is made, the caller was found, and there was a place left
+caller_of : (table : Table) (found : Option Task) → fork_answer table found ≡ Ok tt → (by : Task) × (found ≡ Some by) × (length table.tasks ≢ table.limit)
+caller_of table None made = absurd cc
+caller_of table (Some by) made =
+    (by, refl, λ full. let bad : Err Eagain ≡ Ok tt = sym (cond-true _ _ _ (eq-eqb _ _ full)) ∙ made in absurd cc)
+
+pub fork-requires-clause-unused : goal.fork-requires-clause-unused
+fork-requires-clause-unused c =
+    let old = c.args.self.now in
+    next_is_unused (length old.siblings.items) old.next_pid old.tasks.tasks c.requires.sound.tasks
+
+pub unwrap-requires : goal.unwrap-requires
+unwrap-requires c =
+    let old = c.args.self.now in
+    let unused = next_is_unused (length old.siblings.items) old.next_pid old.tasks.tasks c.requires.sound.tasks in
+    let by = caller_of old.tasks (find (has_pid c.args.caller) old.tasks.tasks) (sym c.fork.ensures.answer ∙ c.in_ok-fork.was) in
+    let child = child_of by.0 c.args.thread old.next_pid in
+    let placed = c.in_ok-fork.ensures.child by.0 by.1 in
+    subst IsSome (sym (c.task_of.ensures.task ∙ ap (λ (table : Table). find (has_pid old.next_pid) table.tasks) placed ∙ find-placed child old.tasks.tasks unused)) refl
+
+pub returns : goal.returns
+returns c =
+    let old = c.args.self.now in
+    let next = old.next_pid in
+    let unused = next_is_unused (length old.siblings.items) next old.tasks.tasks c.requires.sound.tasks in
+    let by = caller_of old.tasks (find (has_pid c.args.caller) old.tasks.tasks) (sym c.fork.ensures.answer ∙ c.in_ok-fork.was) in
+    let child = child_of by.0 c.args.thread next in
+    let placed = c.in_ok-fork.ensures.child by.0 by.1 in
+    let there = ap (λ (table : Table). find (has_pid next) table.tasks) placed ∙ find-placed child old.tasks.tasks unused in
+    let is : c.unwrap.result ≡ child = ap (λ one. unwrap_or one c.unwrap.result) (sym c.unwrap.ensures ∙ c.task_of.ensures.task ∙ there) in
+    record {
+      makes = (
+        by.0,
+        by.1,
+        record {
+          room_left = by.2;
+          is = is;
+          room = λ scenario. rw (placed, c.fork.ensures.next, c.fork.ensures.limit) (ap (with_child (room_of scenario old)) (sym is));
+          there = subst (λ (task : Task). find (has_pid task.spec.pid) c.fork.new.table.tasks ≡ Some task) (sym is) there;
+          sound = λ count sound.
+              let fit = found_fits count next c.args.caller old.tasks.tasks by.0 sound.tasks by.1 in
+              record {
+                siblings = sound.siblings;
+                table = c.fork.ensures.sound;
+                tasks = rw placed (fit-placed count (next + 1) child old.tasks.tasks
+                    (record { pid = omega (arith, fit.pid, fit.below); below = omega arith; home = fit.home; policy = fit.policy })
+                    (All-weaker (IsFit count next) (IsFit count (next + 1)) (λ task fits. record { pid = fits.pid; below = omega (arith, fits.below); home = fits.home; policy = fits.policy }) old.tasks.tasks sound.tasks));
+                refs = c.fork.ensures.agree;
+              };
+          numbers = refl;
+          siblings = refl;
+          ended = refl;
+          stamp = refl;
+          touches = refl;
+        },
+      );
+    }

@@ -1,0 +1,29 @@
+-- Life: what the making of a child leaves.
+use Rattle.std.specs.Prelude.{◌≡◌, ◌≢◌, ℕ, Bool, length, find, Some, None, Result, Ok, Err}
+use Rattle.cs_types.specs.declared.task.Task.{Task}
+use Rattle.cs_types.specs.Room.{has_pid}
+use Rattle.cs_types.specs.Step.{child_of, with_child}
+use Rattle.fork_inherit.specs.declared.forking.ForkFault.{ForkFault}
+use Rattle.fork_inherit.specs.declared.forking.ForkFault.TheVariants.{NoCaller, Eagain}
+use Rattle.plain_room.specs.declared.state.State.{State}
+use Rattle.plain_room.specs.State.{Has, StaysSound, Becomes, numbers_of}
+
+-- the new state is the old one with this child, of this caller
+pub record IsBorn (old new : State) (by : Task) (thread : Bool) (child : Task) : Type 0 where
+  pub room_left : length old.tasks.tasks ≢ old.tasks.limit
+  pub is : child ≡ child_of by thread old.next_pid
+  pub room : Becomes old new (λ room. with_child room child)
+  pub there : Has new child
+  pub sound : StaysSound old new
+  pub numbers : numbers_of new ≡ numbers_of old
+  pub siblings : new.siblings ≡ old.siblings
+  pub ended : new.ended ≡ old.ended
+  pub stamp : new.next_stamp ≡ old.next_stamp
+  pub touches : new.task_number ≡ old.task_number
+
+-- a child of the task with the pid was made, or none, and then nothing changed
+abbrev pub MakesChild : State → State → ℕ → Bool → Result Task ForkFault → Type 0
+MakesChild old new caller thread (Ok child) = (by : Task) × (find (has_pid caller) old.tasks.tasks ≡ Some by) × IsBorn old new by thread child
+MakesChild old new caller thread (Err NoCaller) = (find (has_pid caller) old.tasks.tasks ≡ None) × (new ≡ old)
+MakesChild old new caller thread (Err Eagain) =
+    ((by : Task) × (find (has_pid caller) old.tasks.tasks ≡ Some by)) × (length old.tasks.tasks ≡ old.tasks.limit) × (new ≡ old)
