@@ -93,6 +93,28 @@ const STALE_PICK: Example = Example {
     cpus: [(1, 4, false), (3, 6, false)],
 };
 
+/// A task forks up to the limit of tasks, under its cookie, and its children end.
+const FORK_AND_EXIT: Example = Example {
+    text: concat!(
+        "coresched 1\nsiblings 2\nlimits 3 8 65536\n",
+        "task 1 1 1 0 fifo:10 1000 1000 1000 1000 1000 1000 0 1 1\n",
+        "step c0 wake 1\nstep s0 turn\nstep c0 fork 1 thread\nstep c0 prctl 1 1 0 1 0\n",
+        "step s0 exit\nstep s0 turn\nstep c0 fork 1 process\nstep c0 fork 1 process\n",
+        "step s0 block\nstep s0 exit\nstep s0 exit\nstep c0 fork 2 thread\nend\n",
+    ),
+    output: concat!(
+        "c0 wake 1: Woken 0\ns0 turn: Plain 1 core 0 forced 0\nc0 fork 1 thread: Child 2\n",
+        "c0 prctl 1 1 0 1 0: 0\ns0 exit: HasThreads\ns0 turn: Selected 1 core 1 forced 0\n",
+        "c0 fork 1 process: Child 3\nc0 fork 1 process: EAGAIN\n",
+        "s0 block: Slept 1 Selected 2 core 1 forced 0\n",
+        "s0 exit: Ended 2 Selected 3 core 1 forced 0\n",
+        "s0 exit: Ended 3 Selected idle core 0 forced 0\nc0 fork 2 thread: NoCaller\ndone\n",
+    ),
+    numbers: (13, 13),
+    core: (0, 0, 0),
+    cpus: [(0, 13, false), (0, 0, false)],
+};
+
 /// The refusals of calls, and who may access whom: 2 and 4 are another user's, 3 and 4 are one process
 /// group, 5 may not be dumped, 6 has the capability, 7 too.
 const REFUSALS: &str = concat!(
@@ -184,6 +206,7 @@ fn examples(rt: HostRuntime) {
     expect_example(&rt, CORE_COOKIE_0);
     expect_example(&rt, TIE_OF_LEADS);
     expect_example(&rt, STALE_PICK);
+    expect_example(&rt, FORK_AND_EXIT);
 }
 
 // The tasks in the order of their pids, and none after the last.
@@ -195,4 +218,13 @@ fn tasks_of_a_machine(rt: HostRuntime) {
     let second = room.task_after(1).expect(&rt, "the second");
     assert!(rt; second.pid == 2 && second.cpu == 1 && second.queued && second.cookie == 2);
     assert!(rt; room.task_after(2).is_none());
+}
+
+// Of those that ended none is left, and the one that lives has its cookie still.
+#[test]
+fn tasks_after_their_ends(rt: HostRuntime) {
+    let room = played(&rt, FORK_AND_EXIT.text.as_bytes());
+    let left = room.task_after(0).expect(&rt, "the first");
+    assert!(rt; left.pid == 1 && left.cpu == 0 && !left.queued && left.cookie == 1);
+    assert!(rt; room.task_after(1).is_none());
 }

@@ -53,6 +53,22 @@ fn block(sibling: u8, reply: Reply) -> Entry {
     }
 }
 
+fn exit(sibling: u8, reply: Reply) -> Entry {
+    Entry {
+        actor: Actor::Sibling(sibling),
+        event: Event::Exit(sibling),
+        reply,
+    }
+}
+
+fn fork(caller: Pid, thread: bool, reply: Reply) -> Entry {
+    Entry {
+        actor: Actor::Caller(0),
+        event: Event::Fork { caller, thread },
+        reply,
+    }
+}
+
 fn plain(run: Pid, core: Cookie, forced: u8) -> Pick {
     Pick {
         kind: Kind::Plain,
@@ -64,6 +80,10 @@ fn plain(run: Pid, core: Cookie, forced: u8) -> Pick {
 
 fn slept(pid: Pid, pick: Pick) -> Reply {
     Reply::Slept { pid, pick }
+}
+
+fn ended(pid: Pid, pick: Pick) -> Reply {
+    Reply::Ended { pid, pick }
 }
 
 /// Expects this line of the entry, written in one piece.
@@ -163,9 +183,10 @@ fn lines_of_calls_that_tell(rt: HostRuntime) {
 }
 
 /// Linux' numbers of the errors.
-const NUMBERS: [(Errno, i32); 6] = [
+const NUMBERS: [(Errno, i32); 7] = [
     (Errno::Eperm, 1),
     (Errno::Esrch, 3),
+    (Errno::Eagain, 11),
     (Errno::Enomem, 12),
     (Errno::Efault, 14),
     (Errno::Enodev, 19),
@@ -207,6 +228,49 @@ fn lines_of_blocks(rt: HostRuntime) {
         "s0 block: Slept 3 Plain 1 core 0 forced 0\n",
     );
     expect_line(&rt, &block(3, Reply::Idle), "s3 block: Idle\n");
+}
+
+#[test]
+fn lines_of_exits(rt: HostRuntime) {
+    expect_line(
+        &rt,
+        &exit(0, ended(3, plain(1, 0, 0))),
+        "s0 exit: Ended 3 Plain 1 core 0 forced 0\n",
+    );
+    expect_line(
+        &rt,
+        &exit(
+            255,
+            ended(4294967295, plain(4294967295, 18446744073709551615, 255)),
+        ),
+        "s255 exit: Ended 4294967295 Plain 4294967295 core 18446744073709551615 forced 255\n",
+    );
+    expect_line(&rt, &exit(1, Reply::HasThreads), "s1 exit: HasThreads\n");
+    expect_line(&rt, &exit(7, Reply::Idle), "s7 exit: Idle\n");
+}
+
+#[test]
+fn lines_of_forks(rt: HostRuntime) {
+    expect_line(
+        &rt,
+        &fork(1, true, Reply::Child(2)),
+        "c0 fork 1 thread: Child 2\n",
+    );
+    expect_line(
+        &rt,
+        &fork(4294967295, false, Reply::Child(4294967295)),
+        "c0 fork 4294967295 process: Child 4294967295\n",
+    );
+    expect_line(
+        &rt,
+        &fork(1, false, Reply::Refused(Errno::Eagain)),
+        "c0 fork 1 process: EAGAIN\n",
+    );
+    expect_line(
+        &rt,
+        &fork(999999, true, Reply::NoCaller),
+        "c0 fork 999999 thread: NoCaller\n",
+    );
 }
 
 #[test]

@@ -1,11 +1,12 @@
-//! The parts of a machine: the table of tasks, the references of cookies, the access check, and the plan
-//! of a call.
+//! The parts of a machine: the table of tasks, the references of cookies, the access check, the plan of a
+//! call, and how a task is born and ends.
 
-ghost use Rattle.std.specs.Prelude.{◌≡◌, All};
+ghost use Rattle.std.specs.Prelude.{◌≡◌, All, OnErr};
 ghost use Rattle.cookie_refs.specs.Refs.{Agree};
 
 use cookie_refs::{CookieFull, CookieRefs};
 use cs_types::{Ask, Creds, Errno, Pid, Policy, Reply, Task, TaskSpec};
+use fork_inherit::{ForkFault, HasThreads, end, fork};
 use prctl_core::{Decision, Planned, Target, plan};
 use ptrace_check::{Guards, may_access};
 use std::process::Abort;
@@ -54,7 +55,8 @@ fn spec(pid: Pid, tgid: Pid, pgid: u32) -> TaskSpec {
 
 /// The tasks 1 to 3 of the user, of which 1 leads 2. They are added in another order.
 fn three_tasks<R: AllocGlobal + Abort>(rt: &R) -> TaskTable
-    ensures { All (λ task. task.cookie ≡ 0) result.tasks }
+    ensures cookies { All (λ task. task.cookie ≡ 0) result.tasks }
+    ensures limit { result.limit ≡ 3 }
 {
     let mut table = TaskTable::with_limit(rt.alloc(), 3).expect(rt, "room");
     for spec in &[spec(3, 3, 3), spec(1, 1, 1), spec(2, 1, 1)] {
@@ -119,6 +121,12 @@ fn faults_are_told(rt: HostRuntime) {
     assert!(rt; full.as_str() == "there are 3 tasks already, which is the limit");
     let no_more = format!(in rt.alloc(); "{}", CookieFull { limit: 1 }).expect(&rt, "room");
     assert!(rt; no_more.as_str() == "1 cookies are live, and no more may be");
+    let nobody = format!(in rt.alloc(); "{}", ForkFault::NoCaller).expect(&rt, "room");
+    assert!(rt; nobody.as_str() == "no living task has the caller's pid");
+    let many = format!(in rt.alloc(); "{}", ForkFault::Eagain).expect(&rt, "room");
+    assert!(rt; many.as_str() == "as many tasks live as may");
+    let led = format!(in rt.alloc(); "{}", HasThreads).expect(&rt, "room");
+    assert!(rt; led.as_str() == "the task leads a thread group that has another member");
 }
 
 #[test]
@@ -167,6 +175,7 @@ fn tasks_that_may_be_accessed(rt: HostRuntime) {
 fn parts<R: AllocGlobal + Abort>(rt: &R) -> (TaskTable, CookieRefs)
     ensures agree { Agree result.1 result.0.tasks }
     ensures next { result.1.next ≡ 1 }
+    ensures limit { result.0.limit ≡ 3 }
 {
     let table = three_tasks(rt);
     let refs = CookieRefs::with_limit(rt.alloc(), 8).expect(rt, "room");
@@ -230,4 +239,57 @@ fn plan_without_a_target(rt: HostRuntime) {
     let planned = plan(&table, &mut refs, &mut Guards::none(), 2, 65_536, 1, &ask);
     assert!(rt; matches!(planned, Planned::Answer(Reply::Refused(Errno::Esrch))));
     assert!(rt; refs.live() == 0);
+}
+
+/// What comes of a fork of a thread with this pid, which no task has.
+fn fork_thread<R: AllocGlobal + Abort>(
+    rt: &R,
+    table: &mut TaskTable,
+    refs: &mut CookieRefs,
+    caller: Pid,
+    child: Pid,
+) -> Result<(), ForkFault>
+    requires agree { Agree refs.old table.old.tasks }
+    requires limit { table.old.limit ≡ 3 }
+    ensures agree { Agree refs.new table.new.tasks }
+    ensures limit { OnErr result (table.new.limit ≡ 3) }
+{
+    let None = table.find(child) else {
+        panic!(rt; "the pid is used already");
+    };
+    fork(table, refs, 3, caller, true, child)
+}
+
+/// What comes of the end of a task, which is there and asleep.
+fn end_task<R: AllocGlobal + Abort>(
+    rt: &R,
+    table: &mut TaskTable,
+    refs: &mut CookieRefs,
+    pid: Pid,
+) -> Result<Task, HasThreads>
+    requires agree { Agree refs.old table.old.tasks }
+    requires limit { table.old.limit ≡ 3 }
+    ensures agree { Agree refs.new table.new.tasks }
+    ensures limit { table.new.limit ≡ 3 }
+{
+    let Some(Task { queued: false, .. }) = table.find(pid) else {
+        panic!(rt; "there is no such task, or it is queued");
+    };
+    end(table, refs, pid)
+}
+
+#[test]
+fn tasks_that_end_and_fork(rt: HostRuntime) {
+    let (mut table, mut refs) = parts(&rt);
+    let full = fork_thread(&rt, &mut table, &mut refs, 1, 4);
+    assert!(rt; matches!(full, Err(ForkFault::Eagain)));
+    let led = end_task(&rt, &mut table, &mut refs, 1);
+    assert!(rt; matches!(led, Err(HasThreads)));
+    let ended = end_task(&rt, &mut table, &mut refs, 3).expect(&rt, "an end");
+    assert!(rt; ended.spec.pid == 3 && table.len() == 2);
+    let nobody = fork_thread(&rt, &mut table, &mut refs, 3, 4);
+    assert!(rt; matches!(nobody, Err(ForkFault::NoCaller)));
+    fork_thread(&rt, &mut table, &mut refs, 2, 4).expect(&rt, "a child");
+    let child = table.find(4).expect(&rt, "the child");
+    assert!(rt; child.spec.tgid == 1 && child.home == 1 && !child.queued);
 }

@@ -39,7 +39,7 @@ macro_rules! after_head {
 }
 
 /// For each rule a text that breaks it alone.
-const REFUSED: [(&str, &str); 47] = [
+const REFUSED: [(&str, &str); 51] = [
     ("some line", ""),
     (
         "the version",
@@ -130,6 +130,16 @@ const REFUSED: [(&str, &str); 47] = [
     (
         "a call's own actor",
         after_head!("step s0 prctl 1 1 0 0 0\nend\n"),
+    ),
+    (
+        "a fork's own actor",
+        after_head!("step s0 fork 1 thread\nend\n"),
+    ),
+    ("an exit's own actor", after_head!("step c0 exit\nend\n")),
+    ("what a child is", after_head!("step c0 fork 1 task\nend\n")),
+    (
+        "the least pid of a fork",
+        after_head!("step c0 fork 0 thread\nend\n"),
     ),
     (
         "a schedule's own actor",
