@@ -7,3 +7,5 @@ pub mod Siblings
 pub mod Filtered
 pub mod Selections
 pub mod Numbers
+pub mod Times
+pub mod Queues

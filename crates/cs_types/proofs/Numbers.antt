@@ -11,7 +11,7 @@ use Rattle.std.proofs.lemmas.Bool.Decides.{nat_tests}
 use Rattle.cs_types.specs.declared.task.Task.{Task}
 use Rattle.cs_types.specs.declared.event.Ask.{Ask}
 use Rattle.cs_types.specs.declared.event.Event.{Event}
-use Rattle.cs_types.specs.declared.event.Event.TheVariants.{Turn, Resched, Block, Exit, Wake, Fork, Prctl}
+use Rattle.cs_types.specs.declared.event.Event.TheVariants.{Turn, Resched, Block, Exit, Tick, Wake, Advance, Fork, Prctl}
 use Rattle.cs_types.specs.declared.reply.Kind.{Kind}
 use Rattle.cs_types.specs.declared.reply.Kind.TheVariants.{Selected, Adopted, Plain}
 use Rattle.cs_types.specs.declared.reply.Pick.{Pick}
@@ -22,7 +22,8 @@ use Rattle.cs_types.specs.declared.scenario.Scenario.{Scenario}
 use Rattle.cs_types.specs.Room.{RoomState, first_pid, sibling_of, running_on, task_of}
 use Rattle.cs_types.specs.Selection.{selected_room, selected, plain, is_plain, rescheduled, scheduled, schedule}
 use Rattle.cs_types.specs.Prctl.{Setting, target_of, setting_by, setting_of, is_share_from, is_in_scope, makes_cookie, with_made, with_answer, prctl_answer, prctl_room}
-use Rattle.cs_types.specs.Step.{Stepped, step, woken, blocked, exited, forked, turned, dequeued, without, has_threads, idled}
+use Rattle.cs_types.specs.Step.{Stepped, step, woken, blocked, exited, forked, may_not_fork, ticked, turned, dequeued, without, has_threads, idled}
+use Rattle.cs_types.specs.Time.{advanced, rotates}
 use Rattle.cs_types.specs.Touches.{is_selected, is_adopted, pick_touches, cookie_touches, set_touches, selection_of, is_selection, touches_by, Noted, Ledger, noted, back_to, task_number, pick_number, own_number, is_taken_by, is_fresh}
 use Rattle.cs_types.specs.History.{History, Moment, next, after, fold_of, ledger_of, beginning}
 use Rattle.cs_types.proofs.Tasks.{length-asleep_tasks, few-step}
@@ -265,8 +266,23 @@ draws-exited room cpu (Some task) =
 draws-forked : (room : RoomState) (thread : Bool) (caller : Option Task) → DrawsOne (draws room) (draws (forked room thread caller).room)
 draws-forked room thread None = draws_none _ _ refl
 draws-forked room thread (Some caller) =
-    cond_both (eqb (length room.tasks) room.task_limit) _ _ (λ (made : Stepped). DrawsOne (draws room) (draws made.room)) (λ _. draws_none _ _ refl)
+    cond_both (may_not_fork room caller) _ _ (λ (made : Stepped). DrawsOne (draws room) (draws made.room)) (λ _. draws_none _ _ refl)
     (λ _. record { stamp = omega arith; cookie = omega arith; pid = omega arith; ended = omega arith })
+
+-- a rotation draws a stamp
+draws-ticked : (room : RoomState) (cpu : ℕ) (task : Option Task) → DrawsOne (draws room) (draws (ticked room cpu task).room)
+draws-ticked room cpu None = draws_none _ _ refl
+draws-ticked room cpu (Some task) =
+    record {
+      stamp = cond_both (rotates room cpu task) (room.next_stamp + 1) room.next_stamp (λ n. n ≤ room.next_stamp + 1) (λ _. omega arith) (λ _. omega arith);
+      cookie = omega arith;
+      pid = omega arith;
+      ended = omega arith;
+    }
+
+draws-advanced : (room : RoomState) (delta : ℕ) → draws (advanced room delta) ≡ draws room
+unfolding advanced
+draws-advanced room delta = refl
 
 draws-with_made : (room : RoomState) (makes : Bool) → DrawsOne (draws room) (draws (with_made room makes))
 draws-with_made room makes =
@@ -292,7 +308,9 @@ draws-step room fresh (Turn cpu) = draws-turned room fresh cpu
 draws-step room fresh (Resched cpu) = draws_none _ _ (draws-schedule room fresh cpu)
 draws-step room fresh (Block cpu) = draws_none _ _ (draws-blocked room cpu (running_on room cpu))
 draws-step room fresh (Exit cpu) = draws-exited room cpu (running_on room cpu)
+draws-step room fresh (Tick cpu) = draws-ticked room cpu (running_on room cpu)
 draws-step room fresh (Wake pid) = draws-woken room (task_of room pid)
+draws-step room fresh (Advance delta) = draws_none _ _ (draws-advanced room delta)
 draws-step room fresh (Fork caller thread) = draws-forked room thread (task_of room caller)
 draws-step room fresh (Prctl caller ask) = draws-prctl_room room caller ask
 

@@ -1,6 +1,6 @@
 -- Selections: a selection for the core keeps its law.
 use Rattle.std.proofs.Common.{◌≡◌, ℕ, Bool, ◌-◌, ◌<◌, true, false, cond, List, [], ◌∷◌, ◌++◌, map, length, refl, sym, ap, ◌∙◌, subst, inl, inr, Option, Some, None, arith}
-use Rattle.std.specs.Prelude.{◌==◌, ◌||◌, ◌⊎◌, ◌↔◌, filter, All, Contains, IsTrue, is_none, is_some}
+use Rattle.std.specs.Prelude.{◌==◌, ◌&&◌, ◌||◌, ◌⊎◌, ◌↔◌, filter, All, Contains, IsTrue, is_none, is_some}
 use Rattle.std.specs.List.{AllByRecursion, range_with_len, enumerate_from}
 use Rattle.std.specs.Option.{option_and_then, option_to_list, IfSome, option_map_or}
 use Rattle.std.proofs.lemmas.Bool.{cases_Bool, cond_both, cases_lt, and_parts, and_from, or_parts, cond-true, eqb-true}
@@ -11,40 +11,56 @@ use Rattle.std.proofs.lemmas.List.FromFn.{length-enumerate_from, get_or-enumerat
 use Rattle.std.proofs.lemmas.Option.{MatchOption-from_none}
 use Rattle.cs_types.specs.declared.task.Task.{Task}
 use Rattle.cs_types.specs.declared.event.Event.{Event}
-use Rattle.cs_types.specs.declared.event.Event.TheVariants.{Turn, Resched, Block, Exit, Wake, Fork, Prctl}
+use Rattle.cs_types.specs.declared.event.Event.TheVariants.{Turn, Resched, Block, Exit, Tick, Wake, Advance, Fork, Prctl}
 use Rattle.cs_types.specs.declared.event.Ask.{Ask}
 use Rattle.cs_types.specs.declared.reply.Reply.TheVariants.{Picked}
 use Rattle.cs_types.specs.declared.reply.Entry.{Entry}
 use Rattle.cs_types.specs.declared.scenario.Scenario.{Scenario}
 use Rattle.cs_types.specs.Scenario.{IsEvent}
 use Rattle.cs_types.specs.Room.{RoomState, SiblingState, idle, queued_on, sibling_of, is_online, online, online_from, running_on, task_of}
-use Rattle.cs_types.specs.Order.{foremost, is_higher, outranks, goes_before, first_of}
-use Rattle.cs_types.specs.Selection.{first_on, cookie_of, pid_of, lead_from, choice, eligible, is_forced, is_run, told, handed, given, occupation_of, selected_room, selected, Scheduled, is_plain, plain, rescheduled, scheduled, schedule}
+use Rattle.cs_types.specs.Order.{foremost, is_higher_here, outranks, goes_before, first_of}
+use Rattle.cs_types.specs.Selection.{first_on, cookie_of, pid_of, is_fair_task, renews_snapshots, snapshot_of, lead_from, choice, eligible, is_forced, is_run, told, handed, given, occupation_of, selected_room, selected, Scheduled, is_plain, plain, rescheduled, scheduled, schedule}
 use Rattle.cs_types.specs.Prctl.{Row, first_answer, rows_before_making, rows_after_making, prctl_answer}
 use Rattle.cs_types.specs.Touches.{selection_of, is_fresh}
-use Rattle.cs_types.specs.Step.{Stepped, step, turned, blocked, woken, idled, dequeued, exited, forked, without, has_threads}
+use Rattle.cs_types.specs.Step.{Stepped, step, turned, blocked, woken, idled, dequeued, exited, forked, may_not_fork, ticked, without, has_threads}
 use Rattle.cs_types.specs.History.{History, moment_of, fold_of, ledger_of, reply_to, step_at}
 use Rattle.cs_types.specs.Laws.{to_run, SelectsForTheCore, scheduling_room, cpu_of}
 use Rattle.cs_types.proofs.Foremost.{each_weaker, foremost_none, foremost_one}
-use Rattle.cs_types.proofs.First.{goes_before_is_order, outranks_is_order}
+use Rattle.cs_types.proofs.First.{goes_before_is_order, outranks_is_order, higher_at_home}
 use Rattle.cs_types.proofs.Filtered.{each_of_map, each_found, foremost_least, foremost-filter, Contains-filter, Contains-filter_parts, Contains-range, Contains-range_within}
 use Rattle.cs_types.proofs.Histories.{moment_of-push}
 use Rattle.cs_types.proofs.Siblings.{onlines-idled, onlines-without, length-alike, is_online-alike, length-fold_of, is_online-fold_of}
 
 -- ---- the first of a list of tasks
 
+-- what follows of two facts of an element follows of them at each
+each_both : {X : Type 0} (P Q R : X → Type 0) (xs : List X) → ((x : X) → P x → Q x → R x) → AllByRecursion P xs → AllByRecursion Q xs → AllByRecursion R xs
+each_both P Q R [] step ps qs = tt
+each_both P Q R (x ∷ xs) step ps qs = (step x ps.0 qs.0, each_both P Q R xs step ps.1 qs.1)
+
 -- where there is no first, there is no task
 no_first : (tasks : List Task) → first_of tasks ≡ None → tasks ≡ []
 no_first tasks none = foremost_none goes_before goes_before_is_order tasks none
 
--- No task of a list outranks its first.
-pub none_outranks_first : (tasks : List Task) → AllByRecursion (λ task. outranks (Some task) (first_of tasks) ≡ false) tasks
-none_outranks_first tasks = go (first_of tasks) refl where
-  go : (first : Option Task) → first_of tasks ≡ first → AllByRecursion (λ task. outranks (Some task) first ≡ false) tasks
-  go None none = subst (AllByRecursion (λ task. outranks (Some task) None ≡ false)) (sym (no_first tasks none)) tt
+-- No task of a list of one sibling's tasks outranks its first.
+pub none_outranks_first : (snapshot : ℕ → ℕ) (cpu : ℕ) (tasks : List Task) → AllByRecursion (λ task. task.home ≡ cpu) tasks →
+    AllByRecursion (λ task. outranks snapshot (Some task) (first_of tasks) ≡ false) tasks
+none_outranks_first snapshot cpu tasks home = go (first_of tasks) refl where
+  go : (first : Option Task) → first_of tasks ≡ first → AllByRecursion (λ task. outranks snapshot (Some task) first ≡ false) tasks
+  go None none = subst (AllByRecursion (λ task. outranks snapshot (Some task) None ≡ false)) (sym (no_first tasks none)) tt
   go (Some first) found =
-      each_weaker (λ task. goes_before task first ≡ false) (λ task. outranks (Some task) (Some first) ≡ false) tasks
-      (λ task later. (or_parts (is_higher task first) _ later).0) (foremost_least goes_before tasks first found)
+      let its_home : first.home ≡ cpu = each_found (λ task. task.home ≡ cpu) _ tasks first found home in
+      each_both (λ task. task.home ≡ cpu) (λ task. goes_before task first ≡ false) (λ task. outranks snapshot (Some task) (Some first) ≡ false) tasks
+      (λ task at later. sym (higher_at_home snapshot task first (at ∙ sym its_home)) ∙ (or_parts (is_higher_here task first) _ later).0)
+      home (foremost_least goes_before tasks first found)
+
+-- each task queued on a sibling has its home there
+queued_at : (room : RoomState) (cpu : ℕ) → AllByRecursion (λ task. task.home ≡ cpu) (queued_on room cpu)
+queued_at room cpu =
+    let test : Task → Bool = λ task. task.queued && (task.home == cpu) in
+    each_weaker (λ task. test task ≡ true) (λ task. task.home ≡ cpu) (queued_on room cpu)
+    (λ task pass. eqb-true task.home cpu (and_parts task.queued (task.home == cpu) pass).1)
+    (recursion_from_All (λ task. test task ≡ true) (queued_on room cpu) (filter_passes test room.tasks))
 
 -- ---- the siblings that are online
 
@@ -70,29 +86,32 @@ online_from_holds room cpu other below up =
 
 -- The lead is the earliest first than which no other is higher, since the sibling that selects has one.
 pub lead_found : (room : RoomState) (cpu : ℕ) → cpu < length room.siblings → is_online room cpu ≡ true →
-    foremost outranks (map (first_on room) (online_from room cpu)) ≡ Some (lead_from room cpu)
+    foremost (outranks (snapshot_of room)) (map (first_on room) (online_from room cpu)) ≡ Some (lead_from room cpu)
 unfolding lead_from
-lead_found room cpu below up = go (foremost outranks firsts) refl where
+lead_found room cpu below up = go (foremost (outranks (snapshot_of room)) firsts) refl where
   firsts : List (Option Task)
   firsts = map (first_on room) (online_from room cpu)
 
-  go : (found : Option (Option Task)) → foremost outranks firsts ≡ found → found ≡ Some (option_and_then (λ lead. lead) found)
+  go : (found : Option (Option Task)) → foremost (outranks (snapshot_of room)) firsts ≡ found → found ≡ Some (option_and_then (λ lead. lead) found)
   go None none =
       let held = online_from_holds room cpu cpu below up in
-      absurd (omega (arith, held.1, length-map (online_from room cpu) (first_on room), ap length (foremost_none outranks outranks_is_order firsts none)))
+      absurd (omega (arith, held.1, length-map (online_from room cpu) (first_on room), ap length (foremost_none (outranks (snapshot_of room)) (outranks_is_order (snapshot_of room)) firsts none)))
   go (Some lead) found = refl
 
 -- No task queued on an online sibling is higher than the lead.
-none_outranks_lead : (room : RoomState) (cpu other : ℕ) (lead : Option Task) → foremost outranks (map (first_on room) (online_from room cpu)) ≡ Some lead →
-    Contains (online_from room cpu) other → All (λ task. outranks (Some task) lead ≡ false) (queued_on room other)
+none_outranks_lead : (room : RoomState) (cpu other : ℕ) (lead : Option Task) →
+    foremost (outranks (snapshot_of room)) (map (first_on room) (online_from room cpu)) ≡ Some lead →
+    Contains (online_from room cpu) other → All (λ task. outranks (snapshot_of room) (Some task) lead ≡ false) (queued_on room other)
 none_outranks_lead room cpu other lead earliest held =
-    let least = each_of_map (λ first. outranks first lead ≡ false) (first_on room) (online_from room cpu)
-    (foremost_least outranks (map (first_on room) (online_from room cpu)) lead earliest) in
-    let its_first = All-contains (λ sibling. outranks (first_on room sibling) lead ≡ false) (online_from room cpu) other
-    (All-from_recursion (λ sibling. outranks (first_on room sibling) lead ≡ false) (online_from room cpu) least) held in
-    All-from_recursion (λ task. outranks (Some task) lead ≡ false) (queued_on room other)
-    (each_weaker (λ task. outranks (Some task) (first_on room other) ≡ false) (λ task. outranks (Some task) lead ≡ false) (queued_on room other)
-    (λ task lower. outranks_is_order.chain (Some task) (first_on room other) lead lower its_first) (none_outranks_first (queued_on room other)))
+    let above : Option Task → Option Task → Bool = outranks (snapshot_of room) in
+    let least = each_of_map (λ first. above first lead ≡ false) (first_on room) (online_from room cpu)
+    (foremost_least above (map (first_on room) (online_from room cpu)) lead earliest) in
+    let its_first = All-contains (λ sibling. above (first_on room sibling) lead ≡ false) (online_from room cpu) other
+    (All-from_recursion (λ sibling. above (first_on room sibling) lead ≡ false) (online_from room cpu) least) held in
+    All-from_recursion (λ task. above (Some task) lead ≡ false) (queued_on room other)
+    (each_weaker (λ task. above (Some task) (first_on room other) ≡ false) (λ task. above (Some task) lead ≡ false) (queued_on room other)
+    (λ task lower. (outranks_is_order (snapshot_of room)).chain (Some task) (first_on room other) lead lower its_first)
+    (none_outranks_first (snapshot_of room) other (queued_on room other) (queued_at room other)))
 
 -- ---- the choice of a sibling
 
@@ -186,9 +205,9 @@ to_run-told selector cpu sibling run =
     cond_both (cpu == selector) _ _ (λ (s : SiblingState). to_run s ≡ run) (λ _. refl)
     (λ _. cond_both (is_run sibling.run run) _ _ (λ (s : SiblingState). to_run s ≡ run) (λ runs. is_run_same sibling.run run runs) (λ _. refl))
 
-to_run-handed : (selector occupation : ℕ) (run : Option ℕ) (cpu : ℕ) (sibling : SiblingState) → sibling.online ≡ true →
-    to_run (handed selector occupation run (cpu, sibling)) ≡ run
-to_run-handed selector occupation run cpu sibling up =
+to_run-handed : (selector occupation : ℕ) (run : Option ℕ) (renews : Bool) (cpu : ℕ) (sibling : SiblingState) → sibling.online ≡ true →
+    to_run (handed selector occupation run renews (cpu, sibling)) ≡ run
+to_run-handed selector occupation run renews cpu sibling up =
     ap to_run (cond-true sibling.online _ sibling up) ∙ to_run-told selector cpu sibling run
 
 -- each sibling after a selection is the one before, handed its choice
@@ -216,7 +235,8 @@ selected_keeps_law room cpu below up =
       told = refl;
       choices = λ other held. let parts = online_parts room other held in
           ap to_run (sibling_of-selected_room room cpu core other parts.0)
-          ∙ to_run-handed cpu (occupation_of room core) (pid_of (choice room core other)) other (sibling_of room other) parts.1;
+          ∙ to_run-handed cpu (occupation_of room core) (pid_of (choice room core other))
+          (is_fair_task (choice room core other) && renews_snapshots room core) other (sibling_of room other) parts.1;
       first = λ other. choice_is_first room core other;
       took = refl;
       matches = λ other held. choice_matches room core other;
@@ -280,11 +300,15 @@ exited_keeps_law room cpu (Some task) below up =
 forked_keeps_law : (room : RoomState) (pid : ℕ) (thread : Bool) (caller : Option Task) → StepKeepsLaw room (Fork pid thread) (forked room thread caller)
 forked_keeps_law room pid thread None = tt
 forked_keeps_law room pid thread (Some caller) =
-    cond_both (length room.tasks == room.task_limit) _ _ (StepKeepsLaw room (Fork pid thread)) (λ _. tt) (λ _. tt)
+    cond_both (may_not_fork room caller) _ _ (StepKeepsLaw room (Fork pid thread)) (λ _. tt) (λ _. tt)
 
 woken_keeps_law : (room : RoomState) (pid : ℕ) (task : Option Task) → StepKeepsLaw room (Wake pid) (woken room task)
 woken_keeps_law room pid None = tt
 woken_keeps_law room pid (Some task) = cond_both task.queued _ _ (StepKeepsLaw room (Wake pid)) (λ _. tt) (λ _. tt)
+
+ticked_keeps_law : (room : RoomState) (cpu : ℕ) (task : Option Task) → StepKeepsLaw room (Tick cpu) (ticked room cpu task)
+ticked_keeps_law room cpu None = tt
+ticked_keeps_law room cpu (Some task) = tt
 
 -- no answer of these rows tells a selection
 abbrev pub SelectNothing : List Row → Type 0
@@ -311,7 +335,9 @@ step_keeps_law room fresh (Turn cpu) below up = turned_keeps_law room fresh cpu 
 step_keeps_law room fresh (Resched cpu) below up = schedule_keeps_law room fresh cpu below (up cpu below)
 step_keeps_law room fresh (Block cpu) below up = blocked_keeps_law room cpu (running_on room cpu) below (up cpu below)
 step_keeps_law room fresh (Exit cpu) below up = exited_keeps_law room cpu (running_on room cpu) below (up cpu below)
+step_keeps_law room fresh (Tick cpu) limits up = ticked_keeps_law room cpu (running_on room cpu)
 step_keeps_law room fresh (Wake pid) limits up = woken_keeps_law room pid (task_of room pid)
+step_keeps_law room fresh (Advance delta) limits up = tt
 step_keeps_law room fresh (Fork caller thread) limits up = forked_keeps_law room caller thread (task_of room caller)
 step_keeps_law room fresh (Prctl caller ask) limits up =
     MatchOption-from_none (selection_of (prctl_answer room caller ask)) _ (prctl_selects_nothing room caller ask)

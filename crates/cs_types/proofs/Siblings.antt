@@ -6,7 +6,7 @@ use Rattle.std.proofs.lemmas.Bool.{cond_both}
 use Rattle.std.proofs.lemmas.List.{length-map, length-replicate, get_or-replicate}
 use Rattle.cs_types.specs.declared.task.Task.{Task}
 use Rattle.cs_types.specs.declared.event.Event.{Event}
-use Rattle.cs_types.specs.declared.event.Event.TheVariants.{Turn, Resched, Block, Exit, Wake, Fork, Prctl}
+use Rattle.cs_types.specs.declared.event.Event.TheVariants.{Turn, Resched, Block, Exit, Tick, Wake, Advance, Fork, Prctl}
 use Rattle.cs_types.specs.declared.event.Ask.{Ask}
 use Rattle.cs_types.specs.declared.reply.Reply.{Reply}
 use Rattle.cs_types.specs.declared.reply.Reply.TheVariants.{Zero}
@@ -15,7 +15,8 @@ use Rattle.cs_types.specs.declared.scenario.Scenario.{Scenario}
 use Rattle.cs_types.specs.Room.{RoomState, SiblingState, idle, sibling_of, running_on, is_online, task_of, with_sibling, start}
 use Rattle.cs_types.specs.Selection.{is_run, told, handed, given, selected_room, selected, plain, is_plain, rescheduled, scheduled, schedule}
 use Rattle.cs_types.specs.Prctl.{Setting, setting_of, runs_one, makes_cookie, with_made, with_answer, prctl_answer, prctl_room}
-use Rattle.cs_types.specs.Step.{Stepped, step, woken, blocked, exited, forked, turned, dequeued, without, has_threads, child_of, with_child, idled, enqueued}
+use Rattle.cs_types.specs.Step.{Stepped, step, woken, blocked, exited, forked, may_not_fork, settled, refreshed, ticked, turned, dequeued, without, has_threads, child_of, with_child, idled, enqueued}
+use Rattle.cs_types.specs.Time.{with_growth, least_of, advanced, sliced}
 use Rattle.cs_types.specs.Touches.{is_fresh}
 use Rattle.cs_types.specs.History.{History, Moment, beginning, next, after, fold_of}
 
@@ -54,15 +55,15 @@ online-told selector cpu sibling run =
     cond_both (cpu == selector) _ _ (λ (s : SiblingState). s.online ≡ sibling.online) (λ _. refl)
     (λ _. cond_both (is_run sibling.run run) _ _ (λ (s : SiblingState). s.online ≡ sibling.online) (λ _. refl) (λ _. refl))
 
-online-handed : (selector occupation : ℕ) (run : Option ℕ) (place : ℕ × SiblingState) → (handed selector occupation run place).online ≡ place.1.online
-online-handed selector occupation run place =
+online-handed : (selector occupation : ℕ) (run : Option ℕ) (renews : Bool) (place : ℕ × SiblingState) → (handed selector occupation run renews place).online ≡ place.1.online
+online-handed selector occupation run renews place =
     cond_both place.1.online _ _ (λ (s : SiblingState). s.online ≡ place.1.online) (λ _. online-told selector place.0 place.1 run) (λ _. refl)
 
 onlines-selected_room : (room : RoomState) (cpu core : ℕ) → onlines (selected_room room cpu core) ≡ onlines room
 unfolding selected_room
 onlines-selected_room room cpu core =
     map-enumerate_alike (λ s. s.online) (given room core cpu)
-    (λ place. online-handed cpu _ _ place) 0 room.siblings
+    (λ place. online-handed cpu _ _ _ place) 0 room.siblings
 
 -- ---- what each step keeps
 
@@ -95,7 +96,7 @@ onlines-woken : (room : RoomState) (task : Option Task) → onlines (woken room 
 onlines-woken room None = refl
 onlines-woken room (Some task) =
     cond_both task.queued _ _ (λ (made : Stepped). onlines made.room ≡ onlines room) (λ _. refl)
-    (λ _. onlines-with_sibling (enqueued room task) task.home _ refl)
+    (λ _. onlines-with_sibling (enqueued room (refreshed room task)) task.home _ refl)
 
 -- a change of every sibling that keeps whether it is online
 map-map_alike : {X Y : Type 0} (f : X → Y) (g : X → X) → ((x : X) → f (g x) ≡ f x) → (xs : List X) → map f (map g xs) ≡ map f xs
@@ -114,9 +115,21 @@ onlines-exited room cpu (Some task) =
 onlines-forked : (room : RoomState) (thread : Bool) (caller : Option Task) → onlines (forked room thread caller).room ≡ onlines room
 onlines-forked room thread None = refl
 onlines-forked room thread (Some caller) =
-    let child = child_of caller thread room.next_pid in
-    cond_both (length room.tasks == room.task_limit) _ _ (λ (made : Stepped). onlines made.room ≡ onlines room) (λ _. refl)
-    (λ _. onlines-with_sibling (enqueued (with_child room child) child) child.home _ refl)
+    let child = settled room (child_of caller thread room.next_pid) in
+    let born = with_child room (child_of caller thread room.next_pid) in
+    cond_both (may_not_fork room caller) _ _ (λ (made : Stepped). onlines made.room ≡ onlines room) (λ _. refl)
+    (λ _. onlines-with_sibling (enqueued born (refreshed born child)) child.home _ refl)
+
+onlines-advanced : (room : RoomState) (delta : ℕ) → onlines (advanced room delta) ≡ onlines room
+unfolding advanced
+onlines-advanced room delta =
+    map-enumerate_alike (λ (s : SiblingState). s.online) (λ place. record place.1 { least = least_of (with_growth room delta) place.0 }) (λ place. refl) 0
+    (with_growth room delta).siblings
+    ∙ map-map_alike (λ (s : SiblingState). s.online) (λ s. record s { ran = s.ran + delta }) (λ s. refl) room.siblings
+
+onlines-ticked : (room : RoomState) (cpu : ℕ) (task : Option Task) → onlines (ticked room cpu task).room ≡ onlines room
+onlines-ticked room cpu None = refl
+onlines-ticked room cpu (Some task) = onlines-with_sibling (sliced room cpu task) cpu _ refl
 
 onlines-with_answer : (room : RoomState) (set : Setting) (answer : Reply) → onlines (with_answer room set answer) ≡ onlines room
 onlines-with_answer room set Zero =
@@ -134,7 +147,9 @@ onlines-step room fresh (Turn cpu) = onlines-turned room fresh cpu
 onlines-step room fresh (Resched cpu) = onlines-schedule room fresh cpu
 onlines-step room fresh (Block cpu) = onlines-blocked room cpu (running_on room cpu)
 onlines-step room fresh (Exit cpu) = onlines-exited room cpu (running_on room cpu)
+onlines-step room fresh (Tick cpu) = onlines-ticked room cpu (running_on room cpu)
 onlines-step room fresh (Wake pid) = onlines-woken room (task_of room pid)
+onlines-step room fresh (Advance delta) = onlines-advanced room delta
 onlines-step room fresh (Fork caller thread) = onlines-forked room thread (task_of room caller)
 onlines-step room fresh (Prctl caller ask) = onlines-prctl_room room caller ask
 

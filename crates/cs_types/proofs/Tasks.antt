@@ -1,7 +1,7 @@
 -- Tasks: how many there are, and that one is found by its pid.
 use Rattle.std.proofs.Common.{◌≡◌, ℕ, suc, ◌+◌, ◌<◌, ◌≤◌, max, All, Bool, cond, true, false, List, [], ◌∷◌, length, refl, subst, sym, ap, ◌∙◌, arith, ltb, Option, Some, None}
 use Rattle.std.specs.Prelude.{fold, find, not, ◌==◌}
-use Rattle.std.proofs.lemmas.Bool.{cond_both, eqb-true, eqb-false}
+use Rattle.std.proofs.lemmas.Bool.{cond_both, or_parts, eqb-true, eqb-false}
 use Rattle.std.proofs.lemmas.List.Filters.{length-filter_both}
 use Rattle.std.proofs.lemmas.List.{length-map}
 use Rattle.std.specs.List.{AllByRecursion}
@@ -10,7 +10,7 @@ use Rattle.std.proofs.lemmas.List.Elements.{All-head, All-tail}
 use Rattle.cs_types.specs.declared.task.Task.{Task}
 use Rattle.cs_types.specs.declared.task.TaskSpec.{TaskSpec}
 use Rattle.cs_types.specs.declared.event.Event.{Event}
-use Rattle.cs_types.specs.declared.event.Event.TheVariants.{Turn, Resched, Block, Exit, Wake, Fork, Prctl}
+use Rattle.cs_types.specs.declared.event.Event.TheVariants.{Turn, Resched, Block, Exit, Tick, Wake, Advance, Fork, Prctl}
 use Rattle.cs_types.specs.declared.reply.Reply.{Reply}
 use Rattle.cs_types.specs.declared.reply.Reply.TheVariants.{Zero, Child, Refused}
 use Rattle.cs_types.specs.declared.reply.Errno.TheVariants.{Eagain}
@@ -19,7 +19,8 @@ use Rattle.cs_types.specs.declared.scenario.Scenario.{Scenario}
 use Rattle.cs_types.specs.Room.{RoomState, first_pid, has_pid, sibling_of, running_on, task_of, asleep, placed, asleep_tasks}
 use Rattle.cs_types.specs.Selection.{remembered, selected_room, selected, plain, is_plain, rescheduled, scheduled, schedule}
 use Rattle.cs_types.specs.Prctl.{Setting, setting_of, makes_cookie, with_made, with_answer, prctl_answer, prctl_room}
-use Rattle.cs_types.specs.Step.{Stepped, step, woken, blocked, exited, forked, turned, dequeued, without, has_threads, child_of, with_child, queued_at_home, idled}
+use Rattle.cs_types.specs.Step.{Stepped, step, woken, blocked, exited, forked, turned, dequeued, without, has_threads, child_of, settled, may_not_fork, with_child, queued_at_home, ticked, idled}
+use Rattle.cs_types.specs.Time.{advanced, grown, ticked_room}
 use Rattle.cs_types.specs.Touches.{is_fresh}
 use Rattle.cs_types.specs.History.{History, Moment, beginning, next, after, fold_of}
 use Rattle.cs_types.proofs.Foremost.{find_passes}
@@ -111,16 +112,30 @@ few-woken room (Some task) =
 -- a child comes only below the limit
 few-forked : (room : RoomState) (thread : Bool) (caller : Option Task) → KeepsFew room (forked room thread caller).room
 few-forked room thread None = as_many room room refl refl
-few-forked room thread (Some caller) = by_limit (child_of caller thread room.next_pid) (length room.tasks == room.task_limit) refl where
-  made : Bool → Task → Stepped
-  made test child = cond test (record { reply = Refused Eagain; room = room }) (record { reply = Child child.spec.pid; room = queued_at_home (with_child room child) child })
+few-forked room thread (Some caller) =
+    by_limit (child_of caller thread room.next_pid) (may_not_fork room caller) refl where
+      made : Bool → Task → Stepped
+      made test child = cond test (record { reply = Refused Eagain; room = room }) (record { reply = Child child.spec.pid; room = queued_at_home (with_child room child) (settled room child) })
 
-  by_limit : (child : Task) (test : Bool) → (length room.tasks == room.task_limit) ≡ test → KeepsFew room (made test child).room
-  by_limit child true is = as_many room room refl refl
-  by_limit child false is = record {
-    limit = refl;
-    few = λ few. omega (arith, few, eqb-false (length room.tasks) room.task_limit is, length-map (placed child room.tasks) (λ other. cond (has_pid child.spec.pid other) (record child { queued = true; stamp = room.next_stamp }) other), length-placed child room.tasks);
-  }
+      length_queued : (born : RoomState) (task : Task) → length (queued_at_home born task).tasks ≡ length born.tasks
+      length_queued born task = length-map born.tasks _
+
+      by_limit : (child : Task) (test : Bool) → may_not_fork room caller ≡ test → KeepsFew room (made test child).room
+      by_limit child true is = as_many room room refl refl
+      by_limit child false is =
+          let free = eqb-false (length room.tasks) room.task_limit (or_parts (length room.tasks == room.task_limit) _ is).0 in
+          record {
+            limit = refl;
+            few = λ few. omega (arith, few, free, length_queued (with_child room child) (settled room child), length-placed child room.tasks);
+          }
+
+few-ticked : (room : RoomState) (cpu : ℕ) (task : Option Task) → KeepsFew room (ticked room cpu task).room
+few-ticked room cpu None = as_many room room refl refl
+few-ticked room cpu (Some task) = as_many room (ticked_room room cpu task) refl (length-map room.tasks _)
+
+few-advanced : (room : RoomState) (delta : ℕ) → KeepsFew room (advanced room delta)
+unfolding advanced
+few-advanced room delta = as_many room (advanced room delta) refl (length-map room.tasks (grown room delta))
 
 few-with_answer : (room : RoomState) (set : Setting) (answer : Reply) → KeepsFew room (with_answer room set answer)
 few-with_answer room set Zero = as_many room (with_answer room set Zero) refl (length-map room.tasks _)
@@ -132,7 +147,9 @@ few-step room fresh (Turn cpu) = few-turned room fresh cpu
 few-step room fresh (Resched cpu) = few-schedule room fresh cpu
 few-step room fresh (Block cpu) = few-blocked room cpu (running_on room cpu)
 few-step room fresh (Exit cpu) = few-exited room cpu (running_on room cpu)
+few-step room fresh (Tick cpu) = few-ticked room cpu (running_on room cpu)
 few-step room fresh (Wake pid) = few-woken room (task_of room pid)
+few-step room fresh (Advance delta) = few-advanced room delta
 few-step room fresh (Fork caller thread) = few-forked room thread (task_of room caller)
 few-step room fresh (Prctl caller ask) =
     few-trans room (with_made room (makes_cookie room caller ask)) (prctl_room room caller ask)

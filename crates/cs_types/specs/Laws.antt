@@ -7,7 +7,7 @@ use Rattle.cs_types.specs.declared.event.Event.TheVariants.{Block, Exit}
 use Rattle.cs_types.specs.declared.reply.Pick.{Pick}
 use Rattle.cs_types.specs.Room.{RoomState, SiblingState, queued_on, sibling_of, running_on, online, online_from}
 use Rattle.cs_types.specs.Order.{foremost, outranks, first_of}
-use Rattle.cs_types.specs.Selection.{first_on, cookie_of, pid_of, choice, eligible, is_forced}
+use Rattle.cs_types.specs.Selection.{first_on, cookie_of, pid_of, snapshot_of, choice, eligible, is_forced}
 use Rattle.cs_types.specs.Touches.{scheduler_of}
 use Rattle.cs_types.specs.Step.{dequeued, without, idled}
 
@@ -29,10 +29,10 @@ to_run sibling = unwrap_or sibling.waiting sibling.run
 pub record SelectsForTheCore (before : RoomState) (cpu : ℕ) (pick : Pick) (now : RoomState) : Type 0 where
   -- The lead is the earliest first, from the sibling that selects on, than which no other first is higher.
   pub lead : Option Task
-  pub earliest : foremost outranks (map (first_on before) (online_from before cpu)) ≡ Some lead
+  pub earliest : foremost (outranks (snapshot_of before)) (map (first_on before) (online_from before cpu)) ≡ Some lead
   -- No task queued on any online sibling is higher than the lead.
   pub highest : (other : ℕ) → Contains (online before) other →
-      All (λ task. outranks (Some task) lead ≡ false) (queued_on before other)
+      All (λ task. outranks (snapshot_of before) (Some task) lead ≡ false) (queued_on before other)
   -- The core cookie is the lead's.
   pub cookie : now.core_cookie ≡ cookie_of lead
   pub told : pick.core ≡ now.core_cookie

@@ -2,6 +2,7 @@ pub mod Scenario
 pub mod Room
 pub mod Order
 pub mod Selection
+pub mod Time
 pub mod Errno
 pub mod Access
 pub mod Prctl
@@ -10,3 +11,4 @@ pub mod Step
 pub mod History
 pub mod View
 pub mod Laws
+pub mod Queue

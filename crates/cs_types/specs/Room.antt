@@ -11,16 +11,20 @@ abbrev pub Waiting : Type 0
 Waiting = Option (Option ℕ)
 
 -- a sibling: whether it is online, the pid of its running task, none where it runs idle (`rq->curr`), whether it
--- has a pending reschedule (`TIF_NEED_RESCHED`), its waiting pick (`core_pick`), and the occupation that its idle
--- remembers (the running task stays queued)
+-- has a pending reschedule (`TIF_NEED_RESCHED`), its waiting pick (`core_pick`), the occupation that its idle
+-- remembers (the running task stays queued), the least virtual time of its queue (`min_vruntime`), what that was when
+-- it was last noted for a comparison with other siblings (`min_vruntime_fi`), and the time since its last schedule
 pub record SiblingState : Type 0 where
   pub online : Bool
   pub run : Option ℕ
   pub pending : Bool
   pub waiting : Waiting
   pub occupation : ℕ
+  pub least : ℕ
+  pub snapshot : ℕ
+  pub ran : ℕ
 
--- the core, with the limits of its scenario, which no step changes: its living tasks, by rising pid, the pids of those
+-- the core, with the limits of its scenario, which no step changes: the clock, its living tasks, by rising pid, the pids of those
 -- that ended, in the order of their ends, the next pid, the next stamp and the next cookie, the core
 -- cookie (`core_cookie` of `rq->core`), how many siblings are forced idle (`core_forceidle_count`), and for how many
 -- a task was chosen (`core_forceidle_occupation`)
@@ -28,6 +32,7 @@ pub record RoomState : Type 0 where
   pub task_limit : ℕ
   pub cookie_limit : ℕ
   pub user_top : ℕ
+  pub clock : ℕ
   pub tasks : List Task
   pub ended : List ℕ
   pub siblings : List SiblingState
@@ -42,7 +47,18 @@ pub record RoomState : Type 0 where
 
 -- a task of the scenario before its first wake: asleep, with no cookie, at home on the sibling of its line
 abbrev pub asleep : TaskSpec → Task
-asleep spec = record { spec = spec; cookie = 0; home = spec.cpu; queued = false; stamp = 0; occupation = 0 }
+asleep spec =
+    record {
+      spec = spec;
+      cookie = 0;
+      home = spec.cpu;
+      queued = false;
+      vtime = 0;
+      deadline = 0;
+      stamp = 0;
+      used = 0;
+      occupation = 0;
+    }
 
 -- the tasks, by rising pid, with one more in its place
 abbrev pub placed : Task → List Task → List Task
@@ -56,7 +72,17 @@ asleep_tasks specs = fold (λ tasks spec. placed (asleep spec) tasks) [] specs
 
 -- a sibling that is online, runs idle and is not pending
 abbrev pub idle : SiblingState
-idle = record { online = true; run = None; pending = false; waiting = None; occupation = 0 }
+idle =
+    record {
+      online = true;
+      run = None;
+      pending = false;
+      waiting = None;
+      occupation = 0;
+      least = 0;
+      snapshot = 0;
+      ran = 0;
+    }
 
 -- one above the greatest pid of these lines, 1 where there is none
 abbrev pub first_pid : List TaskSpec → ℕ
@@ -69,6 +95,7 @@ start scenario =
       task_limit = scenario.task_limit;
       cookie_limit = scenario.cookie_limit;
       user_top = scenario.user_top;
+      clock = 0;
       tasks = asleep_tasks scenario.tasks;
       ended = [];
       siblings = replicate scenario.siblings idle;

@@ -1,14 +1,14 @@
 -- Scenarios: the limits that each of them keeps, and the script of each actor.
 use Rattle.std.specs.Prelude.{◌≡◌, ◌≢◌, ◌⊎◌, ℕ, ◌<◌, ◌≤◌, ◌^◌, ℤ, pos, negsuc, Bool, false, ◌==◌, List, length, map, filter, take, All, Any, AllPairs, slice_index_or}
 use Rattle.cs_types.specs.declared.task.Policy.{Policy}
-use Rattle.cs_types.specs.declared.task.Policy.TheVariants.{Fifo}
+use Rattle.cs_types.specs.declared.task.Policy.TheVariants.{Stop, Deadline, Fifo, Rr, Fair}
 use Rattle.cs_types.specs.declared.task.Creds.{Creds}
 use Rattle.cs_types.specs.declared.task.TaskSpec.{TaskSpec}
 use Rattle.cs_types.specs.declared.event.Actor.{Actor}
 use Rattle.cs_types.specs.declared.event.Actor.TheVariants.{Sibling, Caller}
 use Rattle.cs_types.specs.declared.event.Ask.{Ask}
 use Rattle.cs_types.specs.declared.event.Event.{Event}
-use Rattle.cs_types.specs.declared.event.Event.TheVariants.{Turn, Resched, Block, Exit, Wake, Fork, Prctl}
+use Rattle.cs_types.specs.declared.event.Event.TheVariants.{Turn, Resched, Block, Exit, Tick, Wake, Advance, Fork, Prctl}
 use Rattle.cs_types.specs.declared.event.Step.{Step}
 use Rattle.cs_types.specs.declared.scenario.Scenario.{Scenario}
 
@@ -18,9 +18,18 @@ use Rattle.cs_types.specs.declared.scenario.Scenario.{Scenario}
 abbrev pub IsWithin : ℕ → ℕ → ℕ → Type 0
 IsWithin low high n = (low ≤ n) × (n ≤ high)
 
--- a FIFO priority is from 1 to 99
+-- a nice value is from -20 to 19; `negsuc n` is -1 - n
+abbrev pub IsNice : ℤ → Type 0
+IsNice (pos n) = n ≤ 19
+IsNice (negsuc n) = n ≤ 19
+
+-- a relative deadline is from 1 ns to 1 s, and a priority from 1 to 99
 abbrev pub IsPolicy : Policy → Type 0
+IsPolicy Stop = Unit {0}
+IsPolicy (Deadline relative) = IsWithin 1 1000000000 relative
 IsPolicy (Fifo priority) = IsWithin 1 99 priority
+IsPolicy (Rr priority) = IsWithin 1 99 priority
+IsPolicy (Fair nice) = IsNice nice
 
 -- a user or group id is from 0 to 65535
 pub record AreCreds (creds : Creds) : Type 0 where
@@ -67,13 +76,15 @@ pub record IsAsk (ask : Ask) : Type 0 where
   pub scope : ask.scope < 2 ^ 32
   pub addr : ask.addr < 2 ^ 64
 
--- the numbers of an event: a sibling of the core, a pid from 1 to 999999
+-- the numbers of an event: a sibling of the core, a pid from 1 to 999999, an advance from 1 ns to 1 s
 abbrev pub IsEvent : ℕ → Event → Type 0
 IsEvent siblings (Turn cpu) = cpu < siblings
 IsEvent siblings (Resched cpu) = cpu < siblings
 IsEvent siblings (Block cpu) = cpu < siblings
 IsEvent siblings (Exit cpu) = cpu < siblings
+IsEvent siblings (Tick cpu) = cpu < siblings
 IsEvent siblings (Wake pid) = IsWithin 1 999999 pid
+IsEvent siblings (Advance delta) = IsWithin 1 1000000000 delta
 IsEvent siblings (Fork caller thread) = IsWithin 1 999999 caller
 IsEvent siblings (Prctl caller ask) = IsWithin 1 999999 caller × IsAsk ask
 
@@ -83,16 +94,20 @@ IsMadeBy (Sibling i) (Turn cpu) = cpu ≡ i
 IsMadeBy (Sibling i) (Resched cpu) = cpu ≡ i
 IsMadeBy (Sibling i) (Block cpu) = cpu ≡ i
 IsMadeBy (Sibling i) (Exit cpu) = cpu ≡ i
+IsMadeBy (Sibling i) (Tick cpu) = cpu ≡ i
 IsMadeBy (Caller j) (Wake pid) = j < 8
+IsMadeBy (Caller j) (Advance delta) = j < 8
 IsMadeBy (Caller j) (Fork caller thread) = j < 8
 IsMadeBy (Caller j) (Prctl caller ask) = j < 8
 IsMadeBy (Sibling i) (Wake pid) = ⊥
+IsMadeBy (Sibling i) (Advance delta) = ⊥
 IsMadeBy (Sibling i) (Fork caller thread) = ⊥
 IsMadeBy (Sibling i) (Prctl caller ask) = ⊥
 IsMadeBy (Caller j) (Turn cpu) = ⊥
 IsMadeBy (Caller j) (Resched cpu) = ⊥
 IsMadeBy (Caller j) (Block cpu) = ⊥
 IsMadeBy (Caller j) (Exit cpu) = ⊥
+IsMadeBy (Caller j) (Tick cpu) = ⊥
 
 -- a step line, in a core of so many siblings
 pub record IsStep (siblings : ℕ) (step : Step) : Type 0 where

@@ -2,12 +2,12 @@
 -- kernel/sched/core.c).
 use Rattle.std.specs.Prelude.{ℕ, Bool, true, false, ◌==◌, ◌&&◌, ◌||◌, if◌then◌else◌, List, map, filter, count_by, Option, Some, None, is_none, is_some, unwrap_or}
 use Rattle.std.specs.List.{list_any, enumerate_from}
-use Rattle.std.specs.Option.{option_map, option_and_then, option_to_list}
+use Rattle.std.specs.Option.{option_map, option_map_or, option_and_then, option_to_list}
 use Rattle.cs_types.specs.declared.task.Task.{Task}
 use Rattle.cs_types.specs.declared.reply.Kind.TheVariants.{Selected, Adopted, Plain}
 use Rattle.cs_types.specs.declared.reply.Pick.{Pick}
 use Rattle.cs_types.specs.Room.{RoomState, SiblingState, queued_on, sibling_of, online, online_from, with_sibling}
-use Rattle.cs_types.specs.Order.{foremost, outranks, first_of}
+use Rattle.cs_types.specs.Order.{is_fair, foremost, outranks, first_of}
 
 -- ---- what a sibling has for a core cookie
 
@@ -28,10 +28,15 @@ pid_of task = option_map (λ (task : Task). task.spec.pid) task
 abbrev pub queued_with : RoomState → ℕ → ℕ → List Task
 queued_with room cookie cpu = filter (λ task. task.cookie == cookie) (queued_on room cpu)
 
+-- a sibling's snapshot, against which its fair tasks are compared with those of other siblings (`min_vruntime_fi`)
+abbrev pub snapshot_of : RoomState → ℕ → ℕ
+snapshot_of room cpu = (sibling_of room cpu).snapshot
+
 -- The lead of a selection that a sibling makes: the earliest first of the online siblings, in the order that begins
 -- at it, than which no other first is higher (`max` in `pick_next_task`).
 unfoldable pub lead_from : RoomState → ℕ → Option Task
-lead_from room cpu = option_and_then (λ first. first) (foremost outranks (map (first_on room) (online_from room cpu)))
+lead_from room cpu =
+    option_and_then (λ first. first) (foremost (outranks (snapshot_of room)) (map (first_on room) (online_from room cpu)))
 
 -- What a sibling gets for a core cookie: its first, where that is idle or has the cookie; else the first task queued
 -- there with the cookie (`sched_core_find`), which is searched for no cookie 0; else idle.
@@ -75,9 +80,20 @@ is_run (Some a) (Some b) = a == b
 is_run None (Some b) = false
 is_run (Some a) None = false
 
--- the sibling runs this, nothing waits for it, and its reschedule is no longer pending (`clear_tsk_need_resched`)
+-- the sibling runs this from now on, nothing waits for it, and its reschedule is no longer pending
+-- (`clear_tsk_need_resched`)
 abbrev pub running : SiblingState → Option ℕ → SiblingState
-running sibling run = record sibling { run = run; pending = false; waiting = None }
+running sibling run = record sibling { run = run; pending = false; waiting = None; ran = 0 }
+
+-- ---- snapshots (`se_fi_update` and `task_vruntime_update`, kernel/sched/fair.c)
+
+-- whether this is a fair task
+abbrev pub is_fair_task : Option Task → Bool
+is_fair_task task = option_map_or is_fair task false
+
+-- the sibling's snapshot becomes its least virtual time where the test says so
+abbrev pub noted : Bool → SiblingState → SiblingState
+noted test sibling = record sibling { snapshot = if test then sibling.least else sibling.snapshot }
 
 -- ---- adopted
 
@@ -95,12 +111,14 @@ adopted room cpu run =
 abbrev pub is_plain : RoomState → ℕ → Bool
 is_plain room cpu = (room.core_cookie == 0) && (room.forced == 0) && (cookie_of (first_on room cpu) == 0)
 
--- The sibling runs its first.
+-- The sibling runs its first, and its snapshot is renewed where that is fair.
 abbrev pub plain : RoomState → ℕ → Scheduled
 plain room cpu =
+    let first = first_on room cpu in
     record {
-      pick = record { kind = Plain; run = unwrap_or (pid_of (first_on room cpu)) 0; core = 0; forced = 0 };
-      room = with_sibling (record room { forced = 0; occupation = 0 }) cpu (running (sibling_of room cpu) (pid_of (first_on room cpu)));
+      pick = record { kind = Plain; run = unwrap_or (pid_of first) 0; core = 0; forced = 0 };
+      room = with_sibling (record room { forced = 0; occupation = 0 }) cpu
+          (noted (is_fair_task first) (running (sibling_of room cpu) (pid_of first)));
     }
 
 -- ---- selected
@@ -124,17 +142,26 @@ told selector cpu sibling run =
     else record sibling { pending = true; waiting = Some run }
     )
 
--- An online sibling is told its choice, and its idle remembers the occupation where that is the choice.
-abbrev pub handed : ℕ → ℕ → Option ℕ → ℕ × SiblingState → SiblingState
-handed selector occupation run place =
+-- An online sibling is told its choice, its idle remembers the occupation where that is the choice, and its snapshot is
+-- renewed where the test says so.
+abbrev pub handed : ℕ → ℕ → Option ℕ → Bool → ℕ × SiblingState → SiblingState
+handed selector occupation run renews place =
     if place.1.online
-    then record (told selector place.0 place.1 run) {
+    then noted renews (record (told selector place.0 place.1 run) {
       occupation = if is_none run then occupation else place.1.occupation;
-    }
+    })
     else place.1
 
+-- A selection renews no snapshot where some sibling was forced idle before it and some is after it (`fi_before` in
+-- `pick_next_task`).
+abbrev pub renews_snapshots : RoomState → ℕ → Bool
+renews_snapshots room core = (room.forced == 0) || (forced_count room core == 0)
+
+-- Each sibling is given its choice, and its snapshot is renewed where that is fair.
 abbrev pub given : RoomState → ℕ → ℕ → ℕ × SiblingState → SiblingState
-given room core selector place = handed selector (occupation_of room core) (pid_of (choice room core place.0)) place
+given room core selector place =
+    let chosen = choice room core place.0 in
+    handed selector (occupation_of room core) (pid_of chosen) (is_fair_task chosen && renews_snapshots room core) place
 
 -- the room once the online siblings have their choices for this core cookie
 unfoldable pub selected_room : RoomState → ℕ → ℕ → RoomState

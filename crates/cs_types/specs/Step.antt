@@ -1,17 +1,20 @@
 -- Steps: what each event does to the room, and what it answers.
-use Rattle.std.specs.Prelude.{ℕ, ◌+◌, Bool, true, false, ◌==◌, ◌&&◌, not, if◌then◌else◌, [], ◌∷◌, ◌++◌, length, filter, Option, Some, None}
+use Rattle.std.specs.Prelude.{ℕ, ◌+◌, max, Bool, true, false, ◌==◌, ◌&&◌, ◌||◌, not, if◌then◌else◌, [], ◌∷◌, ◌++◌, length, filter, Option, Some, None}
 use Rattle.std.specs.List.{list_any}
 use Rattle.std.specs.Option.{option_map_or}
 use Rattle.cs_types.specs.declared.task.Task.{Task}
 use Rattle.cs_types.specs.declared.task.TaskSpec.{TaskSpec}
+use Rattle.cs_types.specs.declared.task.Policy.{Policy}
+use Rattle.cs_types.specs.declared.task.Policy.TheVariants.{Deadline, Fair}
 use Rattle.cs_types.specs.declared.event.Event.{Event}
-use Rattle.cs_types.specs.declared.event.Event.TheVariants.{Turn, Resched, Block, Exit, Wake, Fork, Prctl}
+use Rattle.cs_types.specs.declared.event.Event.TheVariants.{Turn, Resched, Block, Exit, Tick, Wake, Advance, Fork, Prctl}
 use Rattle.cs_types.specs.declared.reply.Reply.{Reply}
-use Rattle.cs_types.specs.declared.reply.Reply.TheVariants.{Picked, Nothing, Slept, Ended, Idle, HasThreads, Woken, Awake, NoTask, Child, Refused, NoCaller}
+use Rattle.cs_types.specs.declared.reply.Reply.TheVariants.{Picked, Nothing, Slept, Ended, Idle, HasThreads, Woken, Awake, NoTask, Now, Ticked, Child, Refused, NoCaller}
 use Rattle.cs_types.specs.declared.reply.Errno.TheVariants.{Eagain}
 use Rattle.cs_types.specs.declared.reply.Pick.{Pick}
 use Rattle.cs_types.specs.Room.{RoomState, asleep, placed, has_pid, task_of, sibling_of, running_on, with_sibling, with_task, flagged}
-use Rattle.cs_types.specs.Order.{is_higher}
+use Rattle.cs_types.specs.Order.{deadline_class, class_of, is_higher_here}
+use Rattle.cs_types.specs.Time.{advanced, ticked_room, asks_at_tick}
 use Rattle.cs_types.specs.Selection.{Scheduled, schedule}
 use Rattle.cs_types.specs.Prctl.{prctl_answer, prctl_room}
 
@@ -30,11 +33,22 @@ enqueued room task =
 -- A woken task asks its sibling to reschedule where that runs idle or a lower task (after
 -- `check_preempt_curr`; this project's rule).
 abbrev pub preempts : RoomState → Task → Bool
-preempts room task = option_map_or (λ running. is_higher task running) (running_on room task.home) true
+preempts room task = option_map_or (λ running. is_higher_here task running) (running_on room task.home) true
 
--- The task is queued at its home, which may become pending (after `ttwu_do_activate`; this project's rule).
+-- A deadline task's absolute deadline is the clock and its relative deadline (`setup_new_dl_entity`), and a fair task is
+-- pulled up to its queue's least virtual time (after `place_entity`; both are this project's rules).
+abbrev pub refreshed_by : RoomState → Policy → Task → Task
+refreshed_by room (Deadline relative) task = record task { deadline = room.clock + relative }
+refreshed_by room (Fair nice) task = record task { vtime = max task.vtime (sibling_of room task.home).least }
+refreshed_by room policy task = task
+
+abbrev pub refreshed : RoomState → Task → Task
+refreshed room task = refreshed_by room task.spec.policy task
+
+-- The task is refreshed and queued at its home, which may become pending (after `ttwu_do_activate`; this project's rule).
 abbrev pub queued_at_home : RoomState → Task → RoomState
-queued_at_home room task = flagged (enqueued room task) task.home (preempts room task)
+queued_at_home room task =
+    let fresh = refreshed room task in flagged (enqueued room fresh) task.home (preempts room fresh)
 
 -- There is no such task, or it is awake already, or it is queued and its home is told (`try_to_wake_up`).
 abbrev pub woken : RoomState → Option Task → Stepped
@@ -113,7 +127,7 @@ child_spec caller thread pid =
       creds = caller.spec.creds;
     }
 
--- A child has its caller's cookie (`sched_core_clone_cookie`). It is asleep until it is queued, and its numbers are 0.
+-- A child has its caller's cookie (`sched_core_fork`). It is asleep until it is queued, and its numbers are 0.
 abbrev pub child_of : Task → Bool → ℕ → Task
 child_of caller thread pid = record (asleep (child_spec caller thread pid)) { cookie = caller.cookie }
 
@@ -121,16 +135,37 @@ child_of caller thread pid = record (asleep (child_spec caller thread pid)) { co
 abbrev pub with_child : RoomState → Task → RoomState
 with_child room child = record room { tasks = placed child room.tasks; next_pid = room.next_pid + 1 }
 
--- There is no such caller, or as many tasks live as may, or the child is queued at its home (`wake_up_new_task`).
+-- Its virtual time is the least of its queue, whatever its class (after `task_fork_fair`; this project's rule).
+abbrev pub settled : RoomState → Task → Task
+settled room child = record child { vtime = (sibling_of room child.home).least }
+
+-- whether a fork is refused: as many tasks live as may, or the caller is a deadline task (`sched_fork`)
+abbrev pub may_not_fork : RoomState → Task → Bool
+may_not_fork room caller = (length room.tasks == room.task_limit) || (class_of caller.spec.policy == deadline_class)
+
+-- There is no such caller, or it may not fork, or the child is among the living and queued at its home
+-- (`wake_up_new_task`).
 abbrev pub forked : RoomState → Bool → Option Task → Stepped
 forked room thread None = record { reply = NoCaller; room = room }
 forked room thread (Some caller) =
-    if length room.tasks == room.task_limit
+    if may_not_fork room caller
     then record { reply = Refused Eagain; room = room }
     else (
     let child = child_of caller thread room.next_pid in
-    record { reply = Child child.spec.pid; room = queued_at_home (with_child room child) child }
+    record { reply = Child child.spec.pid; room = queued_at_home (with_child room child) (settled room child) }
     )
+
+-- ---- advance and tick (`update_curr`, `scheduler_tick`)
+
+-- The clock goes on.
+abbrev pub advancing : RoomState → ℕ → Stepped
+advancing room delta = record { reply = Now (room.clock + delta); room = advanced room delta }
+
+-- The sibling runs idle, or its running task is asked to leave or not.
+abbrev pub ticked : RoomState → ℕ → Option Task → Stepped
+ticked room cpu None = record { reply = Ticked false; room = room }
+ticked room cpu (Some task) =
+    record { reply = Ticked (asks_at_tick room cpu task); room = ticked_room room cpu task }
 
 -- ---- every event
 
@@ -140,7 +175,9 @@ step room is_fresh (Turn cpu) = turned room is_fresh cpu
 step room is_fresh (Resched cpu) = picked Picked (schedule room is_fresh cpu)
 step room is_fresh (Block cpu) = blocked room cpu (running_on room cpu)
 step room is_fresh (Exit cpu) = exited room cpu (running_on room cpu)
+step room is_fresh (Tick cpu) = ticked room cpu (running_on room cpu)
 step room is_fresh (Wake pid) = woken room (task_of room pid)
+step room is_fresh (Advance delta) = advancing room delta
 step room is_fresh (Fork caller thread) = forked room thread (task_of room caller)
 step room is_fresh (Prctl caller ask) =
     record { reply = prctl_answer room caller ask; room = prctl_room room caller ask }

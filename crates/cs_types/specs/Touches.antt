@@ -5,7 +5,7 @@ use Rattle.std.specs.Prelude.{ℕ, ◌+◌, Bool, true, false, ◌==◌, ◌&&�
 use Rattle.std.specs.List.{list_any, list_all}
 use Rattle.std.specs.Option.{option_map_or, option_and_then}
 use Rattle.cs_types.specs.declared.event.Event.{Event}
-use Rattle.cs_types.specs.declared.event.Event.TheVariants.{Turn, Resched, Block, Exit, Wake, Fork, Prctl}
+use Rattle.cs_types.specs.declared.event.Event.TheVariants.{Turn, Resched, Block, Exit, Tick, Wake, Advance, Fork, Prctl}
 use Rattle.cs_types.specs.declared.reply.Kind.{Kind}
 use Rattle.cs_types.specs.declared.reply.Kind.TheVariants.{Selected, Adopted, Plain}
 use Rattle.cs_types.specs.declared.reply.Pick.{Pick}
@@ -41,7 +41,9 @@ scheduler_of (Turn cpu) = Some cpu
 scheduler_of (Resched cpu) = Some cpu
 scheduler_of (Block cpu) = Some cpu
 scheduler_of (Exit cpu) = Some cpu
+scheduler_of (Tick cpu) = None
 scheduler_of (Wake pid) = None
+scheduler_of (Advance delta) = None
 scheduler_of (Fork caller thread) = None
 scheduler_of (Prctl caller ask) = None
 

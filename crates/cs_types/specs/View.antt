@@ -28,4 +28,5 @@ abbrev pub task_after : RoomState → ℕ → Option Task
 task_after room pid = find (λ task. nat_lt pid task.spec.pid) room.tasks
 
 abbrev pub task_view : Task → TaskView
-task_view task = record { pid = task.spec.pid; cpu = task.home; queued = task.queued; cookie = task.cookie }
+task_view task =
+    record { pid = task.spec.pid; cpu = task.home; queued = task.queued; cookie = task.cookie; vtime = task.vtime }

@@ -37,8 +37,12 @@ pub enum Event {
     Block(Cpu),
     /// The sibling's running task ends.
     Exit(Cpu),
+    /// The sibling's timer ticks.
+    Tick(Cpu),
     /// The task, 1 to 999999, is woken.
     Wake(Pid),
+    /// The clock goes on, by 1 to 1000000000 ns.
+    Advance(u64),
     /// The task, 1 to 999999, makes a child: a thread of its own thread group, or a process.
     Fork { caller: Pid, thread: bool },
     /// The task, 1 to 999999, calls `prctl(PR_SCHED_CORE, ..)`.

@@ -4,17 +4,21 @@
 mod event;
 mod list;
 mod memory;
+mod queue;
 mod reply;
 mod room;
 mod scenario;
+mod steps;
 mod task;
 mod view;
 
 pub use event::{Actor, Ask, Event, Step};
 pub use list::List;
 pub use memory::OutOfMemory;
+pub use queue::{ClassQueue, Queued};
 pub use reply::{Entry, Errno, Kind, Pick, Reply};
 pub use room::Room;
 pub use scenario::Scenario;
+pub use steps::Steps;
 pub use task::{Cookie, Cpu, Creds, Pid, Policy, Task, TaskSpec};
 pub use view::{CoreView, CpuView, TaskView};

@@ -36,7 +36,7 @@ pub enum Errno {
     Eperm,
     /// No living task has the target's pid.
     Esrch,
-    /// As many tasks live as the scenario allows.
+    /// As many tasks live as the scenario allows, or the caller of a fork is a deadline task.
     Eagain,
     /// As many cookies live as the scenario allows.
     Enomem,
@@ -86,6 +86,10 @@ pub enum Reply {
     Awake,
     /// Refused: no living task has the pid.
     NoTask,
+    /// The clock is at this moment now, in ns.
+    Now(u64),
+    /// The sibling's timer ticked: whether it asked for a reschedule.
+    Ticked(bool),
     /// This child was made, and is queued now.
     Child(Pid),
     /// The call of `prctl` returned 0.

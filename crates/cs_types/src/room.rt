@@ -29,7 +29,7 @@ pub trait Room: Drop {
     /// Makes one step, and answers what the rules answer. It takes no memory.
     ///
     /// There has to be room for an entry, and what the event names keeps its limits: a sibling that
-    /// the core has, and a pid from 1 to 999999.
+    /// the core has, a pid from 1 to 999999, and an advance of 1 to 1000000000 ns.
     fn apply(&mut self, actor: Actor, event: Event) -> Reply
         requires room { 0 < free self.old }
         requires event { IsEvent (scenario self.old).siblings event }
@@ -62,6 +62,10 @@ pub trait Room: Drop {
     /// The SMT siblings of the core, a count.
     fn siblings(&self) -> u8
         ensures { result ≡ (scenario self.now).siblings };
+
+    /// The clock, in ns from the start.
+    fn clock(&self) -> u64
+        ensures { result ≡ (fold_of (scenario self.now) (history self.now)).clock };
 
     /// The task number and the pick number: how often the history touched the queues, and how often
     /// up to its last selection for the core and with it.

@@ -12,8 +12,16 @@ pub type Cpu = u8;
 /// A task's scheduling policy.
 #[derive(Clone, Copy)]
 pub enum Policy {
+    /// The stop task (`stop_sched_class`), above every other.
+    Stop,
+    /// `SCHED_DEADLINE` with a relative deadline, 1 to 1000000000 ns.
+    Deadline(u64),
     /// `SCHED_FIFO` with a priority from 1 to 99, the greater the higher.
     Fifo(u8),
+    /// `SCHED_RR` with a priority from 1 to 99, the greater the higher.
+    Rr(u8),
+    /// `SCHED_NORMAL` with a nice value from -20 to 19, the smaller the more weight.
+    Fair(i8),
 }
 
 /// A task's credentials, as the ptrace access check reads them.
@@ -65,8 +73,14 @@ pub struct Task {
     pub home: Cpu,
     /// Whether it is queued, as a running task is too, or asleep (`on_rq`).
     pub queued: bool,
+    /// Its virtual time, in ns, of a fair task (`se.vruntime`).
+    pub vtime: u128,
+    /// Its absolute deadline, in ns of the clock, of a deadline task (`dl.deadline`).
+    pub deadline: u64,
     /// The stamp of its last enqueue.
     pub stamp: u64,
+    /// How much of its slice it has used, in ns, of an RR task (`rt.time_slice` counts the rest).
+    pub used: u64,
     /// The occupation of the last selection for the core that chose it, a count (`core_occupation`).
     pub occupation: u8,
 }

@@ -35,4 +35,6 @@ pub struct TaskView {
     pub queued: bool,
     /// Its cookie, 0 for none.
     pub cookie: Cookie,
+    /// Its virtual time, in ns, below 2^80.
+    pub vtime: u128,
 }

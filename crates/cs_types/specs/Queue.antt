@@ -1,0 +1,98 @@
+-- Queue: where a queued task stands in its class and on its sibling, and what a class's queue and a sibling's run
+-- queue stand for (`struct rq`, and the queues of the classes in it; ties by the queue stamp are this project's rule).
+use Rattle.std.specs.Prelude.{ℕ, ◌-◌, Option, List, map, slice_get, refl}
+use Rattle.std.specs.Ordering.{ordering_then, nat_cmp}
+use Rattle.std.specs.declared.cmp.Ordering.{Ordering}
+use Rattle.std.specs.FinMap.{FinMap, code, from_entries, values}
+use Rattle.std.specs.Coded.{Coded, code_by, coded×, coded_ℕ}
+use Rattle.cs_types.specs.declared.queue.Queued.{Queued}
+use Rattle.cs_types.specs.declared.task.Policy.{Policy}
+use Rattle.cs_types.specs.declared.task.Policy.TheVariants.{Stop, Deadline, Fifo, Rr, Fair}
+use Rattle.cs_types.specs.declared.task.Task.{Task}
+use Rattle.cs_types.specs.Order.{class_of}
+
+-- the value at the least key of a map, none where it is empty. The values stand by rising key
+abbrev pub top_of : {K X : Type 0} {R : K → K → Ordering} → FinMap R X → Option X
+top_of members = slice_get (values members) 0
+
+-- ---- in a class
+
+-- a task's place in its class: its rank, and then its stamp. The smaller place is the higher
+abbrev pub Place : Type 0
+Place = ℕ × ℕ
+
+abbrev pub place_cmp : Place → Place → Ordering
+place_cmp a b = ordering_then (nat_cmp a.0 b.0) (nat_cmp a.1 b.1)
+
+-- the tasks of a class: the pid at each place
+abbrev pub Members : Type 0
+Members = FinMap place_cmp ℕ
+
+-- a class's queue: its tasks, and for how many more there is room
+pub record Ranked : Type 0 where
+  pub members : Members
+  pub spare : ℕ
+
+-- it is stored as the pair of its parts
+abbrev pub ranked_code : Coded Ranked
+ranked_code =
+    code_by (Members × ℕ) (coded× (code (coded× coded_ℕ coded_ℕ) coded_ℕ) coded_ℕ) (λ queue. (queue.members, queue.spare))
+    (λ parts. record { members = parts.0; spare = parts.1 }) (λ _. refl)
+
+-- ---- on a sibling
+
+-- a task's seat on its sibling: its class, and then its place in the class. The smaller seat is the higher
+abbrev pub Seat : Type 0
+Seat = ℕ × Place
+
+abbrev pub seat_cmp : Seat → Seat → Ordering
+seat_cmp a b = ordering_then (nat_cmp a.0 b.0) (place_cmp a.1 b.1)
+
+-- the queued tasks of a sibling: the pid at each seat
+abbrev pub Seats : Type 0
+Seats = FinMap seat_cmp ℕ
+
+-- a sibling's run queue: its tasks, and for how many more there is room
+pub record Seated : Type 0 where
+  pub tasks : Seats
+  pub spare : ℕ
+
+-- it is stored as the pair of its parts
+abbrev pub seated_code : Coded Seated
+seated_code =
+    code_by (Seats × ℕ) (coded× (code (coded× coded_ℕ (coded× coded_ℕ coded_ℕ)) coded_ℕ) coded_ℕ) (λ queue. (queue.tasks, queue.spare))
+    (λ parts. record { tasks = parts.0; spare = parts.1 }) (λ _. refl)
+
+-- the seat of a queued task
+abbrev pub seat_of : Queued → Seat
+seat_of task = (task.class, (task.rank, task.stamp))
+
+-- ---- the tasks of a room in a run queue
+
+-- a task's rank, by its policy, its deadline and its virtual time: the earlier deadline, the greater priority and the
+-- smaller virtual time is the higher, and no stop task is higher than another
+abbrev pub rank_by : Policy → ℕ → ℕ → ℕ
+rank_by Stop deadline vtime = 0
+rank_by (Deadline relative) deadline vtime = deadline
+rank_by (Fifo priority) deadline vtime = 99 - priority
+rank_by (Rr priority) deadline vtime = 99 - priority
+rank_by (Fair nice) deadline vtime = vtime
+
+-- a task as a run queue takes it
+abbrev pub queued_of : Task → Queued
+queued_of task =
+    record {
+      pid = task.spec.pid;
+      class = class_of task.spec.policy;
+      rank = rank_by task.spec.policy task.deadline task.vtime;
+      stamp = task.stamp;
+      cookie = task.cookie;
+    }
+
+-- the seat of a task, with its pid
+abbrev pub entry_of : Task → Seat × ℕ
+entry_of task = (seat_of (queued_of task), task.spec.pid)
+
+-- the queue of these tasks
+abbrev pub queue_of : List Task → Seats
+queue_of tasks = from_entries (map entry_of tasks)

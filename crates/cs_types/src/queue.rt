@@ -1,0 +1,77 @@
+//! A queued task, and the contract of a scheduling class's queue on one sibling.
+
+ghost use Rattle.std.specs.Prelude.{◌≡◌, ◌+◌, ◌<◌, ℕ, max, if◌then◌else◌, OnOk, OnErr};
+ghost use Rattle.std.specs.FinMap as map;
+ghost use Rattle.cs_types.specs.Queue.{Members, top_of};
+
+use crate::memory::OutOfMemory;
+use crate::steps::Steps;
+use crate::task::{Cookie, Pid};
+use std::sync::ledger::Ledger;
+
+/// A task as a sibling's run queue takes it.
+#[derive(Clone, Copy)]
+pub struct Queued {
+    pub pid: Pid,
+    /// Its scheduling class: 0 stop, 1 deadline, 2 real-time, 3 fair.
+    pub class: u8,
+    /// Its rank in its class, the smaller the higher: 0 for stop, its absolute deadline in ns, 99 less
+    /// its priority, its virtual time in ns.
+    pub rank: u128,
+    /// The stamp of its enqueue. Of equal ranks the smaller stamp goes first.
+    pub stamp: u64,
+    pub cookie: Cookie,
+}
+
+impl Queued {
+    /// The class of the stop task.
+    pub const STOP: u8 = 0;
+    /// The deadline class.
+    pub const DEADLINE: u8 = 1;
+    /// The real-time class.
+    pub const REAL_TIME: u8 = 2;
+    /// The fair class.
+    pub const FAIR: u8 = 3;
+}
+
+/// The queue of a scheduling class on one sibling. Whatever it keeps, it stands for the pids of its
+/// tasks, each at the place that its rank and its stamp are, and for how many more it has room.
+///
+/// A call that looks for a place counts its comparisons.
+pub trait ClassQueue: Drop {
+    /// The pid at each place.
+    ghost members: { Self → Members };
+
+    /// For how many more tasks there is room.
+    ghost spare: { Self → ℕ };
+
+    /// Makes room for `n` more tasks where there is less. This call alone takes memory. An `Err`, for
+    /// want of it or where there would be more than 4294967295 tasks, changes nothing.
+    fn reserve(&mut self, n: u32) -> Result<(), OutOfMemory>
+        ensures members { members self.new ≡ members self.old }
+        ensures spare { OnOk result (spare self.new ≡ max n (spare self.old)) }
+        ensures err { OnErr result (spare self.new ≡ spare self.old) };
+
+    /// Puts a task at a place where none is.
+    fn put<L: Ledger>(&mut self, rank: u128, stamp: u64, pid: Pid, steps: &mut Steps<L>)
+        requires room { 0 < spare self.old }
+        requires free { map.get (members self.old) (rank, stamp) ≡ None }
+        ensures members { members self.new ≡ map.insert (members self.old) (rank, stamp) pid }
+        ensures spare { spare self.new + 1 ≡ spare self.old };
+
+    /// Takes the task at a place out. `false` comes exactly where none is there, and then nothing
+    /// changes.
+    fn take<L: Ledger>(&mut self, rank: u128, stamp: u64, steps: &mut Steps<L>) -> bool
+        ensures found { result ≡ map.contains_key (members self.old) (rank, stamp) }
+        ensures members { members self.new ≡ map.remove (members self.old) (rank, stamp) }
+        ensures spare { spare self.new ≡ spare self.old + (if result then 1 else 0) };
+
+    /// The task with the least rank, and among those with the least stamp. `None` exactly where there
+    /// is no task.
+    fn top<L: Ledger>(&self, steps: &mut Steps<L>) -> Option<Pid>
+        ensures { result ≡ top_of (members self.now) };
+
+    /// How many tasks there are.
+    fn len(&self) -> u32
+        ensures { result ≡ map.len (members self.now) };
+}
