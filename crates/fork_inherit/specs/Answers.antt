@@ -1,17 +1,20 @@
 -- Answers: what a fork and an end come to.
-use Rattle.std.specs.Prelude.{◌==◌, length, Option, Some, None, Result, Ok, Err, if◌then◌else◌}
+use Rattle.std.specs.Prelude.{◌==◌, ◌||◌, length, Option, Some, None, Result, Ok, Err, if◌then◌else◌}
 use Rattle.cs_types.specs.declared.task.Task.{Task}
 use Rattle.cs_types.specs.Room.{RoomState}
+use Rattle.cs_types.specs.Order.{deadline_class, class_of}
 use Rattle.cs_types.specs.Step.{has_threads}
 use Rattle.task_table.specs.Table.{Table}
 use Rattle.fork_inherit.specs.declared.forking.ForkFault.{ForkFault}
 use Rattle.fork_inherit.specs.declared.forking.ForkFault.TheVariants.{NoCaller, Eagain}
 use Rattle.fork_inherit.specs.declared.ending.HasThreads.{HasThreads}
 
--- There is no such caller, or as many tasks live as may, or the caller has a child (`copy_process`, kernel/fork.c).
+-- There is no such caller, or as many tasks live as may or the caller is a deadline task (`sched_fork`,
+-- kernel/sched/core.c), or the caller has a child (`copy_process`, kernel/fork.c).
 abbrev pub fork_answer : Table → Option Task → Result (Unit {0}) ForkFault
 fork_answer table None = Err NoCaller
-fork_answer table (Some caller) = if length table.tasks == table.limit then Err Eagain else Ok tt
+fork_answer table (Some caller) =
+    if (length table.tasks == table.limit) || (class_of caller.spec.policy == deadline_class) then Err Eagain else Ok tt
 
 -- The task leads others, or it ends (`do_exit`, kernel/exit.c).
 abbrev pub end_answer : RoomState → Task → Result Task HasThreads

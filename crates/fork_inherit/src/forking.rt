@@ -1,15 +1,16 @@
 //! A fork: a child with what it inherits.
 
-ghost use Rattle.std.specs.Prelude.{◌≡◌, ◌≢◌, length, find, None, Some, OnOk, OnErr};
+ghost use Rattle.std.specs.Prelude.{◌≡◌, ◌≢◌, ◌==◌, length, find, None, Some, OnOk, OnErr};
 ghost use Rattle.cs_types.specs.declared.task.Task.{Task as SomeTask};
 ghost use Rattle.cs_types.specs.Room.{has_pid, placed};
+ghost use Rattle.cs_types.specs.Order.{deadline_class, class_of};
 ghost use Rattle.cs_types.specs.Step.{child_of};
 ghost use Rattle.task_table.specs.Table.{IsSound};
 ghost use Rattle.cookie_refs.specs.Refs.{Agree};
 ghost use Rattle.fork_inherit.specs.Answers.{fork_answer};
 
 use cookie_refs::CookieRefs;
-use cs_types::{Pid, Task, TaskSpec};
+use cs_types::{Pid, Policy, Task, TaskSpec};
 use task_table::TaskTable;
 use thiserror::Error;
 
@@ -19,8 +20,8 @@ pub enum ForkFault {
     /// No living task has the caller's pid.
     #[error("no living task has the caller's pid")]
     NoCaller,
-    /// The caller is there, and as many tasks live as may.
-    #[error("as many tasks live as may")]
+    /// The caller is there, and as many tasks live as may, or the caller is a deadline task.
+    #[error("as many tasks live as may, or the caller is a deadline task")]
     Eagain,
 }
 
@@ -43,9 +44,19 @@ fn child_of(caller: &Task, thread: bool, pid: Pid) -> Task
         cookie: caller.cookie,
         home: spec.cpu,
         queued: false,
+        vtime: 0,
+        deadline: 0,
         stamp: 0,
+        used: 0,
         occupation: 0,
     }
+}
+
+/// Whether the policy is a deadline task's.
+fn is_deadline(policy: Policy) -> bool
+    ensures { result ≡ (class_of policy == deadline_class) }
+{
+    matches!(policy, Policy::Deadline(_))
 }
 
 /// Puts the task into a table that has a place left and no task with its pid.
@@ -64,7 +75,8 @@ fn place(table: &mut TaskTable, task: Task)
 /// reference to it (`sched_core_fork`, kernel/sched/core_sched.c).
 ///
 /// `NoCaller` comes exactly where no living task has the pid of the caller, and else `Eagain` exactly
-/// where there are `limit` tasks, 0 to 65535. An `Err` changes nothing.
+/// where there are `limit` tasks, 0 to 65535, or the caller is a deadline task (`sched_fork`,
+/// kernel/sched/core.c). An `Err` changes nothing.
 pub fn fork(
     table: &mut TaskTable,
     refs: &mut CookieRefs,
@@ -92,7 +104,7 @@ pub fn fork(
     let Some(by) = table.find(caller).copied() else {
         return Err(ForkFault::NoCaller);
     };
-    if table.len() == limit {
+    if table.len() == limit || is_deadline(by.spec.policy) {
         return Err(ForkFault::Eagain);
     }
     place(table, child_of(&by, thread, child));

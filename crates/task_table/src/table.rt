@@ -1,6 +1,6 @@
 //! The table. It is apart since it alone keeps the slots and the index in step.
 
-ghost use Rattle.std.specs.Prelude.{◌≡◌, ◌≤◌, ◌&&◌, nat_lt, [], ◌∷◌, length, map, drop, filter, find, not, if◌then◌else◌, IfOk, IfNone, IfSome, OnOk, OnErr, MatchResult, MatchOption, option_copied};
+ghost use Rattle.std.specs.Prelude.{◌≡◌, ◌≤◌, ◌&&◌, nat_lt, [], ◌∷◌, length, map, drop, filter, find, not, if◌then◌else◌, IfOk, IfNone, IfSome, OnOk, OnErr, MatchResult, MatchOption, option_copied, slice_get};
 ghost use Rattle.std.specs.Option.{option_map};
 ghost use Rattle.cs_types.specs.Room.{asleep, placed, has_pid};
 ghost use Rattle.task_table.specs.Table.{Table, pid_of, IsSound, add_answer};
@@ -48,7 +48,10 @@ fn asleep(spec: TaskSpec) -> Task
         cookie: 0,
         home: spec.cpu,
         queued: false,
+        vtime: 0,
+        deadline: 0,
         stamp: 0,
+        used: 0,
         occupation: 0,
     }
 }
@@ -112,9 +115,19 @@ impl TaskTable {
         ensures sound { IsSound self.now }
     {
         match self.place_of(pid) {
-            Ok(place) => self.slots.get(self.entries[place].key),
+            Ok(place) => self.at(place),
             Err(_) => None,
         }
+    }
+
+    /// The task at a place, counted from 0 by rising pid. `None` exactly where the place is not below
+    /// the number of tasks.
+    pub fn at(&self, place: usize) -> Option<&Task>
+        ensures task { option_copied result ≡ slice_get self.now.tasks place }
+        ensures sound { IsSound self.now }
+    {
+        let entry = self.entries.get(place)?;
+        self.slots.get(entry.key)
     }
 
     /// Puts the task in the place of the one with its pid, which it gives back. `None` exactly where
