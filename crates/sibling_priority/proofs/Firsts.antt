@@ -1,5 +1,5 @@
 -- The offers of first tasks stand in the order of those tasks, and what a caller of `lead` has to know of them.
-use Rattle.std.proofs.Common.{◌≡◌, ◌≢◌, ℕ, ◌-◌, ◌<◌, ◌≤◌, true, false, ltb, List, [], ◌∷◌, ◌++◌, length, map, get_or, refl, sym, ap, ◌∙◌, subst, arith, All, Option, Some, None}
+use Rattle.std.proofs.Common.{◌≡◌, ℕ, ◌+◌, ◌^◌, ◌<◌, true, false, ltb, List, [], ◌∷◌, ◌++◌, length, map, get_or, refl, sym, ap, ◌∙◌, subst, arith, All, Option, Some, None}
 use Rattle.std.proofs.Math.ListN.{get_or-map}
 use Rattle.std.proofs.lemmas.List.{get_or_default, length-map, map_push}
 use Rattle.std.proofs.lemmas.List.Elements.{All-push}
@@ -7,118 +7,157 @@ use Rattle.std.proofs.lemmas.Bool.Decides.{nat_tests}
 use Rattle.std.specs.List.{IsFirstBest}
 use Rattle.cs_types.specs.declared.task.Task.{Task}
 use Rattle.cs_types.specs.declared.task.Policy.{Policy}
-use Rattle.cs_types.specs.declared.task.Policy.TheVariants.{Fifo}
+use Rattle.cs_types.specs.declared.task.Policy.TheVariants.{Stop, Deadline, Fifo, Rr, Fair}
 use Rattle.cs_types.specs.Scenario.{IsPolicy}
-use Rattle.cs_types.specs.Order.{is_higher_policy, outranks, foremost}
+use Rattle.cs_types.specs.Order.{deadline_class, real_time_class, fair_class, idle_class, class_of, priority_of, outranks, foremost}
+use Rattle.cs_types.specs.Queue.{rank_by}
 use Rattle.sibling_priority.specs.declared.offer.Offer.{Offer}
-use Rattle.sibling_priority.specs.Offers.{real_time_class, fair_class, idle_class}
-use Rattle.sibling_priority.specs.Offers.{class_of_policy, rank_of_policy, class_of, rank_of, offer_of, is_higher_offer, IsInRange, IsFirst, AreOffersOf}
-use Rattle.sibling_priority.proofs.Ranks.{higher_by}
+use Rattle.sibling_priority.specs.Offers.{class_of_first, rank_of_first, snapshot_of_first, offer_of, is_higher_offer, IsInRange, IsFirst, IsTimeInRange, AreOffersOf}
+use Rattle.sibling_priority.proofs.Ranks.{by_class, higher_by}
 use Rattle.sibling_priority.proofs.Leads.{foremost-first_best}
 
 -- ---- the order of two first tasks
 
-fifo : (p q u v : ℕ) → p ≤ 99 → q ≤ 99 → ltb q p ≡ higher_by real_time_class real_time_class (99 - p) (99 - q) u v
-fifo p q u v h k = grind (arith, nat_tests)
+-- what the class and the rank of a task say of its deadline, its priority and its virtual time
+record IsRank (class rank deadline priority vtime : ℕ) : Type 0 where
+  task : class < idle_class
+  by_deadline : class ≡ deadline_class → rank ≡ deadline
+  by_priority : class ≡ real_time_class → rank + priority ≡ 99
+  by_vtime : class ≡ fair_class → rank ≡ vtime
 
-policies : (a b : Policy) (u v : ℕ) → IsPolicy a → IsPolicy b →
-    is_higher_policy a b ≡ higher_by (class_of_policy a) (class_of_policy b) (rank_of_policy a) (rank_of_policy b) u v
-policies (Fifo p) (Fifo q) u v h k = fifo p q u v h.1 k.1
+is_rank : (policy : Policy) (task : Task) → IsPolicy policy →
+    IsRank (class_of policy) (rank_by policy task.deadline task.vtime) task.deadline (priority_of policy) task.vtime
+is_rank Stop task h = record { task = omega arith; by_deadline = λ e. omega arith; by_priority = λ e. omega arith; by_vtime = λ e. omega arith }
+is_rank (Deadline relative) task h = record { task = omega arith; by_deadline = λ e. omega arith; by_priority = λ e. omega arith; by_vtime = λ e. omega arith }
+is_rank (Fifo priority) task h = record { task = omega arith; by_deadline = λ e. omega arith; by_priority = λ e. omega arith; by_vtime = λ e. omega arith }
+is_rank (Rr priority) task h = record { task = omega arith; by_deadline = λ e. omega arith; by_priority = λ e. omega arith; by_vtime = λ e. omega arith }
+is_rank (Fair nice) task h = record { task = omega arith; by_deadline = λ e. omega arith; by_priority = λ e. omega arith; by_vtime = λ e. omega arith }
 
-idle_is_lower : (a : Policy) (r u v : ℕ) → false ≡ higher_by idle_class (class_of_policy a) 0 r u v
-idle_is_lower (Fifo q) r u v = refl
+-- the order of two tasks by their numbers is that by their ranks
+by_rank : (c d r s e f p q v w x y : ℕ) → IsRank c r e p v → IsRank d s f q w →
+    by_class c d (ltb e f) (ltb q p) (ltb (v + y) (w + x)) ≡ higher_by c d r s x y
+by_rank c d r s e f p q v w x y one other = grind (arith, nat_tests)
 
-task_is_higher : (a : Policy) (r u v : ℕ) → true ≡ higher_by (class_of_policy a) idle_class r 0 u v
-task_is_higher (Fifo q) r u v = refl
+idle_is_lower : (d s x y : ℕ) → d < idle_class → false ≡ higher_by idle_class d 0 s x y
+idle_is_lower d s x y h = grind (arith, nat_tests)
 
-by_class_and_rank : (a b : Option Task) (u v : ℕ) → IsFirst a → IsFirst b →
-    outranks a b ≡ higher_by (class_of a) (class_of b) (rank_of a) (rank_of b) u v
-by_class_and_rank None None u v h k = refl
-by_class_and_rank None (Some b) u v h k = idle_is_lower b.spec.policy (rank_of_policy b.spec.policy) u v
-by_class_and_rank (Some a) None u v h k = task_is_higher a.spec.policy (rank_of_policy a.spec.policy) u v
-by_class_and_rank (Some a) (Some b) u v h k = policies a.spec.policy b.spec.policy u v h k
+task_is_higher : (c r x y : ℕ) → c < idle_class → true ≡ higher_by c idle_class r 0 x y
+task_is_higher c r x y h = grind (arith, nat_tests)
 
--- It is the order of their offers, from whatever siblings and snapshots.
-pub outranks-offer_of : (i j s t : ℕ) (a b : Option Task) → IsFirst a → IsFirst b →
-    outranks a b ≡ is_higher_offer (offer_of i s a) (offer_of j t b)
-outranks-offer_of i j s t a b h k = by_class_and_rank a b s t h k
+-- the order of two first tasks is that by their classes, their ranks and the snapshots of their homes
+by_class_and_rank : (snapshot : ℕ → ℕ) (a b : Option Task) → IsFirst a → IsFirst b →
+    outranks snapshot a b ≡ higher_by (class_of_first a) (class_of_first b) (rank_of_first a) (rank_of_first b) (snapshot_of_first snapshot a) (snapshot_of_first snapshot b)
+by_class_and_rank snapshot None None h k = refl
+by_class_and_rank snapshot None (Some b) h k =
+    idle_is_lower (class_of b.spec.policy) (rank_by b.spec.policy b.deadline b.vtime) 0 (snapshot b.home) (is_rank b.spec.policy b k).task
+by_class_and_rank snapshot (Some a) None h k =
+    task_is_higher (class_of a.spec.policy) (rank_by a.spec.policy a.deadline a.vtime) (snapshot a.home) 0 (is_rank a.spec.policy a h).task
+by_class_and_rank snapshot (Some a) (Some b) h k =
+    by_rank (class_of a.spec.policy) (class_of b.spec.policy) (rank_by a.spec.policy a.deadline a.vtime) (rank_by b.spec.policy b.deadline b.vtime) a.deadline b.deadline
+    (priority_of a.spec.policy) (priority_of b.spec.policy) a.vtime b.vtime (snapshot a.home) (snapshot b.home)
+    (is_rank a.spec.policy a h) (is_rank b.spec.policy b k)
+
+-- It is the order of their offers, from whatever siblings.
+pub outranks-offer_of : (snapshot : ℕ → ℕ) (i j : ℕ) (a b : Option Task) → IsFirst a → IsFirst b →
+    outranks snapshot a b ≡ is_higher_offer (offer_of snapshot i a) (offer_of snapshot j b)
+outranks-offer_of snapshot i j a b h k = by_class_and_rank snapshot a b h k
 
 -- ---- the order of lists of them
 
--- what a read past the end of the offers gives, where one past the end of the firsts gives this
-abbrev unread : Option Task → Offer
-unread first = offer_of 0 0 first
-
-module _ (firsts : List (Option Task)) (offers : List Offer) (are : AreOffersOf firsts offers) where
-  class_at : (k : ℕ) (d : Option Task) → class_of (get_or firsts k d) ≡ (get_or offers k (unread d)).class
+module _ (snapshot : ℕ → ℕ) (firsts : List (Option Task)) (offers : List Offer) (are : AreOffersOf snapshot firsts offers) where
+  -- Where a read past the end of the firsts gives d, one past the end of the offers gives what d offers.
+  class_at : (k : ℕ) (d : Option Task) → class_of_first (get_or firsts k d) ≡ (get_or offers k (offer_of snapshot 0 d)).class
   class_at k d =
-      sym (get_or-map class_of firsts k d)
-      ∙ ap (λ (classes : List ℕ). get_or classes k (class_of d)) (sym are.classes)
-      ∙ get_or-map (λ (offer : Offer). offer.class) offers k (unread d)
+      sym (get_or-map class_of_first firsts k d)
+      ∙ ap (λ (classes : List ℕ). get_or classes k (class_of_first d)) (sym are.classes)
+      ∙ get_or-map (λ (offer : Offer). offer.class) offers k (offer_of snapshot 0 d)
 
-  rank_at : (k : ℕ) (d : Option Task) → rank_of (get_or firsts k d) ≡ (get_or offers k (unread d)).rank
+  rank_at : (k : ℕ) (d : Option Task) → rank_of_first (get_or firsts k d) ≡ (get_or offers k (offer_of snapshot 0 d)).rank
   rank_at k d =
-      sym (get_or-map rank_of firsts k d)
-      ∙ ap (λ (ranks : List ℕ). get_or ranks k (rank_of d)) (sym are.ranks)
-      ∙ get_or-map (λ (offer : Offer). offer.rank) offers k (unread d)
+      sym (get_or-map rank_of_first firsts k d)
+      ∙ ap (λ (ranks : List ℕ). get_or ranks k (rank_of_first d)) (sym are.ranks)
+      ∙ get_or-map (λ (offer : Offer). offer.rank) offers k (offer_of snapshot 0 d)
+
+  snapshot_at : (k : ℕ) (d : Option Task) → snapshot_of_first snapshot (get_or firsts k d) ≡ (get_or offers k (offer_of snapshot 0 d)).snapshot
+  snapshot_at k d =
+      sym (get_or-map (snapshot_of_first snapshot) firsts k d)
+      ∙ ap (λ (snapshots : List ℕ). get_or snapshots k (snapshot_of_first snapshot d)) (sym are.snapshots)
+      ∙ get_or-map (λ (offer : Offer). offer.snapshot) offers k (offer_of snapshot 0 d)
 
   same_length : length offers ≡ length firsts
   same_length =
-      sym (length-map offers (λ (offer : Offer). offer.class)) ∙ ap length are.classes ∙ length-map firsts class_of
+      sym (length-map offers (λ (offer : Offer). offer.class)) ∙ ap length are.classes ∙ length-map firsts class_of_first
 
   order_at : (j k : ℕ) (d : Option Task) → j < length firsts → k < length firsts →
-      outranks (get_or firsts j d) (get_or firsts k d) ≡ is_higher_offer (get_or offers j (unread d)) (get_or offers k (unread d))
+      outranks snapshot (get_or firsts j d) (get_or firsts k d)
+      ≡ is_higher_offer (get_or offers j (offer_of snapshot 0 d)) (get_or offers k (offer_of snapshot 0 d))
   order_at j k d l m =
-      let x = get_or offers j (unread d) in
-      let y = get_or offers k (unread d) in
-      by_class_and_rank (get_or firsts j d) (get_or firsts k d) x.snapshot y.snapshot (are.priorities j d l) (are.priorities k d m)
-      ∙ ap (λ (c : ℕ). higher_by c (class_of (get_or firsts k d)) (rank_of (get_or firsts j d)) (rank_of (get_or firsts k d)) x.snapshot y.snapshot) (class_at j d)
-      ∙ ap (λ (c : ℕ). higher_by x.class c (rank_of (get_or firsts j d)) (rank_of (get_or firsts k d)) x.snapshot y.snapshot) (class_at k d)
-      ∙ ap (λ (r : ℕ). higher_by x.class y.class r (rank_of (get_or firsts k d)) x.snapshot y.snapshot) (rank_at j d)
-      ∙ ap (λ (r : ℕ). higher_by x.class y.class x.rank r x.snapshot y.snapshot) (rank_at k d)
+      by_class_and_rank snapshot (get_or firsts j d) (get_or firsts k d) (are.priorities j d l) (are.priorities k d m)
+      ∙ (cc (class_at j d, class_at k d, rank_at j d, rank_at k d, snapshot_at j d, snapshot_at k d))
 
-  best_first : (n : ℕ) → IsFirstBest is_higher_offer offers (length offers) n → IsFirstBest outranks firsts (length firsts) n
+  best_first : (n : ℕ) → IsFirstBest is_higher_offer offers (length offers) n → IsFirstBest (outranks snapshot) firsts (length firsts) n
   best_first n best =
       let within : n < length firsts = subst (λ (m : ℕ). n < m) same_length best.0 in (
         within,
-        λ k d l. order_at k n d l within ∙ best.1 k (unread d) (subst (λ (m : ℕ). k < m) (sym same_length) l),
-        λ k d l. order_at n k d within (omega arith) ∙ best.2 k (unread d) l,
+        λ k d l. order_at k n d l within ∙ best.1 k (offer_of snapshot 0 d) (subst (λ (m : ℕ). k < m) (sym same_length) l),
+        λ k d l. order_at n k d within (omega arith) ∙ best.2 k (offer_of snapshot 0 d) l,
       )
 
   -- The lead of the offers is at the place of the lead of the first tasks.
-  pub foremost-offers : (n : ℕ) → IsFirstBest is_higher_offer offers (length offers) n → foremost outranks firsts ≡ Some (get_or firsts n None)
-  foremost-offers n best = foremost-first_best outranks firsts n None (best_first n best)
+  pub foremost-offers : (n : ℕ) → IsFirstBest is_higher_offer offers (length offers) n →
+      foremost (outranks snapshot) firsts ≡ Some (get_or firsts n None)
+  foremost-offers n best = foremost-first_best (outranks snapshot) firsts n None (best_first n best)
 
-  -- Such offers are in range, since none of them is fair.
-  pub IsInRange-offers : All IsInRange offers
-  IsInRange-offers k d l fair =
-      let same = ap (λ (offer : Offer). offer.class) (get_or_default offers k d (unread None) l) in
-      absurd (not_fair (get_or firsts k None) (class_at k None ∙ sym same ∙ fair)) where
-        not_fair_policy : (policy : Policy) → class_of_policy policy ≢ fair_class
-        not_fair_policy (Fifo priority) e = omega arith
+  -- Such offers are in range where the virtual times of the fair firsts and the snapshots are.
+  pub IsInRange-offers : All IsTimeInRange firsts → ((cpu : ℕ) → snapshot cpu < 2 ^ 127) → All IsInRange offers
+  IsInRange-offers times low k d l fair =
+      let blank = offer_of snapshot 0 None in
+      let same = get_or_default offers k d blank l in
+      let within : k < length firsts = subst (λ (m : ℕ). k < m) same_length l in
+      let is_fair = class_at k None ∙ sym (ap (λ (offer : Offer). offer.class) same) ∙ fair in (
+        subst (λ (rank : ℕ). rank < 2 ^ 127) (rank_at k None ∙ sym (ap (λ (offer : Offer). offer.rank) same))
+            (low_rank (get_or firsts k None) (are.priorities k None within) (times k None within) is_fair),
+        subst (λ (n : ℕ). n < 2 ^ 127) (snapshot_at k None ∙ sym (ap (λ (offer : Offer). offer.snapshot) same))
+            (low_snapshot (get_or firsts k None) is_fair),
+      ) where
+        low_rank : (first : Option Task) → IsFirst first → IsTimeInRange first → class_of_first first ≡ fair_class → rank_of_first first < 2 ^ 127
+        low_rank None h time e = absurd (omega arith)
+        low_rank (Some task) h time e = subst (λ (rank : ℕ). rank < 2 ^ 127) (sym ((is_rank task.spec.policy task h).by_vtime e)) (time e)
 
-        not_fair : (first : Option Task) → class_of first ≢ fair_class
-        not_fair None e = omega arith
-        not_fair (Some task) e = not_fair_policy task.spec.policy e
+        low_snapshot : (first : Option Task) → class_of_first first ≡ fair_class → snapshot_of_first snapshot first < 2 ^ 127
+        low_snapshot None e = absurd (omega arith)
+        low_snapshot (Some task) e = low task.home
 
   -- One more first task and its offer, each at the end.
-  pub AreOffersOf-push : (first : Option Task) (offer : Offer) → offer.class ≡ class_of first → offer.rank ≡ rank_of first → IsFirst first →
-      AreOffersOf (firsts ++ first ∷ []) (offers ++ offer ∷ [])
-  AreOffersOf-push first offer class rank is_first = record {
-    classes = map_push (λ (o : Offer). o.class) offers offer ∙ rw (are.classes, class) (sym (map_push class_of firsts first));
-    ranks = map_push (λ (o : Offer). o.rank) offers offer ∙ rw (are.ranks, rank) (sym (map_push rank_of firsts first));
+  pub AreOffersOf-push : (first : Option Task) (offer : Offer) → offer.class ≡ class_of_first first → offer.rank ≡ rank_of_first first →
+      offer.snapshot ≡ snapshot_of_first snapshot first → IsFirst first → AreOffersOf snapshot (firsts ++ first ∷ []) (offers ++ offer ∷ [])
+  AreOffersOf-push first offer class rank of_home is_first = record {
+    classes = map_push (λ (o : Offer). o.class) offers offer ∙ rw (are.classes, class) (sym (map_push class_of_first firsts first));
+    ranks = map_push (λ (o : Offer). o.rank) offers offer ∙ rw (are.ranks, rank) (sym (map_push rank_of_first firsts first));
+    snapshots = map_push (λ (o : Offer). o.snapshot) offers offer
+        ∙ rw (are.snapshots, of_home) (sym (map_push (snapshot_of_first snapshot) firsts first));
     priorities = All-push IsFirst firsts first are.priorities is_first;
   }
 
--- first tasks and offers that come of the same things, in order
-pub AreOffersOf-map : {X : Type 0} (first_at : X → Option Task) (offer_at : X → Offer) (xs : List X) →
-    ((x : X) → (offer_at x).class ≡ class_of (first_at x)) → ((x : X) → (offer_at x).rank ≡ rank_of (first_at x)) → All IsFirst (map first_at xs) →
-    AreOffersOf (map first_at xs) (map offer_at xs)
-AreOffersOf-map {X} first_at offer_at xs class rank are_firsts = record { classes = classes xs; ranks = ranks xs; priorities = are_firsts } where
-  classes : (ys : List X) → map (λ (o : Offer). o.class) (map offer_at ys) ≡ map class_of (map first_at ys)
-  classes [] = refl
-  classes (y ∷ ys) = rw (class y, classes ys) refl
+-- The offers of two first tasks stand in the order of those tasks.
+pub order_of_two : (snapshot : ℕ → ℕ) (first second : Option Task) (a b : Offer) → AreOffersOf snapshot (first ∷ second ∷ []) (a ∷ b ∷ []) →
+    is_higher_offer a b ≡ outranks snapshot first second
+order_of_two snapshot first second a b are = sym (order_at snapshot (first ∷ second ∷ []) (a ∷ b ∷ []) are 0 1 None (omega arith) (omega arith))
 
-  ranks : (ys : List X) → map (λ (o : Offer). o.rank) (map offer_at ys) ≡ map rank_of (map first_at ys)
-  ranks [] = refl
-  ranks (y ∷ ys) = rw (rank y, ranks ys) refl
+-- the numbers of two lists that come of the same things
+map_map_alike : {X Y Z : Type 0} (f : Y → ℕ) (g : Z → ℕ) (y : X → Y) (z : X → Z) → ((x : X) → f (y x) ≡ g (z x)) → (xs : List X) →
+    map f (map y xs) ≡ map g (map z xs)
+map_map_alike f g y z alike [] = refl
+map_map_alike f g y z alike (x ∷ xs) = rw (alike x, map_map_alike f g y z alike xs) refl
+
+-- first tasks and offers that come of the same things, in order
+pub AreOffersOf-map : {X : Type 0} (snapshot : ℕ → ℕ) (first_at : X → Option Task) (offer_at : X → Offer) (xs : List X) →
+    ((x : X) → (offer_at x).class ≡ class_of_first (first_at x)) → ((x : X) → (offer_at x).rank ≡ rank_of_first (first_at x)) →
+    ((x : X) → (offer_at x).snapshot ≡ snapshot_of_first snapshot (first_at x)) → All IsFirst (map first_at xs) →
+    AreOffersOf snapshot (map first_at xs) (map offer_at xs)
+AreOffersOf-map snapshot first_at offer_at xs class rank of_home are_firsts = record {
+  classes = map_map_alike (λ (o : Offer). o.class) class_of_first offer_at first_at class xs;
+  ranks = map_map_alike (λ (o : Offer). o.rank) rank_of_first offer_at first_at rank xs;
+  snapshots = map_map_alike (λ (o : Offer). o.snapshot) (snapshot_of_first snapshot) offer_at first_at of_home xs;
+  priorities = are_firsts;
+}

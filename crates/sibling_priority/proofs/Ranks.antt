@@ -3,16 +3,20 @@ use Rattle.std.proofs.Common.{◌≡◌, ℕ, ◌+◌, Bool, true, false, ltb, e
 use Rattle.std.specs.Prelude.{◌&&◌, ◌||◌}
 use Rattle.std.specs.Cmp.{IsStrictWeakOrder}
 use Rattle.std.proofs.lemmas.Bool.Decides.{nat_tests}
-use Rattle.sibling_priority.specs.Offers.{deadline_class, real_time_class, fair_class}
+use Rattle.cs_types.specs.Order.{deadline_class, real_time_class, fair_class}
 use Rattle.sibling_priority.specs.Offers.{is_higher_offer}
+
+-- the order over the classes c and d, and what is less within the deadline, the real-time and the fair class
+abbrev pub by_class : (c d : ℕ) (deadline real_time fair : Bool) → Bool
+by_class c d deadline real_time fair =
+    ltb c d
+    || ((eqb c deadline_class && eqb d deadline_class) && deadline)
+    || ((eqb c real_time_class && eqb d real_time_class) && real_time)
+    || ((eqb c fair_class && eqb d fair_class) && fair)
 
 -- the order over the classes c and d, the ranks r and s, and the snapshots u and v
 abbrev pub higher_by : (c d r s u v : ℕ) → Bool
-higher_by c d r s u v =
-    ltb c d
-    || ((eqb c deadline_class && eqb d deadline_class) && ltb r s)
-    || ((eqb c real_time_class && eqb d real_time_class) && ltb r s)
-    || ((eqb c fair_class && eqb d fair_class) && ltb (r + v) (s + u))
+higher_by c d r s u v = by_class c d (ltb r s) (ltb r s) (ltb (r + v) (s + u))
 
 one_way : (c d r s u v : ℕ) → higher_by c d r s u v ≡ true → higher_by d c s r v u ≡ false
 one_way c d r s u v h = grind (arith, nat_tests)

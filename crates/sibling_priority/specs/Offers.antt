@@ -1,26 +1,13 @@
 -- Offers: which of two is higher (`prio_less`, kernel/sched/core.c), and which offer stands for a task.
-use Rattle.std.specs.Prelude.{◌≡◌, ℕ, ◌+◌, ◌-◌, ◌^◌, ◌<◌, Bool, ◌==◌, ◌&&◌, ◌||◌, not, nat_lt, List, map, All, Option, Some, None, IfSome, unwrap_or}
+use Rattle.std.specs.Prelude.{◌≡◌, ℕ, ◌+◌, ◌^◌, ◌<◌, Bool, ◌==◌, ◌&&◌, ◌||◌, not, nat_lt, List, map, All, Option, Some, None, IfSome, unwrap_or}
 use Rattle.std.specs.List.{list_all}
+use Rattle.std.specs.Option.{option_map_or}
 use Rattle.cs_types.specs.declared.task.Task.{Task}
-use Rattle.cs_types.specs.declared.task.Policy.{Policy}
-use Rattle.cs_types.specs.declared.task.Policy.TheVariants.{Fifo}
 use Rattle.cs_types.specs.Scenario.{IsPolicy}
+use Rattle.cs_types.specs.Order.{deadline_class, real_time_class, fair_class, idle_class, class_of}
 use Rattle.cs_types.specs.Selection.{pid_of}
+use Rattle.cs_types.specs.Queue.{rank_by}
 use Rattle.sibling_priority.specs.declared.offer.Offer.{Offer}
-
--- ---- the classes, from the highest: stop, deadline, real-time (FIFO and RR), fair, idle (`__task_prio`)
-
-abbrev pub deadline_class : ℕ
-deadline_class = 1
-
-abbrev pub real_time_class : ℕ
-real_time_class = 2
-
-abbrev pub fair_class : ℕ
-fair_class = 3
-
-abbrev pub idle_class : ℕ
-idle_class = 4
 
 -- ---- the order
 
@@ -48,40 +35,41 @@ IsInRange offer = offer.class ≡ fair_class → (offer.rank < 2 ^ 127) × (offe
 
 -- ---- the offer of a first task
 
--- the class of a policy, and the rank within that class
-abbrev pub class_of_policy : Policy → ℕ
-class_of_policy (Fifo priority) = real_time_class
+-- the class and the rank of a sibling's first task, none for idle, and the snapshot of its home
+abbrev pub class_of_first : Option Task → ℕ
+class_of_first None = idle_class
+class_of_first (Some task) = class_of task.spec.policy
 
-abbrev pub rank_of_policy : Policy → ℕ
-rank_of_policy (Fifo priority) = 99 - priority
+abbrev pub rank_of_first : Option Task → ℕ
+rank_of_first None = 0
+rank_of_first (Some task) = rank_by task.spec.policy task.deadline task.vtime
 
--- the same of a sibling's first task, none for idle
-abbrev pub class_of : Option Task → ℕ
-class_of None = idle_class
-class_of (Some task) = class_of_policy task.spec.policy
+abbrev pub snapshot_of_first : (ℕ → ℕ) → Option Task → ℕ
+snapshot_of_first snapshot first = option_map_or (λ task. snapshot task.home) first 0
 
-abbrev pub rank_of : Option Task → ℕ
-rank_of None = 0
-rank_of (Some task) = rank_of_policy task.spec.policy
-
--- the offer of a sibling, from its snapshot and its first task
-abbrev pub offer_of : ℕ → ℕ → Option Task → Offer
-offer_of cpu snapshot first =
+-- the offer of a sibling with this first task
+abbrev pub offer_of : (ℕ → ℕ) → ℕ → Option Task → Offer
+offer_of snapshot cpu first =
     record {
       cpu = cpu;
       pid = unwrap_or (pid_of first) 0;
-      class = class_of first;
-      rank = rank_of first;
-      snapshot = snapshot;
+      class = class_of_first first;
+      rank = rank_of_first first;
+      snapshot = snapshot_of_first snapshot first;
     }
 
--- a first task whose priority is in range, or idle
+-- a first task whose policy keeps its limits, or idle
 abbrev pub IsFirst : Option Task → Type 0
 IsFirst first = IfSome first (λ task. IsPolicy task.spec.policy)
 
--- The offers are those of these first tasks, in order: each has the class and the rank of its first, whatever its
--- sibling, its pid and its snapshot.
-pub record AreOffersOf (firsts : List (Option Task)) (offers : List Offer) : Type 0 where
-  pub classes : map (λ offer. offer.class) offers ≡ map class_of firsts
-  pub ranks : map (λ offer. offer.rank) offers ≡ map rank_of firsts
+-- a first task whose virtual time is in range where it is fair, or idle
+abbrev pub IsTimeInRange : Option Task → Type 0
+IsTimeInRange first = IfSome first (λ task. class_of task.spec.policy ≡ fair_class → task.vtime < 2 ^ 127)
+
+-- The offers are those of these first tasks, in order: each has the class and the rank of its first and the snapshot of
+-- that one's home, whatever its sibling and its pid.
+pub record AreOffersOf (snapshot : ℕ → ℕ) (firsts : List (Option Task)) (offers : List Offer) : Type 0 where
+  pub classes : map (λ offer. offer.class) offers ≡ map class_of_first firsts
+  pub ranks : map (λ offer. offer.rank) offers ≡ map rank_of_first firsts
+  pub snapshots : map (λ offer. offer.snapshot) offers ≡ map (snapshot_of_first snapshot) firsts
   pub priorities : All IsFirst firsts

@@ -1,20 +1,20 @@
 //! What a sibling puts up for a selection. It is plain numbers, so that the order reads no task and
 //! no queue.
 
-use cs_types::{Cpu, Pid};
+use cs_types::{Cpu, Pid, Queued};
 
 /// The class of the stop task (`stop_sched_class`), the highest of the five. Their numbers rise
 /// where the kernel's `__task_prio` rises.
-pub const STOP: u8 = 0;
+pub const STOP: u8 = Queued::STOP;
 
 /// The class of deadline tasks (`dl_sched_class`).
-pub const DEADLINE: u8 = 1;
+pub const DEADLINE: u8 = Queued::DEADLINE;
 
 /// The class of FIFO and RR tasks (`rt_sched_class`).
-pub const REAL_TIME: u8 = 2;
+pub const REAL_TIME: u8 = Queued::REAL_TIME;
 
 /// The class of fair tasks (`fair_sched_class`).
-pub const FAIR: u8 = 3;
+pub const FAIR: u8 = Queued::FAIR;
 
 /// The class of a sibling that has no task (`idle_sched_class`), the lowest.
 pub const IDLE: u8 = 4;

@@ -1,7 +1,7 @@
 //! Which of two offers is higher, and the lead of many. A selection compares the offers of distinct
 //! siblings here, and nothing else decides between siblings.
 
-ghost use Rattle.std.specs.Prelude.{◌≡◌, ◌<◌, length, All, List, Option, Some, None, position, slice_index_or};
+ghost use Rattle.std.specs.Prelude.{◌≡◌, ℕ, ◌<◌, length, All, List, [], ◌∷◌, Option, Some, None, position, slice_index_or};
 ghost use Rattle.cs_types.specs.declared.task.Task.{Task};
 ghost use Rattle.cs_types.specs.Order.{foremost, outranks};
 ghost use Rattle.sibling_priority.specs.Offers.{is_higher_offer, is_highest, IsInRange, AreOffersOf};
@@ -14,7 +14,11 @@ use crate::offer::{DEADLINE, FAIR, Offer, REAL_TIME};
 pub fn higher(a: &Offer, b: &Offer) -> bool
     requires a_in_range { IsInRange a.now }
     requires b_in_range { IsInRange b.now }
-    ensures { result ≡ is_higher_offer a.now b.now }
+    ensures order { result ≡ is_higher_offer a.now b.now }
+
+    // The offers of two first tasks stand in the order of those tasks.
+    ensures model { (snapshot : ℕ → ℕ) (first second : Option Task) →
+        AreOffersOf snapshot (first ∷ second ∷ []) (a.now ∷ b.now ∷ []) → result ≡ outranks snapshot first second }
 {
     if a.class != b.class {
         return a.class < b.class;
@@ -36,8 +40,8 @@ pub fn lead(offers: &[Offer]) -> usize
     ensures first { position (is_highest offers.now) offers.now ≡ Some result }
 
     // The lead of the siblings' offers is at the place of the lead of their first tasks.
-    ensures model { (firsts : List (Option Task)) → AreOffersOf firsts offers.now →
-        foremost outranks firsts ≡ Some (slice_index_or firsts result None) }
+    ensures model { (snapshot : ℕ → ℕ) (firsts : List (Option Task)) → AreOffersOf snapshot firsts offers.now →
+        foremost (outranks snapshot) firsts ≡ Some (slice_index_or firsts result None) }
 {
     let mut best = 0;
     for place in 1..offers.len() {

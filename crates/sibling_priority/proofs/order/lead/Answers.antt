@@ -18,9 +18,9 @@ loop-place-preserved c =
     let within = c.loop-place-test.true in
     elim c.if-higher.branch [
       | then-higher w ↦ rw w.best-is (first_best_takes is_higher_offer_is_order c.args.offers.now blank c.loop-place.place c.loop-place.best
-          so_far within (sym c.higher.ensures ∙ w.if-higher.true))
+          so_far within (sym c.higher.ensures.order ∙ w.if-higher.true))
       | else-higher w ↦ rw w.best-is (first_best_keeps is_higher_offer_is_order c.args.offers.now blank c.loop-place.place c.loop-place.best
-          so_far within (sym c.higher.ensures ∙ w.if-higher.false))
+          so_far within (sym c.higher.ensures.order ∙ w.if-higher.false))
     ]
 
 -- at the end the scan has seen every offer
@@ -33,4 +33,4 @@ pub returns-clause-first : goal.returns-clause-first
 returns-clause-first c = position-first_best is_higher_offer c.args.offers.now c.loop-place.best blank (seen c)
 
 pub returns-clause-model : goal.returns-clause-model
-returns-clause-model c firsts are = foremost-offers firsts c.args.offers.now are c.loop-place.best (seen c)
+returns-clause-model c snapshot firsts are = foremost-offers snapshot firsts c.args.offers.now are c.loop-place.best (seen c)
