@@ -1,0 +1,8 @@
+//! The fair class of one sibling (`fair_sched_class`): the queue of its tasks, and their weights.
+#![tactic(auto)]
+
+mod queue;
+mod weights;
+
+pub use queue::FairQueue;
+pub use weights::{grow, weight};

@@ -1,0 +1,6 @@
+//! The real-time class (`rt_sched_class`): the queue of its tasks on one sibling.
+#![tactic(auto)]
+
+mod queue;
+
+pub use queue::RtQueue;

@@ -1,0 +1,43 @@
+use Rattle.std.proofs.Common.{◌≡◌, ◌≤◌, ◌∙◌, sym, ap, Option, List, ℕ}
+use Rattle.std.specs.List.{All}
+use Rattle.std.specs.Option.{option_map}
+use Rattle.cs_types.specs.declared.task.Task.{Task}
+use Rattle.cs_types.specs.Order.{priority_of, first_of}
+use Rattle.cs_types.specs.Queue.{top_of, Seats, queue_of}
+use Rattle.cs_types.proofs.Queues.{top_of-queue_of}
+use Rattle.run_queue.proofs.Seats.{top_of-stop, top_of-deadline, top_of-real_time, top_of-fair}
+use Rattle.run_queue.proofs.queue.RunQueue.first.Goals as goal
+
+-- the top of the queue of some tasks is the first of them
+model : (queued : Seats) (first : Option ℕ) → first ≡ top_of queued → (tasks : List Task) → queued ≡ queue_of tasks →
+    All (λ task. priority_of task.spec.policy ≤ 99) tasks → first ≡ option_map (λ task. task.spec.pid) (first_of tasks)
+model queued first is tasks same low = is ∙ ap top_of same ∙ top_of-queue_of tasks low
+
+pub returns-in-Some-clause-first : goal.returns-in-Some-clause-first
+returns-in-Some-clause-first g c = rw (← c.self.view_is) (sym (top_of-stop c.self.inside.stop.members c.self.inside.deadline.members c.self.inside.real_time.members c.self.inside.fair.members c.in-Some.pid (sym c.in-Some.ensures)))
+
+pub returns-in-Some-clause-model : goal.returns-in-Some-clause-model
+returns-in-Some-clause-model g c = model _ _ (returns-in-Some-clause-first g c)
+
+pub returns-in-Some-top-clause-first : goal.returns-in-Some-top-clause-first
+returns-in-Some-top-clause-first g c =
+    rw (← c.self.view_is) (sym (top_of-deadline c.self.inside.stop.members c.self.inside.deadline.members c.self.inside.real_time.members c.self.inside.fair.members c.in-Some-top.pid (sym c.in_default.ensures) (sym c.in-Some-top.ensures)))
+
+pub returns-in-Some-top-clause-model : goal.returns-in-Some-top-clause-model
+returns-in-Some-top-clause-model g c = model _ _ (returns-in-Some-top-clause-first g c)
+
+pub returns-in-Some-top-2-clause-first : goal.returns-in-Some-top-2-clause-first
+returns-in-Some-top-2-clause-first g c =
+    rw (← c.self.view_is)
+    (sym (top_of-real_time c.self.inside.stop.members c.self.inside.deadline.members c.self.inside.real_time.members c.self.inside.fair.members c.in-Some-top-2.pid (sym c.in_default.ensures) (sym c.in_default-top.ensures) (sym c.in-Some-top-2.ensures)))
+
+pub returns-in-Some-top-2-clause-model : goal.returns-in-Some-top-2-clause-model
+returns-in-Some-top-2-clause-model g c = model _ _ (returns-in-Some-top-2-clause-first g c)
+
+pub returns-clause-first : goal.returns-clause-first
+returns-clause-first g c =
+    rw (← c.self.view_is)
+    (sym (top_of-fair c.self.inside.stop.members c.self.inside.deadline.members c.self.inside.real_time.members c.self.inside.fair.members c.top-4.result (sym c.in_default.ensures) (sym c.in_default-top.ensures) (sym c.in_default-top-2.ensures) (sym c.top-4.ensures)))
+
+pub returns-clause-model : goal.returns-clause-model
+returns-clause-model g c = model _ _ (returns-clause-first g c)

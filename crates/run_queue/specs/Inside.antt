@@ -1,0 +1,38 @@
+-- Inside: how a run queue is stored, and what always holds of it.
+use Rattle.std.specs.Prelude.{ℕ, ◌+◌, ◌-◌, ◌^◌, ◌<◌, ◌≤◌, List, [], ◌++◌, map}
+use Rattle.std.specs.FinMap.{entries, from_sorted, len}
+use Rattle.cs_types.specs.Queue.{Members, Ranked, Seat, Seated}
+use Rattle.run_queue.specs.declared.queue.RunQueue.TheInside.{Inside}
+
+-- the tasks of a class by rising place, each at its seat
+abbrev pub seats_in : ℕ → Members → List (Seat × ℕ)
+seats_in class members = map (λ entry. ((class, entry.0), entry.1)) (entries members)
+
+-- the tasks of all classes by rising seat
+abbrev pub joined : Members → Members → Members → Members → List (Seat × ℕ)
+joined stop deadline real_time fair = seats_in 0 stop ++ (seats_in 1 deadline ++ (seats_in 2 real_time ++ (seats_in 3 fair ++ [])))
+
+-- how many there are
+abbrev pub count : Inside → ℕ
+count queue = len queue.stop.members + len queue.deadline.members + len queue.real_time.members + len queue.fair.members
+
+-- what contracts see of it
+abbrev pub seated_of : Inside → Seated
+seated_of queue =
+    record {
+      tasks = from_sorted (joined queue.stop.members queue.deadline.members queue.real_time.members queue.fair.members);
+      spare = queue.limit - count queue;
+    }
+
+-- whether a class has room for so many tasks in all
+abbrev pub Holds : ℕ → Ranked → Type 0
+Holds limit queue = limit ≤ len queue.members + queue.spare
+
+-- There are as many tasks as the limit at most, for which each class has room.
+pub record IsSound (queue : Inside) : Type 0 where
+  pub few : count queue ≤ queue.limit
+  pub limit_fits : queue.limit < 2 ^ 32
+  pub stop : Holds queue.limit queue.stop
+  pub deadline : Holds queue.limit queue.deadline
+  pub real_time : Holds queue.limit queue.real_time
+  pub fair : Holds queue.limit queue.fair
