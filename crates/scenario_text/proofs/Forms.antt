@@ -5,7 +5,7 @@ use Rattle.std.proofs.lemmas.List.{nil_from_length}
 use Rattle.std.specs.Prelude.{codes}
 use Rattle.cs_types.specs.declared.event.Actor.{Actor}
 use Rattle.cs_types.specs.declared.event.Event.{Event}
-use Rattle.cs_types.specs.declared.event.Event.TheVariants.{Turn, Resched, Block, Exit, Wake, Fork, Prctl}
+use Rattle.cs_types.specs.declared.event.Event.TheVariants.{Turn, Resched, Block, Exit, Tick, Wake, Advance, Fork, Prctl}
 use Rattle.cs_types.specs.declared.event.Step.{Step}
 use Rattle.cs_types.specs.declared.task.TaskSpec.{TaskSpec}
 use Rattle.cs_types.specs.Scenario.{IsTask, IsStep}
@@ -94,7 +94,9 @@ few_step actor (Turn cpu) = refl
 few_step actor (Resched cpu) = refl
 few_step actor (Block cpu) = refl
 few_step actor (Exit cpu) = refl
+few_step actor (Tick cpu) = refl
 few_step actor (Wake pid) = refl
+few_step actor (Advance delta) = refl
 few_step actor (Fork caller thread) = refl
 few_step actor (Prctl caller ask) = refl
 

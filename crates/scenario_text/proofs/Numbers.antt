@@ -1,6 +1,6 @@
 -- Numbers: a word that is read as a number is the number's decimal, and that decimal is read as the number.
 use Rattle.std.proofs.Common.{◌≡◌, ℕ, suc, ◌^◌, ◌<◌, ◌≤◌, Bool, true, false, cond, eqb, leb, [], ◌∷◌, length, get_or, Result, Ok, Err, refl, sym, ap, subst, ◌∙◌, arith, inl, inr}
-use Rattle.std.specs.Prelude.{decimal, ◌&&◌, ◌||◌, not}
+use Rattle.std.specs.Prelude.{decimal, ◌&&◌, ◌||◌, not, ℤ, pos, negsuc}
 use Rattle.std.specs.Char.{is_ascii_digit}
 use Rattle.std.specs.Str.{all_ascii_digits, IsUtf8}
 use Rattle.std.specs.Str.Parse.{digits_value, ParsesUnsigned}
@@ -16,6 +16,11 @@ use Rattle.scenario_text.specs.Reading.{Read, refused, is_canonical, is_number, 
 -- the words that `parse` reads
 digits_model : IsNumeralModel (λ ds. all_ascii_digits ds ≡ true) (digits_value 10)
 digits_model = numerals_by_value (λ ds. all_ascii_digits ds ≡ true) tells_all_ascii_digits
+
+-- from -below to above; `negsuc n` is -1 - n
+abbrev pub IsSignedWithin : ℕ → ℕ → ℤ → Type 0
+IsSignedWithin below above (pos n) = n ≤ above
+IsSignedWithin below above (negsuc n) = n < below
 
 -- ---- canonical words
 

@@ -1,5 +1,5 @@
 -- Readings: what is read has what each of its parts has, and what is spelled so is read.
-use Rattle.std.proofs.Common.{◌≡◌, ℕ, suc, ◌^◌, ◌<◌, ◌≤◌, Bool, true, false, cond, eqb, ltb, leb, List, [], ◌∷◌, length, map, drop, Ok, Err, refl, sym, subst, ◌∙◌, arith, zero-le}
+use Rattle.std.proofs.Common.{◌≡◌, ℕ, suc, ◌^◌, ◌<◌, ◌≤◌, Bool, true, false, cond, eqb, ltb, leb, List, [], ◌∷◌, ◌++◌, length, map, take, drop, Ok, Err, refl, sym, ap, subst, ◌∙◌, arith, zero-le, take-append-drop}
 use Rattle.std.specs.Prelude.{decimal, ℤ, pos, negsuc, ◌-◌}
 use Rattle.std.specs.Fmt.{signed_decimal}
 use Rattle.std.specs.List.{range_with_len}
@@ -8,11 +8,11 @@ use Rattle.std.proofs.lemmas.Bool.{eqb-true, leb-true, ltb-true, lt-ltb}
 use Rattle.std.proofs.lemmas.Slice.Eq.{bytes_eq-Decides}
 use Rattle.std.proofs.lemmas.List.{ext_get_or, length-drop, get_or-drop}
 use Rattle.std.proofs.lemmas.List.FromFn.{length-map-range_with_len, get_or-map-range_with_len}
-use Rattle.cs_types.specs.Scenario.{IsWithin, IsPid}
+use Rattle.cs_types.specs.Scenario.{IsWithin}
 use Rattle.scenario_text.specs.declared.fault.Refused.{Refused}
 use Rattle.scenario_text.specs.Words.{Word, flag_word}
-use Rattle.scenario_text.specs.Reading.{◌>>=◌, Read, refused, check, Parts, parts, after, reading_named, number_of, signed_of, flag_of, cpu_of}
-use Rattle.scenario_text.proofs.Numbers.{taken, decimal_unsigned, number_takes, number_again}
+use Rattle.scenario_text.specs.Reading.{◌>>=◌, Read, refused, check, Parts, parts, after, reading_named, reading_after, number_of, signed_of, flag_of, cpu_of}
+use Rattle.scenario_text.proofs.Numbers.{IsSignedWithin, taken, decimal_unsigned, number_takes, number_again}
 
 -- whatever is read has the property
 pub record Each {A : Type 0} (read : Read A) (P : A → Type 0) : Type 0 where
@@ -63,6 +63,24 @@ each_named P (form ∷ forms) name h =
     each_if (bytes_eq name form.0) form.1 (reading_named forms name) (P name)
     (λ is. subst (λ (w : Word). Each form.1 (P w)) (sym ((bytes_eq-Decides name form.0).0 is)) h.0)
     (λ no. each_named P forms name h.1)
+
+-- each form reads what has the property at its mark and what stands after it
+abbrev pub EachAfter : {A : Type 0} → (Word → A → Type 0) → List (Word × (Word → Read A)) → Type 0
+EachAfter P [] = Unit {0}
+EachAfter P (form ∷ forms) = ((rest : Word) → Each (form.1 rest) (P (form.0 ++ rest))) × EachAfter P forms
+
+pub each_after : {A : Type 0} (P : Word → A → Type 0) (forms : List (Word × (Word → Read A))) (word : Word) → EachAfter P forms → Each (reading_after forms word) (P word)
+unfolding reading_after
+each_after P [] word h = each_refused (P word)
+each_after P (form ∷ forms) word h =
+    let mark = take (length form.0) word in
+    let rest = drop (length form.0) word in
+    each_if (bytes_eq mark form.0) (form.1 rest) (reading_after forms word) (P word)
+    (λ is.
+    let whole : word ≡ form.0 ++ rest =
+    sym (take-append-drop (length form.0) word) ∙ ap (λ (w : Word). w ++ rest) ((bytes_eq-Decides mark form.0).0 is) in
+    subst (λ (w : Word). Each (form.1 rest) (P w)) (sym whole) (h.0 rest))
+    (λ no. each_after P forms word h.1)
 
 -- what is read is read after one reading, and then another
 pub bind : {A B P : Type 0} (read : Read A) (f : A → Read B) (y : B) → (read >>= f) ≡ Ok y → ((x : A) → read ≡ Ok x → f x ≡ Ok y → P) → P
@@ -120,26 +138,26 @@ each_counted P words n forms other h k =
 pub each_number : (low high : ℕ) (word : Word) → high < 2 ^ 64 → Each (number_of low high word) (λ n. (word ≡ decimal n) × IsWithin low high n)
 each_number low high word small = record { all = λ n e. number_takes low high word n small e }
 
-pub each_signed : (word : Word) → Each (signed_of word) (λ z. (word ≡ signed_decimal z) × IsPid z)
-unfolding signed_of
-each_signed [] = each_bind _ _ _ _ (each_number 0 2147483647 [] (omega arith)) (λ n is. each_ok _ _ (is.0, omega (arith, is.1)))
-each_signed (first ∷ digits) =
-    each_if (eqb first 45) _ _ _
-    (λ minus.
-    each_bind _ _ _ _ (each_number 1 2147483648 digits (omega arith)) (λ n is.
-    let whole : suc (n - 1) ≡ n = omega (arith, is.1) in
-    each_ok _ _ (rw (eqb-true first 45 minus, is.0, whole) refl, omega (arith, is.1))))
-    (λ plus.
-    each_bind _ _ _ _ (each_number 0 2147483647 (first ∷ digits) (omega arith)) (λ n is.
-    each_ok _ _ (is.0, omega (arith, is.1))))
+module _ (below above : ℕ) (small : (below < 2 ^ 64) × (above < 2 ^ 64)) where
+  pub each_signed : (word : Word) → Each (signed_of below above word) (λ z. (word ≡ signed_decimal z) × IsSignedWithin below above z)
+  unfolding signed_of
+  each_signed [] = each_bind _ _ _ _ (each_number 0 above [] small.1) (λ n is. each_ok _ _ (is.0, is.1.1))
+  each_signed (first ∷ digits) =
+      each_if (eqb first 45) _ _ _
+      (λ minus.
+      each_bind _ _ _ _ (each_number 1 below digits small.0) (λ n is.
+      let whole : suc (n - 1) ≡ n = omega (arith, is.1) in
+      each_ok _ _ (rw (eqb-true first 45 minus, is.0, whole) refl, omega (arith, is.1))))
+      (λ plus.
+      each_bind _ _ _ _ (each_number 0 above (first ∷ digits) small.1) (λ n is. each_ok _ _ (is.0, is.1.1)))
 
-pub signed_again : (z : ℤ) → IsPid z → signed_of (signed_decimal z) ≡ Ok z
-unfolding signed_of
-signed_again (pos n) is =
-    rw (decimal_unsigned n (omega arith), number_again 0 2147483647 n (omega arith) (zero-le, omega arith)) refl
-signed_again (negsuc n) is =
-    let below : suc n - 1 ≡ n = omega arith in
-    rw (number_again 1 2147483648 (suc n) (omega arith) (omega arith, omega arith), below) refl
+  pub signed_again : (z : ℤ) → IsSignedWithin below above z → signed_of below above (signed_decimal z) ≡ Ok z
+  unfolding signed_of
+  signed_again (pos n) is =
+      rw (decimal_unsigned n (omega (arith, small.1)), number_again 0 above n small.1 (zero-le, is)) refl
+  signed_again (negsuc n) is =
+      let same : suc n - 1 ≡ n = omega arith in
+      rw (number_again 1 below (suc n) small.0 (omega arith, omega arith), same) refl
 
 pub each_flag : (word : Word) → Each (flag_of word) (λ flag. word ≡ flag_word flag)
 unfolding flag_of

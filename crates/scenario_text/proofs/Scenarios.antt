@@ -1,16 +1,17 @@
 -- Scenarios: what is read from a text is the scenario of the text, and the text of a scenario is read as it.
 use Rattle.std.proofs.Common.{◌≡◌, ℕ, ◌<◌, Bool, true, false, List, [], ◌∷◌, ◌++◌, map, Result, Ok, Err, refl, sym, ap, subst, ◌∙◌, arith, append_assoc, inl, inr}
 use Rattle.std.specs.Prelude.{◌⊎◌, MatchResult, IfOk, IfErr, decimal, codes}
+use Rattle.std.specs.Fmt.{signed_decimal}
 use Rattle.std.specs.List.{AllByRecursion}
 use Rattle.std.proofs.lemmas.List.Elements.{recursion_from_All, All-nil}
 use Rattle.cs_types.specs.declared.task.Policy.{Policy}
-use Rattle.cs_types.specs.declared.task.Policy.TheVariants.{Fifo}
+use Rattle.cs_types.specs.declared.task.Policy.TheVariants.{Stop, Deadline, Fifo, Rr, Fair}
 use Rattle.cs_types.specs.declared.task.TaskSpec.{TaskSpec}
 use Rattle.cs_types.specs.declared.event.Actor.{Actor}
 use Rattle.cs_types.specs.declared.event.Actor.TheVariants.{Sibling, Caller}
 use Rattle.cs_types.specs.declared.event.Ask.{Ask}
 use Rattle.cs_types.specs.declared.event.Event.{Event}
-use Rattle.cs_types.specs.declared.event.Event.TheVariants.{Turn, Resched, Block, Exit, Wake, Fork, Prctl}
+use Rattle.cs_types.specs.declared.event.Event.TheVariants.{Turn, Resched, Block, Exit, Tick, Wake, Advance, Fork, Prctl}
 use Rattle.cs_types.specs.declared.event.Step.{Step}
 use Rattle.cs_types.specs.declared.scenario.Scenario.{Scenario}
 use Rattle.cs_types.specs.Scenario.{IsPolicy, IsTask, IsAsk, IsEvent, IsStep, IsBuilt}
@@ -23,7 +24,8 @@ use Rattle.scenario_text.specs.Text.{line, version_words, siblings_words, limits
 use Rattle.scenario_text.specs.Reading.{Read, refused, Gives, Contents, lines_in, head_at, plan_of, scenario_of}
 use Rattle.scenario_text.specs.Reader.{IsTextOf, HasNoScenario, HasOneScenario}
 use Rattle.scenario_text.proofs.Readings.{bind, ok_is}
-use Rattle.scenario_text.proofs.Steps.{by, sibling_within, caller_within}
+use Rattle.scenario_text.proofs.Tasks.{nice_is}
+use Rattle.scenario_text.proofs.Steps.{by, pid_is, sibling_within, caller_within}
 use Rattle.scenario_text.proofs.Heads.{IsHead, head_lines, each_head, head_again}
 use Rattle.scenario_text.proofs.Building.{IsPlan, plan_lines, end_lines, has_first, each_plan, plan_again}
 use Rattle.scenario_text.proofs.Texts.{IsPlain, ArePlain, plain_word, plain_decimal, plain_signed, plain-append, ArePlain-append, lines_in-flat_map, text_is}
@@ -126,8 +128,15 @@ plain_flag true = plain_word _ refl refl
 plain_flag false = plain_word _ refl refl
 
 plain_policy : (policy : Policy) → IsPolicy policy → IsPlain (policy_word policy)
+plain_policy Stop is = plain_word _ refl refl
+plain_policy (Deadline relative) is =
+    plain-append (codes "dl:") (decimal relative) (plain_word _ refl refl) (plain_decimal relative (omega arith))
 plain_policy (Fifo priority) is =
     plain-append (codes "fifo:") (decimal priority) (plain_word _ refl refl) (plain_decimal priority (omega arith))
+plain_policy (Rr priority) is =
+    plain-append (codes "rr:") (decimal priority) (plain_word _ refl refl) (plain_decimal priority (omega arith))
+plain_policy (Fair nice) is =
+    plain-append (codes "fair:") (signed_decimal nice) (plain_word _ refl refl) (plain_signed 20 19 nice (omega arith) (omega arith) ((nice_is nice).1 is))
 
 plain_task : (siblings : ℕ) (task : TaskSpec) → siblings < 256 → IsTask siblings task → AllByRecursion IsPlain (task_words task)
 plain_task siblings task few is =
@@ -147,7 +156,7 @@ plain_actor siblings (Caller j) event few is =
 
 plain_ask : (ask : Ask) → IsAsk ask → AllByRecursion IsPlain (ask_words ask)
 plain_ask ask is =
-    (plain_decimal ask.cmd (omega (arith, is.cmd)), (plain_signed ask.pid is.pid, (plain_decimal ask.scope (omega (arith, is.scope)), (plain_decimal ask.addr is.addr, tt))))
+    (plain_decimal ask.cmd (omega (arith, is.cmd)), (plain_signed 2147483648 2147483647 ask.pid (omega arith) (omega arith) ((pid_is ask.pid).1 is.pid), (plain_decimal ask.scope (omega (arith, is.scope)), (plain_decimal ask.addr is.addr, tt))))
 
 plain_child : (thread : Bool) → IsPlain (child_word thread)
 plain_child true = plain_word _ refl refl
@@ -158,7 +167,9 @@ plain_event siblings (Turn cpu) is = (plain_word _ refl refl, tt)
 plain_event siblings (Resched cpu) is = (plain_word _ refl refl, tt)
 plain_event siblings (Block cpu) is = (plain_word _ refl refl, tt)
 plain_event siblings (Exit cpu) is = (plain_word _ refl refl, tt)
+plain_event siblings (Tick cpu) is = (plain_word _ refl refl, tt)
 plain_event siblings (Wake pid) is = (plain_word _ refl refl, (plain_decimal pid (omega arith), tt))
+plain_event siblings (Advance delta) is = (plain_word _ refl refl, (plain_decimal delta (omega arith), tt))
 plain_event siblings (Fork caller thread) is =
     (plain_word _ refl refl, (plain_decimal caller (omega arith), (plain_child thread, tt)))
 plain_event siblings (Prctl caller ask) is =

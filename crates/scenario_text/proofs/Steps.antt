@@ -1,33 +1,37 @@
 -- Steps: what is read from a step line is spelled by its words, and what is spelled so is read.
-use Rattle.std.proofs.Common.{◌≡◌, ℕ, ◌<◌, Bool, true, false, eqb, List, [], ◌∷◌, ◌++◌, Ok, refl, sym, ap, subst, arith, zero-le}
-use Rattle.std.specs.Prelude.{decimal, codes}
+use Rattle.std.proofs.Common.{◌≡◌, ℕ, ◌<◌, ◌↔◌, Bool, true, false, eqb, List, [], ◌∷◌, ◌++◌, Ok, refl, sym, ap, subst, arith, zero-le}
+use Rattle.std.specs.Prelude.{decimal, codes, ℤ, pos, negsuc}
 use Rattle.std.specs.Fmt.{signed_decimal}
 use Rattle.std.proofs.lemmas.Bool.{eqb-true}
 use Rattle.cs_types.specs.declared.event.Actor.{Actor}
 use Rattle.cs_types.specs.declared.event.Actor.TheVariants.{Sibling, Caller}
 use Rattle.cs_types.specs.declared.event.Ask.{Ask}
 use Rattle.cs_types.specs.declared.event.Event.{Event}
-use Rattle.cs_types.specs.declared.event.Event.TheVariants.{Turn, Resched, Block, Exit, Wake, Fork, Prctl}
+use Rattle.cs_types.specs.declared.event.Event.TheVariants.{Turn, Resched, Block, Exit, Tick, Wake, Advance, Fork, Prctl}
 use Rattle.cs_types.specs.declared.event.Step.{Step}
-use Rattle.cs_types.specs.Scenario.{IsAsk, IsStep}
+use Rattle.cs_types.specs.Scenario.{IsPid, IsAsk, IsStep}
 use Rattle.scenario_text.specs.Words.{Word, actor_word, ask_words, child_word, event_words}
 use Rattle.scenario_text.specs.Text.{step_words}
-use Rattle.scenario_text.specs.Reading.{parts, reading_named, ask_of, wake_of, child_of, fork_of, prctl_of, sibling_event_of, caller_event_of, sibling_step_of, caller_step_of, step_of}
-use Rattle.scenario_text.proofs.Numbers.{number_again}
+use Rattle.scenario_text.specs.Reading.{parts, reading_named, ask_of, wake_of, advance_of, child_of, fork_of, prctl_of, sibling_event_of, caller_event_of, sibling_step_of, caller_step_of, step_of}
+use Rattle.scenario_text.proofs.Numbers.{IsSignedWithin, number_again}
 use Rattle.scenario_text.proofs.Readings.{Each, each_ok, each_refused, each_bind, each_if, each_when, each_named, each_counted, each_number, each_signed, each_cpu, cpu_again, signed_again}
 
 -- ---- the arguments of prctl
+
+pub pid_is : (z : ℤ) → IsSignedWithin 2147483648 2147483647 z ↔ IsPid z
+pid_is (pos n) = (λ is. omega arith, λ is. omega arith)
+pid_is (negsuc n) = (λ is. omega arith, λ is. omega arith)
 
 each_ask : (cmd target scope addr : Word) → Each (ask_of cmd target scope addr) (λ ask. (cmd ∷ target ∷ scope ∷ addr ∷ [] ≡ ask_words ask) × IsAsk ask)
 unfolding ask_of
 each_ask cmd target scope addr =
     each_bind _ _ _ _ (each_number 0 4294967295 cmd (omega arith)) (λ c w0.
-    each_bind _ _ _ _ (each_signed target) (λ t w1.
+    each_bind _ _ _ _ (each_signed 2147483648 2147483647 (omega arith, omega arith) target) (λ t w1.
     each_bind _ _ _ _ (each_number 0 4294967295 scope (omega arith)) (λ s w2.
     each_bind _ _ _ _ (each_number 0 18446744073709551615 addr (omega arith)) (λ a w3.
     each_ok _ _ (
       (cc),
-      record { cmd = omega (arith, w0.1); pid = w1.1; scope = omega (arith, w2.1); addr = omega (arith, w3.1) },
+      record { cmd = omega (arith, w0.1); pid = (pid_is t).0 w1.1; scope = omega (arith, w2.1); addr = omega (arith, w3.1) },
     )))))
 
 ask_again : (ask : Ask) → IsAsk ask → ask_of (decimal ask.cmd) (signed_decimal ask.pid) (decimal ask.scope) (decimal ask.addr) ≡ Ok ask
@@ -35,7 +39,7 @@ unfolding ask_of
 ask_again ask is =
     rw (
       number_again 0 4294967295 ask.cmd (omega arith) (zero-le, omega (arith, is.cmd)),
-      signed_again ask.pid is.pid,
+      signed_again 2147483648 2147483647 (omega arith, omega arith) ask.pid ((pid_is ask.pid).1 is.pid),
       number_again 0 4294967295 ask.scope (omega arith) (zero-le, omega (arith, is.scope)),
       number_again 0 18446744073709551615 ask.addr (omega arith) (zero-le, omega (arith, is.addr)),
     ) refl
@@ -73,7 +77,10 @@ each_sibling_event siblings i words below =
         each_ok _ _ (refl, record { event = below; actor = refl }),
         (
           each_ok _ _ (refl, record { event = below; actor = refl }),
-          (each_ok _ _ (refl, record { event = below; actor = refl }), tt),
+          (
+            each_ok _ _ (refl, record { event = below; actor = refl }),
+            (each_ok _ _ (refl, record { event = below; actor = refl }), tt),
+          ),
         ),
       ),
     ) (each_refused _)
@@ -86,6 +93,12 @@ each_wake : (pid : Word) → Each (wake_of pid) (ReadsCaller (codes "wake" ∷ p
 unfolding wake_of
 each_wake pid =
     each_bind _ _ _ _ (each_number 1 999999 pid (omega arith)) (λ n w.
+    each_ok _ _ ((cc), λ siblings j few. record { event = w.1; actor = few }))
+
+each_advance : (delta : Word) → Each (advance_of delta) (ReadsCaller (codes "advance" ∷ delta ∷ []))
+unfolding advance_of
+each_advance delta =
+    each_bind _ _ _ _ (each_number 1 1000000000 delta (omega arith)) (λ n w.
     each_ok _ _ ((cc), λ siblings j few. record { event = w.1; actor = few }))
 
 each_fork : (caller child : Word) → Each (fork_of caller child) (ReadsCaller (codes "fork" ∷ caller ∷ child ∷ []))
@@ -106,7 +119,7 @@ each_caller_event : (words : List Word) → Each (caller_event_of (parts words))
 unfolding caller_event_of
 each_caller_event words =
     let at = (parts words).at in
-    each_counted ReadsCaller words 1 _ _ (each_wake (at 1), tt)
+    each_counted ReadsCaller words 1 _ _ (each_wake (at 1), (each_advance (at 1), tt))
     (each_counted ReadsCaller words 2 _ _ (each_fork (at 1) (at 2), tt)
     (each_counted ReadsCaller words 5 _ _ (each_prctl (at 1) (at 2) (at 3) (at 4) (at 5), tt) (each_refused _)))
 
@@ -117,10 +130,12 @@ sibling_within siblings i (Turn cpu) is = subst (λ (n : ℕ). n < siblings) is.
 sibling_within siblings i (Resched cpu) is = subst (λ (n : ℕ). n < siblings) is.actor is.event
 sibling_within siblings i (Block cpu) is = subst (λ (n : ℕ). n < siblings) is.actor is.event
 sibling_within siblings i (Exit cpu) is = subst (λ (n : ℕ). n < siblings) is.actor is.event
+sibling_within siblings i (Tick cpu) is = subst (λ (n : ℕ). n < siblings) is.actor is.event
 sibling_within siblings i event is = absurd is.actor
 
 pub caller_within : (siblings j : ℕ) (event : Event) → IsStep siblings (by (Caller j) event) → j < 8
 caller_within siblings j (Wake pid) is = is.actor
+caller_within siblings j (Advance delta) is = is.actor
 caller_within siblings j (Fork caller thread) is = is.actor
 caller_within siblings j (Prctl caller ask) is = is.actor
 caller_within siblings j event is = absurd is.actor
@@ -133,11 +148,13 @@ sibling_event_again siblings i (Turn cpu) is = ap (λ (n : ℕ). Ok (Turn n)) (s
 sibling_event_again siblings i (Resched cpu) is = ap (λ (n : ℕ). Ok (Resched n)) (sym is.actor)
 sibling_event_again siblings i (Block cpu) is = ap (λ (n : ℕ). Ok (Block n)) (sym is.actor)
 sibling_event_again siblings i (Exit cpu) is = ap (λ (n : ℕ). Ok (Exit n)) (sym is.actor)
+sibling_event_again siblings i (Tick cpu) is = ap (λ (n : ℕ). Ok (Tick n)) (sym is.actor)
 sibling_event_again siblings i event is = absurd is.actor
 
 caller_event_again : (siblings j : ℕ) (event : Event) → IsStep siblings (by (Caller j) event) → caller_event_of (parts (event_words event)) ≡ Ok event
-unfolding caller_event_of reading_named wake_of fork_of prctl_of
+unfolding caller_event_of reading_named wake_of advance_of fork_of prctl_of
 caller_event_again siblings j (Wake pid) is = rw (number_again 1 999999 pid (omega arith) is.event) refl
+caller_event_again siblings j (Advance delta) is = rw (number_again 1 1000000000 delta (omega arith) is.event) refl
 caller_event_again siblings j (Fork caller thread) is =
     rw (number_again 1 999999 caller (omega arith) is.event, child_again thread) refl
 caller_event_again siblings j (Prctl caller ask) is =

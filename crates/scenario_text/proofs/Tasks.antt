@@ -1,32 +1,61 @@
 -- Tasks: what is read from a task line is spelled by its words, and what is spelled so is read.
-use Rattle.std.proofs.Common.{◌≡◌, ℕ, ◌<◌, ◌≤◌, eqb, leb, List, [], ◌∷◌, ◌++◌, length, take, drop, Ok, refl, sym, ap, subst, ◌∙◌, arith, zero-le, take-append-drop, drop-cons}
-use Rattle.std.specs.Prelude.{decimal, codes}
+use Rattle.std.proofs.Common.{◌≡◌, ℕ, ◌^◌, ◌<◌, ◌≤◌, ◌↔◌, eqb, leb, List, [], ◌∷◌, ◌++◌, length, drop, Ok, refl, sym, ap, subst, ◌∙◌, arith, zero-le, drop-cons}
+use Rattle.std.specs.Prelude.{decimal, codes, ℤ, pos, negsuc}
 use Rattle.std.specs.Str.{bytes_eq}
 use Rattle.std.proofs.lemmas.Bool.{eqb-true, leb-true}
 use Rattle.std.proofs.lemmas.Slice.Eq.{bytes_eq-Decides}
 use Rattle.cs_types.specs.declared.task.Policy.{Policy}
-use Rattle.cs_types.specs.declared.task.Policy.TheVariants.{Fifo}
+use Rattle.cs_types.specs.declared.task.Policy.TheVariants.{Stop, Deadline, Fifo, Rr, Fair}
 use Rattle.cs_types.specs.declared.task.Creds.{Creds}
 use Rattle.cs_types.specs.declared.task.TaskSpec.{TaskSpec}
-use Rattle.cs_types.specs.Scenario.{IsPolicy, AreCreds, IsTask}
+use Rattle.cs_types.specs.Scenario.{IsWithin, IsNice, IsPolicy, AreCreds, IsTask}
 use Rattle.scenario_text.specs.Words.{Word, policy_word, creds_words, task_words}
-use Rattle.scenario_text.specs.Reading.{Parts, parts, policy_of, creds_of, task_of}
-use Rattle.scenario_text.proofs.Numbers.{number_again}
-use Rattle.scenario_text.proofs.Readings.{Each, each_ok, each_bind, each_when, each_number, each_flag, flag_again, each_cpu, cpu_again, words_are, after_is}
+use Rattle.scenario_text.specs.Reading.{Parts, parts, reading_after, numbered, fair_of, policy_of, creds_of, task_of}
+use Rattle.scenario_text.proofs.Numbers.{IsSignedWithin, number_again}
+use Rattle.scenario_text.proofs.Readings.{Each, each_ok, each_bind, each_if, each_when, each_after, each_number, each_signed, signed_again, each_flag, flag_again, each_cpu, cpu_again, words_are, after_is}
 
-each_policy : (word : Word) → Each (policy_of word) (λ policy. (word ≡ policy_word policy) × IsPolicy policy)
+-- ---- policies
+
+pub nice_is : (z : ℤ) → IsSignedWithin 20 19 z ↔ IsNice z
+nice_is (pos n) = (λ is. is, λ is. is)
+nice_is (negsuc n) = (λ is. omega arith, λ is. omega arith)
+
+-- a policy that is spelled by this word
+abbrev ReadsPolicy : Word → Policy → Type 0
+ReadsPolicy word policy = (word ≡ policy_word policy) × IsPolicy policy
+
+each_numbered : (mark : Word) (policy : ℕ → Policy) (low high : ℕ) → high < 2 ^ 64 → ((n : ℕ) → IsWithin low high n → ReadsPolicy (mark ++ decimal n) (policy n)) →
+    (rest : Word) → Each (numbered policy low high rest) (ReadsPolicy (mark ++ rest))
+unfolding numbered
+each_numbered mark policy low high small reads rest =
+    each_bind _ _ _ _ (each_number low high rest small) (λ n w. each_ok _ _ (rw w.0 (reads n w.1)))
+
+each_fair : (rest : Word) → Each (fair_of rest) (ReadsPolicy (codes "fair:" ++ rest))
+unfolding fair_of
+each_fair rest = each_bind _ _ _ _ (each_signed 20 19 (omega arith, omega arith) rest) (λ z w. each_ok _ _ (rw w.0 refl, (nice_is z).0 w.1))
+
+each_policy : (word : Word) → Each (policy_of word) (ReadsPolicy word)
 unfolding policy_of
 each_policy word =
-    each_when (bytes_eq (take 5 word) (codes "fifo:")) _ _ (λ is.
-    each_bind _ _ _ _ (each_number 1 99 (drop 5 word) (omega arith)) (λ n w.
-    let prefix : take 5 word ≡ codes "fifo:" = (bytes_eq-Decides (take 5 word) (codes "fifo:")).0 is in
-    let whole : word ≡ codes "fifo:" ++ decimal n =
-    sym (take-append-drop 5 word) ∙ ap (λ (f : Word). f ++ drop 5 word) prefix ∙ ap (λ (d : Word). codes "fifo:" ++ d) w.0 in
-    each_ok _ _ (whole, w.1)))
+    each_if (bytes_eq word (codes "stop")) _ _ _
+    (λ is. each_ok _ _ ((bytes_eq-Decides word (codes "stop")).0 is, tt))
+    (λ no. each_after ReadsPolicy _ word (
+      each_numbered (codes "dl:") Deadline 1 1000000000 (omega arith) (λ n w. (refl, w)),
+      (
+        each_numbered (codes "fifo:") Fifo 1 99 (omega arith) (λ n w. (refl, w)),
+        (each_numbered (codes "rr:") Rr 1 99 (omega arith) (λ n w. (refl, w)), (each_fair, tt)),
+      ),
+    ))
 
 policy_again : (policy : Policy) → IsPolicy policy → policy_of (policy_word policy) ≡ Ok policy
-unfolding policy_of
-policy_again (Fifo priority) within = rw (number_again 1 99 priority (omega arith) within) refl
+unfolding policy_of reading_after numbered fair_of
+policy_again Stop is = refl
+policy_again (Deadline relative) is = rw (number_again 1 1000000000 relative (omega arith) is) refl
+policy_again (Fifo priority) is = rw (number_again 1 99 priority (omega arith) is) refl
+policy_again (Rr priority) is = rw (number_again 1 99 priority (omega arith) is) refl
+policy_again (Fair nice) is = rw (signed_again 20 19 (omega arith, omega arith) nice ((nice_is nice).1 is)) refl
+
+-- ---- credentials
 
 each_creds : (words : List Word) → Each (creds_of (parts words)) (λ creds. (words ≡ creds_words creds) × AreCreds creds)
 unfolding creds_of
@@ -61,6 +90,8 @@ creds_again creds are =
       flag_again creds.mm,
       flag_again creds.dumpable,
     ) refl
+
+-- ---- tasks
 
 -- the first five words, and those after them
 five_words : (words : List Word) → 5 ≤ length words →

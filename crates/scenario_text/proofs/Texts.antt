@@ -9,10 +9,10 @@ use Rattle.std.proofs.lemmas.List.Elements.{All-from_recursion}
 use Rattle.std.proofs.lemmas.List.Splits.{slice_split_none, slice_split_at, join_with_byte-slice_split}
 use Rattle.std.proofs.lemmas.Str.Parse.{digit_from_value}
 use Rattle.std.proofs.lemmas.Fmt.{decimal_is_IsNumeral}
-use Rattle.cs_types.specs.Scenario.{IsPid}
 use Rattle.scenario_text.specs.Words.{Word}
 use Rattle.scenario_text.specs.Text.{spaced, line}
 use Rattle.scenario_text.specs.Reading.{pieces, words_in, lines_in}
+use Rattle.scenario_text.proofs.Numbers.{IsSignedWithin}
 
 -- ---- plain words
 
@@ -60,9 +60,9 @@ pub plain-append : (a b : Word) → IsPlain a → IsPlain b → IsPlain (a ++ b)
 plain-append a b h k =
     record { no_feed = lacks-append 10 a b h.no_feed k.no_feed; no_space = lacks-append 32 a b h.no_space k.no_space }
 
-pub plain_signed : (z : ℤ) → IsPid z → IsPlain (signed_decimal z)
-plain_signed (pos n) is = plain_decimal n (omega arith)
-plain_signed (negsuc n) is =
+pub plain_signed : (below above : ℕ) (z : ℤ) → below < 2 ^ 64 → above < 2 ^ 64 → IsSignedWithin below above z → IsPlain (signed_decimal z)
+plain_signed below above (pos n) small few is = plain_decimal n (omega arith)
+plain_signed below above (negsuc n) small few is =
     plain-append (codes "-") (decimal (suc n)) (plain_word _ refl refl) (plain_decimal (suc n) (omega arith))
 
 -- ---- lines

@@ -8,13 +8,13 @@ use Rattle.std.specs.List.{slice_split, list_any}
 use Rattle.std.specs.Str.{all_ascii_digits, bytes_eq}
 use Rattle.std.specs.Str.Parse.{digits_value}
 use Rattle.cs_types.specs.declared.task.Policy.{Policy}
-use Rattle.cs_types.specs.declared.task.Policy.TheVariants.{Fifo}
+use Rattle.cs_types.specs.declared.task.Policy.TheVariants.{Stop, Deadline, Fifo, Rr, Fair}
 use Rattle.cs_types.specs.declared.task.Creds.{Creds}
 use Rattle.cs_types.specs.declared.task.TaskSpec.{TaskSpec}
 use Rattle.cs_types.specs.declared.event.Actor.TheVariants.{Sibling, Caller}
 use Rattle.cs_types.specs.declared.event.Ask.{Ask}
 use Rattle.cs_types.specs.declared.event.Event.{Event}
-use Rattle.cs_types.specs.declared.event.Event.TheVariants.{Turn, Resched, Block, Exit, Wake, Fork, Prctl}
+use Rattle.cs_types.specs.declared.event.Event.TheVariants.{Turn, Resched, Block, Exit, Tick, Wake, Advance, Fork, Prctl}
 use Rattle.cs_types.specs.declared.event.Step.{Step}
 use Rattle.cs_types.specs.declared.scenario.Scenario.{Scenario}
 use Rattle.scenario_text.specs.declared.head.Head.{Head}
@@ -99,6 +99,16 @@ unfoldable pub reading_named : {A : Type 0} → List (Word × Read A) → Word �
 reading_named [] name = refused
 reading_named (form ∷ forms) name = if is_word name form.0 then form.1 else reading_named forms name
 
+-- whether the word begins with this mark
+abbrev pub begins : Word → Word → Bool
+begins word mark = bytes_eq (take (length mark) word) mark
+
+-- what the form whose mark the word begins with reads from what stands after the mark
+unfoldable pub reading_after : {A : Type 0} → List (Word × (Word → Read A)) → Word → Read A
+reading_after [] word = refused
+reading_after (form ∷ forms) word =
+    if begins word form.0 then form.1 (drop (length form.0) word) else reading_after forms word
+
 -- ---- numbers
 
 -- whether the word begins with a digit, and with 0 only where it is `0`
@@ -114,12 +124,12 @@ is_number low high word =
 unfoldable pub number_of : ℕ → ℕ → Word → Read ℕ
 number_of low high word = if is_number low high word then Ok (digits_value 10 word) else refused
 
--- the signed number of 32 bits that the word spells: `-` and a magnitude, or a number from 0
-unfoldable pub signed_of : Word → Read ℤ
-signed_of word =
+-- the number from -below to above that the word spells: `-` and a magnitude, or a number from 0
+unfoldable pub signed_of : ℕ → ℕ → Word → Read ℤ
+signed_of below above word =
     if slice_index word 0 == 45
-    then (number_of 1 2147483648 (drop 1 word) >>= λ magnitude. Ok (negsuc (magnitude - 1)))
-    else (number_of 0 2147483647 word >>= λ number. Ok (pos number))
+    then (number_of 1 below (drop 1 word) >>= λ magnitude. Ok (negsuc (magnitude - 1)))
+    else (number_of 0 above word >>= λ number. Ok (pos number))
 
 -- 1 for yes, 0 for no
 unfoldable pub flag_of : Word → Read Bool
@@ -133,12 +143,30 @@ cpu_of siblings word = do
 
 -- ---- tasks
 
--- `fifo:` and a priority
+-- the policy of the number from low to high that the word spells
+unfoldable pub numbered : (ℕ → Policy) → ℕ → ℕ → Word → Read Policy
+numbered policy low high word = do
+  number ← number_of low high word
+  Ok (policy number)
+
+-- the policy of the nice value that the word spells
+unfoldable pub fair_of : Word → Read Policy
+fair_of word = do
+  nice ← signed_of 20 19 word
+  Ok (Fair nice)
+
+-- `stop`, or what stands before the first colon names the policy, and a number stands after it
 unfoldable pub policy_of : Word → Read Policy
 policy_of word =
-    if bytes_eq (take 5 word) (codes "fifo:")
-    then (number_of 1 99 (drop 5 word) >>= λ priority. Ok (Fifo priority))
-    else refused
+    if is_word word (codes "stop")
+    then Ok Stop
+    else reading_after (
+    (codes "dl:", numbered Deadline 1 1000000000)
+    ∷ (codes "fifo:", numbered Fifo 1 99)
+    ∷ (codes "rr:", numbered Rr 1 99)
+    ∷ (codes "fair:", fair_of)
+    ∷ []
+    ) word
 
 -- what stands after the policy
 unfoldable pub creds_of : Parts → Read Creds
@@ -192,6 +220,7 @@ sibling_event_of cpu words =
     ∷ (codes "resched", Ok (Resched cpu))
     ∷ (codes "block", Ok (Block cpu))
     ∷ (codes "exit", Ok (Exit cpu))
+    ∷ (codes "tick", Ok (Tick cpu))
     ∷ []
     ) (words.at 0)
     else refused
@@ -200,7 +229,7 @@ sibling_event_of cpu words =
 unfoldable pub ask_of : Word → Word → Word → Word → Read Ask
 ask_of cmd target scope addr = do
   cmd ← number_of 0 4294967295 cmd
-  pid ← signed_of target
+  pid ← signed_of 2147483648 2147483647 target
   scope ← number_of 0 4294967295 scope
   addr ← number_of 0 18446744073709551615 addr
   Ok (record { cmd = cmd; pid = pid; scope = scope; addr = addr })
@@ -209,6 +238,12 @@ unfoldable pub wake_of : Word → Read Event
 wake_of pid = do
   pid ← number_of 1 999999 pid
   Ok (Wake pid)
+
+-- how far the clock goes on, in ns
+unfoldable pub advance_of : Word → Read Event
+advance_of delta = do
+  delta ← number_of 1 1000000000 delta
+  Ok (Advance delta)
 
 -- `thread` or `process`
 unfoldable pub child_of : Word → Read Bool
@@ -230,7 +265,9 @@ prctl_of caller cmd target scope addr = do
 unfoldable pub caller_event_of : Parts → Read Event
 caller_event_of words =
     if words.count == 2
-    then reading_named ((codes "wake", wake_of (words.at 1)) ∷ []) (words.at 0)
+    then reading_named (
+    (codes "wake", wake_of (words.at 1)) ∷ (codes "advance", advance_of (words.at 1)) ∷ []
+    ) (words.at 0)
     else (if words.count == 3
     then reading_named ((codes "fork", fork_of (words.at 1) (words.at 2)) ∷ []) (words.at 0)
     else (if words.count == 6

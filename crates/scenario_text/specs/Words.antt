@@ -1,24 +1,24 @@
 -- Words: how each value is spelled in a scenario and in the output. A number is `decimal`: its digits,
--- with no sign and no leading 0. The target of `prctl`, which may be negative, is `signed_decimal`: a
--- negative number has a `-` before the digits.
+-- with no sign and no leading 0. A nice value and the target of `prctl`, which may be negative, are
+-- `signed_decimal`: a negative number has a `-` before the digits.
 use Rattle.std.specs.Prelude.{ℕ, Bool, true, false, ◌==◌, if◌then◌else◌, List, [], ◌∷◌, ◌++◌, codes, decimal}
 use Rattle.std.specs.Fmt.{signed_decimal}
 use Rattle.cs_types.specs.declared.task.Policy.{Policy}
-use Rattle.cs_types.specs.declared.task.Policy.TheVariants.{Fifo}
+use Rattle.cs_types.specs.declared.task.Policy.TheVariants.{Stop, Deadline, Fifo, Rr, Fair}
 use Rattle.cs_types.specs.declared.task.Creds.{Creds}
 use Rattle.cs_types.specs.declared.task.TaskSpec.{TaskSpec}
 use Rattle.cs_types.specs.declared.event.Actor.{Actor}
 use Rattle.cs_types.specs.declared.event.Actor.TheVariants.{Sibling, Caller}
 use Rattle.cs_types.specs.declared.event.Ask.{Ask}
 use Rattle.cs_types.specs.declared.event.Event.{Event}
-use Rattle.cs_types.specs.declared.event.Event.TheVariants.{Turn, Resched, Block, Exit, Wake, Fork, Prctl}
+use Rattle.cs_types.specs.declared.event.Event.TheVariants.{Turn, Resched, Block, Exit, Tick, Wake, Advance, Fork, Prctl}
 use Rattle.cs_types.specs.declared.reply.Kind.{Kind}
 use Rattle.cs_types.specs.declared.reply.Kind.TheVariants.{Selected, Adopted, Plain}
 use Rattle.cs_types.specs.declared.reply.Errno.{Errno}
 use Rattle.cs_types.specs.declared.reply.Errno.TheVariants.{Eperm, Esrch, Eagain, Enomem, Efault, Enodev, Einval}
 use Rattle.cs_types.specs.declared.reply.Pick.{Pick}
 use Rattle.cs_types.specs.declared.reply.Reply.{Reply}
-use Rattle.cs_types.specs.declared.reply.Reply.TheVariants.{Picked, Nothing, Slept, Ended, Idle, HasThreads, Woken, Awake, NoTask, Child, Zero, Value, Refused, NoCaller}
+use Rattle.cs_types.specs.declared.reply.Reply.TheVariants.{Picked, Nothing, Slept, Ended, Idle, HasThreads, Woken, Awake, NoTask, Now, Ticked, Child, Zero, Value, Refused, NoCaller}
 
 -- a word is its bytes
 abbrev pub Word : Type 0
@@ -26,9 +26,13 @@ Word = List ℕ
 
 -- ---- tasks
 
--- `fifo:PRIORITY`
+-- `stop`, `dl:RELATIVE`, `fifo:PRIORITY`, `rr:PRIORITY` or `fair:NICE`
 abbrev pub policy_word : Policy → Word
+policy_word Stop = codes "stop"
+policy_word (Deadline relative) = codes "dl:" ++ decimal relative
 policy_word (Fifo priority) = codes "fifo:" ++ decimal priority
+policy_word (Rr priority) = codes "rr:" ++ decimal priority
+policy_word (Fair nice) = codes "fair:" ++ signed_decimal nice
 
 -- 1 for yes, 0 for no
 abbrev pub flag_word : Bool → Word
@@ -69,7 +73,9 @@ event_words (Turn cpu) = codes "turn" ∷ []
 event_words (Resched cpu) = codes "resched" ∷ []
 event_words (Block cpu) = codes "block" ∷ []
 event_words (Exit cpu) = codes "exit" ∷ []
+event_words (Tick cpu) = codes "tick" ∷ []
 event_words (Wake pid) = codes "wake" ∷ decimal pid ∷ []
+event_words (Advance delta) = codes "advance" ∷ decimal delta ∷ []
 event_words (Fork caller thread) = codes "fork" ∷ decimal caller ∷ child_word thread ∷ []
 event_words (Prctl caller ask) = codes "prctl" ∷ decimal caller ∷ ask_words ask
 
@@ -102,6 +108,11 @@ errno_word Efault = codes "EFAULT"
 errno_word Enodev = codes "ENODEV"
 errno_word Einval = codes "EINVAL"
 
+-- the answer to the question whether a tick asked for a reschedule
+abbrev pub answer_word : Bool → Word
+answer_word true = codes "yes"
+answer_word false = codes "no"
+
 abbrev pub reply_words : Reply → List Word
 reply_words (Picked pick) = pick_words pick
 reply_words Nothing = codes "Nothing" ∷ []
@@ -112,6 +123,8 @@ reply_words HasThreads = codes "HasThreads" ∷ []
 reply_words (Woken cpu) = codes "Woken" ∷ decimal cpu ∷ []
 reply_words Awake = codes "Awake" ∷ []
 reply_words NoTask = codes "NoTask" ∷ []
+reply_words (Now clock) = codes "Now" ∷ decimal clock ∷ []
+reply_words (Ticked asked) = codes "Ticked" ∷ answer_word asked ∷ []
 reply_words (Child pid) = codes "Child" ∷ decimal pid ∷ []
 reply_words Zero = codes "0" ∷ []
 reply_words (Value cookie) = codes "0" ∷ codes "value" ∷ decimal cookie ∷ []

@@ -1,7 +1,7 @@
 //! Numbers, as words spell them: decimal digits with no leading 0, and no sign but the `-` of a negative
 //! number. It is separate since every form of a line but the last has them.
 
-ghost use Rattle.std.specs.Prelude.{◌≡◌, IfOk};
+ghost use Rattle.std.specs.Prelude.{◌≡◌, IfOk, pos, neg_ℤ, ◌≤ℤ◌};
 ghost use Rattle.cs_types.specs.Scenario.{IsWithin};
 ghost use Rattle.scenario_text.specs.Reading.{is_canonical, number_of, signed_of, flag_of, cpu_of};
 
@@ -9,12 +9,6 @@ use crate::fault::Refused;
 use crate::words::is_word;
 use cs_types::Cpu;
 use std::str;
-
-/// The greatest signed number of 32 bits.
-const MOST_ABOVE: u64 = 2_147_483_647;
-
-/// The magnitude of the least signed number of 32 bits.
-const MOST_BELOW: u64 = 2_147_483_648;
 
 /// Whether the word begins with a digit, and with 0 only where it is `0`.
 fn is_canonical(word: &[u8]) -> bool
@@ -43,15 +37,17 @@ pub(crate) fn parse_number(word: &[u8], low: u64, high: u64) -> Result<u64, Refu
     Ok(number)
 }
 
-/// The signed number of 32 bits that the word spells: where it is negative, `-` and the digits of its
-/// magnitude.
+/// The number from `-below` to `above` that the word spells: where it is negative, `-` and the digits of
+/// its magnitude.
 #[tactic(auto, unfolding(crate::specs::Reading::signed_of))]
-pub(crate) fn parse_signed(word: &[u8]) -> Result<i32, Refused>
-    ensures { result ≡ signed_of word.now }
+pub(crate) fn parse_signed(word: &[u8], below: u32, above: u32) -> Result<i64, Refused>
+    ensures spelled { result ≡ signed_of below above word.now }
+    ensures least { IfOk result (λ number. neg_ℤ (pos below) ≤ℤ number) }
+    ensures most { IfOk result (λ number. number ≤ℤ pos above) }
 {
     match word {
-        [b'-', digits @ ..] => Ok(-(parse_number(digits, 1, MOST_BELOW)? as i64) as i32),
-        _ => Ok(parse_number(word, 0, MOST_ABOVE)? as i32),
+        [b'-', digits @ ..] => Ok(-(parse_number(digits, 1, below as u64)? as i64)),
+        _ => Ok(parse_number(word, 0, above as u64)? as i64),
     }
 }
 

@@ -2,7 +2,7 @@
 //! with which it shares no more than siblings.
 
 ghost use Rattle.std.specs.Prelude.{◌≡◌};
-ghost use Rattle.scenario_text.specs.Reading.{lent, number_of, sibling_event_of, ask_of, child_of, fork_of, caller_event_of, sibling_step_of, caller_step_of, step_of};
+ghost use Rattle.scenario_text.specs.Reading.{lent, number_of, signed_of, sibling_event_of, ask_of, child_of, fork_of, caller_event_of, sibling_step_of, caller_step_of, step_of};
 
 use crate::fault::Refused;
 use crate::number::{parse_cpu, parse_number, parse_signed};
@@ -15,6 +15,15 @@ const MOST_CALLER: u64 = 7;
 /// The greatest pid that a caller may name, of a task or of none. The least is 1.
 const MOST_NAMED_PID: u64 = 999_999;
 
+/// How far below 0 the target of a `prctl` may be, a number of 32 bits with a sign.
+const MOST_TARGET_BELOW: u32 = 2_147_483_648;
+
+/// How far above 0 the target of a `prctl` may be.
+const MOST_TARGET_ABOVE: u32 = 2_147_483_647;
+
+/// The greatest advance of the clock, in ns. The least is 1.
+const MOST_ADVANCE: u64 = 1_000_000_000;
+
 /// What a sibling does to itself.
 #[tactic(auto, unfolding(crate::specs::Reading::reading_named, crate::specs::Reading::sibling_event_of))]
 fn parse_sibling_event(words: &[&[u8]], cpu: Cpu) -> Result<Event, Refused>
@@ -25,8 +34,16 @@ fn parse_sibling_event(words: &[&[u8]], cpu: Cpu) -> Result<Event, Refused>
         [name] if is_word(name, "resched") => Ok(Event::Resched(cpu)),
         [name] if is_word(name, "block") => Ok(Event::Block(cpu)),
         [name] if is_word(name, "exit") => Ok(Event::Exit(cpu)),
+        [name] if is_word(name, "tick") => Ok(Event::Tick(cpu)),
         _ => Err(Refused),
     }
+}
+
+/// The target of `prctl`.
+fn parse_target(word: &[u8]) -> Result<i32, Refused>
+    ensures { result ≡ signed_of 2147483648 2147483647 word.now }
+{
+    Ok(parse_signed(word, MOST_TARGET_BELOW, MOST_TARGET_ABOVE)? as i32)
 }
 
 /// The arguments of `prctl`.
@@ -36,7 +53,7 @@ fn parse_ask(cmd: &[u8], target: &[u8], scope: &[u8], addr: &[u8]) -> Result<Ask
 {
     Ok(Ask {
         cmd: parse_number(cmd, 0, u32::MAX as u64)? as u32,
-        pid: parse_signed(target)?,
+        pid: parse_target(target)?,
         scope: parse_number(scope, 0, u32::MAX as u64)? as u32,
         addr: parse_number(addr, 0, u64::MAX)?,
     })
@@ -75,12 +92,15 @@ fn parse_fork(caller: &[u8], child: &[u8]) -> Result<Event, Refused>
 }
 
 /// What a caller does.
-#[tactic(auto, unfolding(crate::specs::Reading::reading_named, crate::specs::Reading::caller_event_of, crate::specs::Reading::wake_of, crate::specs::Reading::prctl_of))]
+#[tactic(auto, unfolding(crate::specs::Reading::reading_named, crate::specs::Reading::caller_event_of, crate::specs::Reading::wake_of, crate::specs::Reading::advance_of, crate::specs::Reading::prctl_of))]
 fn parse_caller_event(words: &[&[u8]]) -> Result<Event, Refused>
     ensures { result ≡ caller_event_of (lent words.now) }
 {
     match *words {
         [name, pid] if is_word(name, "wake") => Ok(Event::Wake(parse_named_pid(pid)?)),
+        [name, delta] if is_word(name, "advance") => {
+            Ok(Event::Advance(parse_number(delta, 1, MOST_ADVANCE)?))
+        }
         [name, caller, child] if is_word(name, "fork") => parse_fork(caller, child),
         [name, caller, cmd, target, scope, addr] if is_word(name, "prctl") => Ok(Event::Prctl {
             caller: parse_named_pid(caller)?,

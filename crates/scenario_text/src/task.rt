@@ -2,30 +2,63 @@
 //! elsewhere, with the plan.
 
 ghost use Rattle.std.specs.Prelude.{◌≡◌};
-ghost use Rattle.scenario_text.specs.Reading.{lent, number_of, policy_of, creds_of, task_of};
+ghost use Rattle.scenario_text.specs.Reading.{lent, number_of, signed_of, policy_of, creds_of, task_of};
 
 use crate::fault::Refused;
-use crate::number::{parse_cpu, parse_flag, parse_number};
+use crate::number::{parse_cpu, parse_flag, parse_number, parse_signed};
+use crate::words::is_word;
 use cs_types::{Creds, Pid, Policy, TaskSpec};
 
 /// The greatest number of a task, a thread group or a process group. The least is 1.
 const MOST_PID: u64 = 9999;
 
-/// The greatest priority of `SCHED_FIFO`. The least is 1.
+/// The greatest relative deadline, in ns. The least is 1.
+const MOST_DEADLINE: u64 = 1_000_000_000;
+
+/// The greatest priority of `SCHED_FIFO` and `SCHED_RR`. The least is 1.
 const MOST_PRIORITY: u64 = 99;
+
+/// How far below 0 a nice value may be.
+const MOST_NICE_BELOW: u32 = 20;
+
+/// How far above 0 a nice value may be.
+const MOST_NICE_ABOVE: u32 = 19;
 
 /// The greatest user or group id. The least is 0.
 const MOST_ID: u64 = 65535;
 
-/// `fifo:` and a priority.
-#[tactic(auto, unfolding(crate::specs::Reading::policy_of))]
+/// A real-time priority.
+fn parse_priority(word: &[u8]) -> Result<u8, Refused>
+    ensures { result ≡ number_of 1 99 word.now }
+{
+    Ok(parse_number(word, 1, MOST_PRIORITY)? as u8)
+}
+
+/// A nice value.
+fn parse_nice(word: &[u8]) -> Result<i8, Refused>
+    ensures { result ≡ signed_of 20 19 word.now }
+{
+    Ok(parse_signed(word, MOST_NICE_BELOW, MOST_NICE_ABOVE)? as i8)
+}
+
+/// `stop`, or the name of a policy, a colon and its number.
+#[tactic(auto, unfolding(crate::specs::Reading::reading_after, crate::specs::Reading::numbered, crate::specs::Reading::fair_of, crate::specs::Reading::policy_of))]
 fn parse_policy(word: &[u8]) -> Result<Policy, Refused>
     ensures { result ≡ policy_of word.now }
 {
-    let Some(priority) = word.strip_prefix(b"fifo:") else {
-        return Err(Refused);
-    };
-    Ok(Policy::Fifo(parse_number(priority, 1, MOST_PRIORITY)? as u8))
+    if is_word(word, "stop") {
+        Ok(Policy::Stop)
+    } else if let Some(relative) = word.strip_prefix(b"dl:") {
+        Ok(Policy::Deadline(parse_number(relative, 1, MOST_DEADLINE)?))
+    } else if let Some(priority) = word.strip_prefix(b"fifo:") {
+        Ok(Policy::Fifo(parse_priority(priority)?))
+    } else if let Some(priority) = word.strip_prefix(b"rr:") {
+        Ok(Policy::Rr(parse_priority(priority)?))
+    } else if let Some(nice) = word.strip_prefix(b"fair:") {
+        Ok(Policy::Fair(parse_nice(nice)?))
+    } else {
+        Err(Refused)
+    }
 }
 
 /// A task, a thread group or a process group.

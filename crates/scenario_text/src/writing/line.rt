@@ -92,10 +92,9 @@ impl Line {
             Event::Resched(_) => self.text("resched"),
             Event::Block(_) => self.text("block"),
             Event::Exit(_) => self.text("exit"),
-            Event::Wake(pid) => {
-                self.text("wake ");
-                self.number(pid);
-            }
+            Event::Tick(_) => self.text("tick"),
+            Event::Wake(pid) => self.named("wake", pid),
+            Event::Advance(delta) => self.named("advance", delta),
             Event::Fork { caller, thread } => {
                 self.text("fork ");
                 self.number(caller);
@@ -155,16 +154,13 @@ impl Line {
             }
             Reply::Idle => self.text("Idle"),
             Reply::HasThreads => self.text("HasThreads"),
-            Reply::Woken(cpu) => {
-                self.text("Woken ");
-                self.number(cpu);
-            }
+            Reply::Woken(cpu) => self.named("Woken", cpu),
             Reply::Awake => self.text("Awake"),
             Reply::NoTask => self.text("NoTask"),
-            Reply::Child(pid) => {
-                self.text("Child ");
-                self.number(pid);
-            }
+            Reply::Now(clock) => self.named("Now", clock),
+            Reply::Ticked(true) => self.text("Ticked yes"),
+            Reply::Ticked(false) => self.text("Ticked no"),
+            Reply::Child(pid) => self.named("Child", pid),
             Reply::Zero => self.text("0"),
             Reply::Value(cookie) => {
                 self.text("0 value ");
@@ -238,6 +234,17 @@ impl Line {
         } else {
             self.number(pid);
         }
+    }
+
+    /// A word, and the number that it names.
+    fn named<N: Integer>(&mut self, name: &str, number: N)
+        requires { length self.old + length name.now + 1 + N.MAX_STR_LEN ≤ ROOM }
+        ensures text { self.new ≡ self.old ++ spaced (name.now ∷ N.text number ∷ []) }
+        ensures room { length self.new ≤ length self.old + length name.now + 1 + N.MAX_STR_LEN }
+    {
+        self.text(name);
+        self.text(" ");
+        self.number(number);
     }
 
     fn number<N: Integer>(&mut self, number: N)
