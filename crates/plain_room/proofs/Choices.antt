@@ -10,7 +10,7 @@ use Rattle.std.proofs.lemmas.List.Elements.{filter-append, All-map, All-filter}
 use Rattle.std.proofs.lemmas.List.FromFn.{get_or-map-range_with_len}
 use Rattle.cs_types.specs.Room.{RoomState, is_online, online, online_from, queued_on, sibling_of}
 use Rattle.cs_types.specs.Order.{first_of, goes_before, foremost, outranks}
-use Rattle.cs_types.specs.Selection.{first_on, cookie_of, pid_of, queued_with, choice, is_forced, forced_count, occupation_of, is_run, handed, given, remembered, lead_from, adopted, rescheduled, scheduled, schedule}
+use Rattle.cs_types.specs.Selection.{first_on, cookie_of, pid_of, is_fair_task, renews_snapshots, snapshot_of, queued_with, choice, is_forced, forced_count, occupation_of, is_run, handed, given, remembered, lead_from, adopted, rescheduled, scheduled, schedule}
 use Rattle.plain_room.specs.declared.choice.Choice.{Choice}
 use Rattle.cs_types.specs.declared.task.Task.{Task}
 use Rattle.plain_room.specs.declared.state.State.{State}
@@ -70,12 +70,12 @@ pub choice_in : (room : RoomState) (core cpu : ℕ) (d : Choice) → cpu < lengt
 choice_in room core cpu d lt = get_or-map-range_with_len (choice_at room core) 0 (length room.siblings) cpu cpu d lt (omega arith)
 
 -- what is handed by places of the choices is given by the model
-pub handed-choices : (room : RoomState) (core selector occupation : ℕ) → occupation ≡ occupation_of room core →
-    map (handed_choice selector occupation (choices_of room core)) (enumerate_from 0 room.siblings) ≡ map (given room core selector) (enumerate_from 0 room.siblings)
-handed-choices room core selector occupation same =
-    map_places (handed_choice selector occupation (choices_of room core)) (given room core selector) 0 room.siblings (λ place lt.
-    ap (λ (choice : Choice). handed selector occupation choice.run place) (choice_in room core place.0 _ (omega arith))
-    ∙ ap (λ (n : ℕ). handed selector n (pid_of (choice room core place.0)) place) same)
+pub handed-choices : (room : RoomState) (core selector occupation : ℕ) (renews : Bool) → occupation ≡ occupation_of room core → renews ≡ renews_snapshots room core →
+    map (handed_choice selector occupation renews (choices_of room core)) (enumerate_from 0 room.siblings) ≡ map (given room core selector) (enumerate_from 0 room.siblings)
+handed-choices room core selector occupation renews same noted =
+    map_places (handed_choice selector occupation renews (choices_of room core)) (given room core selector) 0 room.siblings (λ place lt.
+    ap (λ (choice : Choice). handed selector occupation choice.run (choice.is_fair && renews) place) (choice_in room core place.0 _ (omega arith))
+    ∙ (λ i. handed selector (same i) (pid_of (choice room core place.0)) (is_fair_task (choice room core place.0) && noted i) place))
 
 -- a sibling more among the firsts of those that are online
 pub firsts_more : (room : RoomState) (from cpu : ℕ) → from ≤ cpu →
@@ -144,7 +144,7 @@ All-firsts P room cpus all =
     (All-filter (λ task. task.queued && (task.home == get_or cpus k d)) P room.tasks all))
 
 -- the lead among the firsts, by its definition
-pub lead_is : (room : RoomState) (cpu : ℕ) → option_and_then (λ (first : Option Task). first) (foremost outranks (map (first_on room) (online_from room cpu))) ≡ lead_from room cpu
+pub lead_is : (room : RoomState) (cpu : ℕ) → option_and_then (λ (first : Option Task). first) (foremost (outranks (snapshot_of room)) (map (first_on room) (online_from room cpu))) ≡ lead_from room cpu
 unfolding lead_from
 lead_is room cpu = refl
 

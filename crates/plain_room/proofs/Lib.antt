@@ -1,5 +1,8 @@
 pub mod Lists
 pub mod States
+pub mod Ranges
+pub mod Clocks
+pub mod Growth
 pub mod Choices
 pub mod Settings
 pub mod OnlineCount

@@ -58,6 +58,19 @@ any_at f q is_in p (i ∷ places) same =
       | false ↦ rest
     ])
 
+-- whether one passes among what stands for others, or among those that a filter keeps
+pub any-map : {X Y : Type 0} (p : Y → Bool) (f : X → Y) (xs : List X) → list_any p (map f xs) ≡ list_any (λ x. p (f x)) xs
+any-map p f [] = refl
+any-map p f (x ∷ xs) = ap (λ b. p (f x) || b) (any-map p f xs)
+
+pub any-filter : {X : Type 0} (p q : X → Bool) (xs : List X) → list_any p (filter q xs) ≡ list_any (λ x. q x && p x) xs
+any-filter p q [] = refl
+any-filter p q (x ∷ xs) =
+    elim (q x) as (λ b. list_any p (cond b (x ∷ filter q xs) (filter q xs)) ≡ ((b && p x) || list_any (λ z. q z && p z) xs)) [
+      | true ↦ ap (λ b. p x || b) (any-filter p q xs)
+      | false ↦ any-filter p q xs
+    ]
+
 -- what is found in a list has what each element of it has
 pub All-find : {X : Type 0} (P : X → Type 0) (p : X → Bool) (xs : List X) → All P xs → IfSome (find p xs) P
 All-find P p [] each = tt
@@ -75,6 +88,12 @@ pub mapped_more : {X : Type 0} (g : X → X) (xs ys : List X) (i : ℕ) (y d : X
 mapped_more g xs ys i y d lt so_far is =
     let within : i < length ys = omega (arith, ap length so_far, length-append (map g (take i xs)) (drop i xs), length-map (take i xs) g, length-take i xs, length-drop i xs) in
     ap (set ys i) is ∙ map_over_more g xs ys i (get_or ys i d) lt so_far (get_or_default ys i d (get_or ys i d) within)
+
+-- the place where such a change stands has what it had
+pub mapped_at : {X : Type 0} (g : X → X) (xs : List X) (i : ℕ) (d : X) → i < length xs → get_or (map g (take i xs) ++ drop i xs) i d ≡ get_or xs i d
+mapped_at g [] i d lt = absurd (omega arith)
+mapped_at g (x ∷ xs) zero d lt = refl
+mapped_at g (x ∷ xs) (suc i) d lt = mapped_at g xs i d (omega arith)
 
 -- one more place of a list whose elements are changed in turn, each by its place
 placed_from : {X : Type 0} (g : ℕ × X → X) (n : ℕ) (xs : List X) (i : ℕ) (d : X) → i < length xs →
@@ -111,6 +130,14 @@ map_places f g n [] same = refl
 map_places {Y = Y} f g n (x ∷ xs) same =
     ap (λ (y : Y). y ∷ map f (enumerate_from (n + 1) xs)) (same (n, x) (omega arith))
     ∙ ap (λ (ys : List Y). g (n, x) ∷ ys) (map_places f g (n + 1) xs (λ place lt. same place (omega arith)))
+
+-- two functions that agree at each place of a list, with what stands there, agree over it
+pub map_enumerated : {X Y : Type 0} (f g : ℕ × X → Y) (d : X) (n : ℕ) (xs : List X) →
+    ((k m : ℕ) → k < length xs → m ≡ n + k → f (m, get_or xs k d) ≡ g (m, get_or xs k d)) → map f (enumerate_from n xs) ≡ map g (enumerate_from n xs)
+map_enumerated f g d n [] same = refl
+map_enumerated {Y = Y} f g d n (x ∷ xs) same =
+    ap (λ (y : Y). y ∷ map f (enumerate_from (n + 1) xs)) (same 0 n (omega arith) (omega arith))
+    ∙ ap (λ (ys : List Y). g (n, x) ∷ ys) (map_enumerated f g d (n + 1) xs (λ k m lt at. same (suc k) m (omega arith) (omega arith)))
 
 -- one more number of a range
 pub range_more : (a n : ℕ) → range_with_len a (suc n) ≡ range_with_len a n ++ (a + n) ∷ []

@@ -7,7 +7,7 @@ use Rattle.std.proofs.Math.Bool.{and-false, and-true}
 use Rattle.std.proofs.lemmas.List.{map_push}
 use Rattle.std.proofs.lemmas.Bool.{cond-true, cond-false, eq-eqb, ne_eqb}
 use Rattle.cs_types.specs.declared.event.Event.{Event}
-use Rattle.cs_types.specs.declared.event.Event.TheVariants.{Turn, Resched, Block, Exit, Wake, Fork, Prctl}
+use Rattle.cs_types.specs.declared.event.Event.TheVariants.{Turn, Resched, Block, Exit, Tick, Wake, Advance, Fork, Prctl}
 use Rattle.cs_types.specs.declared.event.Step.{Step}
 use Rattle.cs_types.specs.declared.reply.Pick.{Pick}
 use Rattle.cs_types.specs.declared.reply.Reply.{Reply}
@@ -94,7 +94,9 @@ scheduler_below n (Turn cpu) limits = limits
 scheduler_below n (Resched cpu) limits = limits
 scheduler_below n (Block cpu) limits = limits
 scheduler_below n (Exit cpu) limits = limits
+scheduler_below n (Tick cpu) limits = tt
 scheduler_below n (Wake pid) limits = tt
+scheduler_below n (Advance delta) limits = tt
 scheduler_below n (Fork caller thread) limits = tt
 scheduler_below n (Prctl caller ask) limits = tt
 

@@ -178,10 +178,10 @@ pub sets_one : (scenario : Scenario) (old new : State) (task : Task) (cookie : �
     new.tasks ≡ record old.tasks { tasks = map (λ other. cond (has_pid task.spec.pid other) (record task { cookie = cookie }) other) old.tasks.tasks } →
     new.refs.limit ≡ old.refs.limit → new.refs.next ≡ old.refs.next →
     map sibling_state new.siblings.items ≡ map (flagged_for task.spec.pid) (map sibling_state old.siblings.items) →
-    new.ended ≡ old.ended → new.next_pid ≡ old.next_pid →
+    new.clock ≡ old.clock → new.ended ≡ old.ended → new.next_pid ≡ old.next_pid →
     new.next_stamp ≡ old.next_stamp → new.core_cookie ≡ old.core_cookie → new.forced ≡ old.forced → new.occupation ≡ old.occupation →
     room_of scenario new ≡ with_cookies (room_of scenario old) (setting (task ∷ []) cookie)
-sets_one scenario old new task cookie rises there tasks limit next siblings ended pid stamp core forced occupation =
+sets_one scenario old new task cookie rises there tasks limit next siblings clock ended pid stamp core forced occupation =
     let each = ap (λ (table : Table). table.tasks) tasks ∙ set_each cookie old.tasks.tasks task rises there in
     let limits = ap (λ (table : Table). table.limit) tasks in
     let flags = siblings ∙ flagged_alike task cookie (map sibling_state old.siblings.items) in
@@ -189,6 +189,7 @@ sets_one scenario old new task cookie rises there tasks limit next siblings ende
       task_limit = limits i;
       cookie_limit = limit i;
       user_top = scenario.user_top;
+      clock = clock i;
       tasks = each i;
       ended = (ended i).items;
       siblings = flags i;

@@ -22,7 +22,7 @@ use Rattle.task_table.specs.declared.fault.AddFault.{AddFault}
 use Rattle.cs_types.proofs.Tasks.{length-asleep_tasks, below_first_pid}
 use Rattle.task_table.proofs.Tables.{changed_each}
 use Rattle.cookie_refs.specs.Refs.{Refs, references, AgreeBut}
-use Rattle.plain_room.specs.State.{sibling_state, IsFit, IsSound, room_of, Schedules}
+use Rattle.plain_room.specs.State.{sibling_state, IsFit, Knows, IsSound, room_of, Schedules}
 use Rattle.plain_room.specs.declared.state.State.{State}
 use Rattle.plain_room.specs.declared.choice.Choice.{Choice}
 use Rattle.plain_room.specs.Choice.{remembered_task}
@@ -81,6 +81,27 @@ agree-changed refs held change same tasks task rises found agree =
     (agree-map refs held (λ other. cond (has_pid task.spec.pid other) (change other) other)
     (λ other. cond_both (has_pid task.spec.pid other) (change other) other (λ (t : Task). t.cookie ≡ other.cookie) (λ _. same other) (λ _. refl)) tasks agree)
 
+-- a task that the state knows fits as the one with its pid does
+pub fit-known : (count next : ℕ) (state : State) (task : Task) (known : Knows state task) → IsFit count next known.old → IsFit count next task
+fit-known count next state task known fit = record {
+  pid = subst (λ (spec : TaskSpec). 0 < spec.pid) (sym known.spec) fit.pid;
+  below = subst (λ (spec : TaskSpec). spec.pid < next) (sym known.spec) fit.below;
+  home = subst (λ home. home < count) (sym known.home) fit.home;
+  policy = subst (λ (spec : TaskSpec). IsPolicy spec.policy) (sym known.spec) fit.policy;
+}
+
+-- and in its place it keeps the counts of the cookies
+pub agree-known : (refs : Refs) (held : ℕ) (tasks : List Task) (task old : Task) → Rises tasks → find (has_pid task.spec.pid) tasks ≡ Some old →
+    task.spec ≡ old.spec → task.cookie ≡ old.cookie → AgreeBut refs tasks held →
+    AgreeBut refs (map (λ other. cond (has_pid task.spec.pid other) task other) tasks) held
+agree-known refs held tasks task old rises found spec cookie agree =
+    let change : Task → Task = λ other. record task { cookie = other.cookie } in
+    let pids : task.spec.pid ≡ old.spec.pid = ap (λ (s : TaskSpec). s.pid) spec in
+    let same : change old ≡ task = λ i. record task { cookie = sym cookie i } in
+    let by_old = agree-changed refs held change (λ other. refl) tasks old rises (subst (λ pid. find (has_pid pid) tasks ≡ Some old) pids found) agree in
+    subst (λ (t : Task). AgreeBut refs (map (λ other. cond (has_pid task.spec.pid other) t other) tasks) held) same
+    (subst (λ pid. AgreeBut refs (map (λ other. cond (has_pid pid other) (change old) other) tasks) held) (sym pids) by_old)
+
 -- tasks that remember an occupation fit as they did
 pub fit-remembered : (count next : ℕ) (choices : List Choice) (occupation : ℕ) (tasks : List Task) → All (IsFit count next) tasks →
     All (IsFit count next) (map (remembered_task choices occupation) tasks)
@@ -89,6 +110,10 @@ fit-remembered count next choices occupation tasks all =
     (All-weaker (IsFit count next) (λ (t : Task). IsFit count next (remembered_task choices occupation t)) (λ t fit. record { pid = fit.pid; below = fit.below; home = fit.home; policy = fit.policy }) tasks all)
 
 -- ---- siblings
+
+-- what a read past the last sibling would give
+abbrev pub nobody : Sibling
+nobody = record { online = false; run = None; pending = false; waiting = None; occupation = 0; number = 0; least = 0; snapshot = 0; ran = 0 }
 
 -- what a sibling at a place stands for
 pub sibling_at : (siblings : List Sibling) (cpu : ℕ) (x : Sibling) → cpu < length siblings → x ≡ get_or siblings cpu x →

@@ -1,5 +1,5 @@
 -- What the machine keeps, and that it is the fold of its history.
-use Rattle.std.specs.Prelude.{◌≡◌, ℕ, ◌-◌, ◌≤◌, List, length, map, vec_len, vec_capacity}
+use Rattle.std.specs.Prelude.{◌≡◌, ℕ, ◌-◌, ◌*◌, ◌≤◌, List, length, map, vec_len, vec_capacity}
 use Rattle.std.specs.List.{range_with_len}
 use Rattle.cs_types.specs.declared.event.Step.{Step}
 use Rattle.cs_types.specs.declared.reply.Entry.{Entry}
@@ -45,5 +45,7 @@ pub record IsFold (room : Inside) : Type 0 where
   -- so no task that ends takes memory
   pub room_for_ended : vec_capacity room.entries ≤ vec_capacity room.state.ended
   pub user_top : IsWithin 8192 9223372036854775807 room.scenario.user_top
-  -- so no stamp, cookie or number overflows
+  -- no advance is above one second
+  pub slow : room.state.clock ≤ 1000000000 * vec_len room.entries
+  -- so no stamp, cookie, number or time overflows
   pub few_entries : vec_capacity room.entries ≤ 100000

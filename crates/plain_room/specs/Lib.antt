@@ -2,5 +2,6 @@ pub mod State
 pub mod Choice
 pub mod Cookies
 pub mod Life
+pub mod Time
 pub mod Machine
 pub mod Inside

@@ -1,5 +1,5 @@
 -- What the lists of the state stand for.
-use Rattle.std.specs.Prelude.{◌≡◌, ℕ, ◌+◌, ◌<◌, ◌&&◌, ◌||◌, ◌==◌, nat_lt, Bool, if◌then◌else◌, List, length, map, find, Some, All, slice_set, is_some, unwrap_or}
+use Rattle.std.specs.Prelude.{◌≡◌, ℕ, ◌+◌, ◌^◌, ◌<◌, ◌&&◌, ◌||◌, ◌==◌, nat_lt, Bool, if◌then◌else◌, List, length, map, find, Some, All, slice_set, is_some, unwrap_or}
 use Rattle.std.specs.Option.{option_map_or}
 use Rattle.cs_types.specs.declared.event.Event.{Event}
 use Rattle.cs_types.specs.declared.reply.Pick.{Pick}
@@ -14,6 +14,7 @@ use Rattle.cookie_refs.specs.Refs.{AgreeBut}
 use Rattle.cs_types.specs.Selection.{Scheduled}
 use Rattle.cs_types.specs.Touches.{is_selected, is_adopted, pick_touches, pick_of, selection_of, scheduler_of, touches_by}
 use Rattle.cs_types.specs.Step.{step}
+use Rattle.cs_types.specs.Time.{IsTimely}
 use Rattle.plain_room.specs.declared.sibling.Sibling.{Sibling}
 use Rattle.plain_room.specs.declared.state.State.{State}
 
@@ -27,6 +28,9 @@ sibling_state sibling =
       pending = sibling.pending;
       waiting = sibling.waiting;
       occupation = sibling.occupation;
+      least = sibling.least;
+      snapshot = sibling.snapshot;
+      ran = sibling.ran;
     }
 
 -- what a machine shows of a sibling
@@ -41,6 +45,7 @@ room_of scenario state =
       task_limit = state.tasks.limit;
       cookie_limit = state.refs.limit;
       user_top = scenario.user_top;
+      clock = state.clock;
       tasks = state.tasks.tasks;
       ended = state.ended.items;
       siblings = map sibling_state state.siblings.items;
@@ -62,6 +67,19 @@ pub record IsFit (count next : ℕ) (task : Task) : Type 0 where
 -- the task is one of the state's
 abbrev pub Has : State → Task → Type 0
 Has state task = find (has_pid task.spec.pid) state.tasks.tasks ≡ Some task
+
+-- the state has this task, but for its numbers: the one with its pid has the same line, cookie and home
+pub record Knows (state : State) (task : Task) : Type 0 where
+  pub old : Task
+  pub there : find (has_pid task.spec.pid) state.tasks.tasks ≡ Some old
+  pub spec : task.spec ≡ old.spec
+  pub cookie : task.cookie ≡ old.cookie
+  pub home : task.home ≡ old.home
+
+-- the times of the state keep their bounds, and its clock is so low that no time overflows, after one more advance too
+pub record IsOnTime (state : State) : Type 0 where
+  pub timely : (scenario : Scenario) → IsTimely (room_of scenario state)
+  pub clock : state.clock + 1000000000 < 2 ^ 56
 
 -- there are so many siblings, each task fits them, and the references are those of the tasks, and one more for a
 -- cookie that is held beside them

@@ -16,12 +16,14 @@ use task_table::TaskTable;
 /// The most siblings of a core.
 pub const MOST_SIBLINGS: usize = 16;
 
-/// What a sibling gets: a task, or none for idle. Both tests say no of one that is offline.
+/// What a sibling gets: a task, or none for idle. The first two tests say no of one that is offline.
 #[derive(Clone, Copy, Default)]
 pub struct Choice {
     pub run: Option<Pid>,
     pub is_online: bool,
     pub is_forced: bool,
+    /// Whether it is a fair task.
+    pub is_fair: bool,
 }
 
 /// What each sibling gets, in the order of their numbers.
@@ -79,15 +81,22 @@ pub fn remember(tasks: &mut TaskTable, choices: &[Choice], occupation: u8)
     }
 }
 
-/// Hands each sibling what it gets, in a selection that the one sibling makes for the core.
-pub fn hand(siblings: &mut [Sibling], selector: Cpu, choices: &[Choice], occupation: u8)
+/// Hands each sibling what it gets, in a selection that the one sibling makes for the core, and renews
+/// the snapshots of those that get a fair task where the test says so.
+pub fn hand(
+    siblings: &mut [Sibling],
+    selector: Cpu,
+    choices: &[Choice],
+    occupation: u8,
+    renews: bool,
+)
     requires each { length choices.now ≡ length siblings.old }
     requires few { length siblings.old ≤ 16 }
     ensures states { map sibling_state siblings.new ≡
-        map (handed_choice selector occupation choices.now) (enumerate_from 0 (map sibling_state siblings.old)) }
+        map (handed_choice selector occupation renews choices.now) (enumerate_from 0 (map sibling_state siblings.old)) }
     ensures numbers { map (λ sibling. sibling.number) siblings.new ≡ map (λ sibling. sibling.number) siblings.old }
 {
     for (cpu, sibling) in siblings.iter_mut().enumerate() {
-        *sibling = sibling.handed(selector, cpu as u8, choices[cpu].run, occupation);
+        *sibling = sibling.handed(selector, cpu as u8, choices[cpu], occupation, renews);
     }
 }

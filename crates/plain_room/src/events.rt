@@ -3,10 +3,11 @@
 ghost use Rattle.std.specs.Prelude.{◌≡◌, ◌+◌, ◌*◌, ◌^◌, ◌<◌, ◌≤◌, length, vec_len, vec_capacity};
 ghost use Rattle.cs_types.specs.declared.scenario.Scenario.{Scenario};
 ghost use Rattle.cs_types.specs.Scenario.{IsWithin, IsEvent};
-ghost use Rattle.plain_room.specs.State.{room_of, IsSound, StaysSound, Makes};
+ghost use Rattle.plain_room.specs.State.{room_of, IsSound, IsOnTime, StaysSound, Makes};
+ghost use Rattle.cs_types.specs.Step.{settled};
 
 use crate::state::State;
-use cs_types::{Cpu, Errno, Event, Pid, Reply, Scenario};
+use cs_types::{Cpu, Errno, Event, Pid, Reply, Scenario, Task};
 use fork_inherit::{ForkFault, leads_others};
 
 impl State {
@@ -15,6 +16,7 @@ impl State {
         requires cpu { cpu < length self.old.siblings.items }
         requires few { length self.old.siblings.items ≤ 16 }
         requires sound { IsSound (length self.old.siblings.items) self.old }
+        requires time { IsOnTime self.old }
         requires touches { self.old.task_number + 1 < 2 ^ 64 }
         ensures makes { (scenario : Scenario) → Makes scenario self.old self.new (Event.Turn cpu) result }
         ensures sound { StaysSound self.old self.new }
@@ -30,6 +32,7 @@ impl State {
     /// The running task goes to sleep, and its sibling takes the next.
     fn block(&mut self, cpu: Cpu) -> Reply
         requires sound { IsSound (length self.old.siblings.items) self.old }
+        requires time { IsOnTime self.old }
         requires cpu { cpu < length self.old.siblings.items }
         requires few { length self.old.siblings.items ≤ 16 }
         requires touches { self.old.task_number + 2 < 2 ^ 64 }
@@ -51,6 +54,7 @@ impl State {
     /// A sleeping task is queued at its home.
     fn wake(&mut self, pid: Pid) -> Reply
         requires sound { IsSound (length self.old.siblings.items) self.old }
+        requires time { IsOnTime self.old }
         requires stamp { self.old.next_stamp + 1 < 2 ^ 64 }
         requires touches { self.old.task_number + 1 < 2 ^ 64 }
         ensures makes { (scenario : Scenario) → Makes scenario self.old self.new (Event.Wake pid) result }
@@ -70,6 +74,7 @@ impl State {
     /// The running task ends, unless it leads others, and its sibling takes the next.
     fn exit(&mut self, cpu: Cpu) -> Reply
         requires sound { IsSound (length self.old.siblings.items) self.old }
+        requires time { IsOnTime self.old }
         requires cpu { cpu < length self.old.siblings.items }
         requires few { length self.old.siblings.items ≤ 16 }
         requires touches { self.old.task_number + 2 < 2 ^ 64 }
@@ -92,9 +97,21 @@ impl State {
         }
     }
 
+    /// The child has the least virtual time of its queue, whatever its class.
+    fn settled(&self, child: Task) -> Task
+        requires { child.home < length self.now.siblings.items }
+        ensures { (scenario : Scenario) → result ≡ settled (room_of scenario self.now) child }
+    {
+        Task {
+            vtime: self.siblings[child.home as usize].least,
+            ..child
+        }
+    }
+
     /// A task makes a child, which is queued at its home.
     fn fork(&mut self, limit: u16, caller: Pid, thread: bool) -> Reply
         requires sound { IsSound (length self.old.siblings.items) self.old }
+        requires time { IsOnTime self.old }
         requires limit { self.old.tasks.limit ≡ limit }
         requires stamp { self.old.next_stamp + 1 < 2 ^ 64 }
         requires pid { self.old.next_pid + 1 < 2 ^ 32 }
@@ -105,7 +122,7 @@ impl State {
     {
         match self.make_child(limit, caller, thread) {
             Ok(child) => {
-                self.queue_at_home(child);
+                self.queue_at_home(self.settled(child));
                 Reply::Child(child.spec.pid)
             }
             Err(ForkFault::NoCaller) => Reply::NoCaller,
@@ -117,6 +134,7 @@ impl State {
     pub fn apply(&mut self, scenario: &Scenario, event: Event) -> Reply
         requires event { IsEvent (length self.old.siblings.items) event }
         requires sound { IsSound (length self.old.siblings.items) self.old }
+        requires time { IsOnTime self.old }
         requires few { length self.old.siblings.items ≤ 16 }
         requires stamp { self.old.next_stamp + 1 < 2 ^ 64 }
         requires serial { self.old.refs.next < 2 ^ 63 }
@@ -134,7 +152,9 @@ impl State {
             Event::Resched(cpu) => Reply::Picked(self.schedule(cpu)),
             Event::Block(cpu) => self.block(cpu),
             Event::Exit(cpu) => self.exit(cpu),
+            Event::Tick(cpu) => self.tick(cpu),
             Event::Wake(pid) => self.wake(pid),
+            Event::Advance(delta) => self.advance(delta),
             Event::Fork { caller, thread } => self.fork(scenario.task_limit, caller, thread),
             Event::Prctl { caller, ask } => self.prctl(scenario.user_top, caller, ask),
         }

@@ -1,23 +1,42 @@
 //! The lead of first tasks. It is a file of its own since it alone knows what a task offers.
 
-ghost use Rattle.std.specs.Prelude.{◌≡◌, ◌≤◌, length, map, All, IfSome};
-ghost use Rattle.std.specs.Option.{option_map, option_and_then};
+ghost use Rattle.std.specs.Prelude.{◌≡◌, ◌<◌, ◌≤◌, ◌^◌, length, All, IfSome};
+ghost use Rattle.std.specs.Option.{option_map_or, option_and_then};
 ghost use Rattle.cs_types.specs.Order.{foremost, outranks};
-ghost use Rattle.sibling_priority.specs.Offers.{IsFirst, class_of, rank_of};
+ghost use Rattle.sibling_priority.specs.Offers.{IsFirst, class_of_first, rank_of_first};
+ghost use Rattle.plain_room.specs.Time.{snapshot_in};
 
 use crate::choice::MOST_SIBLINGS;
+use crate::sibling::Sibling;
+use crate::task::{class_of, priority_of};
 use arrayvec::ArrayVec;
 use cs_types::{Policy, Task};
-use sibling_priority::{IDLE, Offer, REAL_TIME, lead};
+use sibling_priority::{IDLE, Offer, lead};
 
 /// The first tasks of siblings, none for one that runs idle.
 pub type Firsts = ArrayVec<Option<Task>, MOST_SIBLINGS>;
 
-/// What a sibling with this first task offers.
-fn offer(first: Option<Task>) -> Offer
-    requires { IsFirst first }
-    ensures class { result.class ≡ class_of first }
-    ensures rank { result.rank ≡ rank_of first }
+/// The place of a first task within its class, the smaller the higher.
+fn rank_of(task: &Task) -> u128
+    requires { IsFirst (Some task.now) }
+    ensures { result ≡ rank_of_first (Some task.now) }
+{
+    match task.spec.policy {
+        Policy::Stop => 0,
+        Policy::Deadline(_) => u128::from(task.deadline),
+        Policy::Fifo(priority) => u128::from(99 - priority),
+        Policy::Rr(priority) => u128::from(99 - priority),
+        Policy::Fair(_) => task.vtime,
+    }
+}
+
+/// What a sibling with this first task offers, which is one of these siblings.
+fn offer(first: Option<Task>, siblings: &[Sibling]) -> Offer
+    requires first { IsFirst first }
+    requires home { IfSome first (λ task. task.home < length siblings.now) }
+    ensures class { result.class ≡ class_of_first first }
+    ensures rank { result.rank ≡ rank_of_first first }
+    ensures snapshot { result.snapshot ≡ option_map_or (λ task. snapshot_in siblings.now task.home) first 0 }
 {
     match first {
         None => Offer {
@@ -27,28 +46,29 @@ fn offer(first: Option<Task>) -> Offer
             rank: 0,
             snapshot: 0,
         },
-        Some(task) => match task.spec.policy {
-            Policy::Fifo(priority) => Offer {
-                cpu: task.home,
-                pid: task.spec.pid,
-                class: REAL_TIME,
-                rank: u128::from(99 - priority),
-                snapshot: 0,
-            },
+        Some(task) => Offer {
+            cpu: task.home,
+            pid: task.spec.pid,
+            class: class_of(task.spec.policy),
+            rank: rank_of(&task),
+            snapshot: siblings[task.home as usize].snapshot,
         },
     }
 }
 
-/// The earliest of the first tasks than which no other is higher, none for idle.
-pub fn lead_of(firsts: &[Option<Task>]) -> Option<Task>
+/// The earliest of the first tasks of these siblings than which no other is higher, none for idle.
+pub fn lead_of(firsts: &[Option<Task>], siblings: &[Sibling]) -> Option<Task>
     requires few { length firsts.now ≤ 16 }
-    requires priorities { All IsFirst (firsts.now) }
+    requires priorities { All IsFirst firsts.now }
+    requires homes { All (λ first. IfSome first (λ task. task.home < length siblings.now)) firsts.now }
+    requires vtimes { All (λ first. IfSome first (λ task. task.vtime < 2 ^ 127)) firsts.now }
+    requires snapshots { All (λ sibling. sibling.snapshot < 2 ^ 127) siblings.now }
     ensures { result ≡
-        option_and_then (λ first. first) (foremost outranks (firsts.now)) }
+        option_and_then (λ first. first) (foremost (outranks (snapshot_in siblings.now)) firsts.now) }
 {
     let mut offers: ArrayVec<Offer, MOST_SIBLINGS> = ArrayVec::new();
     for first in firsts {
-        offers.push(offer(*first));
+        offers.push(offer(*first, siblings));
     }
     if offers.is_empty() {
         return None;

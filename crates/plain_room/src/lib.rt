@@ -12,5 +12,6 @@ mod selection;
 mod sibling;
 mod state;
 mod task;
+mod time;
 
 pub use room::PlainRoom;

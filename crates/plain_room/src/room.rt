@@ -103,6 +103,10 @@ impl Room for PlainRoom {
         self.scenario.siblings
     }
 
+    fn clock(&self) -> u64 {
+        self.state.clock
+    }
+
     fn numbers(&self) -> (u64, u64) {
         (self.state.task_number, self.state.pick_number)
     }

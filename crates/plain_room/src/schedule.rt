@@ -1,13 +1,14 @@
 //! A schedule, in its three cases.
 
-ghost use Rattle.std.specs.Prelude.{◌≡◌, ◌+◌, ◌^◌, ◌<◌, ◌≤◌, length, ◌==◌, ◌&&◌, None, if◌then◌else◌};
+ghost use Rattle.std.specs.Prelude.{◌≡◌, ◌+◌, ◌^◌, ◌<◌, ◌≤◌, length, ◌==◌, ◌&&◌, ◌||◌, None, if◌then◌else◌};
 ghost use Rattle.cs_types.specs.declared.scenario.Scenario.{Scenario};
 ghost use Rattle.cs_types.specs.Room.{sibling_of};
 ghost use Rattle.cs_types.specs.Selection.{pid_of, choice, forced_count, is_plain, adopted, plain, selected_room, selected, rescheduled, schedule};
 ghost use Rattle.task_table.specs.Table.{IsSound as IsTable};
-ghost use Rattle.plain_room.specs.State.{Schedules, IsSound, StaysSound, Becomes, room_of, numbers_of, is_fresh_by};
+ghost use Rattle.plain_room.specs.State.{Schedules, IsSound, IsOnTime, StaysSound, Becomes, room_of, numbers_of, is_fresh_by};
 
 use crate::choice::{forced_count, hand, occupation, remember};
+use crate::selection::is_fair_task;
 use crate::sibling::Sibling;
 use crate::state::State;
 use cs_types::{Cookie, Cpu, Kind, Pick, Pid};
@@ -40,10 +41,13 @@ impl State {
         ensures sound { StaysSound self.old self.new }
         ensures ended { self.new.ended ≡ self.old.ended }
     {
-        let run = self.first_on(cpu).map(|task| task.spec.pid);
+        let first = self.first_on(cpu);
+        let run = first.map(|task| task.spec.pid);
         self.forced = 0;
         self.occupation = 0;
-        self.siblings[cpu as usize] = self.siblings[cpu as usize].running(run);
+        self.siblings[cpu as usize] = self.siblings[cpu as usize]
+            .running(run)
+            .noted(is_fair_task(first));
         self.touch();
         Pick {
             kind: Kind::Plain,
@@ -67,11 +71,13 @@ impl State {
         ensures ended { self.new.ended ≡ self.old.ended }
     {
         let choices = self.choices(core);
+        let forced = forced_count(&choices);
+        let renews = renews_snapshots(self.forced, forced);
         self.core_cookie = core;
-        self.forced = forced_count(&choices);
+        self.forced = forced;
         self.occupation = occupation(&choices);
         remember(&mut self.tasks, &choices, self.occupation);
-        hand(&mut self.siblings, cpu, &choices, self.occupation);
+        hand(&mut self.siblings, cpu, &choices, self.occupation, renews);
         choices[cpu as usize].run
     }
 
@@ -80,6 +86,7 @@ impl State {
         requires cpu { cpu < length self.old.siblings.items }
         requires few { length self.old.siblings.items ≤ 16 }
         requires sound { IsSound (length self.old.siblings.items) self.old }
+        requires time { IsOnTime self.old }
         requires touches { self.old.task_number + 1 < 2 ^ 64 }
         ensures schedules { Schedules self.old self.new cpu result (λ room. selected room cpu) }
         ensures sound { StaysSound self.old self.new }
@@ -111,6 +118,7 @@ impl State {
         requires cpu { cpu < length self.old.siblings.items }
         requires few { length self.old.siblings.items ≤ 16 }
         requires sound { IsSound (length self.old.siblings.items) self.old }
+        requires time { IsOnTime self.old }
         requires touches { self.old.task_number + 1 < 2 ^ 64 }
         ensures schedules { Schedules self.old self.new cpu result (λ room. rescheduled room cpu) }
         ensures sound { StaysSound self.old self.new }
@@ -141,6 +149,7 @@ impl State {
         requires cpu { cpu < length self.old.siblings.items }
         requires few { length self.old.siblings.items ≤ 16 }
         requires sound { IsSound (length self.old.siblings.items) self.old }
+        requires time { IsOnTime self.old }
         requires touches { self.old.task_number + 1 < 2 ^ 64 }
         ensures schedules { Schedules self.old self.new cpu result
             (λ room. schedule room (is_fresh_by (numbers_of self.old)) cpu) }
@@ -152,6 +161,14 @@ impl State {
             None => self.reschedule(cpu),
         }
     }
+}
+
+/// Whether a selection renews snapshots, which it does not where some sibling was forced idle before it
+/// and some is after it.
+fn renews_snapshots(before: u8, after: u8) -> bool
+    ensures { result ≡ ((before == 0) || (after == 0)) }
+{
+    before == 0 || after == 0
 }
 
 /// Whether neither the core nor a sibling's first task has a cookie, and none is forced idle.

@@ -8,14 +8,14 @@ ghost use Rattle.arrayvec.specs.ArrayVec.{array_vec_len};
 ghost use Rattle.cs_types.specs.declared.scenario.Scenario.{Scenario};
 ghost use Rattle.cs_types.specs.Room.{is_online};
 ghost use Rattle.cs_types.specs.Order.{first_of};
-ghost use Rattle.cs_types.specs.Selection.{first_on, queued_with, choice, lead_from};
-ghost use Rattle.plain_room.specs.State.{room_of, IsSound};
+ghost use Rattle.cs_types.specs.Selection.{first_on, queued_with, is_fair_task, choice, lead_from};
+ghost use Rattle.plain_room.specs.State.{room_of, IsSound, IsOnTime};
 ghost use Rattle.plain_room.specs.Choice.{choice_at};
 
 use crate::choice::{Choice, Choices};
 use crate::lead::{Firsts, lead_of};
 use crate::state::State;
-use crate::task::goes_before;
+use crate::task::{goes_before, is_fair};
 use cs_types::{Cookie, Cpu, Task};
 
 impl State {
@@ -77,6 +77,7 @@ impl State {
             run: chosen.map(|task| task.spec.pid),
             is_online,
             is_forced: is_forced(is_online, first, chosen),
+            is_fair: is_fair_task(chosen),
         }
     }
 
@@ -116,12 +117,23 @@ impl State {
         requires cpu { cpu < length self.now.siblings.items }
         requires few { length self.now.siblings.items ≤ 16 }
         requires sound { IsSound (length self.now.siblings.items) self.now }
+        requires time { IsOnTime self.now }
         ensures { (scenario : Scenario) → result ≡ lead_from (room_of scenario self.now) cpu }
     {
         let mut firsts = Firsts::new();
         self.push_firsts(&mut firsts, cpu as usize, self.siblings.len());
         self.push_firsts(&mut firsts, 0, cpu as usize);
-        lead_of(&firsts)
+        lead_of(&firsts, &self.siblings)
+    }
+}
+
+/// Whether this is a fair task.
+pub fn is_fair_task(task: Option<Task>) -> bool
+    ensures { result ≡ is_fair_task task }
+{
+    match task {
+        Some(task) => is_fair(&task),
+        None => false,
     }
 }
 

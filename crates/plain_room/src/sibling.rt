@@ -1,10 +1,12 @@
 //! A sibling as the machine keeps it, and what a schedule makes of it.
 
-ghost use Rattle.std.specs.Prelude.{◌≡◌};
-ghost use Rattle.cs_types.specs.Selection.{running, told, handed};
+ghost use Rattle.std.specs.Prelude.{◌≡◌, ◌+◌, ◌^◌, ◌<◌, ◌&&◌, Some};
+ghost use Rattle.cs_types.specs.Selection.{is_run, running, noted, told, handed};
 ghost use Rattle.plain_room.specs.State.{sibling_state, sibling_view};
 ghost use Rattle.plain_room.specs.Cookies.{flagged_for};
+ghost use Rattle.plain_room.specs.Time.{aged};
 
+use crate::choice::Choice;
 use cs_types::{Cpu, CpuView, Pid};
 
 /// A sibling of the core.
@@ -21,6 +23,12 @@ pub struct Sibling {
     pub occupation: u8,
     /// Its own number: the pick number at its last pick that was selected or adopted.
     pub number: u64,
+    /// The least virtual time of its queue, in ns. It never falls.
+    pub least: u128,
+    /// What that was when it was last noted for a comparison with other siblings, in ns.
+    pub snapshot: u128,
+    /// The time since its last schedule, in ns.
+    pub ran: u64,
 }
 
 impl Sibling {
@@ -32,9 +40,12 @@ impl Sibling {
         waiting: None,
         occupation: 0,
         number: 0,
+        least: 0,
+        snapshot: 0,
+        ran: 0,
     };
 
-    /// It runs this, nothing waits for it, and its reschedule is no longer pending.
+    /// It runs this from now on, nothing waits for it, and its reschedule is no longer pending.
     pub fn running(self, run: Option<Pid>) -> Sibling
         ensures state { sibling_state result ≡ running (sibling_state self) run }
         ensures number { result.number ≡ self.number }
@@ -43,6 +54,30 @@ impl Sibling {
             run,
             pending: false,
             waiting: None,
+            ran: 0,
+            ..self
+        }
+    }
+
+    /// Its snapshot becomes its least where the test says so.
+    pub fn noted(self, test: bool) -> Sibling
+        ensures state { sibling_state result ≡ noted test (sibling_state self) }
+        ensures number { result.number ≡ self.number }
+    {
+        Sibling {
+            snapshot: if test { self.least } else { self.snapshot },
+            ..self
+        }
+    }
+
+    /// It has run so much longer, in ns.
+    pub fn aged(self, delta: u64) -> Sibling
+        requires { self.ran + delta < 2 ^ 64 }
+        ensures state { sibling_state result ≡ aged delta (sibling_state self) }
+        ensures number { result.number ≡ self.number }
+    {
+        Sibling {
+            ran: self.ran + delta,
             ..self
         }
     }
@@ -68,22 +103,38 @@ impl Sibling {
         }
     }
 
-    /// It is told its choice, and its idle remembers the occupation where that is the choice. One that
-    /// is offline stays as it is.
-    pub fn handed(self, selector: Cpu, cpu: Cpu, run: Option<Pid>, occupation: u8) -> Sibling
-        ensures state { sibling_state result ≡ handed selector occupation run (cpu, sibling_state self) }
+    /// It is told its choice, its idle remembers the occupation where that is the choice, and its
+    /// snapshot is renewed where the choice is fair and the test says so. One that is offline stays as
+    /// it is.
+    pub fn handed(
+        self,
+        selector: Cpu,
+        cpu: Cpu,
+        choice: Choice,
+        occupation: u8,
+        renews: bool,
+    ) -> Sibling
+        ensures state { sibling_state result ≡
+            handed selector occupation choice.run (choice.is_fair && renews) (cpu, sibling_state self) }
         ensures number { result.number ≡ self.number }
     {
         if !self.online {
             return self;
         }
-        let told = self.told(selector, cpu, run);
+        let told = self.told(selector, cpu, choice.run);
+        let remembered = if choice.run.is_none() {
+            occupation
+        } else {
+            told.occupation
+        };
+        let snapshot = if choice.is_fair && renews {
+            told.least
+        } else {
+            told.snapshot
+        };
         Sibling {
-            occupation: if run.is_none() {
-                occupation
-            } else {
-                told.occupation
-            },
+            occupation: remembered,
+            snapshot,
             ..told
         }
     }
@@ -94,9 +145,16 @@ impl Sibling {
         ensures number { result.number ≡ self.number }
     {
         Sibling {
-            pending: self.pending || self.run == Some(pid),
+            pending: self.pending || self.runs(pid),
             ..self
         }
+    }
+
+    /// Whether it runs the task with the pid.
+    pub fn runs(&self, pid: Pid) -> bool
+        ensures { result ≡ is_run self.now.run (Some pid) }
+    {
+        self.run == Some(pid)
     }
 
     /// What a machine shows of it.

@@ -4,16 +4,16 @@
 
 ghost use Rattle.std.specs.Prelude.{◌≡◌, ◌+◌, ◌^◌, ◌<◌, ◌≤◌, length, find, Option, IfOk, IfSome, ◌==◌, if◌then◌else◌, map, replicate, All, vec_capacity};
 ghost use Rattle.cs_types.specs.declared.scenario.Scenario.{Scenario};
-ghost use Rattle.cs_types.specs.Scenario.{IsPlayable, AreDistinct};
-ghost use Rattle.cs_types.specs.Room.{start, first_pid, asleep_tasks, has_pid, running_on, flagged};
-ghost use Rattle.cs_types.specs.Step.{dequeued, idled, enqueued, preempts, queued_at_home};
+ghost use Rattle.cs_types.specs.Scenario.{IsPlayable, IsPolicy, AreDistinct};
+ghost use Rattle.cs_types.specs.Room.{start, first_pid, asleep_tasks, has_pid, running_on, with_task, flagged};
+ghost use Rattle.cs_types.specs.Step.{dequeued, idled, enqueued, preempts, refreshed, queued_at_home};
 ghost use Rattle.cs_types.specs.View.{task_after};
 ghost use Rattle.task_table.specs.Table.{IsSound as IsTable};
 
 use crate::sibling::Sibling;
 use crate::task::is_higher;
 use cookie_refs::CookieRefs;
-use cs_types::{Cookie, Cpu, OutOfMemory, Pid, Scenario, Task, TaskSpec};
+use cs_types::{Cookie, Cpu, OutOfMemory, Pid, Policy, Scenario, Task, TaskSpec};
 use ptrace_check::Guards;
 use std::alloc::Global;
 use task_table::{Group, TaskTable};
@@ -30,6 +30,8 @@ pub struct State {
     /// The pid of the next child. None is given twice.
     pub next_pid: Pid,
     pub next_stamp: u64,
+    /// The time since the start, in ns.
+    pub clock: u64,
     /// The cookie that the core runs under, 0 for none.
     pub core_cookie: Cookie,
     /// How many siblings the last selection for the core forced idle, a count.
@@ -43,7 +45,7 @@ pub struct State {
 }
 
 impl State {
-    ghost use Rattle.plain_room.specs.State.{room_of, IsFit, Has, IsSound, StaysSound, Becomes, numbers_of, touched, is_fresh_by};
+    ghost use Rattle.plain_room.specs.State.{room_of, IsFit, Has, Knows, IsSound, StaysSound, Becomes, numbers_of, touched, is_fresh_by};
 
     /// The start of a scenario: all tasks asleep at home, all siblings idle.
     pub fn start(alloc: Global, scenario: &Scenario, guards: Guards) -> Result<State, OutOfMemory>
@@ -65,6 +67,7 @@ impl State {
             siblings,
             next_pid: first_pid(scenario.tasks.items()),
             next_stamp: 0,
+            clock: 0,
             core_cookie: 0,
             forced: 0,
             occupation: 0,
@@ -115,6 +118,19 @@ impl State {
         self.task_number += 1;
     }
 
+    /// The task's numbers are these now.
+    pub fn change(&mut self, task: Task)
+        requires known { Knows self.old task }
+        ensures room { Becomes self.old self.new (λ room. with_task room task) }
+        ensures sound { StaysSound self.old self.new }
+        ensures siblings { self.new.siblings ≡ self.old.siblings }
+        ensures numbers { numbers_of self.new ≡ numbers_of self.old }
+        ensures ended { self.new.ended ≡ self.old.ended }
+        ensures rest { self.new ≡ record self.old { tasks = self.new.tasks } }
+    {
+        self.tasks.change(task);
+    }
+
     /// The task is asleep.
     pub fn dequeue(&mut self, task: Task)
         requires there { Has self.old task }
@@ -125,7 +141,7 @@ impl State {
         ensures numbers { numbers_of self.new ≡ touched 1 (numbers_of self.old) }
         ensures ended { self.new.ended ≡ self.old.ended }
     {
-        self.tasks.change(Task {
+        self.change(Task {
             queued: false,
             ..task
         });
@@ -146,7 +162,7 @@ impl State {
 
     /// The task is queued, with the next stamp.
     pub fn enqueue(&mut self, task: Task)
-        requires there { Has self.old task }
+        requires known { Knows self.old task }
         requires stamp { self.old.next_stamp + 1 < 2 ^ 64 }
         requires touches { self.old.task_number + 1 < 2 ^ 64 }
         ensures room { Becomes self.old self.new (λ room. enqueued room task) }
@@ -155,7 +171,7 @@ impl State {
         ensures numbers { numbers_of self.new ≡ touched 1 (numbers_of self.old) }
         ensures ended { self.new.ended ≡ self.old.ended }
     {
-        self.tasks.change(Task {
+        self.change(Task {
             queued: true,
             stamp: self.next_stamp,
             ..task
@@ -175,10 +191,36 @@ impl State {
         }
     }
 
+    /// The task as it is queued anew: a deadline task has its next deadline, and a fair one is pulled up
+    /// to the least virtual time of its queue.
+    fn refreshed(&self, task: Task) -> Task
+        requires home { task.home < length self.now.siblings.items }
+        requires policy { IsPolicy task.spec.policy }
+        requires clock { self.now.clock + 1000000000 < 2 ^ 56 }
+        ensures refreshed { (scenario : Scenario) → result ≡ refreshed (room_of scenario self.now) task }
+        ensures spec { result.spec ≡ task.spec }
+        ensures cookie { result.cookie ≡ task.cookie }
+        ensures home { result.home ≡ task.home }
+    {
+        match task.spec.policy {
+            Policy::Deadline(relative) => Task {
+                deadline: self.clock + relative,
+                ..task
+            },
+            Policy::Fair(_) => Task {
+                vtime: task.vtime.max(self.siblings[task.home as usize].least),
+                ..task
+            },
+            _ => task,
+        }
+    }
+
     /// The task is queued at its home, which may become pending.
     pub fn queue_at_home(&mut self, task: Task)
-        requires there { Has self.old task }
+        requires known { Knows self.old task }
         requires home { task.home < length self.old.siblings.items }
+        requires policy { IsPolicy task.spec.policy }
+        requires clock { self.old.clock + 1000000000 < 2 ^ 56 }
         requires stamp { self.old.next_stamp + 1 < 2 ^ 64 }
         requires touches { self.old.task_number + 1 < 2 ^ 64 }
         ensures room { Becomes self.old self.new (λ room. queued_at_home room task) }
@@ -186,8 +228,9 @@ impl State {
         ensures numbers { numbers_of self.new ≡ touched 1 (numbers_of self.old) }
         ensures ended { self.new.ended ≡ self.old.ended }
     {
-        let preempts = self.preempts(&task);
-        self.enqueue(task);
+        let fresh = self.refreshed(task);
+        let preempts = self.preempts(&fresh);
+        self.enqueue(fresh);
         self.flag(task.home, preempts);
     }
 

@@ -1,17 +1,56 @@
 //! How two tasks compare, and what a machine shows of one.
 
 ghost use Rattle.std.specs.Prelude.{◌≡◌};
-ghost use Rattle.cs_types.specs.Order.{goes_before, is_higher};
+ghost use Rattle.cs_types.specs.Order.{class_of, priority_of, is_fair, goes_before, is_higher_here};
 ghost use Rattle.cs_types.specs.View.{task_view};
 
 use cs_types::{Policy, Task, TaskView};
+use sibling_priority::{DEADLINE, FAIR, REAL_TIME, STOP};
 
-/// Whether the task is higher than the other, wherever they queue.
-pub fn is_higher(task: &Task, other: &Task) -> bool
-    ensures { result ≡ is_higher task.now other.now }
+/// The class of a policy, 0 to 3, the smaller the higher.
+pub fn class_of(policy: Policy) -> u8
+    ensures { result ≡ class_of policy }
 {
-    match (task.spec.policy, other.spec.policy) {
-        (Policy::Fifo(priority), Policy::Fifo(other)) => priority > other,
+    match policy {
+        Policy::Stop => STOP,
+        Policy::Deadline(_) => DEADLINE,
+        Policy::Fifo(_) | Policy::Rr(_) => REAL_TIME,
+        Policy::Fair(_) => FAIR,
+    }
+}
+
+/// The priority of a real-time policy, 1 to 99, and 0 of every other.
+pub fn priority_of(policy: Policy) -> u8
+    ensures { result ≡ priority_of policy }
+{
+    match policy {
+        Policy::Fifo(priority) => priority,
+        Policy::Rr(priority) => priority,
+        _ => 0,
+    }
+}
+
+/// Whether the task is fair.
+pub fn is_fair(task: &Task) -> bool
+    ensures { result ≡ is_fair task.now }
+{
+    class_of(task.spec.policy) == FAIR
+}
+
+/// Whether the task is higher than the other, where both queue on one sibling.
+pub fn is_higher(task: &Task, other: &Task) -> bool
+    ensures { result ≡ is_higher_here task.now other.now }
+{
+    let class = class_of(task.spec.policy);
+    let other_class = class_of(other.spec.policy);
+    if class != other_class {
+        return class < other_class;
+    }
+    match class {
+        DEADLINE => task.deadline < other.deadline,
+        REAL_TIME => priority_of(task.spec.policy) > priority_of(other.spec.policy),
+        FAIR => task.vtime < other.vtime,
+        _ => false,
     }
 }
 
@@ -31,5 +70,6 @@ pub fn view(task: &Task) -> TaskView
         cpu: task.home,
         queued: task.queued,
         cookie: task.cookie,
+        vtime: task.vtime,
     }
 }

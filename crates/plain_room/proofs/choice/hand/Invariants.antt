@@ -9,6 +9,6 @@ abbrev pub invariant-loop-cpu : goal.invariant-loop-cpu
 invariant-loop-cpu l =
     let states = map sibling_state l.initial.siblings in
     record {
-      states : map sibling_state l.siblings ≡ map (handed_choice l.selector l.occupation l.choices) (enumerate_from 0 (take l.cpu states)) ++ drop l.cpu states;
+      states : map sibling_state l.siblings ≡ map (handed_choice l.selector l.occupation l.renews l.choices) (enumerate_from 0 (take l.cpu states)) ++ drop l.cpu states;
       numbers : map number_of l.siblings ≡ map number_of l.initial.siblings;
     }

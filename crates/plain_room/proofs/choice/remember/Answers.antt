@@ -1,9 +1,9 @@
-use Rattle.std.proofs.Common.{◌∙◌, None, false, sym, ap, List, map, get_or, take}
+use Rattle.std.proofs.Common.{◌∙◌, sym, ap, List, map, get_or, take}
 use Rattle.std.proofs.lemmas.List.{take_more}
 use Rattle.cs_types.specs.declared.task.Task.{Task}
 use Rattle.task_table.specs.Table.{Table}
 use Rattle.plain_room.specs.declared.choice.Choice.{Choice}
-use Rattle.plain_room.specs.Choice.{remembering, remembered_task}
+use Rattle.plain_room.specs.Choice.{no_choice, remembering, remembered_task}
 use Rattle.plain_room.proofs.Settings.{remembered_none, remembered-push}
 use Rattle.plain_room.proofs.choice.remember.Goals as goal
 
@@ -18,12 +18,11 @@ pub loop-choice-preserved : goal.loop-choice-preserved
 loop-choice-preserved c =
     let i = c.loop-choice.choice-index in
     let choices = c.args.choices.now in
-    let nothing : Choice = record { run = None; is_online = false; is_forced = false } in
     record {
       sound = c.remember_one.ensures.sound;
       so_far = c.remember_one.ensures.remembered
-          ∙ ap (λ (table : Table). let now : Table = record table { tasks = map (remembering (get_or choices i nothing) c.args.occupation) table.tasks } in now) c.loop-choice.invariant.so_far
+          ∙ ap (λ (table : Table). let now : Table = record table { tasks = map (remembering (get_or choices i no_choice) c.args.occupation) table.tasks } in now) c.loop-choice.invariant.so_far
           ∙ ap (λ (tasks : List Task). let table : Table = record { tasks = tasks; limit = c.args.tasks.now.limit } in table)
-          (remembered-push (take i choices) (get_or choices i nothing) c.args.occupation c.args.tasks.now.tasks
-          ∙ ap (λ (so_far : List Choice). map (remembered_task so_far c.args.occupation) c.args.tasks.now.tasks) (sym (take_more choices i nothing c.loop-choice-test.true)));
+          (remembered-push (take i choices) (get_or choices i no_choice) c.args.occupation c.args.tasks.now.tasks
+          ∙ ap (λ (so_far : List Choice). map (remembered_task so_far c.args.occupation) c.args.tasks.now.tasks) (sym (take_more choices i no_choice c.loop-choice-test.true)));
     }

@@ -1,7 +1,7 @@
 use Rattle.std.proofs.Common.{ℕ, List, ap, subst, sym, refl, ◌≤◌, ◌∙◌, arith, length}
 use Rattle.std.proofs.lemmas.List.Elements.{All-weaker}
 use Rattle.cs_types.specs.Scenario.{IsTask}
-use Rattle.cs_types.specs.Room.{first_pid}
+use Rattle.cs_types.specs.Room.{RoomState, first_pid}
 use Rattle.cs_types.proofs.Tasks.{first_pid-le}
 use Rattle.plain_room.specs.State.{Numbers}
 use Rattle.plain_room.proofs.Machines.{own_number-start}
@@ -22,5 +22,6 @@ invariant_of-result c =
       low_pids = subst (λ specs. first_pid specs ≤ 10000) (sym tasks) (first_pid-le 9999 c.args.scenario.now.tasks (All-weaker (IsTask c.args.scenario.now.siblings) (λ spec. spec.pid ≤ 9999) (λ spec task. task.pid.1) c.args.scenario.now.tasks c.requires.tasks));
       room_for_ended = omega (arith, c.in_ok-entries.ensures.exact, ap length c.items.ensures, c.in_ok-state.ensures.room_for_ended);
       user_top = c.requires.user_top;
+      slow = omega (arith, ap (λ (room : RoomState). room.clock) c.in_ok-state.ensures.room);
       few_entries = omega (arith, c.in_ok-entries.ensures.exact, ap length c.items.ensures, c.requires.few_steps);
     }

@@ -9,7 +9,10 @@ use Rattle.cs_types.specs.Laws.{SelectsForTheCore, scheduling_room, cpu_of}
 use Rattle.cs_types.proofs.Numbers.{task_number-ledger_of, next_stamp-fold_of, next_cookie-fold_of, next_pid-fold_of, ended-fold_of}
 use Rattle.cs_types.proofs.Tasks.{few-fold_of, task_limit-fold_of}
 use Rattle.cs_types.proofs.Selections.{selects}
-use Rattle.plain_room.specs.State.{Numbers}
+use Rattle.cs_types.proofs.Times.{timely-fold_of, clock-step}
+use Rattle.cs_types.specs.Time.{IsTimely}
+use Rattle.plain_room.proofs.Clocks.{timely_under}
+use Rattle.plain_room.specs.State.{Numbers, room_of, numbers_of, is_fresh_by}
 use Rattle.plain_room.specs.Machine.{Machine}
 use Rattle.plain_room.specs.Inside.{steps_of}
 use Rattle.plain_room.proofs.Machines.{Folds, history_more, reply_more, folds_more}
@@ -48,6 +51,15 @@ apply-reply-requires-clause-room c =
       c.self.invariant.room_for_ended,
     )
 
+pub apply-reply-requires-clause-time : goal.apply-reply-requires-clause-time
+apply-reply-requires-clause-time c =
+    let a = c.self.inside in
+    record {
+      timely = λ scenario. subst (λ (room : RoomState). IsTimely room)
+          (sym (ap (λ (room : RoomState). let other : RoomState = record room { user_top = scenario.user_top } in other) c.self.invariant.fold)) (timely_under scenario.user_top (fold_of a.scenario a.entries.items) (timely-fold_of a.scenario a.entries.items));
+      clock = omega (arith, c.self.invariant.slow, a.entries.ok.0, c.self.invariant.few_entries);
+    }
+
 pub apply-reply-requires-clause-touches : goal.apply-reply-requires-clause-touches
 apply-reply-requires-clause-touches c =
     let a = c.self.inside in
@@ -80,6 +92,13 @@ invariant_of-self c =
       low_pids = c.self.invariant.low_pids;
       room_for_ended = omega (arith, c.push_reserved.ensures.capacity, c.apply-reply.ensures.ended, c.self.invariant.room_for_ended);
       user_top = c.self.invariant.user_top;
+      slow = omega (
+        arith,
+        c.push_reserved.ensures.len,
+        c.self.invariant.slow,
+        ap (λ (room : RoomState). room.clock) (c.apply-reply.ensures.makes.room),
+        clock-step (room_of a.scenario a.state) (is_fresh_by (numbers_of a.state)) c.args.event a.scenario.siblings limits,
+      );
       few_entries = omega (arith, c.push_reserved.ensures.capacity, c.self.invariant.few_entries);
     }
 

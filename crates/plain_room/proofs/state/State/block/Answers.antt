@@ -1,10 +1,13 @@
-use Rattle.std.proofs.Common.{◌≡◌, ap, ◌∙◌, refl, sym, false}
+use Rattle.std.proofs.Common.{◌≡◌, ap, ◌∙◌, refl, sym, subst, false, arith}
 use Rattle.cs_types.specs.declared.reply.Reply.TheVariants.{Slept}
 use Rattle.cs_types.specs.declared.scenario.Scenario.{Scenario}
 use Rattle.cs_types.specs.Room.{RoomState}
 use Rattle.cs_types.specs.Selection.{Scheduled, schedule, rescheduled}
 use Rattle.cs_types.specs.Step.{dequeued, idled}
 use Rattle.plain_room.specs.State.{room_of, numbers_of, took, Numbers}
+use Rattle.cs_types.specs.Time.{IsTimely}
+use Rattle.cs_types.proofs.Times.{IsTimely-slept}
+use Rattle.plain_room.proofs.States.{some_scenario}
 use Rattle.plain_room.proofs.Choices.{schedule_not_adopted}
 use Rattle.plain_room.proofs.Sleeps.{took-touched}
 use Rattle.plain_room.proofs.state.State.block.Goals as goal
@@ -16,6 +19,17 @@ scheduled_is : (c : goal.After-reschedule) (scenario : Scenario) →
 scheduled_is c scenario =
     ap (λ (room : RoomState). rescheduled room c.args.cpu) (c.idle.ensures.room scenario ∙ ap (λ (room : RoomState). idled room c.args.cpu) (c.dequeue.ensures.room scenario))
     ∙ sym (schedule_not_adopted (idled (dequeued (room_of scenario c.args.self.now) c.in-Some.task) c.args.cpu) false c.args.cpu refl)
+
+-- the room from which it schedules
+room_is : (c : goal.After-reschedule-arg-1) (scenario : Scenario) → room_of scenario c.idle.new.self ≡ idled (dequeued (room_of scenario c.args.self.now) c.in-Some.task) c.args.cpu
+room_is c scenario = c.idle.ensures.room scenario ∙ ap (λ (room : RoomState). idled room c.args.cpu) (c.dequeue.ensures.room scenario)
+
+pub reschedule-requires-clause-time : goal.reschedule-requires-clause-time
+reschedule-requires-clause-time c = record {
+  timely = λ scenario. subst (λ (room : RoomState). IsTimely room) (sym (room_is c scenario))
+      (IsTimely-slept (room_of scenario c.args.self.now) c.args.cpu c.in-Some.task (sym (c.in-Some.ensures.task scenario)) (c.requires.time.timely scenario));
+  clock = omega (arith, ap (λ (room : RoomState). room.clock) (room_is c some_scenario), c.requires.time.clock);
+}
 
 pub returns-clause-makes : goal.returns-clause-makes
 returns-clause-makes c scenario = record {

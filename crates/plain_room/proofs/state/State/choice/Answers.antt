@@ -11,4 +11,4 @@ returns c scenario =
     let mapped : c.map.result ≡ option_map (λ task. task.spec.pid) c.chosen-chosen.result = search rules in
     let run = mapped ∙ ap pid_of chosen in
     let at = sibling_at c.args.self.now.siblings.items c.args.cpu c.index.result.now c.requires c.index.ensures in
-    rw (at, run, c.is_forced.ensures, chosen, first) refl
+    rw (at, run, c.is_forced.ensures, c.is_fair_task.ensures, chosen, first) refl

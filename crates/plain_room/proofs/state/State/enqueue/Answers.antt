@@ -1,16 +1,19 @@
-use Rattle.std.proofs.Common.{refl, subst, true}
+use Rattle.std.proofs.Common.{ℕ, ◌+◌, ◌∙◌, ap, true}
 use Rattle.cs_types.specs.declared.task.Task.{Task}
-use Rattle.task_table.specs.Table.{IsSound as IsTable}
-use Rattle.plain_room.proofs.States.{found_fits, fit-changed, agree-changed}
+use Rattle.cs_types.specs.Room.{RoomState, with_task}
+use Rattle.plain_room.specs.State.{room_of}
+use Rattle.plain_room.specs.declared.state.State.{State}
 use Rattle.plain_room.proofs.state.State.enqueue.Goals as goal
 
 pub returns-clause-sound : goal.returns-clause-sound
 returns-clause-sound c count sound =
-    let fit = found_fits count c.args.self.now.next_pid c.args.task.spec.pid c.args.self.now.tasks.tasks c.args.task sound.tasks c.requires.there in
-    let task : Task = record c.args.task { queued = true; stamp = c.args.self.now.next_stamp } in
-    rw (c.touch.ensures, c.change.ensures.changed) (record {
-      siblings = sound.siblings;
-      table = subst IsTable c.change.ensures.changed c.change.ensures.sound;
-      tasks = fit-changed count c.args.self.now.next_pid task c.args.self.now.tasks.tasks (record { pid = fit.pid; below = fit.below; home = fit.home; policy = fit.policy }) sound.tasks;
-      refs = agree-changed c.args.self.now.refs 0 (λ t. record t { queued = true; stamp = c.args.self.now.next_stamp }) (λ t. refl) c.args.self.now.tasks.tasks c.args.task sound.table.rising c.requires.there sound.refs;
-    })
+    let changed = c.change.ensures.sound count sound in
+    rw c.touch.ensures (record { siblings = changed.siblings; table = changed.table; tasks = changed.tasks; refs = changed.refs })
+
+pub returns-clause-room : goal.returns-clause-room
+returns-clause-room c scenario =
+    let queued : Task = record c.args.task { queued = true; stamp = c.args.self.now.next_stamp } in
+    let stamped : RoomState → ℕ → RoomState = λ room stamp. record room { next_stamp = stamp + 1 } in
+    rw c.touch.ensures
+    (ap (λ (room : RoomState). stamped room c.change.new.self.next_stamp) (c.change.ensures.room scenario)
+    ∙ ap (λ (state : State). stamped (with_task (room_of scenario c.args.self.now) queued) state.next_stamp) c.change.ensures.rest)

@@ -1,31 +1,77 @@
-use Rattle.std.proofs.Common.{ap, ◌∙◌, sym, subst, ◌<◌, length}
-use Rattle.std.proofs.lemmas.Bool.{ne_eqb}
+use Rattle.std.proofs.Common.{ℕ, Bool, ◌≡◌, ap, ◌∙◌, sym, subst, ◌<◌, length, arith}
+use Rattle.std.proofs.lemmas.Bool.{cond-false}
+use Rattle.std.specs.Prelude.{Some, Ok, find}
 use Rattle.cs_types.specs.declared.reply.Reply.TheVariants.{Child}
 use Rattle.cs_types.specs.declared.task.Task.{Task}
-use Rattle.cs_types.specs.Room.{RoomState}
-use Rattle.cs_types.specs.Step.{queued_at_home, with_child}
-use Rattle.plain_room.specs.State.{room_of, Numbers, touched}
-use Rattle.plain_room.proofs.States.{found_fits}
+use Rattle.cs_types.specs.declared.task.TaskSpec.{TaskSpec}
+use Rattle.cs_types.specs.Scenario.{IsPolicy}
+use Rattle.cs_types.specs.Room.{RoomState, has_pid}
+use Rattle.cs_types.specs.Step.{Stepped, forked, settled, queued_at_home, child_of, with_child}
+use Rattle.plain_room.specs.State.{room_of, IsSound, Numbers, touched}
+use Rattle.plain_room.specs.Life.{MakesChild}
+use Rattle.plain_room.specs.declared.state.State.{State}
+use Rattle.plain_room.proofs.States.{found_fits, some_scenario}
 use Rattle.plain_room.proofs.state.State.fork.Goals as goal
+
+-- a child is at home on one of the siblings
+child_home : (old new : State) (caller : ℕ) (thread : Bool) (child : Task) → MakesChild old new caller thread (Ok child) → IsSound (length old.siblings.items) old →
+    child.home < length new.siblings.items
+child_home old new caller thread child makes sound =
+    let fit = found_fits (length old.siblings.items) old.next_pid caller old.tasks.tasks makes.0 sound.tasks makes.1 in
+    let born = makes.2 in
+    subst (λ (task : Task). task.home < length new.siblings.items) (sym born.is)
+    (subst (λ siblings. makes.0.home < length siblings) (sym (ap (λ s. s.items) born.siblings)) fit.home)
+
+pub settled-requires : goal.settled-requires
+settled-requires c =
+    child_home c.args.self.now c.make_child.new.self c.args.caller c.args.thread c.in-Ok.child c.in-Ok.ensures.makes c.requires.sound
+
+-- the settled child is the child but for its virtual time
+settled_is : (c : goal.After-settled) → c.settled.result ≡ settled (room_of some_scenario c.make_child.new.self) c.in-Ok.child
+settled_is c = c.settled.ensures some_scenario
+
+pub queue_at_home-requires-clause-known : goal.queue_at_home-requires-clause-known
+queue_at_home-requires-clause-known c =
+    let born = c.in-Ok.ensures.makes.2 in
+    let spec = ap (λ (task : Task). task.spec) (settled_is c) in
+    record {
+      old = c.in-Ok.child;
+      there = ap (λ (s : TaskSpec). find (has_pid s.pid) c.make_child.new.self.tasks.tasks) spec ∙ born.there;
+      spec = spec;
+      cookie = ap (λ (task : Task). task.cookie) (settled_is c);
+      home = ap (λ (task : Task). task.home) (settled_is c);
+    }
 
 pub queue_at_home-requires-clause-home : goal.queue_at_home-requires-clause-home
 queue_at_home-requires-clause-home c =
+    subst (λ home. home < length c.make_child.new.self.siblings.items) (sym (ap (λ (task : Task). task.home) (settled_is c)))
+    (child_home c.args.self.now c.make_child.new.self c.args.caller c.args.thread c.in-Ok.child c.in-Ok.ensures.makes c.requires.sound)
+
+pub queue_at_home-requires-clause-policy : goal.queue_at_home-requires-clause-policy
+queue_at_home-requires-clause-policy c =
     let makes = c.in-Ok.ensures.makes in
     let old = c.args.self.now in
     let fit = found_fits (length old.siblings.items) old.next_pid c.args.caller old.tasks.tasks makes.0 c.requires.sound.tasks makes.1 in
-    let born = makes.2 in
-    subst (λ (task : Task). task.home < length c.make_child.new.self.siblings.items) (sym born.is)
-    (subst (λ siblings. makes.0.home < length siblings) (sym (ap (λ s. s.items) born.siblings)) fit.home)
+    subst (λ (task : Task). IsPolicy task.spec.policy) (sym (settled_is c)) (subst (λ (task : Task). IsPolicy task.spec.policy) (sym makes.2.is) fit.policy)
+
+pub queue_at_home-requires-clause-clock : goal.queue_at_home-requires-clause-clock
+queue_at_home-requires-clause-clock c = omega (arith, c.in-Ok.ensures.makes.2.clock, c.requires.time.clock)
 
 pub returns-in-Ok-clause-makes : goal.returns-in-Ok-clause-makes
 returns-in-Ok-clause-makes c scenario =
     let makes = c.in-Ok.ensures.makes in
     let born = makes.2 in
-    let room_left = ne_eqb _ _ born.room_left in
+    let room = room_of scenario c.args.self.now in
+    let child = c.in-Ok.child in
+    let made : Task → Stepped = λ task. record { reply = Child task.spec.pid; room = queued_at_home (with_child room task) (settled room task) } in
+    let is : made child ≡ forked room c.args.thread (Some makes.0) =
+    ap made born.is ∙ sym (cond-false _ _ (made (child_of makes.0 c.args.thread room.next_pid)) born.allowed) in
+    let whole = is ∙ ap (forked room c.args.thread) (sym makes.1) in
     record {
-      reply = rw (makes.1, room_left) (ap (λ (task : Task). Child task.spec.pid) born.is);
-      room = rw (makes.1, room_left) (c.queue_at_home.ensures.room scenario
-          ∙ ap (λ (room : RoomState). queued_at_home room c.in-Ok.child) (born.room scenario)
-          ∙ ap (λ (task : Task). queued_at_home (with_child (room_of scenario c.args.self.now) task) task) born.is);
+      reply = ap (λ (m : Stepped). m.reply) whole;
+      room = c.queue_at_home.ensures.room scenario
+          ∙ ap (λ (now : RoomState). queued_at_home now c.settled.result) (born.room scenario)
+          ∙ ap (queued_at_home (with_child room child)) (c.settled.ensures scenario ∙ ap (λ (now : RoomState). settled now child) (born.room scenario))
+          ∙ ap (λ (m : Stepped). m.room) whole;
       numbers = c.queue_at_home.ensures.numbers ∙ ap (λ (numbers : Numbers). touched 1 numbers) born.numbers;
     }

@@ -1,10 +1,11 @@
-use Rattle.std.proofs.Common.{◌≡◌, ◌≢◌, ◌+◌, ap, ◌∙◌, refl, sym, subst, length, arith, eq-eqb}
-use Rattle.std.specs.Prelude.{Option, Some, None, Ok, Err, find, unwrap_or}
+use Rattle.std.proofs.Common.{◌≡◌, ◌+◌, false, ap, ◌∙◌, refl, sym, subst, inl, inr, length, arith}
+use Rattle.std.specs.Prelude.{◌==◌, ◌||◌, Option, Some, None, Ok, Err, find, unwrap_or}
 use Rattle.std.specs.Option.{IsSome}
-use Rattle.std.proofs.lemmas.Bool.{cond-true}
+use Rattle.std.proofs.lemmas.Bool.{cases_Bool, cond-true}
 use Rattle.std.proofs.lemmas.List.Elements.{All-weaker}
 use Rattle.cs_types.specs.declared.task.Task.{Task}
 use Rattle.cs_types.specs.Room.{has_pid}
+use Rattle.cs_types.specs.Order.{deadline_class, class_of}
 use Rattle.cs_types.specs.Step.{child_of, with_child}
 use Rattle.task_table.specs.Table.{Table}
 use Rattle.fork_inherit.specs.Answers.{fork_answer}
@@ -15,10 +16,17 @@ use Rattle.plain_room.proofs.Lives.{find-placed, next_is_unused}
 use Rattle.plain_room.proofs.state.State.make_child.Goals as goal
 
 -- where a child is made, the caller was found, and there was a place left
-caller_of : (table : Table) (found : Option Task) → fork_answer table found ≡ Ok tt → (by : Task) × (found ≡ Some by) × (length table.tasks ≢ table.limit)
+caller_of : (table : Table) (found : Option Task) → fork_answer table found ≡ Ok tt →
+    (by : Task) × (found ≡ Some by) × (((length table.tasks == table.limit) || (class_of by.spec.policy == deadline_class)) ≡ false)
 caller_of table None made = absurd cc
-caller_of table (Some by) made =
-    (by, refl, λ full. let bad : Err Eagain ≡ Ok tt = sym (cond-true _ _ _ (eq-eqb _ _ full)) ∙ made in absurd cc)
+caller_of table (Some by) made = (
+  by,
+  refl,
+  elim (cases_Bool ((length table.tasks == table.limit) || (class_of by.spec.policy == deadline_class))) [
+    | inl refused ↦ let bad : Err Eagain ≡ Ok tt = sym (cond-true _ _ _ refused) ∙ made in absurd cc
+    | inr allowed ↦ allowed
+  ],
+)
 
 pub fork-requires-clause-unused : goal.fork-requires-clause-unused
 fork-requires-clause-unused c =
@@ -49,7 +57,7 @@ returns c =
         by.0,
         by.1,
         record {
-          room_left = by.2;
+          allowed = by.2;
           is = is;
           room = λ scenario. rw (placed, c.fork.ensures.next, c.fork.ensures.limit) (ap (with_child (room_of scenario old)) (sym is));
           there = subst (λ (task : Task). find (has_pid task.spec.pid) c.fork.new.table.tasks ≡ Some task) (sym is) there;
@@ -68,6 +76,7 @@ returns c =
           ended = refl;
           stamp = refl;
           touches = refl;
+          clock = refl;
         },
       );
     }

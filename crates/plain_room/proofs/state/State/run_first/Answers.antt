@@ -2,7 +2,7 @@ use Rattle.std.proofs.Common.{◌≡◌, ◌∙◌, ap, refl, rules}
 use Rattle.std.specs.Option.{option_map}
 use Rattle.std.proofs.lemmas.List.{map-set}
 use Rattle.cs_types.specs.declared.scenario.Scenario.{Scenario}
-use Rattle.cs_types.specs.Selection.{pid_of, first_on}
+use Rattle.cs_types.specs.Selection.{pid_of, first_on, is_fair_task, noted, running}
 use Rattle.plain_room.specs.State.{sibling_state, room_of}
 use Rattle.plain_room.proofs.States.{sibling_at, numbers_kept}
 use Rattle.plain_room.proofs.state.State.run_first.Goals as goal
@@ -10,14 +10,24 @@ use Rattle.plain_room.proofs.state.State.run_first.Goals as goal
 -- the first that the code maps to its pid is the model's
 run_is : (c : goal.After-unwrap_or) (scenario : Scenario) → c.map-run.result ≡ pid_of (first_on (room_of scenario c.args.self.now) c.args.cpu)
 run_is c scenario =
-    let mapped : c.map-run.result ≡ option_map (λ task. task.spec.pid) c.first_on.result = search rules in
-    mapped ∙ ap pid_of (c.first_on.ensures scenario)
+    let mapped : c.map-run.result ≡ option_map (λ task. task.spec.pid) c.first_on-first.result = search rules in
+    mapped ∙ ap pid_of (c.first_on-first.ensures scenario)
+
+-- what the sibling becomes is what the model makes of it
+state_is : (c : goal.After-unwrap_or) (scenario : Scenario) → sibling_state c.noted.result
+    ≡ noted (is_fair_task (first_on (room_of scenario c.args.self.now) c.args.cpu))
+    (running (sibling_state c.index.result.now) (pid_of (first_on (room_of scenario c.args.self.now) c.args.cpu)))
+state_is c scenario =
+    let fair = c.is_fair_task.ensures ∙ ap is_fair_task (c.first_on-first.ensures scenario) in
+    let run = run_is c scenario in
+    c.noted.ensures.state ∙ ap (noted c.is_fair_task.result) c.running.ensures.state
+    ∙ (λ i. noted (fair i) (running (sibling_state c.index.result.now) (run i)))
 
 pub returns-clause-schedules : goal.returns-clause-schedules
 returns-clause-schedules c =
     let at = sibling_at c.args.self.now.siblings.items c.args.cpu c.index.result.now c.requires.cpu c.index.ensures in
     record {
       pick = λ scenario. rw (c.unwrap_or.ensures, run_is c scenario) refl;
-      room = λ scenario. rw (c.touch.ensures) (rw (map-set sibling_state, at) (rw (c.running.ensures.state, run_is c scenario) refl));
-      numbers = rw c.touch.ensures (rw (numbers_kept c.args.self.now.siblings.items c.args.cpu c.index.result.now c.running.result c.index.ensures c.running.ensures.number) refl);
+      room = λ scenario. rw (c.touch.ensures) (rw (map-set sibling_state, at) (rw (state_is c scenario) refl));
+      numbers = rw c.touch.ensures (rw (numbers_kept c.args.self.now.siblings.items c.args.cpu c.index.result.now c.noted.result c.index.ensures (c.noted.ensures.number ∙ c.running.ensures.number)) refl);
     }

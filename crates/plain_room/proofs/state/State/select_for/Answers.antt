@@ -1,5 +1,5 @@
 use Rattle.std.proofs.Common.{◌∙◌, ap, refl, map, arith, length, get_or}
-use Rattle.std.specs.Prelude.{count_by, is_some, ◌&&◌, List}
+use Rattle.std.specs.Prelude.{count_by, is_some, ◌&&◌, ◌||◌, ◌==◌, List}
 use Rattle.std.specs.List.{enumerate_from}
 use Rattle.std.proofs.lemmas.List.{length-map}
 use Rattle.cs_types.specs.Selection.{selected_room}
@@ -16,16 +16,18 @@ unfolding selected_room
 returns-clause-room c scenario =
     let room = room_of scenario c.args.self.now in
     let are = choices_are scenario c.args.self.now c.args.core c.choices-choices.result.items (c.choices-choices.ensures.each scenario) in
-    let forced = c.forced_count-self.ensures ∙ ap (count_by (λ (choice : Choice). choice.is_forced)) (c.deref.ensures.0 ∙ are) ∙ forced_count-choices room c.args.core in
+    let forced = c.forced_count-forced.ensures ∙ ap (count_by (λ (choice : Choice). choice.is_forced)) (c.deref.ensures.0 ∙ are) ∙ forced_count-choices room c.args.core in
     let occupation = c.occupation-self.ensures ∙ ap (count_by (λ (choice : Choice). choice.is_online && is_some choice.run)) (c.deref-2.ensures.0 ∙ are) ∙ occupation-choices room c.args.core in
+    let renews = c.renews_snapshots-renews.result in
+    let renews_is = c.renews_snapshots-renews.ensures ∙ ap (λ n. (c.args.self.now.forced == 0) || (n == 0)) forced in
     let tasks = ap (λ (choices : List Choice). map (remembered_task choices c.occupation-self.result) c.args.self.now.tasks.tasks) (c.deref-3.ensures.0 ∙ are)
     ∙ remembered-choices room c.args.core c.occupation-self.result c.args.self.now.tasks.tasks occupation in
     let kept_siblings = items-as_many c.args.self.now.siblings c.hand.new.siblings (c.hand.auto.siblings ∙ ap length c.deref_mut.ensures.value) in
     let siblings = ap (map sibling_state) kept_siblings
     ∙ c.hand.ensures.states
-    ∙ ap (λ (choices : List Choice). map (handed_choice c.args.cpu c.occupation-self.result choices) (enumerate_from 0 (map sibling_state c.deref_mut.result.now))) (c.deref-4.ensures.0 ∙ are)
-    ∙ ap (λ (siblings : List Sibling). map (handed_choice c.args.cpu c.occupation-self.result (choices_of room c.args.core)) (enumerate_from 0 (map sibling_state siblings))) c.deref_mut.ensures.value
-    ∙ handed-choices room c.args.core c.args.cpu c.occupation-self.result occupation in
+    ∙ ap (λ (choices : List Choice). map (handed_choice c.args.cpu c.occupation-self.result renews choices) (enumerate_from 0 (map sibling_state c.deref_mut.result.now))) (c.deref-4.ensures.0 ∙ are)
+    ∙ ap (λ (siblings : List Sibling). map (handed_choice c.args.cpu c.occupation-self.result renews (choices_of room c.args.core)) (enumerate_from 0 (map sibling_state siblings))) c.deref_mut.ensures.value
+    ∙ handed-choices room c.args.core c.args.cpu c.occupation-self.result renews occupation renews_is in
     rw c.remember.ensures.remembered (rw (tasks, siblings, forced, occupation) refl)
 
 pub returns-clause-run : goal.returns-clause-run
@@ -38,7 +40,7 @@ returns-clause-run c scenario =
 pub returns-clause-forced : goal.returns-clause-forced
 returns-clause-forced c scenario =
     let are = choices_are scenario c.args.self.now c.args.core c.choices-choices.result.items (c.choices-choices.ensures.each scenario) in
-    c.forced_count-self.ensures ∙ ap (count_by (λ (choice : Choice). choice.is_forced)) (c.deref.ensures.0 ∙ are) ∙ forced_count-choices (room_of scenario c.args.self.now) c.args.core
+    c.forced_count-forced.ensures ∙ ap (count_by (λ (choice : Choice). choice.is_forced)) (c.deref.ensures.0 ∙ are) ∙ forced_count-choices (room_of scenario c.args.self.now) c.args.core
 
 pub returns-clause-sound : goal.returns-clause-sound
 returns-clause-sound c count sound =

@@ -35,6 +35,7 @@ returns-clause-sets c =
       siblings = with_items old.siblings c.flag_runners.new.siblings;
       next_pid = old.next_pid;
       next_stamp = old.next_stamp;
+      clock = old.clock;
       core_cookie = old.core_cookie;
       forced = old.forced;
       occupation = old.occupation;
@@ -45,7 +46,7 @@ returns-clause-sets c =
       room = λ scenario.
           sets_one scenario old new c.args.task c.args.cookie c.requires.sound.table.rising c.requires.there c.change.ensures.changed
           (c.put.ensures.limit ∙ c.get.ensures.limit) (c.put.ensures.next ∙ c.get.ensures.next)
-          (ap (map sibling_state) kept ∙ c.flag_runners.ensures.states ∙ ap (λ siblings. map (flagged_for c.args.task.spec.pid) (map sibling_state siblings)) c.deref_mut.ensures.value) refl refl refl refl refl refl;
+          (ap (map sibling_state) kept ∙ c.flag_runners.ensures.states ∙ ap (λ siblings. map (flagged_for c.args.task.spec.pid) (map sibling_state siblings)) c.deref_mut.ensures.value) refl refl refl refl refl refl refl;
       numbers =
           sets_numbers (numbers_of c.args.self.now) c.args.task c.args.cookie c.touches.result _
           (ap (map number_of) kept ∙ c.flag_runners.ensures.numbers ∙ ap (map number_of) c.deref_mut.ensures.value) c.touches.ensures.touches;

@@ -1,0 +1,31 @@
+use Rattle.std.proofs.Common.{ℕ, ◌+◌, ◌≡◌, ◌∙◌, ap, sym, true}
+use Rattle.std.proofs.lemmas.Bool.{and_parts}
+use Rattle.cs_types.specs.declared.task.Task.{Task}
+use Rattle.cs_types.specs.Room.{RoomState, with_task}
+use Rattle.cs_types.specs.Time.{has_used_slice}
+use Rattle.plain_room.specs.State.{room_of}
+use Rattle.plain_room.specs.declared.state.State.{State}
+use Rattle.plain_room.proofs.Clocks.{sliced_behind, sliced_in_place, sliced_not}
+use Rattle.plain_room.proofs.state.State.begin_slice.Goals as goal
+
+pub returns-then-goes_behind-clause-room : goal.returns-then-goes_behind-clause-room
+returns-then-goes_behind-clause-room c scenario =
+    let room = room_of scenario c.args.self.now in
+    let behind = sym (c.requires.goes_behind scenario) ∙ c.if-goes_behind.true in
+    let used : has_used_slice c.args.task ≡ true = (and_parts (has_used_slice c.args.task) _ behind).0 in
+    let task : Task = record c.args.task { used = 0; stamp = c.args.self.now.next_stamp } in
+    let stamped : RoomState → ℕ → RoomState = λ now stamp. record now { next_stamp = stamp + 1 } in
+    ap (λ (now : RoomState). stamped now c.change.new.self.next_stamp) (c.change.ensures.room scenario)
+    ∙ ap (λ (state : State). stamped (with_task room task) state.next_stamp) c.change.ensures.rest
+    ∙ sliced_behind room c.args.cpu c.args.task used behind
+
+pub returns-then-has_used_slice-clause-room : goal.returns-then-has_used_slice-clause-room
+returns-then-has_used_slice-clause-room c scenario =
+    c.change-then-has_used_slice.ensures.room scenario
+    ∙ sliced_in_place (room_of scenario c.args.self.now) c.args.cpu c.args.task (sym c.has_used_slice.ensures ∙ c.if-has_used_slice.true)
+    (sym (c.requires.goes_behind scenario) ∙ c.if-goes_behind.false)
+
+pub returns-else-has_used_slice-clause-room : goal.returns-else-has_used_slice-clause-room
+returns-else-has_used_slice-clause-room c scenario =
+    sliced_not (room_of scenario c.args.self.now) c.args.cpu c.args.task c.requires.rising c.requires.there
+    (sym c.has_used_slice.ensures ∙ c.if-has_used_slice.false) (sym (c.requires.goes_behind scenario) ∙ c.if-goes_behind.false)

@@ -1,0 +1,68 @@
+use Rattle.std.proofs.Common.{◌<◌, ◌∙◌, ap, sym, length, arith}
+use Rattle.std.specs.Prelude.{option_copied, List}
+use Rattle.cs_types.specs.declared.task.Task.{Task}
+use Rattle.cs_types.specs.Room.{RoomState}
+use Rattle.plain_room.specs.Time.{grown_among}
+use Rattle.plain_room.specs.declared.state.State.{State}
+use Rattle.plain_room.specs.declared.sibling.Sibling.{Sibling}
+use Rattle.plain_room.proofs.States.{some_scenario}
+use Rattle.plain_room.proofs.Growth.{task_was, kept, there, grown_more}
+use Rattle.plain_room.proofs.state.State.grow_tasks.Goals as goal
+
+pub grown_among-task-requires-clause-used : goal.grown_among-task-requires-clause-used
+grown_among-task-requires-clause-used c =
+    let old = c.args.self.now in
+    let place = c.loop-place.place in
+    let task = c.unwrap-task.result.now in
+    let within : place < length old.tasks.tasks = omega (arith, c.loop-place-test.true, c.len-place-end.ensures.len) in
+    let at = sym c.at.ensures.task ∙ ap option_copied c.unwrap-task.ensures in
+    let was = task_was old.siblings.items c.args.delta old.tasks.tasks c.loop-place.self.tasks.tasks place task within c.loop-place.invariant.tasks at in
+    omega (arith, ap (λ (t : Task). t.used) was, ((c.requires.time.timely some_scenario).tasks place task within).used, c.requires.time.clock, c.requires.delta)
+
+pub grown_among-task-requires-clause-vtime : goal.grown_among-task-requires-clause-vtime
+grown_among-task-requires-clause-vtime c =
+    let old = c.args.self.now in
+    let place = c.loop-place.place in
+    let task = c.unwrap-task.result.now in
+    let within : place < length old.tasks.tasks = omega (arith, c.loop-place-test.true, c.len-place-end.ensures.len) in
+    let at = sym c.at.ensures.task ∙ ap option_copied c.unwrap-task.ensures in
+    let was = task_was old.siblings.items c.args.delta old.tasks.tasks c.loop-place.self.tasks.tasks place task within c.loop-place.invariant.tasks at in
+    omega (arith, ap (λ (t : Task). t.vtime) was, ((c.requires.time.timely some_scenario).tasks place task within).vtime, c.requires.time.clock, c.requires.delta)
+
+pub change-requires : goal.change-requires
+change-requires c =
+    let old = c.args.self.now in
+    let place = c.loop-place.place in
+    let task = c.unwrap-task.result.now in
+    let within : place < length old.tasks.tasks = omega (arith, c.loop-place-test.true, c.len-place-end.ensures.len) in
+    let at = sym c.at.ensures.task ∙ ap option_copied c.unwrap-task.ensures in
+    let siblings = c.deref.ensures.value ∙ ap (λ (state : State). state.siblings.items) c.loop-place.invariant.rest in
+    let is = c.grown_among-task.ensures ∙ ap (λ (ss : List Sibling). grown_among ss c.args.delta task) siblings in
+    let keeps = kept old.siblings.items c.args.delta old.tasks.tasks c.loop-place.self.tasks.tasks place task within c.loop-place.invariant.tasks at c.at.ensures.sound.rising c.grown_among-task.result is in
+    record {
+      known = record {
+        old = task;
+        there = there old.siblings.items c.args.delta old.tasks.tasks c.loop-place.self.tasks.tasks place task within c.loop-place.invariant.tasks at c.at.ensures.sound.rising c.grown_among-task.result is;
+        spec = keeps.spec;
+        cookie = keeps.cookie;
+        home = keeps.home;
+      };
+    }
+
+pub loop-place-preserved : goal.loop-place-preserved
+loop-place-preserved c =
+    let old = c.args.self.now in
+    let place = c.loop-place.place in
+    let task = c.unwrap-task.result.now in
+    let within : place < length old.tasks.tasks = omega (arith, c.loop-place-test.true, c.len-place-end.ensures.len) in
+    let at = sym c.at.ensures.task ∙ ap option_copied c.unwrap-task.ensures in
+    let siblings = c.deref.ensures.value ∙ ap (λ (state : State). state.siblings.items) c.loop-place.invariant.rest in
+    let is = c.grown_among-task.ensures ∙ ap (λ (ss : List Sibling). grown_among ss c.args.delta task) siblings in
+    let changed = c.change.ensures.room some_scenario in
+    record {
+      tasks = ap (λ (room : RoomState). room.tasks) changed
+          ∙ grown_more old.siblings.items c.args.delta old.tasks.tasks c.loop-place.self.tasks.tasks place task within c.loop-place.invariant.tasks at c.at.ensures.sound.rising c.grown_among-task.result is;
+      limit = ap (λ (room : RoomState). room.task_limit) changed ∙ c.loop-place.invariant.limit;
+      rest = c.change.ensures.rest ∙ ap (λ (state : State). let next : State = record state { tasks = c.change.new.self.tasks } in next) c.loop-place.invariant.rest;
+      sound = λ count sound. c.change.ensures.sound count (c.loop-place.invariant.sound count sound);
+    }
