@@ -17,4 +17,6 @@ mod offers;
 #[cfg(test)]
 mod parts;
 #[cfg(test)]
+mod queues;
+#[cfg(test)]
 mod scenarios;

@@ -73,6 +73,8 @@ fn tasks_of_a_table(rt: HostRuntime) {
     let task = table.find(2).expect(&rt, "a task");
     assert!(rt; task.spec.tgid == 1 && task.home == 1 && !task.queued);
     assert!(rt; task.cookie == 0 && task.stamp == 0 && task.occupation == 0);
+    assert!(rt; table.at(2).expect(&rt, "the last").spec.pid == 3);
+    assert!(rt; table.at(3).is_none());
 }
 
 #[test]
@@ -124,7 +126,7 @@ fn faults_are_told(rt: HostRuntime) {
     let nobody = format!(in rt.alloc(); "{}", ForkFault::NoCaller).expect(&rt, "room");
     assert!(rt; nobody.as_str() == "no living task has the caller's pid");
     let many = format!(in rt.alloc(); "{}", ForkFault::Eagain).expect(&rt, "room");
-    assert!(rt; many.as_str() == "as many tasks live as may");
+    assert!(rt; many.as_str() == "as many tasks live as may, or the caller is a deadline task");
     let led = format!(in rt.alloc(); "{}", HasThreads).expect(&rt, "room");
     assert!(rt; led.as_str() == "the task leads a thread group that has another member");
 }

@@ -39,7 +39,7 @@ macro_rules! after_head {
 }
 
 /// For each rule a text that breaks it alone.
-const REFUSED: [(&str, &str); 51] = [
+const REFUSED: [(&str, &str); 67] = [
     ("some line", ""),
     (
         "the version",
@@ -136,6 +136,16 @@ const REFUSED: [(&str, &str); 51] = [
         after_head!("step s0 fork 1 thread\nend\n"),
     ),
     ("an exit's own actor", after_head!("step c0 exit\nend\n")),
+    ("a tick's own actor", after_head!("step c0 tick\nend\n")),
+    (
+        "an advance's own actor",
+        after_head!("step s0 advance 1\nend\n"),
+    ),
+    ("the least advance", after_head!("step c0 advance 0\nend\n")),
+    (
+        "the greatest advance",
+        after_head!("step c0 advance 1000000001\nend\n"),
+    ),
     ("what a child is", after_head!("step c0 fork 1 task\nend\n")),
     (
         "the least pid of a fork",
@@ -155,11 +165,59 @@ const REFUSED: [(&str, &str); 51] = [
     ),
     (
         "the policy",
-        after_head!("task 2 2 2 0 rr:10 0 0 0 0 0 0 0 1 1\nend\n"),
+        after_head!("task 2 2 2 0 nice:10 0 0 0 0 0 0 0 1 1\nend\n"),
+    ),
+    (
+        "the stop task's lack of a number",
+        after_head!("task 2 2 2 0 stop:1 0 0 0 0 0 0 0 1 1\nend\n"),
+    ),
+    (
+        "a number of each other policy",
+        after_head!("task 2 2 2 0 fifo 0 0 0 0 0 0 0 1 1\nend\n"),
+    ),
+    (
+        "the least relative deadline",
+        after_head!("task 2 2 2 0 dl:0 0 0 0 0 0 0 0 1 1\nend\n"),
+    ),
+    (
+        "the greatest relative deadline",
+        after_head!("task 2 2 2 0 dl:1000000001 0 0 0 0 0 0 0 1 1\nend\n"),
+    ),
+    (
+        "the least priority",
+        after_head!("task 2 2 2 0 fifo:0 0 0 0 0 0 0 0 1 1\nend\n"),
     ),
     (
         "the greatest priority",
         after_head!("task 2 2 2 0 fifo:100 0 0 0 0 0 0 0 1 1\nend\n"),
+    ),
+    (
+        "the least priority of RR",
+        after_head!("task 2 2 2 0 rr:0 0 0 0 0 0 0 0 1 1\nend\n"),
+    ),
+    (
+        "the greatest priority of RR",
+        after_head!("task 2 2 2 0 rr:100 0 0 0 0 0 0 0 1 1\nend\n"),
+    ),
+    (
+        "no leading 0 of a priority",
+        after_head!("task 2 2 2 0 rr:07 0 0 0 0 0 0 0 1 1\nend\n"),
+    ),
+    (
+        "the least nice value",
+        after_head!("task 2 2 2 0 fair:-21 0 0 0 0 0 0 0 1 1\nend\n"),
+    ),
+    (
+        "the greatest nice value",
+        after_head!("task 2 2 2 0 fair:20 0 0 0 0 0 0 0 1 1\nend\n"),
+    ),
+    (
+        "no sign of a nice value 0",
+        after_head!("task 2 2 2 0 fair:-0 0 0 0 0 0 0 0 1 1\nend\n"),
+    ),
+    (
+        "no other sign of a nice value",
+        after_head!("task 2 2 2 0 fair:+5 0 0 0 0 0 0 0 1 1\nend\n"),
     ),
     (
         "the greatest id",
@@ -197,8 +255,11 @@ const REFUSED: [(&str, &str); 51] = [
     ),
 ];
 
-/// For each argument of a call the least and the greatest.
-const CALLS: [&str; 4] = [
+/// A tick, and for each argument of an advance and of a call the least and the greatest.
+const STEPS: [&str; 7] = [
+    after_head!("step s1 tick\nend\n"),
+    after_head!("step c0 advance 1\nend\n"),
+    after_head!("step c7 advance 1000000000\nend\n"),
     after_head!("step c0 prctl 1 0 -2147483648 0 0\nend\n"),
     after_head!(
         "step c7 prctl 999999 4294967295 2147483647 4294967295 18446744073709551615\nend\n"
@@ -208,10 +269,31 @@ const CALLS: [&str; 4] = [
 ];
 
 #[test]
-fn reads_calls(rt: HostRuntime) {
-    for text in &CALLS {
+fn reads_steps(rt: HostRuntime) {
+    for text in &STEPS {
         let scenario = read(rt.alloc(), text.as_bytes()).expect(&rt, text);
         assert!(rt; scenario.steps.items().len() == 1);
+    }
+}
+
+/// A task of each policy, with the least number and the greatest.
+const POLICIES: [&str; 9] = [
+    after_head!("task 2 2 2 0 stop 0 0 0 0 0 0 0 1 1\nend\n"),
+    after_head!("task 2 2 2 0 dl:1 0 0 0 0 0 0 0 1 1\nend\n"),
+    after_head!("task 2 2 2 0 dl:1000000000 0 0 0 0 0 0 0 1 1\nend\n"),
+    after_head!("task 2 2 2 0 fifo:1 0 0 0 0 0 0 0 1 1\nend\n"),
+    after_head!("task 2 2 2 0 fifo:99 0 0 0 0 0 0 0 1 1\nend\n"),
+    after_head!("task 2 2 2 0 rr:1 0 0 0 0 0 0 0 1 1\nend\n"),
+    after_head!("task 2 2 2 0 rr:99 0 0 0 0 0 0 0 1 1\nend\n"),
+    after_head!("task 2 2 2 0 fair:-20 0 0 0 0 0 0 0 1 1\nend\n"),
+    after_head!("task 2 2 2 0 fair:19 0 0 0 0 0 0 0 1 1\nend\n"),
+];
+
+#[test]
+fn reads_policies(rt: HostRuntime) {
+    for text in &POLICIES {
+        let scenario = read(rt.alloc(), text.as_bytes()).expect(&rt, text);
+        assert!(rt; scenario.tasks.items().len() == 2);
     }
 }
 

@@ -1,0 +1,115 @@
+//! The queues of a sibling: of each class, the run queue over them, and how much fair tasks weigh.
+
+ghost use Rattle.std.specs.Prelude.{◌≡◌, ◌<◌, ◌≤◌};
+ghost use Rattle.std.specs.FinMap.{empty};
+ghost use Rattle.cs_types.specs.Queue.{seat_of};
+
+use cs_types::{ClassQueue, Pid, Queued, Steps};
+use deadline_queue::DeadlineQueue;
+use fair_queue::{FairQueue, grow, weight};
+use rank_queue::RankQueue;
+use rt_queue::RtQueue;
+use run_queue::RunQueue;
+use std::marker::Brand;
+use std::process::Abort;
+use std::sync::ledger::{Blank, Ledger};
+
+// The outermost nice values, the middle, and one between.
+#[test]
+fn weights(rt: HostRuntime) {
+    assert!(rt; weight(-20) == 88761);
+    assert!(rt; weight(0) == 1024);
+    assert!(rt; weight(5) == 335);
+    assert!(rt; weight(19) == 15);
+}
+
+// Rounded down, and at the greatest growth of all.
+#[test]
+fn growths(rt: HostRuntime) {
+    assert!(rt; grow(1000, 5) == 3056);
+    assert!(rt; grow(1000, 0) == 1000);
+    assert!(rt; grow(1, -20) == 0);
+    assert!(rt; grow(u64::MAX, 19) == 1_259_297_728_765_238_723_584);
+}
+
+/// Expects that a queue without tasks takes two, has the one of the smaller rank before the earlier one,
+/// and gives both back.
+fn expect_two<L: Ledger, R: Abort, Q: ClassQueue>(rt: &R, mut queue: Q, steps: &mut Steps<L>)
+    requires { Q.members queue ≡ empty }
+{
+    queue.reserve(2).expect(rt, "room");
+    queue.put(20, 1, 7, steps);
+    queue.put(10, 2, 8, steps);
+    assert!(rt; queue.len() == 2);
+    assert!(rt; queue.top(steps) == Some(8));
+    assert!(rt; queue.take(10, 2, steps));
+    assert!(rt; !queue.take(10, 2, steps));
+    assert!(rt; queue.top(steps) == Some(7));
+    assert!(rt; queue.take(20, 1, steps));
+    assert!(rt; queue.top(steps).is_none());
+    assert!(rt; queue.len() == 0);
+}
+
+/// A task with this pid, of this class, at rank 5, whose stamp is its pid.
+fn queued(pid: Pid, class: u8) -> Queued
+    ensures class { result.class ≡ class }
+    ensures seat { seat_of result ≡ (class, (5, pid)) }
+{
+    Queued {
+        pid,
+        class,
+        rank: 5,
+        stamp: pid as u64,
+        cookie: 0,
+    }
+}
+
+/// Expects that this task is the first, and takes it out.
+fn expect_first<L: Ledger, R: Abort>(
+    rt: &R,
+    queue: &mut RunQueue,
+    task: Queued,
+    steps: &mut Steps<L>,
+)
+    requires { task.class ≤ Queued.FAIR }
+{
+    assert!(rt; queue.first(steps) == Some(task.pid));
+    assert!(rt; queue.dequeue(&task, steps));
+    assert!(rt; !queue.dequeue(&task, steps));
+}
+
+/// Expects that a run queue gives a task of each class back, the highest class first.
+fn expect_each_class<L: Ledger, R: AllocGlobal + Abort>(rt: &R, steps: &mut Steps<L>) {
+    let mut queue = RunQueue::empty(rt.alloc());
+    queue.reserve(4).expect(rt, "room");
+    queue.enqueue(queued(1, Queued::FAIR), steps);
+    queue.enqueue(queued(2, Queued::REAL_TIME), steps);
+    queue.enqueue(queued(3, Queued::DEADLINE), steps);
+    queue.enqueue(queued(4, Queued::STOP), steps);
+    assert!(rt; queue.count() == 4);
+    expect_first(rt, &mut queue, queued(4, Queued::STOP), steps);
+    expect_first(rt, &mut queue, queued(3, Queued::DEADLINE), steps);
+    expect_first(rt, &mut queue, queued(2, Queued::REAL_TIME), steps);
+    expect_first(rt, &mut queue, queued(1, Queued::FAIR), steps);
+    assert!(rt; queue.first(steps).is_none());
+    assert!(rt; queue.count() == 0);
+}
+
+/// Expects that each queue does so. The ledger of the blank is the one in which their steps are counted.
+fn expect_queues<L: Ledger, R: AllocGlobal + Abort>(rt: &R, blank: Blank)
+    requires name { blank.name ≡ L.name }
+    requires parts { blank.parts ≡ L.parts }
+    requires some { 0 < blank.parts }
+{
+    let mut steps = Steps::<L>::start(blank);
+    expect_two(rt, RankQueue::empty(rt.alloc()), &mut steps);
+    expect_two(rt, RtQueue::empty(rt.alloc()), &mut steps);
+    expect_two(rt, DeadlineQueue::empty(rt.alloc()), &mut steps);
+    expect_two(rt, FairQueue::empty(rt.alloc()), &mut steps);
+    expect_each_class(rt, &mut steps);
+}
+
+#[test]
+fn queues_in_order(rt: HostRuntime) {
+    expect_queues::<Brand, _>(&rt, Blank::new(1));
+}
