@@ -9,3 +9,5 @@ pub mod Selections
 pub mod Numbers
 pub mod Times
 pub mod Queues
+pub mod Accounts
+pub mod Rising

@@ -1,12 +1,13 @@
 -- Selections: a selection for the core keeps its law.
-use Rattle.std.proofs.Common.{◌≡◌, ℕ, Bool, ◌-◌, ◌<◌, true, false, cond, List, [], ◌∷◌, ◌++◌, map, length, refl, sym, ap, ◌∙◌, subst, inl, inr, Option, Some, None, arith}
-use Rattle.std.specs.Prelude.{◌==◌, ◌&&◌, ◌||◌, ◌⊎◌, ◌↔◌, filter, All, Contains, IsTrue, is_none, is_some}
+use Rattle.std.proofs.Common.{◌≡◌, ℕ, Bool, ◌-◌, ◌<◌, true, false, cond, List, [], ◌∷◌, ◌++◌, map, length, get_or, refl, sym, ap, ◌∙◌, subst, inl, inr, Option, Some, None, arith}
+use Rattle.std.specs.Prelude.{◌==◌, ◌&&◌, ◌||◌, ◌⊎◌, ◌↔◌, filter, count_by, All, Contains, IsTrue, is_none, is_some}
 use Rattle.std.specs.List.{AllByRecursion, range_with_len, enumerate_from}
 use Rattle.std.specs.Option.{option_and_then, option_to_list, IfSome, option_map_or}
-use Rattle.std.proofs.lemmas.Bool.{cases_Bool, cond_both, cases_lt, and_parts, and_from, or_parts, cond-true, eqb-true}
+use Rattle.std.proofs.lemmas.Bool.{cases_Bool, cond_both, cases_lt, and_parts, and_from, or_parts, cond-true, eqb-true, eq-eqb}
 use Rattle.std.proofs.lemmas.Bool.Decides.{nat_tests}
-use Rattle.std.proofs.lemmas.List.{length-map, get_or-map}
-use Rattle.std.proofs.lemmas.List.Elements.{All-from_recursion, recursion_from_All, All-contains, Contains-append_left, Contains-append_right, filter_passes}
+use Rattle.std.proofs.lemmas.List.{length-map, get_or-map, get_or_default}
+use Rattle.std.proofs.lemmas.List.Sums.{length-filter}
+use Rattle.std.proofs.lemmas.List.Elements.{All-from_recursion, recursion_from_All, All-contains, Contains-append_left, Contains-append_right, Contains-append_cases, All-contains_itself, filter_passes}
 use Rattle.std.proofs.lemmas.List.FromFn.{length-enumerate_from, get_or-enumerate_from}
 use Rattle.std.proofs.lemmas.Option.{MatchOption-from_none}
 use Rattle.cs_types.specs.declared.task.Task.{Task}
@@ -19,12 +20,12 @@ use Rattle.cs_types.specs.declared.scenario.Scenario.{Scenario}
 use Rattle.cs_types.specs.Scenario.{IsEvent}
 use Rattle.cs_types.specs.Room.{RoomState, SiblingState, idle, queued_on, sibling_of, is_online, online, online_from, running_on, task_of}
 use Rattle.cs_types.specs.Order.{foremost, is_higher_here, outranks, goes_before, first_of}
-use Rattle.cs_types.specs.Selection.{first_on, cookie_of, pid_of, is_fair_task, renews_snapshots, snapshot_of, lead_from, choice, eligible, is_forced, is_run, told, handed, given, occupation_of, selected_room, selected, Scheduled, is_plain, plain, rescheduled, scheduled, schedule}
+use Rattle.cs_types.specs.Selection.{to_run, first_on, cookie_of, pid_of, is_fair_task, renews_snapshots, snapshot_of, lead_from, choice, eligible, is_forced, forced_count, is_run, told, handed, given, occupation_of, selected_room, selected, Scheduled, is_plain, plain, rescheduled, scheduled, schedule}
 use Rattle.cs_types.specs.Prctl.{Row, first_answer, rows_before_making, rows_after_making, prctl_answer}
 use Rattle.cs_types.specs.Touches.{selection_of, is_fresh}
 use Rattle.cs_types.specs.Step.{Stepped, step, turned, blocked, woken, idled, dequeued, exited, forked, may_not_fork, ticked, without, has_threads}
 use Rattle.cs_types.specs.History.{History, moment_of, fold_of, ledger_of, reply_to, step_at}
-use Rattle.cs_types.specs.Laws.{to_run, SelectsForTheCore, scheduling_room, cpu_of}
+use Rattle.cs_types.specs.Laws.{SelectsForTheCore, scheduling_room, cpu_of}
 use Rattle.cs_types.proofs.Foremost.{each_weaker, foremost_none, foremost_one}
 use Rattle.cs_types.proofs.First.{goes_before_is_order, outranks_is_order, higher_at_home}
 use Rattle.cs_types.proofs.Filtered.{each_of_map, each_found, foremost_least, foremost-filter, Contains-filter, Contains-filter_parts, Contains-range, Contains-range_within}
@@ -84,19 +85,23 @@ online_from_holds room cpu other below up =
 
 -- ---- the lead
 
--- The lead is the earliest first than which no other is higher, since the sibling that selects has one.
-pub lead_found : (room : RoomState) (cpu : ℕ) → cpu < length room.siblings → is_online room cpu ≡ true →
+-- The lead is the earliest first than which no other is higher, where some sibling is online.
+lead_among : (room : RoomState) (cpu other : ℕ) → Contains (online_from room cpu) other →
     foremost (outranks (snapshot_of room)) (map (first_on room) (online_from room cpu)) ≡ Some (lead_from room cpu)
 unfolding lead_from
-lead_found room cpu below up = go (foremost (outranks (snapshot_of room)) firsts) refl where
+lead_among room cpu other held = go (foremost (outranks (snapshot_of room)) firsts) refl where
   firsts : List (Option Task)
   firsts = map (first_on room) (online_from room cpu)
 
   go : (found : Option (Option Task)) → foremost (outranks (snapshot_of room)) firsts ≡ found → found ≡ Some (option_and_then (λ lead. lead) found)
   go None none =
-      let held = online_from_holds room cpu cpu below up in
       absurd (omega (arith, held.1, length-map (online_from room cpu) (first_on room), ap length (foremost_none (outranks (snapshot_of room)) (outranks_is_order (snapshot_of room)) firsts none)))
   go (Some lead) found = refl
+
+-- The sibling that selects is online.
+pub lead_found : (room : RoomState) (cpu : ℕ) → cpu < length room.siblings → is_online room cpu ≡ true →
+    foremost (outranks (snapshot_of room)) (map (first_on room) (online_from room cpu)) ≡ Some (lead_from room cpu)
+lead_found room cpu below up = lead_among room cpu cpu (online_from_holds room cpu cpu below up)
 
 -- No task queued on an online sibling is higher than the lead.
 none_outranks_lead : (room : RoomState) (cpu other : ℕ) (lead : Option Task) →
@@ -218,6 +223,85 @@ sibling_of-selected_room room cpu core other below =
     get_or-map (given room core cpu) (enumerate_from 0 room.siblings) other (0, idle) idle (omega (arith, length-enumerate_from 0 room.siblings))
     ∙ ap (given room core cpu) (get_or-enumerate_from 0 room.siblings other (0, idle) below ∙ ap (λ n. (n, sibling_of room other)) (omega arith))
 
+-- ---- while a sibling is forced idle, some sibling has a task
+
+-- where some pass, one does, and the other way round
+some_of_count : (p : ℕ → Bool) (xs : List ℕ) → 0 < count_by p xs → (x : ℕ) × Contains xs x × (p x ≡ true)
+some_of_count p xs some =
+    let kept = filter p xs in
+    let long : 0 < length kept = omega (arith, some, length-filter p xs) in
+    let parts = Contains-filter_parts p xs (get_or kept 0 0) (0, long, get_or_default kept 0 (get_or kept 0 0) 0 long) in
+    (get_or kept 0 0, parts.0, parts.1)
+
+count_of_some : (p : ℕ → Bool) (xs : List ℕ) (x : ℕ) → Contains xs x → p x ≡ true → 0 < count_by p xs
+count_of_some p xs x held pass =
+    let kept = Contains-filter p xs x held pass in omega (arith, kept.1, length-filter p xs)
+
+-- an online sibling in the order from one is online
+from_is_online : (room : RoomState) (cpu other : ℕ) → cpu < length room.siblings → Contains (online_from room cpu) other → Contains (online room) other
+from_is_online room cpu other below held =
+    let later = range_with_len cpu (length room.siblings - cpu) in
+    let earlier = range_with_len 0 cpu in
+    let parts = Contains-filter_parts (is_online room) (later ++ earlier) other held in
+    let within : other < length room.siblings =
+    elim (Contains-append_cases later earlier other parts.0) [
+      | inl late ↦ omega (arith, (Contains-range_within cpu (length room.siblings - cpu) other late).1, below)
+      | inr early ↦ omega (arith, (Contains-range_within 0 cpu other early).1, below)
+    ] in
+    Contains-filter (is_online room) (range_with_len 0 (length room.siblings)) other (Contains-range 0 (length room.siblings) other (omega arith) (omega (arith, within))) parts.1
+
+-- a sibling whose first has the core cookie gets it
+choice_of_first : (room : RoomState) (core cpu : ℕ) → cookie_of (first_on room cpu) ≡ core → choice room core cpu ≡ first_on room cpu
+unfolding choice
+choice_of_first room core cpu same =
+    cond-true (is_none (first_on room cpu) || (cookie_of (first_on room cpu) == core)) _ _
+    (or_right (is_none (first_on room cpu)) (cookie_of (first_on room cpu) == core) (eq-eqb _ _ same)) where
+      or_right : (a b : Bool) → b ≡ true → (a || b) ≡ true
+      or_right true b pass = refl
+      or_right false b pass = pass
+
+-- So while some sibling is forced idle, the sibling of the lead has a task.
+pub occupied : (room : RoomState) (cpu : ℕ) → cpu < length room.siblings →
+    let core = cookie_of (lead_from room cpu) in 0 < forced_count room core → 0 < occupation_of room core
+occupied room cpu below forced = go (lead_from room cpu) refl where
+  firsts : List (Option Task)
+  firsts = map (first_on room) (online_from room cpu)
+
+  -- who is forced idle has a first
+  idle_one : (other : ℕ) × Contains (online room) other × (is_forced room (cookie_of (lead_from room cpu)) other ≡ true)
+  idle_one = some_of_count (is_forced room (cookie_of (lead_from room cpu))) (online room) forced
+
+  lead_is : foremost (outranks (snapshot_of room)) firsts ≡ Some (lead_from room cpu)
+  lead_is =
+      let parts = online_parts room idle_one.0 idle_one.1 in
+      lead_among room cpu idle_one.0 (online_from_holds room cpu idle_one.0 parts.0 parts.1)
+
+  go : (lead : Option Task) → lead_from room cpu ≡ lead → 0 < occupation_of room (cookie_of (lead_from room cpu))
+  go None none =
+      let other = idle_one.0 in
+      let parts = online_parts room other idle_one.1 in
+      let first = (and_parts (is_none (choice room (cookie_of (lead_from room cpu)) other)) (is_some (first_on room other)) idle_one.2).1 in
+      let least = each_of_map (λ first. outranks (snapshot_of room) first None ≡ false) (first_on room) (online_from room cpu)
+      (foremost_least (outranks (snapshot_of room)) firsts None (lead_is ∙ ap Some none)) in
+      let lower = All-contains (λ sibling. outranks (snapshot_of room) (first_on room sibling) None ≡ false) (online_from room cpu) other
+      (All-from_recursion (λ sibling. outranks (snapshot_of room) (first_on room sibling) None ≡ false) (online_from room cpu) least)
+      (online_from_holds room cpu other parts.0 parts.1) in
+      absurd (not_both (first_on room other) first lower) where
+        not_both : (first : Option Task) → is_some first ≡ true → outranks (snapshot_of room) first None ≡ false → ⊥
+        not_both None some lower = absurd cc
+        not_both (Some task) some lower = absurd cc
+  go (Some task) found =
+      let held = each_found (Contains firsts) _ firsts (Some task) (lead_is ∙ ap Some found)
+      (recursion_from_All (Contains firsts) firsts (All-contains_itself firsts)) in
+      let within : held.0 < length (online_from room cpu) = omega (arith, held.1, length-map (online_from room cpu) (first_on room)) in
+      let place = get_or (online_from room cpu) held.0 0 in
+      let its_first : first_on room place ≡ Some task =
+      sym (get_or-map (first_on room) (online_from room cpu) held.0 0 (Some task) within) ∙ held.2 in
+      let there = from_is_online room cpu place below (held.0, within, get_or_default (online_from room cpu) held.0 place 0 within) in
+      let same : cookie_of (first_on room place) ≡ cookie_of (lead_from room cpu) = ap cookie_of (its_first ∙ sym found) in
+      count_of_some (λ sibling. is_some (choice room (cookie_of (lead_from room cpu)) sibling)) (online room) place there
+      (ap is_some (choice_of_first room (cookie_of (lead_from room cpu)) place same ∙ its_first))
+
 -- ---- the law
 
 -- A selection for the core that an online sibling makes keeps its law.
@@ -243,6 +327,7 @@ selected_keeps_law room cpu below up =
       forced = λ other. forced_iff room core other;
       count = refl;
       counted = refl;
+      occupied = occupied room cpu below;
     }
 
 -- ---- the law at every step

@@ -20,6 +20,7 @@ use Rattle.cs_types.specs.Room.{RoomState, first_pid, has_pid, sibling_of, runni
 use Rattle.cs_types.specs.Selection.{remembered, selected_room, selected, plain, is_plain, rescheduled, scheduled, schedule}
 use Rattle.cs_types.specs.Prctl.{Setting, setting_of, makes_cookie, with_made, with_answer, prctl_answer, prctl_room}
 use Rattle.cs_types.specs.Step.{Stepped, step, woken, blocked, exited, forked, turned, dequeued, without, has_threads, child_of, settled, may_not_fork, with_child, queued_at_home, ticked, idled}
+use Rattle.cs_types.specs.Accounting.{accounted}
 use Rattle.cs_types.specs.Time.{advanced, grown, ticked_room}
 use Rattle.cs_types.specs.Touches.{is_fresh}
 use Rattle.cs_types.specs.History.{History, Moment, beginning, next, after, fold_of}
@@ -130,8 +131,8 @@ few-forked room thread (Some caller) =
           }
 
 few-ticked : (room : RoomState) (cpu : ℕ) (task : Option Task) → KeepsFew room (ticked room cpu task).room
-few-ticked room cpu None = as_many room room refl refl
-few-ticked room cpu (Some task) = as_many room (ticked_room room cpu task) refl (length-map room.tasks _)
+few-ticked room cpu None = as_many room (accounted room) refl refl
+few-ticked room cpu (Some task) = as_many room (ticked_room (accounted room) cpu task) refl (length-map room.tasks _)
 
 few-advanced : (room : RoomState) (delta : ℕ) → KeepsFew room (advanced room delta)
 unfolding advanced

@@ -54,7 +54,7 @@ all_replicate : {X : Type 0} (P : X → Type 0) (n : ℕ) (x : X) → P x → Al
 all_replicate P zero x is = tt
 all_replicate P (suc n) x is = (is, all_replicate P n x is)
 
-all_placed : (P : Task → Type 0) (task : Task) (tasks : List Task) → P task → AllByRecursion P tasks → AllByRecursion P (placed task tasks)
+pub all_placed : (P : Task → Type 0) (task : Task) (tasks : List Task) → P task → AllByRecursion P tasks → AllByRecursion P (placed task tasks)
 all_placed P task [] is all = (is, tt)
 all_placed P task (first ∷ rest) is all =
     cond_both (ltb task.spec.pid first.spec.pid) (task ∷ first ∷ rest) (first ∷ placed task rest) (AllByRecursion P) (λ _. (is, all))

@@ -5,9 +5,9 @@ use Rattle.cs_types.specs.declared.task.Task.{Task}
 use Rattle.cs_types.specs.declared.event.Event.{Event}
 use Rattle.cs_types.specs.declared.event.Event.TheVariants.{Block, Exit}
 use Rattle.cs_types.specs.declared.reply.Pick.{Pick}
-use Rattle.cs_types.specs.Room.{RoomState, SiblingState, queued_on, sibling_of, running_on, online, online_from}
+use Rattle.cs_types.specs.Room.{RoomState, queued_on, sibling_of, running_on, online, online_from}
 use Rattle.cs_types.specs.Order.{foremost, outranks, first_of}
-use Rattle.cs_types.specs.Selection.{first_on, cookie_of, pid_of, snapshot_of, choice, eligible, is_forced}
+use Rattle.cs_types.specs.Selection.{to_run, first_on, cookie_of, pid_of, snapshot_of, choice, eligible, is_forced}
 use Rattle.cs_types.specs.Touches.{scheduler_of}
 use Rattle.cs_types.specs.Step.{dequeued, without, idled}
 
@@ -20,10 +20,6 @@ abbrev pub scheduling_room : RoomState → Event → RoomState
 scheduling_room room (Block cpu) = option_map_or (λ task. idled (dequeued room task) cpu) (running_on room cpu) room
 scheduling_room room (Exit cpu) = option_map_or (λ task. idled (without room task) cpu) (running_on room cpu) room
 scheduling_room room event = room
-
--- what a sibling is to run: what waits for it, and what it runs where nothing waits
-abbrev pub to_run : SiblingState → Option ℕ
-to_run sibling = unwrap_or sibling.waiting sibling.run
 
 -- What a selection for the core that a sibling made in the one room leaves in the other.
 pub record SelectsForTheCore (before : RoomState) (cpu : ℕ) (pick : Pick) (now : RoomState) : Type 0 where
@@ -50,3 +46,5 @@ pub record SelectsForTheCore (before : RoomState) (cpu : ℕ) (pick : Pick) (now
       ↔ ((0 < length (queued_on before other)) × (eligible before now.core_cookie other ≡ []))
   pub count : now.forced ≡ count_by (is_forced before now.core_cookie) (online before)
   pub counted : pick.forced ≡ now.forced
+  -- While one is, some sibling has a task.
+  pub occupied : 0 < now.forced → 0 < now.occupation

@@ -6,6 +6,7 @@ pub mod Time
 pub mod Errno
 pub mod Access
 pub mod Prctl
+pub mod Accounting
 pub mod Touches
 pub mod Step
 pub mod History

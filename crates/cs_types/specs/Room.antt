@@ -26,8 +26,9 @@ pub record SiblingState : Type 0 where
 
 -- the core, with the limits of its scenario, which no step changes: the clock, its living tasks, by rising pid, the pids of those
 -- that ended, in the order of their ends, the next pid, the next stamp and the next cookie, the core
--- cookie (`core_cookie` of `rq->core`), how many siblings are forced idle (`core_forceidle_count`), and for how many
--- a task was chosen (`core_forceidle_occupation`)
+-- cookie (`core_cookie` of `rq->core`), how many siblings are forced idle (`core_forceidle_count`), for how many
+-- a task was chosen (`core_forceidle_occupation`), and since when the open interval of forced idle has not been charged,
+-- none where none is open (`core_forceidle_start`)
 pub record RoomState : Type 0 where
   pub task_limit : ℕ
   pub cookie_limit : ℕ
@@ -42,6 +43,7 @@ pub record RoomState : Type 0 where
   pub core_cookie : ℕ
   pub forced : ℕ
   pub occupation : ℕ
+  pub started : Option ℕ
 
 -- ---- the start
 
@@ -105,6 +107,7 @@ start scenario =
       core_cookie = 0;
       forced = 0;
       occupation = 0;
+      started = None;
     }
 
 -- ---- parts of a room

@@ -80,6 +80,10 @@ is_run (Some a) (Some b) = a == b
 is_run None (Some b) = false
 is_run (Some a) None = false
 
+-- what a sibling is to run: what waits for it, and what it runs where nothing waits
+abbrev pub to_run : SiblingState → Option ℕ
+to_run sibling = unwrap_or sibling.waiting sibling.run
+
 -- the sibling runs this from now on, nothing waits for it, and its reschedule is no longer pending
 -- (`clear_tsk_need_resched`)
 abbrev pub running : SiblingState → Option ℕ → SiblingState
@@ -117,7 +121,7 @@ plain room cpu =
     let first = first_on room cpu in
     record {
       pick = record { kind = Plain; run = unwrap_or (pid_of first) 0; core = 0; forced = 0 };
-      room = with_sibling (record room { forced = 0; occupation = 0 }) cpu
+      room = with_sibling (record room { forced = 0; occupation = 0; started = None }) cpu
           (noted (is_fair_task first) (running (sibling_of room cpu) (pid_of first)));
     }
 
@@ -163,7 +167,8 @@ given room core selector place =
     let chosen = choice room core place.0 in
     handed selector (occupation_of room core) (pid_of chosen) (is_fair_task chosen && renews_snapshots room core) place
 
--- the room once the online siblings have their choices for this core cookie
+-- the room once the online siblings have their choices for this core cookie. An interval of forced idle opens where some
+-- sibling is forced idle and the core has a cookie (that it needs one is this project's rule).
 unfoldable pub selected_room : RoomState → ℕ → ℕ → RoomState
 selected_room room cpu core =
     record room {
@@ -172,6 +177,7 @@ selected_room room cpu core =
       core_cookie = core;
       forced = forced_count room core;
       occupation = occupation_of room core;
+      started = if (forced_count room core == 0) || (core == 0) then None else Some room.clock;
     }
 
 -- The core's cookie becomes the lead's, and each online sibling gets its choice for it.

@@ -14,6 +14,7 @@ use Rattle.cs_types.specs.declared.reply.Errno.TheVariants.{Eagain}
 use Rattle.cs_types.specs.declared.reply.Pick.{Pick}
 use Rattle.cs_types.specs.Room.{RoomState, asleep, placed, has_pid, task_of, sibling_of, running_on, with_sibling, with_task, flagged}
 use Rattle.cs_types.specs.Order.{deadline_class, class_of, is_higher_here}
+use Rattle.cs_types.specs.Accounting.{accounted}
 use Rattle.cs_types.specs.Time.{advanced, ticked_room, asks_at_tick}
 use Rattle.cs_types.specs.Selection.{Scheduled, schedule}
 use Rattle.cs_types.specs.Prctl.{prctl_answer, prctl_room}
@@ -161,11 +162,12 @@ forked room thread (Some caller) =
 abbrev pub advancing : RoomState → ℕ → Stepped
 advancing room delta = record { reply = Now (room.clock + delta); room = advanced room delta }
 
--- The sibling runs idle, or its running task is asked to leave or not.
+-- The open interval is charged (`sched_core_tick`). Then the sibling runs idle, or its running task is asked to leave or
+-- not.
 abbrev pub ticked : RoomState → ℕ → Option Task → Stepped
-ticked room cpu None = record { reply = Ticked false; room = room }
+ticked room cpu None = record { reply = Ticked false; room = accounted room }
 ticked room cpu (Some task) =
-    record { reply = Ticked (asks_at_tick room cpu task); room = ticked_room room cpu task }
+    record { reply = Ticked (asks_at_tick room cpu task); room = ticked_room (accounted room) cpu task }
 
 -- ---- every event
 

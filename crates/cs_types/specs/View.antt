@@ -4,12 +4,20 @@ use Rattle.cs_types.specs.declared.task.Task.{Task}
 use Rattle.cs_types.specs.declared.view.CoreView.{CoreView}
 use Rattle.cs_types.specs.declared.view.CpuView.{CpuView}
 use Rattle.cs_types.specs.declared.view.TaskView.{TaskView}
+use Rattle.cs_types.specs.declared.view.EndView.{EndView}
 use Rattle.cs_types.specs.Room.{RoomState, sibling_of}
-use Rattle.cs_types.specs.Touches.{own_number}
+use Rattle.cs_types.specs.Accounting.{total_of}
+use Rattle.cs_types.specs.Touches.{Ledger, intervals_of, own_number}
 use Rattle.cs_types.specs.History.{Moment}
 
-abbrev pub core_view : RoomState → CoreView
-core_view room = record { cookie = room.core_cookie; forced = room.forced; occupation = room.occupation }
+abbrev pub core_view : Moment → CoreView
+core_view moment =
+    record {
+      cookie = moment.room.core_cookie;
+      forced = moment.room.forced;
+      occupation = moment.room.occupation;
+      intervals = length (intervals_of moment.ledger);
+    }
 
 -- none where there is no such sibling
 abbrev pub cpu_view : Moment → ℕ → Option CpuView
@@ -27,6 +35,21 @@ cpu_view moment cpu =
 abbrev pub task_after : RoomState → ℕ → Option Task
 task_after room pid = find (λ task. nat_lt pid task.spec.pid) room.tasks
 
-abbrev pub task_view : Task → TaskView
-task_view task =
-    record { pid = task.spec.pid; cpu = task.home; queued = task.queued; cookie = task.cookie; vtime = task.vtime }
+-- what a task was charged for forced idle in a history
+abbrev pub forced_of : Ledger → ℕ → ℕ
+forced_of ledger pid = total_of pid (intervals_of ledger)
+
+abbrev pub task_view : Ledger → Task → TaskView
+task_view ledger task =
+    record {
+      pid = task.spec.pid;
+      cpu = task.home;
+      queued = task.queued;
+      cookie = task.cookie;
+      forced = forced_of ledger task.spec.pid;
+      vtime = task.vtime;
+    }
+
+-- a task that ended, by its pid
+abbrev pub end_view : Ledger → ℕ → EndView
+end_view ledger pid = record { pid = pid; forced = forced_of ledger pid }

@@ -21,4 +21,4 @@ pub use room::Room;
 pub use scenario::Scenario;
 pub use steps::Steps;
 pub use task::{Cookie, Cpu, Creds, Pid, Policy, Task, TaskSpec};
-pub use view::{CoreView, CpuView, TaskView};
+pub use view::{CoreView, CpuView, EndView, TaskView};

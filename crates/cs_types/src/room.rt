@@ -6,13 +6,13 @@ ghost use Rattle.cs_types.specs.declared.scenario.Scenario.{Scenario};
 ghost use Rattle.cs_types.specs.Scenario.{IsEvent};
 ghost use Rattle.cs_types.specs.Touches.{task_number, pick_number, selection_of};
 ghost use Rattle.cs_types.specs.History.{History, moment_of, fold_of, ledger_of, reply_to, IsLegal};
-ghost use Rattle.cs_types.specs.View.{core_view, cpu_view, task_after, task_view};
+ghost use Rattle.cs_types.specs.View.{core_view, cpu_view, task_after, task_view, end_view};
 ghost use Rattle.cs_types.specs.Laws.{SelectsForTheCore, scheduling_room, cpu_of};
 
 use crate::event::{Actor, Event};
 use crate::reply::{Entry, Reply};
 use crate::task::{Cpu, Pid};
-use crate::view::{CoreView, CpuView, TaskView};
+use crate::view::{CoreView, CpuView, EndView, TaskView};
 
 /// A machine. Whatever it keeps, it stands for a scenario and the legal history of the steps that
 /// were made, and what it shows is the fold of that history.
@@ -75,7 +75,7 @@ pub trait Room: Drop {
 
     /// What the siblings share.
     fn core(&self) -> CoreView
-        ensures { result ≡ core_view (fold_of (scenario self.now) (history self.now)) };
+        ensures { result ≡ core_view (moment_of (scenario self.now) (history self.now)) };
 
     /// A sibling. `None` exactly where the core has no such sibling.
     fn cpu(&self, cpu: Cpu) -> Option<CpuView>
@@ -83,7 +83,14 @@ pub trait Room: Drop {
 
     /// The living task with the least pid above this one. `None` exactly where there is none.
     fn task_after(&self, pid: Pid) -> Option<TaskView>
-        ensures { result ≡ option_map task_view (task_after (fold_of (scenario self.now) (history self.now)) pid) };
+        ensures { result ≡ option_map (task_view (ledger_of (scenario self.now) (history self.now)))
+            (task_after (fold_of (scenario self.now) (history self.now)) pid) };
+
+    /// A task that ended, by the place of its end, from 0 for the first. `None` exactly where no more
+    /// ended.
+    fn ended(&self, place: u64) -> Option<EndView>
+        ensures { result ≡ option_map (end_view (ledger_of (scenario self.now) (history self.now)))
+            (slice_get (fold_of (scenario self.now) (history self.now)).ended place) };
 
     /// Each reply so far is the one that the rules give at its place.
     ghost legal: { (room : Self) → IsLegal (scenario room) (history room) };

@@ -11,6 +11,8 @@ pub struct CoreView {
     pub forced: u8,
     /// For how many siblings that schedule chose a task, a count.
     pub occupation: u8,
+    /// How many intervals of forced idle were recorded, a count. One that is open is none of them.
+    pub intervals: u64,
 }
 
 /// A sibling.
@@ -35,6 +37,16 @@ pub struct TaskView {
     pub queued: bool,
     /// Its cookie, 0 for none.
     pub cookie: Cookie,
+    /// What it was charged for forced idle, in ns.
+    pub forced: u64,
     /// Its virtual time, in ns, below 2^80.
     pub vtime: u128,
+}
+
+/// A task that ended.
+#[derive(Clone, Copy)]
+pub struct EndView {
+    pub pid: Pid,
+    /// What it was charged for forced idle, in ns.
+    pub forced: u64,
 }

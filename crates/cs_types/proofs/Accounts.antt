@@ -1,0 +1,405 @@
+-- Accounts: how the recorded intervals and the totals go on by one entry, and how far they come in a history.
+use Rattle.std.proofs.Common.{◌≡◌, ℕ, ◌+◌, ◌-◌, ◌*◌, ◌/◌, ◌≤◌, Bool, true, false, cond, not, ltb, eqb, List, [], ◌∷◌, ◌++◌, length, refl, sym, ap, ◌∙◌, subst, Option, Some, None, arith}
+use Rattle.std.specs.Prelude.{◌||◌, filter, sum_by, unwrap_or}
+use Rattle.std.specs.List.{filter_map, range_with_len}
+use Rattle.std.specs.Option.{option_map}
+use Rattle.std.proofs.Math.Nat.{div-le_self}
+use Rattle.std.proofs.lemmas.Bool.{cond_both}
+use Rattle.std.proofs.lemmas.List.Sums.{sum_by-cons, count_by-le-length}
+use Rattle.std.proofs.lemmas.List.Filters.{length-filter_both}
+use Rattle.std.proofs.lemmas.List.{length-replicate}
+use Rattle.std.proofs.lemmas.List.FromFn.{length-range_with_len}
+use Rattle.cs_types.specs.declared.task.Task.{Task}
+use Rattle.cs_types.specs.declared.event.Event.{Event}
+use Rattle.cs_types.specs.declared.event.Event.TheVariants.{Turn, Resched, Block, Exit, Tick, Wake, Advance, Fork, Prctl}
+use Rattle.cs_types.specs.declared.event.Ask.{Ask}
+use Rattle.cs_types.specs.declared.reply.Reply.{Reply}
+use Rattle.cs_types.specs.declared.reply.Reply.TheVariants.{Picked, Ended, Now, Zero}
+use Rattle.cs_types.specs.declared.reply.Entry.{Entry}
+use Rattle.cs_types.specs.declared.event.Step.{Step}
+use Rattle.cs_types.specs.declared.scenario.Scenario.{Scenario}
+use Rattle.cs_types.specs.Room.{RoomState, idle, is_online, online, sibling_of, running_on, task_of}
+use Rattle.cs_types.specs.Selection.{Scheduled, choice, is_forced, forced_count, lead_from, cookie_of, selected_room, selected, plain, is_plain, rescheduled, scheduled, schedule}
+use Rattle.cs_types.specs.Accounting.{Interval, share, charges, total_of, charged, up_to_now, open_interval, closes, is_charging, interval_by, accounted}
+use Rattle.cs_types.specs.Time.{advanced}
+use Rattle.cs_types.specs.Prctl.{Row, first_answer, rows_before_making, rows_after_making, Setting, setting_of, makes_cookie, with_made, with_answer, prctl_answer, prctl_room}
+use Rattle.cs_types.specs.Step.{Stepped, step, woken, turned, blocked, exited, forked, may_not_fork, ticked, dequeued, without, has_threads, idled}
+use Rattle.cs_types.specs.Touches.{Noted, Ledger, noted, intervals_of, is_fresh}
+use Rattle.cs_types.specs.History.{History, Moment, beginning, next, after, moment_of, ledger_of, entry_of, made_from, history_of}
+use Rattle.cs_types.proofs.Siblings.{onlines-step, onlines-idled, onlines-without, length-alike}
+
+-- ---- one interval more
+
+-- one more interval, if there is one
+abbrev pub with_one : Option Interval → List Interval → List Interval
+with_one None intervals = intervals
+with_one (Some interval) intervals = interval ∷ intervals
+
+pub intervals_of-cons : (note : Noted) (ledger : Ledger) → intervals_of (note ∷ ledger) ≡ with_one note.interval (intervals_of ledger)
+intervals_of-cons note ledger =
+    elim note.interval as (λ one. filter_map (λ (n : Noted). n.interval) (record note { interval = one } ∷ ledger) ≡ with_one one (intervals_of ledger)) [
+      | None ↦ refl
+      | Some interval ↦ refl
+    ]
+
+-- what an interval charges the task with the pid
+abbrev pub owed : ℕ → Option Interval → ℕ
+owed pid None = 0
+owed pid (Some interval) = cond (charges pid interval) (share interval) 0
+
+total_of-cons : (pid : ℕ) (interval : Interval) (intervals : List Interval) → total_of pid (interval ∷ intervals) ≡ total_of pid intervals + owed pid (Some interval)
+unfolding total_of
+total_of-cons pid interval intervals =
+    elim (charges pid interval) as (λ b. sum_by share (cond b (interval ∷ filter (charges pid) intervals) (filter (charges pid) intervals)) ≡ sum_by share (filter (charges pid) intervals) + cond b (share interval) 0) [
+      | true ↦ omega (arith, sum_by-cons share interval (filter (charges pid) intervals))
+      | false ↦ omega arith
+    ]
+
+pub total_of-noted : (pid : ℕ) (one : Option Interval) (intervals : List Interval) → total_of pid (with_one one intervals) ≡ total_of pid intervals + owed pid one
+total_of-noted pid None intervals = omega arith
+total_of-noted pid (Some interval) intervals = total_of-cons pid interval intervals
+
+-- ---- how many intervals there are
+
+length-with_one : (one : Option Interval) (intervals : List Interval) → length (with_one one intervals) ≤ length intervals + 1
+length-with_one None intervals = omega arith
+length-with_one (Some interval) intervals = omega arith
+
+intervals_after : (moment : Moment) (entries : List Entry) → length (intervals_of (after moment entries).ledger) ≤ length (intervals_of moment.ledger) + length entries
+intervals_after moment [] = omega arith
+intervals_after moment (entry ∷ entries) =
+    let note = noted moment.room entry in
+    omega (arith, intervals_after (next moment entry) entries, ap length (intervals_of-cons note moment.ledger), length-with_one note.interval (intervals_of moment.ledger))
+
+-- Each entry records one interval at most.
+pub intervals-ledger_of : (scenario : Scenario) (history : History) → length (intervals_of (ledger_of scenario history)) ≤ length history
+intervals-ledger_of scenario history = omega (arith, intervals_after (beginning scenario) history)
+
+-- ---- what a step leaves of the open interval
+
+-- since when nothing of the time has been charged
+abbrev pub charged_up_to : RoomState → ℕ
+charged_up_to room = unwrap_or room.started room.clock
+
+-- an interval that is open did not begin later than now, and not too many siblings are forced idle
+pub record IsOpen (most : ℕ) (room : RoomState) : Type 0 where
+  pub started : charged_up_to room ≤ room.clock
+  pub few : room.forced ≤ most
+
+-- what a reply and the room after it make of the open interval
+pub record Accounts (most : ℕ) (old : RoomState) (reply : Reply) (new : RoomState) : Type 0 where
+  pub opened : IsOpen most new
+  -- what charges has charged up to now
+  pub charging : is_charging reply ≡ true → charged_up_to new ≡ old.clock
+  -- what does not leaves it
+  pub other : charged_up_to old ≤ charged_up_to new
+
+-- the same of a step that was made
+abbrev pub StepAccounts : ℕ → RoomState → Stepped → Type 0
+StepAccounts most room made = Accounts most room made.reply made.room
+
+-- a step that leaves the clock, the interval and the counts, and does not charge
+unchanged : (most : ℕ) (old : RoomState) (reply : Reply) (new : RoomState) → IsOpen most old → is_charging reply ≡ false →
+    new.started ≡ old.started → new.clock ≡ old.clock → new.forced ≡ old.forced → Accounts most old reply new
+unchanged most old reply new opened free started clock forced =
+    let same : charged_up_to new ≡ charged_up_to old = λ i. unwrap_or (started i) (clock i) in
+    record {
+      opened = record { started = omega (arith, same, clock, opened.started); few = omega (arith, forced, opened.few) };
+      charging = λ yes. let bad : false ≡ true = sym free ∙ yes in absurd cc;
+      other = omega (arith, same);
+    }
+
+-- no more siblings are forced idle than there are
+forced_count-le : (room : RoomState) (core : ℕ) → forced_count room core ≤ length room.siblings
+forced_count-le room core =
+    let all = range_with_len 0 (length room.siblings) in
+    omega (
+      arith,
+      count_by-le-length (is_forced room core) (online room),
+      length-filter_both (is_online room) (λ cpu. not (is_online room cpu)) (λ cpu. refl) all,
+      length-range_with_len 0 (length room.siblings),
+    )
+
+-- a selection has charged up to now
+now-selected : (room : RoomState) (cpu : ℕ) → charged_up_to (selected room cpu).room ≡ room.clock
+unfolding selected_room
+now-selected room cpu =
+    let core = cookie_of (lead_from room cpu) in
+    cond_both (eqb (forced_count room core) 0 || eqb core 0) None (Some room.clock) (λ started. unwrap_or started room.clock ≡ room.clock) (λ _. refl) (λ _. refl)
+
+now-rescheduled : (room : RoomState) (cpu : ℕ) → charged_up_to (rescheduled room cpu).room ≡ room.clock
+now-rescheduled room cpu =
+    cond_both (is_plain room cpu) (plain room cpu) (selected room cpu) (λ (made : Scheduled). charged_up_to made.room ≡ room.clock) (λ _. refl)
+    (λ _. now-selected room cpu)
+
+clock-selected : (room : RoomState) (cpu : ℕ) → (selected room cpu).room.clock ≡ room.clock
+unfolding selected_room
+clock-selected room cpu = refl
+
+forced-selected : (room : RoomState) (cpu : ℕ) → (selected room cpu).room.forced ≤ length room.siblings
+unfolding selected_room
+forced-selected room cpu = forced_count-le room (cookie_of (lead_from room cpu))
+
+accounts-selected : (most : ℕ) (room : RoomState) (cpu : ℕ) → length room.siblings ≤ most → IsOpen most room →
+    Accounts most room (Picked (selected room cpu).pick) (selected room cpu).room
+accounts-selected most room cpu few opened =
+    record {
+      opened = record { started = omega (arith, now-selected room cpu, clock-selected room cpu); few = omega (arith, forced-selected room cpu, few) };
+      charging = λ _. now-selected room cpu;
+      other = omega (arith, now-selected room cpu, opened.started);
+    }
+
+accounts-rescheduled : (most : ℕ) (room : RoomState) (cpu : ℕ) → length room.siblings ≤ most → IsOpen most room →
+    Accounts most room (Picked (rescheduled room cpu).pick) (rescheduled room cpu).room
+accounts-rescheduled most room cpu few opened =
+    cond_both (is_plain room cpu) (plain room cpu) (selected room cpu) (λ (made : Scheduled). Accounts most room (Picked made.pick) made.room)
+    (λ _. record { opened = record { started = omega arith; few = omega arith }; charging = λ _. refl; other = omega (arith, opened.started) })
+    (λ _. accounts-selected most room cpu few opened)
+
+accounts-scheduled : (most : ℕ) (room : RoomState) (fresh : Bool) (cpu : ℕ) (waiting : Option (Option ℕ)) → length room.siblings ≤ most → IsOpen most room →
+    Accounts most room (Picked (scheduled room fresh cpu waiting).pick) (scheduled room fresh cpu waiting).room
+accounts-scheduled most room fresh cpu None few opened = accounts-rescheduled most room cpu few opened
+accounts-scheduled most room true cpu (Some run) few opened =
+    unchanged most room (Picked (scheduled room true cpu (Some run)).pick) (scheduled room true cpu (Some run)).room opened refl refl refl refl
+accounts-scheduled most room false cpu (Some run) few opened = accounts-rescheduled most room cpu few opened
+
+accounts-schedule : (most : ℕ) (room : RoomState) (fresh : Bool) (cpu : ℕ) → length room.siblings ≤ most → IsOpen most room →
+    Accounts most room (Picked (schedule room fresh cpu).pick) (schedule room fresh cpu).room
+accounts-schedule most room fresh cpu few opened = accounts-scheduled most room fresh cpu (sibling_of room cpu).waiting few opened
+
+-- a sibling whose task went schedules, and adopts nothing; the entry charges whatever the pick is
+accounts-after : (most : ℕ) (old room : RoomState) (reply : Reply) (cpu : ℕ) → is_charging reply ≡ true → room.clock ≡ old.clock → length room.siblings ≤ most →
+    IsOpen most old → IsOpen most room → Accounts most old reply (schedule room false cpu).room
+accounts-after most old room reply cpu charges clock few was opened = go (sibling_of room cpu).waiting where
+  by_schedule : Accounts most old reply (rescheduled room cpu).room
+  by_schedule =
+      let made = accounts-rescheduled most room cpu few opened in
+      let now = now-rescheduled room cpu ∙ clock in
+      record { opened = made.opened; charging = λ _. now; other = omega (arith, now, was.started) }
+
+  go : (waiting : Option (Option ℕ)) → Accounts most old reply (scheduled room false cpu waiting).room
+  go None = by_schedule
+  go (Some run) = by_schedule
+
+-- ---- each event
+
+accounts-turned : (most : ℕ) (room : RoomState) (fresh : Bool) (cpu : ℕ) → length room.siblings ≤ most → IsOpen most room → StepAccounts most room (turned room fresh cpu)
+accounts-turned most room fresh cpu few opened =
+    cond_both (sibling_of room cpu).pending _ _ (StepAccounts most room) (λ _. accounts-schedule most room fresh cpu few opened)
+    (λ _. unchanged most room _ room opened refl refl refl refl)
+
+accounts-blocked : (most : ℕ) (room : RoomState) (cpu : ℕ) (task : Option Task) → length room.siblings ≤ most → IsOpen most room → StepAccounts most room (blocked room cpu task)
+accounts-blocked most room cpu None few opened = unchanged most room _ room opened refl refl refl refl
+accounts-blocked most room cpu (Some task) few opened =
+    let mid = idled (dequeued room task) cpu in
+    accounts-after most room mid (blocked room cpu (Some task)).reply cpu refl refl
+    (subst (λ n. n ≤ most) (sym (length-alike mid room (onlines-idled room cpu task))) few) opened (record { started = opened.started; few = opened.few })
+
+accounts-exited : (most : ℕ) (room : RoomState) (cpu : ℕ) (task : Option Task) → length room.siblings ≤ most → IsOpen most room → StepAccounts most room (exited room cpu task)
+accounts-exited most room cpu None few opened = unchanged most room _ room opened refl refl refl refl
+accounts-exited most room cpu (Some task) few opened =
+    let mid = idled (without room task) cpu in
+    cond_both (has_threads room task) _ _ (StepAccounts most room) (λ _. unchanged most room _ room opened refl refl refl refl)
+    (λ _. accounts-after most room mid (Ended task.spec.pid (schedule mid false cpu).pick) cpu refl refl
+    (subst (λ n. n ≤ most) (sym (length-alike mid room (onlines-without room cpu task))) few) opened (record { started = opened.started; few = opened.few }))
+
+accounts-woken : (most : ℕ) (room : RoomState) (task : Option Task) → IsOpen most room → StepAccounts most room (woken room task)
+accounts-woken most room None opened = unchanged most room _ room opened refl refl refl refl
+accounts-woken most room (Some task) opened =
+    cond_both task.queued _ _ (StepAccounts most room) (λ _. unchanged most room _ room opened refl refl refl refl)
+    (λ _. unchanged most room _ _ opened refl refl refl refl)
+
+accounts-forked : (most : ℕ) (room : RoomState) (thread : Bool) (caller : Option Task) → IsOpen most room → StepAccounts most room (forked room thread caller)
+accounts-forked most room thread None opened = unchanged most room _ room opened refl refl refl refl
+accounts-forked most room thread (Some caller) opened =
+    cond_both (may_not_fork room caller) _ _ (StepAccounts most room) (λ _. unchanged most room _ room opened refl refl refl refl)
+    (λ _. unchanged most room _ _ opened refl refl refl refl)
+
+-- an interval that goes on from now has been charged up to now
+now-accounted : (started : Option ℕ) (clock : ℕ) → unwrap_or (option_map (λ start. clock) started) clock ≡ clock
+now-accounted None clock = refl
+now-accounted (Some start) clock = refl
+
+accounts-ticked : (most : ℕ) (room : RoomState) (cpu : ℕ) (task : Option Task) → IsOpen most room → StepAccounts most room (ticked room cpu task)
+accounts-ticked most room cpu None opened =
+    let now = now-accounted room.started room.clock in
+    record { opened = record { started = omega (arith, now); few = opened.few }; charging = λ _. now; other = omega (arith, now, opened.started) }
+accounts-ticked most room cpu (Some task) opened =
+    let now = now-accounted room.started room.clock in
+    record { opened = record { started = omega (arith, now); few = opened.few }; charging = λ _. now; other = omega (arith, now, opened.started) }
+
+-- time that goes on lengthens the open interval
+accounts-advanced : (most : ℕ) (room : RoomState) (delta : ℕ) → IsOpen most room → Accounts most room (Now (room.clock + delta)) (advanced room delta)
+unfolding advanced
+accounts-advanced most room delta opened = by_start room.started refl where
+  longer : (started : Option ℕ) → unwrap_or started room.clock ≤ room.clock → unwrap_or started (room.clock + delta) ≤ room.clock + delta
+  longer None le = omega arith
+  longer (Some start) le = omega (arith, le)
+
+  later : (started : Option ℕ) → unwrap_or started room.clock ≤ unwrap_or started (room.clock + delta)
+  later None = omega arith
+  later (Some start) = omega arith
+
+  by_start : (started : Option ℕ) → room.started ≡ started → Accounts most room (Now (room.clock + delta)) (advanced room delta)
+  by_start started is =
+      record { opened = record { started = longer room.started opened.started; few = opened.few }; charging = λ yes. absurd cc; other = later room.started }
+
+-- no answer of a call charges
+abbrev pub ChargeNothing : List Row → Type 0
+ChargeNothing [] = Unit {0}
+ChargeNothing (row ∷ rows) = (is_charging row.answer ≡ false) × ChargeNothing rows
+
+first_answer_charges_nothing : (rows : List Row) → ChargeNothing rows → is_charging (first_answer rows) ≡ false
+first_answer_charges_nothing [] none = refl
+first_answer_charges_nothing (row ∷ rows) none =
+    cond_both row.holds row.answer (first_answer rows) (λ answer. is_charging answer ≡ false) (λ _. none.0) (λ _. first_answer_charges_nothing rows none.1)
+
+prctl_charges_nothing : (room : RoomState) (caller : ℕ) (ask : Ask) → is_charging (prctl_answer room caller ask) ≡ false
+unfolding rows_before_making rows_after_making
+prctl_charges_nothing room caller ask =
+    first_answer_charges_nothing (rows_before_making room caller ask ++ rows_after_making room caller ask)
+    (refl, (refl, (refl, (refl, (refl, (refl, (refl, (refl, (refl, (refl, (refl, (refl, (refl, tt)))))))))))))
+
+-- a call leaves the clock and the interval
+record LeavesOpen (old new : RoomState) : Type 0 where
+  started : new.started ≡ old.started
+  clock : new.clock ≡ old.clock
+  forced : new.forced ≡ old.forced
+
+leaves-with_answer : (room : RoomState) (set : Setting) (answer : Reply) → LeavesOpen room (with_answer room set answer)
+leaves-with_answer room set Zero = record { started = refl; clock = refl; forced = refl }
+leaves-with_answer room set answer = record { started = refl; clock = refl; forced = refl }
+
+accounts-prctl : (most : ℕ) (room : RoomState) (caller : ℕ) (ask : Ask) → IsOpen most room → Accounts most room (prctl_answer room caller ask) (prctl_room room caller ask)
+accounts-prctl most room caller ask opened =
+    let leaves = leaves-with_answer (with_made room (makes_cookie room caller ask)) (setting_of room caller ask) (prctl_answer room caller ask) in
+    unchanged most room _ _ opened (prctl_charges_nothing room caller ask) leaves.started leaves.clock leaves.forced
+
+accounts_step : (most : ℕ) (room : RoomState) (fresh : Bool) (event : Event) → length room.siblings ≤ most → IsOpen most room → StepAccounts most room (step room fresh event)
+accounts_step most room fresh (Turn cpu) few opened = accounts-turned most room fresh cpu few opened
+accounts_step most room fresh (Resched cpu) few opened = accounts-schedule most room fresh cpu few opened
+accounts_step most room fresh (Block cpu) few opened = accounts-blocked most room cpu (running_on room cpu) few opened
+accounts_step most room fresh (Exit cpu) few opened = accounts-exited most room cpu (running_on room cpu) few opened
+accounts_step most room fresh (Tick cpu) few opened = accounts-ticked most room cpu (running_on room cpu) opened
+accounts_step most room fresh (Wake pid) few opened = accounts-woken most room (task_of room pid) opened
+accounts_step most room fresh (Advance delta) few opened = accounts-advanced most room delta opened
+accounts_step most room fresh (Fork caller thread) few opened = accounts-forked most room thread (task_of room caller) opened
+accounts_step most room fresh (Prctl caller ask) few opened = accounts-prctl most room caller ask opened
+
+-- ---- how far the totals come
+
+-- what each task was charged is at most so many times the time that has been charged
+pub record IsAccounted (most : ℕ) (moment : Moment) : Type 0 where
+  pub totals : (pid : ℕ) → total_of pid (intervals_of moment.ledger) ≤ most * charged_up_to moment.room
+  pub opened : IsOpen most moment.room
+
+-- a share is at most the time, times the count where that is above 1
+share-le : (most : ℕ) (interval : Interval) → 1 ≤ most → interval.count ≤ most → share interval ≤ most * (interval.to - interval.from)
+share-le most interval some few =
+    let delta = interval.to - interval.from in
+    let each : delta * interval.count ≤ most * delta = grind (arith) in
+    let one : delta ≤ most * delta = grind (arith) in
+    cond_both (ltb 1 interval.count || ltb 1 interval.occupation) (delta * interval.count / interval.occupation) delta (λ n. n ≤ most * delta)
+    (λ _. omega (arith, each, div-le_self (delta * interval.count) interval.occupation)) (λ _. one)
+
+-- So what the open interval charges a task is at most so many times its time.
+owed-le : (most pid : ℕ) (room : RoomState) → 1 ≤ most → IsOpen most room → owed pid (open_interval room) ≤ most * (room.clock - charged_up_to room)
+owed-le most pid room some opened = go room.started where
+  by_share : (start : ℕ) → owed pid (up_to_now room (Some start)) ≤ most * (room.clock - start)
+  by_share start =
+      let interval : Interval = record { from = start; to = room.clock; count = room.forced; occupation = room.occupation; charged = charged room } in
+      cond_both (eqb room.clock start) None (Some interval) (λ one. owed pid one ≤ most * (room.clock - start)) (λ _. omega arith)
+      (λ _. cond_both (charges pid interval) (share interval) 0 (λ n. n ≤ most * (room.clock - start)) (λ _. share-le most interval some opened.few) (λ _. omega arith))
+
+  go : (started : Option ℕ) → owed pid (up_to_now room started) ≤ most * (room.clock - unwrap_or started room.clock)
+  go None = omega arith
+  go (Some start) = by_share start
+
+-- how a total goes on by one entry
+total-next : (pid : ℕ) (moment : Moment) (entry : Entry) →
+    total_of pid (intervals_of (next moment entry).ledger) ≡ total_of pid (intervals_of moment.ledger) + owed pid (interval_by moment.room entry.reply)
+total-next pid moment entry =
+    ap (total_of pid) (intervals_of-cons (noted moment.room entry) moment.ledger) ∙ total_of-noted pid (interval_by moment.room entry.reply) (intervals_of moment.ledger)
+
+more_time : (most a b : ℕ) → a ≤ b → most * a + most * (b - a) ≡ most * b
+more_time most a b le = grind (arith)
+
+less_time : (most a b : ℕ) → a ≤ b → most * a ≤ most * b
+less_time most a b le = grind (arith)
+
+accounted_next : (most : ℕ) (moment : Moment) (entry : Entry) → 1 ≤ most → length moment.room.siblings ≤ most →
+    entry.reply ≡ (step moment.room (is_fresh moment.ledger) entry.event).reply → IsAccounted most moment → IsAccounted most (next moment entry)
+accounted_next most moment entry some few legal accounted =
+    let room = moment.room in
+    let now = (next moment entry).room in
+    let made = accounts_step most room (is_fresh moment.ledger) entry.event few accounted.opened in
+    record {
+      totals = λ pid. subst (λ n. n ≤ most * charged_up_to now) (sym (total-next pid moment entry)) (by_reply pid made (is_charging entry.reply) refl);
+      opened = made.opened;
+    } where
+      by_reply : (pid : ℕ) → StepAccounts most moment.room (step moment.room (is_fresh moment.ledger) entry.event) → (b : Bool) → is_charging entry.reply ≡ b →
+          total_of pid (intervals_of moment.ledger) + owed pid (cond (is_charging entry.reply) (open_interval moment.room) None) ≤ most * charged_up_to (next moment entry).room
+      by_reply pid made true is =
+          let up_to = made.charging (sym (ap is_charging legal) ∙ is) in
+          let one = ap (λ b. owed pid (cond b (open_interval moment.room) None)) is in
+          omega (
+            arith,
+            one,
+            accounted.totals pid,
+            owed-le most pid moment.room some accounted.opened,
+            more_time most (charged_up_to moment.room) moment.room.clock accounted.opened.started,
+            ap (λ n. most * n) up_to,
+          )
+      by_reply pid made false is =
+          let one = ap (λ b. owed pid (cond b (open_interval moment.room) None)) is in
+          omega (arith, one, accounted.totals pid, less_time most (charged_up_to moment.room) (charged_up_to (next moment entry).room) made.other)
+
+-- nothing is charged before the first interval
+pub total_of-none : (pid : ℕ) → total_of pid [] ≡ 0
+unfolding total_of
+total_of-none pid = refl
+
+accounted_made : (most : ℕ) (moment : Moment) (steps : List Step) → 1 ≤ most → length moment.room.siblings ≤ most → IsAccounted most moment →
+    IsAccounted most (after moment (made_from moment steps))
+accounted_made most moment [] some few accounted = accounted
+accounted_made most moment (made ∷ steps) some few accounted =
+    let entry = entry_of moment made in
+    let same = length-alike (next moment entry).room moment.room (onlines-step moment.room (is_fresh moment.ledger) made.event) in
+    accounted_made most (next moment entry) steps some (subst (λ n. n ≤ most) (sym same) few) (accounted_next most moment entry some few refl accounted)
+
+-- After every legal history no total is above so many times the time that has been charged, where the core has no more
+-- siblings than that.
+pub accounted-history_of : (most : ℕ) (scenario : Scenario) (steps : List Step) → 1 ≤ most → scenario.siblings ≤ most →
+    IsAccounted most (moment_of scenario (history_of scenario steps))
+accounted-history_of most scenario steps some few =
+    accounted_made most (beginning scenario) steps some (subst (λ n. n ≤ most) (sym (length-replicate scenario.siblings idle)) few) (record {
+      totals = λ pid. subst (λ n. n ≤ most * 0) (sym (total_of-none pid)) (omega arith);
+      opened = record { started = omega arith; few = omega arith };
+    })
+
+-- ---- what a machine asks
+
+-- a share of the open interval is at most so many times its time
+pub open_share-le : (most n : ℕ) (room : RoomState) → 1 ≤ most → IsOpen most room → Some n ≡ option_map share (open_interval room) → n ≤ most * (room.clock - charged_up_to room)
+open_share-le most n room some opened is = go room.started is where
+  by_test : (start : ℕ) (same : Bool) → Some n ≡ option_map share (cond same None (Some (record { from = start; to = room.clock; count = room.forced; occupation = room.occupation; charged = charged room }))) →
+      n ≤ most * (room.clock - start)
+  by_test start true is = absurd cc
+  by_test start false is =
+      let interval : Interval = record { from = start; to = room.clock; count = room.forced; occupation = room.occupation; charged = charged room } in
+      let same : n ≡ share interval = ap (λ one. unwrap_or one n) is in
+      omega (arith, same, share-le most interval some opened.few)
+
+  go : (started : Option ℕ) → Some n ≡ option_map share (up_to_now room started) → n ≤ most * (room.clock - unwrap_or started room.clock)
+  go None is = absurd cc
+  go (Some start) is = by_test start (eqb room.clock start) is
+
+-- what an interval goes on from makes no difference to a pick
+pub rescheduled-accounted : (room : RoomState) (cpu : ℕ) → rescheduled (accounted room) cpu ≡ rescheduled room cpu
+unfolding lead_from choice selected_room
+rescheduled-accounted room cpu = refl
+
+-- a pick that adopts nothing closes the interval
+pub closes-rescheduled : (room : RoomState) (cpu : ℕ) → closes (rescheduled room cpu).pick.kind ≡ true
+closes-rescheduled room cpu =
+    cond_both (is_plain room cpu) (plain room cpu) (selected room cpu) (λ (made : Scheduled). closes made.pick.kind ≡ true) (λ _. refl) (λ _. refl)
