@@ -10,3 +10,4 @@ pub mod Sleeps
 pub mod Machines
 pub mod Views
 pub mod Lives
+pub mod Accounts

@@ -1,5 +1,5 @@
 -- Machines: how the entries, the room and the numbers go on by one entry.
-use Rattle.std.proofs.Common.{◌≡◌, ℕ, zero, suc, ◌+◌, ◌<◌, Bool, true, false, cond, List, [], ◌∷◌, ◌++◌, map, set, eqb, refl, sym, ap, ◌∙◌, arith, Option, Some, None}
+use Rattle.std.proofs.Common.{◌≡◌, ℕ, zero, suc, ◌+◌, ◌<◌, Bool, true, false, cond, List, [], ◌∷◌, ◌++◌, map, length, set, eqb, refl, sym, ap, ◌∙◌, arith, Option, Some, None}
 use Rattle.std.specs.Prelude.{◌&&◌, ◌||◌, IfSome, replicate}
 use Rattle.std.specs.List.{range_with_len}
 use Rattle.std.specs.Option.{option_map_or}
@@ -16,12 +16,14 @@ use Rattle.cs_types.specs.declared.scenario.Scenario.{Scenario}
 use Rattle.cs_types.specs.Scenario.{IsEvent}
 use Rattle.cs_types.specs.Room.{RoomState}
 use Rattle.cs_types.specs.Step.{Stepped, step}
-use Rattle.cs_types.specs.Touches.{is_selected, is_adopted, pick_of, is_selection, scheduler_of, is_fresh, Noted, Ledger, noted, task_number, pick_number, own_number}
+use Rattle.cs_types.specs.Accounting.{Interval, total_of}
+use Rattle.cs_types.specs.Touches.{intervals_of, is_selected, is_adopted, pick_of, is_selection, scheduler_of, is_fresh, Noted, Ledger, noted, task_number, pick_number, own_number}
 use Rattle.cs_types.specs.History.{History, Moment, moment_of, fold_of, ledger_of, reply_to, entry_of, history_of, step_at}
 use Rattle.cs_types.proofs.Histories.{moment_of-push, history_of-push}
+use Rattle.cs_types.proofs.Accounts.{with_one, intervals_of-cons, total_of-noted}
 use Rattle.cs_types.proofs.Numbers.{task_number-cons, pick_number-cons, own_number-cons, fresh-ledger_of}
-use Rattle.plain_room.specs.State.{numbers_of, numbers_after, own_after, is_fresh_by, room_of, Makes}
-use Rattle.plain_room.specs.Inside.{steps_of, numbers_at}
+use Rattle.plain_room.specs.State.{owed, booked, books_at, numbers_at, numbers_of, numbers_after, own_after, is_fresh_by, room_of, Makes}
+use Rattle.plain_room.specs.Inside.{steps_of}
 use Rattle.plain_room.specs.declared.state.State.{State}
 
 -- ---- the entries
@@ -110,23 +112,35 @@ own_more n note ledger limits =
 
 -- ---- the numbers
 
+-- the books of a ledger with one more entry
+books-noted : (scenario : Scenario) (note : Noted) (ledger : Ledger) → books_at scenario (note ∷ ledger) ≡ booked note.interval (books_at scenario ledger)
+books-noted scenario note ledger = by_interval note.interval (intervals_of-cons note ledger) where
+  by_interval : (one : Option Interval) → intervals_of (note ∷ ledger) ≡ with_one one (intervals_of ledger) → books_at scenario (note ∷ ledger) ≡ booked one (books_at scenario ledger)
+  by_interval None same = λ i. record (books_at scenario ledger) { intervals = length (same i); totals = λ pid. total_of pid (same i) }
+  by_interval (Some interval) same =
+      let intervals : length (intervals_of (note ∷ ledger)) ≡ length (intervals_of ledger) + 1 = omega (arith, ap length same) in
+      let totals : (pid : ℕ) → total_of pid (intervals_of (note ∷ ledger)) ≡ total_of pid (intervals_of ledger) + owed pid interval =
+      λ pid. ap (total_of pid) same ∙ total_of-noted pid (Some interval) (intervals_of ledger) in
+      λ i. record (books_at scenario ledger) { intervals = intervals i; totals = λ pid. totals pid i }
+
 -- the numbers of a ledger with one more entry
-numbers-noted : (n : ℕ) (room : RoomState) (entry : Entry) (ledger : Ledger) → IsEvent n entry.event →
-    numbers_at (noted room entry ∷ ledger) n ≡ numbers_after room entry.event entry.reply (numbers_at ledger n)
-numbers-noted n room entry ledger limits =
+numbers-noted : (scenario : Scenario) (room : RoomState) (entry : Entry) (ledger : Ledger) → IsEvent scenario.siblings entry.event →
+    numbers_at scenario (noted room entry ∷ ledger) ≡ numbers_after room entry.event entry.reply (numbers_at scenario ledger)
+numbers-noted scenario room entry ledger limits =
     let note = noted room entry in
     let task : task_number (note ∷ ledger) ≡ task_number ledger + note.touches = task_number-cons note ledger ∙ omega arith in
     let pick : pick_number (note ∷ ledger) ≡ cond (is_selection entry) (task_number ledger + note.touches) (pick_number ledger) =
     pick_number-cons note ledger ∙ ap (λ n. cond (is_selection entry) n (pick_number ledger)) task in
-    let own = own_more n note ledger limits ∙ ap (λ p. own_after entry.event entry.reply p (numbers_at ledger n).own) pick in
-    λ i. record { task = task i; pick = pick i; own = own i }
+    let own = own_more scenario.siblings note ledger limits ∙ ap (λ p. own_after entry.event entry.reply p (numbers_at scenario ledger).own) pick in
+    let books = books-noted scenario note ledger in
+    λ i. record { task = task i; pick = pick i; own = own i; books = books i }
 
 -- ---- one step of the machine
 
 -- the state is the fold of the entries, and its numbers are those of their ledger
 pub record Folds (scenario : Scenario) (state : State) (entries : History) : Type 0 where
   pub fold : room_of scenario state ≡ fold_of scenario entries
-  pub numbers : numbers_of state ≡ numbers_at (ledger_of scenario entries) scenario.siblings
+  pub numbers : numbers_of state ≡ numbers_at scenario (ledger_of scenario entries)
 
 -- the state's step is that of the moment after the entries
 step_of_moment : (scenario : Scenario) (state : State) (entries : History) (event : Event) → Folds scenario state entries →
@@ -144,14 +158,13 @@ reply_more scenario old new entries event reply so_far makes =
 pub folds_more : (scenario : Scenario) (old new : State) (entries : History) (entry : Entry) → IsEvent scenario.siblings entry.event →
     Folds scenario old entries → Makes scenario old new entry.event entry.reply → Folds scenario new (entries ++ entry ∷ [])
 folds_more scenario old new entries entry limits so_far makes =
-    let n = scenario.siblings in
     let more = sym (moment_of-push scenario entries entry) in
     record {
       fold = makes.room ∙ ap (λ (made : Stepped). made.room) (step_of_moment scenario old entries entry.event so_far)
           ∙ ap (λ (moment : Moment). moment.room) more;
       numbers = makes.numbers ∙ (λ i. numbers_after (so_far.fold i) entry.event entry.reply (so_far.numbers i))
-          ∙ sym (numbers-noted n (fold_of scenario entries) entry (ledger_of scenario entries) limits)
-          ∙ ap (λ (moment : Moment). numbers_at moment.ledger n) more;
+          ∙ sym (numbers-noted scenario (fold_of scenario entries) entry (ledger_of scenario entries) limits)
+          ∙ ap (λ (moment : Moment). numbers_at scenario moment.ledger) more;
     }
 
 -- ---- the start

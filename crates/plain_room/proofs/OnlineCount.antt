@@ -15,7 +15,7 @@ map-range_next {X} f g a (suc n) same =
     ap (λ (x : X). x ∷ map f (range_with_len (a + 1 + 1) n)) (same a) ∙ ap (λ (xs : List X). g a ∷ xs) (map-range_next f g (a + 1) n same)
 
 -- a list is what stands at its places
-places : {X : Type 0} (xs : List X) (d : X) → map (λ i. get_or xs i d) (range_with_len 0 (length xs)) ≡ xs
+pub places : {X : Type 0} (xs : List X) (d : X) → map (λ i. get_or xs i d) (range_with_len 0 (length xs)) ≡ xs
 places [] d = refl
 places {X} (x ∷ xs) d =
     ap (λ (ys : List X). x ∷ ys)

@@ -62,7 +62,7 @@ map_alike f g (x ∷ xs) same = λ i. same x i ∷ map_alike f g xs same i
 pid_found : (pid : ℕ) (tasks : List Task) (task : Task) → find (has_pid pid) tasks ≡ Some task → task.spec.pid ≡ pid
 pid_found pid tasks task found = eqb-true task.spec.pid pid (find_passes (has_pid pid) tasks task found)
 
-run_test : (a b : ℕ) → eqb b a ≡ eqb a b
+pub run_test : (a b : ℕ) → eqb b a ≡ eqb a b
 run_test a b = grind (arith, nat_tests)
 
 -- where one is, it remembers, and no other does
@@ -111,7 +111,7 @@ pub remembered_none : (occupation : ℕ) (tasks : List Task) → map (remembered
 remembered_none occupation [] = refl
 remembered_none occupation (task ∷ tasks) = ap (λ (ts : List Task). task ∷ ts) (remembered_none occupation tasks)
 
-any-push : {X : Type 0} (test : X → Bool) (xs : List X) (x : X) → list_any test (xs ++ x ∷ []) ≡ (list_any test xs || test x)
+pub any-push : {X : Type 0} (test : X → Bool) (xs : List X) (x : X) → list_any test (xs ++ x ∷ []) ≡ (list_any test xs || test x)
 any-push test [] x = or_false (test x) where
   or_false : (b : Bool) → (b || false) ≡ b
   or_false true = refl
@@ -179,9 +179,9 @@ pub sets_one : (scenario : Scenario) (old new : State) (task : Task) (cookie : �
     new.refs.limit ≡ old.refs.limit → new.refs.next ≡ old.refs.next →
     map sibling_state new.siblings.items ≡ map (flagged_for task.spec.pid) (map sibling_state old.siblings.items) →
     new.clock ≡ old.clock → new.ended ≡ old.ended → new.next_pid ≡ old.next_pid →
-    new.next_stamp ≡ old.next_stamp → new.core_cookie ≡ old.core_cookie → new.forced ≡ old.forced → new.occupation ≡ old.occupation →
+    new.next_stamp ≡ old.next_stamp → new.core_cookie ≡ old.core_cookie → new.account ≡ old.account →
     room_of scenario new ≡ with_cookies (room_of scenario old) (setting (task ∷ []) cookie)
-sets_one scenario old new task cookie rises there tasks limit next siblings clock ended pid stamp core forced occupation =
+sets_one scenario old new task cookie rises there tasks limit next siblings clock ended pid stamp core account =
     let each = ap (λ (table : Table). table.tasks) tasks ∙ set_each cookie old.tasks.tasks task rises there in
     let limits = ap (λ (table : Table). table.limit) tasks in
     let flags = siblings ∙ flagged_alike task cookie (map sibling_state old.siblings.items) in
@@ -197,15 +197,16 @@ sets_one scenario old new task cookie rises there tasks limit next siblings cloc
       next_stamp = stamp i;
       next_cookie = next i;
       core_cookie = core i;
-      forced = forced i;
-      occupation = occupation i;
+      forced = (account i).count;
+      occupation = (account i).occupation;
+      started = (account i).started;
     }
 
 pub sets_numbers : (numbers : Numbers) (task : Task) (cookie touches : ℕ) (own : List ℕ) → own ≡ numbers.own → touches ≡ cookie_touches cookie task →
-    record { task = numbers.task + touches; pick = numbers.pick; own = own } ≡ touched (setting_touches (setting (task ∷ []) cookie)) numbers
+    record { task = numbers.task + touches; pick = numbers.pick; own = own; books = numbers.books } ≡ touched (setting_touches (setting (task ∷ []) cookie)) numbers
 sets_numbers numbers task cookie touches own same is =
     let all : numbers.task + touches ≡ numbers.task + setting_touches (setting (task ∷ []) cookie) = omega (arith, is, setting_touches-cons task [] cookie) in
-    λ i. record { task = all i; pick = numbers.pick; own = same i }
+    λ i. record { task = all i; pick = numbers.pick; own = same i; books = numbers.books }
 
 -- ---- a group whose members get a cookie, one after the other
 

@@ -1,6 +1,6 @@
 -- What searches, changes and counts of the lists say of the states that these stand for.
 use Rattle.std.proofs.Common.{◌≡◌, ℕ, ◌+◌, ◌<◌, ◌≤◌, cond, false, List, [], ◌∷◌, map, refl, subst, sym, ap, ◌∙◌, length, set, take, length-take, get_or, ltb, eqb, arith}
-use Rattle.std.specs.Prelude.{All, Option, Some, None, Result, Ok, IfSome, find, fold, sum_by}
+use Rattle.std.specs.Prelude.{All, IsTrue, Option, Some, None, Result, Ok, IfSome, find, fold, sum_by}
 use Rattle.std.specs.List.{AllByRecursion}
 use Rattle.std.specs.Result.{IsOk}
 use Rattle.std.specs.Option.{option_map_or}
@@ -12,7 +12,8 @@ use Rattle.std.proofs.lemmas.List.{get_or-take, get_or_default, get_or-map, leng
 use Rattle.std.proofs.lemmas.List.Elements.{All-map, All-weaker, All-head, All-tail, All-from_recursion, recursion_from_All}
 use Rattle.std.proofs.lemmas.List.Sums.{sum_by-cons}
 use Rattle.std.proofs.Math.Seq.{map-set_same}
-use Rattle.std.proofs.lemmas.Bool.{cond_both, cond-false, ne_eqb}
+use Rattle.std.proofs.lemmas.Bool.{cond_both, cond-false, ne_eqb, eqb-true}
+use Rattle.forceidle_account.specs.Charges.{Charges, has_total}
 use Rattle.cs_types.specs.declared.task.TaskSpec.{TaskSpec}
 use Rattle.cs_types.specs.declared.scenario.Scenario.{Scenario}
 use Rattle.cs_types.specs.Scenario.{IsTask, IsPolicy, AreDistinct}
@@ -22,7 +23,7 @@ use Rattle.task_table.specs.declared.fault.AddFault.{AddFault}
 use Rattle.cs_types.proofs.Tasks.{length-asleep_tasks, below_first_pid}
 use Rattle.task_table.proofs.Tables.{changed_each}
 use Rattle.cookie_refs.specs.Refs.{Refs, references, AgreeBut}
-use Rattle.plain_room.specs.State.{sibling_state, IsFit, Knows, IsSound, room_of, Schedules}
+use Rattle.plain_room.specs.State.{sibling_state, IsFit, Knows, IsSound, room_of, Schedules, ChargesAndSchedules}
 use Rattle.plain_room.specs.declared.state.State.{State}
 use Rattle.plain_room.specs.declared.choice.Choice.{Choice}
 use Rattle.plain_room.specs.Choice.{remembered_task}
@@ -102,6 +103,23 @@ agree-known refs held tasks task old rises found spec cookie agree =
     subst (λ (t : Task). AgreeBut refs (map (λ other. cond (has_pid task.spec.pid other) t other) tasks) held) same
     (subst (λ pid. AgreeBut refs (map (λ other. cond (has_pid pid other) (change old) other) tasks) held) (sym pids) by_old)
 
+-- a change of tasks that keeps each one's pid keeps that each has a total
+pub known-map : (charges : Charges) (change : Task → Task) → ((task : Task) → (change task).spec ≡ task.spec) → (tasks : List Task) →
+    All (λ task. IsTrue (has_total charges task.spec.pid)) tasks → All (λ task. IsTrue (has_total charges task.spec.pid)) (map change tasks)
+known-map charges change same tasks all =
+    All-map (λ (task : Task). IsTrue (has_total charges task.spec.pid)) change tasks
+    (All-weaker (λ (task : Task). IsTrue (has_total charges task.spec.pid)) (λ (task : Task). IsTrue (has_total charges (change task).spec.pid))
+    (λ task has. subst (λ (spec : TaskSpec). IsTrue (has_total charges spec.pid)) (sym (same task)) has) tasks all)
+
+-- and so does a task in the place of the one with its pid
+pub known-changed : (charges : Charges) (task : Task) (tasks : List Task) → All (λ task. IsTrue (has_total charges task.spec.pid)) tasks →
+    All (λ task. IsTrue (has_total charges task.spec.pid)) (map (λ other. cond (has_pid task.spec.pid other) task other) tasks)
+known-changed charges task tasks all =
+    All-map (λ (t : Task). IsTrue (has_total charges t.spec.pid)) (λ other. cond (has_pid task.spec.pid other) task other) tasks
+    (All-weaker (λ (t : Task). IsTrue (has_total charges t.spec.pid)) (λ (t : Task). IsTrue (has_total charges (cond (has_pid task.spec.pid t) task t).spec.pid))
+    (λ t has. cond_both (has_pid task.spec.pid t) task t (λ (one : Task). IsTrue (has_total charges one.spec.pid))
+    (λ same. subst (λ pid. IsTrue (has_total charges pid)) (eqb-true t.spec.pid task.spec.pid same) has) (λ _. has)) tasks all)
+
 -- tasks that remember an occupation fit as they did
 pub fit-remembered : (count next : ℕ) (choices : List Choice) (occupation : ℕ) (tasks : List Task) → All (IsFit count next) tasks →
     All (IsFit count next) (map (remembered_task choices occupation) tasks)
@@ -138,10 +156,14 @@ placed_all P task (first ∷ rest) here all =
     cond_both (ltb task.spec.pid first.spec.pid) (task ∷ first ∷ rest) (first ∷ placed task rest) (AllByRecursion P)
     (λ _. (here, all)) (λ _. (all.0, placed_all P task rest here all.1))
 
+-- what holds of each of some tasks, and of one that is placed among them
+pub All-placed : (P : Task → Type 0) (task : Task) (tasks : List Task) → P task → All P tasks → All P (placed task tasks)
+All-placed P task tasks here all = All-from_recursion P (placed task tasks) (placed_all P task tasks here (recursion_from_All P tasks all))
+
 -- a task that fits, placed among others that do
 pub fit-placed : (count next : ℕ) (task : Task) (tasks : List Task) → IsFit count next task → All (IsFit count next) tasks → All (IsFit count next) (placed task tasks)
 fit-placed count next task tasks fit all =
-    All-from_recursion (IsFit count next) (placed task tasks) (placed_all (IsFit count next) task tasks fit (recursion_from_All (IsFit count next) tasks all))
+    All-placed (IsFit count next) task tasks fit all
 
 added_all : (P : Task → Type 0) (tasks : List Task) (specs : List TaskSpec) → AllByRecursion P tasks → All (λ spec. P (asleep spec)) specs →
     AllByRecursion P (fold (λ ts spec. placed (asleep spec) ts) tasks specs)
@@ -198,6 +220,16 @@ some_scenario = record { siblings = 0; task_limit = 0; cookie_limit = 0; user_to
 pub policies : (count : ℕ) (state : State) → IsSound count state → All (λ task. IsPolicy task.spec.policy) state.tasks.tasks
 policies count state sound =
     All-weaker (IsFit count state.next_pid) (λ (task : Task). IsPolicy task.spec.policy) (λ task fit. fit.policy) state.tasks.tasks sound.tasks
+
+-- a charging schedule by one change is one by another that does the same in the old room
+pub ChargesAndSchedules-same : (old new : State) (cpu : ℕ) (chosen : Pick) (change other : RoomState → Scheduled) →
+    ((scenario : Scenario) → other (room_of scenario old) ≡ change (room_of scenario old)) → ChargesAndSchedules old new cpu chosen change → ChargesAndSchedules old new cpu chosen other
+ChargesAndSchedules-same old new cpu chosen change other same schedules =
+    record {
+      pick = λ scenario. schedules.pick scenario ∙ ap (λ (made : Scheduled). made.pick) (sym (same scenario));
+      room = λ scenario. schedules.room scenario ∙ ap (λ (made : Scheduled). made.room) (sym (same scenario));
+      numbers = schedules.numbers;
+    }
 
 -- a schedule by one change is one by another that does the same in the old room
 pub Schedules-same : (old new : State) (cpu : ℕ) (chosen : Pick) (change other : RoomState → Scheduled) →

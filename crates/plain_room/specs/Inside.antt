@@ -1,28 +1,21 @@
 -- What the machine keeps, and that it is the fold of its history.
-use Rattle.std.specs.Prelude.{◌≡◌, ℕ, ◌-◌, ◌*◌, ◌≤◌, List, length, map, vec_len, vec_capacity}
+use Rattle.std.specs.Prelude.{◌≡◌, ℕ, ◌+◌, ◌-◌, ◌*◌, ◌≤◌, List, length, map, vec_len, vec_capacity}
 use Rattle.std.specs.List.{range_with_len}
 use Rattle.cs_types.specs.declared.event.Step.{Step}
 use Rattle.cs_types.specs.declared.reply.Entry.{Entry}
+use Rattle.cs_types.specs.declared.scenario.Scenario.{Scenario}
 use Rattle.cs_types.specs.Scenario.{IsWithin}
 use Rattle.cs_types.specs.Room.{first_pid}
-use Rattle.cs_types.specs.Touches.{Ledger, task_number, pick_number, own_number}
+use Rattle.cs_types.specs.Accounting.{total_of}
+use Rattle.cs_types.specs.Touches.{Ledger, intervals_of, task_number, pick_number, own_number}
 use Rattle.cs_types.specs.History.{fold_of, ledger_of, history_of}
-use Rattle.plain_room.specs.State.{room_of, IsSound, Numbers, numbers_of}
+use Rattle.plain_room.specs.State.{room_of, IsSound, numbers_of, numbers_at}
 use Rattle.plain_room.specs.Machine.{Machine}
 use Rattle.plain_room.specs.declared.room.PlainRoom.TheInside.{Inside}
 
 -- the steps of entries
 abbrev pub steps_of : List Entry → List Step
 steps_of entries = map (λ entry. record { actor = entry.actor; event = entry.event }) entries
-
--- the numbers of a ledger, for so many siblings
-abbrev pub numbers_at : Ledger → ℕ → Numbers
-numbers_at ledger siblings =
-    record {
-      task = task_number ledger;
-      pick = pick_number ledger;
-      own = map (λ cpu. own_number cpu ledger) (range_with_len 0 siblings);
-    }
 
 abbrev pub machine_of : Inside → Machine
 machine_of room =
@@ -36,7 +29,7 @@ machine_of room =
 pub record IsFold (room : Inside) : Type 0 where
   pub history : room.entries.items ≡ history_of room.scenario (steps_of room.entries.items)
   pub fold : room_of room.scenario room.state ≡ fold_of room.scenario room.entries.items
-  pub numbers : numbers_of room.state ≡ numbers_at (ledger_of room.scenario room.entries.items) room.scenario.siblings
+  pub numbers : numbers_of room.state ≡ numbers_at room.scenario (ledger_of room.scenario room.entries.items)
   pub sound : IsSound room.scenario.siblings room.state
   pub few_siblings : room.scenario.siblings ≤ 16
   pub few_tasks : length room.scenario.tasks ≤ room.scenario.task_limit
@@ -49,3 +42,5 @@ pub record IsFold (room : Inside) : Type 0 where
   pub slow : room.state.clock ≤ 1000000000 * vec_len room.entries
   -- so no stamp, cookie, number or time overflows
   pub few_entries : vec_capacity room.entries ≤ 100000
+  -- so each child has a place for its total
+  pub few_steps : vec_capacity room.entries ≤ length room.scenario.steps

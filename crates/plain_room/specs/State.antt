@@ -1,5 +1,6 @@
 -- What the lists of the state stand for.
-use Rattle.std.specs.Prelude.{◌≡◌, ℕ, ◌+◌, ◌^◌, ◌<◌, ◌&&◌, ◌||◌, ◌==◌, nat_lt, Bool, if◌then◌else◌, List, length, map, find, Some, All, slice_set, is_some, unwrap_or}
+use Rattle.std.specs.Prelude.{◌≡◌, ℕ, ◌+◌, ◌^◌, ◌*◌, ◌≤◌, ◌<◌, ◌&&◌, ◌||◌, ◌==◌, nat_lt, Bool, if◌then◌else◌, List, length, map, find, Option, Some, None, All, IsTrue, slice_set, is_some, unwrap_or}
+use Rattle.std.specs.List.{range_with_len}
 use Rattle.std.specs.Option.{option_map_or}
 use Rattle.cs_types.specs.declared.event.Event.{Event}
 use Rattle.cs_types.specs.declared.reply.Pick.{Pick}
@@ -8,13 +9,16 @@ use Rattle.cs_types.specs.declared.task.Task.{Task}
 use Rattle.cs_types.specs.declared.scenario.Scenario.{Scenario}
 use Rattle.cs_types.specs.declared.view.CpuView.{CpuView}
 use Rattle.cs_types.specs.Scenario.{IsPolicy}
-use Rattle.cs_types.specs.Room.{SiblingState, RoomState, has_pid}
+use Rattle.cs_types.specs.Room.{SiblingState, RoomState, first_pid, has_pid}
 use Rattle.task_table.specs.Table.{IsSound as IsTable}
 use Rattle.cookie_refs.specs.Refs.{AgreeBut}
 use Rattle.cs_types.specs.Selection.{Scheduled}
-use Rattle.cs_types.specs.Touches.{is_selected, is_adopted, pick_touches, pick_of, selection_of, scheduler_of, touches_by}
+use Rattle.cs_types.specs.Touches.{Ledger, intervals_of, task_number, pick_number, own_number, is_selected, is_adopted, pick_touches, pick_of, selection_of, scheduler_of, touches_by}
 use Rattle.cs_types.specs.Step.{step}
 use Rattle.cs_types.specs.Time.{IsTimely}
+use Rattle.cs_types.specs.Accounting.{Interval, share, charges, total_of, interval_by}
+use Rattle.cs_types.specs.declared.reply.Reply.TheVariants.{Picked}
+use Rattle.forceidle_account.specs.Charges.{has_total, total_at}
 use Rattle.plain_room.specs.declared.sibling.Sibling.{Sibling}
 use Rattle.plain_room.specs.declared.state.State.{State}
 
@@ -53,8 +57,9 @@ room_of scenario state =
       next_stamp = state.next_stamp;
       next_cookie = state.refs.next;
       core_cookie = state.core_cookie;
-      forced = state.forced;
-      occupation = state.occupation;
+      forced = state.account.count;
+      occupation = state.account.occupation;
+      started = state.account.started;
     }
 
 -- the task has a pid below the next, is at home on one of so many siblings, and its policy keeps its limits
@@ -81,12 +86,22 @@ pub record IsOnTime (state : State) : Type 0 where
   pub timely : (scenario : Scenario) → IsTimely (room_of scenario state)
   pub clock : state.clock + 1000000000 < 2 ^ 56
 
--- there are so many siblings, each task fits them, and the references are those of the tasks, and one more for a
--- cookie that is held beside them
+-- the open interval did not begin later than now, and no number of the books overflows where it is charged
+pub record IsPaid (state : State) : Type 0 where
+  pub clock : state.clock < 2 ^ 56
+  pub started : unwrap_or state.account.started state.clock ≤ state.clock
+  pub few : state.account.count ≤ 255
+  pub intervals : state.account.intervals < 2 ^ 63
+  pub totals : (pid : ℕ) → total_at state.totals pid ≤ 255 * unwrap_or state.account.started state.clock
+
+-- there are so many siblings, each task fits them and has a total, no pid with a total is given again, and the references
+-- are those of the tasks, and one more for a cookie that is held beside them
 pub record IsSoundBut (count : ℕ) (state : State) (held : ℕ) : Type 0 where
   pub siblings : length state.siblings.items ≡ count
   pub table : IsTable state.tasks
   pub tasks : All (IsFit count state.next_pid) state.tasks.tasks
+  pub known : All (λ task. IsTrue (has_total state.totals task.spec.pid)) state.tasks.tasks
+  pub low_pids : (pid : ℕ) → IsTrue (has_total state.totals pid) → pid < state.next_pid
   pub refs : AgreeBut state.refs state.tasks.tasks held
 
 -- the same with no cookie held beside them
@@ -103,15 +118,69 @@ Becomes old new change = (scenario : Scenario) → room_of scenario new ≡ chan
 
 -- ---- the numbers
 
--- the task number, the pick number, and each sibling's own number
+-- what is kept of the recorded intervals: how many there are, what each task was charged, by its pid, and the number
+-- that the next pid and the places left for totals come to, which stays
+pub record Books : Type 0 where
+  pub intervals : ℕ
+  pub totals : ℕ → ℕ
+  pub places : ℕ
+
+abbrev pub books_of : State → Books
+books_of state =
+    record {
+      intervals = state.account.intervals;
+      totals = λ pid. total_at state.totals pid;
+      places = state.totals.spare + state.next_pid;
+    }
+
+-- what an interval charges the task with the pid
+abbrev pub owed : ℕ → Interval → ℕ
+owed pid interval = if charges pid interval then share interval else 0
+
+-- the books once an interval was recorded, or none
+abbrev pub booked : Option Interval → Books → Books
+booked None books = books
+booked (Some interval) books =
+    record books { intervals = books.intervals + 1; totals = λ pid. books.totals pid + owed pid interval }
+
+-- the task number, the pick number, each sibling's own number, and the books
 pub record Numbers : Type 0 where
   pub task : ℕ
   pub pick : ℕ
   pub own : List ℕ
+  pub books : Books
 
 abbrev pub numbers_of : State → Numbers
 numbers_of state =
-    record { task = state.task_number; pick = state.pick_number; own = map (λ sibling. sibling.number) state.siblings.items }
+    record {
+      task = state.task_number;
+      pick = state.pick_number;
+      own = map (λ sibling. sibling.number) state.siblings.items;
+      books = books_of state;
+    }
+
+-- the numbers once an interval was recorded, or none
+abbrev pub charged_with : Option Interval → Numbers → Numbers
+charged_with interval numbers = record numbers { books = booked interval numbers.books }
+
+-- the books of a ledger: as many pids may come as the scenario has steps
+abbrev pub books_at : Scenario → Ledger → Books
+books_at scenario ledger =
+    record {
+      intervals = length (intervals_of ledger);
+      totals = λ pid. total_of pid (intervals_of ledger);
+      places = length scenario.steps + first_pid scenario.tasks;
+    }
+
+-- the numbers of a ledger
+abbrev pub numbers_at : Scenario → Ledger → Numbers
+numbers_at scenario ledger =
+    record {
+      task = task_number ledger;
+      pick = pick_number ledger;
+      own = map (λ cpu. own_number cpu ledger) (range_with_len 0 scenario.siblings);
+      books = books_at scenario ledger;
+    }
 
 -- the numbers once the queues were touched so often
 abbrev pub touched : ℕ → Numbers → Numbers
@@ -126,6 +195,7 @@ took cpu pick numbers =
       task = task;
       pick = pick_number;
       own = if is_selected pick.kind || is_adopted pick.kind then slice_set numbers.own cpu pick_number else numbers.own;
+      books = numbers.books;
     }
 
 -- whether there was a selection for the core, and nothing was touched since the last one
@@ -140,6 +210,13 @@ pub record Schedules (old new : State) (cpu : ℕ) (chosen : Pick) (change : Roo
   pub room : (scenario : Scenario) → room_of scenario new ≡ (change (room_of scenario old)).room
   pub numbers : numbers_of new ≡ took cpu chosen (numbers_of old)
 
+-- the same of a schedule that first charges the open interval, unless it adopts
+pub record ChargesAndSchedules (old new : State) (cpu : ℕ) (chosen : Pick) (change : RoomState → Scheduled) : Type 0 where
+  pub pick : (scenario : Scenario) → chosen ≡ (change (room_of scenario old)).pick
+  pub room : (scenario : Scenario) → room_of scenario new ≡ (change (room_of scenario old)).room
+  pub numbers : (scenario : Scenario) →
+      numbers_of new ≡ took cpu chosen (charged_with (interval_by (room_of scenario old) (Picked chosen)) (numbers_of old))
+
 -- each sibling's own number: that of the one whose pick of a selection for the core this is becomes the pick number
 abbrev pub own_after : Event → Reply → ℕ → List ℕ → List ℕ
 own_after event answer pick own =
@@ -152,7 +229,12 @@ abbrev pub numbers_after : RoomState → Event → Reply → Numbers → Numbers
 numbers_after room event answer numbers =
     let task = numbers.task + touches_by room event answer in
     let pick = if is_some (selection_of answer) then task else numbers.pick in
-    record { task = task; pick = pick; own = own_after event answer pick numbers.own }
+    record {
+      task = task;
+      pick = pick;
+      own = own_after event answer pick numbers.own;
+      books = booked (interval_by room answer) numbers.books;
+    }
 
 -- the new state and the reply are those of the event's step from the old one
 pub record Makes (scenario : Scenario) (old new : State) (event : Event) (answer : Reply) : Type 0 where

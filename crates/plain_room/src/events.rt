@@ -3,7 +3,7 @@
 ghost use Rattle.std.specs.Prelude.{◌≡◌, ◌+◌, ◌*◌, ◌^◌, ◌<◌, ◌≤◌, length, vec_len, vec_capacity};
 ghost use Rattle.cs_types.specs.declared.scenario.Scenario.{Scenario};
 ghost use Rattle.cs_types.specs.Scenario.{IsWithin, IsEvent};
-ghost use Rattle.plain_room.specs.State.{room_of, IsSound, IsOnTime, StaysSound, Makes};
+ghost use Rattle.plain_room.specs.State.{room_of, IsSound, IsOnTime, IsPaid, StaysSound, Makes};
 ghost use Rattle.cs_types.specs.Step.{settled};
 
 use crate::state::State;
@@ -17,6 +17,7 @@ impl State {
         requires few { length self.old.siblings.items ≤ 16 }
         requires sound { IsSound (length self.old.siblings.items) self.old }
         requires time { IsOnTime self.old }
+        requires paid { IsPaid self.old }
         requires touches { self.old.task_number + 1 < 2 ^ 64 }
         ensures makes { (scenario : Scenario) → Makes scenario self.old self.new (Event.Turn cpu) result }
         ensures sound { StaysSound self.old self.new }
@@ -29,10 +30,12 @@ impl State {
         }
     }
 
-    /// The running task goes to sleep, and its sibling takes the next.
+    /// The running task goes to sleep, and its sibling takes the next. The open interval is charged while the
+    /// task still runs.
     fn block(&mut self, cpu: Cpu) -> Reply
         requires sound { IsSound (length self.old.siblings.items) self.old }
         requires time { IsOnTime self.old }
+        requires paid { IsPaid self.old }
         requires cpu { cpu < length self.old.siblings.items }
         requires few { length self.old.siblings.items ≤ 16 }
         requires touches { self.old.task_number + 2 < 2 ^ 64 }
@@ -43,11 +46,12 @@ impl State {
         let Some(task) = self.running_on(cpu) else {
             return Reply::Idle;
         };
+        self.charge();
         self.dequeue(task);
         self.idle(cpu);
         Reply::Slept {
             pid: task.spec.pid,
-            pick: self.reschedule(cpu),
+            pick: self.pick_anew(cpu),
         }
     }
 
@@ -75,6 +79,7 @@ impl State {
     fn exit(&mut self, cpu: Cpu) -> Reply
         requires sound { IsSound (length self.old.siblings.items) self.old }
         requires time { IsOnTime self.old }
+        requires paid { IsPaid self.old }
         requires cpu { cpu < length self.old.siblings.items }
         requires few { length self.old.siblings.items ≤ 16 }
         requires touches { self.old.task_number + 2 < 2 ^ 64 }
@@ -89,11 +94,12 @@ impl State {
         if leads_others(&self.tasks, &task) {
             return Reply::HasThreads;
         }
+        self.charge();
         self.end(task);
         self.idle(cpu);
         Reply::Ended {
             pid: task.spec.pid,
-            pick: self.reschedule(cpu),
+            pick: self.pick_anew(cpu),
         }
     }
 
@@ -114,6 +120,7 @@ impl State {
         requires time { IsOnTime self.old }
         requires limit { self.old.tasks.limit ≡ limit }
         requires stamp { self.old.next_stamp + 1 < 2 ^ 64 }
+        requires places { 0 < self.old.totals.spare }
         requires pid { self.old.next_pid + 1 < 2 ^ 32 }
         requires touches { self.old.task_number + 1 < 2 ^ 64 }
         ensures makes { (scenario : Scenario) → Makes scenario self.old self.new (Event.Fork caller thread) result }
@@ -135,6 +142,8 @@ impl State {
         requires event { IsEvent (length self.old.siblings.items) event }
         requires sound { IsSound (length self.old.siblings.items) self.old }
         requires time { IsOnTime self.old }
+        requires paid { IsPaid self.old }
+        requires places { 0 < self.old.totals.spare }
         requires few { length self.old.siblings.items ≤ 16 }
         requires stamp { self.old.next_stamp + 1 < 2 ^ 64 }
         requires serial { self.old.refs.next < 2 ^ 63 }

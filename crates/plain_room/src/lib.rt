@@ -1,6 +1,7 @@
 //! The slow machine: the rules made to run, over plain lists.
 #![tactic(auto)]
 
+mod account;
 mod choice;
 mod cookies;
 mod events;

@@ -34,6 +34,7 @@ impl State {
         requires sound { IsSound (length self.old.siblings.items) self.old }
         requires limit { self.old.tasks.limit ≡ limit }
         requires pid { self.old.next_pid + 1 < 2 ^ 32 }
+        requires places { 0 < self.old.totals.spare }
         ensures makes { MakesChild self.old self.new caller thread result }
     {
         let child = self.next_pid;
@@ -45,6 +46,7 @@ impl State {
             thread,
             child,
         )?;
+        self.totals.add(child);
         self.next_pid += 1;
         Ok(self.task_of(child).unwrap())
     }

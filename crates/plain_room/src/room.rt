@@ -6,8 +6,8 @@ ghost use Rattle.cs_types.specs.Scenario.{IsPlayable};
 use crate::state::State;
 use crate::task::view;
 use cs_types::{
-    Actor, CoreView, Cpu, CpuView, Entry, Event, List, OutOfMemory, Pid, Reply, Room, Scenario,
-    TaskView,
+    Actor, CoreView, Cpu, CpuView, EndView, Entry, Event, List, OutOfMemory, Pid, Reply, Room,
+    Scenario, TaskView,
 };
 use ptrace_check::Guards;
 use std::alloc::Global;
@@ -114,8 +114,9 @@ impl Room for PlainRoom {
     fn core(&self) -> CoreView {
         CoreView {
             cookie: self.state.core_cookie,
-            forced: self.state.forced,
-            occupation: self.state.occupation,
+            forced: self.state.account.count(),
+            occupation: self.state.account.occupation(),
+            intervals: self.state.account.intervals(),
         }
     }
 
@@ -127,7 +128,16 @@ impl Room for PlainRoom {
     }
 
     fn task_after(&self, pid: Pid) -> Option<TaskView> {
-        self.state.task_after(pid).map(|task| view(&task))
+        let task = self.state.task_after(pid)?;
+        Some(view(&task, self.state.totals.of(task.spec.pid)))
+    }
+
+    fn ended(&self, place: u64) -> Option<EndView> {
+        let pid = *self.state.ended.get(place as usize)?;
+        Some(EndView {
+            pid,
+            forced: self.state.totals.of(pid),
+        })
     }
 
     ghost legal = { λ room. IsLegal-history_of room.scenario room.steps };

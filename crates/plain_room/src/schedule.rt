@@ -3,9 +3,9 @@
 ghost use Rattle.std.specs.Prelude.{◌≡◌, ◌+◌, ◌^◌, ◌<◌, ◌≤◌, length, ◌==◌, ◌&&◌, ◌||◌, None, if◌then◌else◌};
 ghost use Rattle.cs_types.specs.declared.scenario.Scenario.{Scenario};
 ghost use Rattle.cs_types.specs.Room.{sibling_of};
-ghost use Rattle.cs_types.specs.Selection.{pid_of, choice, forced_count, is_plain, adopted, plain, selected_room, selected, rescheduled, schedule};
+ghost use Rattle.cs_types.specs.Selection.{cookie_of, lead_from, pid_of, choice, forced_count, is_plain, adopted, plain, selected_room, selected, rescheduled, schedule};
 ghost use Rattle.task_table.specs.Table.{IsSound as IsTable};
-ghost use Rattle.plain_room.specs.State.{Schedules, IsSound, IsOnTime, StaysSound, Becomes, room_of, numbers_of, is_fresh_by};
+ghost use Rattle.plain_room.specs.State.{Schedules, ChargesAndSchedules, IsSound, IsOnTime, IsPaid, StaysSound, Becomes, room_of, numbers_of, is_fresh_by};
 
 use crate::choice::{forced_count, hand, occupation, remember};
 use crate::selection::is_fair_task;
@@ -29,7 +29,7 @@ impl State {
             kind: Kind::Adopted,
             run: run.unwrap_or(0),
             core: self.core_cookie,
-            forced: self.forced,
+            forced: self.account.count(),
         }
     }
 
@@ -43,8 +43,7 @@ impl State {
     {
         let first = self.first_on(cpu);
         let run = first.map(|task| task.spec.pid);
-        self.forced = 0;
-        self.occupation = 0;
+        self.account.close();
         self.siblings[cpu as usize] = self.siblings[cpu as usize]
             .running(run)
             .noted(is_fair_task(first));
@@ -63,21 +62,23 @@ impl State {
         requires cpu { cpu < length self.old.siblings.items }
         requires few { length self.old.siblings.items ≤ 16 }
         requires table { IsTable self.old.tasks }
+        requires lead { (scenario : Scenario) → core ≡ cookie_of (lead_from (room_of scenario self.old) cpu) }
+        requires clock { self.old.clock < 2 ^ 56 }
         ensures room { Becomes self.old self.new (λ room. selected_room room cpu core) }
         ensures run { (scenario : Scenario) → result ≡ pid_of (choice (room_of scenario self.old) core cpu) }
-        ensures forced { (scenario : Scenario) → self.new.forced ≡ forced_count (room_of scenario self.old) core }
+        ensures forced { (scenario : Scenario) → self.new.account.count ≡ forced_count (room_of scenario self.old) core }
         ensures numbers { numbers_of self.new ≡ numbers_of self.old }
         ensures sound { StaysSound self.old self.new }
         ensures ended { self.new.ended ≡ self.old.ended }
     {
         let choices = self.choices(core);
         let forced = forced_count(&choices);
-        let renews = renews_snapshots(self.forced, forced);
+        let occupation = occupation(&choices);
+        let renews = renews_snapshots(self.account.count(), forced);
         self.core_cookie = core;
-        self.forced = forced;
-        self.occupation = occupation(&choices);
-        remember(&mut self.tasks, &choices, self.occupation);
-        hand(&mut self.siblings, cpu, &choices, self.occupation, renews);
+        self.account.begin(core, forced, occupation, self.clock);
+        remember(&mut self.tasks, &choices, occupation);
+        hand(&mut self.siblings, cpu, &choices, occupation, renews);
         choices[cpu as usize].run
     }
 
@@ -101,7 +102,7 @@ impl State {
             kind: Kind::Selected,
             run: run.unwrap_or(0),
             core,
-            forced: self.forced,
+            forced: self.account.count(),
         }
     }
 
@@ -110,11 +111,11 @@ impl State {
         ensures { (scenario : Scenario) → result ≡ is_plain (room_of scenario self.now) cpu }
     {
         let cookie = self.first_on(cpu).map_or(0, |task| task.cookie);
-        is_cookieless(self.core_cookie, self.forced, cookie)
+        is_cookieless(self.core_cookie, self.account.count(), cookie)
     }
 
-    /// The sibling schedules, and adopts nothing.
-    pub fn reschedule(&mut self, cpu: Cpu) -> Pick
+    /// The sibling picks anew, once the open interval is charged.
+    pub fn pick_anew(&mut self, cpu: Cpu) -> Pick
         requires cpu { cpu < length self.old.siblings.items }
         requires few { length self.old.siblings.items ≤ 16 }
         requires sound { IsSound (length self.old.siblings.items) self.old }
@@ -129,6 +130,22 @@ impl State {
         } else {
             self.select(cpu)
         }
+    }
+
+    /// The sibling schedules, and adopts nothing: the open interval is charged, and it picks anew.
+    fn reschedule(&mut self, cpu: Cpu) -> Pick
+        requires cpu { cpu < length self.old.siblings.items }
+        requires few { length self.old.siblings.items ≤ 16 }
+        requires sound { IsSound (length self.old.siblings.items) self.old }
+        requires time { IsOnTime self.old }
+        requires paid { IsPaid self.old }
+        requires touches { self.old.task_number + 1 < 2 ^ 64 }
+        ensures schedules { ChargesAndSchedules self.old self.new cpu result (λ room. rescheduled room cpu) }
+        ensures sound { StaysSound self.old self.new }
+        ensures ended { self.new.ended ≡ self.old.ended }
+    {
+        self.charge();
+        self.pick_anew(cpu)
     }
 
     /// What waits for the sibling and may be adopted: nothing was touched since it was chosen.
@@ -150,8 +167,9 @@ impl State {
         requires few { length self.old.siblings.items ≤ 16 }
         requires sound { IsSound (length self.old.siblings.items) self.old }
         requires time { IsOnTime self.old }
+        requires paid { IsPaid self.old }
         requires touches { self.old.task_number + 1 < 2 ^ 64 }
-        ensures schedules { Schedules self.old self.new cpu result
+        ensures schedules { ChargesAndSchedules self.old self.new cpu result
             (λ room. schedule room (is_fresh_by (numbers_of self.old)) cpu) }
         ensures sound { StaysSound self.old self.new }
         ensures ended { self.new.ended ≡ self.old.ended }

@@ -5,6 +5,7 @@ ghost use Rattle.cs_types.specs.Selection.{is_run, running, noted, told, handed}
 ghost use Rattle.plain_room.specs.State.{sibling_state, sibling_view};
 ghost use Rattle.plain_room.specs.Cookies.{flagged_for};
 ghost use Rattle.plain_room.specs.Time.{aged};
+ghost use Rattle.plain_room.specs.Account.{is_to_run};
 
 use crate::choice::Choice;
 use cs_types::{Cpu, CpuView, Pid};
@@ -148,6 +149,14 @@ impl Sibling {
             pending: self.pending || self.runs(pid),
             ..self
         }
+    }
+
+    /// Whether it is online and is to run the task with the pid: that waits for it, or it runs and nothing
+    /// waits.
+    pub fn is_to_run(&self, pid: Pid) -> bool
+        ensures { result ≡ is_to_run pid (sibling_state self.now) }
+    {
+        self.online && self.waiting.unwrap_or(self.run) == Some(pid)
     }
 
     /// Whether it runs the task with the pid.

@@ -2,7 +2,7 @@
 //! are made of. It is a file of its own so that each change has its whole contract, whatever the machine
 //! keeps beside.
 
-ghost use Rattle.std.specs.Prelude.{◌≡◌, ◌+◌, ◌^◌, ◌<◌, ◌≤◌, length, find, Option, IfOk, IfSome, ◌==◌, if◌then◌else◌, map, replicate, All, vec_capacity};
+ghost use Rattle.std.specs.Prelude.{◌≡◌, ◌+◌, ◌^◌, ◌<◌, ◌≤◌, length, find, [], Option, IfOk, IfSome, ◌==◌, if◌then◌else◌, map, replicate, All, vec_capacity};
 ghost use Rattle.cs_types.specs.declared.scenario.Scenario.{Scenario};
 ghost use Rattle.cs_types.specs.Scenario.{IsPlayable, IsPolicy, AreDistinct};
 ghost use Rattle.cs_types.specs.Room.{start, first_pid, asleep_tasks, has_pid, running_on, with_task, flagged};
@@ -10,10 +10,12 @@ ghost use Rattle.cs_types.specs.Step.{dequeued, idled, enqueued, preempts, refre
 ghost use Rattle.cs_types.specs.View.{task_after};
 ghost use Rattle.task_table.specs.Table.{IsSound as IsTable};
 
+use crate::account::totals_of;
 use crate::sibling::Sibling;
 use crate::task::is_higher;
 use cookie_refs::CookieRefs;
 use cs_types::{Cookie, Cpu, OutOfMemory, Pid, Policy, Scenario, Task, TaskSpec};
+use forceidle_account::{ForceIdle, Totals};
 use ptrace_check::Guards;
 use std::alloc::Global;
 use task_table::{Group, TaskTable};
@@ -34,10 +36,10 @@ pub struct State {
     pub clock: u64,
     /// The cookie that the core runs under, 0 for none.
     pub core_cookie: Cookie,
-    /// How many siblings the last selection for the core forced idle, a count.
-    pub forced: u8,
-    /// For how many siblings that selection chose a task, a count.
-    pub occupation: u8,
+    /// How siblings are forced idle since the last selection for the core.
+    pub account: ForceIdle,
+    /// What each task was charged for forced idle, also one that ended.
+    pub totals: Totals,
     /// How often the queues were touched, a count.
     pub task_number: u64,
     /// How often they were touched up to the last selection for the core and with it, a count.
@@ -45,7 +47,7 @@ pub struct State {
 }
 
 impl State {
-    ghost use Rattle.plain_room.specs.State.{room_of, IsFit, Has, Knows, IsSound, StaysSound, Becomes, numbers_of, touched, is_fresh_by};
+    ghost use Rattle.plain_room.specs.State.{room_of, IsFit, Has, Knows, IsSound, StaysSound, Becomes, numbers_of, numbers_at, touched, is_fresh_by};
 
     /// The start of a scenario: all tasks asleep at home, all siblings idle.
     pub fn start(alloc: Global, scenario: &Scenario, guards: Guards) -> Result<State, OutOfMemory>
@@ -53,10 +55,11 @@ impl State {
         ensures room { IfOk result (λ state. room_of scenario.now state ≡ start scenario.now) }
         ensures sound { IfOk result (IsSound scenario.now.siblings) }
         ensures room_for_ended { IfOk result (λ state. length scenario.now.steps ≤ vec_capacity state.ended) }
-        ensures numbers { IfOk result (λ state. numbers_of state ≡ record { task = 0; pick = 0; own = replicate scenario.now.siblings 0 }) }
+        ensures numbers { IfOk result (λ state. numbers_of state ≡ numbers_at scenario.now []) }
     {
         let tasks = asleep_tasks(alloc, scenario.task_limit, scenario.tasks.items())?;
         let refs = CookieRefs::with_limit(alloc, scenario.cookie_limit)?;
+        let totals = totals_of(alloc, &tasks, scenario.steps.items().len())?;
         let ended = Vec::with_capacity(alloc, scenario.steps.items().len())?;
         let siblings = vec![in alloc; Sibling::IDLE; scenario.siblings as usize]?;
         Ok(State {
@@ -69,8 +72,8 @@ impl State {
             next_stamp: 0,
             clock: 0,
             core_cookie: 0,
-            forced: 0,
-            occupation: 0,
+            account: ForceIdle::closed(),
+            totals,
             task_number: 0,
             pick_number: 0,
         })

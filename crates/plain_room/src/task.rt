@@ -2,7 +2,8 @@
 
 ghost use Rattle.std.specs.Prelude.{◌≡◌};
 ghost use Rattle.cs_types.specs.Order.{class_of, priority_of, is_fair, goes_before, is_higher_here};
-ghost use Rattle.cs_types.specs.View.{task_view};
+ghost use Rattle.cs_types.specs.View.{task_view, forced_of};
+ghost use Rattle.cs_types.specs.Touches.{Ledger};
 
 use cs_types::{Policy, Task, TaskView};
 use sibling_priority::{DEADLINE, FAIR, REAL_TIME, STOP};
@@ -61,15 +62,16 @@ pub fn goes_before(task: &Task, other: &Task) -> bool
     is_higher(task, other) || (!is_higher(other, task) && task.stamp < other.stamp)
 }
 
-/// What a machine shows of the task.
-pub fn view(task: &Task) -> TaskView
-    ensures { result ≡ task_view task.now }
+/// What a machine shows of the task, which was charged so much for forced idle, in ns.
+pub fn view(task: &Task, forced: u64) -> TaskView
+    ensures { (ledger : Ledger) → forced ≡ forced_of ledger task.now.spec.pid → result ≡ task_view ledger task.now }
 {
     TaskView {
         pid: task.spec.pid,
         cpu: task.home,
         queued: task.queued,
         cookie: task.cookie,
+        forced,
         vtime: task.vtime,
     }
 }

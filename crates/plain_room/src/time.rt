@@ -9,7 +9,7 @@ ghost use Rattle.cs_types.specs.Scenario.{IsPolicy, IsWithin};
 ghost use Rattle.cs_types.specs.Order.{is_fair};
 ghost use Rattle.cs_types.specs.Time.{grown_by, with_growth, with_leasts, has_used_slice, is_peer, rotates, is_overtaken, is_to_yield, asks_at_tick, sliced};
 ghost use Rattle.task_table.specs.Table.{Rises};
-ghost use Rattle.plain_room.specs.State.{sibling_state, room_of, Has, IsSound, IsOnTime, StaysSound, Becomes, numbers_of, Makes};
+ghost use Rattle.plain_room.specs.State.{sibling_state, room_of, Has, IsSound, IsOnTime, IsPaid, StaysSound, Becomes, numbers_of, Makes};
 ghost use Rattle.plain_room.specs.Time.{is_run_by, grown_among, aged, smallest_among, least_among, renewed, any_other};
 
 use crate::sibling::Sibling;
@@ -211,7 +211,7 @@ impl State {
     {
         is_fair(task)
             && !self.has_fair_beside(cpu, task)
-            && self.forced != 0
+            && self.account.count() != 0
             && self.siblings[cpu as usize].ran >= PATIENCE
     }
 
@@ -260,15 +260,17 @@ impl State {
         }
     }
 
-    /// The sibling's timer ticks.
+    /// The sibling's timer ticks. The open interval is charged first.
     pub fn tick(&mut self, cpu: Cpu) -> Reply
         requires cpu { cpu < length self.old.siblings.items }
         requires sound { IsSound (length self.old.siblings.items) self.old }
+        requires paid { IsPaid self.old }
         requires stamp { self.old.next_stamp + 1 < 2 ^ 64 }
         ensures makes { (scenario : Scenario) → Makes scenario self.old self.new (Tick cpu) result }
         ensures sound { StaysSound self.old self.new }
         ensures ended { self.new.ended ≡ self.old.ended }
     {
+        self.charge();
         let Some(task) = self.running_on(cpu) else {
             return Reply::Ticked(false);
         };

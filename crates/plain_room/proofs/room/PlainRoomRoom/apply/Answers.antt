@@ -1,15 +1,18 @@
-use Rattle.std.proofs.Common.{◌≡◌, ◌++◌, ◌∷◌, [], length, ap, sym, subst, ◌∙◌, arith}
+use Rattle.std.proofs.Common.{◌≡◌, ◌≤◌, ◌*◌, ◌++◌, ◌∷◌, [], length, ap, sym, subst, ◌∙◌, arith}
 use Rattle.std.specs.Prelude.{IfSome}
 use Rattle.cs_types.specs.declared.reply.Entry.{Entry}
 use Rattle.cs_types.specs.Scenario.{IsEvent}
 use Rattle.cs_types.specs.Room.{RoomState}
 use Rattle.cs_types.specs.Touches.{selection_of}
-use Rattle.cs_types.specs.History.{fold_of, reply_to, history_of}
+use Rattle.cs_types.specs.History.{fold_of, reply_to, history_of, moment_of}
 use Rattle.cs_types.specs.Laws.{SelectsForTheCore, scheduling_room, cpu_of}
 use Rattle.cs_types.proofs.Numbers.{task_number-ledger_of, next_stamp-fold_of, next_cookie-fold_of, next_pid-fold_of, ended-fold_of}
 use Rattle.cs_types.proofs.Tasks.{few-fold_of, task_limit-fold_of}
 use Rattle.cs_types.proofs.Selections.{selects}
 use Rattle.cs_types.proofs.Times.{timely-fold_of, clock-step}
+use Rattle.cs_types.proofs.Accounts.{IsAccounted, charged_up_to, accounted-history_of, intervals-ledger_of}
+use Rattle.forceidle_account.specs.Charges.{total_at}
+use Rattle.plain_room.proofs.Views.{total_kept}
 use Rattle.cs_types.specs.Time.{IsTimely}
 use Rattle.plain_room.proofs.Clocks.{timely_under}
 use Rattle.plain_room.specs.State.{Numbers, room_of, numbers_of, is_fresh_by}
@@ -60,6 +63,44 @@ apply-reply-requires-clause-time c =
       clock = omega (arith, c.self.invariant.slow, a.entries.ok.0, c.self.invariant.few_entries);
     }
 
+pub apply-reply-requires-clause-paid : goal.apply-reply-requires-clause-paid
+apply-reply-requires-clause-paid c =
+    let a = c.self.inside in
+    let room = room_of a.scenario a.state in
+    let accounted : IsAccounted 255 (moment_of a.scenario a.entries.items) =
+    subst (λ h. IsAccounted 255 (moment_of a.scenario h)) (sym c.self.invariant.history)
+    (accounted-history_of 255 a.scenario (steps_of a.entries.items) (omega arith) (omega (arith, c.self.invariant.few_siblings))) in
+    let fold = c.self.invariant.fold in
+    let folds : Folds a.scenario a.state a.entries.items = record { fold = fold; numbers = c.self.invariant.numbers } in
+    record {
+      clock = omega (arith, c.self.invariant.slow, a.entries.ok.0, c.self.invariant.few_entries);
+      started = subst (λ (r : RoomState). charged_up_to r ≤ r.clock) (sym fold) accounted.opened.started;
+      few = subst (λ (r : RoomState). r.forced ≤ 255) (sym fold) accounted.opened.few;
+      intervals = omega (
+        arith,
+        intervals-ledger_of a.scenario a.entries.items,
+        ap (λ (numbers : Numbers). numbers.books.intervals) c.self.invariant.numbers,
+        a.entries.ok.0,
+        c.self.invariant.few_entries,
+      );
+      totals = λ pid. subst (λ (r : RoomState). total_at a.state.totals pid ≤ 255 * charged_up_to r) (sym fold)
+          (subst (λ n. n ≤ 255 * charged_up_to (fold_of a.scenario a.entries.items)) (sym (total_kept a.scenario a.state a.entries.items pid folds)) (accounted.totals pid));
+    }
+
+pub apply-reply-requires-clause-places : goal.apply-reply-requires-clause-places
+apply-reply-requires-clause-places c =
+    let a = c.self.inside in
+    omega (
+      arith,
+      ap (λ (numbers : Numbers). numbers.books.places) c.self.invariant.numbers,
+      next_pid-fold_of a.scenario a.entries.items,
+      ap (λ (room : RoomState). room.next_pid) c.self.invariant.fold,
+      a.entries.ok.0,
+      c.requires.room,
+      ap (λ (m : Machine). m.free) c.self.view_is,
+      c.self.invariant.few_steps,
+    )
+
 pub apply-reply-requires-clause-touches : goal.apply-reply-requires-clause-touches
 apply-reply-requires-clause-touches c =
     let a = c.self.inside in
@@ -100,6 +141,7 @@ invariant_of-self c =
         clock-step (room_of a.scenario a.state) (is_fresh_by (numbers_of a.state)) c.args.event a.scenario.siblings limits,
       );
       few_entries = omega (arith, c.push_reserved.ensures.capacity, c.self.invariant.few_entries);
+      few_steps = omega (arith, c.push_reserved.ensures.capacity, c.self.invariant.few_steps);
     }
 
 pub returns-clause-reply : goal.returns-clause-reply

@@ -9,7 +9,7 @@ use Rattle.cs_types.specs.declared.reply.Reply.TheVariants.{Now}
 use Rattle.cs_types.specs.Room.{RoomState, SiblingState, idle}
 use Rattle.cs_types.specs.Time.{with_growth, least_of, advanced}
 use Rattle.task_table.specs.Table.{Table}
-use Rattle.plain_room.specs.State.{sibling_state, room_of, numbers_of}
+use Rattle.plain_room.specs.State.{sibling_state, room_of, numbers_of, books_of}
 use Rattle.plain_room.specs.Time.{aged, renewed, least_among}
 use Rattle.plain_room.specs.declared.state.State.{State}
 use Rattle.plain_room.specs.declared.sibling.Sibling.{Sibling}
@@ -78,8 +78,8 @@ returns-clause-makes c scenario =
       numbers = rest_numbers c.grow_tasks.new.self old (numbers_are c) c.grow_tasks.ensures.rest;
     } where
       rest_numbers : (mid start : State) {own : List ℕ} → own ≡ map number_of start.siblings.items → mid ≡ record start { tasks = mid.tasks } →
-          record { task = mid.task_number; pick = mid.pick_number; own = own } ≡ record (numbers_of start) { task = start.task_number + 0 }
-      rest_numbers mid start own same = λ i. record { task = (ap (λ (s : State). s.task_number) same ∙ sym (add-zero start.task_number)) i; pick = ap (λ (s : State). s.pick_number) same i; own = own i }
+          record { task = mid.task_number; pick = mid.pick_number; own = own; books = books_of mid } ≡ record (numbers_of start) { task = start.task_number + 0 }
+      rest_numbers mid start own same = λ i. record { task = (ap (λ (s : State). s.task_number) same ∙ sym (add-zero start.task_number)) i; pick = ap (λ (s : State). s.pick_number) same i; own = own i; books = ap books_of same i }
 
 pub returns-clause-sound : goal.returns-clause-sound
 returns-clause-sound c count sound =
@@ -88,6 +88,8 @@ returns-clause-sound c count sound =
       siblings = sym (length-map _ sibling_state) ∙ ap length (siblings_are c) ∙ length-enumerated c ∙ sound.siblings;
       table = mid.table;
       tasks = mid.tasks;
+      known = mid.known;
+      low_pids = mid.low_pids;
       refs = mid.refs;
     } where
       length-enumerated : (c : goal.After-self-3-1) → length (map (renewed c.grow_tasks.new.self.tasks.tasks) (enumerate_from 0 (map (aged c.args.delta) (map sibling_state c.args.self.now.siblings.items)))) ≡ length c.args.self.now.siblings.items

@@ -1,10 +1,11 @@
 use Rattle.std.proofs.Common.{◌≡◌, ◌++◌, ◌∷◌, [], List, ap, ◌∙◌, refl, sym, subst, false}
-use Rattle.std.specs.Prelude.{Some, filter, find, not, IsSomeAnd, ◌==◌, ◌&&◌}
+use Rattle.std.specs.Prelude.{Some, IsTrue, filter, find, not, IsSomeAnd, ◌==◌, ◌&&◌}
 use Rattle.std.specs.Result.{IsOk}
 use Rattle.std.proofs.lemmas.List.Elements.{All-filter}
 use Rattle.cs_types.specs.declared.task.Task.{Task}
 use Rattle.cs_types.specs.Room.{RoomState, has_pid}
 use Rattle.cs_types.specs.Step.{dequeued, has_threads}
+use Rattle.forceidle_account.specs.Charges.{has_total}
 use Rattle.plain_room.specs.State.{room_of, IsFit, Has, Becomes}
 use Rattle.plain_room.specs.declared.state.State.{State}
 use Rattle.plain_room.proofs.States.{some_scenario}
@@ -57,5 +58,7 @@ returns-clause-sound c count sound =
       siblings = mid.siblings;
       table = c.end.ensures.sound;
       tasks = rw ended (All-filter (λ other. not (has_pid c.args.task.spec.pid other)) (IsFit count c.dequeue.new.self.next_pid) c.dequeue.new.self.tasks.tasks mid.tasks);
+      known = rw ended (All-filter (λ other. not (has_pid c.args.task.spec.pid other)) (λ (task : Task). IsTrue (has_total c.dequeue.new.self.totals task.spec.pid)) c.dequeue.new.self.tasks.tasks mid.known);
+      low_pids = mid.low_pids;
       refs = c.end.ensures.agree;
     }

@@ -75,3 +75,6 @@ returns-in-Ok-clause-makes c scenario =
           ∙ ap (λ (m : Stepped). m.room) whole;
       numbers = c.queue_at_home.ensures.numbers ∙ ap (λ (numbers : Numbers). touched 1 numbers) born.numbers;
     }
+
+pub returns-in-Ok-clause-sound : goal.returns-in-Ok-clause-sound
+returns-in-Ok-clause-sound c count sound = c.queue_at_home.ensures.sound count (c.in-Ok.ensures.makes.2.sound count sound)

@@ -9,4 +9,5 @@ pub returns : goal.returns
 returns c scenario =
     let mapped : c.map_or-cookie.result ≡ option_map_or (λ task. task.cookie) c.first_on.result 0 = search rules in
     let cookie = mapped ∙ cookie_of-task c.first_on.result ∙ ap cookie_of (c.first_on.ensures scenario) in
-    c.is_cookieless.ensures ∙ ap (λ n. (c.args.self.now.core_cookie == 0) && (c.args.self.now.forced == 0) && (n == 0)) cookie
+    let count = c.count.ensures.count in
+    c.is_cookieless.ensures ∙ (λ i. (c.args.self.now.core_cookie == 0) && (count i == 0) && (cookie i == 0))

@@ -1,17 +1,18 @@
-use Rattle.std.proofs.Common.{◌≡◌, ◌+◌, false, ap, ◌∙◌, refl, sym, subst, inl, inr, length, arith}
-use Rattle.std.specs.Prelude.{◌==◌, ◌||◌, Option, Some, None, Ok, Err, find, unwrap_or}
+use Rattle.std.proofs.Common.{◌≡◌, ℕ, Bool, List, ◌+◌, ◌<◌, false, true, eq-eqb, ap, ◌∙◌, refl, sym, subst, inl, inr, length, arith}
+use Rattle.std.specs.Prelude.{◌==◌, ◌||◌, All, IsTrue, Option, Some, None, Ok, Err, find, unwrap_or}
 use Rattle.std.specs.Option.{IsSome}
-use Rattle.std.proofs.lemmas.Bool.{cases_Bool, cond-true}
+use Rattle.std.proofs.lemmas.Bool.{cases_Bool, cond-true, eqb-true}
 use Rattle.std.proofs.lemmas.List.Elements.{All-weaker}
 use Rattle.cs_types.specs.declared.task.Task.{Task}
-use Rattle.cs_types.specs.Room.{has_pid}
+use Rattle.cs_types.specs.Room.{has_pid, placed}
 use Rattle.cs_types.specs.Order.{deadline_class, class_of}
 use Rattle.cs_types.specs.Step.{child_of, with_child}
 use Rattle.task_table.specs.Table.{Table}
 use Rattle.fork_inherit.specs.Answers.{fork_answer}
 use Rattle.fork_inherit.specs.declared.forking.ForkFault.TheVariants.{Eagain}
-use Rattle.plain_room.specs.State.{IsFit, room_of}
-use Rattle.plain_room.proofs.States.{found_fits, fit-placed}
+use Rattle.plain_room.specs.State.{IsFit, room_of, numbers_of, books_of}
+use Rattle.forceidle_account.specs.Charges.{Charges, has_total}
+use Rattle.plain_room.proofs.States.{found_fits, fit-placed, All-placed}
 use Rattle.plain_room.proofs.Lives.{find-placed, next_is_unused}
 use Rattle.plain_room.proofs.state.State.make_child.Goals as goal
 
@@ -27,6 +28,30 @@ caller_of table (Some by) made = (
     | inr allowed ↦ allowed
   ],
 )
+
+-- each task has a total, the child too
+known-placed : (old new : Charges) (child : Task) (tasks : List Task) → ((other : ℕ) → has_total new other ≡ (other == child.spec.pid || has_total old other)) →
+    All (λ task. IsTrue (has_total old task.spec.pid)) tasks → All (λ task. IsTrue (has_total new task.spec.pid)) (placed child tasks)
+known-placed old new child tasks has all =
+    All-placed (λ task. IsTrue (has_total new task.spec.pid)) child tasks
+    (has child.spec.pid ∙ ap (λ b. b || has_total old child.spec.pid) (eq-eqb child.spec.pid child.spec.pid refl))
+    (All-weaker (λ (task : Task). IsTrue (has_total old task.spec.pid)) (λ (task : Task). IsTrue (has_total new task.spec.pid))
+    (λ task known. has task.spec.pid ∙ or_right (task.spec.pid == child.spec.pid) (has_total old task.spec.pid) known) tasks all) where
+      or_right : (a b : Bool) → b ≡ true → (a || b) ≡ true
+      or_right true b pass = refl
+      or_right false b pass = pass
+
+-- and no pid with a total is given again
+low_child : (old new : Charges) (next pid : ℕ) → ((other : ℕ) → has_total new other ≡ (other == next || has_total old other)) →
+    (IsTrue (has_total old pid) → pid < next) → IsTrue (has_total new pid) → pid < next + 1
+low_child old new next pid has low known =
+    elim (cases_Bool (pid == next)) [
+      | inl same ↦ omega (arith, eqb-true pid next same)
+      | inr other ↦ let was : has_total old pid ≡ true = ap (λ b. b || has_total old pid) (sym other) ∙ sym (has pid) ∙ known in omega (arith, low was)
+    ]
+
+pub add-requires-clause-above : goal.add-requires-clause-above
+add-requires-clause-above c other has = c.requires.sound.low_pids other has
 
 pub fork-requires-clause-unused : goal.fork-requires-clause-unused
 fork-requires-clause-unused c =
@@ -52,6 +77,7 @@ returns c =
     let placed = c.in_ok-fork.ensures.child by.0 by.1 in
     let there = ap (λ (table : Table). find (has_pid next) table.tasks) placed ∙ find-placed child old.tasks.tasks unused in
     let is : c.unwrap.result ≡ child = ap (λ one. unwrap_or one c.unwrap.result) (sym c.unwrap.ensures ∙ c.task_of.ensures.task ∙ there) in
+    let places : c.add.new.self.spare + (next + 1) ≡ old.totals.spare + next = omega (arith, c.add.ensures.spare) in
     record {
       makes = (
         by.0,
@@ -69,9 +95,11 @@ returns c =
                 tasks = rw placed (fit-placed count (next + 1) child old.tasks.tasks
                     (record { pid = omega (arith, fit.pid, fit.below); below = omega arith; home = fit.home; policy = fit.policy })
                     (All-weaker (IsFit count next) (IsFit count (next + 1)) (λ task fits. record { pid = fits.pid; below = omega (arith, fits.below); home = fits.home; policy = fits.policy }) old.tasks.tasks sound.tasks));
+                known = rw placed (known-placed old.totals c.add.new.self child old.tasks.tasks c.add.ensures.has sound.known);
+                low_pids = λ pid has. low_child old.totals c.add.new.self next pid c.add.ensures.has (sound.low_pids pid) has;
                 refs = c.fork.ensures.agree;
               };
-          numbers = refl;
+          numbers = λ i. record (numbers_of old) { books = record (books_of old) { totals = λ pid. c.add.ensures.each pid i; places = places i } };
           siblings = refl;
           ended = refl;
           stamp = refl;

@@ -1,19 +1,35 @@
-use Rattle.std.proofs.Common.{ap, ◌∙◌, sym, cond}
-use Rattle.cs_types.specs.Selection.{plain, selected, rescheduled}
-use Rattle.plain_room.specs.State.{room_of}
-use Rattle.plain_room.proofs.States.{Schedules-same}
+use Rattle.std.proofs.Common.{◌≡◌, ◌∙◌, ap, sym, subst, cond, ◌+◌, ◌<◌, ◌^◌, true, None, length}
+use Rattle.cs_types.specs.declared.reply.Pick.{Pick}
+use Rattle.cs_types.specs.declared.scenario.Scenario.{Scenario}
+use Rattle.cs_types.specs.Room.{RoomState}
+use Rattle.cs_types.specs.Selection.{Scheduled, rescheduled}
+use Rattle.cs_types.specs.Accounting.{closes, open_interval, accounted}
+use Rattle.cs_types.specs.Time.{IsTimely}
+use Rattle.cs_types.proofs.Accounts.{rescheduled-accounted, closes-rescheduled}
+use Rattle.plain_room.specs.State.{room_of, numbers_of, Numbers, took, charged_with}
+use Rattle.plain_room.specs.declared.state.State.{State}
+use Rattle.plain_room.proofs.Accounts.{timely-accounted}
 use Rattle.plain_room.proofs.state.State.reschedule.Goals as goal
 
-pub returns-then-is_plain-clause-schedules : goal.returns-then-is_plain-clause-schedules
-returns-then-is_plain-clause-schedules c =
-    Schedules-same c.args.self.now c.run_first.new.self c.args.cpu c.run_first.result (λ room. plain room c.args.cpu) (λ room. rescheduled room c.args.cpu)
-    (λ scenario. let room = room_of scenario c.args.self.now in
-    ap (λ b. cond b (plain room c.args.cpu) (selected room c.args.cpu)) (sym (c.is_plain.ensures scenario) ∙ c.if-is_plain.true))
-    c.run_first.ensures.schedules
+pub pick_anew-requires-clause-time : goal.pick_anew-requires-clause-time
+pick_anew-requires-clause-time c = record {
+  timely = λ scenario. subst IsTimely (sym (c.charge.ensures.room scenario)) (timely-accounted (room_of scenario c.args.self.now) (c.requires.time.timely scenario));
+  clock = subst (λ (state : State). state.clock + 1000000000 < 2 ^ 56) (sym c.charge.ensures.rest) c.requires.time.clock;
+}
 
-pub returns-else-is_plain-clause-schedules : goal.returns-else-is_plain-clause-schedules
-returns-else-is_plain-clause-schedules c =
-    Schedules-same c.args.self.now c.select.new.self c.args.cpu c.select.result (λ room. selected room c.args.cpu) (λ room. rescheduled room c.args.cpu)
-    (λ scenario. let room = room_of scenario c.args.self.now in
-    ap (λ b. cond b (plain room c.args.cpu) (selected room c.args.cpu)) (sym (c.is_plain.ensures scenario) ∙ c.if-is_plain.false))
-    c.select.ensures.schedules
+pub returns-clause-schedules : goal.returns-clause-schedules
+returns-clause-schedules c =
+    let same : (scenario : Scenario) → rescheduled (room_of scenario c.charge.new.self) c.args.cpu ≡ rescheduled (room_of scenario c.args.self.now) c.args.cpu =
+    λ scenario. ap (λ (room : RoomState). rescheduled room c.args.cpu) (c.charge.ensures.room scenario)
+    ∙ rescheduled-accounted (room_of scenario c.args.self.now) c.args.cpu in
+    record {
+      pick = λ scenario. c.pick_anew.ensures.schedules.pick scenario ∙ ap (λ (made : Scheduled). made.pick) (same scenario);
+      room = λ scenario. c.pick_anew.ensures.schedules.room scenario ∙ ap (λ (made : Scheduled). made.room) (same scenario);
+      numbers = λ scenario.
+          let room = room_of scenario c.args.self.now in
+          let closed : closes c.pick_anew.result.kind ≡ true =
+          ap (λ (pick : Pick). closes pick.kind) (c.pick_anew.ensures.schedules.pick scenario ∙ ap (λ (made : Scheduled). made.pick) (same scenario)) ∙ closes-rescheduled room c.args.cpu in
+          c.pick_anew.ensures.schedules.numbers
+          ∙ ap (λ (numbers : Numbers). took c.args.cpu c.pick_anew.result numbers) (c.charge.ensures.numbers scenario)
+          ∙ ap (λ b. took c.args.cpu c.pick_anew.result (charged_with (cond b (open_interval room) None) (numbers_of c.args.self.now))) (sym closed);
+    }

@@ -28,6 +28,6 @@ returns-clause-schedules c =
     let at = sibling_at c.args.self.now.siblings.items c.args.cpu c.index.result.now c.requires.cpu c.index.ensures in
     record {
       pick = λ scenario. rw (c.unwrap_or.ensures, run_is c scenario) refl;
-      room = λ scenario. rw (c.touch.ensures) (rw (map-set sibling_state, at) (rw (state_is c scenario) refl));
-      numbers = rw c.touch.ensures (rw (numbers_kept c.args.self.now.siblings.items c.args.cpu c.index.result.now c.noted.result c.index.ensures (c.noted.ensures.number ∙ c.running.ensures.number)) refl);
+      room = λ scenario. rw (c.touch.ensures) (rw (map-set sibling_state, at) (rw (state_is c scenario, c.close.ensures.count, c.close.ensures.occupation, c.close.ensures.started) refl));
+      numbers = rw (c.touch.ensures, c.close.ensures.intervals) (rw (numbers_kept c.args.self.now.siblings.items c.args.cpu c.index.result.now c.noted.result c.index.ensures (c.noted.ensures.number ∙ c.running.ensures.number)) refl);
     }

@@ -7,7 +7,7 @@ use Rattle.std.specs.Vec.{with_items}
 use Rattle.plain_room.specs.declared.state.State.{State}
 use Rattle.plain_room.specs.Cookies.{flagged_for}
 use Rattle.plain_room.specs.State.{sibling_state, numbers_of}
-use Rattle.plain_room.proofs.States.{items-as_many, found_fits, fit-changed, number_of}
+use Rattle.plain_room.proofs.States.{items-as_many, found_fits, fit-changed, known-changed, number_of}
 use Rattle.plain_room.proofs.Settings.{sets_one, sets_numbers}
 use Rattle.plain_room.proofs.state.State.set_cookie.Goals as goal
 
@@ -37,8 +37,8 @@ returns-clause-sets c =
       next_stamp = old.next_stamp;
       clock = old.clock;
       core_cookie = old.core_cookie;
-      forced = old.forced;
-      occupation = old.occupation;
+      account = old.account;
+      totals = old.totals;
       task_number = old.task_number + c.touches.result;
       pick_number = old.pick_number;
     } in
@@ -46,7 +46,7 @@ returns-clause-sets c =
       room = λ scenario.
           sets_one scenario old new c.args.task c.args.cookie c.requires.sound.table.rising c.requires.there c.change.ensures.changed
           (c.put.ensures.limit ∙ c.get.ensures.limit) (c.put.ensures.next ∙ c.get.ensures.next)
-          (ap (map sibling_state) kept ∙ c.flag_runners.ensures.states ∙ ap (λ siblings. map (flagged_for c.args.task.spec.pid) (map sibling_state siblings)) c.deref_mut.ensures.value) refl refl refl refl refl refl refl;
+          (ap (map sibling_state) kept ∙ c.flag_runners.ensures.states ∙ ap (λ siblings. map (flagged_for c.args.task.spec.pid) (map sibling_state siblings)) c.deref_mut.ensures.value) refl refl refl refl refl refl;
       numbers =
           sets_numbers (numbers_of c.args.self.now) c.args.task c.args.cookie c.touches.result _
           (ap (map number_of) kept ∙ c.flag_runners.ensures.numbers ∙ ap (map number_of) c.deref_mut.ensures.value) c.touches.ensures.touches;
@@ -63,6 +63,8 @@ returns-clause-sound c =
       siblings = ap length kept ∙ c.flag_runners.auto.siblings ∙ ap length c.deref_mut.ensures.value;
       table = c.change.ensures.sound;
       tasks = rw tasks (fit-changed count c.args.self.now.next_pid task c.args.self.now.tasks.tasks (record { pid = fit.pid; below = fit.below; home = fit.home; policy = fit.policy }) c.requires.sound.tasks);
+      known = rw tasks (known-changed c.args.self.now.totals task c.args.self.now.tasks.tasks c.requires.sound.known);
+      low_pids = c.requires.sound.low_pids;
       refs = rw tasks (AgreeBut-with_cookie c.args.self.now.refs c.get.new.self c.put.new.self c.args.self.now.tasks.tasks c.args.cookie c.args.task.spec.pid c.args.cookie c.args.task
           (rising_pairs 0 c.args.self.now.tasks.tasks c.requires.sound.table.rising) c.requires.there c.get.ensures.counts c.put.ensures.counts c.requires.sound.refs);
     }

@@ -1,12 +1,27 @@
-use Rattle.std.proofs.Common.{◌≡◌, ◌∙◌, ap, map, refl, length}
+use Rattle.std.proofs.Common.{◌≡◌, ℕ, ◌+◌, ◌<◌, ◌∙◌, List, [], ◌∷◌, true, inl, inr, arith, sym, ap, map, refl, length}
 use Rattle.std.proofs.lemmas.List.{length-replicate}
-use Rattle.std.specs.Prelude.{replicate}
-use Rattle.cs_types.specs.Room.{first_pid, asleep_tasks, idle}
+use Rattle.std.specs.Prelude.{replicate, All, ◌||◌}
+use Rattle.std.specs.List.{list_any}
+use Rattle.std.proofs.lemmas.Bool.{cases_Bool, eqb-true}
+use Rattle.std.proofs.lemmas.List.Elements.{All-head, All-tail}
+use Rattle.cs_types.specs.declared.task.Task.{Task}
+use Rattle.cs_types.proofs.Accounts.{total_of-none}
+use Rattle.plain_room.proofs.Machines.{own_number-start}
+use Rattle.cs_types.specs.Room.{first_pid, has_pid, asleep_tasks, idle}
 use Rattle.cookie_refs.proofs.Agreements.{Agree-none}
-use Rattle.plain_room.specs.State.{sibling_state}
+use Rattle.plain_room.specs.State.{sibling_state, IsFit}
 use Rattle.plain_room.proofs.Lists.{map-replicate}
 use Rattle.plain_room.proofs.States.{fit-asleep, cookieless-asleep, number_of}
 use Rattle.plain_room.proofs.state.State.start.Goals as goal
+
+-- a pid that one of the tasks has is below what each of theirs is below
+any_below : {count : ℕ} (next pid : ℕ) (tasks : List Task) → All (IsFit count next) tasks → list_any (has_pid pid) tasks ≡ true → pid < next
+any_below next pid [] all any = absurd cc
+any_below {count} next pid (task ∷ tasks) all any =
+    elim (cases_Bool (has_pid pid task)) [
+      | inl here ↦ omega (arith, eqb-true task.spec.pid pid here, (All-head (IsFit count next) task tasks all).below)
+      | inr other ↦ any_below next pid tasks (All-tail (IsFit count next) task tasks all) (ap (λ b. b || list_any (has_pid pid) tasks) (sym other) ∙ any)
+    ]
 
 pub returns-clause-room : goal.returns-clause-room
 returns-clause-room c =
@@ -14,8 +29,8 @@ returns-clause-room c =
     c.in_ok-tasks.ensures.tasks ∙ ap asleep_tasks c.items.ensures in
     let siblings : map sibling_state c.in_ok-siblings.siblings.items ≡ replicate c.args.scenario.now.siblings idle =
     ap (map sibling_state) (c.in_ok-siblings.ensures.items_if_clones_equal (λ y e. e)) ∙ map-replicate sibling_state c.args.scenario.now.siblings _ in
-    let pid : c.first_pid.result ≡ first_pid c.args.scenario.now.tasks = c.first_pid.ensures ∙ ap first_pid c.items-3.ensures in
-    rw (tasks, siblings, pid, c.in_ok-ended.ensures.items, c.in_ok-tasks.ensures.limit, c.in_ok-refs.ensures.next, c.in_ok-refs.ensures.limit) refl
+    let pid : c.first_pid.result ≡ first_pid c.args.scenario.now.tasks = c.first_pid.ensures ∙ ap first_pid c.items-4.ensures in
+    rw (tasks, siblings, pid, c.in_ok-ended.ensures.items, c.in_ok-tasks.ensures.limit, c.in_ok-refs.ensures.next, c.in_ok-refs.ensures.limit, c.closed.ensures.count, c.closed.ensures.occupation, c.closed.ensures.started) refl
 
 pub returns-clause-sound : goal.returns-clause-sound
 returns-clause-sound c =
@@ -24,10 +39,27 @@ returns-clause-sound c =
     record {
       siblings = ap length (c.in_ok-siblings.ensures.items_if_clones_equal (λ y e. e)) ∙ length-replicate c.args.scenario.now.siblings _;
       table = c.in_ok-tasks.ensures.sound;
-      tasks = rw (tasks, c.first_pid.ensures ∙ ap first_pid c.items-3.ensures) (fit-asleep c.args.scenario.now.siblings c.args.scenario.now.tasks c.requires.tasks);
+      tasks = rw (tasks, c.first_pid.ensures ∙ ap first_pid c.items-4.ensures) (fit-asleep c.args.scenario.now.siblings c.args.scenario.now.tasks c.requires.tasks);
+      known = c.in_ok-totals.ensures.known;
+      low_pids = λ pid has. rw (c.first_pid.ensures ∙ ap first_pid c.items-4.ensures)
+          (any_below (first_pid c.args.scenario.now.tasks) pid (asleep_tasks c.args.scenario.now.tasks) (fit-asleep c.args.scenario.now.siblings c.args.scenario.now.tasks c.requires.tasks)
+          (ap (list_any (has_pid pid)) (sym tasks) ∙ c.in_ok-totals.ensures.only pid has));
       refs = rw tasks (Agree-none c.in_ok-refs.refs (asleep_tasks c.args.scenario.now.tasks) c.in_ok-refs.ensures.counts (cookieless-asleep c.args.scenario.now.tasks));
     }
 
 pub returns-clause-numbers : goal.returns-clause-numbers
 returns-clause-numbers c =
-    rw (ap (map number_of) (c.in_ok-siblings.ensures.items_if_clones_equal (λ y e. e)) ∙ map-replicate number_of c.args.scenario.now.siblings _) refl
+    let scenario = c.args.scenario.now in
+    let own = ap (map number_of) (c.in_ok-siblings.ensures.items_if_clones_equal (λ y e. e)) ∙ map-replicate number_of scenario.siblings _ ∙ own_number-start 0 scenario.siblings in
+    let places : c.in_ok-totals.totals.spare + c.first_pid.result ≡ length scenario.steps + first_pid scenario.tasks =
+    omega (arith, c.in_ok-totals.ensures.spare, ap length c.items-2.ensures, c.first_pid.ensures, ap first_pid c.items-4.ensures) in
+    λ i. record {
+      task = 0;
+      pick = 0;
+      own = own i;
+      books = record {
+        intervals = c.closed.ensures.intervals i;
+        totals = λ pid. (c.in_ok-totals.ensures.zero pid ∙ sym (total_of-none pid)) i;
+        places = places i;
+      };
+    }

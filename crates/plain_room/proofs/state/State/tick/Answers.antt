@@ -1,21 +1,42 @@
-use Rattle.std.proofs.Common.{◌∙◌, ap, arith}
+use Rattle.std.proofs.Common.{◌+◌, ◌≡◌, ◌∙◌, ap, arith, Some, None}
 use Rattle.cs_types.specs.declared.reply.Reply.TheVariants.{Ticked}
-use Rattle.cs_types.specs.Room.{RoomState, flagged}
-use Rattle.cs_types.specs.Time.{sliced}
+use Rattle.cs_types.specs.Room.{RoomState, flagged, running_on}
+use Rattle.cs_types.specs.Accounting.{accounted, open_interval}
+use Rattle.cs_types.specs.Time.{sliced, asks_at_tick}
 use Rattle.cs_types.specs.Step.{ticked}
-use Rattle.plain_room.specs.State.{room_of, numbers_of, Numbers}
+use Rattle.plain_room.specs.State.{room_of, numbers_of, charged_with, Numbers}
 use Rattle.plain_room.proofs.state.State.tick.Goals as goal
+
+-- nothing is touched
+untouched : (numbers : Numbers) → numbers ≡ record numbers { task = numbers.task + 0 }
+untouched numbers = ap (λ n. let other : Numbers = record numbers { task = n } in other) (omega arith)
 
 pub returns-clause-makes : goal.returns-clause-makes
 returns-clause-makes c scenario =
     let room = room_of scenario c.args.self.now in
     let cpu = c.args.cpu in
+    let charged = c.charge.ensures.room scenario in
+    let found : Some c.in-Some.task ≡ running_on room cpu = c.in-Some.ensures.task scenario ∙ ap (λ (now : RoomState). running_on now cpu) charged in
+    let asks : c.asks_at_tick-asks.result ≡ asks_at_tick room cpu c.in-Some.task =
+    c.asks_at_tick-asks.ensures scenario ∙ ap (λ (now : RoomState). asks_at_tick now cpu c.in-Some.task) charged in
     record {
-      reply = ap Ticked (c.asks_at_tick-asks.ensures scenario) ∙ ap (λ found. (ticked room cpu found).reply) (c.in-Some.ensures.task scenario);
+      reply = ap Ticked asks ∙ ap (λ found. (ticked room cpu found).reply) found;
       room = c.flag.ensures.room scenario
-          ∙ ap (λ (now : RoomState). flagged now cpu c.asks_at_tick-asks.result) (c.begin_slice.ensures.room scenario)
-          ∙ ap (flagged (sliced room cpu c.in-Some.task) cpu) (c.asks_at_tick-asks.ensures scenario)
-          ∙ ap (λ found. (ticked room cpu found).room) (c.in-Some.ensures.task scenario);
-      numbers = c.flag.ensures.numbers ∙ c.begin_slice.ensures.numbers
-          ∙ ap (λ n. let numbers : Numbers = record (numbers_of c.args.self.now) { task = n } in numbers) (omega arith);
+          ∙ ap (λ (now : RoomState). flagged now cpu c.asks_at_tick-asks.result) (c.begin_slice.ensures.room scenario ∙ ap (λ (now : RoomState). sliced now cpu c.in-Some.task) charged)
+          ∙ ap (flagged (sliced (accounted room) cpu c.in-Some.task) cpu) asks
+          ∙ ap (λ found. (ticked room cpu found).room) found;
+      numbers = c.flag.ensures.numbers ∙ c.begin_slice.ensures.numbers ∙ c.charge.ensures.numbers scenario
+          ∙ untouched (charged_with (open_interval room) (numbers_of c.args.self.now));
+    }
+
+pub returns-in_default-clause-makes : goal.returns-in_default-clause-makes
+returns-in_default-clause-makes c scenario =
+    let room = room_of scenario c.args.self.now in
+    let cpu = c.args.cpu in
+    let charged = c.charge.ensures.room scenario in
+    let found : None ≡ running_on room cpu = c.in_default.ensures.task scenario ∙ ap (λ (now : RoomState). running_on now cpu) charged in
+    record {
+      reply = ap (λ found. (ticked room cpu found).reply) found;
+      room = charged ∙ ap (λ found. (ticked room cpu found).room) found;
+      numbers = c.charge.ensures.numbers scenario ∙ untouched (charged_with (open_interval room) (numbers_of c.args.self.now));
     }

@@ -1,0 +1,13 @@
+use Rattle.std.proofs.Common.{◌≡◌, ℕ, ◌+◌, take, length, true}
+use Rattle.std.specs.Prelude.{All, IsTrue}
+use Rattle.std.specs.List.{list_any}
+use Rattle.cs_types.specs.Room.{has_pid}
+use Rattle.forceidle_account.specs.Charges.{has_total, total_at}
+use Rattle.plain_room.proofs.account.totals_of.Given as goal
+
+abbrev pub invariant-loop-place : goal.invariant-loop-place
+invariant-loop-place l = record {
+  has : (pid : ℕ) → has_total l.totals pid ≡ list_any (has_pid pid) (take l.place l.tasks.tasks);
+  zero : (pid : ℕ) → total_at l.totals pid ≡ 0;
+  spare : l.totals.spare + l.place ≡ length l.tasks.tasks + l.more;
+}

@@ -1,0 +1,20 @@
+-- Account: whom the machine charges for forced idle, as it asks it of each task.
+use Rattle.std.specs.Prelude.{ℕ, Bool, ◌==◌, ◌&&◌, not, List, Some, map}
+use Rattle.std.specs.List.{list_any}
+use Rattle.cs_types.specs.declared.task.Task.{Task}
+use Rattle.cs_types.specs.Room.{SiblingState}
+use Rattle.cs_types.specs.Selection.{is_run, to_run}
+use Rattle.plain_room.specs.declared.sibling.Sibling.{Sibling}
+use Rattle.plain_room.specs.State.{sibling_state}
+
+-- whether a sibling is online and is to run the task with the pid
+abbrev pub is_to_run : ℕ → SiblingState → Bool
+is_to_run pid sibling = sibling.online && is_run (to_run sibling) (Some pid)
+
+-- whether a task is charged: it has a cookie, and one of these siblings is to run it
+abbrev pub is_charged : List Sibling → Task → Bool
+is_charged siblings task = not (task.cookie == 0) && list_any (is_to_run task.spec.pid) (map sibling_state siblings)
+
+-- whether it is charged and has this pid
+abbrev pub is_charged_as : List Sibling → ℕ → Task → Bool
+is_charged_as siblings pid task = is_charged siblings task && (task.spec.pid == pid)
