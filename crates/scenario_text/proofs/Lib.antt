@@ -10,3 +10,5 @@ pub mod Followers
 pub mod Building
 pub mod Texts
 pub mod Scenarios
+pub mod Replies
+pub mod Entries

@@ -146,7 +146,7 @@ plain_task siblings task few is =
     (plain_decimal task.creds.ruid (omega arith), (plain_decimal task.creds.euid (omega arith), (plain_decimal task.creds.suid (omega arith), (plain_decimal task.creds.rgid (omega arith), (plain_decimal task.creds.egid (omega arith), (plain_decimal task.creds.sgid (omega arith), (plain_flag task.creds.cap, (plain_flag task.creds.mm, (plain_flag task.creds.dumpable, tt))))))))) in
     (plain_word _ refl refl, (plain_decimal task.pid (omega (arith, is.pid)), (plain_decimal task.tgid (omega (arith, is.tgid)), (plain_decimal task.pgid (omega (arith, is.pgid)), (plain_decimal task.cpu (omega arith), (plain_policy task.policy is.policy, creds))))))
 
-plain_actor : (siblings : ℕ) (actor : Actor) (event : Event) → siblings < 256 → IsStep siblings (by actor event) → IsPlain (actor_word actor)
+pub plain_actor : (siblings : ℕ) (actor : Actor) (event : Event) → siblings < 256 → IsStep siblings (by actor event) → IsPlain (actor_word actor)
 plain_actor siblings (Sibling i) event few is =
     let within = sibling_within siblings i event is in
     plain-append (codes "s") (decimal i) (plain_word _ refl refl) (plain_decimal i (omega arith))
@@ -162,7 +162,7 @@ plain_child : (thread : Bool) → IsPlain (child_word thread)
 plain_child true = plain_word _ refl refl
 plain_child false = plain_word _ refl refl
 
-plain_event : (siblings : ℕ) (event : Event) → IsEvent siblings event → AllByRecursion IsPlain (event_words event)
+pub plain_event : (siblings : ℕ) (event : Event) → IsEvent siblings event → AllByRecursion IsPlain (event_words event)
 plain_event siblings (Turn cpu) is = (plain_word _ refl refl, tt)
 plain_event siblings (Resched cpu) is = (plain_word _ refl refl, tt)
 plain_event siblings (Block cpu) is = (plain_word _ refl refl, tt)

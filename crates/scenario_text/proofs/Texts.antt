@@ -1,6 +1,6 @@
 -- Texts: a text is cut into the lines and the words that it is made of.
-use Rattle.std.proofs.Common.{◌≡◌, ℕ, suc, ◌^◌, ◌<◌, Bool, true, false, eqb, List, [], ◌∷◌, ◌++◌, map, refl, sym, ap, ◌∙◌, arith, append_assoc}
-use Rattle.std.specs.Prelude.{◌&&◌, ℤ, pos, negsuc, not, codes, decimal}
+use Rattle.std.proofs.Common.{◌≡◌, ◌≢◌, ℕ, suc, ◌^◌, ◌<◌, Bool, true, false, eqb, List, [], ◌∷◌, ◌++◌, map, refl, sym, ap, ◌∙◌, arith, append_assoc, inl, inr}
+use Rattle.std.specs.Prelude.{◌⊎◌, ◌&&◌, ℤ, pos, negsuc, not, codes, decimal}
 use Rattle.std.specs.Fmt.{signed_decimal}
 use Rattle.std.specs.List.{All, AllByRecursion, flat_map, join_with_byte}
 use Rattle.std.specs.Str.Parse.{AllDigits}
@@ -39,22 +39,26 @@ each_lacks byte (first ∷ word) h =
 all_lack : (byte : ℕ) (word : Word) → lacks byte word ≡ true → All (λ b. eqb b byte ≡ false) word
 all_lack byte word h = All-from_recursion (λ b. eqb b byte ≡ false) word (each_lacks byte word h)
 
-lacks-append : (byte : ℕ) (a b : Word) → lacks byte a ≡ true → lacks byte b ≡ true → lacks byte (a ++ b) ≡ true
+pub lacks-append : (byte : ℕ) (a b : Word) → lacks byte a ≡ true → lacks byte b ≡ true → lacks byte (a ++ b) ≡ true
 lacks-append byte [] b h k = k
 lacks-append byte (first ∷ a) b h k =
     let parts = and_parts (not (eqb first byte)) (lacks byte a) h in
     and_from (not (eqb first byte)) (lacks byte (a ++ b)) parts.0 (lacks-append byte a b parts.1 k)
 
-digits_lack : (byte : ℕ) (word : Word) → byte < 48 → AllDigits 10 word → lacks byte word ≡ true
-digits_lack byte [] low h = refl
-digits_lack byte (first ∷ word) low h =
+digits_lack : (byte : ℕ) (word : Word) → (byte < 48) ⊎ (57 < byte) → AllDigits 10 word → lacks byte word ≡ true
+digits_lack byte [] other h = refl
+digits_lack byte (first ∷ word) other h =
     let range = digit_from_value first h.0 in
-    and_from (not (eqb first byte)) (lacks byte word) (not_from_false (eqb first byte) (ne_eqb first byte (λ e. omega arith))) (digits_lack byte word low h.1)
+    let differs : first ≢ byte = λ e. elim other [ inl low ↦ omega arith | inr high ↦ omega arith ] in
+    and_from (not (eqb first byte)) (lacks byte word) (not_from_false (eqb first byte) (ne_eqb first byte differs)) (digits_lack byte word other h.1)
+
+-- no byte but a digit stands in a number
+pub decimal_lacks : (byte n : ℕ) → (byte < 48) ⊎ (57 < byte) → n < 2 ^ 64 → lacks byte (decimal n) ≡ true
+decimal_lacks byte n other fits = digits_lack byte (decimal n) other (decimal_is_IsNumeral n fits).0.1
 
 pub plain_decimal : (n : ℕ) → n < 2 ^ 64 → IsPlain (decimal n)
 plain_decimal n fits =
-    let digits = (decimal_is_IsNumeral n fits).0.1 in
-    record { no_feed = digits_lack 10 (decimal n) (omega arith) digits; no_space = digits_lack 32 (decimal n) (omega arith) digits }
+    record { no_feed = decimal_lacks 10 n (inl (omega arith)) fits; no_space = decimal_lacks 32 n (inl (omega arith)) fits }
 
 pub plain-append : (a b : Word) → IsPlain a → IsPlain b → IsPlain (a ++ b)
 plain-append a b h k =
@@ -78,14 +82,14 @@ ArePlain-append [] b h k = k
 ArePlain-append ([] ∷ a) b h k = absurd h
 ArePlain-append ((word ∷ words) ∷ a) b h k = (h.0, ArePlain-append a b h.1 k)
 
-words_in-spaced : (word : Word) (words : List Word) → AllByRecursion IsPlain (word ∷ words) → words_in (spaced (word ∷ words)) ≡ word ∷ words
+pub words_in-spaced : (word : Word) (words : List Word) → AllByRecursion IsPlain (word ∷ words) → words_in (spaced (word ∷ words)) ≡ word ∷ words
 unfolding words_in pieces
 words_in-spaced word [] h = slice_split_none (λ b. eqb b 32) word (all_lack 32 word h.0.no_space)
 words_in-spaced word (next ∷ words) h =
     slice_split_at (λ b. eqb b 32) word 32 (spaced (next ∷ words)) (all_lack 32 word h.0.no_space) refl
     ∙ ap (λ (ws : List Word). word ∷ ws) (words_in-spaced next words h.1)
 
-spaced_lacks : (word : Word) (words : List Word) → AllByRecursion IsPlain (word ∷ words) → lacks 10 (spaced (word ∷ words)) ≡ true
+pub spaced_lacks : (word : Word) (words : List Word) → AllByRecursion IsPlain (word ∷ words) → lacks 10 (spaced (word ∷ words)) ≡ true
 spaced_lacks word [] h = h.0.no_feed
 spaced_lacks word (next ∷ words) h =
     lacks-append 10 word (32 ∷ spaced (next ∷ words)) h.0.no_feed (spaced_lacks next words h.1)

@@ -16,4 +16,4 @@ mod writing;
 
 pub use fault::{BadKind, ReadFault};
 pub use reading::read;
-pub use writing::entry_text;
+pub use writing::{Line, entry_text};

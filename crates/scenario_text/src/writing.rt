@@ -9,7 +9,7 @@ mod line;
 
 use cs_outside::{Failed, Sink, write_all};
 use cs_types::Entry;
-use line::Line;
+pub use line::Line;
 
 /// Writes the line of an entry to the sink, with its line feed, in one piece, and again with the rest
 /// where the sink took only a part. It takes no memory.

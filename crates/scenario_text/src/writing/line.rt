@@ -3,7 +3,7 @@
 
 ghost use Rattle.std.specs.Prelude.{◌≡◌, ◌+◌, ◌≤◌, [], ◌∷◌, ◌++◌, length, decimal};
 ghost use Rattle.scenario_text.specs.Words.{made_words, actor_word, ask_words, child_word, event_words, reply_words, pick_words, kind_word, run_word, errno_word};
-ghost use Rattle.scenario_text.specs.Text.{spaced, entry_text};
+ghost use Rattle.scenario_text.specs.Text.{line_room, spaced, entry_text};
 
 use arrayvec::ArrayString;
 use cs_types::{Actor, Ask, Entry, Errno, Event, Kind, Pick, Pid, Reply};
@@ -13,7 +13,7 @@ use std::marker::Model;
 /// How many bytes a line has room for: as many as the longest entry has, with its line feed.
 const ROOM: usize = 152;
 
-/// What is on a line so far.
+/// What is on a line so far. It lies on the stack, and has room for 152 bytes.
 #[derive(Drop)]
 pub struct Line {
     text: ArrayString<ROOM>,
@@ -56,7 +56,7 @@ impl Line {
     }
 
     fn made(&mut self, actor: Actor, event: Event)
-        requires { length self.old + 76 ≤ ROOM }
+        requires { length self.old + 76 ≤ line_room }
         ensures text { self.new ≡ self.old ++ spaced (made_words actor event) }
         ensures room { length self.new ≤ length self.old + 76 }
     {
@@ -66,7 +66,7 @@ impl Line {
     }
 
     fn actor(&mut self, actor: Actor)
-        requires { length self.old + 4 ≤ ROOM }
+        requires { length self.old + 4 ≤ line_room }
         ensures text { self.new ≡ self.old ++ actor_word actor }
         ensures room { length self.new ≤ length self.old + 4 }
     {
@@ -83,7 +83,7 @@ impl Line {
     }
 
     fn event(&mut self, event: Event)
-        requires { length self.old + 71 ≤ ROOM }
+        requires { length self.old + 71 ≤ line_room }
         ensures text { self.new ≡ self.old ++ spaced (event_words event) }
         ensures room { length self.new ≤ length self.old + 71 }
     {
@@ -111,7 +111,7 @@ impl Line {
     }
 
     fn child(&mut self, is_thread: bool)
-        requires { length self.old + 7 ≤ ROOM }
+        requires { length self.old + 7 ≤ line_room }
         ensures text { self.new ≡ self.old ++ child_word is_thread }
         ensures room { length self.new ≤ length self.old + 7 }
     {
@@ -123,7 +123,7 @@ impl Line {
     }
 
     fn ask(&mut self, ask: Ask)
-        requires { length self.old + 54 ≤ ROOM }
+        requires { length self.old + 54 ≤ line_room }
         ensures text { self.new ≡ self.old ++ spaced (ask_words ask) }
         ensures room { length self.new ≤ length self.old + 54 }
     {
@@ -137,7 +137,7 @@ impl Line {
     }
 
     fn reply(&mut self, reply: Reply)
-        requires { length self.old + 73 ≤ ROOM }
+        requires { length self.old + 73 ≤ line_room }
         ensures text { self.new ≡ self.old ++ spaced (reply_words reply) }
         ensures room { length self.new ≤ length self.old + 73 }
     {
@@ -173,7 +173,7 @@ impl Line {
 
     /// The task that left its sibling, and the pick that the sibling took.
     fn task_and_pick(&mut self, pid: Pid, pick: Pick)
-        requires { length self.old + 67 ≤ ROOM }
+        requires { length self.old + 67 ≤ line_room }
         ensures text { self.new ≡ self.old ++ spaced (decimal pid ∷ pick_words pick) }
         ensures room { length self.new ≤ length self.old + 67 }
     {
@@ -183,7 +183,7 @@ impl Line {
     }
 
     fn pick(&mut self, pick: Pick)
-        requires { length self.old + 56 ≤ ROOM }
+        requires { length self.old + 56 ≤ line_room }
         ensures text { self.new ≡ self.old ++ spaced (pick_words pick) }
         ensures room { length self.new ≤ length self.old + 56 }
     {
@@ -197,7 +197,7 @@ impl Line {
     }
 
     fn kind(&mut self, kind: Kind)
-        requires { length self.old + 8 ≤ ROOM }
+        requires { length self.old + 8 ≤ line_room }
         ensures text { self.new ≡ self.old ++ kind_word kind }
         ensures room { length self.new ≤ length self.old + 8 }
     {
@@ -209,7 +209,7 @@ impl Line {
     }
 
     fn errno(&mut self, errno: Errno)
-        requires { length self.old + 6 ≤ ROOM }
+        requires { length self.old + 6 ≤ line_room }
         ensures text { self.new ≡ self.old ++ errno_word errno }
         ensures room { length self.new ≤ length self.old + 6 }
     {
@@ -224,8 +224,9 @@ impl Line {
         }
     }
 
-    fn run(&mut self, pid: Pid)
-        requires { length self.old + 10 ≤ ROOM }
+    /// The pid of what a sibling runs, `idle` for 0.
+    pub fn run(&mut self, pid: Pid)
+        requires { length self.old + 10 ≤ line_room }
         ensures text { self.new ≡ self.old ++ run_word pid }
         ensures room { length self.new ≤ length self.old + 10 }
     {
@@ -237,8 +238,8 @@ impl Line {
     }
 
     /// A word, and the number that it names.
-    fn named<N: Integer>(&mut self, name: &str, number: N)
-        requires { length self.old + length name.now + 1 + N.MAX_STR_LEN ≤ ROOM }
+    pub fn named<N: Integer>(&mut self, name: &str, number: N)
+        requires { length self.old + length name.now + 1 + N.MAX_STR_LEN ≤ line_room }
         ensures text { self.new ≡ self.old ++ spaced (name.now ∷ N.text number ∷ []) }
         ensures room { length self.new ≤ length self.old + length name.now + 1 + N.MAX_STR_LEN }
     {
@@ -247,8 +248,9 @@ impl Line {
         self.number(number);
     }
 
-    fn number<N: Integer>(&mut self, number: N)
-        requires { length self.old + N.MAX_STR_LEN ≤ ROOM }
+    /// A number, in decimal.
+    pub fn number<N: Integer>(&mut self, number: N)
+        requires { length self.old + N.MAX_STR_LEN ≤ line_room }
         ensures text { self.new ≡ self.old ++ N.text number }
         ensures room { length self.new ≤ length self.old + N.MAX_STR_LEN }
     {
@@ -256,8 +258,9 @@ impl Line {
         self.text(buffer.format(number));
     }
 
-    fn text(&mut self, text: &str)
-        requires { length self.old + length text.now ≤ ROOM }
+    /// A text as it is.
+    pub fn text(&mut self, text: &str)
+        requires { length self.old + length text.now ≤ line_room }
         ensures { self.new ≡ self.old ++ text.now }
     {
         self.text.push_str(text);

@@ -1,0 +1,29 @@
+-- Entries whose line spells them alone.
+use Rattle.std.specs.Prelude.{◌<◌, ◌^◌}
+use Rattle.cs_types.specs.declared.reply.Pick.{Pick}
+use Rattle.cs_types.specs.declared.reply.Reply.{Reply}
+use Rattle.cs_types.specs.declared.reply.Reply.TheVariants.{Picked, Slept, Ended, Woken, Now, Child, Value}
+use Rattle.cs_types.specs.declared.reply.Entry.{Entry}
+use Rattle.cs_types.specs.Scenario.{IsStep}
+
+-- the numbers of a pick have 64 bits
+pub record FitsPick (pick : Pick) : Type 0 where
+  pub run : pick.run < 2 ^ 64
+  pub core : pick.core < 2 ^ 64
+  pub forced : pick.forced < 2 ^ 64
+
+-- so have those of a reply
+abbrev pub FitsReply : Reply → Type 0
+FitsReply (Picked pick) = FitsPick pick
+FitsReply (Slept pid pick) = (pid < 2 ^ 64) × FitsPick pick
+FitsReply (Ended pid pick) = (pid < 2 ^ 64) × FitsPick pick
+FitsReply (Woken cpu) = cpu < 2 ^ 64
+FitsReply (Now clock) = clock < 2 ^ 64
+FitsReply (Child pid) = pid < 2 ^ 64
+FitsReply (Value cookie) = cookie < 2 ^ 64
+FitsReply reply = Unit {0}
+
+-- Its step is one that a scenario can have, whose core has up to 16 siblings, and the numbers of its reply have 64 bits.
+pub record IsEntry (entry : Entry) : Type 0 where
+  pub step : IsStep 16 (record { actor = entry.actor; event = entry.event })
+  pub reply : FitsReply entry.reply
