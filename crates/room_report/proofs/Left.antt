@@ -1,0 +1,191 @@
+-- Left: which lines of each part are left at a place of its loop.
+use Rattle.std.proofs.Common.{◌≡◌, ℕ, suc, ◌+◌, ◌-◌, ◌<◌, ◌≤◌, Bool, List, [], ◌∷◌, ◌++◌, map, length, drop, refl, sym, ap, ◌∙◌, append_assoc, subst, arith, Option, Some, None}
+use Rattle.std.specs.Prelude.{filter, slice_get, unwrap_or, if◌then◌else◌, codes}
+use Rattle.std.specs.List.{flat_map, filter_map, cons_option, range_with_len}
+use Rattle.std.specs.Option.{option_map, IsSome}
+use Rattle.std.proofs.Math.Seq.{drop-cons}
+use Rattle.std.proofs.lemmas.Bool.{lt-ltb, ltb-true}
+use Rattle.std.proofs.lemmas.List.{drop_all}
+use Rattle.std.proofs.lemmas.Option.{slice_get_within, none-some, slice_get-get_or, get_or_from_slice_get}
+use Rattle.cs_types.specs.declared.task.Task.{Task}
+use Rattle.cs_types.specs.declared.view.CpuView.{CpuView}
+use Rattle.cs_types.specs.declared.view.TaskView.{TaskView}
+use Rattle.cs_types.specs.declared.view.EndView.{EndView}
+use Rattle.cs_types.specs.declared.reply.Entry.{Entry}
+use Rattle.cs_types.specs.declared.scenario.Scenario.{Scenario}
+use Rattle.cs_types.specs.Scenario.{IsPlayable}
+use Rattle.cs_types.specs.Room.{sibling_of}
+use Rattle.cs_types.specs.Touches.{own_number}
+use Rattle.cs_types.specs.History.{History, Moment, moment_of, fold_of}
+use Rattle.cs_types.specs.View.{cpu_view, task_after, task_view, end_view}
+use Rattle.cs_types.proofs.Foremost.{find_passes}
+use Rattle.cs_types.proofs.Rising.{Rises, is_above, rising-fold_of, above_zero, above_next, above_none}
+use Rattle.scenario_text.specs.Words.{Word}
+use Rattle.scenario_text.specs.Text.{line, entry_text}
+use Rattle.room_report.specs.Report.{cpu_words, task_words, ended_words, core_lines, cpu_lines, task_lines, ended_lines, lines_text, report_lines, report_text}
+use Rattle.room_report.proofs.Reached.{AreLeft, all_left}
+
+-- ---- lists
+
+-- from a place on stand its element and what comes after
+drop_next : {X : Type 0} (xs : List X) (n : ℕ) (x : X) → slice_get xs n ≡ Some x → drop n xs ≡ x ∷ drop (n + 1) xs
+drop_next {X = X} xs n x at =
+    let within = slice_get_within xs n x at in
+    let e : n + 1 ≡ suc n = omega arith in
+    rw e (drop-cons xs n x within ∙ ap (λ (y : X). y ∷ drop (suc n) xs) (get_or_from_slice_get xs n x x at))
+
+-- where there is no element, nothing is left
+drop_none : {X : Type 0} (xs : List X) (n : ℕ) → slice_get xs n ≡ None → drop n xs ≡ []
+drop_none [] n at = drop_all n [] (omega arith)
+drop_none (x ∷ xs) n at =
+    drop_all n (x ∷ xs) (omega (arith, λ (few : n < length (x ∷ xs)). none-some _ (sym at ∙ slice_get-get_or (x ∷ xs) n x few)))
+
+-- what is the value of a function is so at some element
+mapped_some : {X Y : Type 0} (f : X → Y) (at : Option X) (y : Y) → Some y ≡ option_map f at → (x : X) × (at ≡ Some x) × (y ≡ f x)
+mapped_some f None y is = absurd cc
+mapped_some f (Some x) y is = (x, refl, cc)
+
+mapped_none : {X Y : Type 0} (f : X → Y) (at : Option X) → None ≡ option_map f at → at ≡ None
+mapped_none f None is = refl
+mapped_none f (Some x) is = absurd cc
+
+-- ---- entries
+
+pub entries_next : (history : History) (place : ℕ) (entry : Entry) → slice_get history place ≡ Some entry →
+    flat_map entry_text (drop place history) ≡ entry_text entry ++ flat_map entry_text (drop (place + 1) history)
+entries_next history place entry at = ap (flat_map entry_text) (drop_next history place entry at)
+
+-- ---- siblings
+
+abbrev cpu_row : Moment → ℕ → Option (List Word)
+cpu_row moment cpu = option_map (cpu_words cpu) (cpu_view moment cpu)
+
+-- the lines of the siblings from one on
+abbrev pub cpu_lines_from : Moment → ℕ → List (List Word)
+cpu_lines_from moment cpu = filter_map (cpu_row moment) (range_with_len cpu (length moment.room.siblings - cpu))
+
+pub cpu_start : (moment : Moment) → cpu_lines moment ≡ cpu_lines_from moment 0
+cpu_start moment =
+    let e : length moment.room.siblings - 0 ≡ length moment.room.siblings = omega arith in
+    ap (λ n. filter_map (cpu_row moment) (range_with_len 0 n)) (sym e)
+
+pub cpu_next : (moment : Moment) (cpu : ℕ) (view : CpuView) → cpu < length moment.room.siblings → cpu_view moment cpu ≡ Some view →
+    lines_text (cpu_lines_from moment cpu) ≡ line (cpu_words cpu view) ++ lines_text (cpu_lines_from moment (cpu + 1))
+cpu_next moment cpu view few shown =
+    let e : length moment.room.siblings - cpu ≡ suc (length moment.room.siblings - (cpu + 1)) = omega arith in
+    ap (λ n. lines_text (filter_map (cpu_row moment) (range_with_len cpu n))) e
+    ∙ ap (λ (row : Option CpuView). lines_text (cons_option (option_map (cpu_words cpu) row) (cpu_lines_from moment (cpu + 1)))) shown
+
+pub cpu_end : (moment : Moment) (cpu : ℕ) → length moment.room.siblings ≤ cpu → lines_text (cpu_lines_from moment cpu) ≡ []
+cpu_end moment cpu past =
+    let e : length moment.room.siblings - cpu ≡ 0 = omega arith in
+    ap (λ n. lines_text (filter_map (cpu_row moment) (range_with_len cpu n))) e
+
+abbrev view_of : Moment → ℕ → CpuView
+view_of moment cpu =
+    record {
+      online = (sibling_of moment.room cpu).online;
+      run = unwrap_or (sibling_of moment.room cpu).run 0;
+      number = own_number cpu moment.ledger;
+      pending = (sibling_of moment.room cpu).pending;
+    }
+
+pub has_cpu : (moment : Moment) (cpu : ℕ) → cpu < length moment.room.siblings → IsSome (cpu_view moment cpu)
+has_cpu moment cpu few =
+    subst (λ (test : Bool). IsSome (if test then Some (view_of moment cpu) else None)) (sym (lt-ltb cpu (length moment.room.siblings) few)) refl
+
+-- ---- living tasks
+
+abbrev task_row : Moment → Task → List Word
+task_row moment task = task_words (task_view moment.ledger task)
+
+-- the lines of the tasks above a pid
+abbrev pub task_lines_above : Moment → ℕ → List (List Word)
+task_lines_above moment pid = map (task_row moment) (filter (is_above pid) moment.room.tasks)
+
+abbrev pub shown_after : Moment → ℕ → Option TaskView
+shown_after moment pid = option_map (task_view moment.ledger) (task_after moment.room pid)
+
+rises : (scenario : Scenario) (history : History) → IsPlayable scenario → Rises 0 (fold_of scenario history).next_pid (fold_of scenario history).tasks
+rises scenario history playable = rising-fold_of scenario history (λ k d few. (playable.tasks k d few).pid.0) playable.distinct
+
+pub task_start : (scenario : Scenario) (history : History) → IsPlayable scenario →
+    task_lines (moment_of scenario history) ≡ task_lines_above (moment_of scenario history) 0
+task_start scenario history playable =
+    let last = moment_of scenario history in
+    ap (map (task_row last)) (sym (above_zero last.room.next_pid last.room.tasks (rises scenario history playable)))
+
+pub task_next : (scenario : Scenario) (history : History) → IsPlayable scenario → (pid : ℕ) (view : TaskView) →
+    Some view ≡ shown_after (moment_of scenario history) pid →
+    lines_text (task_lines_above (moment_of scenario history) pid)
+    ≡ line (task_words view) ++ lines_text (task_lines_above (moment_of scenario history) view.pid)
+task_next scenario history playable pid view shown =
+    let last = moment_of scenario history in
+    let found = mapped_some (task_view last.ledger) (task_after last.room pid) view shown in
+    ap (λ (tasks : List Task). lines_text (map (task_row last) tasks)) (above_next pid 0 last.room.next_pid last.room.tasks found.0 (rises scenario history playable) found.1)
+    ∙ ap (λ (v : TaskView). line (task_words v) ++ lines_text (task_lines_above last v.pid)) (sym found.2)
+
+pub task_end : (moment : Moment) (pid : ℕ) → None ≡ shown_after moment pid → lines_text (task_lines_above moment pid) ≡ []
+task_end moment pid shown =
+    ap (λ (tasks : List Task). lines_text (map (task_row moment) tasks))
+    (above_none pid moment.room.tasks (mapped_none (task_view moment.ledger) (task_after moment.room pid) shown))
+
+-- the next task has a pid above
+pub task_above : (moment : Moment) (pid : ℕ) (view : TaskView) → Some view ≡ shown_after moment pid → pid < view.pid
+task_above moment pid view shown =
+    let found = mapped_some (task_view moment.ledger) (task_after moment.room pid) view shown in
+    subst (λ (v : TaskView). pid < v.pid) (sym found.2)
+    (ltb-true pid found.0.spec.pid (find_passes (is_above pid) moment.room.tasks found.0 found.1))
+
+-- ---- tasks that ended
+
+abbrev ended_row : Moment → ℕ → List Word
+ended_row moment pid = ended_words (end_view moment.ledger pid)
+
+-- the lines of those from a place on
+abbrev pub ended_lines_from : Moment → ℕ → List (List Word)
+ended_lines_from moment place = map (ended_row moment) (drop place moment.room.ended)
+
+abbrev pub shown_ended : Moment → ℕ → Option EndView
+shown_ended moment place = option_map (end_view moment.ledger) (slice_get moment.room.ended place)
+
+pub ended_next : (moment : Moment) (place : ℕ) (view : EndView) → Some view ≡ shown_ended moment place →
+    lines_text (ended_lines_from moment place) ≡ line (ended_words view) ++ lines_text (ended_lines_from moment (place + 1))
+ended_next moment place view shown =
+    let found = mapped_some (end_view moment.ledger) (slice_get moment.room.ended place) view shown in
+    ap (λ (pids : List ℕ). lines_text (map (ended_row moment) pids)) (drop_next moment.room.ended place found.0 found.1)
+    ∙ ap (λ (v : EndView). line (ended_words v) ++ lines_text (ended_lines_from moment (place + 1))) (sym found.2)
+
+pub ended_none : (moment : Moment) (place : ℕ) → None ≡ shown_ended moment place → lines_text (ended_lines_from moment place) ≡ []
+ended_none moment place shown =
+    ap (λ (pids : List ℕ). lines_text (map (ended_row moment) pids))
+    (drop_none moment.room.ended place (mapped_none (end_view moment.ledger) (slice_get moment.room.ended place) shown))
+
+pub ended_past : (moment : Moment) (place : ℕ) → length moment.room.ended ≤ place → lines_text (ended_lines_from moment place) ≡ []
+ended_past moment place past =
+    ap (λ (pids : List ℕ). lines_text (map (ended_row moment) pids)) (drop_all place moment.room.ended past)
+
+-- ---- parts
+
+abbrev pub done_lines : List (List Word)
+done_lines = (codes "done" ∷ []) ∷ []
+
+abbrev pub after_tasks : Moment → List (List Word)
+after_tasks moment = ended_lines moment ++ done_lines
+
+abbrev pub after_siblings : Moment → List (List Word)
+after_siblings moment = task_lines moment ++ after_tasks moment
+
+abbrev pub after_core : Moment → List (List Word)
+after_core moment = cpu_lines moment ++ after_siblings moment
+
+parts_in_turn : (core cpus tasks ended done : List (List Word)) →
+    core ++ cpus ++ tasks ++ ended ++ done ≡ core ++ (cpus ++ (tasks ++ (ended ++ done)))
+parts_in_turn core cpus tasks ended done = simp append_assoc
+
+-- at the start all parts are left
+pub report_left : (before : Option (List ℕ)) (moment : Moment) → AreLeft before (report_text moment) (core_lines moment ++ after_core moment) before
+report_left before moment =
+    subst (λ (lines : List (List Word)). AreLeft before (report_text moment) lines before)
+    (parts_in_turn (core_lines moment) (cpu_lines moment) (task_lines moment) (ended_lines moment) done_lines)
+    (all_left before (report_lines moment))

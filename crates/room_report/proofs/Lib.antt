@@ -1,0 +1,4 @@
+mod Reached
+mod Left
+mod Pieces
+mod Spelled

@@ -1,0 +1,20 @@
+-- Pieces: the longer lines, put together from their pieces.
+use Rattle.std.proofs.Common.{◌≡◌, ℕ, List, [], ◌∷◌, ◌++◌, ap, ◌∙◌, append_assoc}
+use Rattle.std.specs.Prelude.{codes}
+use Rattle.scenario_text.specs.Words.{Word}
+use Rattle.scenario_text.specs.Text.{line}
+
+-- a piece is put after what is there
+pub put : (old new piece all : List ℕ) → old ≡ all → new ≡ old ++ piece → new ≡ all ++ piece
+put old new piece all so_far then = then ∙ ap (λ (bytes : List ℕ). bytes ++ piece) so_far
+
+pub core_text : (cookie forced occupation : Word) →
+    (((((codes "core " ++ cookie) ++ codes " forced ") ++ forced) ++ codes " occupation ") ++ occupation) ++ codes "\n"
+    ≡ line (codes "core" ∷ cookie ∷ codes "forced" ∷ forced ∷ codes "occupation" ∷ occupation ∷ [])
+core_text cookie forced occupation = simp append_assoc
+
+pub task_text : (pid cpu queued cookie forced vtime : Word) →
+    (((((((((((codes "task " ++ pid) ++ codes " cpu ") ++ cpu) ++ codes " ") ++ queued) ++ codes " cookie ") ++ cookie)
+    ++ codes " forced ") ++ forced) ++ codes " vtime ") ++ vtime) ++ codes "\n"
+    ≡ line (codes "task" ∷ pid ∷ codes "cpu" ∷ cpu ∷ queued ∷ codes "cookie" ∷ cookie ∷ codes "forced" ∷ forced ∷ codes "vtime" ∷ vtime ∷ [])
+task_text pid cpu queued cookie forced vtime = simp append_assoc

@@ -1,0 +1,8 @@
+use Rattle.std.proofs.Common.{◌∙◌}
+use Rattle.room_report.proofs.Pieces.{put, core_text}
+use Rattle.room_report.proofs.lines.core_line.Goals as goal
+
+pub returns : goal.returns
+returns c =
+    put _ _ _ _ (put _ _ _ _ (put _ _ _ _ (put _ _ _ _ (put _ _ _ _ (put _ _ _ _ (put _ _ _ _ c.new-line.ensures c.text.ensures) c.number.ensures.text) c.text-2.ensures) c.number-2.ensures.text) c.text-3.ensures) c.number-3.ensures.text) c.text-4.ensures
+    ∙ core_text _ _ _

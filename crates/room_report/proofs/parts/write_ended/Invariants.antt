@@ -1,0 +1,15 @@
+use Rattle.std.proofs.Common.{◌≤◌}
+use Rattle.cs_types.specs.History.{moment_of}
+use Rattle.room_report.specs.Report.{ended_lines, lines_text}
+use Rattle.room_report.proofs.Left.{ended_lines_from}
+use Rattle.room_report.proofs.Reached.{Reached}
+use Rattle.room_report.proofs.parts.write_ended.Given as goal
+
+abbrev pub invariant-loop-place : goal.invariant-loop-place
+invariant-loop-place g l =
+    let written = g.K.Sink.written in
+    let faults = g.K.Sink.faults in
+    record {
+      reached : Reached (written l.fn.sink) (lines_text (ended_lines (moment_of (g.R.Room.scenario l.room) (g.R.Room.history l.room)))) (lines_text (ended_lines_from (moment_of (g.R.Room.scenario l.room) (g.R.Room.history l.room)) l.place)) (written l.sink);
+      counted : faults l.fn.sink ≤ faults l.sink;
+    }

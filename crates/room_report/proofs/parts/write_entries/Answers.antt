@@ -1,0 +1,26 @@
+use Rattle.std.proofs.Common.{refl, ◌∙◌, sym, ap, arith}
+use Rattle.std.specs.List.{flat_map}
+use Rattle.std.proofs.lemmas.List.{drop_all}
+use Rattle.scenario_text.specs.Text.{entry_text}
+use Rattle.room_report.proofs.Reached.{reached_more, reached_prefix, whole_prefix, reached_end}
+use Rattle.room_report.proofs.Left.{entries_next}
+use Rattle.room_report.proofs.parts.write_entries.Goals as goal
+
+pub returns-in_err-entry_text-clause-prefix : goal.returns-in_err-entry_text-clause-prefix
+returns-in_err-entry_text-clause-prefix g c =
+    reached_prefix _ _ _ _ _ _ _ _ c.loop-place.invariant.reached
+    (entries_next (g.R.Room.history c.args.room.now) c.loop-place.place c.unwrap-entry.result (sym c.entry.ensures ∙ c.unwrap-entry.ensures))
+    refl c.entry_text.ensures.prefix
+
+pub loop-place-preserved : goal.loop-place-preserved
+loop-place-preserved g c = record {
+  reached = reached_more _ _ _ _ _ _ _ _ c.loop-place.invariant.reached
+      (entries_next (g.R.Room.history c.args.room.now) c.loop-place.place c.unwrap-entry.result (sym c.entry.ensures ∙ c.unwrap-entry.ensures))
+      refl c.in_ok-entry_text.ensures.ok;
+  counted = omega (arith, c.entry_text.ensures.counted, c.loop-place.invariant.counted);
+}
+
+pub returns-clause-prefix : goal.returns-clause-prefix
+returns-clause-prefix g c =
+    whole_prefix _ _ _ (reached_end _ _ _ _ c.loop-place.invariant.reached
+    (ap (flat_map entry_text) (drop_all c.loop-place.place (g.R.Room.history c.args.room.now) (omega (arith, c.length-place-end.ensures, c.loop-place-test.false)))))

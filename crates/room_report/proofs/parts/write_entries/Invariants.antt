@@ -1,0 +1,14 @@
+use Rattle.std.proofs.Common.{◌≤◌, drop}
+use Rattle.std.specs.List.{flat_map}
+use Rattle.scenario_text.specs.Text.{entry_text}
+use Rattle.room_report.proofs.Reached.{Reached}
+use Rattle.room_report.proofs.parts.write_entries.Given as goal
+
+abbrev pub invariant-loop-place : goal.invariant-loop-place
+invariant-loop-place g l =
+    let written = g.K.Sink.written in
+    let faults = g.K.Sink.faults in
+    record {
+      reached : Reached (written l.fn.sink) (flat_map entry_text (g.R.Room.history l.room)) (flat_map entry_text (drop l.place (g.R.Room.history l.room))) (written l.sink);
+      counted : faults l.fn.sink ≤ faults l.sink;
+    }

@@ -1,0 +1,18 @@
+use Rattle.std.proofs.Common.{◌≤◌, ◌-◌, ◌^◌}
+use Rattle.cs_types.specs.History.{moment_of}
+use Rattle.room_report.specs.Report.{task_lines, lines_text}
+use Rattle.room_report.proofs.Left.{task_lines_above}
+use Rattle.room_report.proofs.Reached.{Reached}
+use Rattle.room_report.proofs.parts.write_tasks.Given as goal
+
+abbrev pub invariant-loop-task : goal.invariant-loop-task
+invariant-loop-task g l =
+    let written = g.K.Sink.written in
+    let faults = g.K.Sink.faults in
+    record {
+      reached : Reached (written l.fn.sink) (lines_text (task_lines (moment_of (g.R.Room.scenario l.room) (g.R.Room.history l.room)))) (lines_text (task_lines_above (moment_of (g.R.Room.scenario l.room) (g.R.Room.history l.room)) l.pid)) (written l.sink);
+      counted : faults l.fn.sink ≤ faults l.sink;
+    }
+
+abbrev pub decreases-loop-task : goal.decreases-loop-task
+decreases-loop-task g l = 2 ^ 32 - l.pid

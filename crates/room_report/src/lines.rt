@@ -1,0 +1,109 @@
+//! The lines of the report. Each is put together without a sink, so that a sink gets it whole.
+
+ghost use Rattle.std.specs.Prelude.{◌≡◌};
+ghost use Rattle.scenario_text.specs.Text.{line};
+ghost use Rattle.room_report.specs.Report.{clock_words, numbers_words, core_words, intervals_words, online_word, cpu_words, queued_word, task_words, ended_words};
+
+use cs_types::{CoreView, Cpu, CpuView, EndView, TaskView};
+use scenario_text::Line;
+
+pub(crate) fn clock_line(clock: u64) -> Line
+    ensures { result ≡ line (clock_words clock) }
+{
+    let mut line = Line::new();
+    line.named("clock", clock);
+    line.text("\n");
+    line
+}
+
+pub(crate) fn numbers_line(task: u64, pick: u64) -> Line
+    ensures { result ≡ line (numbers_words task pick) }
+{
+    let mut line = Line::new();
+    line.named("numbers", task);
+    line.text(" ");
+    line.number(pick);
+    line.text("\n");
+    line
+}
+
+pub(crate) fn core_line(core: CoreView) -> Line
+    ensures { result ≡ line (core_words core) }
+{
+    let mut line = Line::new();
+    line.text("core ");
+    line.number(core.cookie);
+    line.text(" forced ");
+    line.number(core.forced);
+    line.text(" occupation ");
+    line.number(core.occupation);
+    line.text("\n");
+    line
+}
+
+pub(crate) fn intervals_line(core: CoreView) -> Line
+    ensures { result ≡ line (intervals_words core) }
+{
+    let mut line = Line::new();
+    line.named("intervals", core.intervals);
+    line.text("\n");
+    line
+}
+
+pub(crate) fn cpu_line(cpu: Cpu, view: CpuView) -> Line
+    ensures { result ≡ line (cpu_words cpu view) }
+{
+    let mut line = Line::new();
+    line.named("cpu", cpu);
+    line.text(" ");
+    line.text(online_text(view.online));
+    line.text(" runs ");
+    line.run(view.run);
+    line.text(" ");
+    line.named("number", view.number);
+    line.text("\n");
+    line
+}
+
+pub(crate) fn task_line(task: TaskView) -> Line
+    ensures { result ≡ line (task_words task) }
+{
+    let mut line = Line::new();
+    line.text("task ");
+    line.number(task.pid);
+    line.text(" cpu ");
+    line.number(task.cpu);
+    line.text(" ");
+    line.text(queued_text(task.queued));
+    line.text(" cookie ");
+    line.number(task.cookie);
+    line.text(" forced ");
+    line.number(task.forced);
+    line.text(" vtime ");
+    line.number(task.vtime);
+    line.text("\n");
+    line
+}
+
+pub(crate) fn ended_line(task: EndView) -> Line
+    ensures { result ≡ line (ended_words task) }
+{
+    let mut line = Line::new();
+    line.named("ended", task.pid);
+    line.text(" ");
+    line.named("forced", task.forced);
+    line.text("\n");
+    line
+}
+
+fn online_text(is_online: bool) -> &'static str
+    ensures { result.now ≡ online_word is_online }
+{
+    if is_online { "online" } else { "offline" }
+}
+
+fn queued_text(is_queued: bool) -> &'static str
+    ensures { result.now ≡ queued_word is_queued }
+{
+    if is_queued { "queued" } else { "asleep" }
+}

@@ -1,0 +1,100 @@
+//! The parts of the output, each with one loop at most. Each line goes to the sink in one piece, and
+//! again with the rest where the sink took only a part. At an `Err` the sink has failed, and a
+//! prefix of the part is written.
+
+ghost use Rattle.std.specs.Prelude.{◌≡◌, ◌≤◌, OnOk, OnErr};
+ghost use Rattle.std.specs.List.{flat_map};
+ghost use Rattle.cs_types.specs.Scenario.{IsPlayable};
+ghost use Rattle.cs_types.specs.History.{moment_of};
+ghost use Rattle.cs_outside.specs.Device.{appended, Rose, WritesPrefix};
+ghost use Rattle.scenario_text.specs.Text.{entry_text};
+ghost use Rattle.room_report.specs.Report.{core_lines, cpu_lines, task_lines, ended_lines, lines_text};
+
+use crate::lines::{
+    clock_line, core_line, cpu_line, ended_line, intervals_line, numbers_line, task_line,
+};
+use cs_outside::{Failed, Sink, write_all};
+use cs_types::Room;
+use scenario_text::entry_text;
+
+/// The line of each entry.
+pub(crate) fn write_entries<R: Room, K: Sink>(room: &R, sink: &mut K) -> Result<(), Failed>
+    ensures ok { OnOk result (K.written sink.new ≡ appended (K.written sink.old) (flat_map entry_text (R.history room.now))) }
+    ensures prefix { WritesPrefix (K.written sink.old) (flat_map entry_text (R.history room.now)) (K.written sink.new) }
+
+    ensures failed { OnErr result (Rose (K.faults sink.old) (K.faults sink.new)) }
+    ensures counted { K.faults sink.old ≤ K.faults sink.new }
+{
+    for place in 0..room.length() {
+        let entry = room.entry(place).unwrap();
+        entry_text(&entry, sink)?;
+    }
+    Ok(())
+}
+
+/// The first lines of the report, on the whole core.
+pub(crate) fn write_core<R: Room, K: Sink>(room: &R, sink: &mut K) -> Result<(), Failed>
+    ensures ok { OnOk result (K.written sink.new ≡ appended (K.written sink.old) (lines_text (core_lines (moment_of (R.scenario room.now) (R.history room.now))))) }
+    ensures prefix { WritesPrefix (K.written sink.old) (lines_text (core_lines (moment_of (R.scenario room.now) (R.history room.now)))) (K.written sink.new) }
+
+    ensures failed { OnErr result (Rose (K.faults sink.old) (K.faults sink.new)) }
+    ensures counted { K.faults sink.old ≤ K.faults sink.new }
+{
+    let (task_number, pick_number) = room.numbers();
+    let core = room.core();
+    write_all(sink, b"report\n")?;
+    write_all(sink, clock_line(room.clock()).as_bytes())?;
+    write_all(sink, numbers_line(task_number, pick_number).as_bytes())?;
+    write_all(sink, core_line(core).as_bytes())?;
+    write_all(sink, intervals_line(core).as_bytes())
+}
+
+/// The line of each sibling.
+pub(crate) fn write_siblings<R: Room, K: Sink>(room: &R, sink: &mut K) -> Result<(), Failed>
+    ensures ok { OnOk result (K.written sink.new ≡ appended (K.written sink.old) (lines_text (cpu_lines (moment_of (R.scenario room.now) (R.history room.now))))) }
+    ensures prefix { WritesPrefix (K.written sink.old) (lines_text (cpu_lines (moment_of (R.scenario room.now) (R.history room.now)))) (K.written sink.new) }
+
+    ensures failed { OnErr result (Rose (K.faults sink.old) (K.faults sink.new)) }
+    ensures counted { K.faults sink.old ≤ K.faults sink.new }
+{
+    for cpu in 0..room.siblings() {
+        let view = room.cpu(cpu).unwrap();
+        write_all(sink, cpu_line(cpu, view).as_bytes())?;
+    }
+    Ok(())
+}
+
+/// The line of each living task, by rising pid.
+pub(crate) fn write_tasks<R: Room, K: Sink>(room: &R, sink: &mut K) -> Result<(), Failed>
+    requires { IsPlayable (R.scenario room.now) }
+
+    ensures ok { OnOk result (K.written sink.new ≡ appended (K.written sink.old) (lines_text (task_lines (moment_of (R.scenario room.now) (R.history room.now))))) }
+    ensures prefix { WritesPrefix (K.written sink.old) (lines_text (task_lines (moment_of (R.scenario room.now) (R.history room.now)))) (K.written sink.new) }
+
+    ensures failed { OnErr result (Rose (K.faults sink.old) (K.faults sink.new)) }
+    ensures counted { K.faults sink.old ≤ K.faults sink.new }
+{
+    let mut pid = 0;
+    while let Some(task) = room.task_after(pid) {
+        write_all(sink, task_line(task).as_bytes())?;
+        pid = task.pid;
+    }
+    Ok(())
+}
+
+/// The line of each task that ended. None ended without an entry.
+pub(crate) fn write_ended<R: Room, K: Sink>(room: &R, sink: &mut K) -> Result<(), Failed>
+    ensures ok { OnOk result (K.written sink.new ≡ appended (K.written sink.old) (lines_text (ended_lines (moment_of (R.scenario room.now) (R.history room.now))))) }
+    ensures prefix { WritesPrefix (K.written sink.old) (lines_text (ended_lines (moment_of (R.scenario room.now) (R.history room.now)))) (K.written sink.new) }
+
+    ensures failed { OnErr result (Rose (K.faults sink.old) (K.faults sink.new)) }
+    ensures counted { K.faults sink.old ≤ K.faults sink.new }
+{
+    for place in 0..room.length() {
+        match room.ended(place) {
+            Some(task) => write_all(sink, ended_line(task).as_bytes())?,
+            None => return Ok(()),
+        }
+    }
+    Ok(())
+}

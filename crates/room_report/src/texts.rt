@@ -1,0 +1,55 @@
+//! The whole texts, part by part.
+
+ghost use Rattle.std.specs.Prelude.{◌≡◌, ◌≤◌, All, OnOk, OnErr};
+ghost use Rattle.cs_types.specs.Scenario.{IsPlayable};
+ghost use Rattle.cs_types.specs.declared.scenario.Scenario.{Scenario};
+ghost use Rattle.cs_types.specs.History.{History, moment_of};
+ghost use Rattle.cs_outside.specs.Device.{appended, Rose, WritesPrefix};
+ghost use Rattle.scenario_text.specs.Entry.{IsEntry};
+ghost use Rattle.room_report.specs.Report.{output_text, report_text};
+
+use crate::parts::{write_core, write_ended, write_entries, write_siblings, write_tasks};
+use cs_outside::{Failed, Sink, write_all};
+use cs_types::Room;
+
+/// Writes the line of each entry, and then the report. Each line goes to the sink in one piece, and
+/// again with the rest where the sink took only a part. At an `Err` the sink has failed, and a
+/// prefix of the text is written. It takes no memory.
+///
+/// The room's scenario has to be one that can be played: no two of its tasks have the same pid, and
+/// none has pid 0, so that a walk by rising pid meets each.
+pub fn output<R: Room, K: Sink>(room: &R, sink: &mut K) -> Result<(), Failed>
+    requires { IsPlayable (R.scenario room.now) }
+
+    ensures ok { OnOk result (K.written sink.new ≡ appended (K.written sink.old) (output_text (R.scenario room.now) (R.history room.now))) }
+    ensures prefix { WritesPrefix (K.written sink.old) (output_text (R.scenario room.now) (R.history room.now)) (K.written sink.new) }
+
+    ensures failed { OnErr result (Rose (K.faults sink.old) (K.faults sink.new)) }
+    ensures counted { K.faults sink.old ≤ K.faults sink.new }
+
+    // No other history has this text, whatever its scenario.
+    ensures one { (scenario : Scenario) (history : History) → All IsEntry history → All IsEntry (R.history room.now) →
+        output_text scenario history ≡ output_text (R.scenario room.now) (R.history room.now) →
+        history ≡ R.history room.now }
+{
+    write_entries(room, sink)?;
+    report(room, sink)
+}
+
+/// Writes the report alone, in a room like that of `output` and in the same way: what the machine
+/// shows now.
+pub fn report<R: Room, K: Sink>(room: &R, sink: &mut K) -> Result<(), Failed>
+    requires { IsPlayable (R.scenario room.now) }
+
+    ensures ok { OnOk result (K.written sink.new ≡ appended (K.written sink.old) (report_text (moment_of (R.scenario room.now) (R.history room.now)))) }
+    ensures prefix { WritesPrefix (K.written sink.old) (report_text (moment_of (R.scenario room.now) (R.history room.now))) (K.written sink.new) }
+
+    ensures failed { OnErr result (Rose (K.faults sink.old) (K.faults sink.new)) }
+    ensures counted { K.faults sink.old ≤ K.faults sink.new }
+{
+    write_core(room, sink)?;
+    write_siblings(room, sink)?;
+    write_tasks(room, sink)?;
+    write_ended(room, sink)?;
+    write_all(sink, b"done\n")
+}
