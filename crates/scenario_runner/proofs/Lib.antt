@@ -1,4 +1,4 @@
-pub mod Outputs
 pub mod Plays
 pub mod OneWord
 pub mod Completes
+pub mod Playable

@@ -24,7 +24,7 @@ Failed device = device.faults device.before < device.faults device.after
 
 -- How the command `replay` ends, over a source and a sink. Out of memory alone is free.
 pub record EndsAsReplay {S K : Type 0} (words : List (String Global)) (source : Used S) (sink : Used K) (status : Status) : Type 0 where
-  -- where it is done, what was read is the text of a scenario, and what was written is its history
+  -- where it is done, what was read is the text of a scenario, and what was written is its history and its report
   pub done : status ≡ Done → (scenario : Scenario) ×
       Replays scenario (source.bytes source.before) (source.bytes source.after) (sink.bytes sink.before) (sink.bytes sink.after)
   -- exactly where the words are not its own, and then nothing was read

@@ -1,6 +1,5 @@
 pub mod Commands
 pub mod Input
-pub mod Output
 pub mod Stop
 pub mod Replay
 pub mod Ends

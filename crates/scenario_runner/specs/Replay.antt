@@ -6,8 +6,8 @@ use Rattle.cs_types.specs.Scenario.{IsBuilt, script}
 use Rattle.cs_types.specs.History.{IsLegal, events_by, file}
 use Rattle.cs_outside.specs.Device.{appended, WritesPrefix}
 use Rattle.scenario_text.specs.Text.{scenario_text}
+use Rattle.room_report.specs.Report.{output_text}
 use Rattle.scenario_runner.specs.Input.{IsReadAs}
-use Rattle.scenario_runner.specs.Output.{history_text}
 
 -- the history of the file's steps in order is legal, and each actor made its script in it
 pub record IsPlayed (scenario : Scenario) : Type 0 where
@@ -19,13 +19,13 @@ pub record Reads (scenario : Scenario) (input left : Option (List ℕ)) : Type 0
   pub built : IsBuilt scenario
   pub read : IsReadAs input (scenario_text scenario) left
 
--- and what was written is the output of the file's history
+-- and what was written is the output of the file's history: the line of each entry, and its report
 pub record Replays (scenario : Scenario) (input left written now : Option (List ℕ)) : Type 0 where
   pub reads : Reads scenario input left
   pub played : IsPlayed scenario
-  pub writes : now ≡ appended written (history_text (file scenario))
+  pub writes : now ≡ appended written (output_text scenario (file scenario))
 
 -- or a prefix of that output
 pub record BreaksOff (scenario : Scenario) (input left written now : Option (List ℕ)) : Type 0 where
   pub reads : Reads scenario input left
-  pub writes : WritesPrefix written (history_text (file scenario)) now
+  pub writes : WritesPrefix written (output_text scenario (file scenario)) now

@@ -9,13 +9,14 @@ ghost use Rattle.scenario_runner.specs.Replay.{Reads};
 ghost use Rattle.scenario_runner.specs.Ends.{EndsAsReplay};
 
 use crate::input::read_to_end;
-use crate::playing::{play, write_history};
+use crate::playing::play;
 use crate::status::Status;
 use crate::stop::Stop;
 use cs_outside::{Sink, Source};
 use cs_types::Room;
 use plain_room::PlainRoom;
 use ptrace_check::Guards;
+use room_report::output;
 use scenario_text::read;
 use std::alloc::Global;
 
@@ -49,7 +50,7 @@ fn is_replay(words: &[String]) -> bool
 }
 
 /// Reads a scenario to its end, makes its steps in the order of their lines, and writes the line of
-/// each entry and the line `done`, each in one piece. It waits for nobody and always returns.
+/// each entry and the report, each line in one piece. It waits for nobody and always returns.
 ///
 /// The word is `replay`. Both counts of faults have to be below 2^64 - 1.
 pub fn replay<S: Source, K: Sink>(
@@ -70,7 +71,7 @@ pub fn replay<S: Source, K: Sink>(
         return Status::BadWords;
     }
     match played(alloc, source) {
-        Ok(room) => match write_history(&room, sink) {
+        Ok(room) => match output(&room, sink) {
             Ok(()) => Status::Done,
             Err(_) => Status::WriteFault,
         },

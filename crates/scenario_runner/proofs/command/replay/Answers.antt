@@ -1,17 +1,18 @@
-use Rattle.std.proofs.Common.{◌≡◌, ℕ, ◌<◌, List, ◌∙◌, ap, subst, rules}
+use Rattle.std.proofs.Common.{◌≡◌, ℕ, ◌<◌, List, ◌∙◌, ap, subst, arith, rules}
 use Rattle.std.specs.Prelude.{Option, Err, IfSome, ◌↔◌}
 use Rattle.scenario_text.specs.declared.fault.BadKind.{BadKind}
 use Rattle.scenario_runner.specs.declared.stop.Stop.TheVariants.{ReadFault, TooLong, BadScenario}
 use Rattle.scenario_runner.specs.Input.{IsBad, input_limit, count_read}
 use Rattle.cs_types.specs.History.{History}
 use Rattle.cs_types.proofs.Histories.{IsLegal-history_of, events_by-file}
-use Rattle.cs_outside.specs.Device.{appended}
-use Rattle.scenario_runner.specs.Output.{history_text}
+use Rattle.cs_outside.specs.Device.{appended, WritesPrefix}
+use Rattle.room_report.specs.Report.{output_text}
 use Rattle.scenario_runner.proofs.Completes.{stop_complete}
+use Rattle.scenario_runner.proofs.Playable.{built_playable}
 use Rattle.scenario_runner.proofs.command.replay.Goals as goal
 
-pub returns-in-Ok-write_history : goal.returns-in-Ok-write_history
-returns-in-Ok-write_history g c =
+pub returns-in-Ok-output : goal.returns-in-Ok-output
+returns-in-Ok-output g c =
     let scenario = c.in-Ok.room.scenario in
     record {
       done = λ _. (
@@ -19,8 +20,8 @@ returns-in-Ok-write_history g c =
         record {
           reads = c.in-Ok.ensures.reads;
           played = record { legal = IsLegal-history_of scenario scenario.steps; scripts = events_by-file scenario };
-          writes = c.in-Ok-write_history.ensures.ok
-              ∙ ap (λ (history : History). appended (g.K.Sink.written c.args.sink.now) (history_text history)) c.in-Ok.ensures.played;
+          writes = c.in-Ok-output.ensures.ok
+              ∙ ap (λ (history : History). appended (g.K.Sink.written c.args.sink.now) (output_text scenario history)) c.in-Ok.ensures.played;
         },
       );
       bad_words = search rules;
@@ -29,6 +30,25 @@ returns-in-Ok-write_history g c =
       too_long = search rules;
       bad_scenario = search rules;
       write_fault = search rules;
+      unwritten = search rules;
+      complete = search rules;
+    }
+
+pub output-requires : goal.output-requires
+output-requires g c = built_playable c.in-Ok.room.scenario c.in-Ok.ensures.reads.built
+
+pub returns-in-Ok : goal.returns-in-Ok
+returns-in-Ok g c =
+    let scenario = c.in-Ok.room.scenario in
+    let writes = subst (λ (history : History). WritesPrefix (g.K.Sink.written c.args.sink.now) (output_text scenario history) (g.K.Sink.written c.output.new.sink)) c.in-Ok.ensures.played c.output.ensures.prefix in
+    record {
+      done = search rules;
+      bad_words = search rules;
+      unread = search rules;
+      read_fault = search rules;
+      too_long = search rules;
+      bad_scenario = search rules;
+      write_fault = λ _. (omega (arith, c.in-Err-output.ensures.failed, c.requires.sink), (scenario, record { reads = c.in-Ok.ensures.reads; writes = writes }));
       unwritten = search rules;
       complete = search rules;
     }
