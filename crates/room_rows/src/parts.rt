@@ -1,11 +1,12 @@
 //! The parts of a machine: the table of tasks, the references of cookies, the access check, the plan of a
-//! call, and how a task is born and ends.
+//! call, how a task is born and ends, and the accounts of forced idle.
 
-ghost use Rattle.std.specs.Prelude.{◌≡◌, All, OnErr};
+ghost use Rattle.std.specs.Prelude.{◌≡◌, ◌^◌, ◌<◌, All, OnErr};
 ghost use Rattle.cookie_refs.specs.Refs.{Agree};
 
 use cookie_refs::{CookieFull, CookieRefs};
-use cs_types::{Ask, Creds, Errno, Pid, Policy, Reply, Task, TaskSpec};
+use cs_types::{Ask, Cookie, Creds, Errno, Pid, Policy, Reply, Task, TaskSpec};
+use forceidle_account::{ForceIdle, Totals};
 use fork_inherit::{ForkFault, HasThreads, end, fork};
 use prctl_core::{Decision, Planned, Target, plan};
 use ptrace_check::{Guards, may_access};
@@ -294,4 +295,49 @@ fn tasks_that_end_and_fork(rt: HostRuntime) {
     fork_thread(&rt, &mut table, &mut refs, 2, 4).expect(&rt, "a child");
     let child = table.find(4).expect(&rt, "the child");
     assert!(rt; child.spec.tgid == 1 && child.home == 1 && !child.queued);
+}
+
+/// Expects this share of an interval that begins at 0 and is charged at `now`, in ns. None is charged
+/// after it is closed.
+fn expect_share(
+    rt: &impl Abort,
+    core: Cookie,
+    count: u8,
+    occupation: u8,
+    now: u64,
+    wanted: Option<u64>,
+)
+    requires occupied { 0 < count → 0 < occupation }
+    requires now { now < 2 ^ 56 }
+{
+    let mut account = ForceIdle::closed();
+    account.begin(core, count, occupation, 0);
+    assert!(rt; account.count() == count && account.occupation() == occupation);
+    assert!(rt; account.charge(now) == wanted);
+    assert!(rt; account.intervals() == wanted.is_some() as u64);
+    account.close();
+    assert!(rt; account.count() == 0 && account.occupation() == 0);
+    assert!(rt; account.charge(now).is_none());
+}
+
+// Of the whole time, of two siblings for two tasks, of one for three rounded down, and of none: under
+// cookie 0, where no sibling is forced idle, and where no time has passed.
+#[test]
+fn shares_of_an_interval(rt: HostRuntime) {
+    expect_share(&rt, 1, 1, 1, 10, Some(10));
+    expect_share(&rt, 1, 2, 2, 7, Some(7));
+    expect_share(&rt, 1, 1, 3, 10, Some(3));
+    expect_share(&rt, 0, 1, 1, 10, None);
+    expect_share(&rt, 1, 0, 2, 10, None);
+    expect_share(&rt, 1, 1, 1, 0, None);
+}
+
+#[test]
+fn totals_of_tasks(rt: HostRuntime) {
+    let mut totals = Totals::with_capacity(rt.alloc(), 2).expect(&rt, "room");
+    totals.add(1);
+    totals.add(3);
+    totals.raise(3, 7);
+    totals.raise(3, 5);
+    assert!(rt; totals.of(1) == 0 && totals.of(3) == 12 && totals.of(2) == 0);
 }
