@@ -1,0 +1,958 @@
+#!/usr/bin/env python3
+"""The rules of coresched once more, in Python over plain lists, written apart from the program.
+
+Usage: reference.py [--stage r4|r5|r6|r7] [--guards N] [--faults kinds|unbuilt] [--no-done] < SCENARIO
+
+A stage says how much of the rules there is: r4 has forks and exits, r5 all classes and time, r6 the accounting
+of forced idle and the report, r7 stealing, hotplug, changes of policy and the drain.
+"""
+import sys
+from collections import Counter
+
+MAX_INPUT = 16777216
+MAX_STEPS = 100000
+WEIGHT = [88761, 71755, 56483, 46273, 36291, 29154, 23254, 18705, 14949, 11916, 9548, 7620, 6100,
+          4904, 3906, 3121, 2501, 1991, 1586, 1277, 1024, 820, 655, 526, 423, 335, 272, 215, 172,
+          137, 110, 87, 70, 56, 45, 36, 29, 23, 18, 15]
+assert len(WEIGHT) == 40
+BOUND = 1 << 80
+STOP, DEADLINE, REAL, FAIR, IDLE = 4, 3, 2, 1, 0
+CLASS = {'stop': STOP, 'dl': DEADLINE, 'fifo': REAL, 'rr': REAL, 'fair': FAIR}
+NAMES = {STOP: 'stop', DEADLINE: 'dl', REAL: 'rt', FAIR: 'fair', IDLE: 'idle'}
+
+
+# ---------------------------------------------------------------- reading
+
+class Bad(Exception):
+    def __init__(self, line, kind):
+        self.line, self.kind = line, kind
+
+
+class TooLong(Exception):
+    pass
+
+
+DIGITS = set(b'0123456789')
+
+
+def number(word, low, high):
+    """The value of a canonical decimal within [low, high], else None."""
+    body = word
+    negative = False
+    if low < 0 and word[:1] == b'-':
+        negative, body = True, word[1:]
+    if not body or any(c not in DIGITS for c in body):
+        return None
+    if body[:1] == b'0' and (len(body) > 1 or negative):
+        return None
+    if len(body) > 25:
+        return None
+    value = int(body)
+    if negative:
+        value = -value
+    return value if low <= value <= high else None
+
+
+POLICY_RANGE = {'dl': (1, 1000000000), 'fifo': (1, 99), 'rr': (1, 99), 'fair': (-20, 19)}
+
+
+def policy_shape(word, stage):
+    """(name, rest) where the word has a policy's form, else None."""
+    if stage == 'r4':
+        return ('fifo', word[5:]) if word.startswith(b'fifo:') else None
+    if word == b'stop':
+        return ('stop', None)
+    head, colon, rest = word.partition(b':')
+    if colon and head in (b'dl', b'fifo', b'rr', b'fair'):
+        return (head.decode(), rest)
+    return None
+
+
+def policy_value(shape):
+    name, rest = shape
+    if name == 'stop':
+        return ('stop', 0)
+    low, high = POLICY_RANGE[name]
+    value = number(rest, low, high)
+    return None if value is None else (name, value)
+
+
+SIBLING_EVENTS = {b'turn', b'resched', b'block', b'exit', b'tick'}
+PID = (1, 999999)
+# name: the words behind it. A pair is a number's range, 'n' is a sibling, 'policy', 'how'
+CALLER_EVENTS = {
+    b'wake': [PID],
+    b'advance': [(1, 1000000000)],
+    b'fork': [PID, 'how'],
+    b'prctl': [PID, (0, 2**32 - 1), (-2**31, 2**31 - 1), (0, 2**32 - 1), (0, 2**64 - 1)],
+    b'setsched': [PID, 'policy'],
+    b'offline': ['n'],
+    b'online': ['n'],
+}
+SINCE_R7 = {b'setsched', b'offline', b'online'}
+
+
+class Scenario:
+    def __init__(self):
+        self.siblings = self.limit = self.cookies = self.top = 0
+        self.tasks = []         # tuples, in the file's order
+        self.steps = []         # (actor text, event tuple, text of the step)
+
+
+def read(data, stage='r7'):
+    """A Scenario, or raises TooLong or Bad."""
+    if len(data) > MAX_INPUT:
+        raise TooLong()
+    lines = data.split(b'\n')
+    rest = lines.pop()
+    s = Scenario()
+    phase = 0                   # 0 first line, 1 siblings, 2 limits, 3 tasks, 4 steps, 5 after end
+    pids = {}                   # pid: (tgid, pgid)
+    n = 0
+    for place, line in enumerate(lines, 1):
+        if phase == 5:
+            raise Bad(place, 'After')
+        if phase == 0:
+            if line != b'coresched 1':
+                raise Bad(place, 'Shape')
+            phase = 1
+            continue
+        words = line.split(b' ')
+        if b'' in words:
+            raise Bad(place, 'Shape')
+        head = words[0]
+        if phase == 1:
+            if head != b'siblings' or len(words) != 2:
+                raise Bad(place, 'Shape')
+            n = number(words[1], 1, 8)
+            if n is None:
+                raise Bad(place, 'Number')
+            s.siblings = n
+            phase = 2
+        elif phase == 2:
+            if head != b'limits' or len(words) != 4:
+                raise Bad(place, 'Shape')
+            got = [number(words[1], 1, 256), number(words[2], 1, 256), number(words[3], 8192, 2**63 - 1)]
+            if None in got:
+                raise Bad(place, 'Number')
+            s.limit, s.cookies, s.top = got
+            phase = 3
+        elif head == b'end' and len(words) == 1:
+            phase = 5
+        elif head == b'task' and phase == 3:
+            if len(words) != 15:
+                raise Bad(place, 'Shape')
+            shape = policy_shape(words[5], stage)
+            if shape is None:
+                raise Bad(place, 'Shape')
+            got = [number(w, 1, 9999) for w in words[1:4]]
+            got.append(number(words[4], 0, n - 1))
+            got.append(policy_value(shape))
+            got += [number(w, 0, 65535) for w in words[6:12]]
+            got += [number(w, 0, 1) for w in words[12:15]]
+            if None in got:
+                raise Bad(place, 'Number')
+            pid, tgid, pgid = got[:3]
+            if pid in pids:
+                raise Bad(place, 'Twice')
+            if tgid != pid:
+                leader = pids.get(tgid)
+                if leader is None or leader[0] != tgid or leader[1] != pgid:
+                    raise Bad(place, 'Leader')
+            if len(s.tasks) >= s.limit:
+                raise Bad(place, 'Full')
+            pids[pid] = (tgid, pgid)
+            s.tasks.append(tuple(got))
+        elif head == b'step':
+            phase = 4
+            if len(words) < 3 or words[1][:1] not in (b's', b'c'):
+                raise Bad(place, 'Shape')
+            kind, tail, name = words[1][:1], words[1][1:], words[2]
+            if kind == b's':
+                if name not in SIBLING_EVENTS or len(words) != 3 or (stage == 'r4' and name == b'tick'):
+                    raise Bad(place, 'Shape')
+                i = number(tail, 0, n - 1)
+                if i is None:
+                    raise Bad(place, 'Number')
+                event = (name.decode(), i)
+            else:
+                form = CALLER_EVENTS.get(name)
+                if form is None or (name in SINCE_R7 and stage != 'r7') or (stage == 'r4' and name == b'advance'):
+                    raise Bad(place, 'Shape')
+                if len(words) != 3 + len(form):
+                    raise Bad(place, 'Shape')
+                event = [name.decode()]
+                faulty = number(tail, 0, 7) is None
+                for want, word in zip(form, words[3:]):
+                    if want == 'how':
+                        if word not in (b'thread', b'process'):
+                            raise Bad(place, 'Shape')
+                        value = word.decode()
+                    elif want == 'policy':
+                        shape = policy_shape(word, stage)
+                        if shape is None:
+                            raise Bad(place, 'Shape')
+                        value = policy_value(shape)
+                    elif want == 'n':
+                        value = number(word, 0, n - 1)
+                    else:
+                        value = number(word, *want)
+                    faulty = faulty or value is None
+                    event.append(value)
+                if faulty:
+                    raise Bad(place, 'Number')
+                event = tuple(event)
+            if len(s.steps) >= MAX_STEPS:
+                raise Bad(place, 'Full')
+            s.steps.append((words[1].decode(), event, b' '.join(words[1:]).decode()))
+        else:
+            raise Bad(place, 'Shape')
+    if phase == 5:
+        if rest:
+            raise Bad(len(lines) + 1, 'After')
+    else:
+        raise Bad(len(lines) + 1, 'Cut')
+    return s
+
+
+# ---------------------------------------------------------------- the machine
+
+NONE = object()                 # no waiting pick
+
+
+class Task:
+    def __init__(self, pid, tgid, pgid, home, policy, ids, flags):
+        self.pid, self.tgid, self.pgid, self.home, self.policy = pid, tgid, pgid, home, policy
+        self.ids, self.flags = ids, flags       # ruid euid suid rgid egid sgid; cap mm dump
+        self.cookie = 0
+        self.queued = False
+        self.v = self.deadline = self.stamp = self.used = self.remembered = self.total = 0
+
+    @property
+    def cls(self):
+        return CLASS[self.policy[0]]
+
+
+class Sibling:
+    def __init__(self, i):
+        self.i = i
+        self.online = True
+        self.run = None
+        self.pending = False
+        self.waiting = NONE
+        self.place = 0
+        self.snapshot = self.least = self.remembered = self.ran = self.number = 0
+
+
+def key(t):
+    c = t.cls
+    if c == REAL:
+        k = -t.policy[1]
+    elif c == DEADLINE:
+        k = t.deadline
+    elif c == FAIR:
+        k = t.v
+    else:
+        k = 0
+    return (-c, k, t.stamp)
+
+
+def first_of(tasks):
+    return min(tasks, key=key, default=None)
+
+
+class Room:
+    def __init__(self, s, stage='r7', guards=0, stats=None, check=True):
+        self.s, self.stage, self.guards, self.check = s, stage, guards, check
+        self.full = stage == 'r7'
+        self.stats = Counter() if stats is None else stats
+        self.n = s.siblings
+        self.clock = 0
+        self.tasks = {}
+        for t in s.tasks:
+            self.tasks[t[0]] = Task(t[0], t[1], t[2], t[3], t[4], t[5:11], t[11:14])
+        self.ended = []
+        self.next_stamp = 0
+        self.next_cookie = 1
+        self.next_pid = max(self.tasks, default=0) + 1
+        self.core = 0
+        self.count = self.occupation = 0
+        self.start = None
+        self.intervals = []         # (from, to, count, occupation, pids)
+        self.sib = [Sibling(i) for i in range(self.n)]
+        self.task_number = self.pick_number = 0     # kept, as the room has them
+        self.touches = []                           # by the table of D9, one per entry
+        self.last_selected = None                   # place of the last entry with a Selected pick
+        self.entries = []
+        self.note_touches = 0
+        self.dirty = False
+        self.pick_kind = None
+
+    # ---- parts
+
+    def queued(self, i):
+        return [t for t in self.tasks.values() if t.queued and t.home == i]
+
+    def first(self, i):
+        return first_of(self.queued(i))
+
+    def online(self):
+        return [x for x in self.sib if x.online]
+
+    def enqueue(self, t):
+        t.stamp = self.next_stamp
+        self.next_stamp += 1
+        t.queued = True
+        self.task_number += 1
+
+    def dequeue(self, t):
+        assert t.queued
+        t.queued = False
+        self.task_number += 1
+
+    def moved_v(self, t, d):
+        return self.sib[d].least + max(0, t.v - self.sib[t.home].least)
+
+    def move(self, t, d):
+        self.dequeue(t)
+        t.v = self.moved_v(t, d)
+        t.home = d
+        self.enqueue(t)
+
+    def runs(self, t):
+        return self.sib[t.home].run is t
+
+    def set_cookie(self, t, c):
+        if t.queued:
+            both = (1 if t.cookie else 0) + (1 if c else 0)
+            self.task_number += both
+            self.note_touches += both
+            self.stats['set cookie: queued' + (' same' if t.cookie == c else '')] += 1
+        t.cookie = c
+        if self.runs(t):
+            self.sib[t.home].pending = True
+            self.stats['set cookie: running'] += 1
+
+    def higher(self, a, b):
+        """a above b across siblings. None is idle."""
+        if a is None:
+            return False
+        if b is None:
+            return True
+        if a.cls != b.cls:
+            return a.cls > b.cls
+        if a.cls == REAL:
+            return a.policy[1] > b.policy[1]
+        if a.cls == DEADLINE:
+            return a.deadline < b.deadline
+        if a.cls == FAIR:
+            fa, fb = self.sib[a.home].snapshot, self.sib[b.home].snapshot
+            yes = a.v + fb < b.v + fa
+            if yes != (a.v < b.v):
+                self.stats['compare: snapshots decide'] += 1
+            return yes
+        return False
+
+    # ---- accounting
+
+    def charge(self):
+        if self.start is None or self.start == self.clock:
+            return
+        delta = self.clock - self.start
+        if self.count > 1 or self.occupation > 1:
+            share = delta * self.count // self.occupation
+            self.stats['charge: share'] += 1
+        else:
+            share = delta
+            self.stats['charge: delta'] += 1
+        charged = []
+        for x in self.online():
+            who = x.run if x.waiting is NONE else x.waiting
+            if who is not None and who.cookie != 0:
+                who.total += share
+                charged.append(who.pid)
+        self.intervals.append((self.start, self.clock, self.count, self.occupation, tuple(charged)))
+        self.start = self.clock
+
+    # ---- schedule
+
+    def fresh(self):
+        if self.last_selected is None:
+            return False
+        return all(x == 0 for x in self.touches[self.last_selected + 1:])
+
+    def would_adopt(self, i):
+        x = self.sib[i]
+        by_numbers = self.pick_number == self.task_number and x.number != self.pick_number and x.waiting is not NONE
+        by_history = not self.dirty and x.waiting is not NONE and self.fresh()
+        assert by_numbers == by_history, 'L3'
+        return by_numbers
+
+    def schedule(self, i):
+        x = self.sib[i]
+        x.place = 0
+        if self.would_adopt(i):
+            kind = 'Adopted'
+            x.run, x.waiting, x.number = x.waiting, NONE, self.pick_number
+        else:
+            self.charge()
+            forced_before = self.count != 0
+            self.start = None
+            self.count = self.occupation = 0
+            self.task_number += 1
+            head = self.first(i)
+            if self.core == 0 and not forced_before and (head is None or head.cookie == 0):
+                kind = 'Plain'
+                x.run, x.waiting = head, NONE
+                if head is not None and head.cls == FAIR:
+                    x.snapshot = x.least
+            else:
+                kind = 'Selected'
+                self.select(i, forced_before)
+        x.pending = False
+        x.ran = 0
+        if self.full and self.count != 0 and x.run is None and self.core != 0 and self.queued(i):
+            x.place = 1
+        self.pick_kind = kind
+        self.stats['pick ' + kind] += 1
+        if self.count:
+            self.stats['pick forced > 0'] += 1
+        run = 'idle' if x.run is None else str(x.run.pid)
+        return '%s %s core %d forced %d' % (kind, run, self.core, self.count)
+
+    def select(self, i, forced_before):
+        order = [self.sib[(i + k) % self.n] for k in range(self.n)]
+        order = [x for x in order if x.online]
+        firsts = [self.first(x.i) for x in order]
+        lead = firsts[0]
+        for t in firsts[1:]:
+            if self.higher(t, lead):
+                lead = t
+            elif t is not None and lead is not None and not self.higher(lead, t):
+                self.stats['lead: tie'] += 1
+        # L1, and D6's words: the earliest than which none is higher. They must come to the same where
+        # "higher" is a strict weak order on these.
+        by_words = [t for t in firsts if not any(self.higher(u, t) for u in firsts if u is not t)]
+        assert by_words and by_words[0] is lead, 'D6'
+        k = 0 if lead is None else lead.cookie
+        self.core = k
+        choices = {}
+        eligible = set()
+        for x in order:
+            head = self.first(x.i)
+            queue = self.queued(x.i)
+            if head is None or head.cookie == k:
+                choice = head
+            elif k != 0:
+                choice = first_of([t for t in queue if t.cookie == k])
+                if choice is not None:
+                    self.stats['choice: cookie search'] += 1
+            else:
+                choice = None
+                if any(t.cookie == 0 for t in queue):
+                    self.stats['choice: core 0 idles past a task without cookie'] += 1
+            choices[x.i] = choice
+            if k != 0 and any(t.cookie == k for t in queue):
+                eligible.add(x.i)
+            if k == 0 and head is not None and head.cookie == 0:
+                eligible.add(x.i)
+        forced = [x.i for x in order if choices[x.i] is None and self.queued(x.i)]
+        assert not (set(forced) & eligible), 'L5'
+        assert all(c is None or c.cookie == k for c in choices.values())
+        self.count = len(forced)
+        self.occupation = sum(1 for c in choices.values() if c is not None)
+        assert self.count == 0 or self.occupation != 0, 'L5'
+        for x in order:
+            c = choices[x.i]
+            if c is None:
+                x.remembered = self.occupation
+            else:
+                c.remembered = self.occupation
+        if self.count != 0 and k != 0:
+            self.start = self.clock
+        self.pick_number = self.task_number
+        keep = forced_before and self.count != 0
+        for x in order:
+            c = choices[x.i]
+            if c is not None and c.cls == FAIR:
+                if keep:
+                    if x.snapshot != x.least:
+                        self.stats['snapshot: kept old'] += 1
+                else:
+                    x.snapshot = x.least
+        for x in order:
+            c = choices[x.i]
+            if x.i == i:
+                x.run, x.waiting, x.number = c, NONE, self.pick_number
+            elif x.run is c:
+                x.waiting = NONE
+                if x.pending:
+                    self.stats['selected: other keeps a set flag'] += 1
+            else:
+                x.waiting = c
+                x.pending = True
+
+    # ---- queueing
+
+    def queue_at_home(self, t, what):
+        if not self.sib[t.home].online:
+            d = self.online()[0].i
+            t.v = self.moved_v(t, d)
+            t.home = d
+            self.stats['home offline: ' + what] += 1
+        x = self.sib[t.home]
+        if t.cls == DEADLINE:
+            t.deadline = self.clock + t.policy[1]
+        if t.cls == FAIR:
+            t.v = max(t.v, x.least)
+        self.enqueue(t)
+        r = x.run
+        if r is None:
+            why = 'idle'
+        elif r is t:
+            why = None
+        elif t.cls != r.cls:
+            why = 'class' if t.cls > r.cls else None
+        elif t.cls == REAL:
+            why = 'rt' if r.policy[1] < t.policy[1] else None
+        elif t.cls == DEADLINE:
+            why = 'dl' if r.deadline > t.deadline else None
+        elif t.cls == FAIR:
+            why = 'fair' if r.v > t.v else None
+        else:
+            why = None
+        if why:
+            x.pending = True
+        pair = '' if r is None else ' %s over %s' % (NAMES[t.cls], NAMES[r.cls])
+        self.stats['%s: preempts %s%s' % (what, 'yes' if why else 'no', pair)] += 1
+
+    # ---- access
+
+    def may_access(self, c, t):
+        st = self.stats
+        if t.tgid == c.tgid:
+            st['access: own group'] += 1
+            return True
+        u, g = c.ids[0], c.ids[3]
+        same = all(u == x for x in t.ids[:3]) and all(g == x for x in t.ids[3:])
+        if not (same or c.flags[0]):
+            st['access: refused ids'] += 1
+            return False
+        if t.flags[1] and not t.flags[2] and not c.flags[0]:
+            st['access: refused dump'] += 1
+            return False
+        if t.flags[0] and not c.flags[0]:
+            st['access: refused capability module'] += 1
+            return False
+        st['access: allowed' + ('' if same else ' by capability')] += 1
+        return True
+
+    def prctl(self, p, cmd, target, scope, addr):
+        row, answer = self.prctl_row(p, cmd, target, scope, addr)
+        self.stats['prctl row %d' % row] += 1
+        return answer
+
+    def prctl_row(self, p, cmd, target, scope, addr):
+        c = self.tasks.get(p)
+        if c is None:
+            return 1, 'NoCaller'
+        if len(self.online()) < 2:
+            return 2, 'ENODEV'
+        if scope > 2 or cmd > 3 or target < 0 or (addr != 0 and cmd != 0):
+            return 3, 'EINVAL'
+        t = c if target == 0 else self.tasks.get(target)
+        if t is None:
+            return 4, 'ESRCH'
+        if not self.may_access(c, t):
+            return 5, 'EPERM'
+        if cmd == 0:
+            if scope != 0 or addr % 8 != 0:
+                return 6, 'EINVAL'
+            if addr < 4096 or addr > self.s.top - 8:
+                return 7, 'EFAULT'
+            return 8, '0 value %d' % t.cookie
+        new = None
+        if cmd == 1:
+            live = {x.cookie for x in self.tasks.values() if x.cookie != 0}
+            if len(live) == self.s.cookies:
+                return 9, 'ENOMEM'
+            new = self.next_cookie
+            self.next_cookie += 1
+        if cmd == 3:
+            if scope != 0:
+                return 10, 'EINVAL'
+            self.set_cookie(c, t.cookie)
+            return 11, '0'
+        if scope == 0:
+            members = [t]
+        elif scope == 1:
+            members = [x for x in self.tasks.values() if x.tgid == t.tgid]
+        else:
+            members = [x for x in self.tasks.values() if x.pgid == t.pgid]
+        members.sort(key=lambda x: x.pid)
+        if scope != 0:
+            for m in members:
+                if not self.may_access(c, m):
+                    return 12, 'EPERM'
+        if cmd == 2:
+            new = c.cookie
+        for m in members:
+            self.set_cookie(m, new)
+        return 13, '0'
+
+    # ---- events
+
+    def step(self, event):
+        """The reply's text."""
+        name = event[0]
+        return getattr(self, 'do_' + name)(*event[1:])
+
+    def do_turn(self, i):
+        x = self.sib[i]
+        if not x.online:
+            return 'Offline'
+        if x.pending:
+            return self.schedule(i)
+        if x.place != 0:
+            return self.steal(i)
+        return 'Nothing'
+
+    def do_resched(self, i):
+        if not self.sib[i].online:
+            return 'Offline'
+        return self.schedule(i)
+
+    def do_block(self, i):
+        x = self.sib[i]
+        if not x.online:
+            return 'Offline'
+        if x.run is None:
+            return 'Idle'
+        t = x.run
+        self.charge()
+        self.dequeue(t)
+        self.note_touches += 1
+        self.dirty = True
+        x.run = None
+        return 'Slept %d %s' % (t.pid, self.schedule(i))
+
+    def do_exit(self, i):
+        x = self.sib[i]
+        if not x.online:
+            return 'Offline'
+        if x.run is None:
+            return 'Idle'
+        t = x.run
+        if t.tgid == t.pid and any(u.tgid == t.pid and u is not t for u in self.tasks.values()):
+            return 'HasThreads'
+        self.charge()
+        self.dequeue(t)
+        self.note_touches += 1
+        self.dirty = True
+        del self.tasks[t.pid]
+        self.ended.append(t)
+        x.run = None
+        return 'Ended %d %s' % (t.pid, self.schedule(i))
+
+    def do_tick(self, i):
+        x = self.sib[i]
+        if not x.online:
+            return 'Offline'
+        self.charge()
+        t = x.run
+        yes = False
+        if t is not None and t.policy[0] == 'rr' and t.used >= 100000000:
+            t.used = 0
+            if any(u is not t and u.cls == REAL and u.policy[1] == t.policy[1] for u in self.queued(i)):
+                t.stamp = self.next_stamp
+                self.next_stamp += 1
+                yes = True
+                self.stats['tick yes: rotation'] += 1
+            else:
+                self.stats['tick: slice over, alone'] += 1
+        if t is not None and t.cls == FAIR:
+            fair = [u for u in self.queued(i) if u.cls == FAIR]
+            if any(u is not t and u.v < t.v for u in fair):
+                yes = True
+                self.stats['tick yes: smaller vtime'] += 1
+            if fair == [t] and self.count != 0 and x.ran >= 6000000:
+                yes = True
+                self.stats['tick yes: forced idle 6 ms'] += 1
+        if yes:
+            if x.pending:
+                self.stats['tick yes: was pending'] += 1
+            x.pending = True
+        return 'Ticked yes' if yes else 'Ticked no'
+
+    def do_wake(self, p):
+        t = self.tasks.get(p)
+        if t is None:
+            return 'NoTask'
+        if t.queued:
+            return 'Awake'
+        self.queue_at_home(t, 'wake')
+        self.note_touches += 1
+        return 'Woken %d' % t.home
+
+    def do_advance(self, d):
+        self.clock += d
+        for x in self.sib:
+            x.ran += d
+            t = x.run
+            if t is not None:
+                if t.policy[0] == 'rr':
+                    t.used += d
+                elif t.policy[0] == 'fair':
+                    t.v += d * 1024 // WEIGHT[t.policy[1] + 20]
+        for x in self.sib:
+            fair = [t.v for t in self.queued(x.i) if t.cls == FAIR]
+            if fair:
+                x.least = max(x.least, min(fair))
+        return 'Now %d' % self.clock
+
+    def do_fork(self, p, how):
+        c = self.tasks.get(p)
+        if c is None:
+            return 'NoCaller'
+        if len(self.tasks) == self.s.limit:
+            self.stats['EAGAIN: limit'] += 1
+            return 'EAGAIN'
+        if c.cls == DEADLINE:
+            self.stats['EAGAIN: deadline'] += 1
+            return 'EAGAIN'
+        pid = self.next_pid
+        self.next_pid += 1
+        home = c.home if self.sib[c.home].online else self.online()[0].i
+        t = Task(pid, c.tgid if how == 'thread' else pid, c.pgid, home, c.policy, c.ids, c.flags)
+        t.cookie = c.cookie
+        t.v = self.sib[home].least
+        self.tasks[pid] = t
+        self.queue_at_home(t, 'child')
+        self.note_touches += 1
+        return 'Child %d' % pid
+
+    def do_prctl(self, *ask):
+        return self.prctl(*ask)
+
+    def do_setsched(self, p, policy):
+        t = self.tasks.get(p)
+        if t is None:
+            return 'NoTask'
+        t.used = 0
+        if not t.queued:
+            t.policy = policy
+            return 'Set'
+        self.dequeue(t)
+        t.policy = policy
+        self.queue_at_home(t, 'setsched')
+        self.note_touches += 2
+        if self.runs(t):
+            self.sib[t.home].pending = True
+        return 'Set'
+
+    def do_offline(self, i):
+        x = self.sib[i]
+        if not x.online:
+            return 'Already'
+        others = [y for y in self.online() if y is not x]
+        if not others:
+            return 'EBUSY'
+        self.charge()
+        self.start = None
+        self.count = self.occupation = 0
+        moved = sorted(self.queued(i), key=lambda t: t.stamp)
+        for t in moved:
+            self.move(t, others[0].i)
+            self.note_touches += 2
+        x.online, x.run, x.pending, x.waiting, x.place = False, None, False, NONE, 0
+        for y in others:
+            y.pending = True
+        self.stats['offline moves tasks' if moved else 'offline moves nothing'] += 1
+        return 'Done'
+
+    def do_online(self, i):
+        x = self.sib[i]
+        if x.online:
+            return 'Already'
+        x.online, x.run, x.pending, x.waiting, x.place = True, None, True, NONE, 0
+        return 'Done'
+
+    def steal(self, i):
+        x = self.sib[i]
+        j = (i + x.place) % self.n
+        y = self.sib[j]
+        if self.core != 0 and x.run is None:
+            for t in sorted([t for t in self.queued(j) if t.cookie == self.core], key=key):
+                if t is y.waiting:
+                    self.stats['steal passes: waiting'] += 1
+                elif t is y.run:
+                    self.stats['steal passes: running'] += 1
+                elif t.remembered > x.remembered:
+                    self.stats['steal passes: occupation'] += 1
+                else:
+                    self.move(t, i)
+                    self.note_touches += 2
+                    x.pending = True
+                    x.place = 0
+                    if not self.queued(j) and y.run is None and self.count != 0:
+                        y.pending = True
+                        self.stats['steal: source flagged'] += 1
+                    return 'Stole %d from %d' % (t.pid, j)
+        else:
+            self.stats['steal: need fails'] += 1
+        if not y.online:
+            self.stats['steal: source offline'] += 1
+        x.place = 0 if x.place + 1 == self.n else x.place + 1
+        return 'Missed %d' % j
+
+    # ---- an entry
+
+    def apply(self, event, text):
+        self.note_touches = 0
+        self.dirty = False
+        self.pick_kind = None
+        reply = self.step(event)
+        touches = self.note_touches + (1 if self.pick_kind in ('Selected', 'Plain') else 0)
+        self.dirty = False
+        if self.pick_kind == 'Selected':
+            self.last_selected = len(self.touches)
+        self.touches.append(touches)
+        self.entries.append('%s: %s' % (text, reply))
+        self.stats['reply ' + reply_kind(reply)] += 1
+        if self.check:
+            self.assert_laws()
+        return reply
+
+    def assert_laws(self):
+        fresh = self.fresh()
+        running = set()
+        for x in self.sib:
+            q = self.queued(x.i)
+            if x.online:
+                assert x.pending or x.run is None or x.run.cookie == self.core, 'L2'
+            else:
+                assert not q and x.run is None and not x.pending and x.waiting is NONE and x.place == 0, 'L4 offline'
+            if x.run is not None:
+                assert x.run in q, 'L4 run queued'
+                running.add(x.run.pid)
+            if x.waiting is not NONE:
+                assert x.pending, 'L4 waiting pending'
+                assert x.waiting is None or x.waiting in q, 'L4 waiting queued'
+                assert x.waiting is None or x.waiting is not x.run, 'L4 waiting not running'
+                if fresh:
+                    assert x.waiting is None or x.waiting.cookie == self.core, 'L4 fresh'
+            assert x.snapshot < BOUND and x.least < BOUND
+        for t in self.tasks.values():
+            assert t.v < BOUND
+            assert self.sib[t.home].online or not t.queued
+        assert self.count == 0 or self.occupation != 0, 'L5'
+        assert self.start is None or (self.count != 0 and self.core != 0)
+        assert len(self.tasks) <= self.s.limit
+        assert len({t.cookie for t in self.tasks.values() if t.cookie}) <= self.s.cookies
+
+    def drain(self):
+        bound = self.n * self.n
+        while True:
+            pending = [x.i for x in self.sib if x.online and x.pending]
+            if not pending:
+                break
+            ready = [i for i in pending if self.would_adopt(i)]
+            i = (ready or pending)[0]
+            self.apply(('resched', i), 'end resched %d' % i)
+            self.stats['drain entry'] += 1
+            bound -= 1
+            assert bound >= 0, 'L7'
+
+    # ---- output
+
+    def check_end(self):
+        assert self.task_number == sum(self.touches), 'D11 task number'
+        if self.last_selected is None:
+            assert self.pick_number == 0
+        else:
+            assert self.pick_number == sum(self.touches[:self.last_selected + 1]), 'D11 pick number'
+        totals = Counter()
+        for frm, to, count, occ, who in self.intervals:
+            delta = to - frm
+            share = delta if count <= 1 and occ <= 1 else delta * count // occ
+            for pid in who:
+                totals[pid] += share
+        for t in list(self.tasks.values()) + self.ended:
+            assert t.total == totals[t.pid], 'L6'
+
+    def report(self):
+        out = ['report', 'clock %d' % self.clock, 'numbers %d %d' % (self.task_number, self.pick_number),
+               'core %d forced %d occupation %d' % (self.core, self.count, self.occupation),
+               'intervals %d' % len(self.intervals)]
+        for x in self.sib:
+            out.append('cpu %d %s runs %s number %d' % (
+                x.i, 'online' if x.online else 'offline', 'idle' if x.run is None else x.run.pid, x.number))
+        for pid in sorted(self.tasks):
+            t = self.tasks[pid]
+            out.append('task %d cpu %d %s cookie %d forced %d vtime %d' % (
+                pid, t.home, 'queued' if t.queued else 'asleep', t.cookie, t.total, t.v))
+        for t in self.ended:
+            out.append('ended %d forced %d' % (t.pid, t.total))
+        for k in range(self.guards):
+            out.append('guard %d bench asked 0' % k)
+        out.append('done')
+        return out
+
+
+def reply_kind(reply):
+    words = reply.split()
+    if words[0] in ('Slept', 'Ended'):
+        return words[0]
+    if words[0] == 'Ticked':
+        return reply
+    if words[0] == '0':
+        return '0 value' if len(words) > 1 else '0'
+    return words[0]
+
+
+def output(s, stage='r7', guards=0, stats=None, check=True, done=True):
+    room = Room(s, stage, guards, stats, check)
+    for _, event, text in s.steps:
+        room.apply(event, text)
+    if stage == 'r7':
+        room.drain()
+        assert not any(x.online and x.pending for x in room.sib)
+    room.check_end()
+    out = list(room.entries)
+    if stage in ('r6', 'r7'):
+        out += room.report()
+    elif done:
+        out.append('done')
+    return ''.join(line + '\n' for line in out).encode()
+
+
+def replay(data, stage='r7', guards=0, stats=None, check=True, done=True, faults='kinds'):
+    """(status, standard output, standard error) of `coresched replay`."""
+    try:
+        s = read(data, stage)
+    except TooLong:
+        return 2, b'', b'coresched: input too long\n'
+    except Bad as e:
+        line, kind = (e.line, e.kind) if faults == 'kinds' else (0, 'Unbuilt')
+        return 2, b'', ('coresched: line %d: %s\n' % (line, kind)).encode()
+    return 0, output(s, stage, guards, stats, check, done), b''
+
+
+def main():
+    import argparse
+    p = argparse.ArgumentParser()
+    p.add_argument('--stage', default='r7', choices=['r4', 'r5', 'r6', 'r7'])
+    p.add_argument('--guards', type=int, default=0)
+    p.add_argument('--faults', default='kinds', choices=['kinds', 'unbuilt'])
+    p.add_argument('--no-done', action='store_true', help='stage r5: no line `done` after the entries')
+    a = p.parse_args()
+    status, out, err = replay(sys.stdin.buffer.read(MAX_INPUT + 1), a.stage, a.guards, None, True,
+                              not a.no_done, a.faults)
+    sys.stdout.buffer.write(out)
+    sys.stdout.buffer.flush()
+    sys.stderr.buffer.write(err)
+    sys.exit(status)
+
+
+if __name__ == '__main__':
+    main()
