@@ -385,6 +385,12 @@ LINES = [b'', b' ', b'end', b'end ', b' end', b'End', b'end\r', b'task', b'step'
          b'budget 1 1 1', b'#', b'\x00', b'\xff\xfe', b'user']
 
 
+def line_of(rng, data):
+    """The lines of a text, and the place of one of them, often an early one."""
+    lines = data.split(b'\n')
+    return lines, rng.randrange(len(lines)) if rng.random() < .6 else rng.randrange(min(len(lines), 12))
+
+
 def mutate(rng, data, stage):
     for _ in range(rng.choice([1, 1, 1, 2, 3])):
         kind = rng.randrange(20)
@@ -405,8 +411,7 @@ def mutate(rng, data, stage):
             else:
                 data = data[:i] + data[i + 1:i + 2] + data[i:i + 1] + data[i + 2:]
         elif kind <= 9:         # words
-            lines = data.split(b'\n')
-            li = rng.randrange(len(lines)) if rng.random() < .6 else rng.randrange(min(len(lines), 12))
+            lines, li = line_of(rng, data)
             words = lines[li].split(b' ')
             wi = rng.randrange(len(words))
             how = rng.randrange(7)
@@ -441,8 +446,7 @@ def mutate(rng, data, stage):
                 else:
                     data = data[:i] + data[i + 1:]
         elif kind <= 16:        # lines
-            lines = data.split(b'\n')
-            li = rng.randrange(len(lines)) if rng.random() < .6 else rng.randrange(min(len(lines), 12))
+            lines, li = line_of(rng, data)
             how = rng.randrange(5)
             if how == 0:
                 del lines[li]

@@ -1,5 +1,5 @@
 #!/usr/bin/env python3
-"""The rules of coresched once more, in Python over plain lists, written apart from the program.
+"""The rules of coresched once more, in Python over plain lists. It shares no code with the program.
 
 Usage: reference.py [--stage r4|r5|r6|r7] [--guards N] [--faults kinds|unbuilt] [--no-done] < SCENARIO
 
@@ -622,36 +622,39 @@ class Room:
             return 'Offline'
         return self.schedule(i)
 
-    def do_block(self, i):
+    def refusal(self, i):
+        """Why a task cannot leave sibling i, None where one can."""
         x = self.sib[i]
-        if not x.online:
-            return 'Offline'
-        if x.run is None:
-            return 'Idle'
+        return 'Offline' if not x.online else 'Idle' if x.run is None else None
+
+    def leave(self, i):
+        """The running task of i leaves its queue, once the open interval is charged."""
+        x = self.sib[i]
         t = x.run
         self.charge()
         self.dequeue(t)
         self.note_touches += 1
         self.dirty = True
         x.run = None
+        return t
+
+    def do_block(self, i):
+        refusal = self.refusal(i)
+        if refusal:
+            return refusal
+        t = self.leave(i)
         return 'Slept %d %s' % (t.pid, self.schedule(i))
 
     def do_exit(self, i):
-        x = self.sib[i]
-        if not x.online:
-            return 'Offline'
-        if x.run is None:
-            return 'Idle'
-        t = x.run
+        refusal = self.refusal(i)
+        if refusal:
+            return refusal
+        t = self.sib[i].run
         if t.tgid == t.pid and any(u.tgid == t.pid and u is not t for u in self.tasks.values()):
             return 'HasThreads'
-        self.charge()
-        self.dequeue(t)
-        self.note_touches += 1
-        self.dirty = True
+        self.leave(i)
         del self.tasks[t.pid]
         self.ended.append(t)
-        x.run = None
         return 'Ended %d %s' % (t.pid, self.schedule(i))
 
     def do_tick(self, i):

@@ -4,6 +4,39 @@
 //! proved twice.
 #![tactic(auto)]
 
+/// The report of these lines, which stand between its first and its last.
+#[cfg(test)]
+macro_rules! report_of {
+    ($($line:literal),+ $(,)?) => {
+        concat!("report\n", $($line, "\n",)+ "done\n")
+    };
+}
+
+/// The script of this many siblings, of these limits, of these tasks, of these steps, each with its
+/// reply, and of the lines of this report. A task is its pid, its policy and its sibling. It leads its
+/// own groups, and all are one user's.
+#[cfg(test)]
+macro_rules! script {
+    (
+        $siblings:literal,
+        $limits:literal,
+        [$(($pid:literal, $policy:literal, $cpu:literal)),* $(,)?],
+        [$(($step:literal, $reply:literal)),* $(,)?],
+        [$($line:literal),+ $(,)?] $(,)?
+    ) => {
+        Script {
+            text: concat!(
+                "coresched 1\nsiblings ", $siblings, "\nlimits ", $limits, "\n",
+                $("task ", $pid, " ", $pid, " ", $pid, " ", $cpu, " ", $policy, " 1000 1000 1000 1000 1000 1000 0 1 1\n",)*
+                $("step ", $step, "\n",)*
+                "end\n"
+            ),
+            entries: concat!($($step, ": ", $reply, "\n",)*),
+            report: report_of!($($line),+),
+        }
+    };
+}
+
 #[cfg(test)]
 mod commands;
 #[cfg(test)]
@@ -20,3 +53,5 @@ mod parts;
 mod queues;
 #[cfg(test)]
 mod scenarios;
+#[cfg(test)]
+mod scripts;
