@@ -1,6 +1,6 @@
 -- Accounts: how the recorded intervals and the totals go on by one entry, and how far they come in a history.
 use Rattle.std.proofs.Common.{◌≡◌, ℕ, ◌+◌, ◌-◌, ◌*◌, ◌/◌, ◌≤◌, Bool, true, false, cond, not, ltb, eqb, List, [], ◌∷◌, ◌++◌, length, refl, sym, ap, ◌∙◌, subst, Option, Some, None, arith}
-use Rattle.std.specs.Prelude.{◌||◌, filter, sum_by, unwrap_or}
+use Rattle.std.specs.Prelude.{◌==◌, ◌||◌, filter, sum_by, unwrap_or}
 use Rattle.std.specs.List.{filter_map, range_with_len}
 use Rattle.std.specs.Option.{option_map}
 use Rattle.std.proofs.Math.Nat.{div-le_self}
@@ -10,11 +10,12 @@ use Rattle.std.proofs.lemmas.List.Filters.{length-filter_both}
 use Rattle.std.proofs.lemmas.List.{length-replicate}
 use Rattle.std.proofs.lemmas.List.FromFn.{length-range_with_len}
 use Rattle.cs_types.specs.declared.task.Task.{Task}
+use Rattle.cs_types.specs.declared.task.Policy.{Policy}
 use Rattle.cs_types.specs.declared.event.Event.{Event}
-use Rattle.cs_types.specs.declared.event.Event.TheVariants.{Turn, Resched, Block, Exit, Tick, Wake, Advance, Fork, Prctl}
+use Rattle.cs_types.specs.declared.event.Event.TheVariants.{Turn, Resched, Block, Exit, Tick, Wake, Advance, Fork, Prctl, SetSched, Offline, Online}
 use Rattle.cs_types.specs.declared.event.Ask.{Ask}
 use Rattle.cs_types.specs.declared.reply.Reply.{Reply}
-use Rattle.cs_types.specs.declared.reply.Reply.TheVariants.{Picked, Ended, Now, Zero}
+use Rattle.cs_types.specs.declared.reply.Reply.TheVariants.{Zero}
 use Rattle.cs_types.specs.declared.reply.Entry.{Entry}
 use Rattle.cs_types.specs.declared.event.Step.{Step}
 use Rattle.cs_types.specs.declared.scenario.Scenario.{Scenario}
@@ -22,11 +23,14 @@ use Rattle.cs_types.specs.Room.{RoomState, idle, is_online, online, sibling_of, 
 use Rattle.cs_types.specs.Selection.{Scheduled, choice, is_forced, forced_count, lead_from, cookie_of, selected_room, selected, plain, is_plain, rescheduled, scheduled, schedule}
 use Rattle.cs_types.specs.Accounting.{Interval, share, charges, total_of, charged, up_to_now, open_interval, closes, is_charging, interval_by, accounted}
 use Rattle.cs_types.specs.Time.{advanced}
-use Rattle.cs_types.specs.Prctl.{Row, first_answer, rows_before_making, rows_after_making, Setting, setting_of, makes_cookie, with_made, with_answer, prctl_answer, prctl_room}
-use Rattle.cs_types.specs.Step.{Stepped, step, woken, turned, blocked, exited, forked, may_not_fork, ticked, dequeued, without, has_threads, idled}
+use Rattle.cs_types.specs.Prctl.{Row, first_answer, rows_before_making, rows_after_making, Setting, setting_of, makes_cookie, with_made, with_answer, prctl_answer}
+use Rattle.cs_types.specs.Step.{Stepped, step, woken, turned, blocked, exited, forked, may_not_fork, ticked, without, has_threads, idled, tried, unless_offline, set_policy, taken_offline, brought_online}
+use Rattle.cs_types.specs.Queueing.{dequeued}
+use Rattle.cs_types.specs.Steal.{stolen}
+use Rattle.cs_types.specs.Hotplug.{without_sibling}
 use Rattle.cs_types.specs.Touches.{Noted, Ledger, noted, intervals_of, is_fresh}
 use Rattle.cs_types.specs.History.{History, Moment, beginning, next, after, moment_of, ledger_of, entry_of, made_from, history_of}
-use Rattle.cs_types.proofs.Siblings.{onlines-step, onlines-idled, onlines-without, length-alike}
+use Rattle.cs_types.proofs.Siblings.{length-step, kept-idled, kept-without, length-alike}
 
 -- ---- one interval more
 
@@ -86,22 +90,22 @@ pub record IsOpen (most : ℕ) (room : RoomState) : Type 0 where
   pub started : charged_up_to room ≤ room.clock
   pub few : room.forced ≤ most
 
--- what a reply and the room after it make of the open interval
-pub record Accounts (most : ℕ) (old : RoomState) (reply : Reply) (new : RoomState) : Type 0 where
+-- what an entry that charges or not, and the room after it, make of the open interval
+pub record Accounts (most : ℕ) (old : RoomState) (charges : Bool) (new : RoomState) : Type 0 where
   pub opened : IsOpen most new
   -- what charges has charged up to now
-  pub charging : is_charging reply ≡ true → charged_up_to new ≡ old.clock
+  pub charging : charges ≡ true → charged_up_to new ≡ old.clock
   -- what does not leaves it
   pub other : charged_up_to old ≤ charged_up_to new
 
 -- the same of a step that was made
-abbrev pub StepAccounts : ℕ → RoomState → Stepped → Type 0
-StepAccounts most room made = Accounts most room made.reply made.room
+abbrev pub StepAccounts : ℕ → RoomState → Event → Stepped → Type 0
+StepAccounts most room event made = Accounts most room (is_charging event made.reply) made.room
 
 -- a step that leaves the clock, the interval and the counts, and does not charge
-unchanged : (most : ℕ) (old : RoomState) (reply : Reply) (new : RoomState) → IsOpen most old → is_charging reply ≡ false →
-    new.started ≡ old.started → new.clock ≡ old.clock → new.forced ≡ old.forced → Accounts most old reply new
-unchanged most old reply new opened free started clock forced =
+unchanged : (most : ℕ) (old : RoomState) (charges : Bool) (new : RoomState) → IsOpen most old → charges ≡ false →
+    new.started ≡ old.started → new.clock ≡ old.clock → new.forced ≡ old.forced → Accounts most old charges new
+unchanged most old charges new opened free started clock forced =
     let same : charged_up_to new ≡ charged_up_to old = λ i. unwrap_or (started i) (clock i) in
     record {
       opened = record { started = omega (arith, same, clock, opened.started); few = omega (arith, forced, opened.few) };
@@ -141,7 +145,7 @@ unfolding selected_room
 forced-selected room cpu = forced_count-le room (cookie_of (lead_from room cpu))
 
 accounts-selected : (most : ℕ) (room : RoomState) (cpu : ℕ) → length room.siblings ≤ most → IsOpen most room →
-    Accounts most room (Picked (selected room cpu).pick) (selected room cpu).room
+    Accounts most room (closes (selected room cpu).pick.kind) (selected room cpu).room
 accounts-selected most room cpu few opened =
     record {
       opened = record { started = omega (arith, now-selected room cpu, clock-selected room cpu); few = omega (arith, forced-selected room cpu, few) };
@@ -150,69 +154,78 @@ accounts-selected most room cpu few opened =
     }
 
 accounts-rescheduled : (most : ℕ) (room : RoomState) (cpu : ℕ) → length room.siblings ≤ most → IsOpen most room →
-    Accounts most room (Picked (rescheduled room cpu).pick) (rescheduled room cpu).room
+    Accounts most room (closes (rescheduled room cpu).pick.kind) (rescheduled room cpu).room
 accounts-rescheduled most room cpu few opened =
-    cond_both (is_plain room cpu) (plain room cpu) (selected room cpu) (λ (made : Scheduled). Accounts most room (Picked made.pick) made.room)
+    cond_both (is_plain room cpu) (plain room cpu) (selected room cpu) (λ (made : Scheduled). Accounts most room (closes made.pick.kind) made.room)
     (λ _. record { opened = record { started = omega arith; few = omega arith }; charging = λ _. refl; other = omega (arith, opened.started) })
     (λ _. accounts-selected most room cpu few opened)
 
 accounts-scheduled : (most : ℕ) (room : RoomState) (fresh : Bool) (cpu : ℕ) (waiting : Option (Option ℕ)) → length room.siblings ≤ most → IsOpen most room →
-    Accounts most room (Picked (scheduled room fresh cpu waiting).pick) (scheduled room fresh cpu waiting).room
+    Accounts most room (closes (scheduled room fresh cpu waiting).pick.kind) (scheduled room fresh cpu waiting).room
 accounts-scheduled most room fresh cpu None few opened = accounts-rescheduled most room cpu few opened
 accounts-scheduled most room true cpu (Some run) few opened =
-    unchanged most room (Picked (scheduled room true cpu (Some run)).pick) (scheduled room true cpu (Some run)).room opened refl refl refl refl
+    unchanged most room false (scheduled room true cpu (Some run)).room opened refl refl refl refl
 accounts-scheduled most room false cpu (Some run) few opened = accounts-rescheduled most room cpu few opened
 
 accounts-schedule : (most : ℕ) (room : RoomState) (fresh : Bool) (cpu : ℕ) → length room.siblings ≤ most → IsOpen most room →
-    Accounts most room (Picked (schedule room fresh cpu).pick) (schedule room fresh cpu).room
-accounts-schedule most room fresh cpu few opened = accounts-scheduled most room fresh cpu (sibling_of room cpu).waiting few opened
+    Accounts most room (closes (schedule room fresh cpu).pick.kind) (schedule room fresh cpu).room
+accounts-schedule most room fresh cpu few opened =
+    let made = accounts-scheduled most room fresh cpu (sibling_of room cpu).waiting few opened in
+    record { opened = record { started = made.opened.started; few = made.opened.few }; charging = made.charging; other = made.other }
 
 -- a sibling whose task went schedules, and adopts nothing; the entry charges whatever the pick is
-accounts-after : (most : ℕ) (old room : RoomState) (reply : Reply) (cpu : ℕ) → is_charging reply ≡ true → room.clock ≡ old.clock → length room.siblings ≤ most →
-    IsOpen most old → IsOpen most room → Accounts most old reply (schedule room false cpu).room
-accounts-after most old room reply cpu charges clock few was opened = go (sibling_of room cpu).waiting where
-  by_schedule : Accounts most old reply (rescheduled room cpu).room
-  by_schedule =
-      let made = accounts-rescheduled most room cpu few opened in
-      let now = now-rescheduled room cpu ∙ clock in
-      record { opened = made.opened; charging = λ _. now; other = omega (arith, now, was.started) }
+accounts-after : (most : ℕ) (old room : RoomState) (charges : Bool) (cpu : ℕ) → room.clock ≡ old.clock → length room.siblings ≤ most →
+    IsOpen most old → IsOpen most room → Accounts most old charges (schedule room false cpu).room
+accounts-after most old room charges cpu clock few was opened =
+    let made = go (sibling_of room cpu).waiting in
+    record { opened = record { started = made.opened.started; few = made.opened.few }; charging = made.charging; other = made.other } where
+      by_schedule : Accounts most old charges (rescheduled room cpu).room
+      by_schedule =
+          let made = accounts-rescheduled most room cpu few opened in
+          let now = now-rescheduled room cpu ∙ clock in
+          record { opened = made.opened; charging = λ _. now; other = omega (arith, now, was.started) }
 
-  go : (waiting : Option (Option ℕ)) → Accounts most old reply (scheduled room false cpu waiting).room
-  go None = by_schedule
-  go (Some run) = by_schedule
+      go : (waiting : Option (Option ℕ)) → Accounts most old charges (scheduled room false cpu waiting).room
+      go None = by_schedule
+      go (Some run) = by_schedule
 
 -- ---- each event
 
-accounts-turned : (most : ℕ) (room : RoomState) (fresh : Bool) (cpu : ℕ) → length room.siblings ≤ most → IsOpen most room → StepAccounts most room (turned room fresh cpu)
-accounts-turned most room fresh cpu few opened =
-    cond_both (sibling_of room cpu).pending _ _ (StepAccounts most room) (λ _. accounts-schedule most room fresh cpu few opened)
-    (λ _. unchanged most room _ room opened refl refl refl refl)
+accounts-tried : (most : ℕ) (room : RoomState) (cpu : ℕ) (task : Option Task) → IsOpen most room → StepAccounts most room (Turn cpu) (tried room cpu task)
+accounts-tried most room cpu None opened = unchanged most room false _ opened refl refl refl refl
+accounts-tried most room cpu (Some task) opened = unchanged most room false _ opened refl refl refl refl
 
-accounts-blocked : (most : ℕ) (room : RoomState) (cpu : ℕ) (task : Option Task) → length room.siblings ≤ most → IsOpen most room → StepAccounts most room (blocked room cpu task)
+accounts-turned : (most : ℕ) (room : RoomState) (fresh : Bool) (cpu : ℕ) → length room.siblings ≤ most → IsOpen most room → StepAccounts most room (Turn cpu) (turned room fresh cpu)
+accounts-turned most room fresh cpu few opened =
+    cond_both (sibling_of room cpu).pending _ _ (StepAccounts most room (Turn cpu)) (λ _. accounts-schedule most room fresh cpu few opened)
+    (λ _. cond_both ((sibling_of room cpu).place == 0) _ _ (StepAccounts most room (Turn cpu)) (λ _. unchanged most room _ room opened refl refl refl refl)
+    (λ _. accounts-tried most room cpu (stolen room cpu) opened))
+
+accounts-blocked : (most : ℕ) (room : RoomState) (cpu : ℕ) (task : Option Task) → length room.siblings ≤ most → IsOpen most room → StepAccounts most room (Block cpu) (blocked room cpu task)
 accounts-blocked most room cpu None few opened = unchanged most room _ room opened refl refl refl refl
 accounts-blocked most room cpu (Some task) few opened =
     let mid = idled (dequeued room task) cpu in
-    accounts-after most room mid (blocked room cpu (Some task)).reply cpu refl refl
-    (subst (λ n. n ≤ most) (sym (length-alike mid room (onlines-idled room cpu task))) few) opened (record { started = opened.started; few = opened.few })
+    accounts-after most room mid true cpu refl
+    (subst (λ n. n ≤ most) (sym (length-alike mid room (kept-idled room cpu task))) few) opened (record { started = opened.started; few = opened.few })
 
-accounts-exited : (most : ℕ) (room : RoomState) (cpu : ℕ) (task : Option Task) → length room.siblings ≤ most → IsOpen most room → StepAccounts most room (exited room cpu task)
+accounts-exited : (most : ℕ) (room : RoomState) (cpu : ℕ) (task : Option Task) → length room.siblings ≤ most → IsOpen most room → StepAccounts most room (Exit cpu) (exited room cpu task)
 accounts-exited most room cpu None few opened = unchanged most room _ room opened refl refl refl refl
 accounts-exited most room cpu (Some task) few opened =
     let mid = idled (without room task) cpu in
-    cond_both (has_threads room task) _ _ (StepAccounts most room) (λ _. unchanged most room _ room opened refl refl refl refl)
-    (λ _. accounts-after most room mid (Ended task.spec.pid (schedule mid false cpu).pick) cpu refl refl
-    (subst (λ n. n ≤ most) (sym (length-alike mid room (onlines-without room cpu task))) few) opened (record { started = opened.started; few = opened.few }))
+    cond_both (has_threads room task) _ _ (StepAccounts most room (Exit cpu)) (λ _. unchanged most room _ room opened refl refl refl refl)
+    (λ _. accounts-after most room mid true cpu refl
+    (subst (λ n. n ≤ most) (sym (length-alike mid room (kept-without room cpu task))) few) opened (record { started = opened.started; few = opened.few }))
 
-accounts-woken : (most : ℕ) (room : RoomState) (task : Option Task) → IsOpen most room → StepAccounts most room (woken room task)
-accounts-woken most room None opened = unchanged most room _ room opened refl refl refl refl
-accounts-woken most room (Some task) opened =
-    cond_both task.queued _ _ (StepAccounts most room) (λ _. unchanged most room _ room opened refl refl refl refl)
+accounts-woken : (most : ℕ) (room : RoomState) (pid : ℕ) (task : Option Task) → IsOpen most room → StepAccounts most room (Wake pid) (woken room task)
+accounts-woken most room pid None opened = unchanged most room _ room opened refl refl refl refl
+accounts-woken most room pid (Some task) opened =
+    cond_both task.queued _ _ (StepAccounts most room (Wake pid)) (λ _. unchanged most room _ room opened refl refl refl refl)
     (λ _. unchanged most room _ _ opened refl refl refl refl)
 
-accounts-forked : (most : ℕ) (room : RoomState) (thread : Bool) (caller : Option Task) → IsOpen most room → StepAccounts most room (forked room thread caller)
-accounts-forked most room thread None opened = unchanged most room _ room opened refl refl refl refl
-accounts-forked most room thread (Some caller) opened =
-    cond_both (may_not_fork room caller) _ _ (StepAccounts most room) (λ _. unchanged most room _ room opened refl refl refl refl)
+accounts-forked : (most : ℕ) (room : RoomState) (pid : ℕ) (thread : Bool) (caller : Option Task) → IsOpen most room → StepAccounts most room (Fork pid thread) (forked room thread caller)
+accounts-forked most room pid thread None opened = unchanged most room _ room opened refl refl refl refl
+accounts-forked most room pid thread (Some caller) opened =
+    cond_both (may_not_fork room caller) _ _ (StepAccounts most room (Fork pid thread)) (λ _. unchanged most room _ room opened refl refl refl refl)
     (λ _. unchanged most room _ _ opened refl refl refl refl)
 
 -- an interval that goes on from now has been charged up to now
@@ -220,7 +233,7 @@ now-accounted : (started : Option ℕ) (clock : ℕ) → unwrap_or (option_map (
 now-accounted None clock = refl
 now-accounted (Some start) clock = refl
 
-accounts-ticked : (most : ℕ) (room : RoomState) (cpu : ℕ) (task : Option Task) → IsOpen most room → StepAccounts most room (ticked room cpu task)
+accounts-ticked : (most : ℕ) (room : RoomState) (cpu : ℕ) (task : Option Task) → IsOpen most room → StepAccounts most room (Tick cpu) (ticked room cpu task)
 accounts-ticked most room cpu None opened =
     let now = now-accounted room.started room.clock in
     record { opened = record { started = omega (arith, now); few = opened.few }; charging = λ _. now; other = omega (arith, now, opened.started) }
@@ -229,7 +242,7 @@ accounts-ticked most room cpu (Some task) opened =
     record { opened = record { started = omega (arith, now); few = opened.few }; charging = λ _. now; other = omega (arith, now, opened.started) }
 
 -- time that goes on lengthens the open interval
-accounts-advanced : (most : ℕ) (room : RoomState) (delta : ℕ) → IsOpen most room → Accounts most room (Now (room.clock + delta)) (advanced room delta)
+accounts-advanced : (most : ℕ) (room : RoomState) (delta : ℕ) → IsOpen most room → Accounts most room false (advanced room delta)
 unfolding advanced
 accounts-advanced most room delta opened = by_start room.started refl where
   longer : (started : Option ℕ) → unwrap_or started room.clock ≤ room.clock → unwrap_or started (room.clock + delta) ≤ room.clock + delta
@@ -240,24 +253,24 @@ accounts-advanced most room delta opened = by_start room.started refl where
   later None = omega arith
   later (Some start) = omega arith
 
-  by_start : (started : Option ℕ) → room.started ≡ started → Accounts most room (Now (room.clock + delta)) (advanced room delta)
+  by_start : (started : Option ℕ) → room.started ≡ started → Accounts most room false (advanced room delta)
   by_start started is =
       record { opened = record { started = longer room.started opened.started; few = opened.few }; charging = λ yes. absurd cc; other = later room.started }
 
 -- no answer of a call charges
-abbrev pub ChargeNothing : List Row → Type 0
-ChargeNothing [] = Unit {0}
-ChargeNothing (row ∷ rows) = (is_charging row.answer ≡ false) × ChargeNothing rows
+abbrev pub ChargeNothing : Event → List Row → Type 0
+ChargeNothing event [] = Unit {0}
+ChargeNothing event (row ∷ rows) = (is_charging event row.answer ≡ false) × ChargeNothing event rows
 
-first_answer_charges_nothing : (rows : List Row) → ChargeNothing rows → is_charging (first_answer rows) ≡ false
-first_answer_charges_nothing [] none = refl
-first_answer_charges_nothing (row ∷ rows) none =
-    cond_both row.holds row.answer (first_answer rows) (λ answer. is_charging answer ≡ false) (λ _. none.0) (λ _. first_answer_charges_nothing rows none.1)
+first_answer_charges_nothing : (event : Event) (rows : List Row) → ChargeNothing event rows → is_charging event (first_answer rows) ≡ false
+first_answer_charges_nothing event [] none = refl
+first_answer_charges_nothing event (row ∷ rows) none =
+    cond_both row.holds row.answer (first_answer rows) (λ answer. is_charging event answer ≡ false) (λ _. none.0) (λ _. first_answer_charges_nothing event rows none.1)
 
-prctl_charges_nothing : (room : RoomState) (caller : ℕ) (ask : Ask) → is_charging (prctl_answer room caller ask) ≡ false
+prctl_charges_nothing : (room : RoomState) (caller : ℕ) (ask : Ask) → is_charging (Prctl caller ask) (prctl_answer room caller ask) ≡ false
 unfolding rows_before_making rows_after_making
 prctl_charges_nothing room caller ask =
-    first_answer_charges_nothing (rows_before_making room caller ask ++ rows_after_making room caller ask)
+    first_answer_charges_nothing (Prctl caller ask) (rows_before_making room caller ask ++ rows_after_making room caller ask)
     (refl, (refl, (refl, (refl, (refl, (refl, (refl, (refl, (refl, (refl, (refl, (refl, (refl, tt)))))))))))))
 
 -- a call leaves the clock and the interval
@@ -270,21 +283,47 @@ leaves-with_answer : (room : RoomState) (set : Setting) (answer : Reply) → Lea
 leaves-with_answer room set Zero = record { started = refl; clock = refl; forced = refl }
 leaves-with_answer room set answer = record { started = refl; clock = refl; forced = refl }
 
-accounts-prctl : (most : ℕ) (room : RoomState) (caller : ℕ) (ask : Ask) → IsOpen most room → Accounts most room (prctl_answer room caller ask) (prctl_room room caller ask)
+accounts-prctl : (most : ℕ) (room : RoomState) (caller : ℕ) (ask : Ask) → IsOpen most room → StepAccounts most room (Prctl caller ask) (step room false (Prctl caller ask))
 accounts-prctl most room caller ask opened =
     let leaves = leaves-with_answer (with_made room (makes_cookie room caller ask)) (setting_of room caller ask) (prctl_answer room caller ask) in
     unchanged most room _ _ opened (prctl_charges_nothing room caller ask) leaves.started leaves.clock leaves.forced
 
-accounts_step : (most : ℕ) (room : RoomState) (fresh : Bool) (event : Event) → length room.siblings ≤ most → IsOpen most room → StepAccounts most room (step room fresh event)
-accounts_step most room fresh (Turn cpu) few opened = accounts-turned most room fresh cpu few opened
-accounts_step most room fresh (Resched cpu) few opened = accounts-schedule most room fresh cpu few opened
-accounts_step most room fresh (Block cpu) few opened = accounts-blocked most room cpu (running_on room cpu) few opened
-accounts_step most room fresh (Exit cpu) few opened = accounts-exited most room cpu (running_on room cpu) few opened
-accounts_step most room fresh (Tick cpu) few opened = accounts-ticked most room cpu (running_on room cpu) opened
-accounts_step most room fresh (Wake pid) few opened = accounts-woken most room (task_of room pid) opened
+accounts-unless_offline : (most : ℕ) (room : RoomState) (event : Event) (cpu : ℕ) (stepped : Stepped) → IsOpen most room → StepAccounts most room event stepped →
+    StepAccounts most room event (unless_offline room cpu stepped)
+accounts-unless_offline most room event cpu stepped opened made =
+    cond_both (is_online room cpu) _ _ (StepAccounts most room event) (λ _. made) (λ _. unchanged most room false room opened refl refl refl refl)
+
+accounts-set_policy : (most : ℕ) (room : RoomState) (pid : ℕ) (policy : Policy) (task : Option Task) → IsOpen most room → StepAccounts most room (SetSched pid policy) (set_policy room policy task)
+accounts-set_policy most room pid policy None opened = unchanged most room false room opened refl refl refl refl
+accounts-set_policy most room pid policy (Some task) opened =
+    cond_both task.queued _ _ (Accounts most room false) (λ _. unchanged most room false _ opened refl refl refl refl) (λ _. unchanged most room false _ opened refl refl refl refl)
+
+-- a sibling that leaves has charged up to now
+accounts-taken_offline : (most : ℕ) (room : RoomState) (cpu : ℕ) → IsOpen most room → StepAccounts most room (Offline cpu) (taken_offline room cpu)
+unfolding without_sibling
+accounts-taken_offline most room cpu opened =
+    cond_both (not (is_online room cpu)) _ _ (StepAccounts most room (Offline cpu)) (λ _. unchanged most room false room opened refl refl refl refl)
+    (λ _. cond_both (length (online room) == 1) _ _ (StepAccounts most room (Offline cpu)) (λ _. unchanged most room false room opened refl refl refl refl)
+    (λ _. record { opened = record { started = omega arith; few = omega arith }; charging = λ _. refl; other = omega (arith, opened.started) }))
+
+accounts-brought_online : (most : ℕ) (room : RoomState) (cpu : ℕ) → IsOpen most room → StepAccounts most room (Online cpu) (brought_online room cpu)
+accounts-brought_online most room cpu opened =
+    cond_both (is_online room cpu) _ _ (StepAccounts most room (Online cpu)) (λ _. unchanged most room false room opened refl refl refl refl)
+    (λ _. unchanged most room false _ opened refl refl refl refl)
+
+accounts_step : (most : ℕ) (room : RoomState) (fresh : Bool) (event : Event) → length room.siblings ≤ most → IsOpen most room → StepAccounts most room event (step room fresh event)
+accounts_step most room fresh (Turn cpu) few opened = accounts-unless_offline most room (Turn cpu) cpu _ opened (accounts-turned most room fresh cpu few opened)
+accounts_step most room fresh (Resched cpu) few opened = accounts-unless_offline most room (Resched cpu) cpu _ opened (accounts-schedule most room fresh cpu few opened)
+accounts_step most room fresh (Block cpu) few opened = accounts-unless_offline most room (Block cpu) cpu _ opened (accounts-blocked most room cpu (running_on room cpu) few opened)
+accounts_step most room fresh (Exit cpu) few opened = accounts-unless_offline most room (Exit cpu) cpu _ opened (accounts-exited most room cpu (running_on room cpu) few opened)
+accounts_step most room fresh (Tick cpu) few opened = accounts-unless_offline most room (Tick cpu) cpu _ opened (accounts-ticked most room cpu (running_on room cpu) opened)
+accounts_step most room fresh (Wake pid) few opened = accounts-woken most room pid (task_of room pid) opened
 accounts_step most room fresh (Advance delta) few opened = accounts-advanced most room delta opened
-accounts_step most room fresh (Fork caller thread) few opened = accounts-forked most room thread (task_of room caller) opened
+accounts_step most room fresh (Fork caller thread) few opened = accounts-forked most room caller thread (task_of room caller) opened
 accounts_step most room fresh (Prctl caller ask) few opened = accounts-prctl most room caller ask opened
+accounts_step most room fresh (SetSched pid policy) few opened = accounts-set_policy most room pid policy (task_of room pid) opened
+accounts_step most room fresh (Offline cpu) few opened = accounts-taken_offline most room cpu opened
+accounts_step most room fresh (Online cpu) few opened = accounts-brought_online most room cpu opened
 
 -- ---- how far the totals come
 
@@ -317,9 +356,9 @@ owed-le most pid room some opened = go room.started where
 
 -- how a total goes on by one entry
 total-next : (pid : ℕ) (moment : Moment) (entry : Entry) →
-    total_of pid (intervals_of (next moment entry).ledger) ≡ total_of pid (intervals_of moment.ledger) + owed pid (interval_by moment.room entry.reply)
+    total_of pid (intervals_of (next moment entry).ledger) ≡ total_of pid (intervals_of moment.ledger) + owed pid (interval_by moment.room entry.event entry.reply)
 total-next pid moment entry =
-    ap (total_of pid) (intervals_of-cons (noted moment.room entry) moment.ledger) ∙ total_of-noted pid (interval_by moment.room entry.reply) (intervals_of moment.ledger)
+    ap (total_of pid) (intervals_of-cons (noted moment.room entry) moment.ledger) ∙ total_of-noted pid (interval_by moment.room entry.event entry.reply) (intervals_of moment.ledger)
 
 more_time : (most a b : ℕ) → a ≤ b → most * a + most * (b - a) ≡ most * b
 more_time most a b le = grind (arith)
@@ -334,13 +373,13 @@ accounted_next most moment entry some few legal accounted =
     let now = (next moment entry).room in
     let made = accounts_step most room (is_fresh moment.ledger) entry.event few accounted.opened in
     record {
-      totals = λ pid. subst (λ n. n ≤ most * charged_up_to now) (sym (total-next pid moment entry)) (by_reply pid made (is_charging entry.reply) refl);
+      totals = λ pid. subst (λ n. n ≤ most * charged_up_to now) (sym (total-next pid moment entry)) (by_reply pid made (is_charging entry.event entry.reply) refl);
       opened = made.opened;
     } where
-      by_reply : (pid : ℕ) → StepAccounts most moment.room (step moment.room (is_fresh moment.ledger) entry.event) → (b : Bool) → is_charging entry.reply ≡ b →
-          total_of pid (intervals_of moment.ledger) + owed pid (cond (is_charging entry.reply) (open_interval moment.room) None) ≤ most * charged_up_to (next moment entry).room
+      by_reply : (pid : ℕ) → StepAccounts most moment.room entry.event (step moment.room (is_fresh moment.ledger) entry.event) → (b : Bool) → is_charging entry.event entry.reply ≡ b →
+          total_of pid (intervals_of moment.ledger) + owed pid (cond (is_charging entry.event entry.reply) (open_interval moment.room) None) ≤ most * charged_up_to (next moment entry).room
       by_reply pid made true is =
-          let up_to = made.charging (sym (ap is_charging legal) ∙ is) in
+          let up_to = made.charging (sym (ap (is_charging entry.event) legal) ∙ is) in
           let one = ap (λ b. owed pid (cond b (open_interval moment.room) None)) is in
           omega (
             arith,
@@ -364,7 +403,7 @@ accounted_made : (most : ℕ) (moment : Moment) (steps : List Step) → 1 ≤ mo
 accounted_made most moment [] some few accounted = accounted
 accounted_made most moment (made ∷ steps) some few accounted =
     let entry = entry_of moment made in
-    let same = length-alike (next moment entry).room moment.room (onlines-step moment.room (is_fresh moment.ledger) made.event) in
+    let same = length-step moment.room (is_fresh moment.ledger) made.event in
     accounted_made most (next moment entry) steps some (subst (λ n. n ≤ most) (sym same) few) (accounted_next most moment entry some few refl accounted)
 
 -- After every legal history no total is above so many times the time that has been charged, where the core has no more

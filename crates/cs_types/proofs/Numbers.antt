@@ -1,7 +1,7 @@
 -- Numbers: how the three numbers go on by one entry, that they tell whether a selection is fresh, and how far they,
 -- the stamps, the cookies and the pids come in a history.
 use Rattle.std.proofs.Common.{◌≡◌, ℕ, ◌+◌, ◌*◌, ◌<◌, ◌≤◌, Bool, true, false, cond, List, [], ◌∷◌, length, length-append, refl, sym, ap, subst, ◌∙◌, arith, ltb, eqb, Option, Some, None, is_some}
-use Rattle.std.specs.Prelude.{◌&&◌, ◌||◌, not, take_while, sum_by}
+use Rattle.std.specs.Prelude.{◌==◌, ◌&&◌, ◌||◌, not, take_while, sum_by}
 use Rattle.std.specs.List.{list_any, list_all}
 use Rattle.std.specs.Option.{option_map_or}
 use Rattle.std.proofs.lemmas.List.Sums.{sum_by-cons, take_while-cons}
@@ -9,22 +9,26 @@ use Rattle.std.proofs.lemmas.List.Filters.{length-filter_both}
 use Rattle.std.proofs.lemmas.Bool.{cond_both}
 use Rattle.std.proofs.lemmas.Bool.Decides.{nat_tests}
 use Rattle.cs_types.specs.declared.task.Task.{Task}
+use Rattle.cs_types.specs.declared.task.Policy.{Policy}
 use Rattle.cs_types.specs.declared.event.Ask.{Ask}
 use Rattle.cs_types.specs.declared.event.Event.{Event}
-use Rattle.cs_types.specs.declared.event.Event.TheVariants.{Turn, Resched, Block, Exit, Tick, Wake, Advance, Fork, Prctl}
+use Rattle.cs_types.specs.declared.event.Event.TheVariants.{Turn, Resched, Block, Exit, Tick, Wake, Advance, Fork, Prctl, SetSched, Offline, Online}
 use Rattle.cs_types.specs.declared.reply.Kind.{Kind}
 use Rattle.cs_types.specs.declared.reply.Kind.TheVariants.{Selected, Adopted, Plain}
 use Rattle.cs_types.specs.declared.reply.Pick.{Pick}
 use Rattle.cs_types.specs.declared.reply.Reply.{Reply}
-use Rattle.cs_types.specs.declared.reply.Reply.TheVariants.{Picked, Slept, Ended, Woken, Child, Zero}
+use Rattle.cs_types.specs.declared.reply.Reply.TheVariants.{Picked, Slept, Ended, Stole, Woken, Child, Zero, Set, Done}
 use Rattle.cs_types.specs.declared.reply.Entry.{Entry}
 use Rattle.cs_types.specs.declared.scenario.Scenario.{Scenario}
-use Rattle.cs_types.specs.Room.{RoomState, first_pid, sibling_of, running_on, task_of}
+use Rattle.cs_types.specs.Room.{RoomState, first_pid, queued_on, sibling_of, running_on, is_online, online, task_of}
 use Rattle.cs_types.specs.Selection.{selected_room, selected, plain, is_plain, rescheduled, scheduled, schedule}
 use Rattle.cs_types.specs.Prctl.{Setting, target_of, setting_by, setting_of, is_share_from, is_in_scope, makes_cookie, with_made, with_answer, prctl_answer, prctl_room}
-use Rattle.cs_types.specs.Step.{Stepped, step, woken, blocked, exited, forked, may_not_fork, ticked, turned, dequeued, without, has_threads, idled}
+use Rattle.cs_types.specs.Step.{Stepped, step, woken, blocked, exited, forked, may_not_fork, ticked, turned, without, has_threads, idled, tried, unless_offline, set_policy, taken_offline, brought_online}
+use Rattle.cs_types.specs.Steal.{stolen}
+use Rattle.cs_types.specs.Hotplug.{without_sibling}
+use Rattle.cs_types.specs.Queueing.{dequeued}
 use Rattle.cs_types.specs.Time.{advanced, rotates}
-use Rattle.cs_types.specs.Touches.{is_selected, is_adopted, pick_touches, cookie_touches, set_touches, selection_of, is_selection, touches_by, Noted, Ledger, noted, back_to, task_number, pick_number, own_number, is_taken_by, is_fresh}
+use Rattle.cs_types.specs.Touches.{is_selected, is_adopted, pick_touches, cookie_touches, set_touches, selection_of, is_selection, policy_touches, policy_set_touches, leaving_touches, touches_by, Noted, Ledger, noted, back_to, task_number, pick_number, own_number, is_taken_by, is_fresh}
 use Rattle.cs_types.specs.History.{History, Moment, next, after, fold_of, ledger_of, beginning}
 use Rattle.cs_types.proofs.Tasks.{length-asleep_tasks, few-step}
 
@@ -83,10 +87,10 @@ by_entry true any all touches pick task some before below = by_selection touches
 by_entry false any all touches pick task some before below = by_other any all touches pick task before below
 
 -- whether no entry touched since the last selection
-abbrev untouched : Ledger → Bool
+abbrev pub untouched : Ledger → Bool
 untouched ledger = list_all (λ note. eqb note.touches 0) (take_while (λ note. not (is_selection note.entry)) ledger)
 
-untouched-cons : (note : Noted) (ledger : Ledger) →
+pub untouched-cons : (note : Noted) (ledger : Ledger) →
     untouched (note ∷ ledger) ≡ cond (is_selection note.entry) true (eqb note.touches 0 && untouched ledger)
 untouched-cons note ledger =
     ap (list_all (λ n. eqb n.touches 0)) (take_while-cons (λ n. not (is_selection n.entry)) note ledger)
@@ -173,6 +177,21 @@ set_touches-le room event = omega arith
 pick_touches-le : (pick : Pick) → pick_touches pick ≤ 1
 pick_touches-le pick = cond_both (is_adopted pick.kind) 0 1 (λ n. n ≤ 1) (λ _. omega arith) (λ _. omega arith)
 
+policy_set_touches-le : (room : RoomState) (event : Event) → policy_set_touches room event ≤ 2
+policy_set_touches-le room (SetSched pid policy) = go (task_of room pid) where
+  go : (task : Option Task) → policy_touches task ≤ 2
+  go None = omega arith
+  go (Some task) = cond_both task.queued 2 0 (λ n. n ≤ 2) (λ _. omega arith) (λ _. omega arith)
+policy_set_touches-le room event = omega arith
+
+queued_on-le : (room : RoomState) (cpu : ℕ) → length (queued_on room cpu) ≤ length room.tasks
+queued_on-le room cpu =
+    omega (arith, length-filter_both (λ task. task.queued && (task.home == cpu)) (λ task. not (task.queued && (task.home == cpu))) (λ task. refl) room.tasks)
+
+leaving_touches-le : (room : RoomState) (event : Event) → leaving_touches room event ≤ 2 * length room.tasks
+leaving_touches-le room (Offline cpu) = omega (arith, queued_on-le room cpu)
+leaving_touches-le room event = omega arith
+
 -- An entry touches at most twice for each task, and twice more.
 pub touches_by-le : (room : RoomState) (event : Event) (reply : Reply) → touches_by room event reply ≤ 2 * length room.tasks + 2
 touches_by-le room event (Woken cpu) = omega arith
@@ -181,6 +200,9 @@ touches_by-le room event (Picked pick) = omega (arith, pick_touches-le pick)
 touches_by-le room event (Slept pid pick) = omega (arith, pick_touches-le pick)
 touches_by-le room event (Ended pid pick) = omega (arith, pick_touches-le pick)
 touches_by-le room event Zero = set_touches-le room event
+touches_by-le room event Set = omega (arith, policy_set_touches-le room event)
+touches_by-le room event Done = omega (arith, leaving_touches-le room event)
+touches_by-le room event (Stole pid from) = omega arith
 touches_by-le room event reply = omega arith
 
 touches_after : (moment : Moment) (entries : List Entry) → length moment.room.tasks ≤ moment.room.task_limit → moment.room.task_limit ≤ 256 →
@@ -222,59 +244,65 @@ draws-scheduled room false cpu (Some run) = draws-rescheduled room cpu
 draws-schedule : (room : RoomState) (fresh : Bool) (cpu : ℕ) → draws (schedule room fresh cpu).room ≡ draws room
 draws-schedule room fresh cpu = draws-scheduled room fresh cpu (sibling_of room cpu).waiting
 
--- at most one more of each was drawn
-pub record DrawsOne (old new : ℕ × ℕ × ℕ × ℕ) : Type 0 where
-  pub stamp : new.0 ≤ old.0 + 1
+-- at most one more of each was drawn, and of the stamps one more than there were tasks
+pub record DrawsOne (tasks : ℕ) (old new : ℕ × ℕ × ℕ × ℕ) : Type 0 where
+  pub stamp : new.0 ≤ old.0 + tasks + 1
   pub cookie : new.1 ≤ old.1 + 1
   pub pid : new.2 ≤ old.2 + 1
   pub ended : new.3 ≤ old.3 + 1
 
-draws_none : (old new : ℕ × ℕ × ℕ × ℕ) → new ≡ old → DrawsOne old new
-draws_none old new same = record {
+draws_none : (tasks : ℕ) (old new : ℕ × ℕ × ℕ × ℕ) → new ≡ old → DrawsOne tasks old new
+draws_none tasks old new same = record {
   stamp = omega (arith, ap (λ (d : ℕ × ℕ × ℕ × ℕ). d.0) same);
   cookie = omega (arith, ap (λ (d : ℕ × ℕ × ℕ × ℕ). d.1) same);
   pid = omega (arith, ap (λ (d : ℕ × ℕ × ℕ × ℕ). d.2) same);
   ended = omega (arith, ap (λ (d : ℕ × ℕ × ℕ × ℕ). d.3) same);
 }
 
-draws-turned : (room : RoomState) (fresh : Bool) (cpu : ℕ) → DrawsOne (draws room) (draws (turned room fresh cpu).room)
+draws-tried : (room : RoomState) (cpu : ℕ) (task : Option Task) → DrawsOne (length room.tasks) (draws room) (draws (tried room cpu task).room)
+draws-tried room cpu None = draws_none _ _ _ refl
+draws-tried room cpu (Some task) = record { stamp = omega arith; cookie = omega arith; pid = omega arith; ended = omega arith }
+
+draws-turned : (room : RoomState) (fresh : Bool) (cpu : ℕ) → DrawsOne (length room.tasks) (draws room) (draws (turned room fresh cpu).room)
 draws-turned room fresh cpu =
-    cond_both (sibling_of room cpu).pending _ _ (λ (made : Stepped). DrawsOne (draws room) (draws made.room))
-    (λ _. draws_none _ _ (draws-schedule room fresh cpu)) (λ _. draws_none _ _ refl)
+    cond_both (sibling_of room cpu).pending _ _ (λ (made : Stepped). DrawsOne (length room.tasks) (draws room) (draws made.room))
+    (λ _. draws_none _ _ _ (draws-schedule room fresh cpu))
+    (λ _. cond_both ((sibling_of room cpu).place == 0) _ _ (λ (made : Stepped). DrawsOne (length room.tasks) (draws room) (draws made.room)) (λ _. draws_none _ _ _ refl)
+    (λ _. draws-tried room cpu (stolen room cpu)))
 
 draws-blocked : (room : RoomState) (cpu : ℕ) (task : Option Task) → draws (blocked room cpu task).room ≡ draws room
 draws-blocked room cpu None = refl
 draws-blocked room cpu (Some task) = draws-schedule (idled (dequeued room task) cpu) false cpu
 
-draws-woken : (room : RoomState) (task : Option Task) → DrawsOne (draws room) (draws (woken room task).room)
-draws-woken room None = draws_none _ _ refl
+draws-woken : (room : RoomState) (task : Option Task) → DrawsOne (length room.tasks) (draws room) (draws (woken room task).room)
+draws-woken room None = draws_none _ _ _ refl
 draws-woken room (Some task) =
-    cond_both task.queued _ _ (λ (made : Stepped). DrawsOne (draws room) (draws made.room)) (λ _. draws_none _ _ refl)
+    cond_both task.queued _ _ (λ (made : Stepped). DrawsOne (length room.tasks) (draws room) (draws made.room)) (λ _. draws_none _ _ _ refl)
     (λ _. record { stamp = omega arith; cookie = omega arith; pid = omega arith; ended = omega arith })
 
-draws-exited : (room : RoomState) (cpu : ℕ) (task : Option Task) → DrawsOne (draws room) (draws (exited room cpu task).room)
-draws-exited room cpu None = draws_none _ _ refl
+draws-exited : (room : RoomState) (cpu : ℕ) (task : Option Task) → DrawsOne (length room.tasks) (draws room) (draws (exited room cpu task).room)
+draws-exited room cpu None = draws_none _ _ _ refl
 draws-exited room cpu (Some task) =
-    cond_both (has_threads room task) _ _ (λ (made : Stepped). DrawsOne (draws room) (draws made.room)) (λ _. draws_none _ _ refl)
-    (λ _. subst (DrawsOne (draws room)) (sym (draws-schedule (idled (without room task) cpu) false cpu)) (record {
+    cond_both (has_threads room task) _ _ (λ (made : Stepped). DrawsOne (length room.tasks) (draws room) (draws made.room)) (λ _. draws_none _ _ _ refl)
+    (λ _. subst (DrawsOne (length room.tasks) (draws room)) (sym (draws-schedule (idled (without room task) cpu) false cpu)) (record {
       stamp = omega arith;
       cookie = omega arith;
       pid = omega arith;
       ended = omega (arith, length-append room.ended (task.spec.pid ∷ []));
     }))
 
-draws-forked : (room : RoomState) (thread : Bool) (caller : Option Task) → DrawsOne (draws room) (draws (forked room thread caller).room)
-draws-forked room thread None = draws_none _ _ refl
+draws-forked : (room : RoomState) (thread : Bool) (caller : Option Task) → DrawsOne (length room.tasks) (draws room) (draws (forked room thread caller).room)
+draws-forked room thread None = draws_none _ _ _ refl
 draws-forked room thread (Some caller) =
-    cond_both (may_not_fork room caller) _ _ (λ (made : Stepped). DrawsOne (draws room) (draws made.room)) (λ _. draws_none _ _ refl)
+    cond_both (may_not_fork room caller) _ _ (λ (made : Stepped). DrawsOne (length room.tasks) (draws room) (draws made.room)) (λ _. draws_none _ _ _ refl)
     (λ _. record { stamp = omega arith; cookie = omega arith; pid = omega arith; ended = omega arith })
 
 -- a rotation draws a stamp
-draws-ticked : (room : RoomState) (cpu : ℕ) (task : Option Task) → DrawsOne (draws room) (draws (ticked room cpu task).room)
-draws-ticked room cpu None = draws_none _ _ refl
+draws-ticked : (room : RoomState) (cpu : ℕ) (task : Option Task) → DrawsOne (length room.tasks) (draws room) (draws (ticked room cpu task).room)
+draws-ticked room cpu None = draws_none _ _ _ refl
 draws-ticked room cpu (Some task) =
     record {
-      stamp = cond_both (rotates room cpu task) (room.next_stamp + 1) room.next_stamp (λ n. n ≤ room.next_stamp + 1) (λ _. omega arith) (λ _. omega arith);
+      stamp = cond_both (rotates room cpu task) (room.next_stamp + 1) room.next_stamp (λ n. n ≤ room.next_stamp + length room.tasks + 1) (λ _. omega arith) (λ _. omega arith);
       cookie = omega arith;
       pid = omega arith;
       ended = omega arith;
@@ -284,7 +312,7 @@ draws-advanced : (room : RoomState) (delta : ℕ) → draws (advanced room delta
 unfolding advanced
 draws-advanced room delta = refl
 
-draws-with_made : (room : RoomState) (makes : Bool) → DrawsOne (draws room) (draws (with_made room makes))
+draws-with_made : (room : RoomState) (makes : Bool) → DrawsOne (length room.tasks) (draws room) (draws (with_made room makes))
 draws-with_made room makes =
     record {
       stamp = omega arith;
@@ -297,41 +325,84 @@ draws-with_answer : (room : RoomState) (set : Setting) (answer : Reply) → draw
 draws-with_answer room set Zero = refl
 draws-with_answer room set answer = refl
 
-draws-prctl_room : (room : RoomState) (pid : ℕ) (ask : Ask) → DrawsOne (draws room) (draws (prctl_room room pid ask))
+draws-prctl_room : (room : RoomState) (pid : ℕ) (ask : Ask) → DrawsOne (length room.tasks) (draws room) (draws (prctl_room room pid ask))
 draws-prctl_room room pid ask =
-    subst (DrawsOne (draws room)) (sym (draws-with_answer (with_made room (makes_cookie room pid ask)) (setting_of room pid ask) (prctl_answer room pid ask)))
+    subst (DrawsOne (length room.tasks) (draws room)) (sym (draws-with_answer (with_made room (makes_cookie room pid ask)) (setting_of room pid ask) (prctl_answer room pid ask)))
     (draws-with_made room (makes_cookie room pid ask))
 
--- A step draws at most one of each.
-pub draws-step : (room : RoomState) (fresh : Bool) (event : Event) → DrawsOne (draws room) (draws (step room fresh event).room)
-draws-step room fresh (Turn cpu) = draws-turned room fresh cpu
-draws-step room fresh (Resched cpu) = draws_none _ _ (draws-schedule room fresh cpu)
-draws-step room fresh (Block cpu) = draws_none _ _ (draws-blocked room cpu (running_on room cpu))
-draws-step room fresh (Exit cpu) = draws-exited room cpu (running_on room cpu)
-draws-step room fresh (Tick cpu) = draws-ticked room cpu (running_on room cpu)
+draws-unless_offline : (room : RoomState) (cpu : ℕ) (stepped : Stepped) → DrawsOne (length room.tasks) (draws room) (draws stepped.room) →
+    DrawsOne (length room.tasks) (draws room) (draws (unless_offline room cpu stepped).room)
+draws-unless_offline room cpu stepped made =
+    cond_both (is_online room cpu) _ _ (λ (made : Stepped). DrawsOne (length room.tasks) (draws room) (draws made.room)) (λ _. made) (λ _. draws_none _ _ _ refl)
+
+draws-set_policy : (room : RoomState) (policy : Policy) (task : Option Task) → DrawsOne (length room.tasks) (draws room) (draws (set_policy room policy task).room)
+draws-set_policy room policy None = draws_none _ _ _ refl
+draws-set_policy room policy (Some task) =
+    cond_both task.queued _ _ (λ (made : RoomState). DrawsOne (length room.tasks) (draws room) (draws made))
+    (λ _. record { stamp = omega arith; cookie = omega arith; pid = omega arith; ended = omega arith }) (λ _. draws_none _ _ _ refl)
+
+-- a sibling that leaves draws a stamp for each task that moves
+draws-taken_offline : (room : RoomState) (cpu : ℕ) → DrawsOne (length room.tasks) (draws room) (draws (taken_offline room cpu).room)
+unfolding without_sibling
+draws-taken_offline room cpu =
+    cond_both (not (is_online room cpu)) _ _ (λ (made : Stepped). DrawsOne (length room.tasks) (draws room) (draws made.room)) (λ _. draws_none _ _ _ refl)
+    (λ _. cond_both (length (online room) == 1) _ _ (λ (made : Stepped). DrawsOne (length room.tasks) (draws room) (draws made.room)) (λ _. draws_none _ _ _ refl)
+    (λ _. record { stamp = omega (arith, queued_on-le room cpu); cookie = omega arith; pid = omega arith; ended = omega arith }))
+
+draws-brought_online : (room : RoomState) (cpu : ℕ) → DrawsOne (length room.tasks) (draws room) (draws (brought_online room cpu).room)
+draws-brought_online room cpu =
+    cond_both (is_online room cpu) _ _ (λ (made : Stepped). DrawsOne (length room.tasks) (draws room) (draws made.room)) (λ _. draws_none _ _ _ refl)
+    (λ _. draws_none _ _ _ refl)
+
+-- A step draws at most one of each, and stamps for the tasks that move.
+pub draws-step : (room : RoomState) (fresh : Bool) (event : Event) → DrawsOne (length room.tasks) (draws room) (draws (step room fresh event).room)
+draws-step room fresh (Turn cpu) = draws-unless_offline room cpu _ (draws-turned room fresh cpu)
+draws-step room fresh (Resched cpu) = draws-unless_offline room cpu _ (draws_none _ _ _ (draws-schedule room fresh cpu))
+draws-step room fresh (Block cpu) = draws-unless_offline room cpu _ (draws_none _ _ _ (draws-blocked room cpu (running_on room cpu)))
+draws-step room fresh (Exit cpu) = draws-unless_offline room cpu _ (draws-exited room cpu (running_on room cpu))
+draws-step room fresh (Tick cpu) = draws-unless_offline room cpu _ (draws-ticked room cpu (running_on room cpu))
 draws-step room fresh (Wake pid) = draws-woken room (task_of room pid)
-draws-step room fresh (Advance delta) = draws_none _ _ (draws-advanced room delta)
+draws-step room fresh (Advance delta) = draws_none _ _ _ (draws-advanced room delta)
 draws-step room fresh (Fork caller thread) = draws-forked room thread (task_of room caller)
 draws-step room fresh (Prctl caller ask) = draws-prctl_room room caller ask
+draws-step room fresh (SetSched pid policy) = draws-set_policy room policy (task_of room pid)
+draws-step room fresh (Offline cpu) = draws-taken_offline room cpu
+draws-step room fresh (Online cpu) = draws-brought_online room cpu
 
-draws_after : (moment : Moment) (entries : List Entry) → let room = (after moment entries).room in
-    (room.next_stamp ≤ moment.room.next_stamp + length entries) × (room.next_cookie ≤ moment.room.next_cookie + length entries)
+draws_after : (moment : Moment) (entries : List Entry) → length moment.room.tasks ≤ moment.room.task_limit → moment.room.task_limit ≤ 256 →
+    let room = (after moment entries).room in
+    (room.next_stamp ≤ moment.room.next_stamp + 257 * length entries) × (room.next_cookie ≤ moment.room.next_cookie + length entries)
     × (room.next_pid ≤ moment.room.next_pid + length entries) × (length room.ended ≤ length moment.room.ended + length entries)
-draws_after moment [] = (omega arith, omega arith, omega arith, omega arith)
-draws_after moment (entry ∷ entries) =
-    let more = draws_after (next moment entry) entries in
-    let one = draws-step moment.room (is_fresh moment.ledger) entry.event in
-    (omega (arith, more.0, one.stamp), omega (arith, more.1, one.cookie), omega (arith, more.2, one.pid), omega (arith, more.3, one.ended))
+draws_after moment [] few low = (omega arith, omega arith, omega arith, omega arith)
+draws_after moment (entry ∷ entries) few low =
+    let fresh = is_fresh moment.ledger in
+    let limit = few-step moment.room fresh entry.event in
+    let more = draws_after (next moment entry) entries (subst (λ n. length (next moment entry).room.tasks ≤ n) (sym limit.limit) (limit.few few)) (omega (arith, low, limit.limit)) in
+    let one = draws-step moment.room fresh entry.event in
+    (omega (arith, few, low, more.0, one.stamp), omega (arith, more.1, one.cookie), omega (arith, more.2, one.pid), omega (arith, more.3, one.ended))
 
--- After a history as many stamps, cookies and pids were drawn as it has entries, and as many tasks ended, at most.
-pub next_stamp-fold_of : (scenario : Scenario) (history : History) → (fold_of scenario history).next_stamp ≤ length history
-next_stamp-fold_of scenario history = omega (arith, (draws_after (beginning scenario) history).0)
+-- After a history with at most 256 tasks at once as many cookies and pids were drawn as it has entries, and as many tasks
+-- ended, at most, and 257 times as many stamps.
+draws-fold_of : (scenario : Scenario) (history : History) → length scenario.tasks ≤ scenario.task_limit → scenario.task_limit ≤ 256 →
+    let room = fold_of scenario history in
+    (room.next_stamp ≤ 257 * length history) × (room.next_cookie ≤ 1 + length history)
+    × (room.next_pid ≤ first_pid scenario.tasks + length history) × (length room.ended ≤ length history)
+draws-fold_of scenario history few low =
+    let made = draws_after (beginning scenario) history (subst (λ n. n ≤ scenario.task_limit) (sym (length-asleep_tasks scenario.tasks)) few) low in
+    (omega (arith, made.0), omega (arith, made.1), omega (arith, made.2), omega (arith, made.3))
 
-pub next_cookie-fold_of : (scenario : Scenario) (history : History) → (fold_of scenario history).next_cookie ≤ length history + 1
-next_cookie-fold_of scenario history = omega (arith, (draws_after (beginning scenario) history).1)
+pub next_stamp-fold_of : (scenario : Scenario) (history : History) → length scenario.tasks ≤ scenario.task_limit → scenario.task_limit ≤ 256 →
+    (fold_of scenario history).next_stamp ≤ 257 * length history
+next_stamp-fold_of scenario history few low = (draws-fold_of scenario history few low).0
 
-pub next_pid-fold_of : (scenario : Scenario) (history : History) → (fold_of scenario history).next_pid ≤ first_pid scenario.tasks + length history
-next_pid-fold_of scenario history = (draws_after (beginning scenario) history).2
+pub next_cookie-fold_of : (scenario : Scenario) (history : History) → length scenario.tasks ≤ scenario.task_limit → scenario.task_limit ≤ 256 →
+    (fold_of scenario history).next_cookie ≤ length history + 1
+next_cookie-fold_of scenario history few low = omega (arith, (draws-fold_of scenario history few low).1)
 
-pub ended-fold_of : (scenario : Scenario) (history : History) → length (fold_of scenario history).ended ≤ length history
-ended-fold_of scenario history = omega (arith, (draws_after (beginning scenario) history).3)
+pub next_pid-fold_of : (scenario : Scenario) (history : History) → length scenario.tasks ≤ scenario.task_limit → scenario.task_limit ≤ 256 →
+    (fold_of scenario history).next_pid ≤ first_pid scenario.tasks + length history
+next_pid-fold_of scenario history few low = (draws-fold_of scenario history few low).2
+
+pub ended-fold_of : (scenario : Scenario) (history : History) → length scenario.tasks ≤ scenario.task_limit → scenario.task_limit ≤ 256 →
+    length (fold_of scenario history).ended ≤ length history
+ended-fold_of scenario history few low = (draws-fold_of scenario history few low).3

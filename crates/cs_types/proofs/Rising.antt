@@ -1,6 +1,6 @@
 -- Rising: after every history the living tasks stand by rising pid, all above 0 and below the next pid.
-use Rattle.std.proofs.Common.{◌≡◌, ◌≢◌, ℕ, suc, ◌+◌, ◌<◌, ◌≤◌, All, Bool, cond, true, false, ltb, List, [], ◌∷◌, map, refl, sym, ap, ◌∙◌, subst, arith, Option, Some, None}
-use Rattle.std.specs.Prelude.{find, filter, fold, not}
+use Rattle.std.proofs.Common.{◌≡◌, ◌≢◌, ℕ, suc, ◌+◌, ◌<◌, ◌≤◌, All, Bool, cond, true, false, ltb, List, [], ◌∷◌, length, map, refl, sym, ap, ◌∙◌, subst, arith, Option, Some, None}
+use Rattle.std.specs.Prelude.{find, filter, fold, not, ◌==◌, ◌&&◌}
 use Rattle.std.specs.List.{AllByRecursion}
 use Rattle.std.proofs.lemmas.Bool.{cond_both, cond-true, cond-false, eqb-true, ltb-true, lt-ltb}
 use Rattle.std.proofs.lemmas.Bool.Decides.{nat_tests}
@@ -10,16 +10,19 @@ use Rattle.cs_types.specs.declared.task.TaskSpec.{TaskSpec}
 use Rattle.cs_types.specs.declared.task.Policy.{Policy}
 use Rattle.cs_types.specs.declared.task.Policy.TheVariants.{Stop, Deadline, Fifo, Rr, Fair}
 use Rattle.cs_types.specs.declared.event.Event.{Event}
-use Rattle.cs_types.specs.declared.event.Event.TheVariants.{Turn, Resched, Block, Exit, Tick, Wake, Advance, Fork, Prctl}
+use Rattle.cs_types.specs.declared.event.Event.TheVariants.{Turn, Resched, Block, Exit, Tick, Wake, Advance, Fork, Prctl, SetSched, Offline, Online}
 use Rattle.cs_types.specs.declared.reply.Reply.{Reply}
 use Rattle.cs_types.specs.declared.reply.Reply.TheVariants.{Zero}
 use Rattle.cs_types.specs.declared.reply.Entry.{Entry}
 use Rattle.cs_types.specs.declared.scenario.Scenario.{Scenario}
 use Rattle.cs_types.specs.Scenario.{AreDistinct}
-use Rattle.cs_types.specs.Room.{RoomState, has_pid, sibling_of, running_on, task_of, asleep, placed, first_pid, with_task}
+use Rattle.cs_types.specs.Room.{RoomState, has_pid, sibling_of, running_on, is_online, online, task_of, asleep, placed, first_pid, with_task}
 use Rattle.cs_types.specs.Selection.{remembered, selected_room, selected, plain, is_plain, rescheduled, scheduled, schedule}
 use Rattle.cs_types.specs.Prctl.{Setting, setting_of, is_set, makes_cookie, with_made, with_answer, prctl_answer}
-use Rattle.cs_types.specs.Step.{Stepped, step, woken, blocked, exited, forked, turned, refreshed, dequeued, without, has_threads, child_of, settled, may_not_fork, with_child, queued_at_home, ticked, idled}
+use Rattle.cs_types.specs.Step.{Stepped, step, woken, blocked, exited, forked, turned, without, has_threads, child_of, settled, may_not_fork, with_child, ticked, idled, tried, unless_offline, with_policy, set_policy, taken_offline, brought_online}
+use Rattle.cs_types.specs.Queueing.{refreshed, dequeued, moved_to, rehomed, queued_at_home}
+use Rattle.cs_types.specs.Steal.{stolen}
+use Rattle.cs_types.specs.Hotplug.{moved_off, without_sibling}
 use Rattle.cs_types.specs.Accounting.{accounted}
 use Rattle.cs_types.specs.Time.{advanced, is_running, grown, grown_by}
 use Rattle.cs_types.specs.Touches.{is_fresh}
@@ -42,7 +45,7 @@ rises_wider low lower high higher (task ∷ tasks) under over rises =
     (omega arith, rises_wider task.spec.pid task.spec.pid high higher tasks (omega arith) over rises.1)
 
 -- none has the bound's pid
-below_high : (low high : ℕ) (tasks : List Task) → Rises low high tasks → (low < high) × AllByRecursion (λ other. other.spec.pid ≢ high) tasks
+pub below_high : (low high : ℕ) (tasks : List Task) → Rises low high tasks → (low < high) × AllByRecursion (λ other. other.spec.pid ≢ high) tasks
 below_high low high [] rises = (rises, tt)
 below_high low high (task ∷ tasks) rises =
     let rest = below_high task.spec.pid high tasks rises.1 in
@@ -162,7 +165,7 @@ rising-with_task room task rises =
     (λ other. cond_both (has_pid task.spec.pid other) task other (λ (t : Task). t.spec.pid ≡ other.spec.pid) (λ is. sym (eqb-true other.spec.pid task.spec.pid is)) (λ _. refl))
     0 room.next_pid room.tasks rises
 
-pid-remembered : (room : RoomState) (core : ℕ) (task : Task) → (remembered room core task).spec.pid ≡ task.spec.pid
+pub pid-remembered : (room : RoomState) (core : ℕ) (task : Task) → (remembered room core task).spec.pid ≡ task.spec.pid
 pid-remembered room core task = cond_both _ _ _ (λ (t : Task). t.spec.pid ≡ task.spec.pid) (λ _. refl) (λ _. refl)
 
 rising-rescheduled : (room : RoomState) (cpu : ℕ) → AreRising room → AreRising (rescheduled room cpu).room
@@ -179,21 +182,33 @@ rising-scheduled room false cpu (Some run) rises = rising-rescheduled room cpu r
 rising-schedule : (room : RoomState) (fresh : Bool) (cpu : ℕ) → AreRising room → AreRising (schedule room fresh cpu).room
 rising-schedule room fresh cpu rises = rising-scheduled room fresh cpu (sibling_of room cpu).waiting rises
 
+rising-tried : (room : RoomState) (cpu : ℕ) (task : Option Task) → AreRising room → AreRising (tried room cpu task).room
+rising-tried room cpu None rises = rises
+rising-tried room cpu (Some task) rises =
+    rising-with_task room (record (moved_to room cpu task) { queued = true; stamp = room.next_stamp }) rises
+
 rising-turned : (room : RoomState) (fresh : Bool) (cpu : ℕ) → AreRising room → AreRising (turned room fresh cpu).room
 rising-turned room fresh cpu rises =
-    cond_both (sibling_of room cpu).pending _ _ (λ (made : Stepped). AreRising made.room) (λ _. rising-schedule room fresh cpu rises) (λ _. rises)
+    cond_both (sibling_of room cpu).pending _ _ (λ (made : Stepped). AreRising made.room) (λ _. rising-schedule room fresh cpu rises)
+    (λ _. cond_both ((sibling_of room cpu).place == 0) _ _ (λ (made : Stepped). AreRising made.room) (λ _. rises)
+    (λ _. rising-tried room cpu (stolen room cpu) rises))
+
+pub rising-dequeued : (room : RoomState) (task : Task) → AreRising room → AreRising (dequeued room task)
+rising-dequeued room task rises = rising-with_task room (record task { queued = false }) rises
+
+pub rising-without : (room : RoomState) (task : Task) → AreRising room → AreRising (without room task)
+rising-without room task rises = rises-filter (λ other. not (has_pid task.spec.pid other)) 0 room.next_pid room.tasks rises
 
 rising-blocked : (room : RoomState) (cpu : ℕ) (task : Option Task) → AreRising room → AreRising (blocked room cpu task).room
 rising-blocked room cpu None rises = rises
 rising-blocked room cpu (Some task) rises =
-    rising-schedule (idled (dequeued room task) cpu) false cpu (rising-with_task room (record task { queued = false }) rises)
+    rising-schedule (idled (dequeued room task) cpu) false cpu (rising-dequeued room task rises)
 
 rising-exited : (room : RoomState) (cpu : ℕ) (task : Option Task) → AreRising room → AreRising (exited room cpu task).room
 rising-exited room cpu None rises = rises
 rising-exited room cpu (Some task) rises =
     cond_both (has_threads room task) _ _ (λ (made : Stepped). AreRising made.room) (λ _. rises)
-    (λ _. rising-schedule (idled (without room task) cpu) false cpu
-    (rises-filter (λ other. not (has_pid task.spec.pid other)) 0 room.next_pid room.tasks rises))
+    (λ _. rising-schedule (idled (without room task) cpu) false cpu (rising-without room task rises))
 
 rising-queued_at_home : (room : RoomState) (task : Task) → AreRising room → AreRising (queued_at_home room task)
 rising-queued_at_home room task rises =
@@ -202,7 +217,8 @@ rising-queued_at_home room task rises =
 rising-woken : (room : RoomState) (task : Option Task) → AreRising room → AreRising (woken room task).room
 rising-woken room None rises = rises
 rising-woken room (Some task) rises =
-    cond_both task.queued _ _ (λ (made : Stepped). AreRising made.room) (λ _. rises) (λ _. rising-queued_at_home room task rises)
+    cond_both task.queued _ _ (λ (made : Stepped). AreRising made.room) (λ _. rises)
+    (λ _. rising-queued_at_home room (rehomed room task) rises)
 
 -- a child with the next pid is the last
 rising-with_child : (room : RoomState) (caller : Task) (thread : Bool) → AreRising room → AreRising (with_child room (child_of caller thread room.next_pid))
@@ -222,7 +238,7 @@ rising-ticked : (room : RoomState) (cpu : ℕ) (task : Option Task) → AreRisin
 rising-ticked room cpu None rises = rises
 rising-ticked room cpu (Some task) rises = rising-with_task (accounted room) (record task { used = _; stamp = _ }) rises
 
-pid-grown_by : (delta : ℕ) (policy : Policy) (task : Task) → (grown_by delta policy task).spec.pid ≡ task.spec.pid
+pub pid-grown_by : (delta : ℕ) (policy : Policy) (task : Task) → (grown_by delta policy task).spec.pid ≡ task.spec.pid
 pid-grown_by delta Stop task = refl
 pid-grown_by delta (Deadline relative) task = refl
 pid-grown_by delta (Fifo priority) task = refl
@@ -243,12 +259,40 @@ rising-with_answer room set Zero rises =
     0 room.next_pid room.tasks rises
 rising-with_answer room set answer rises = rises
 
-rising-step : (room : RoomState) (fresh : Bool) (event : Event) → AreRising room → AreRising (step room fresh event).room
-rising-step room fresh (Turn cpu) rises = rising-turned room fresh cpu rises
-rising-step room fresh (Resched cpu) rises = rising-schedule room fresh cpu rises
-rising-step room fresh (Block cpu) rises = rising-blocked room cpu (running_on room cpu) rises
-rising-step room fresh (Exit cpu) rises = rising-exited room cpu (running_on room cpu) rises
-rising-step room fresh (Tick cpu) rises = rising-ticked room cpu (running_on room cpu) rises
+rising-unless_offline : (room : RoomState) (cpu : ℕ) (stepped : Stepped) → AreRising room → AreRising stepped.room → AreRising (unless_offline room cpu stepped).room
+rising-unless_offline room cpu stepped rises now =
+    cond_both (is_online room cpu) _ _ (λ (made : Stepped). AreRising made.room) (λ _. now) (λ _. rises)
+
+rising-set_policy : (room : RoomState) (policy : Policy) (task : Option Task) → AreRising room → AreRising (set_policy room policy task).room
+rising-set_policy room policy None rises = rises
+rising-set_policy room policy (Some task) rises =
+    let changed = with_policy policy task in
+    cond_both task.queued _ _ AreRising
+    (λ _. rising-queued_at_home (dequeued room changed) changed (rising-with_task room (record changed { queued = false }) rises))
+    (λ _. rising-with_task room changed rises)
+
+rising-taken_offline : (room : RoomState) (cpu : ℕ) → AreRising room → AreRising (taken_offline room cpu).room
+unfolding without_sibling
+rising-taken_offline room cpu rises =
+    cond_both (not (is_online room cpu)) _ _ (λ (made : Stepped). AreRising made.room) (λ _. rises)
+    (λ _. cond_both (length (online room) == 1) _ _ (λ (made : Stepped). AreRising made.room) (λ _. rises)
+    (λ _. rises-map (moved_off room cpu)
+    (λ task. cond_both (task.queued && (task.home == cpu)) _ _ (λ (t : Task). t.spec.pid ≡ task.spec.pid) (λ _. refl) (λ _. refl))
+    0 room.next_pid room.tasks rises))
+
+rising-brought_online : (room : RoomState) (cpu : ℕ) → AreRising room → AreRising (brought_online room cpu).room
+rising-brought_online room cpu rises =
+    cond_both (is_online room cpu) _ _ (λ (made : Stepped). AreRising made.room) (λ _. rises) (λ _. rises)
+
+pub rising-step : (room : RoomState) (fresh : Bool) (event : Event) → AreRising room → AreRising (step room fresh event).room
+rising-step room fresh (Turn cpu) rises = rising-unless_offline room cpu _ rises (rising-turned room fresh cpu rises)
+rising-step room fresh (Resched cpu) rises = rising-unless_offline room cpu _ rises (rising-schedule room fresh cpu rises)
+rising-step room fresh (Block cpu) rises = rising-unless_offline room cpu _ rises (rising-blocked room cpu (running_on room cpu) rises)
+rising-step room fresh (Exit cpu) rises = rising-unless_offline room cpu _ rises (rising-exited room cpu (running_on room cpu) rises)
+rising-step room fresh (Tick cpu) rises = rising-unless_offline room cpu _ rises (rising-ticked room cpu (running_on room cpu) rises)
+rising-step room fresh (SetSched pid policy) rises = rising-set_policy room policy (task_of room pid) rises
+rising-step room fresh (Offline cpu) rises = rising-taken_offline room cpu rises
+rising-step room fresh (Online cpu) rises = rising-brought_online room cpu rises
 rising-step room fresh (Wake pid) rises = rising-woken room (task_of room pid) rises
 rising-step room fresh (Advance delta) rises = rising-advanced room delta rises
 rising-step room fresh (Fork caller thread) rises = rising-forked room thread (task_of room caller) rises

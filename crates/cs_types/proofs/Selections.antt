@@ -1,6 +1,6 @@
 -- Selections: a selection for the core keeps its law.
-use Rattle.std.proofs.Common.{◌≡◌, ℕ, Bool, ◌-◌, ◌<◌, true, false, cond, List, [], ◌∷◌, ◌++◌, map, length, get_or, refl, sym, ap, ◌∙◌, subst, inl, inr, Option, Some, None, arith}
-use Rattle.std.specs.Prelude.{◌==◌, ◌&&◌, ◌||◌, ◌⊎◌, ◌↔◌, filter, count_by, All, Contains, IsTrue, is_none, is_some}
+use Rattle.std.proofs.Common.{◌≡◌, ℕ, zero, suc, Bool, ◌-◌, ◌<◌, true, false, cond, List, [], ◌∷◌, ◌++◌, map, length, get_or, set, refl, sym, ap, ◌∙◌, subst, inl, inr, Option, Some, None, arith}
+use Rattle.std.specs.Prelude.{◌==◌, ◌&&◌, ◌||◌, ◌⊎◌, ◌↔◌, filter, count_by, All, Contains, IsTrue, is_none, is_some, not}
 use Rattle.std.specs.List.{AllByRecursion, range_with_len, enumerate_from}
 use Rattle.std.specs.Option.{option_and_then, option_to_list, IfSome, option_map_or}
 use Rattle.std.proofs.lemmas.Bool.{cases_Bool, cond_both, cases_lt, and_parts, and_from, or_parts, cond-true, eqb-true, eq-eqb}
@@ -11,31 +11,35 @@ use Rattle.std.proofs.lemmas.List.Elements.{All-from_recursion, recursion_from_A
 use Rattle.std.proofs.lemmas.List.FromFn.{length-enumerate_from, get_or-enumerate_from}
 use Rattle.std.proofs.lemmas.Option.{MatchOption-from_none}
 use Rattle.cs_types.specs.declared.task.Task.{Task}
+use Rattle.cs_types.specs.declared.task.Policy.{Policy}
 use Rattle.cs_types.specs.declared.event.Event.{Event}
-use Rattle.cs_types.specs.declared.event.Event.TheVariants.{Turn, Resched, Block, Exit, Tick, Wake, Advance, Fork, Prctl}
+use Rattle.cs_types.specs.declared.event.Event.TheVariants.{Turn, Resched, Block, Exit, Tick, Wake, Advance, Fork, Prctl, SetSched, Offline, Online}
 use Rattle.cs_types.specs.declared.event.Ask.{Ask}
+use Rattle.cs_types.specs.declared.reply.Pick.{Pick}
 use Rattle.cs_types.specs.declared.reply.Reply.TheVariants.{Picked}
 use Rattle.cs_types.specs.declared.reply.Entry.{Entry}
 use Rattle.cs_types.specs.declared.scenario.Scenario.{Scenario}
 use Rattle.cs_types.specs.Scenario.{IsEvent}
-use Rattle.cs_types.specs.Room.{RoomState, SiblingState, idle, queued_on, sibling_of, is_online, online, online_from, running_on, task_of}
+use Rattle.cs_types.specs.Room.{RoomState, SiblingState, idle, queued_on, sibling_of, is_online, online, online_from, running_on, task_of, with_sibling}
 use Rattle.cs_types.specs.Order.{foremost, is_higher_here, outranks, goes_before, first_of}
 use Rattle.cs_types.specs.Selection.{to_run, first_on, cookie_of, pid_of, is_fair_task, renews_snapshots, snapshot_of, lead_from, choice, eligible, is_forced, forced_count, is_run, told, handed, given, occupation_of, selected_room, selected, Scheduled, is_plain, plain, rescheduled, scheduled, schedule}
 use Rattle.cs_types.specs.Prctl.{Row, first_answer, rows_before_making, rows_after_making, prctl_answer}
 use Rattle.cs_types.specs.Touches.{selection_of, is_fresh}
-use Rattle.cs_types.specs.Step.{Stepped, step, turned, blocked, woken, idled, dequeued, exited, forked, may_not_fork, ticked, without, has_threads}
+use Rattle.cs_types.specs.Step.{Stepped, step, picked, turned, tried, unless_offline, blocked, woken, idled, exited, forked, may_not_fork, ticked, without, has_threads, set_policy, taken_offline, brought_online}
+use Rattle.cs_types.specs.Steal.{stolen}
+use Rattle.cs_types.specs.Queueing.{dequeued}
 use Rattle.cs_types.specs.History.{History, moment_of, fold_of, ledger_of, reply_to, step_at}
 use Rattle.cs_types.specs.Laws.{SelectsForTheCore, scheduling_room, cpu_of}
 use Rattle.cs_types.proofs.Foremost.{each_weaker, foremost_none, foremost_one}
 use Rattle.cs_types.proofs.First.{goes_before_is_order, outranks_is_order, higher_at_home}
 use Rattle.cs_types.proofs.Filtered.{each_of_map, each_found, foremost_least, foremost-filter, Contains-filter, Contains-filter_parts, Contains-range, Contains-range_within}
 use Rattle.cs_types.proofs.Histories.{moment_of-push}
-use Rattle.cs_types.proofs.Siblings.{onlines-idled, onlines-without, length-alike, is_online-alike, length-fold_of, is_online-fold_of}
+use Rattle.cs_types.proofs.Siblings.{kept-idled, kept-without, length-alike, is_online-alike, length-fold_of}
 
 -- ---- the first of a list of tasks
 
 -- what follows of two facts of an element follows of them at each
-each_both : {X : Type 0} (P Q R : X → Type 0) (xs : List X) → ((x : X) → P x → Q x → R x) → AllByRecursion P xs → AllByRecursion Q xs → AllByRecursion R xs
+pub each_both : {X : Type 0} (P Q R : X → Type 0) (xs : List X) → ((x : X) → P x → Q x → R x) → AllByRecursion P xs → AllByRecursion Q xs → AllByRecursion R xs
 each_both P Q R [] step ps qs = tt
 each_both P Q R (x ∷ xs) step ps qs = (step x ps.0 qs.0, each_both P Q R xs step ps.1 qs.1)
 
@@ -160,7 +164,7 @@ each_eligible room core cpu =
     (λ _. each_with core (queued_on room cpu))
 
 -- A choice is idle, or has the core cookie.
-choice_matches : (room : RoomState) (core cpu : ℕ) → (choice room core cpu ≡ None) ⊎ (cookie_of (choice room core cpu) ≡ core)
+pub choice_matches : (room : RoomState) (core cpu : ℕ) → (choice room core cpu ≡ None) ⊎ (cookie_of (choice room core cpu) ≡ core)
 choice_matches room core cpu = go (choice room core cpu) (sym (choice_is_first room core cpu)) where
   go : (made : Option Task) → first_of (eligible room core cpu) ≡ made → (made ≡ None) ⊎ (cookie_of made ≡ core)
   go None none = inl refl
@@ -198,7 +202,7 @@ forced_iff room core cpu =
 -- ---- what a sibling is handed
 
 -- what a sibling runs that runs this
-is_run_same : (a b : Option ℕ) → is_run a b ≡ true → a ≡ b
+pub is_run_same : (a b : Option ℕ) → is_run a b ≡ true → a ≡ b
 is_run_same None None h = refl
 is_run_same None (Some b) h = absurd cc
 is_run_same (Some a) None h = absurd cc
@@ -346,18 +350,57 @@ scheduled_keeps_law room fresh cpu None below up = rescheduled_keeps_law room cp
 scheduled_keeps_law room true cpu (Some run) below up = tt
 scheduled_keeps_law room false cpu (Some run) below up = rescheduled_keeps_law room cpu below up
 
+-- what a function reads of an element, where a write does not change it
+pub get_or-set_alike : {X Y : Type 0} (f : X → Y) (xs : List X) (i : ℕ) (x : X) (j : ℕ) (d : X) → f x ≡ f (get_or xs i d) → f (get_or (set xs i x) j d) ≡ f (get_or xs j d)
+get_or-set_alike f [] i x j d same = refl
+get_or-set_alike f (y ∷ xs) zero x zero d same = same
+get_or-set_alike f (y ∷ xs) zero x (suc j) d same = refl
+get_or-set_alike f (y ∷ xs) (suc i) x zero d same = refl
+get_or-set_alike f (y ∷ xs) (suc i) x (suc j) d same = get_or-set_alike f xs i x j d same
+
+-- a sibling's next place of a steal try makes no difference to the law
+balanced_keeps_law : (room : RoomState) (cpu : ℕ) (pick : Pick) (now : RoomState) (place : ℕ) → SelectsForTheCore room cpu pick now →
+    SelectsForTheCore room cpu pick (with_sibling now cpu (record (sibling_of now cpu) { place = place }))
+balanced_keeps_law room cpu pick now place law =
+    record {
+      lead = law.lead;
+      earliest = law.earliest;
+      highest = law.highest;
+      cookie = law.cookie;
+      told = law.told;
+      choices = λ other there. get_or-set_alike to_run now.siblings cpu (record (sibling_of now cpu) { place = place }) other idle refl ∙ law.choices other there;
+      first = law.first;
+      took = law.took;
+      matches = law.matches;
+      forced = law.forced;
+      count = law.count;
+      counted = law.counted;
+      occupied = law.occupied;
+    }
+
 -- Every schedule of an online sibling keeps the law.
 pub schedule_keeps_law : (room : RoomState) (fresh : Bool) (cpu : ℕ) → cpu < length room.siblings → is_online room cpu ≡ true → KeepsLaw room cpu (schedule room fresh cpu)
-schedule_keeps_law room fresh cpu below up = scheduled_keeps_law room fresh cpu (sibling_of room cpu).waiting below up
+schedule_keeps_law room fresh cpu below up =
+    let made = scheduled room fresh cpu (sibling_of room cpu).waiting in
+    go (selection_of (Picked made.pick)) made.room _ (scheduled_keeps_law room fresh cpu (sibling_of room cpu).waiting below up) where
+      go : (pick : Option Pick) (now : RoomState) (place : ℕ) → IfSome pick (λ pick. SelectsForTheCore room cpu pick now) →
+          IfSome pick (λ pick. SelectsForTheCore room cpu pick (with_sibling now cpu (record (sibling_of now cpu) { place = place })))
+      go None now place kept = tt
+      go (Some pick) now place kept = balanced_keeps_law room cpu pick now place kept
 
 -- what the law says of a step made by an event
 abbrev pub StepKeepsLaw : RoomState → Event → Stepped → Type 0
 StepKeepsLaw room event made = IfSome (selection_of made.reply) (λ pick. SelectsForTheCore (scheduling_room room event) (cpu_of event) pick made.room)
 
+tried_keeps_law : (room : RoomState) (cpu : ℕ) (task : Option Task) → StepKeepsLaw room (Turn cpu) (tried room cpu task)
+tried_keeps_law room cpu None = tt
+tried_keeps_law room cpu (Some task) = tt
+
 turned_keeps_law : (room : RoomState) (fresh : Bool) (cpu : ℕ) → cpu < length room.siblings → is_online room cpu ≡ true →
     StepKeepsLaw room (Turn cpu) (turned room fresh cpu)
 turned_keeps_law room fresh cpu below up =
-    cond_both (sibling_of room cpu).pending _ _ (StepKeepsLaw room (Turn cpu)) (λ _. schedule_keeps_law room fresh cpu below up) (λ _. tt)
+    cond_both (sibling_of room cpu).pending _ _ (StepKeepsLaw room (Turn cpu)) (λ _. schedule_keeps_law room fresh cpu below up)
+    (λ _. cond_both ((sibling_of room cpu).place == 0) _ _ (StepKeepsLaw room (Turn cpu)) (λ _. tt) (λ _. tried_keeps_law room cpu (stolen room cpu)))
 
 -- a sibling that blocks schedules in the room without the task that went to sleep, where the same siblings are online
 blocked_keeps_law : (room : RoomState) (cpu : ℕ) (task : Option Task) → cpu < length room.siblings → is_online room cpu ≡ true →
@@ -366,7 +409,7 @@ blocked_keeps_law : (room : RoomState) (cpu : ℕ) (task : Option Task) → cpu 
 blocked_keeps_law room cpu None below up = tt
 blocked_keeps_law room cpu (Some task) below up =
     let room_then = idled (dequeued room task) cpu in
-    let same = onlines-idled room cpu task in
+    let same = kept-idled room cpu task in
     schedule_keeps_law room_then false cpu (subst (λ n. cpu < n) (sym (length-alike room_then room same)) below)
     (is_online-alike room_then room same cpu ∙ up)
 
@@ -376,7 +419,7 @@ exited_keeps_law : (room : RoomState) (cpu : ℕ) (task : Option Task) → cpu <
 exited_keeps_law room cpu None below up = tt
 exited_keeps_law room cpu (Some task) below up =
     let room_then = idled (without room task) cpu in
-    let same = onlines-without room cpu task in
+    let same = kept-without room cpu task in
     cond_both (has_threads room task) _ _ (λ (made : Stepped). IfSome (selection_of made.reply) (λ pick. SelectsForTheCore room_then cpu pick made.room))
     (λ _. tt)
     (λ _. schedule_keeps_law room_then false cpu (subst (λ n. cpu < n) (sym (length-alike room_then room same)) below)
@@ -407,24 +450,47 @@ first_answer_selects_nothing (row ∷ rows) none =
     (λ _. first_answer_selects_nothing rows none.1)
 
 -- A call tells no selection.
-prctl_selects_nothing : (room : RoomState) (caller : ℕ) (ask : Ask) → selection_of (prctl_answer room caller ask) ≡ None
+pub prctl_selects_nothing : (room : RoomState) (caller : ℕ) (ask : Ask) → selection_of (prctl_answer room caller ask) ≡ None
 unfolding rows_before_making rows_after_making
 prctl_selects_nothing room caller ask =
     first_answer_selects_nothing (rows_before_making room caller ask ++ rows_after_making room caller ask)
     (refl, (refl, (refl, (refl, (refl, (refl, (refl, (refl, (refl, (refl, (refl, (refl, (refl, tt)))))))))))))
 
+-- a sibling that is offline selects nothing
+offline_keeps_law : (room : RoomState) (event : Event) (cpu : ℕ) (stepped : Stepped) → (is_online room cpu ≡ true → StepKeepsLaw room event stepped) →
+    StepKeepsLaw room event (unless_offline room cpu stepped)
+offline_keeps_law room event cpu stepped kept = cond_both (is_online room cpu) _ _ (StepKeepsLaw room event) kept (λ _. tt)
+
+set_policy_keeps_law : (room : RoomState) (pid : ℕ) (policy : Policy) (task : Option Task) → StepKeepsLaw room (SetSched pid policy) (set_policy room policy task)
+set_policy_keeps_law room pid policy None = tt
+set_policy_keeps_law room pid policy (Some task) = tt
+
+taken_offline_keeps_law : (room : RoomState) (cpu : ℕ) → StepKeepsLaw room (Offline cpu) (taken_offline room cpu)
+taken_offline_keeps_law room cpu =
+    cond_both (not (is_online room cpu)) _ _ (StepKeepsLaw room (Offline cpu)) (λ _. tt)
+    (λ _. cond_both (length (online room) == 1) _ _ (StepKeepsLaw room (Offline cpu)) (λ _. tt) (λ _. tt))
+
+brought_online_keeps_law : (room : RoomState) (cpu : ℕ) → StepKeepsLaw room (Online cpu) (brought_online room cpu)
+brought_online_keeps_law room cpu = cond_both (is_online room cpu) _ _ (StepKeepsLaw room (Online cpu)) (λ _. tt) (λ _. tt)
+
 -- Every step of an online sibling keeps the law, and the other steps select nothing.
-pub step_keeps_law : (room : RoomState) (fresh : Bool) (event : Event) → IsEvent (length room.siblings) event →
-    ((cpu : ℕ) → cpu < length room.siblings → is_online room cpu ≡ true) → StepKeepsLaw room event (step room fresh event)
-step_keeps_law room fresh (Turn cpu) below up = turned_keeps_law room fresh cpu below (up cpu below)
-step_keeps_law room fresh (Resched cpu) below up = schedule_keeps_law room fresh cpu below (up cpu below)
-step_keeps_law room fresh (Block cpu) below up = blocked_keeps_law room cpu (running_on room cpu) below (up cpu below)
-step_keeps_law room fresh (Exit cpu) below up = exited_keeps_law room cpu (running_on room cpu) below (up cpu below)
-step_keeps_law room fresh (Tick cpu) limits up = ticked_keeps_law room cpu (running_on room cpu)
-step_keeps_law room fresh (Wake pid) limits up = woken_keeps_law room pid (task_of room pid)
-step_keeps_law room fresh (Advance delta) limits up = tt
-step_keeps_law room fresh (Fork caller thread) limits up = forked_keeps_law room caller thread (task_of room caller)
-step_keeps_law room fresh (Prctl caller ask) limits up =
+pub step_keeps_law : (room : RoomState) (fresh : Bool) (event : Event) → IsEvent (length room.siblings) event → StepKeepsLaw room event (step room fresh event)
+step_keeps_law room fresh (Turn cpu) below = offline_keeps_law room (Turn cpu) cpu (turned room fresh cpu) (turned_keeps_law room fresh cpu below)
+step_keeps_law room fresh (Resched cpu) below =
+    offline_keeps_law room (Resched cpu) cpu (picked Picked (schedule room fresh cpu)) (schedule_keeps_law room fresh cpu below)
+step_keeps_law room fresh (Block cpu) below =
+    offline_keeps_law room (Block cpu) cpu (blocked room cpu (running_on room cpu)) (blocked_keeps_law room cpu (running_on room cpu) below)
+step_keeps_law room fresh (Exit cpu) below =
+    offline_keeps_law room (Exit cpu) cpu (exited room cpu (running_on room cpu)) (exited_keeps_law room cpu (running_on room cpu) below)
+step_keeps_law room fresh (Tick cpu) limits =
+    offline_keeps_law room (Tick cpu) cpu (ticked room cpu (running_on room cpu)) (λ _. ticked_keeps_law room cpu (running_on room cpu))
+step_keeps_law room fresh (Wake pid) limits = woken_keeps_law room pid (task_of room pid)
+step_keeps_law room fresh (Advance delta) limits = tt
+step_keeps_law room fresh (Fork caller thread) limits = forked_keeps_law room caller thread (task_of room caller)
+step_keeps_law room fresh (SetSched pid policy) limits = set_policy_keeps_law room pid policy (task_of room pid)
+step_keeps_law room fresh (Offline cpu) limits = taken_offline_keeps_law room cpu
+step_keeps_law room fresh (Online cpu) limits = brought_online_keeps_law room cpu
+step_keeps_law room fresh (Prctl caller ask) limits =
     MatchOption-from_none (selection_of (prctl_answer room caller ask)) _ (prctl_selects_nothing room caller ask)
 
 -- Every selection for the core that a legal step makes keeps the law.
@@ -437,8 +503,7 @@ selects scenario history entry limits legal =
     let made = step_at (moment_of scenario history) entry.event in
     let siblings = length-fold_of scenario history in
     let kept = step_keeps_law room (is_fresh (ledger_of scenario history)) entry.event
-    (subst (λ n. IsEvent n entry.event) (sym siblings) limits)
-    (λ cpu below. is_online-fold_of scenario history cpu (subst (λ n. cpu < n) siblings below)) in
+    (subst (λ n. IsEvent n entry.event) (sym siblings) limits) in
     let same : made ≡ record { reply = entry.reply; room = fold_of scenario (history ++ entry ∷ []) } =
     sym (λ i. record { reply = legal i; room = (moment_of-push scenario history entry i).room }) in
     subst (StepKeepsLaw room entry.event) same kept

@@ -1,22 +1,28 @@
--- Siblings: no step adds a sibling, takes one away, or changes whether one is online.
-use Rattle.std.proofs.Common.{◌≡◌, ℕ, zero, suc, ◌+◌, ◌<◌, Bool, true, false, List, [], ◌∷◌, map, length, get_or, set, refl, sym, ap, ◌∙◌, Option, Some, None}
-use Rattle.std.specs.Prelude.{◌==◌, ◌||◌}
+-- Siblings: no step adds a sibling or takes one from the room, and only leaving and coming back change whether one is
+-- online.
+use Rattle.std.proofs.Common.{◌≡◌, ℕ, zero, suc, ◌+◌, Bool, true, false, List, [], ◌∷◌, map, length, get_or, set, refl, sym, ap, ◌∙◌, Option, Some, None}
+use Rattle.std.specs.Prelude.{◌==◌, ◌||◌, not}
 use Rattle.std.specs.List.{enumerate_from}
 use Rattle.std.proofs.lemmas.Bool.{cond_both}
-use Rattle.std.proofs.lemmas.List.{length-map, length-replicate, get_or-replicate}
+use Rattle.std.proofs.lemmas.List.{length-map, length-set, length-replicate}
+use Rattle.std.proofs.lemmas.List.FromFn.{length-enumerate_from}
 use Rattle.cs_types.specs.declared.task.Task.{Task}
+use Rattle.cs_types.specs.declared.task.Policy.{Policy}
 use Rattle.cs_types.specs.declared.event.Event.{Event}
-use Rattle.cs_types.specs.declared.event.Event.TheVariants.{Turn, Resched, Block, Exit, Tick, Wake, Advance, Fork, Prctl}
+use Rattle.cs_types.specs.declared.event.Event.TheVariants.{Turn, Resched, Block, Exit, Tick, Wake, Advance, Fork, Prctl, SetSched, Offline, Online}
 use Rattle.cs_types.specs.declared.event.Ask.{Ask}
 use Rattle.cs_types.specs.declared.reply.Reply.{Reply}
 use Rattle.cs_types.specs.declared.reply.Reply.TheVariants.{Zero}
 use Rattle.cs_types.specs.declared.reply.Entry.{Entry}
 use Rattle.cs_types.specs.declared.scenario.Scenario.{Scenario}
-use Rattle.cs_types.specs.Room.{RoomState, SiblingState, idle, sibling_of, running_on, is_online, task_of, with_sibling, start}
+use Rattle.cs_types.specs.Room.{RoomState, SiblingState, idle, sibling_of, running_on, is_online, online, task_of, with_sibling, flagged}
 use Rattle.cs_types.specs.Selection.{is_run, told, handed, given, selected_room, selected, plain, is_plain, rescheduled, scheduled, schedule}
 use Rattle.cs_types.specs.Prctl.{Setting, setting_of, runs_one, makes_cookie, with_made, with_answer, prctl_answer, prctl_room}
-use Rattle.cs_types.specs.Step.{Stepped, step, woken, blocked, exited, forked, may_not_fork, settled, refreshed, ticked, turned, dequeued, without, has_threads, child_of, with_child, idled, enqueued}
-use Rattle.cs_types.specs.Time.{with_growth, least_of, advanced, sliced}
+use Rattle.cs_types.specs.Step.{Stepped, step, woken, blocked, exited, forked, may_not_fork, settled, ticked, turned, without, has_threads, child_of, with_child, idled, tried, unless_offline, with_policy, set_policy, taken_offline, brought_online}
+use Rattle.cs_types.specs.Queueing.{refreshed, dequeued, enqueued, moved, rehomed, queued_at_home}
+use Rattle.cs_types.specs.Steal.{source_of, stolen, with_place}
+use Rattle.cs_types.specs.Hotplug.{without_sibling}
+use Rattle.cs_types.specs.Time.{with_growth, advanced, sliced}
 use Rattle.cs_types.specs.Touches.{is_fresh}
 use Rattle.cs_types.specs.History.{History, Moment, beginning, next, after, fold_of}
 
@@ -41,148 +47,188 @@ get_or-map_default f (x ∷ xs) (suc i) d = get_or-map_default f xs i d
 
 -- ---- what each change of a room keeps
 
--- of each sibling, whether it is online
-abbrev pub onlines : RoomState → List Bool
-onlines room = map (λ sibling. sibling.online) room.siblings
+-- of each sibling, whether it is online, and its least virtual time
+abbrev pub parts_of : SiblingState → Bool × ℕ
+parts_of sibling = (sibling.online, sibling.least)
 
--- a sibling is changed, and is online where it was
-onlines-with_sibling : (room : RoomState) (cpu : ℕ) (sibling : SiblingState) → sibling.online ≡ is_online room cpu → onlines (with_sibling room cpu sibling) ≡ onlines room
-onlines-with_sibling room cpu sibling same = map-set_alike (λ s. s.online) room.siblings cpu sibling idle same
+abbrev pub kept : RoomState → List (Bool × ℕ)
+kept room = map parts_of room.siblings
 
--- a sibling that is told its choice is online where it was
-online-told : (selector cpu : ℕ) (sibling : SiblingState) (run : Option ℕ) → (told selector cpu sibling run).online ≡ sibling.online
-online-told selector cpu sibling run =
-    cond_both (cpu == selector) _ _ (λ (s : SiblingState). s.online ≡ sibling.online) (λ _. refl)
-    (λ _. cond_both (is_run sibling.run run) _ _ (λ (s : SiblingState). s.online ≡ sibling.online) (λ _. refl) (λ _. refl))
+-- a sibling is changed, but in these parts it is not
+pub kept-with_sibling : (room : RoomState) (cpu : ℕ) (sibling : SiblingState) → parts_of sibling ≡ parts_of (sibling_of room cpu) → kept (with_sibling room cpu sibling) ≡ kept room
+kept-with_sibling room cpu sibling same = map-set_alike parts_of room.siblings cpu sibling idle same
 
-online-handed : (selector occupation : ℕ) (run : Option ℕ) (renews : Bool) (place : ℕ × SiblingState) → (handed selector occupation run renews place).online ≡ place.1.online
-online-handed selector occupation run renews place =
-    cond_both place.1.online _ _ (λ (s : SiblingState). s.online ≡ place.1.online) (λ _. online-told selector place.0 place.1 run) (λ _. refl)
+-- so where it is told its choice
+parts-told : (selector cpu : ℕ) (sibling : SiblingState) (run : Option ℕ) → parts_of (told selector cpu sibling run) ≡ parts_of sibling
+parts-told selector cpu sibling run =
+    cond_both (cpu == selector) _ _ (λ (s : SiblingState). parts_of s ≡ parts_of sibling) (λ _. refl)
+    (λ _. cond_both (is_run sibling.run run) _ _ (λ (s : SiblingState). parts_of s ≡ parts_of sibling) (λ _. refl) (λ _. refl))
 
-onlines-selected_room : (room : RoomState) (cpu core : ℕ) → onlines (selected_room room cpu core) ≡ onlines room
+parts-handed : (selector occupation : ℕ) (run : Option ℕ) (renews : Bool) (place : ℕ × SiblingState) → parts_of (handed selector occupation run renews place) ≡ parts_of place.1
+parts-handed selector occupation run renews place =
+    cond_both place.1.online _ _ (λ (s : SiblingState). parts_of s ≡ parts_of place.1) (λ _. parts-told selector place.0 place.1 run) (λ _. refl)
+
+pub kept-selected_room : (room : RoomState) (cpu core : ℕ) → kept (selected_room room cpu core) ≡ kept room
 unfolding selected_room
-onlines-selected_room room cpu core =
-    map-enumerate_alike (λ s. s.online) (given room core cpu)
-    (λ place. online-handed cpu _ _ _ place) 0 room.siblings
+kept-selected_room room cpu core =
+    map-enumerate_alike parts_of (given room core cpu)
+    (λ place. parts-handed cpu _ _ _ place) 0 room.siblings
 
 -- ---- what each step keeps
 
-onlines-rescheduled : (room : RoomState) (cpu : ℕ) → onlines (rescheduled room cpu).room ≡ onlines room
-onlines-rescheduled room cpu =
-    cond_both (is_plain room cpu) (plain room cpu) (selected room cpu) (λ made. onlines made.room ≡ onlines room)
-    (λ _. onlines-with_sibling room cpu _ refl) (λ _. onlines-selected_room room cpu _)
+pub kept-rescheduled : (room : RoomState) (cpu : ℕ) → kept (rescheduled room cpu).room ≡ kept room
+kept-rescheduled room cpu =
+    cond_both (is_plain room cpu) (plain room cpu) (selected room cpu) (λ made. kept made.room ≡ kept room)
+    (λ _. kept-with_sibling room cpu _ refl) (λ _. kept-selected_room room cpu _)
 
-onlines-scheduled : (room : RoomState) (fresh : Bool) (cpu : ℕ) (waiting : Option (Option ℕ)) → onlines (scheduled room fresh cpu waiting).room ≡ onlines room
-onlines-scheduled room fresh cpu None = onlines-rescheduled room cpu
-onlines-scheduled room true cpu (Some run) = onlines-with_sibling room cpu _ refl
-onlines-scheduled room false cpu (Some run) = onlines-rescheduled room cpu
+pub kept-scheduled : (room : RoomState) (fresh : Bool) (cpu : ℕ) (waiting : Option (Option ℕ)) → kept (scheduled room fresh cpu waiting).room ≡ kept room
+kept-scheduled room fresh cpu None = kept-rescheduled room cpu
+kept-scheduled room true cpu (Some run) = kept-with_sibling room cpu _ refl
+kept-scheduled room false cpu (Some run) = kept-rescheduled room cpu
 
-onlines-schedule : (room : RoomState) (fresh : Bool) (cpu : ℕ) → onlines (schedule room fresh cpu).room ≡ onlines room
-onlines-schedule room fresh cpu = onlines-scheduled room fresh cpu (sibling_of room cpu).waiting
+pub kept-schedule : (room : RoomState) (fresh : Bool) (cpu : ℕ) → kept (schedule room fresh cpu).room ≡ kept room
+kept-schedule room fresh cpu =
+    kept-with_sibling (scheduled room fresh cpu (sibling_of room cpu).waiting).room cpu _ refl ∙ kept-scheduled room fresh cpu (sibling_of room cpu).waiting
 
-onlines-turned : (room : RoomState) (fresh : Bool) (cpu : ℕ) → onlines (turned room fresh cpu).room ≡ onlines room
-onlines-turned room fresh cpu =
-    cond_both (sibling_of room cpu).pending _ _ (λ (made : Stepped). onlines made.room ≡ onlines room) (λ _. onlines-schedule room fresh cpu) (λ _. refl)
+pub kept-tried : (room : RoomState) (cpu : ℕ) (task : Option Task) → kept (tried room cpu task).room ≡ kept room
+kept-tried room cpu None = kept-with_sibling room cpu _ refl
+kept-tried room cpu (Some task) =
+    let placed = with_place (moved room cpu task) cpu 0 in
+    let asked = flagged placed cpu true in
+    kept-with_sibling asked (source_of room cpu) _ refl ∙ (kept-with_sibling placed cpu _ refl ∙ kept-with_sibling (moved room cpu task) cpu _ refl)
+
+pub kept-turned : (room : RoomState) (fresh : Bool) (cpu : ℕ) → kept (turned room fresh cpu).room ≡ kept room
+kept-turned room fresh cpu =
+    cond_both (sibling_of room cpu).pending _ _ (λ (made : Stepped). kept made.room ≡ kept room) (λ _. kept-schedule room fresh cpu)
+    (λ _. cond_both ((sibling_of room cpu).place == 0) _ _ (λ (made : Stepped). kept made.room ≡ kept room) (λ _. refl)
+    (λ _. kept-tried room cpu (stolen room cpu)))
 
 -- the task that a sibling runs goes to sleep, and the sibling runs idle
-pub onlines-idled : (room : RoomState) (cpu : ℕ) (task : Task) → onlines (idled (dequeued room task) cpu) ≡ onlines room
-onlines-idled room cpu task = onlines-with_sibling (dequeued room task) cpu _ refl
+pub kept-idled : (room : RoomState) (cpu : ℕ) (task : Task) → kept (idled (dequeued room task) cpu) ≡ kept room
+kept-idled room cpu task = kept-with_sibling (dequeued room task) cpu _ refl
 
-onlines-blocked : (room : RoomState) (cpu : ℕ) (task : Option Task) → onlines (blocked room cpu task).room ≡ onlines room
-onlines-blocked room cpu None = refl
-onlines-blocked room cpu (Some task) = onlines-schedule (idled (dequeued room task) cpu) false cpu ∙ onlines-idled room cpu task
+pub kept-blocked : (room : RoomState) (cpu : ℕ) (task : Option Task) → kept (blocked room cpu task).room ≡ kept room
+kept-blocked room cpu None = refl
+kept-blocked room cpu (Some task) = kept-schedule (idled (dequeued room task) cpu) false cpu ∙ kept-idled room cpu task
 
-onlines-woken : (room : RoomState) (task : Option Task) → onlines (woken room task).room ≡ onlines room
-onlines-woken room None = refl
-onlines-woken room (Some task) =
-    cond_both task.queued _ _ (λ (made : Stepped). onlines made.room ≡ onlines room) (λ _. refl)
-    (λ _. onlines-with_sibling (enqueued room (refreshed room task)) task.home _ refl)
+pub kept-queued_at_home : (room : RoomState) (task : Task) → kept (queued_at_home room task) ≡ kept room
+kept-queued_at_home room task = kept-with_sibling (enqueued room (refreshed room task)) task.home _ refl
+
+pub kept-woken : (room : RoomState) (task : Option Task) → kept (woken room task).room ≡ kept room
+kept-woken room None = refl
+kept-woken room (Some task) =
+    cond_both task.queued _ _ (λ (made : Stepped). kept made.room ≡ kept room) (λ _. refl)
+    (λ _. kept-queued_at_home room (rehomed room task))
 
 -- a change of every sibling that keeps whether it is online
-map-map_alike : {X Y : Type 0} (f : X → Y) (g : X → X) → ((x : X) → f (g x) ≡ f x) → (xs : List X) → map f (map g xs) ≡ map f xs
+pub map-map_alike : {X Y : Type 0} (f : X → Y) (g : X → X) → ((x : X) → f (g x) ≡ f x) → (xs : List X) → map f (map g xs) ≡ map f xs
 map-map_alike f g same [] = refl
 map-map_alike f g same (x ∷ xs) = cc (same x, map-map_alike f g same xs)
 
-pub onlines-without : (room : RoomState) (cpu : ℕ) (task : Task) → onlines (idled (without room task) cpu) ≡ onlines room
-onlines-without room cpu task = onlines-with_sibling (without room task) cpu _ refl
+pub kept-without : (room : RoomState) (cpu : ℕ) (task : Task) → kept (idled (without room task) cpu) ≡ kept room
+kept-without room cpu task = kept-with_sibling (without room task) cpu _ refl
 
-onlines-exited : (room : RoomState) (cpu : ℕ) (task : Option Task) → onlines (exited room cpu task).room ≡ onlines room
-onlines-exited room cpu None = refl
-onlines-exited room cpu (Some task) =
-    cond_both (has_threads room task) _ _ (λ (made : Stepped). onlines made.room ≡ onlines room) (λ _. refl)
-    (λ _. onlines-schedule (idled (without room task) cpu) false cpu ∙ onlines-without room cpu task)
+pub kept-exited : (room : RoomState) (cpu : ℕ) (task : Option Task) → kept (exited room cpu task).room ≡ kept room
+kept-exited room cpu None = refl
+kept-exited room cpu (Some task) =
+    cond_both (has_threads room task) _ _ (λ (made : Stepped). kept made.room ≡ kept room) (λ _. refl)
+    (λ _. kept-schedule (idled (without room task) cpu) false cpu ∙ kept-without room cpu task)
 
-onlines-forked : (room : RoomState) (thread : Bool) (caller : Option Task) → onlines (forked room thread caller).room ≡ onlines room
-onlines-forked room thread None = refl
-onlines-forked room thread (Some caller) =
+pub kept-forked : (room : RoomState) (thread : Bool) (caller : Option Task) → kept (forked room thread caller).room ≡ kept room
+kept-forked room thread None = refl
+kept-forked room thread (Some caller) =
     let child = settled room (child_of caller thread room.next_pid) in
     let born = with_child room (child_of caller thread room.next_pid) in
-    cond_both (may_not_fork room caller) _ _ (λ (made : Stepped). onlines made.room ≡ onlines room) (λ _. refl)
-    (λ _. onlines-with_sibling (enqueued born (refreshed born child)) child.home _ refl)
+    cond_both (may_not_fork room caller) _ _ (λ (made : Stepped). kept made.room ≡ kept room) (λ _. refl)
+    (λ _. kept-queued_at_home born child)
 
-onlines-advanced : (room : RoomState) (delta : ℕ) → onlines (advanced room delta) ≡ onlines room
-unfolding advanced
-onlines-advanced room delta =
-    map-enumerate_alike (λ (s : SiblingState). s.online) (λ place. record place.1 { least = least_of (with_growth room delta) place.0 }) (λ place. refl) 0
-    (with_growth room delta).siblings
-    ∙ map-map_alike (λ (s : SiblingState). s.online) (λ s. record s { ran = s.ran + delta }) (λ s. refl) room.siblings
+pub kept-ticked : (room : RoomState) (cpu : ℕ) (task : Option Task) → kept (ticked room cpu task).room ≡ kept room
+kept-ticked room cpu None = refl
+kept-ticked room cpu (Some task) = kept-with_sibling (sliced room cpu task) cpu _ refl
 
-onlines-ticked : (room : RoomState) (cpu : ℕ) (task : Option Task) → onlines (ticked room cpu task).room ≡ onlines room
-onlines-ticked room cpu None = refl
-onlines-ticked room cpu (Some task) = onlines-with_sibling (sliced room cpu task) cpu _ refl
+pub kept-with_answer : (room : RoomState) (set : Setting) (answer : Reply) → kept (with_answer room set answer) ≡ kept room
+kept-with_answer room set Zero =
+    map-map_alike parts_of (λ s. record s { pending = s.pending || runs_one set s }) (λ s. refl) room.siblings
+kept-with_answer room set answer = refl
 
-onlines-with_answer : (room : RoomState) (set : Setting) (answer : Reply) → onlines (with_answer room set answer) ≡ onlines room
-onlines-with_answer room set Zero =
-    map-map_alike (λ (s : SiblingState). s.online) (λ s. record s { pending = s.pending || runs_one set s }) (λ s. refl) room.siblings
-onlines-with_answer room set answer = refl
+pub kept-prctl_room : (room : RoomState) (pid : ℕ) (ask : Ask) → kept (prctl_room room pid ask) ≡ kept room
+kept-prctl_room room pid ask =
+    kept-with_answer (with_made room (makes_cookie room pid ask)) (setting_of room pid ask) (prctl_answer room pid ask)
 
-onlines-prctl_room : (room : RoomState) (pid : ℕ) (ask : Ask) → onlines (prctl_room room pid ask) ≡ onlines room
-onlines-prctl_room room pid ask =
-    onlines-with_answer (with_made room (makes_cookie room pid ask)) (setting_of room pid ask) (prctl_answer room pid ask)
+pub kept-unless_offline : (room : RoomState) (cpu : ℕ) (stepped : Stepped) → kept stepped.room ≡ kept room → kept (unless_offline room cpu stepped).room ≡ kept room
+kept-unless_offline room cpu stepped same =
+    cond_both (is_online room cpu) _ _ (λ (made : Stepped). kept made.room ≡ kept room) (λ _. same) (λ _. refl)
 
--- No step adds or takes a sibling, or changes whether one is online.
-pub onlines-step : (room : RoomState) (fresh : Bool) (event : Event) →
-    map (λ sibling. sibling.online) (step room fresh event).room.siblings ≡ map (λ sibling. sibling.online) room.siblings
-onlines-step room fresh (Turn cpu) = onlines-turned room fresh cpu
-onlines-step room fresh (Resched cpu) = onlines-schedule room fresh cpu
-onlines-step room fresh (Block cpu) = onlines-blocked room cpu (running_on room cpu)
-onlines-step room fresh (Exit cpu) = onlines-exited room cpu (running_on room cpu)
-onlines-step room fresh (Tick cpu) = onlines-ticked room cpu (running_on room cpu)
-onlines-step room fresh (Wake pid) = onlines-woken room (task_of room pid)
-onlines-step room fresh (Advance delta) = onlines-advanced room delta
-onlines-step room fresh (Fork caller thread) = onlines-forked room thread (task_of room caller)
-onlines-step room fresh (Prctl caller ask) = onlines-prctl_room room caller ask
+pub kept-set_policy : (room : RoomState) (policy : Policy) (task : Option Task) → kept (set_policy room policy task).room ≡ kept room
+kept-set_policy room policy None = refl
+kept-set_policy room policy (Some task) =
+    let changed = with_policy policy task in
+    let queued = queued_at_home (dequeued room changed) changed in
+    cond_both task.queued _ _ (λ (made : RoomState). kept made ≡ kept room)
+    (λ _. kept-with_sibling queued task.home _ refl ∙ kept-queued_at_home (dequeued room changed) changed) (λ _. refl)
 
 -- ---- what is read from whether the siblings are online
 
 -- two rooms whose siblings are online alike have as many
-pub length-alike : (room other : RoomState) → onlines room ≡ onlines other → length room.siblings ≡ length other.siblings
+pub length-alike : (room other : RoomState) → kept room ≡ kept other → length room.siblings ≡ length other.siblings
 length-alike room other same =
-    sym (length-map room.siblings (λ s. s.online)) ∙ (ap length same ∙ length-map other.siblings (λ s. s.online))
+    sym (length-map room.siblings parts_of) ∙ (ap length same ∙ length-map other.siblings parts_of)
+
+parts-alike : (room other : RoomState) → kept room ≡ kept other → (cpu : ℕ) → parts_of (sibling_of room cpu) ≡ parts_of (sibling_of other cpu)
+parts-alike room other same cpu =
+    sym (get_or-map_default parts_of room.siblings cpu idle)
+    ∙ (ap (λ ps. get_or ps cpu (parts_of idle)) same ∙ get_or-map_default parts_of other.siblings cpu idle)
 
 -- and they have the same siblings online
-pub is_online-alike : (room other : RoomState) → onlines room ≡ onlines other → (cpu : ℕ) → is_online room cpu ≡ is_online other cpu
+pub is_online-alike : (room other : RoomState) → kept room ≡ kept other → (cpu : ℕ) → is_online room cpu ≡ is_online other cpu
 is_online-alike room other same cpu =
-    sym (get_or-map_default (λ s. s.online) room.siblings cpu idle)
-    ∙ (ap (λ bs. get_or bs cpu true) same ∙ get_or-map_default (λ s. s.online) other.siblings cpu idle)
+    ap (λ (p : Bool × ℕ). p.0) (parts-alike room other same cpu)
+
+-- and the same leasts
+pub least-alike : (room other : RoomState) → kept room ≡ kept other → (cpu : ℕ) → (sibling_of room cpu).least ≡ (sibling_of other cpu).least
+least-alike room other same cpu = ap (λ (p : Bool × ℕ). p.1) (parts-alike room other same cpu)
+
+-- ---- how many siblings there are
+
+length-taken_offline : (room : RoomState) (cpu : ℕ) → length (taken_offline room cpu).room.siblings ≡ length room.siblings
+unfolding without_sibling
+length-taken_offline room cpu =
+    cond_both (not (is_online room cpu)) _ _ (λ (made : Stepped). length made.room.siblings ≡ length room.siblings) (λ _. refl)
+    (λ _. cond_both (length (online room) == 1) _ _ (λ (made : Stepped). length made.room.siblings ≡ length room.siblings) (λ _. refl)
+    (λ _. length-map (enumerate_from 0 room.siblings) _ ∙ length-enumerate_from 0 room.siblings))
+
+length-brought_online : (room : RoomState) (cpu : ℕ) → length (brought_online room cpu).room.siblings ≡ length room.siblings
+length-brought_online room cpu =
+    cond_both (is_online room cpu) _ _ (λ (made : Stepped). length made.room.siblings ≡ length room.siblings) (λ _. refl)
+    (λ _. length-set room.siblings cpu _)
+
+length-advanced : (room : RoomState) (delta : ℕ) → length (advanced room delta).siblings ≡ length room.siblings
+unfolding advanced
+length-advanced room delta =
+    length-map (enumerate_from 0 (with_growth room delta).siblings) _ ∙ (length-enumerate_from 0 (with_growth room delta).siblings ∙ length-map room.siblings _)
+
+-- No step adds a sibling or takes one from the room.
+pub length-step : (room : RoomState) (fresh : Bool) (event : Event) → length (step room fresh event).room.siblings ≡ length room.siblings
+length-step room fresh (Turn cpu) = length-alike (step room fresh (Turn cpu)).room room (kept-unless_offline room cpu _ (kept-turned room fresh cpu))
+length-step room fresh (Resched cpu) = length-alike (step room fresh (Resched cpu)).room room (kept-unless_offline room cpu _ (kept-schedule room fresh cpu))
+length-step room fresh (Block cpu) = length-alike (step room fresh (Block cpu)).room room (kept-unless_offline room cpu _ (kept-blocked room cpu (running_on room cpu)))
+length-step room fresh (Exit cpu) = length-alike (step room fresh (Exit cpu)).room room (kept-unless_offline room cpu _ (kept-exited room cpu (running_on room cpu)))
+length-step room fresh (Tick cpu) = length-alike (step room fresh (Tick cpu)).room room (kept-unless_offline room cpu _ (kept-ticked room cpu (running_on room cpu)))
+length-step room fresh (Wake pid) = length-alike (step room fresh (Wake pid)).room room (kept-woken room (task_of room pid))
+length-step room fresh (Advance delta) = length-advanced room delta
+length-step room fresh (Fork caller thread) = length-alike (step room fresh (Fork caller thread)).room room (kept-forked room thread (task_of room caller))
+length-step room fresh (Prctl caller ask) = length-alike (step room fresh (Prctl caller ask)).room room (kept-prctl_room room caller ask)
+length-step room fresh (SetSched pid policy) = length-alike (step room fresh (SetSched pid policy)).room room (kept-set_policy room policy (task_of room pid))
+length-step room fresh (Offline cpu) = length-taken_offline room cpu
+length-step room fresh (Online cpu) = length-brought_online room cpu
 
 -- ---- after a history
 
-onlines-after : (moment : Moment) (entries : List Entry) → onlines (after moment entries).room ≡ onlines moment.room
-onlines-after moment [] = refl
-onlines-after moment (entry ∷ entries) =
-    onlines-after (next moment entry) entries ∙ onlines-step moment.room (is_fresh moment.ledger) entry.event
-
-onlines-fold_of : (scenario : Scenario) (history : History) → onlines (fold_of scenario history) ≡ onlines (start scenario)
-onlines-fold_of scenario history = onlines-after (beginning scenario) history
+length-after : (moment : Moment) (entries : List Entry) → length (after moment entries).room.siblings ≡ length moment.room.siblings
+length-after moment [] = refl
+length-after moment (entry ∷ entries) =
+    length-after (next moment entry) entries ∙ length-step moment.room (is_fresh moment.ledger) entry.event
 
 -- a room has the siblings of its scenario
 pub length-fold_of : (scenario : Scenario) (history : History) → length (fold_of scenario history).siblings ≡ scenario.siblings
-length-fold_of scenario history =
-    length-alike (fold_of scenario history) (start scenario) (onlines-fold_of scenario history) ∙ length-replicate scenario.siblings idle
-
--- and each of them is online
-pub is_online-fold_of : (scenario : Scenario) (history : History) (cpu : ℕ) → cpu < scenario.siblings → is_online (fold_of scenario history) cpu ≡ true
-is_online-fold_of scenario history cpu below =
-    is_online-alike (fold_of scenario history) (start scenario) (onlines-fold_of scenario history) cpu
-    ∙ ap (λ (s : SiblingState). s.online) (get_or-replicate scenario.siblings cpu idle idle below)
+length-fold_of scenario history = length-after (beginning scenario) history ∙ length-replicate scenario.siblings idle

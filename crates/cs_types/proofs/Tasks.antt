@@ -9,17 +9,21 @@ use Rattle.std.proofs.Math.Nat.{le-max_left, le-max_right, max-le}
 use Rattle.std.proofs.lemmas.List.Elements.{All-head, All-tail}
 use Rattle.cs_types.specs.declared.task.Task.{Task}
 use Rattle.cs_types.specs.declared.task.TaskSpec.{TaskSpec}
+use Rattle.cs_types.specs.declared.task.Policy.{Policy}
 use Rattle.cs_types.specs.declared.event.Event.{Event}
-use Rattle.cs_types.specs.declared.event.Event.TheVariants.{Turn, Resched, Block, Exit, Tick, Wake, Advance, Fork, Prctl}
+use Rattle.cs_types.specs.declared.event.Event.TheVariants.{Turn, Resched, Block, Exit, Tick, Wake, Advance, Fork, Prctl, SetSched, Offline, Online}
 use Rattle.cs_types.specs.declared.reply.Reply.{Reply}
 use Rattle.cs_types.specs.declared.reply.Reply.TheVariants.{Zero, Child, Refused}
 use Rattle.cs_types.specs.declared.reply.Errno.TheVariants.{Eagain}
 use Rattle.cs_types.specs.declared.reply.Entry.{Entry}
 use Rattle.cs_types.specs.declared.scenario.Scenario.{Scenario}
-use Rattle.cs_types.specs.Room.{RoomState, first_pid, has_pid, sibling_of, running_on, task_of, asleep, placed, asleep_tasks}
+use Rattle.cs_types.specs.Room.{RoomState, first_pid, has_pid, sibling_of, running_on, is_online, online, task_of, with_task, asleep, placed, asleep_tasks}
 use Rattle.cs_types.specs.Selection.{remembered, selected_room, selected, plain, is_plain, rescheduled, scheduled, schedule}
 use Rattle.cs_types.specs.Prctl.{Setting, setting_of, makes_cookie, with_made, with_answer, prctl_answer, prctl_room}
-use Rattle.cs_types.specs.Step.{Stepped, step, woken, blocked, exited, forked, turned, dequeued, without, has_threads, child_of, settled, may_not_fork, with_child, queued_at_home, ticked, idled}
+use Rattle.cs_types.specs.Step.{Stepped, step, woken, blocked, exited, forked, turned, without, has_threads, child_of, settled, may_not_fork, with_child, ticked, idled, tried, unless_offline, with_policy, set_policy, taken_offline, brought_online}
+use Rattle.cs_types.specs.Queueing.{dequeued, queued_at_home, rehomed}
+use Rattle.cs_types.specs.Steal.{stolen}
+use Rattle.cs_types.specs.Hotplug.{moved_off, without_sibling, with_sibling_back}
 use Rattle.cs_types.specs.Accounting.{accounted}
 use Rattle.cs_types.specs.Time.{advanced, grown, ticked_room}
 use Rattle.cs_types.specs.Touches.{is_fresh}
@@ -80,12 +84,19 @@ few-scheduled room true cpu (Some run) = as_many room (scheduled room true cpu (
 few-scheduled room false cpu (Some run) = few-rescheduled room cpu
 
 few-schedule : (room : RoomState) (fresh : Bool) (cpu : ℕ) → KeepsFew room (schedule room fresh cpu).room
-few-schedule room fresh cpu = few-scheduled room fresh cpu (sibling_of room cpu).waiting
+few-schedule room fresh cpu =
+    let made = few-scheduled room fresh cpu (sibling_of room cpu).waiting in record { limit = made.limit; few = made.few }
+
+few-tried : (room : RoomState) (cpu : ℕ) (task : Option Task) → KeepsFew room (tried room cpu task).room
+few-tried room cpu None = as_many room (tried room cpu None).room refl refl
+few-tried room cpu (Some task) = as_many room (tried room cpu (Some task)).room refl (length-map room.tasks _)
 
 few-turned : (room : RoomState) (fresh : Bool) (cpu : ℕ) → KeepsFew room (turned room fresh cpu).room
 few-turned room fresh cpu =
     cond_both (sibling_of room cpu).pending _ _ (λ (made : Stepped). KeepsFew room made.room)
-    (λ _. few-schedule room fresh cpu) (λ _. as_many room room refl refl)
+    (λ _. few-schedule room fresh cpu)
+    (λ _. cond_both ((sibling_of room cpu).place == 0) _ _ (λ (made : Stepped). KeepsFew room made.room) (λ _. as_many room room refl refl)
+    (λ _. few-tried room cpu (stolen room cpu)))
 
 few-blocked : (room : RoomState) (cpu : ℕ) (task : Option Task) → KeepsFew room (blocked room cpu task).room
 few-blocked room cpu None = as_many room room refl refl
@@ -108,7 +119,7 @@ few-woken : (room : RoomState) (task : Option Task) → KeepsFew room (woken roo
 few-woken room None = as_many room room refl refl
 few-woken room (Some task) =
     cond_both task.queued _ _ (λ (made : Stepped). KeepsFew room made.room) (λ _. as_many room room refl refl)
-    (λ _. as_many room (queued_at_home room task) refl (length-map room.tasks _))
+    (λ _. as_many room (queued_at_home room (rehomed room task)) refl (length-map room.tasks _))
 
 -- a child comes only below the limit
 few-forked : (room : RoomState) (thread : Bool) (caller : Option Task) → KeepsFew room (forked room thread caller).room
@@ -142,13 +153,39 @@ few-with_answer : (room : RoomState) (set : Setting) (answer : Reply) → KeepsF
 few-with_answer room set Zero = as_many room (with_answer room set Zero) refl (length-map room.tasks _)
 few-with_answer room set answer = as_many room room refl refl
 
+few-unless_offline : (room : RoomState) (cpu : ℕ) (stepped : Stepped) → KeepsFew room stepped.room → KeepsFew room (unless_offline room cpu stepped).room
+few-unless_offline room cpu stepped keeps =
+    cond_both (is_online room cpu) _ _ (λ (made : Stepped). KeepsFew room made.room) (λ _. keeps) (λ _. as_many room room refl refl)
+
+few-set_policy : (room : RoomState) (policy : Policy) (task : Option Task) → KeepsFew room (set_policy room policy task).room
+few-set_policy room policy None = as_many room room refl refl
+few-set_policy room policy (Some task) =
+    let changed = with_policy policy task in
+    cond_both task.queued _ _ (λ (made : RoomState). KeepsFew room made)
+    (λ _. as_many room _ refl (length-map (dequeued room changed).tasks _ ∙ length-map room.tasks _)) (λ _. as_many room (with_task room changed) refl (length-map room.tasks _))
+
+few-taken_offline : (room : RoomState) (cpu : ℕ) → KeepsFew room (taken_offline room cpu).room
+unfolding without_sibling
+few-taken_offline room cpu =
+    cond_both (not (is_online room cpu)) _ _ (λ (made : Stepped). KeepsFew room made.room) (λ _. as_many room room refl refl)
+    (λ _. cond_both (length (online room) == 1) _ _ (λ (made : Stepped). KeepsFew room made.room) (λ _. as_many room room refl refl)
+    (λ _. as_many room (without_sibling room cpu) refl (length-map room.tasks (moved_off room cpu))))
+
+few-brought_online : (room : RoomState) (cpu : ℕ) → KeepsFew room (brought_online room cpu).room
+few-brought_online room cpu =
+    cond_both (is_online room cpu) _ _ (λ (made : Stepped). KeepsFew room made.room) (λ _. as_many room room refl refl)
+    (λ _. as_many room (with_sibling_back room cpu) refl refl)
+
 -- No step goes beyond the limit.
 pub few-step : (room : RoomState) (fresh : Bool) (event : Event) → KeepsFew room (step room fresh event).room
-few-step room fresh (Turn cpu) = few-turned room fresh cpu
-few-step room fresh (Resched cpu) = few-schedule room fresh cpu
-few-step room fresh (Block cpu) = few-blocked room cpu (running_on room cpu)
-few-step room fresh (Exit cpu) = few-exited room cpu (running_on room cpu)
-few-step room fresh (Tick cpu) = few-ticked room cpu (running_on room cpu)
+few-step room fresh (Turn cpu) = few-unless_offline room cpu _ (few-turned room fresh cpu)
+few-step room fresh (Resched cpu) = few-unless_offline room cpu _ (few-schedule room fresh cpu)
+few-step room fresh (Block cpu) = few-unless_offline room cpu _ (few-blocked room cpu (running_on room cpu))
+few-step room fresh (Exit cpu) = few-unless_offline room cpu _ (few-exited room cpu (running_on room cpu))
+few-step room fresh (Tick cpu) = few-unless_offline room cpu _ (few-ticked room cpu (running_on room cpu))
+few-step room fresh (SetSched pid policy) = few-set_policy room policy (task_of room pid)
+few-step room fresh (Offline cpu) = few-taken_offline room cpu
+few-step room fresh (Online cpu) = few-brought_online room cpu
 few-step room fresh (Wake pid) = few-woken room (task_of room pid)
 few-step room fresh (Advance delta) = few-advanced room delta
 few-step room fresh (Fork caller thread) = few-forked room thread (task_of room caller)

@@ -1,10 +1,10 @@
 -- Times: how far the clock and the times come at each step, and so in a history.
-use Rattle.std.proofs.Common.{◌≡◌, ℕ, zero, suc, ◌+◌, ◌*◌, ◌≤◌, max, ℤ, Bool, true, false, cond, not, ltb, List, [], ◌∷◌, map, get_or, set, refl, sym, subst, Option, Some, None, arith}
-use Rattle.std.specs.Prelude.{◌==◌, filter, fold, replicate}
+use Rattle.std.proofs.Common.{◌≡◌, ℕ, zero, suc, ◌+◌, ◌*◌, ◌<◌, ◌≤◌, length, max, ℤ, Bool, true, false, cond, not, ltb, List, [], ◌∷◌, map, get_or, set, refl, sym, ap, ◌∙◌, subst, inl, inr, Option, Some, None, arith}
+use Rattle.std.specs.Prelude.{◌⊎◌, ◌==◌, ◌&&◌, ◌||◌, is_some, filter, fold, replicate}
 use Rattle.std.specs.List.{AllByRecursion, enumerate_from, list_any}
 use Rattle.std.specs.Option.{IfSome, option_map_or}
-use Rattle.std.proofs.Math.Nat.{div-le_of_le-mul, max-le}
-use Rattle.std.proofs.lemmas.Bool.{cond_both}
+use Rattle.std.proofs.Math.Nat.{div-le_of_le-mul, max-le, le-max_left}
+use Rattle.std.proofs.lemmas.Bool.{cond_both, cases_lt}
 use Rattle.std.proofs.lemmas.Bool.Decides.{nat_tests}
 use Rattle.std.proofs.lemmas.List.Elements.{All-from_recursion, recursion_from_All}
 use Rattle.cs_types.specs.declared.task.Task.{Task}
@@ -12,45 +12,50 @@ use Rattle.cs_types.specs.declared.task.TaskSpec.{TaskSpec}
 use Rattle.cs_types.specs.declared.task.Policy.{Policy}
 use Rattle.cs_types.specs.declared.task.Policy.TheVariants.{Stop, Deadline, Fifo, Rr, Fair}
 use Rattle.cs_types.specs.declared.event.Event.{Event}
-use Rattle.cs_types.specs.declared.event.Event.TheVariants.{Turn, Resched, Block, Exit, Tick, Wake, Advance, Fork, Prctl}
+use Rattle.cs_types.specs.declared.event.Event.TheVariants.{Turn, Resched, Block, Exit, Tick, Wake, Advance, Fork, Prctl, SetSched, Offline, Online}
 use Rattle.cs_types.specs.declared.reply.Reply.{Reply}
 use Rattle.cs_types.specs.declared.reply.Reply.TheVariants.{Zero}
 use Rattle.cs_types.specs.declared.reply.Entry.{Entry}
 use Rattle.cs_types.specs.declared.scenario.Scenario.{Scenario}
 use Rattle.cs_types.specs.Scenario.{IsEvent}
-use Rattle.cs_types.specs.Room.{RoomState, SiblingState, idle, asleep, placed, has_pid, online, queued_on, sibling_of, running_on, task_of, with_sibling}
-use Rattle.cs_types.specs.Order.{foremost, is_fair}
+use Rattle.cs_types.specs.Room.{RoomState, SiblingState, idle, asleep, placed, has_pid, start, online, is_online, lowest_online, queued_on, sibling_of, running_on, task_of, with_sibling, with_task, flagged}
+use Rattle.cs_types.specs.Order.{foremost, is_fair, first_of}
 use Rattle.cs_types.specs.Selection.{is_run, pid_of, choice, occupation_of, remembered, told, noted, handed, given, selected_room, selected, plain, is_plain, rescheduled, scheduled, schedule}
 use Rattle.cs_types.specs.Time.{weights, weight_of, place_of, growth, grown_by, is_running, grown, with_growth, fair_times, least_of, with_leasts, advanced, has_used_slice, sliced, IsTimelyTask, IsTimelySibling, IsTimely}
 use Rattle.cs_types.specs.Prctl.{Setting, setting_of, is_set, makes_cookie, with_made, with_answer, prctl_answer}
-use Rattle.cs_types.specs.Step.{Stepped, step, refreshed_by, refreshed, enqueued, queued_at_home, woken, turned, dequeued, idled, blocked, without, has_threads, exited, child_of, settled, with_child, may_not_fork, forked, ticked}
+use Rattle.cs_types.specs.Step.{Stepped, step, woken, turned, tried, idled, blocked, without, has_threads, exited, child_of, settled, with_child, may_not_fork, forked, ticked, unless_offline, with_policy, set_policy, taken_offline, brought_online}
+use Rattle.cs_types.specs.Queueing.{refreshed_by, refreshed, enqueued, queued_at_home, dequeued, moved_to, moved, rehomed}
+use Rattle.cs_types.specs.Steal.{source_of, stolen, with_place}
+use Rattle.cs_types.specs.Hotplug.{lowest_other, moved_off, away, without_sibling, with_sibling_back}
+use Rattle.cs_types.specs.Accounting.{accounted}
 use Rattle.cs_types.specs.Touches.{is_fresh}
 use Rattle.cs_types.specs.History.{History, Moment, beginning, next, after, fold_of}
 use Rattle.cs_types.proofs.Foremost.{each_of_all, each_weaker}
 use Rattle.cs_types.proofs.Filtered.{each-filter, each_found}
+use Rattle.cs_types.proofs.Siblings.{map-set_alike, map-enumerate_alike, map-map_alike, get_or-map_default, kept-with_answer, parts_of, kept, kept-with_sibling, kept-selected_room, least-alike}
 
 -- ---- lists
 
 -- what holds of a function at each element holds of each value
-all_map : {X Y : Type 0} (P : Y → Type 0) (f : X → Y) (xs : List X) → AllByRecursion (λ x. P (f x)) xs → AllByRecursion P (map f xs)
+pub all_map : {X Y : Type 0} (P : Y → Type 0) (f : X → Y) (xs : List X) → AllByRecursion (λ x. P (f x)) xs → AllByRecursion P (map f xs)
 all_map P f [] all = tt
 all_map P f (x ∷ xs) all = (all.0, all_map P f xs all.1)
 
-all_enumerated : {X : Type 0} (P : X → Type 0) (f : ℕ × X → X) → ((n : ℕ) (x : X) → P x → P (f (n, x))) → (n : ℕ) (xs : List X) → AllByRecursion P xs → AllByRecursion P (map f (enumerate_from n xs))
+pub all_enumerated : {X : Type 0} (P : X → Type 0) (f : ℕ × X → X) → ((n : ℕ) (x : X) → P x → P (f (n, x))) → (n : ℕ) (xs : List X) → AllByRecursion P xs → AllByRecursion P (map f (enumerate_from n xs))
 all_enumerated P f step n [] all = tt
 all_enumerated P f step n (x ∷ xs) all = (step n x all.0, all_enumerated P f step (n + 1) xs all.1)
 
-all_set : {X : Type 0} (P : X → Type 0) (xs : List X) (i : ℕ) (x : X) → P x → AllByRecursion P xs → AllByRecursion P (set xs i x)
+pub all_set : {X : Type 0} (P : X → Type 0) (xs : List X) (i : ℕ) (x : X) → P x → AllByRecursion P xs → AllByRecursion P (set xs i x)
 all_set P [] i x is all = tt
 all_set P (y ∷ xs) zero x is all = (is, all.1)
 all_set P (y ∷ xs) (suc i) x is all = (all.0, all_set P xs i x is all.1)
 
-all_get : {X : Type 0} (P : X → Type 0) (xs : List X) (i : ℕ) (d : X) → P d → AllByRecursion P xs → P (get_or xs i d)
+pub all_get : {X : Type 0} (P : X → Type 0) (xs : List X) (i : ℕ) (d : X) → P d → AllByRecursion P xs → P (get_or xs i d)
 all_get P [] i d is all = is
 all_get P (x ∷ xs) zero d is all = all.0
 all_get P (x ∷ xs) (suc i) d is all = all_get P xs i d is all.1
 
-all_replicate : {X : Type 0} (P : X → Type 0) (n : ℕ) (x : X) → P x → AllByRecursion P (replicate n x)
+pub all_replicate : {X : Type 0} (P : X → Type 0) (n : ℕ) (x : X) → P x → AllByRecursion P (replicate n x)
 all_replicate P zero x is = tt
 all_replicate P (suc n) x is = (is, all_replicate P n x is)
 
@@ -81,98 +86,128 @@ growth-le delta nice = div-le_of_le-mul (weight_of nice) (few_per_weight (weight
 
 -- ---- a room at a moment
 
--- the times of these tasks and siblings, where the clock is so
-pub record AreTimely (clock : ℕ) (all : List Task) (places : List SiblingState) : Type 0 where
-  pub tasks : AllByRecursion (IsTimelyTask clock) all
-  pub siblings : AllByRecursion (IsTimelySibling clock) places
-
-abbrev pub Timely : RoomState → Type 0
-Timely room = AreTimely room.clock room.tasks room.siblings
+-- the times of a room, whose leasts and snapshots are at most so much
+pub record Timely (most : ℕ) (room : RoomState) : Type 0 where
+  pub tasks : AllByRecursion (IsTimelyTask room) room.tasks
+  pub siblings : AllByRecursion (IsTimelySibling most room.clock) room.siblings
 
 -- a room whose times are so is timely, and the other way round
-timely_parts : (room : RoomState) → Timely room → IsTimely room
-timely_parts room timely = record {
-  tasks = All-from_recursion (IsTimelyTask room.clock) room.tasks timely.tasks;
-  siblings = All-from_recursion (IsTimelySibling room.clock) room.siblings timely.siblings;
+timely_parts : (entries : ℕ) (room : RoomState) → Timely (entries * (69 * room.clock)) room → IsTimely entries room
+timely_parts entries room timely = record {
+  tasks = All-from_recursion (IsTimelyTask room) room.tasks timely.tasks;
+  siblings = All-from_recursion (IsTimelySibling (entries * (69 * room.clock)) room.clock) room.siblings timely.siblings;
 }
 
-parts_timely : (room : RoomState) → IsTimely room → Timely room
-parts_timely room timely = record {
-  tasks = recursion_from_All (IsTimelyTask room.clock) room.tasks timely.tasks;
-  siblings = recursion_from_All (IsTimelySibling room.clock) room.siblings timely.siblings;
+parts_timely : (entries : ℕ) (room : RoomState) → IsTimely entries room → Timely (entries * (69 * room.clock)) room
+parts_timely entries room timely = record {
+  tasks = recursion_from_All (IsTimelyTask room) room.tasks timely.tasks;
+  siblings = recursion_from_All (IsTimelySibling (entries * (69 * room.clock)) room.clock) room.siblings timely.siblings;
 }
 
-idle_is_timely : (clock : ℕ) → IsTimelySibling clock idle
-idle_is_timely clock = record { least = omega arith; snapshot = omega arith; ran = omega arith }
+idle_is_timely : (most clock : ℕ) → IsTimelySibling most clock idle
+idle_is_timely most clock = record { least = omega arith; snapshot = omega arith; ran = omega arith }
 
-sibling_is_timely : (room : RoomState) (cpu : ℕ) → Timely room → IsTimelySibling room.clock (sibling_of room cpu)
-sibling_is_timely room cpu timely = all_get (IsTimelySibling room.clock) room.siblings cpu idle (idle_is_timely room.clock) timely.siblings
+sibling_is_timely : (most : ℕ) (room : RoomState) (cpu : ℕ) → Timely most room → IsTimelySibling most room.clock (sibling_of room cpu)
+sibling_is_timely most room cpu timely = all_get (IsTimelySibling most room.clock) room.siblings cpu idle (idle_is_timely most room.clock) timely.siblings
 
-found_is_timely : (room : RoomState) (pid : Option ℕ) (task : Task) → option_map_or (λ p. task_of room p) pid None ≡ Some task → Timely room → IsTimelyTask room.clock task
-found_is_timely room None task found timely = absurd cc
-found_is_timely room (Some pid) task found timely = each_found (IsTimelyTask room.clock) (has_pid pid) room.tasks task found timely.tasks
+-- A task is as timely in a room of the same time whose leasts are no smaller.
+still_timely : (old new : RoomState) (tasks : List Task) → new.clock ≡ old.clock → ((cpu : ℕ) → (sibling_of old cpu).least ≤ (sibling_of new cpu).least) →
+    AllByRecursion (IsTimelyTask old) tasks → AllByRecursion (IsTimelyTask new) tasks
+still_timely old new tasks clock more all =
+    each_weaker (IsTimelyTask old) (IsTimelyTask new) tasks
+    (λ task is. record { vtime = omega (arith, is.vtime, more task.home, clock); used = omega (arith, is.used, clock) }) all
+
+-- so where the leasts are the same
+kept_timely : (old new : RoomState) (tasks : List Task) → new.clock ≡ old.clock → kept new ≡ kept old →
+    AllByRecursion (IsTimelyTask old) tasks → AllByRecursion (IsTimelyTask new) tasks
+kept_timely old new tasks clock same all =
+    still_timely old new tasks clock (λ cpu. omega (arith, least-alike new old same cpu)) all
 
 -- ---- a schedule
 
-noted_is_timely : (clock : ℕ) (test : Bool) (sibling : SiblingState) → IsTimelySibling clock sibling → IsTimelySibling clock (noted test sibling)
-noted_is_timely clock test sibling is =
-    record { least = is.least; snapshot = cond_both test sibling.least sibling.snapshot (λ n. n ≤ 69 * clock) (λ _. is.least) (λ _. is.snapshot); ran = is.ran }
+noted_is_timely : (most clock : ℕ) (test : Bool) (sibling : SiblingState) → IsTimelySibling most clock sibling → IsTimelySibling most clock (noted test sibling)
+noted_is_timely most clock test sibling is =
+    record { least = is.least; snapshot = cond_both test sibling.least sibling.snapshot (λ n. n ≤ most) (λ _. is.least) (λ _. is.snapshot); ran = is.ran }
 
-told_is_timely : (clock selector cpu : ℕ) (sibling : SiblingState) (run : Option ℕ) → IsTimelySibling clock sibling → IsTimelySibling clock (told selector cpu sibling run)
-told_is_timely clock selector cpu sibling run is =
-    cond_both (cpu == selector) _ _ (IsTimelySibling clock)
+told_is_timely : (most clock selector cpu : ℕ) (sibling : SiblingState) (run : Option ℕ) → IsTimelySibling most clock sibling → IsTimelySibling most clock (told selector cpu sibling run)
+told_is_timely most clock selector cpu sibling run is =
+    cond_both (cpu == selector) _ _ (IsTimelySibling most clock)
     (λ _. record { least = is.least; snapshot = is.snapshot; ran = omega arith })
-    (λ _. cond_both (is_run sibling.run run) _ _ (IsTimelySibling clock)
+    (λ _. cond_both (is_run sibling.run run) _ _ (IsTimelySibling most clock)
     (λ _. record { least = is.least; snapshot = is.snapshot; ran = is.ran }) (λ _. record { least = is.least; snapshot = is.snapshot; ran = is.ran }))
 
-handed_is_timely : (clock selector occupation : ℕ) (run : Option ℕ) (renews : Bool) (cpu : ℕ) (sibling : SiblingState) →
-    IsTimelySibling clock sibling → IsTimelySibling clock (handed selector occupation run renews (cpu, sibling))
-handed_is_timely clock selector occupation run renews cpu sibling is =
-    let told_is = told_is_timely clock selector cpu sibling run is in
-    cond_both sibling.online _ sibling (IsTimelySibling clock)
-    (λ _. noted_is_timely clock renews _ (record { least = told_is.least; snapshot = told_is.snapshot; ran = told_is.ran })) (λ _. is)
+handed_is_timely : (most clock selector occupation : ℕ) (run : Option ℕ) (renews : Bool) (cpu : ℕ) (sibling : SiblingState) →
+    IsTimelySibling most clock sibling → IsTimelySibling most clock (handed selector occupation run renews (cpu, sibling))
+handed_is_timely most clock selector occupation run renews cpu sibling is =
+    let told_is = told_is_timely most clock selector cpu sibling run is in
+    cond_both sibling.online _ sibling (IsTimelySibling most clock)
+    (λ _. noted_is_timely most clock renews _ (record { least = told_is.least; snapshot = told_is.snapshot; ran = told_is.ran })) (λ _. is)
 
-remembered_is_timely : (room : RoomState) (core : ℕ) (task : Task) → IsTimelyTask room.clock task → IsTimelyTask room.clock (remembered room core task)
+remembered_is_timely : (room : RoomState) (core : ℕ) (task : Task) → IsTimelyTask room task → IsTimelyTask room (remembered room core task)
 remembered_is_timely room core task is =
     cond_both (list_any (λ cpu. is_run (pid_of (choice room core cpu)) (Some task.spec.pid)) (online room))
-    (record task { occupation = occupation_of room core }) task (IsTimelyTask room.clock)
+    (record task { occupation = occupation_of room core }) task (IsTimelyTask room)
     (λ _. record { vtime = is.vtime; used = is.used }) (λ _. is)
 
-timely-selected_room : (room : RoomState) (cpu core : ℕ) → Timely room → Timely (selected_room room cpu core)
+timely-selected_room : (most : ℕ) (room : RoomState) (cpu core : ℕ) → Timely most room → Timely most (selected_room room cpu core)
 unfolding selected_room
-timely-selected_room room cpu core timely = record {
-  tasks = all_map (IsTimelyTask room.clock) (remembered room core) room.tasks
-      (each_weaker (IsTimelyTask room.clock) (λ task. IsTimelyTask room.clock (remembered room core task)) room.tasks (remembered_is_timely room core) timely.tasks);
-  siblings = all_enumerated (IsTimelySibling room.clock) (given room core cpu)
-      (λ other sibling is. handed_is_timely room.clock cpu _ _ _ other sibling is) 0 room.siblings timely.siblings;
+timely-selected_room most room cpu core timely = record {
+  tasks = kept_timely room (selected_room room cpu core) (map (remembered room core) room.tasks) refl (kept-selected_room room cpu core)
+      (all_map (IsTimelyTask room) (remembered room core) room.tasks
+      (each_weaker (IsTimelyTask room) (λ task. IsTimelyTask room (remembered room core task)) room.tasks (remembered_is_timely room core) timely.tasks));
+  siblings = all_enumerated (IsTimelySibling most room.clock) (given room core cpu)
+      (λ other sibling is. handed_is_timely most room.clock cpu _ _ _ other sibling is) 0 room.siblings timely.siblings;
 }
 
-timely-plain : (room : RoomState) (cpu : ℕ) → Timely room → Timely (plain room cpu).room
-timely-plain room cpu timely =
-    let is = sibling_is_timely room cpu timely in
+-- a sibling with the same least, whose times are so
+timely-with_sibling : (most : ℕ) (room : RoomState) (cpu : ℕ) (sibling : SiblingState) → parts_of sibling ≡ parts_of (sibling_of room cpu) →
+    IsTimelySibling most room.clock sibling → Timely most room → Timely most (with_sibling room cpu sibling)
+timely-with_sibling most room cpu sibling same is timely = record {
+  tasks = kept_timely room (with_sibling room cpu sibling) room.tasks refl (kept-with_sibling room cpu sibling same) timely.tasks;
+  siblings = all_set (IsTimelySibling most room.clock) room.siblings cpu sibling is timely.siblings;
+}
+
+-- a sibling whose times are those of the one at its place
+like : (most : ℕ) (room : RoomState) (cpu : ℕ) (sibling : SiblingState) → sibling.least ≡ (sibling_of room cpu).least → sibling.snapshot ≡ (sibling_of room cpu).snapshot →
+    sibling.ran ≤ (sibling_of room cpu).ran → Timely most room → IsTimelySibling most room.clock sibling
+like most room cpu sibling least snapshot ran timely =
+    let is = sibling_is_timely most room cpu timely in
+    record { least = omega (arith, is.least, least); snapshot = omega (arith, is.snapshot, snapshot); ran = omega (arith, is.ran, ran) }
+
+-- the counts of the whole core make no difference
+same_core : (most : ℕ) (old new : RoomState) → new.clock ≡ old.clock → new.tasks ≡ old.tasks → new.siblings ≡ old.siblings → Timely most old → Timely most new
+same_core most old new clock tasks siblings timely =
+    let one : AllByRecursion (IsTimelyTask new) old.tasks = kept_timely old new old.tasks clock (ap (λ (ss : List SiblingState). map parts_of ss) siblings) timely.tasks in
+    let two : AllByRecursion (IsTimelySibling most new.clock) old.siblings = subst (λ n. AllByRecursion (IsTimelySibling most n) old.siblings) (sym clock) timely.siblings in
     record {
-      tasks = timely.tasks;
-      siblings = all_set (IsTimelySibling room.clock) room.siblings cpu _
-          (noted_is_timely room.clock _ _ (record { least = is.least; snapshot = is.snapshot; ran = omega arith })) timely.siblings;
+      tasks = subst (AllByRecursion (IsTimelyTask new)) (sym tasks) one;
+      siblings = subst (AllByRecursion (IsTimelySibling most new.clock)) (sym siblings) two;
     }
 
-timely-rescheduled : (room : RoomState) (cpu : ℕ) → Timely room → Timely (rescheduled room cpu).room
-timely-rescheduled room cpu timely =
-    cond_both (is_plain room cpu) (plain room cpu) (selected room cpu) (λ made. Timely made.room) (λ _. timely-plain room cpu timely)
-    (λ _. timely-selected_room room cpu _ timely)
+timely-plain : (most : ℕ) (room : RoomState) (cpu : ℕ) → Timely most room → Timely most (plain room cpu).room
+timely-plain most room cpu timely =
+    let is = sibling_is_timely most room cpu timely in
+    let closed : RoomState = record room { forced = 0; occupation = 0; started = None } in
+    timely-with_sibling most closed cpu _ refl
+    (noted_is_timely most room.clock _ _ (record { least = is.least; snapshot = is.snapshot; ran = omega arith }))
+    (same_core most room closed refl refl refl timely)
 
-timely-scheduled : (room : RoomState) (fresh : Bool) (cpu : ℕ) (waiting : Option (Option ℕ)) → Timely room → Timely (scheduled room fresh cpu waiting).room
-timely-scheduled room fresh cpu None timely = timely-rescheduled room cpu timely
-timely-scheduled room true cpu (Some run) timely =
-    let is = sibling_is_timely room cpu timely in
-    record {
-      tasks = timely.tasks;
-      siblings = all_set (IsTimelySibling room.clock) room.siblings cpu _ (record { least = is.least; snapshot = is.snapshot; ran = omega arith }) timely.siblings;
-    }
-timely-scheduled room false cpu (Some run) timely = timely-rescheduled room cpu timely
+timely-rescheduled : (most : ℕ) (room : RoomState) (cpu : ℕ) → Timely most room → Timely most (rescheduled room cpu).room
+timely-rescheduled most room cpu timely =
+    cond_both (is_plain room cpu) (plain room cpu) (selected room cpu) (λ made. Timely most made.room) (λ _. timely-plain most room cpu timely)
+    (λ _. timely-selected_room most room cpu _ timely)
 
-timely-schedule : (room : RoomState) (fresh : Bool) (cpu : ℕ) → Timely room → Timely (schedule room fresh cpu).room
-timely-schedule room fresh cpu timely = timely-scheduled room fresh cpu (sibling_of room cpu).waiting timely
+timely-scheduled : (most : ℕ) (room : RoomState) (fresh : Bool) (cpu : ℕ) (waiting : Option (Option ℕ)) → Timely most room → Timely most (scheduled room fresh cpu waiting).room
+timely-scheduled most room fresh cpu None timely = timely-rescheduled most room cpu timely
+timely-scheduled most room true cpu (Some run) timely =
+    timely-with_sibling most room cpu _ refl (like most room cpu _ refl refl (omega arith) timely) timely
+timely-scheduled most room false cpu (Some run) timely = timely-rescheduled most room cpu timely
+
+timely-schedule : (most : ℕ) (room : RoomState) (fresh : Bool) (cpu : ℕ) → Timely most room → Timely most (schedule room fresh cpu).room
+timely-schedule most room fresh cpu timely =
+    let made = scheduled room fresh cpu (sibling_of room cpu).waiting in
+    let is = timely-scheduled most room fresh cpu (sibling_of room cpu).waiting timely in
+    timely-with_sibling most made.room cpu _ refl (like most made.room cpu _ refl refl (omega arith) is) is
 
 -- ---- changes of one task or one sibling
 
@@ -181,217 +216,362 @@ all_placed_over : (P : Task → Type 0) (test : Task → Bool) (task : Task) (ta
 all_placed_over P test task tasks is all =
     all_map P _ tasks (each_weaker P _ tasks (λ other holds. cond_both (test other) task other P (λ _. is) (λ _. holds)) all)
 
-timely-with_sibling : (room : RoomState) (cpu : ℕ) (sibling : SiblingState) → IsTimelySibling room.clock sibling → Timely room → Timely (with_sibling room cpu sibling)
-timely-with_sibling room cpu sibling is timely = record {
-  tasks = timely.tasks;
-  siblings = all_set (IsTimelySibling room.clock) room.siblings cpu sibling is timely.siblings;
+timely-with_task : (most : ℕ) (room : RoomState) (task : Task) → IsTimelyTask room task → Timely most room → Timely most (with_task room task)
+timely-with_task most room task is timely = record {
+  tasks = kept_timely room (with_task room task) (with_task room task).tasks refl refl
+      (all_placed_over (IsTimelyTask room) (has_pid task.spec.pid) task room.tasks is timely.tasks);
+  siblings = timely.siblings;
 }
 
--- a sibling whose times are those of the one at its place
-like : (room : RoomState) (cpu : ℕ) (sibling : SiblingState) → sibling.least ≡ (sibling_of room cpu).least → sibling.snapshot ≡ (sibling_of room cpu).snapshot →
-    sibling.ran ≡ (sibling_of room cpu).ran → Timely room → IsTimelySibling room.clock sibling
-like room cpu sibling least snapshot ran timely =
-    let is = sibling_is_timely room cpu timely in
-    record { least = omega (arith, is.least, least); snapshot = omega (arith, is.snapshot, snapshot); ran = omega (arith, is.ran, ran) }
-
-timely-turned : (room : RoomState) (fresh : Bool) (cpu : ℕ) → Timely room → Timely (turned room fresh cpu).room
-timely-turned room fresh cpu timely =
-    cond_both (sibling_of room cpu).pending _ _ (λ (made : Stepped). Timely made.room) (λ _. timely-schedule room fresh cpu timely) (λ _. timely)
+timely-flagged : (most : ℕ) (room : RoomState) (cpu : ℕ) (test : Bool) → Timely most room → Timely most (flagged room cpu test)
+timely-flagged most room cpu test timely =
+    timely-with_sibling most room cpu _ refl (like most room cpu _ refl refl (omega arith) timely) timely
 
 -- The running task goes to sleep, and its sibling runs idle.
-timely-slept : (room : RoomState) (cpu : ℕ) (task : Task) → IsTimelyTask room.clock task → Timely room → Timely (idled (dequeued room task) cpu)
-timely-slept room cpu task is timely =
-    timely-with_sibling (dequeued room task) cpu _ (like room cpu _ refl refl refl timely) (record {
-      tasks = all_placed_over (IsTimelyTask room.clock) (has_pid task.spec.pid) _ room.tasks (record { vtime = is.vtime; used = is.used }) timely.tasks;
-      siblings = timely.siblings;
-    })
+timely-slept : (most : ℕ) (room : RoomState) (cpu : ℕ) (task : Task) → IsTimelyTask room task → Timely most room → Timely most (idled (dequeued room task) cpu)
+timely-slept most room cpu task is timely =
+    let asleep = timely-with_task most room (record task { queued = false }) (record { vtime = is.vtime; used = is.used }) timely in
+    timely-with_sibling most (dequeued room task) cpu _ refl (like most (dequeued room task) cpu _ refl refl (omega arith) asleep) asleep
 
 -- or it ends
-timely-gone : (room : RoomState) (cpu : ℕ) (task : Task) → Timely room → Timely (idled (without room task) cpu)
-timely-gone room cpu task timely =
-    timely-with_sibling (without room task) cpu _ (like room cpu _ refl refl refl timely) (record {
-      tasks = each-filter (IsTimelyTask room.clock) _ room.tasks timely.tasks;
+timely-gone : (most : ℕ) (room : RoomState) (cpu : ℕ) (task : Task) → Timely most room → Timely most (idled (without room task) cpu)
+timely-gone most room cpu task timely =
+    let gone : Timely most (without room task) = record {
+      tasks = kept_timely room (without room task) (without room task).tasks refl refl (each-filter (IsTimelyTask room) _ room.tasks timely.tasks);
       siblings = timely.siblings;
-    })
+    } in
+    timely-with_sibling most (without room task) cpu _ refl (like most (without room task) cpu _ refl refl (omega arith) gone) gone
 
-timely-blocked : (room : RoomState) (cpu : ℕ) (task : Option Task) → IfSome task (IsTimelyTask room.clock) → Timely room → Timely (blocked room cpu task).room
-timely-blocked room cpu None is timely = timely
-timely-blocked room cpu (Some task) is timely =
-    timely-schedule (idled (dequeued room task) cpu) false cpu (timely-slept room cpu task is timely)
+timely-blocked : (most : ℕ) (room : RoomState) (cpu : ℕ) (task : Option Task) → IfSome task (IsTimelyTask room) → Timely most room → Timely most (blocked room cpu task).room
+timely-blocked most room cpu None is timely = timely
+timely-blocked most room cpu (Some task) is timely =
+    timely-schedule most (idled (dequeued room task) cpu) false cpu (timely-slept most room cpu task is timely)
 
-timely-exited : (room : RoomState) (cpu : ℕ) (task : Option Task) → Timely room → Timely (exited room cpu task).room
-timely-exited room cpu None timely = timely
-timely-exited room cpu (Some task) timely =
-    cond_both (has_threads room task) _ _ (λ (made : Stepped). Timely made.room) (λ _. timely)
-    (λ _. timely-schedule (idled (without room task) cpu) false cpu (timely-gone room cpu task timely))
+timely-exited : (most : ℕ) (room : RoomState) (cpu : ℕ) (task : Option Task) → Timely most room → Timely most (exited room cpu task).room
+timely-exited most room cpu None timely = timely
+timely-exited most room cpu (Some task) timely =
+    cond_both (has_threads room task) _ _ (λ (made : Stepped). Timely most made.room) (λ _. timely)
+    (λ _. timely-schedule most (idled (without room task) cpu) false cpu (timely-gone most room cpu task timely))
 
--- ---- a task is queued
+-- ---- a task is queued or moves
 
-refreshed_is_timely : (room : RoomState) (policy : Policy) (task : Task) → IsTimelyTask room.clock task → Timely room → IsTimelyTask room.clock (refreshed_by room policy task)
-refreshed_is_timely room (Deadline relative) task is timely = record { vtime = is.vtime; used = is.used }
-refreshed_is_timely room (Fair nice) task is timely =
-    record { vtime = max-le is.vtime (sibling_is_timely room task.home timely).least; used = is.used }
-refreshed_is_timely room Stop task is timely = is
-refreshed_is_timely room (Fifo priority) task is timely = is
-refreshed_is_timely room (Rr priority) task is timely = is
+-- A task that moves keeps what it is ahead.
+moved_is_timely : (room : RoomState) (cpu : ℕ) (task : Task) → IsTimelyTask room task → IsTimelyTask room (moved_to room cpu task)
+moved_is_timely room cpu task is = record { vtime = omega (arith, is.vtime); used = is.used }
 
-timely-queued_at_home : (room : RoomState) (task : Task) → IsTimelyTask room.clock task → Timely room → Timely (queued_at_home room task)
-timely-queued_at_home room task is timely =
+rehomed_is_timely : (room : RoomState) (task : Task) → IsTimelyTask room task → IsTimelyTask room (rehomed room task)
+rehomed_is_timely room task is =
+    cond_both (is_online room task.home) task (moved_to room (lowest_online room) task) (IsTimelyTask room) (λ _. is)
+    (λ _. moved_is_timely room (lowest_online room) task is)
+
+refreshed_is_timely : (room : RoomState) (policy : Policy) (task : Task) → IsTimelyTask room task → IsTimelyTask room (refreshed_by room policy task)
+refreshed_is_timely room (Deadline relative) task is = record { vtime = is.vtime; used = is.used }
+refreshed_is_timely room (Fair nice) task is = record { vtime = max-le is.vtime (omega arith); used = is.used }
+refreshed_is_timely room Stop task is = is
+refreshed_is_timely room (Fifo priority) task is = is
+refreshed_is_timely room (Rr priority) task is = is
+
+-- the stamps make no difference
+timely-stamped : (most : ℕ) (room : RoomState) (stamp : ℕ) → Timely most room → Timely most (record room { next_stamp = stamp })
+timely-stamped most room stamp timely = same_core most room (record room { next_stamp = stamp }) refl refl refl timely
+
+timely-enqueued : (most : ℕ) (room : RoomState) (task : Task) → IsTimelyTask room task → Timely most room → Timely most (enqueued room task)
+timely-enqueued most room task is timely =
+    timely-stamped most (with_task room (record task { queued = true; stamp = room.next_stamp })) (room.next_stamp + 1)
+    (timely-with_task most room (record task { queued = true; stamp = room.next_stamp }) (record { vtime = is.vtime; used = is.used }) timely)
+
+timely-queued_at_home : (most : ℕ) (room : RoomState) (task : Task) → IsTimelyTask room task → Timely most room → Timely most (queued_at_home room task)
+timely-queued_at_home most room task is timely =
     let fresh = refreshed room task in
-    let fresh_is = refreshed_is_timely room task.spec.policy task is timely in
-    let queued : Timely (enqueued room fresh) = record {
-      tasks = all_placed_over (IsTimelyTask room.clock) (has_pid fresh.spec.pid) _ room.tasks (record { vtime = fresh_is.vtime; used = fresh_is.used }) timely.tasks;
-      siblings = timely.siblings;
-    } in
-    timely-with_sibling (enqueued room fresh) task.home _ (like room task.home _ refl refl refl timely) queued
+    timely-flagged most (enqueued room fresh) task.home _
+    (timely-enqueued most room fresh (refreshed_is_timely room task.spec.policy task is) timely)
 
-timely-woken : (room : RoomState) (task : Option Task) → IfSome task (IsTimelyTask room.clock) → Timely room → Timely (woken room task).room
-timely-woken room None is timely = timely
-timely-woken room (Some task) is timely =
-    cond_both task.queued _ _ (λ (made : Stepped). Timely made.room) (λ _. timely) (λ _. timely-queued_at_home room task is timely)
+timely-woken : (most : ℕ) (room : RoomState) (task : Option Task) → IfSome task (IsTimelyTask room) → Timely most room → Timely most (woken room task).room
+timely-woken most room None is timely = timely
+timely-woken most room (Some task) is timely =
+    cond_both task.queued _ _ (λ (made : Stepped). Timely most made.room) (λ _. timely)
+    (λ _. timely-queued_at_home most room (rehomed room task) (rehomed_is_timely room task is) timely)
 
-timely-forked : (room : RoomState) (thread : Bool) (caller : Option Task) → Timely room → Timely (forked room thread caller).room
-timely-forked room thread None timely = timely
-timely-forked room thread (Some caller) timely =
+timely-forked : (most : ℕ) (room : RoomState) (thread : Bool) (caller : Option Task) → Timely most room → Timely most (forked room thread caller).room
+timely-forked most room thread None timely = timely
+timely-forked most room thread (Some caller) timely =
     let child = child_of caller thread room.next_pid in
-    let is : IsTimelyTask room.clock (settled room child) = record { vtime = (sibling_is_timely room child.home timely).least; used = omega arith } in
-    let born : Timely (with_child room child) = record {
-      tasks = all_placed (IsTimelyTask room.clock) child room.tasks (record { vtime = omega arith; used = omega arith }) timely.tasks;
+    let is : IsTimelyTask (with_child room child) (settled room child) = record { vtime = omega arith; used = omega arith } in
+    let born : Timely most (with_child room child) = record {
+      tasks = kept_timely room (with_child room child) (with_child room child).tasks refl refl
+          (all_placed (IsTimelyTask room) child room.tasks (record { vtime = omega arith; used = omega arith }) timely.tasks);
       siblings = timely.siblings;
     } in
-    cond_both (may_not_fork room caller) _ _ (λ (made : Stepped). Timely made.room) (λ _. timely)
-    (λ _. timely-queued_at_home (with_child room child) (settled room child) is born)
+    cond_both (may_not_fork room caller) _ _ (λ (made : Stepped). Timely most made.room) (λ _. timely)
+    (λ _. timely-queued_at_home most (with_child room child) (settled room child) is born)
+
+timely-set_policy : (most : ℕ) (room : RoomState) (policy : Policy) (task : Option Task) → IfSome task (IsTimelyTask room) → Timely most room → Timely most (set_policy room policy task).room
+timely-set_policy most room policy None is timely = timely
+timely-set_policy most room policy (Some task) is timely =
+    let changed = with_policy policy task in
+    let changed_is : IsTimelyTask room changed = record { vtime = is.vtime; used = omega arith } in
+    let left = dequeued room changed in
+    let left_is = timely-with_task most room (record changed { queued = false }) (record { vtime = is.vtime; used = omega arith }) timely in
+    cond_both task.queued _ _ (Timely most)
+    (λ _. timely-flagged most (queued_at_home left changed) task.home _
+    (timely-queued_at_home most left changed (record { vtime = is.vtime; used = omega arith }) left_is))
+    (λ _. timely-with_task most room changed changed_is timely)
+
+timely-with_place : (most : ℕ) (room : RoomState) (cpu place : ℕ) → Timely most room → Timely most (with_place room cpu place)
+timely-with_place most room cpu place timely =
+    timely-with_sibling most room cpu _ refl (like most room cpu _ refl refl (omega arith) timely) timely
+
+timely-tried : (most : ℕ) (room : RoomState) (cpu : ℕ) (task : Option Task) → IfSome task (IsTimelyTask room) → Timely most room → Timely most (tried room cpu task).room
+timely-tried most room cpu None is timely = timely-with_place most room cpu _ timely
+timely-tried most room cpu (Some task) is timely =
+    let came = timely-enqueued most room (moved_to room cpu task) (moved_is_timely room cpu task is) timely in
+    let placed = timely-with_place most (moved room cpu task) cpu 0 came in
+    timely-flagged most (flagged (with_place (moved room cpu task) cpu 0) cpu true) (source_of room cpu) _
+    (timely-flagged most (with_place (moved room cpu task) cpu 0) cpu true placed)
+
+-- what is stolen is a task of the room
+stolen_is_timely : (most : ℕ) (room : RoomState) (cpu : ℕ) → Timely most room → IfSome (stolen room cpu) (IsTimelyTask room)
+unfolding stolen
+stolen_is_timely most room cpu timely =
+    cond_both ((room.core_cookie == 0) || is_some (sibling_of room cpu).run) None _ (λ (task : Option Task). IfSome task (IsTimelyTask room)) (λ _. tt)
+    (λ _. first_is_timely _ (each-filter (IsTimelyTask room) _ _ (each-filter (IsTimelyTask room) _ _ (each-filter (IsTimelyTask room) _ room.tasks timely.tasks)))) where
+      first_is_timely : (tasks : List Task) → AllByRecursion (IsTimelyTask room) tasks → IfSome (first_of tasks) (IsTimelyTask room)
+      first_is_timely tasks all = go (first_of tasks) refl where
+        go : (task : Option Task) → first_of tasks ≡ task → IfSome task (IsTimelyTask room)
+        go None found = tt
+        go (Some task) found = each_found (IsTimelyTask room) _ tasks task found all
+
+timely-turned : (most : ℕ) (room : RoomState) (fresh : Bool) (cpu : ℕ) → Timely most room → Timely most (turned room fresh cpu).room
+timely-turned most room fresh cpu timely =
+    cond_both (sibling_of room cpu).pending _ _ (λ (made : Stepped). Timely most made.room) (λ _. timely-schedule most room fresh cpu timely)
+    (λ _. cond_both ((sibling_of room cpu).place == 0) _ _ (λ (made : Stepped). Timely most made.room) (λ _. timely)
+    (λ _. timely-tried most room cpu (stolen room cpu) (stolen_is_timely most room cpu timely) timely))
+
+-- ---- a sibling leaves or comes back
+
+least-left : (room : RoomState) (cpu other : ℕ) → (sibling_of (without_sibling room cpu) other).least ≡ (sibling_of room other).least
+unfolding without_sibling
+least-left room cpu other =
+    sym (get_or-map_default (λ (s : SiblingState). s.least) (without_sibling room cpu).siblings other idle)
+    ∙ (ap (λ ns. get_or ns other 0)
+    (map-enumerate_alike (λ (s : SiblingState). s.least) _
+    (λ place. cond_both (place.0 == cpu) (away place.1) _ (λ (s : SiblingState). s.least ≡ place.1.least) (λ _. refl) (λ _. refl)) 0 room.siblings)
+    ∙ get_or-map_default (λ (s : SiblingState). s.least) room.siblings other idle)
+
+left_is_timely : (most : ℕ) (room : RoomState) (cpu : ℕ) → Timely most room → Timely most (without_sibling room cpu)
+unfolding without_sibling
+left_is_timely most room cpu timely = record {
+  tasks = still_timely room (without_sibling room cpu) (map (moved_off room cpu) room.tasks) refl (λ other. omega (arith, least-left room cpu other))
+      (all_map (IsTimelyTask room) (moved_off room cpu) room.tasks (each_weaker (IsTimelyTask room) _ room.tasks
+      (λ task is. cond_both (task.queued && (task.home == cpu)) _ task (IsTimelyTask room)
+      (λ _. let moved_is = moved_is_timely room (lowest_other room cpu) task is in record { vtime = moved_is.vtime; used = moved_is.used }) (λ _. is)) timely.tasks));
+  siblings = all_enumerated (IsTimelySibling most room.clock) _
+      (λ other sibling is. cond_both (other == cpu) (away sibling) _ (IsTimelySibling most room.clock)
+      (λ _. record { least = is.least; snapshot = is.snapshot; ran = is.ran }) (λ _. record { least = is.least; snapshot = is.snapshot; ran = is.ran }))
+      0 room.siblings timely.siblings;
+}
+
+least-back : (room : RoomState) (cpu other : ℕ) → (sibling_of (with_sibling_back room cpu) other).least ≡ (sibling_of room other).least
+least-back room cpu other =
+    sym (get_or-map_default (λ (s : SiblingState). s.least) (with_sibling_back room cpu).siblings other idle)
+    ∙ (ap (λ ns. get_or ns other 0) (map-set_alike (λ (s : SiblingState). s.least) room.siblings cpu _ idle refl)
+    ∙ get_or-map_default (λ (s : SiblingState). s.least) room.siblings other idle)
+
+back_is_timely : (most : ℕ) (room : RoomState) (cpu : ℕ) → Timely most room → Timely most (with_sibling_back room cpu)
+back_is_timely most room cpu timely = record {
+  tasks = still_timely room (with_sibling_back room cpu) room.tasks refl (λ other. omega (arith, least-back room cpu other)) timely.tasks;
+  siblings = all_set (IsTimelySibling most room.clock) room.siblings cpu _ (like most room cpu _ refl refl (omega arith) timely) timely.siblings;
+}
+
+timely-unless_offline : (most : ℕ) (room : RoomState) (cpu : ℕ) (stepped : Stepped) → Timely most room → Timely most stepped.room → Timely most (unless_offline room cpu stepped).room
+timely-unless_offline most room cpu stepped was now =
+    cond_both (is_online room cpu) _ _ (λ (made : Stepped). Timely most made.room) (λ _. now) (λ _. was)
+
+timely-taken_offline : (most : ℕ) (room : RoomState) (cpu : ℕ) → Timely most room → Timely most (taken_offline room cpu).room
+timely-taken_offline most room cpu timely =
+    cond_both (not (is_online room cpu)) _ _ (λ (made : Stepped). Timely most made.room) (λ _. timely)
+    (λ _. cond_both (length (online room) == 1) _ _ (λ (made : Stepped). Timely most made.room) (λ _. timely) (λ _. left_is_timely most room cpu timely))
+
+timely-brought_online : (most : ℕ) (room : RoomState) (cpu : ℕ) → Timely most room → Timely most (brought_online room cpu).room
+timely-brought_online most room cpu timely =
+    cond_both (is_online room cpu) _ _ (λ (made : Stepped). Timely most made.room) (λ _. timely) (λ _. back_is_timely most room cpu timely)
 
 -- ---- a call
 
-timely-with_answer : (room : RoomState) (set : Setting) (answer : Reply) → Timely room → Timely (with_answer room set answer)
-timely-with_answer room set Zero timely = record {
-  tasks = all_map (IsTimelyTask room.clock) _ room.tasks (each_weaker (IsTimelyTask room.clock) _ room.tasks
-      (λ task is. cond_both (is_set set task.spec.pid) _ task (IsTimelyTask room.clock) (λ _. record { vtime = is.vtime; used = is.used }) (λ _. is)) timely.tasks);
-  siblings = all_map (IsTimelySibling room.clock) _ room.siblings (each_weaker (IsTimelySibling room.clock) _ room.siblings
+timely-with_answer : (most : ℕ) (room : RoomState) (set : Setting) (answer : Reply) → Timely most room → Timely most (with_answer room set answer)
+timely-with_answer most room set Zero timely = record {
+  tasks = kept_timely room (with_answer room set Zero) (with_answer room set Zero).tasks refl (kept-with_answer room set Zero)
+      (all_map (IsTimelyTask room) _ room.tasks (each_weaker (IsTimelyTask room) _ room.tasks
+      (λ task is. cond_both (is_set set task.spec.pid) _ task (IsTimelyTask room) (λ _. record { vtime = is.vtime; used = is.used }) (λ _. is)) timely.tasks));
+  siblings = all_map (IsTimelySibling most room.clock) _ room.siblings (each_weaker (IsTimelySibling most room.clock) _ room.siblings
       (λ sibling is. record { least = is.least; snapshot = is.snapshot; ran = is.ran }) timely.siblings);
 }
-timely-with_answer room set answer timely = timely
+timely-with_answer most room set answer timely = timely
 
 -- ---- an advance and a tick
 
-grown_is_timely : (clock delta : ℕ) (policy : Policy) (task : Task) → IsTimelyTask clock task → IsTimelyTask (clock + delta) (grown_by delta policy task)
-grown_is_timely clock delta (Rr priority) task is = record { vtime = omega (arith, is.vtime); used = omega (arith, is.used) }
-grown_is_timely clock delta (Fair nice) task is = record { vtime = omega (arith, is.vtime, growth-le delta nice); used = omega (arith, is.used) }
-grown_is_timely clock delta Stop task is = record { vtime = omega (arith, is.vtime); used = omega (arith, is.used) }
-grown_is_timely clock delta (Deadline relative) task is = record { vtime = omega (arith, is.vtime); used = omega (arith, is.used) }
-grown_is_timely clock delta (Fifo priority) task is = record { vtime = omega (arith, is.vtime); used = omega (arith, is.used) }
+-- what is ahead of a least by so much before a growth is by so much after it
+grown_is_timely : (least clock delta : ℕ) (policy : Policy) (task : Task) → task.vtime ≤ least + 69 * clock → (grown_by delta policy task).vtime ≤ least + 69 * (clock + delta)
+grown_is_timely least clock delta (Rr priority) task is = omega (arith, is)
+grown_is_timely least clock delta (Fair nice) task is = omega (arith, is, growth-le delta nice)
+grown_is_timely least clock delta Stop task is = omega (arith, is)
+grown_is_timely least clock delta (Deadline relative) task is = omega (arith, is)
+grown_is_timely least clock delta (Fifo priority) task is = omega (arith, is)
 
-timely-with_growth : (room : RoomState) (delta : ℕ) → Timely room → Timely (with_growth room delta)
-timely-with_growth room delta timely = record {
-  tasks = all_map (IsTimelyTask (room.clock + delta)) (grown room delta) room.tasks (each_weaker (IsTimelyTask room.clock) _ room.tasks
-      (λ task is. cond_both (is_running room task) _ task (IsTimelyTask (room.clock + delta))
-      (λ _. grown_is_timely room.clock delta task.spec.policy task is)
-      (λ _. record { vtime = omega (arith, is.vtime); used = omega (arith, is.used) })) timely.tasks);
-  siblings = all_map (IsTimelySibling (room.clock + delta)) _ room.siblings (each_weaker (IsTimelySibling room.clock) _ room.siblings
-      (λ sibling is. record { least = omega (arith, is.least); snapshot = omega (arith, is.snapshot); ran = omega (arith, is.ran) }) timely.siblings);
+grown_used : (clock delta : ℕ) (policy : Policy) (task : Task) → task.used ≤ clock → (grown_by delta policy task).used ≤ clock + delta
+grown_used clock delta (Rr priority) task is = omega (arith, is)
+grown_used clock delta (Fair nice) task is = omega (arith, is)
+grown_used clock delta Stop task is = omega (arith, is)
+grown_used clock delta (Deadline relative) task is = omega (arith, is)
+grown_used clock delta (Fifo priority) task is = omega (arith, is)
+
+home-grown_by : (delta : ℕ) (policy : Policy) (task : Task) → (grown_by delta policy task).home ≡ task.home
+home-grown_by delta (Rr priority) task = refl
+home-grown_by delta (Fair nice) task = refl
+home-grown_by delta Stop task = refl
+home-grown_by delta (Deadline relative) task = refl
+home-grown_by delta (Fifo priority) task = refl
+
+kept-with_growth : (room : RoomState) (delta : ℕ) → kept (with_growth room delta) ≡ kept room
+kept-with_growth room delta = map-map_alike parts_of (λ s. record s { ran = s.ran + delta }) (λ s. refl) room.siblings
+
+least-with_growth : (room : RoomState) (delta cpu : ℕ) → (sibling_of (with_growth room delta) cpu).least ≡ (sibling_of room cpu).least
+least-with_growth room delta cpu = least-alike (with_growth room delta) room (kept-with_growth room delta) cpu
+
+timely_grown : (room : RoomState) (delta : ℕ) (task : Task) → IsTimelyTask room task → IsTimelyTask (with_growth room delta) (grown room delta task)
+timely_grown room delta task is =
+    let least = least-with_growth room delta task.home in
+    cond_both (is_running room task) (grown_by delta task.spec.policy task) task (IsTimelyTask (with_growth room delta))
+    (λ _. record {
+      vtime = subst (λ home. (grown_by delta task.spec.policy task).vtime ≤ (sibling_of (with_growth room delta) home).least + 69 * (room.clock + delta))
+          (sym (home-grown_by delta task.spec.policy task))
+          (omega (arith, least, grown_is_timely (sibling_of room task.home).least room.clock delta task.spec.policy task is.vtime));
+      used = grown_used room.clock delta task.spec.policy task is.used;
+    })
+    (λ _. record { vtime = omega (arith, is.vtime, least); used = omega (arith, is.used) })
+
+timely-with_growth : (most : ℕ) (room : RoomState) (delta : ℕ) → Timely most room → Timely most (with_growth room delta)
+timely-with_growth most room delta timely = record {
+  tasks = all_map (IsTimelyTask (with_growth room delta)) (grown room delta) room.tasks (each_weaker (IsTimelyTask room) _ room.tasks (timely_grown room delta) timely.tasks);
+  siblings = all_map (IsTimelySibling most (room.clock + delta)) _ room.siblings (each_weaker (IsTimelySibling most room.clock) _ room.siblings
+      (λ sibling is. record { least = is.least; snapshot = is.snapshot; ran = omega (arith, is.ran) }) timely.siblings);
 }
 
--- The least of a sibling is the least that it had or a virtual time of its queue.
-least_is_timely : (room : RoomState) (cpu : ℕ) → Timely room → least_of room cpu ≤ 69 * room.clock
-least_is_timely room cpu timely =
+-- The least of a sibling is the least that it had, or a virtual time of its queue, and so at most so much more.
+least_is_timely : (most : ℕ) (room : RoomState) (cpu : ℕ) → Timely most room → least_of room cpu ≤ most + 69 * room.clock
+least_is_timely most room cpu timely =
     go (foremost ltb (fair_times room cpu)) refl where
-      times : AllByRecursion (λ n. n ≤ 69 * room.clock) (fair_times room cpu)
+      ahead : (task : Task) → IsTimelyTask room task → task.vtime ≤ most + 69 * room.clock
+      ahead task is = omega (arith, is.vtime, (sibling_is_timely most room task.home timely).least)
+
+      times : AllByRecursion (λ n. n ≤ most + 69 * room.clock) (fair_times room cpu)
       times =
-          all_map (λ n. n ≤ 69 * room.clock) (λ task. task.vtime) (filter is_fair (queued_on room cpu))
-          (each_weaker (IsTimelyTask room.clock) (λ task. task.vtime ≤ 69 * room.clock) (filter is_fair (queued_on room cpu)) (λ task is. is.vtime)
-          (each-filter (IsTimelyTask room.clock) is_fair (queued_on room cpu) (each-filter (IsTimelyTask room.clock) _ room.tasks timely.tasks)))
+          all_map (λ n. n ≤ most + 69 * room.clock) (λ task. task.vtime) (filter is_fair (queued_on room cpu))
+          (each_weaker (IsTimelyTask room) (λ task. task.vtime ≤ most + 69 * room.clock) (filter is_fair (queued_on room cpu)) ahead
+          (each-filter (IsTimelyTask room) is_fair (queued_on room cpu) (each-filter (IsTimelyTask room) _ room.tasks timely.tasks)))
+
+      own : (sibling_of room cpu).least ≤ most + 69 * room.clock
+      own = omega (arith, (sibling_is_timely most room cpu timely).least)
 
       go : (smallest : Option ℕ) → foremost ltb (fair_times room cpu) ≡ smallest →
-          option_map_or (λ n. max (sibling_of room cpu).least n) smallest (sibling_of room cpu).least ≤ 69 * room.clock
-      go None none = (sibling_is_timely room cpu timely).least
+          option_map_or (λ n. max (sibling_of room cpu).least n) smallest (sibling_of room cpu).least ≤ most + 69 * room.clock
+      go None none = own
       go (Some smallest) found =
-          max-le (sibling_is_timely room cpu timely).least (each_found (λ n. n ≤ 69 * room.clock) _ (fair_times room cpu) smallest found times)
+          max-le own (each_found (λ n. n ≤ most + 69 * room.clock) _ (fair_times room cpu) smallest found times)
 
-timely-with_leasts : (room : RoomState) → Timely room → Timely (with_leasts room)
-timely-with_leasts room timely = record {
-  tasks = timely.tasks;
-  siblings = all_enumerated (IsTimelySibling room.clock) _
-      (λ cpu sibling is. record { least = least_is_timely room cpu timely; snapshot = is.snapshot; ran = is.ran }) 0 room.siblings timely.siblings;
+-- It never falls.
+least_of-ge : (room : RoomState) (cpu : ℕ) → (sibling_of room cpu).least ≤ least_of room cpu
+least_of-ge room cpu = go (foremost ltb (fair_times room cpu)) where
+  go : (smallest : Option ℕ) → (sibling_of room cpu).least ≤ option_map_or (λ n. max (sibling_of room cpu).least n) smallest (sibling_of room cpu).least
+  go None = omega arith
+  go (Some smallest) = le-max_left (sibling_of room cpu).least smallest
+
+-- an element of a list that was changed by its places
+get_or-changed : (f : ℕ × SiblingState → SiblingState) (n i : ℕ) (xs : List SiblingState) → i < length xs →
+    get_or (map f (enumerate_from n xs)) i idle ≡ f (n + i, get_or xs i idle)
+get_or-changed f n i [] few = absurd (omega (arith, few))
+get_or-changed f n zero (x ∷ xs) few = ap (λ m. f (m, x)) (omega arith)
+get_or-changed f n (suc i) (x ∷ xs) few =
+    get_or-changed f (n + 1) i xs (omega (arith, few)) ∙ ap (λ m. f (m, get_or xs i idle)) (omega arith)
+
+get_or_past : (xs : List SiblingState) (i : ℕ) → length xs ≤ i → get_or xs i idle ≡ idle
+get_or_past [] i past = refl
+get_or_past (x ∷ xs) zero past = absurd (omega (arith, past))
+get_or_past (x ∷ xs) (suc i) past = get_or_past xs i (omega (arith, past))
+
+least-with_leasts : (room : RoomState) (cpu : ℕ) → (sibling_of room cpu).least ≤ (sibling_of (with_leasts room) cpu).least
+least-with_leasts room cpu = go (cases_lt cpu (length room.siblings)) where
+  inside : cpu < length room.siblings → (sibling_of room cpu).least ≤ (sibling_of (with_leasts room) cpu).least
+  inside few =
+      let same : (sibling_of (with_leasts room) cpu).least ≡ least_of room (0 + cpu) =
+      ap (λ (s : SiblingState). s.least) (get_or-changed (λ (place : ℕ × SiblingState). record place.1 { least = least_of room place.0 }) 0 cpu room.siblings few) in
+      let here : least_of room (0 + cpu) ≡ least_of room cpu = ap (least_of room) (omega arith) in
+      omega (arith, same, here, least_of-ge room cpu)
+
+  outside : length room.siblings ≤ cpu → (sibling_of room cpu).least ≤ (sibling_of (with_leasts room) cpu).least
+  outside past =
+      let none = ap (λ (s : SiblingState). s.least) (get_or_past room.siblings cpu past) in omega (arith, none)
+
+  go : (cpu < length room.siblings) ⊎ (length room.siblings ≤ cpu) → (sibling_of room cpu).least ≤ (sibling_of (with_leasts room) cpu).least
+  go (inl few) = inside few
+  go (inr past) = outside past
+
+timely-with_leasts : (most : ℕ) (room : RoomState) → Timely most room → Timely (most + 69 * room.clock) (with_leasts room)
+timely-with_leasts most room timely = record {
+  tasks = still_timely room (with_leasts room) room.tasks refl (least-with_leasts room) timely.tasks;
+  siblings = all_enumerated (IsTimelySibling (most + 69 * room.clock) room.clock) _
+      (λ cpu sibling is. record { least = least_is_timely most room cpu timely; snapshot = is.snapshot; ran = is.ran }) 0 room.siblings
+      (each_weaker (IsTimelySibling most room.clock) (IsTimelySibling (most + 69 * room.clock) room.clock) room.siblings
+      (λ sibling is. record { least = omega (arith, is.least); snapshot = omega (arith, is.snapshot); ran = is.ran }) timely.siblings);
 }
 
-timely-advanced : (room : RoomState) (delta : ℕ) → Timely room → Timely (advanced room delta)
+timely-advanced : (most : ℕ) (room : RoomState) (delta : ℕ) → Timely most room → Timely (most + 69 * (room.clock + delta)) (advanced room delta)
 unfolding advanced
-timely-advanced room delta timely = timely-with_leasts (with_growth room delta) (timely-with_growth room delta timely)
+timely-advanced most room delta timely = timely-with_leasts most (with_growth room delta) (timely-with_growth most room delta timely)
 
-timely-ticked : (room : RoomState) (cpu : ℕ) (task : Option Task) → IfSome task (IsTimelyTask room.clock) → Timely room → Timely (ticked room cpu task).room
-timely-ticked room cpu None is timely = timely
-timely-ticked room cpu (Some task) is timely =
+timely-accounted : (most : ℕ) (room : RoomState) → Timely most room → Timely most (accounted room)
+timely-accounted most room timely = same_core most room (accounted room) refl refl refl timely
+
+timely-ticked : (most : ℕ) (room : RoomState) (cpu : ℕ) (task : Option Task) → IfSome task (IsTimelyTask room) → Timely most room → Timely most (ticked room cpu task).room
+timely-ticked most room cpu None is timely = timely-accounted most room timely
+timely-ticked most room cpu (Some task) is timely =
+    let paid = accounted room in
     let used : cond (has_used_slice task) 0 task.used ≤ room.clock =
     cond_both (has_used_slice task) 0 task.used (λ n. n ≤ room.clock) (λ _. omega arith) (λ _. is.used) in
-    let rested : Timely (sliced room cpu task) = record {
-      tasks = all_placed_over (IsTimelyTask room.clock) (has_pid task.spec.pid) _ room.tasks (record { vtime = is.vtime; used = used }) timely.tasks;
-      siblings = timely.siblings;
-    } in
-    timely-with_sibling (sliced room cpu task) cpu _ (like room cpu _ refl refl refl timely) rested
+    let rested : Timely most (sliced paid cpu task) =
+    timely-stamped most (with_task paid _) _ (timely-with_task most paid _ (record { vtime = is.vtime; used = used }) (timely-accounted most room timely)) in
+    timely-flagged most (sliced paid cpu task) cpu _ rested
 
 -- ---- every step
 
-task_of_is_timely : (room : RoomState) (pid : ℕ) → Timely room → IfSome (task_of room pid) (IsTimelyTask room.clock)
-task_of_is_timely room pid timely = go (task_of room pid) refl where
-  go : (task : Option Task) → task_of room pid ≡ task → IfSome task (IsTimelyTask room.clock)
+task_of_is_timely : (most : ℕ) (room : RoomState) (pid : ℕ) → Timely most room → IfSome (task_of room pid) (IsTimelyTask room)
+task_of_is_timely most room pid timely = go (task_of room pid) refl where
+  go : (task : Option Task) → task_of room pid ≡ task → IfSome task (IsTimelyTask room)
   go None none = tt
-  go (Some task) found = each_found (IsTimelyTask room.clock) (has_pid pid) room.tasks task found timely.tasks
+  go (Some task) found = each_found (IsTimelyTask room) (has_pid pid) room.tasks task found timely.tasks
 
-running_is_timely : (room : RoomState) (cpu : ℕ) → Timely room → IfSome (running_on room cpu) (IsTimelyTask room.clock)
-running_is_timely room cpu timely = go (sibling_of room cpu).run refl where
-  go : (run : Option ℕ) → (sibling_of room cpu).run ≡ run → IfSome (running_on room cpu) (IsTimelyTask room.clock)
-  go None idle_there = subst (λ (task : Option Task). IfSome task (IsTimelyTask room.clock)) (sym (none_runs idle_there)) tt where
+running_is_timely : (most : ℕ) (room : RoomState) (cpu : ℕ) → Timely most room → IfSome (running_on room cpu) (IsTimelyTask room)
+running_is_timely most room cpu timely = go (sibling_of room cpu).run refl where
+  go : (run : Option ℕ) → (sibling_of room cpu).run ≡ run → IfSome (running_on room cpu) (IsTimelyTask room)
+  go None idle_there = subst (λ (task : Option Task). IfSome task (IsTimelyTask room)) (sym (none_runs idle_there)) tt where
     none_runs : (sibling_of room cpu).run ≡ None → running_on room cpu ≡ None
     none_runs none = simp (none)
-  go (Some pid) runs = subst (λ (task : Option Task). IfSome task (IsTimelyTask room.clock)) (sym (it_runs runs)) (task_of_is_timely room pid timely) where
+  go (Some pid) runs = subst (λ (task : Option Task). IfSome task (IsTimelyTask room)) (sym (it_runs runs)) (task_of_is_timely most room pid timely) where
     it_runs : (sibling_of room cpu).run ≡ Some pid → running_on room cpu ≡ task_of room pid
     it_runs runs = simp (runs)
 
-timely_step : (room : RoomState) (fresh : Bool) (event : Event) → Timely room → Timely (step room fresh event).room
-timely_step room fresh (Turn cpu) timely = timely-turned room fresh cpu timely
-timely_step room fresh (Resched cpu) timely = timely-schedule room fresh cpu timely
-timely_step room fresh (Block cpu) timely = timely-blocked room cpu (running_on room cpu) (running_is_timely room cpu timely) timely
-timely_step room fresh (Exit cpu) timely = timely-exited room cpu (running_on room cpu) timely
-timely_step room fresh (Tick cpu) timely = timely-ticked room cpu (running_on room cpu) (running_is_timely room cpu timely) timely
-timely_step room fresh (Wake pid) timely = timely-woken room (task_of room pid) (task_of_is_timely room pid timely) timely
-timely_step room fresh (Advance delta) timely = timely-advanced room delta timely
-timely_step room fresh (Fork caller thread) timely = timely-forked room thread (task_of room caller) timely
-timely_step room fresh (Prctl caller ask) timely =
-    timely-with_answer (with_made room (makes_cookie room caller ask)) (setting_of room caller ask) (prctl_answer room caller ask)
-    (record { tasks = timely.tasks; siblings = timely.siblings })
-
--- ---- what a machine asks between two changes of one step
-
-pub IsTimely-slept : (room : RoomState) (cpu : ℕ) (task : Task) → running_on room cpu ≡ Some task → IsTimely room → IsTimely (idled (dequeued room task) cpu)
-IsTimely-slept room cpu task runs timely =
-    timely_parts (idled (dequeued room task) cpu)
-    (timely-slept room cpu task (subst (λ one. IfSome one (IsTimelyTask room.clock)) runs (running_is_timely room cpu (parts_timely room timely))) (parts_timely room timely))
-
-pub IsTimely-gone : (room : RoomState) (cpu : ℕ) (task : Task) → IsTimely room → IsTimely (idled (without room task) cpu)
-IsTimely-gone room cpu task timely = timely_parts (idled (without room task) cpu) (timely-gone room cpu task (parts_timely room timely))
-
--- ---- after a history
-
-timely_after : (moment : Moment) (entries : List Entry) → Timely moment.room → Timely (after moment entries).room
-timely_after moment [] timely = timely
-timely_after moment (entry ∷ entries) timely =
-    timely_after (next moment entry) entries (timely_step moment.room (is_fresh moment.ledger) entry.event timely)
-
-timely_asleep : (tasks : List Task) (specs : List TaskSpec) → AllByRecursion (IsTimelyTask 0) tasks →
-    AllByRecursion (IsTimelyTask 0) (fold (λ ts spec. placed (asleep spec) ts) tasks specs)
-timely_asleep tasks [] all = all
-timely_asleep tasks (spec ∷ specs) all =
-    timely_asleep (placed (asleep spec) tasks) specs
-    (all_placed (IsTimelyTask 0) (asleep spec) tasks (record { vtime = omega arith; used = omega arith }) all)
-
--- After every history the times keep their bounds.
-pub timely-fold_of : (scenario : Scenario) (history : History) → IsTimely (fold_of scenario history)
-timely-fold_of scenario history =
-    timely_parts (fold_of scenario history) (timely_after (beginning scenario) history (record {
-      tasks = timely_asleep [] scenario.tasks tt;
-      siblings = all_replicate (IsTimelySibling 0) scenario.siblings idle (idle_is_timely 0);
-    }))
+-- each event but an advance
+weaker : (entries : ℕ) (room : RoomState) (new : RoomState) → new.clock ≡ room.clock → Timely (entries * (69 * room.clock)) new → IsTimely (entries + 1) new
+weaker entries room new clock timely =
+    timely_parts (entries + 1) new (record {
+      tasks = timely.tasks;
+      siblings = each_weaker (IsTimelySibling (entries * (69 * room.clock)) new.clock) (IsTimelySibling ((entries + 1) * (69 * new.clock)) new.clock) new.siblings
+          (λ sibling is. record { least = up sibling.least is.least; snapshot = up sibling.snapshot is.snapshot; ran = is.ran }) timely.siblings;
+    }) where
+      up : (n : ℕ) → n ≤ entries * (69 * room.clock) → n ≤ (entries + 1) * (69 * new.clock)
+      up n le =
+          let same : (entries + 1) * (69 * new.clock) ≡ entries * (69 * room.clock) + 69 * room.clock = ap (λ c. (entries + 1) * (69 * c)) clock ∙ grind arith in
+          omega (arith, le, same)
 
 -- ---- the clock
 
@@ -412,9 +592,14 @@ clock-scheduled room false cpu (Some run) = clock-rescheduled room cpu
 clock-schedule : (room : RoomState) (fresh : Bool) (cpu : ℕ) → (schedule room fresh cpu).room.clock ≡ room.clock
 clock-schedule room fresh cpu = clock-scheduled room fresh cpu (sibling_of room cpu).waiting
 
+clock-tried : (room : RoomState) (cpu : ℕ) (task : Option Task) → (tried room cpu task).room.clock ≡ room.clock
+clock-tried room cpu None = refl
+clock-tried room cpu (Some task) = refl
+
 clock-turned : (room : RoomState) (fresh : Bool) (cpu : ℕ) → (turned room fresh cpu).room.clock ≡ room.clock
 clock-turned room fresh cpu =
-    cond_both (sibling_of room cpu).pending _ _ (λ (made : Stepped). made.room.clock ≡ room.clock) (λ _. clock-schedule room fresh cpu) (λ _. refl)
+    cond_both (sibling_of room cpu).pending _ _ (λ (made : Stepped). made.room.clock ≡ room.clock) (λ _. clock-schedule room fresh cpu)
+    (λ _. cond_both ((sibling_of room cpu).place == 0) _ _ (λ (made : Stepped). made.room.clock ≡ room.clock) (λ _. refl) (λ _. clock-tried room cpu (stolen room cpu)))
 
 clock-blocked : (room : RoomState) (cpu : ℕ) (task : Option Task) → (blocked room cpu task).room.clock ≡ room.clock
 clock-blocked room cpu None = refl
@@ -447,19 +632,119 @@ clock-with_answer : (room : RoomState) (set : Setting) (answer : Reply) → (wit
 clock-with_answer room set Zero = refl
 clock-with_answer room set answer = refl
 
+clock-unless_offline : (room : RoomState) (cpu : ℕ) (stepped : Stepped) → stepped.room.clock ≡ room.clock → (unless_offline room cpu stepped).room.clock ≡ room.clock
+clock-unless_offline room cpu stepped same =
+    cond_both (is_online room cpu) _ _ (λ (made : Stepped). made.room.clock ≡ room.clock) (λ _. same) (λ _. refl)
+
+clock-set_policy : (room : RoomState) (policy : Policy) (task : Option Task) → (set_policy room policy task).room.clock ≡ room.clock
+clock-set_policy room policy None = refl
+clock-set_policy room policy (Some task) = cond_both task.queued _ _ (λ (made : RoomState). made.clock ≡ room.clock) (λ _. refl) (λ _. refl)
+
+clock-taken_offline : (room : RoomState) (cpu : ℕ) → (taken_offline room cpu).room.clock ≡ room.clock
+unfolding without_sibling
+clock-taken_offline room cpu =
+    cond_both (not (is_online room cpu)) _ _ (λ (made : Stepped). made.room.clock ≡ room.clock) (λ _. refl)
+    (λ _. cond_both (length (online room) == 1) _ _ (λ (made : Stepped). made.room.clock ≡ room.clock) (λ _. refl) (λ _. refl))
+
+clock-brought_online : (room : RoomState) (cpu : ℕ) → (brought_online room cpu).room.clock ≡ room.clock
+clock-brought_online room cpu = cond_both (is_online room cpu) _ _ (λ (made : Stepped). made.room.clock ≡ room.clock) (λ _. refl) (λ _. refl)
+
 clock_by : (old new : ℕ) → new ≡ old → new ≤ old + 1000000000
 clock_by old new same = omega (arith, same)
 
 -- At a step the clock goes on by one second at most.
 pub clock-step : (room : RoomState) (fresh : Bool) (event : Event) (siblings : ℕ) → IsEvent siblings event →
     (step room fresh event).room.clock ≤ room.clock + 1000000000
-clock-step room fresh (Turn cpu) siblings is = clock_by _ _ (clock-turned room fresh cpu)
-clock-step room fresh (Resched cpu) siblings is = clock_by _ _ (clock-schedule room fresh cpu)
-clock-step room fresh (Block cpu) siblings is = clock_by _ _ (clock-blocked room cpu (running_on room cpu))
-clock-step room fresh (Exit cpu) siblings is = clock_by _ _ (clock-exited room cpu (running_on room cpu))
-clock-step room fresh (Tick cpu) siblings is = clock_by _ _ (clock-ticked room cpu (running_on room cpu))
+clock-step room fresh (Turn cpu) siblings is = clock_by _ _ (clock-unless_offline room cpu _ (clock-turned room fresh cpu))
+clock-step room fresh (Resched cpu) siblings is = clock_by _ _ (clock-unless_offline room cpu _ (clock-schedule room fresh cpu))
+clock-step room fresh (Block cpu) siblings is = clock_by _ _ (clock-unless_offline room cpu _ (clock-blocked room cpu (running_on room cpu)))
+clock-step room fresh (Exit cpu) siblings is = clock_by _ _ (clock-unless_offline room cpu _ (clock-exited room cpu (running_on room cpu)))
+clock-step room fresh (Tick cpu) siblings is = clock_by _ _ (clock-unless_offline room cpu _ (clock-ticked room cpu (running_on room cpu)))
 clock-step room fresh (Wake pid) siblings is = clock_by _ _ (clock-woken room (task_of room pid))
 clock-step room fresh (Advance delta) siblings is = omega (arith, clock-advanced room delta, is.1)
 clock-step room fresh (Fork caller thread) siblings is = clock_by _ _ (clock-forked room thread (task_of room caller))
 clock-step room fresh (Prctl caller ask) siblings is =
     clock_by _ _ (clock-with_answer (with_made room (makes_cookie room caller ask)) (setting_of room caller ask) (prctl_answer room caller ask))
+clock-step room fresh (SetSched pid policy) siblings is = clock_by _ _ (clock-set_policy room policy (task_of room pid))
+clock-step room fresh (Offline cpu) siblings is = clock_by _ _ (clock-taken_offline room cpu)
+clock-step room fresh (Online cpu) siblings is = clock_by _ _ (clock-brought_online room cpu)
+
+-- an advance raises what is most by as much as the clock shows then
+advanced_is_timely : (entries : ℕ) (room : RoomState) (delta : ℕ) → Timely (entries * (69 * room.clock)) room → IsTimely (entries + 1) (advanced room delta)
+advanced_is_timely entries room delta timely =
+    let made = timely-advanced (entries * (69 * room.clock)) room delta timely in
+    let now = clock-advanced room delta in
+    let more : entries * (69 * room.clock) + 69 * (room.clock + delta) ≤ (entries + 1) * (69 * (room.clock + delta)) = grind arith in
+    let same = ap (λ c. (entries + 1) * (69 * c)) now in
+    timely_parts (entries + 1) (advanced room delta) (record {
+      tasks = made.tasks;
+      siblings = each_weaker (IsTimelySibling (entries * (69 * room.clock) + 69 * (room.clock + delta)) (advanced room delta).clock)
+          (IsTimelySibling ((entries + 1) * (69 * (advanced room delta).clock)) (advanced room delta).clock) (advanced room delta).siblings
+          (λ sibling is. record { least = omega (arith, is.least, more, same); snapshot = omega (arith, is.snapshot, more, same); ran = is.ran }) made.siblings;
+    })
+
+timely-step : (entries : ℕ) (room : RoomState) (fresh : Bool) (event : Event) → Timely (entries * (69 * room.clock)) room → IsTimely (entries + 1) (step room fresh event).room
+timely-step entries room fresh (Turn cpu) timely =
+    weaker entries room _ (clock-unless_offline room cpu _ (clock-turned room fresh cpu)) (timely-unless_offline _ room cpu _ timely (timely-turned _ room fresh cpu timely))
+timely-step entries room fresh (Resched cpu) timely =
+    weaker entries room _ (clock-unless_offline room cpu _ (clock-schedule room fresh cpu)) (timely-unless_offline _ room cpu _ timely (timely-schedule _ room fresh cpu timely))
+timely-step entries room fresh (Block cpu) timely =
+    weaker entries room _ (clock-unless_offline room cpu _ (clock-blocked room cpu (running_on room cpu)))
+    (timely-unless_offline _ room cpu _ timely (timely-blocked _ room cpu (running_on room cpu) (running_is_timely _ room cpu timely) timely))
+timely-step entries room fresh (Exit cpu) timely =
+    weaker entries room _ (clock-unless_offline room cpu _ (clock-exited room cpu (running_on room cpu)))
+    (timely-unless_offline _ room cpu _ timely (timely-exited _ room cpu (running_on room cpu) timely))
+timely-step entries room fresh (Tick cpu) timely =
+    weaker entries room _ (clock-unless_offline room cpu _ (clock-ticked room cpu (running_on room cpu)))
+    (timely-unless_offline _ room cpu _ timely (timely-ticked _ room cpu (running_on room cpu) (running_is_timely _ room cpu timely) timely))
+timely-step entries room fresh (Wake pid) timely =
+    weaker entries room _ (clock-woken room (task_of room pid)) (timely-woken _ room (task_of room pid) (task_of_is_timely _ room pid timely) timely)
+timely-step entries room fresh (Advance delta) timely = advanced_is_timely entries room delta timely
+timely-step entries room fresh (Fork caller thread) timely =
+    weaker entries room _ (clock-forked room thread (task_of room caller)) (timely-forked _ room thread (task_of room caller) timely)
+timely-step entries room fresh (Prctl caller ask) timely =
+    let made = with_made room (makes_cookie room caller ask) in
+    weaker entries room _ (clock-with_answer made (setting_of room caller ask) (prctl_answer room caller ask))
+    (timely-with_answer _ made (setting_of room caller ask) (prctl_answer room caller ask) (same_core _ room made refl refl refl timely))
+timely-step entries room fresh (SetSched pid policy) timely =
+    weaker entries room _ (clock-set_policy room policy (task_of room pid)) (timely-set_policy _ room policy (task_of room pid) (task_of_is_timely _ room pid timely) timely)
+timely-step entries room fresh (Offline cpu) timely = weaker entries room _ (clock-taken_offline room cpu) (timely-taken_offline _ room cpu timely)
+timely-step entries room fresh (Online cpu) timely = weaker entries room _ (clock-brought_online room cpu) (timely-brought_online _ room cpu timely)
+
+-- ---- what a machine asks between two changes of one step
+
+pub IsTimely-slept : (entries : ℕ) (room : RoomState) (cpu : ℕ) (task : Task) → running_on room cpu ≡ Some task → IsTimely entries room → IsTimely entries (idled (dequeued room task) cpu)
+IsTimely-slept entries room cpu task runs timely =
+    let parts = parts_timely entries room timely in
+    timely_parts entries (idled (dequeued room task) cpu)
+    (timely-slept _ room cpu task (subst (λ one. IfSome one (IsTimelyTask room)) runs (running_is_timely _ room cpu parts)) parts)
+
+pub IsTimely-gone : (entries : ℕ) (room : RoomState) (cpu : ℕ) (task : Task) → IsTimely entries room → IsTimely entries (idled (without room task) cpu)
+IsTimely-gone entries room cpu task timely =
+    timely_parts entries (idled (without room task) cpu) (timely-gone _ room cpu task (parts_timely entries room timely))
+
+-- ---- after a history
+
+timely_after : (done : ℕ) (moment : Moment) (entries : List Entry) → IsTimely done moment.room → IsTimely (done + length entries) (after moment entries).room
+timely_after done moment [] timely = subst (λ n. IsTimely n moment.room) (omega arith) timely
+timely_after done moment (entry ∷ entries) timely =
+    subst (λ n. IsTimely n (after (next moment entry) entries).room) (omega arith)
+    (timely_after (done + 1) (next moment entry) entries (timely-step done moment.room (is_fresh moment.ledger) entry.event (parts_timely done moment.room timely)))
+
+asleep_is_timely : (scenario : Scenario) (spec : TaskSpec) → IsTimelyTask (start scenario) (asleep spec)
+asleep_is_timely scenario spec = record { vtime = omega arith; used = omega arith }
+
+timely_asleep : (scenario : Scenario) (tasks : List Task) (specs : List TaskSpec) → AllByRecursion (IsTimelyTask (start scenario)) tasks →
+    AllByRecursion (IsTimelyTask (start scenario)) (fold (λ ts spec. placed (asleep spec) ts) tasks specs)
+timely_asleep scenario tasks [] all = all
+timely_asleep scenario tasks (spec ∷ specs) all =
+    timely_asleep scenario (placed (asleep spec) tasks) specs (all_placed (IsTimelyTask (start scenario)) (asleep spec) tasks (asleep_is_timely scenario spec) all)
+
+-- After every history the times keep their bounds.
+pub timely-fold_of : (scenario : Scenario) (history : History) → IsTimely (length history) (fold_of scenario history)
+timely-fold_of scenario history =
+    subst (λ n. IsTimely n (fold_of scenario history)) (omega arith)
+    (timely_after 0 (beginning scenario) history (timely_parts 0 (start scenario) (record {
+      tasks = timely_asleep scenario [] scenario.tasks tt;
+      siblings = all_replicate (IsTimelySibling 0 0) scenario.siblings idle (idle_is_timely 0 0);
+    })))

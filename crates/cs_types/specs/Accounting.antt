@@ -5,10 +5,12 @@ use Rattle.std.specs.Prelude.{ℕ, ◌-◌, ◌*◌, ◌/◌, Bool, true, false,
 use Rattle.std.specs.List.{list_any, filter_map}
 use Rattle.std.specs.Option.{option_map, option_and_then}
 use Rattle.cs_types.specs.declared.task.Task.{Task}
+use Rattle.cs_types.specs.declared.event.Event.{Event}
+use Rattle.cs_types.specs.declared.event.Event.TheVariants.{Offline}
 use Rattle.cs_types.specs.declared.reply.Kind.{Kind}
 use Rattle.cs_types.specs.declared.reply.Kind.TheVariants.{Selected, Adopted, Plain}
 use Rattle.cs_types.specs.declared.reply.Reply.{Reply}
-use Rattle.cs_types.specs.declared.reply.Reply.TheVariants.{Picked, Slept, Ended, Ticked}
+use Rattle.cs_types.specs.declared.reply.Reply.TheVariants.{Picked, Slept, Ended, Ticked, Done}
 use Rattle.cs_types.specs.Room.{RoomState, task_of, sibling_of, online}
 use Rattle.cs_types.specs.Selection.{to_run}
 
@@ -74,18 +76,25 @@ closes Selected = true
 closes Adopted = false
 closes Plain = true
 
--- whether an entry with this reply charges: a schedule that is no adoption, a tick, a sleep and an end
--- (`sched_core_account_forceidle` in `pick_next_task`, `__sched_core_tick` and `sched_core_dequeue`)
-abbrev pub is_charging : Reply → Bool
-is_charging (Picked pick) = closes pick.kind
-is_charging (Slept pid pick) = true
-is_charging (Ended pid pick) = true
-is_charging (Ticked asked) = true
-is_charging reply = false
+-- whether an event takes a sibling offline
+abbrev pub takes_away : Event → Bool
+takes_away (Offline cpu) = true
+takes_away event = false
 
--- the interval that an entry with this reply records, read in the room before it
-abbrev pub interval_by : RoomState → Reply → Option Interval
-interval_by room reply = if is_charging reply then open_interval room else None
+-- whether an entry with this reply charges: a schedule that is no adoption, a tick, a sleep, an end and the leaving of a
+-- sibling (`sched_core_account_forceidle` in `pick_next_task`, `__sched_core_tick` and `sched_core_dequeue`; that a
+-- leaving charges is this project's rule)
+abbrev pub is_charging : Event → Reply → Bool
+is_charging event (Picked pick) = closes pick.kind
+is_charging event (Slept pid pick) = true
+is_charging event (Ended pid pick) = true
+is_charging event (Ticked asked) = true
+is_charging event Done = takes_away event
+is_charging event reply = false
+
+-- the interval that an entry records, read in the room before it
+abbrev pub interval_by : RoomState → Event → Reply → Option Interval
+interval_by room event reply = if is_charging event reply then open_interval room else None
 
 -- an interval that is open goes on from now
 abbrev pub accounted : RoomState → RoomState

@@ -1,12 +1,12 @@
 -- Histories: the room and the ledger after one, which of them are legal, and the one that steps make.
-use Rattle.std.specs.Prelude.{◌≡◌, List, [], ◌∷◌, ◌++◌, map, filter}
+use Rattle.std.specs.Prelude.{◌≡◌, List, [], ◌∷◌, ◌++◌, map, filter, All}
 use Rattle.cs_types.specs.declared.event.Actor.{Actor}
 use Rattle.cs_types.specs.declared.event.Event.{Event}
 use Rattle.cs_types.specs.declared.event.Step.{Step}
 use Rattle.cs_types.specs.declared.reply.Reply.{Reply}
 use Rattle.cs_types.specs.declared.reply.Entry.{Entry}
 use Rattle.cs_types.specs.declared.scenario.Scenario.{Scenario}
-use Rattle.cs_types.specs.Scenario.{is_actor}
+use Rattle.cs_types.specs.Scenario.{IsEvent, is_actor}
 use Rattle.cs_types.specs.Room.{RoomState, start}
 use Rattle.cs_types.specs.Step.{Stepped, step}
 use Rattle.cs_types.specs.Touches.{Ledger, noted, is_fresh}
@@ -57,6 +57,10 @@ abbrev pub IsLegal : Scenario → History → Type 0
 IsLegal scenario history =
     (past : History) (entry : Entry) (rest : List Entry) →
     history ≡ past ++ entry ∷ rest → entry.reply ≡ reply_to scenario past entry.event
+
+-- what each event names keeps its limits
+abbrev pub AreEvents : Scenario → History → Type 0
+AreEvents scenario history = All (λ entry. IsEvent scenario.siblings entry.event) history
 
 -- the events of an actor's entries
 abbrev pub events_by : Actor → History → List Event

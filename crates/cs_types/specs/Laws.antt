@@ -1,15 +1,17 @@
 -- Laws: what the rules come to, said without them.
-use Rattle.std.specs.Prelude.{◌≡◌, ◌↔◌, ℕ, ◌<◌, false, ◌⊎◌, [], map, length, count_by, All, Contains, IsTrue, Option, Some, None, unwrap_or}
-use Rattle.std.specs.Option.{option_map_or}
+use Rattle.std.specs.Prelude.{◌≡◌, ◌↔◌, ℕ, ◌<◌, true, false, ◌⊎◌, List, [], map, length, count_by, All, Contains, IsTrue, Option, Some, None, IfSome, unwrap_or}
+use Rattle.std.specs.Option.{option_map_or, option_and_then}
 use Rattle.cs_types.specs.declared.task.Task.{Task}
 use Rattle.cs_types.specs.declared.event.Event.{Event}
 use Rattle.cs_types.specs.declared.event.Event.TheVariants.{Block, Exit}
 use Rattle.cs_types.specs.declared.reply.Pick.{Pick}
-use Rattle.cs_types.specs.Room.{RoomState, queued_on, sibling_of, running_on, online, online_from}
+use Rattle.cs_types.specs.Room.{RoomState, SiblingState, queued_on, task_of, sibling_of, running_on, online, online_from}
 use Rattle.cs_types.specs.Order.{foremost, outranks, first_of}
-use Rattle.cs_types.specs.Selection.{to_run, first_on, cookie_of, pid_of, snapshot_of, choice, eligible, is_forced}
-use Rattle.cs_types.specs.Touches.{scheduler_of}
-use Rattle.cs_types.specs.Step.{dequeued, without, idled}
+use Rattle.cs_types.specs.Selection.{is_run, to_run, first_on, cookie_of, pid_of, snapshot_of, choice, eligible, is_forced}
+use Rattle.cs_types.specs.Touches.{scheduler_of, is_fresh}
+use Rattle.cs_types.specs.History.{Moment}
+use Rattle.cs_types.specs.Step.{without, idled}
+use Rattle.cs_types.specs.Queueing.{dequeued}
 
 -- the sibling that an event makes schedule
 abbrev pub cpu_of : Event → ℕ
@@ -48,3 +50,42 @@ pub record SelectsForTheCore (before : RoomState) (cpu : ℕ) (pick : Pick) (now
   pub counted : pick.forced ≡ now.forced
   -- While one is, some sibling has a task.
   pub occupied : 0 < now.forced → 0 < now.occupation
+
+-- ---- the trust rule
+
+-- Each online sibling without a pending reschedule runs idle or a task with the core cookie.
+abbrev pub IsSettled : RoomState → Type 0
+IsSettled room =
+    (cpu : ℕ) → Contains (online room) cpu → (sibling_of room cpu).pending ≡ false →
+    (running_on room cpu ≡ None) ⊎ (cookie_of (running_on room cpu) ≡ room.core_cookie)
+
+-- No two tasks that online siblings run differ in their cookies. So it is wherever the rule holds and none is pending.
+abbrev pub RunOneCookie : RoomState → Type 0
+RunOneCookie room =
+    (a b : ℕ) (first second : Task) → Contains (online room) a → Contains (online room) b →
+    running_on room a ≡ Some first → running_on room b ≡ Some second → first.cookie ≡ second.cookie
+
+-- ---- what a sibling has
+
+-- the pids of the tasks queued on a sibling
+abbrev pub pids_on : RoomState → ℕ → List ℕ
+pids_on room cpu = map (λ task. task.spec.pid) (queued_on room cpu)
+
+-- what a sibling with this state has at a moment
+pub record HasItsOwn (moment : Moment) (cpu : ℕ) (sibling : SiblingState) : Type 0 where
+  -- What it runs is queued on it.
+  pub runs : IfSome sibling.run (Contains (pids_on moment.room cpu))
+  -- What waits for it is idle or queued on it. It is pending then, and does not run that already.
+  pub waits : IfSome sibling.waiting (λ run. IfSome run (Contains (pids_on moment.room cpu)))
+  pub flagged : IfSome sibling.waiting (λ run. sibling.pending ≡ true)
+  pub other : IfSome sibling.waiting (λ run. is_run sibling.run run ≡ false)
+  -- While the selection is fresh, what waits is idle or has the core cookie.
+  pub fresh : is_fresh moment.ledger ≡ true →
+      IfSome sibling.waiting (λ run. IfSome (option_and_then (task_of moment.room) run) (λ task. task.cookie ≡ moment.room.core_cookie))
+  -- An offline sibling has no queue and runs idle; it is not pending, nothing waits, and it tries no steal.
+  pub offline : sibling.online ≡ false →
+      (queued_on moment.room cpu ≡ []) × (sibling.run ≡ None) × (sibling.pending ≡ false) × (sibling.waiting ≡ None) × (sibling.place ≡ 0)
+
+-- A sibling has at a moment what it is to have.
+abbrev pub IsOrdered : Moment → ℕ → Type 0
+IsOrdered moment cpu = HasItsOwn moment cpu (sibling_of moment.room cpu)

@@ -8,8 +8,12 @@ pub mod Access
 pub mod Prctl
 pub mod Accounting
 pub mod Touches
+pub mod Queueing
+pub mod Steal
+pub mod Hotplug
 pub mod Step
 pub mod History
+pub mod Drain
 pub mod View
 pub mod Laws
 pub mod Queue

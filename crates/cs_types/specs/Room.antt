@@ -1,5 +1,5 @@
 -- The room: the state of the core and its tasks, and how it starts. Beside each part stands the kernel's field.
-use Rattle.std.specs.Prelude.{ℕ, ◌+◌, max, Bool, true, false, ◌==◌, ◌&&◌, ◌||◌, ◌-◌, nat_lt, if◌then◌else◌, List, [], ◌∷◌, ◌++◌, length, map, filter, find, fold, replicate, slice_index_or, slice_set, Option, None}
+use Rattle.std.specs.Prelude.{ℕ, ◌+◌, max, Bool, true, false, ◌==◌, ◌&&◌, ◌||◌, ◌-◌, nat_lt, if◌then◌else◌, List, [], ◌∷◌, ◌++◌, length, map, filter, find, fold, replicate, slice_index_or, slice_set, Option, None, unwrap_or}
 use Rattle.std.specs.List.{range_with_len}
 use Rattle.std.specs.Option.{option_and_then}
 use Rattle.cs_types.specs.declared.task.Task.{Task}
@@ -13,7 +13,8 @@ Waiting = Option (Option ℕ)
 -- a sibling: whether it is online, the pid of its running task, none where it runs idle (`rq->curr`), whether it
 -- has a pending reschedule (`TIF_NEED_RESCHED`), its waiting pick (`core_pick`), the occupation that its idle
 -- remembers (the running task stays queued), the least virtual time of its queue (`min_vruntime`), what that was when
--- it was last noted for a comparison with other siblings (`min_vruntime_fi`), and the time since its last schedule
+-- it was last noted for a comparison with other siblings (`min_vruntime_fi`), the time since its last schedule, and its
+-- balance place: how far off the next sibling is from which it tries to steal, 0 where it tries none
 pub record SiblingState : Type 0 where
   pub online : Bool
   pub run : Option ℕ
@@ -23,6 +24,7 @@ pub record SiblingState : Type 0 where
   pub least : ℕ
   pub snapshot : ℕ
   pub ran : ℕ
+  pub place : ℕ
 
 -- the core, with the limits of its scenario, which no step changes: the clock, its living tasks, by rising pid, the pids of those
 -- that ended, in the order of their ends, the next pid, the next stamp and the next cookie, the core
@@ -84,6 +86,7 @@ idle =
       least = 0;
       snapshot = 0;
       ran = 0;
+      place = 0;
     }
 
 -- one above the greatest pid of these lines, 1 where there is none
@@ -138,6 +141,10 @@ is_online room cpu = (sibling_of room cpu).online
 
 abbrev pub online : RoomState → List ℕ
 online room = filter (is_online room) (range_with_len 0 (length room.siblings))
+
+-- the lowest sibling that is online (this project's rule)
+abbrev pub lowest_online : RoomState → ℕ
+lowest_online room = unwrap_or (find (is_online room) (range_with_len 0 (length room.siblings))) 0
 
 -- the same in the order that begins at one sibling, rises, and then goes from 0 up to it
 abbrev pub online_from : RoomState → ℕ → List ℕ

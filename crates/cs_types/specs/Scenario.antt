@@ -1,14 +1,14 @@
 -- Scenarios: the limits that each of them keeps, and the script of each actor.
-use Rattle.std.specs.Prelude.{◌≡◌, ◌≢◌, ◌⊎◌, ℕ, ◌<◌, ◌≤◌, ◌^◌, ℤ, pos, negsuc, Bool, false, ◌==◌, List, length, map, filter, take, All, Any, AllPairs, slice_index_or}
+use Rattle.std.specs.Prelude.{◌≡◌, ◌≢◌, ◌⊎◌, ℕ, ◌<◌, ◌≤◌, ◌^◌, ℤ, pos, negsuc, Bool, true, false, ◌==◌, List, length, map, filter, take, All, Any, AllPairs, slice_index_or}
 use Rattle.cs_types.specs.declared.task.Policy.{Policy}
 use Rattle.cs_types.specs.declared.task.Policy.TheVariants.{Stop, Deadline, Fifo, Rr, Fair}
 use Rattle.cs_types.specs.declared.task.Creds.{Creds}
 use Rattle.cs_types.specs.declared.task.TaskSpec.{TaskSpec}
 use Rattle.cs_types.specs.declared.event.Actor.{Actor}
-use Rattle.cs_types.specs.declared.event.Actor.TheVariants.{Sibling, Caller}
+use Rattle.cs_types.specs.declared.event.Actor.TheVariants.{Sibling, Caller, End}
 use Rattle.cs_types.specs.declared.event.Ask.{Ask}
 use Rattle.cs_types.specs.declared.event.Event.{Event}
-use Rattle.cs_types.specs.declared.event.Event.TheVariants.{Turn, Resched, Block, Exit, Tick, Wake, Advance, Fork, Prctl}
+use Rattle.cs_types.specs.declared.event.Event.TheVariants.{Turn, Resched, Block, Exit, Tick, Wake, Advance, Fork, Prctl, SetSched, Offline, Online}
 use Rattle.cs_types.specs.declared.event.Step.{Step}
 use Rattle.cs_types.specs.declared.scenario.Scenario.{Scenario}
 
@@ -87,8 +87,11 @@ IsEvent siblings (Wake pid) = IsWithin 1 999999 pid
 IsEvent siblings (Advance delta) = IsWithin 1 1000000000 delta
 IsEvent siblings (Fork caller thread) = IsWithin 1 999999 caller
 IsEvent siblings (Prctl caller ask) = IsWithin 1 999999 caller × IsAsk ask
+IsEvent siblings (SetSched pid policy) = IsWithin 1 999999 pid × IsPolicy policy
+IsEvent siblings (Offline cpu) = cpu < siblings
+IsEvent siblings (Online cpu) = cpu < siblings
 
--- A sibling makes its own events, on itself; a caller, 0 to 7, makes the others.
+-- A sibling makes its own events, on itself; a caller, 0 to 7, makes the others. No step line is of the end.
 abbrev pub IsMadeBy : Actor → Event → Type 0
 IsMadeBy (Sibling i) (Turn cpu) = cpu ≡ i
 IsMadeBy (Sibling i) (Resched cpu) = cpu ≡ i
@@ -99,15 +102,22 @@ IsMadeBy (Caller j) (Wake pid) = j < 8
 IsMadeBy (Caller j) (Advance delta) = j < 8
 IsMadeBy (Caller j) (Fork caller thread) = j < 8
 IsMadeBy (Caller j) (Prctl caller ask) = j < 8
+IsMadeBy (Caller j) (SetSched pid policy) = j < 8
+IsMadeBy (Caller j) (Offline cpu) = j < 8
+IsMadeBy (Caller j) (Online cpu) = j < 8
 IsMadeBy (Sibling i) (Wake pid) = ⊥
 IsMadeBy (Sibling i) (Advance delta) = ⊥
 IsMadeBy (Sibling i) (Fork caller thread) = ⊥
 IsMadeBy (Sibling i) (Prctl caller ask) = ⊥
+IsMadeBy (Sibling i) (SetSched pid policy) = ⊥
+IsMadeBy (Sibling i) (Offline cpu) = ⊥
+IsMadeBy (Sibling i) (Online cpu) = ⊥
 IsMadeBy (Caller j) (Turn cpu) = ⊥
 IsMadeBy (Caller j) (Resched cpu) = ⊥
 IsMadeBy (Caller j) (Block cpu) = ⊥
 IsMadeBy (Caller j) (Exit cpu) = ⊥
 IsMadeBy (Caller j) (Tick cpu) = ⊥
+IsMadeBy End event = ⊥
 
 -- a step line, in a core of so many siblings
 pub record IsStep (siblings : ℕ) (step : Step) : Type 0 where
@@ -143,6 +153,11 @@ is_actor (Sibling i) (Sibling j) = i == j
 is_actor (Caller i) (Caller j) = i == j
 is_actor (Sibling i) (Caller j) = false
 is_actor (Caller i) (Sibling j) = false
+is_actor End End = true
+is_actor End (Sibling j) = false
+is_actor End (Caller j) = false
+is_actor (Sibling i) End = false
+is_actor (Caller i) End = false
 
 -- the events of an actor's step lines, in the order of the lines
 abbrev pub script : Scenario → Actor → List Event

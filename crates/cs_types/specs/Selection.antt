@@ -1,6 +1,6 @@
 -- Selection: what a sibling runs next, in three cases (`pick_next_task` under CONFIG_SCHED_CORE,
 -- kernel/sched/core.c).
-use Rattle.std.specs.Prelude.{ℕ, Bool, true, false, ◌==◌, ◌&&◌, ◌||◌, if◌then◌else◌, List, map, filter, count_by, Option, Some, None, is_none, is_some, unwrap_or}
+use Rattle.std.specs.Prelude.{ℕ, Bool, true, false, ◌==◌, ◌&&◌, ◌||◌, not, if◌then◌else◌, List, map, filter, count_by, Option, Some, None, is_none, is_some, unwrap_or}
 use Rattle.std.specs.List.{list_any, enumerate_from}
 use Rattle.std.specs.Option.{option_map, option_map_or, option_and_then, option_to_list}
 use Rattle.cs_types.specs.declared.task.Task.{Task}
@@ -206,5 +206,19 @@ abbrev pub scheduled : RoomState → Bool → ℕ → Option (Option ℕ) → Sc
 scheduled room is_fresh cpu None = rescheduled room cpu
 scheduled room is_fresh cpu (Some run) = if is_fresh then adopted room cpu run else rescheduled room cpu
 
+-- A sibling is to try to steal where some sibling is forced idle, it runs idle itself, the core has a cookie, and a task
+-- is queued on it (`queue_core_balance`).
+abbrev pub is_to_steal : RoomState → ℕ → Bool
+is_to_steal room cpu =
+    not (room.forced == 0) && is_none (sibling_of room cpu).run && not (room.core_cookie == 0) && is_some (first_on room cpu)
+
+-- After each schedule the sibling's tries begin at the next sibling, or it makes none.
+abbrev pub balanced : ℕ → Scheduled → Scheduled
+balanced cpu made =
+    record made {
+      room = with_sibling made.room cpu
+          (record (sibling_of made.room cpu) { place = if is_to_steal made.room cpu then 1 else 0 });
+    }
+
 abbrev pub schedule : RoomState → Bool → ℕ → Scheduled
-schedule room is_fresh cpu = scheduled room is_fresh cpu (sibling_of room cpu).waiting
+schedule room is_fresh cpu = balanced cpu (scheduled room is_fresh cpu (sibling_of room cpu).waiting)

@@ -1,22 +1,24 @@
 -- Steps: what each event does to the room, and what it answers.
-use Rattle.std.specs.Prelude.{ℕ, ◌+◌, max, Bool, true, false, ◌==◌, ◌&&◌, ◌||◌, not, if◌then◌else◌, [], ◌∷◌, ◌++◌, length, filter, Option, Some, None}
+use Rattle.std.specs.Prelude.{ℕ, ◌+◌, Bool, false, ◌==◌, ◌&&◌, ◌||◌, not, if◌then◌else◌, [], ◌∷◌, ◌++◌, length, filter, Option, Some, None}
 use Rattle.std.specs.List.{list_any}
-use Rattle.std.specs.Option.{option_map_or}
 use Rattle.cs_types.specs.declared.task.Task.{Task}
 use Rattle.cs_types.specs.declared.task.TaskSpec.{TaskSpec}
 use Rattle.cs_types.specs.declared.task.Policy.{Policy}
-use Rattle.cs_types.specs.declared.task.Policy.TheVariants.{Deadline, Fair}
 use Rattle.cs_types.specs.declared.event.Event.{Event}
-use Rattle.cs_types.specs.declared.event.Event.TheVariants.{Turn, Resched, Block, Exit, Tick, Wake, Advance, Fork, Prctl}
+use Rattle.cs_types.specs.declared.event.Event.TheVariants.{Turn, Resched, Block, Exit, Tick, Wake, Advance, Fork, Prctl, SetSched, Offline, Online}
 use Rattle.cs_types.specs.declared.reply.Reply.{Reply}
-use Rattle.cs_types.specs.declared.reply.Reply.TheVariants.{Picked, Nothing, Slept, Ended, Idle, HasThreads, Woken, Awake, NoTask, Now, Ticked, Child, Refused, NoCaller}
-use Rattle.cs_types.specs.declared.reply.Errno.TheVariants.{Eagain}
+use Rattle.cs_types.specs.declared.reply.Reply.TheVariants.{Picked, Nothing, Stole, Missed, Slept, Ended, Idle, HasThreads, Woken, Awake, NoTask, Now, Ticked, Child, Set, Done, Already, Refused, NoCaller}
+use Rattle.cs_types.specs.declared.reply.Reply.TheVariants as answer
+use Rattle.cs_types.specs.declared.reply.Errno.TheVariants.{Eagain, Ebusy}
 use Rattle.cs_types.specs.declared.reply.Pick.{Pick}
-use Rattle.cs_types.specs.Room.{RoomState, asleep, placed, has_pid, task_of, sibling_of, running_on, with_sibling, with_task, flagged}
-use Rattle.cs_types.specs.Order.{deadline_class, class_of, is_higher_here}
+use Rattle.cs_types.specs.Room.{RoomState, asleep, placed, has_pid, task_of, sibling_of, running_on, is_online, online, with_sibling, with_task, flagged}
+use Rattle.cs_types.specs.Order.{deadline_class, class_of}
 use Rattle.cs_types.specs.Accounting.{accounted}
 use Rattle.cs_types.specs.Time.{advanced, ticked_room, asks_at_tick}
-use Rattle.cs_types.specs.Selection.{Scheduled, schedule}
+use Rattle.cs_types.specs.Selection.{Scheduled, schedule, is_run}
+use Rattle.cs_types.specs.Queueing.{dequeued, online_home, rehomed, queued_at_home}
+use Rattle.cs_types.specs.Steal.{source_of, stolen, with_stolen, with_place, next_place}
+use Rattle.cs_types.specs.Hotplug.{without_sibling, with_sibling_back}
 use Rattle.cs_types.specs.Prctl.{prctl_answer, prctl_room}
 
 -- the reply to an event, and the room after it
@@ -26,38 +28,14 @@ pub record Stepped : Type 0 where
 
 -- ---- wake (`try_to_wake_up`, kernel/sched/core.c)
 
--- An enqueue gives the task the next stamp (`enqueue_task`; the stamp is this project's rule).
-abbrev pub enqueued : RoomState → Task → RoomState
-enqueued room task =
-    record (with_task room (record task { queued = true; stamp = room.next_stamp })) { next_stamp = room.next_stamp + 1 }
-
--- A woken task asks its sibling to reschedule where that runs idle or a lower task (after
--- `check_preempt_curr`; this project's rule).
-abbrev pub preempts : RoomState → Task → Bool
-preempts room task = option_map_or (λ running. is_higher_here task running) (running_on room task.home) true
-
--- A deadline task's absolute deadline is the clock and its relative deadline (`setup_new_dl_entity`), and a fair task is
--- pulled up to its queue's least virtual time (after `place_entity`; both are this project's rules).
-abbrev pub refreshed_by : RoomState → Policy → Task → Task
-refreshed_by room (Deadline relative) task = record task { deadline = room.clock + relative }
-refreshed_by room (Fair nice) task = record task { vtime = max task.vtime (sibling_of room task.home).least }
-refreshed_by room policy task = task
-
-abbrev pub refreshed : RoomState → Task → Task
-refreshed room task = refreshed_by room task.spec.policy task
-
--- The task is refreshed and queued at its home, which may become pending (after `ttwu_do_activate`; this project's rule).
-abbrev pub queued_at_home : RoomState → Task → RoomState
-queued_at_home room task =
-    let fresh = refreshed room task in flagged (enqueued room fresh) task.home (preempts room fresh)
-
--- There is no such task, or it is awake already, or it is queued and its home is told (`try_to_wake_up`).
+-- There is no such task, or it is awake already, or it is queued at its home, or at another where that is offline
+-- (`try_to_wake_up`, `select_fallback_rq`).
 abbrev pub woken : RoomState → Option Task → Stepped
 woken room None = record { reply = NoTask; room = room }
 woken room (Some task) =
     if task.queued
     then record { reply = Awake; room = room }
-    else record { reply = Woken task.home; room = queued_at_home room task }
+    else record { reply = Woken (rehomed room task).home; room = queued_at_home room (rehomed room task) }
 
 -- ---- turn and resched (`__schedule`, kernel/sched/core.c)
 
@@ -65,18 +43,29 @@ woken room (Some task) =
 abbrev pub picked : (Pick → Reply) → Scheduled → Stepped
 picked answer scheduled = record { reply = answer scheduled.pick; room = scheduled.room }
 
--- A pending reschedule is taken (`TIF_NEED_RESCHED` is set), and else there is nothing to do.
+-- A task is stolen, or none is found.
+abbrev pub tried : RoomState → ℕ → Option Task → Stepped
+tried room cpu None = record { reply = Missed (source_of room cpu); room = with_place room cpu (next_place room cpu) }
+tried room cpu (Some task) =
+    record { reply = Stole task.spec.pid (source_of room cpu); room = with_stolen room cpu task }
+
+-- A sibling that is offline does nothing.
+abbrev pub unless_offline : RoomState → ℕ → Stepped → Stepped
+unless_offline room cpu stepped = if is_online room cpu then stepped else record { reply = answer.Offline; room = room }
+
+-- A pending reschedule is taken (`TIF_NEED_RESCHED` is set). Else the sibling tries to steal where it is to, and else
+-- there is nothing to do.
 abbrev pub turned : RoomState → Bool → ℕ → Stepped
 turned room is_fresh cpu =
     if (sibling_of room cpu).pending
     then picked Picked (schedule room is_fresh cpu)
-    else record { reply = Nothing; room = room }
+    else (
+    if (sibling_of room cpu).place == 0
+    then record { reply = Nothing; room = room }
+    else tried room cpu (stolen room cpu)
+    )
 
 -- ---- block (`deactivate_task` in `__schedule`, kernel/sched/core.c)
-
--- The task is asleep and no longer queued (`dequeue_task`).
-abbrev pub dequeued : RoomState → Task → RoomState
-dequeued room task = with_task room (record task { queued = false })
 
 -- The sibling runs idle.
 abbrev pub idled : RoomState → ℕ → RoomState
@@ -136,9 +125,11 @@ child_of caller thread pid = record (asleep (child_spec caller thread pid)) { co
 abbrev pub with_child : RoomState → Task → RoomState
 with_child room child = record room { tasks = placed child room.tasks; next_pid = room.next_pid + 1 }
 
--- Its virtual time is the least of its queue, whatever its class (after `task_fork_fair`; this project's rule).
+-- It is at home where its caller is, or on another sibling where that is offline, and its virtual time is the least of its
+-- queue, whatever its class (after `task_fork_fair`; this project's rule).
 abbrev pub settled : RoomState → Task → Task
-settled room child = record child { vtime = (sibling_of room child.home).least }
+settled room child =
+    let home = online_home room child.home in record child { home = home; vtime = (sibling_of room home).least }
 
 -- whether a fork is refused: as many tasks live as may, or the caller is a deadline task (`sched_fork`)
 abbrev pub may_not_fork : RoomState → Task → Bool
@@ -169,17 +160,59 @@ ticked room cpu None = record { reply = Ticked false; room = accounted room }
 ticked room cpu (Some task) =
     record { reply = Ticked (asks_at_tick room cpu task); room = ticked_room (accounted room) cpu task }
 
+-- ---- setsched (`sched_setscheduler`; this project's rule)
+
+-- a task with this policy, which has used nothing of its slice
+abbrev pub with_policy : Policy → Task → Task
+with_policy policy task = record task { spec = record task.spec { policy = policy }; used = 0 }
+
+-- An asleep task has the policy. A queued one is dequeued, has it, and is queued again at its home, and its sibling becomes
+-- pending where it runs.
+abbrev pub rescheduled_as : RoomState → Policy → Task → RoomState
+rescheduled_as room policy task =
+    let changed = with_policy policy task in
+    if task.queued
+    then flagged (queued_at_home (dequeued room changed) changed) task.home (is_run (sibling_of room task.home).run (Some task.spec.pid))
+    else with_task room changed
+
+abbrev pub set_policy : RoomState → Policy → Option Task → Stepped
+set_policy room policy None = record { reply = NoTask; room = room }
+set_policy room policy (Some task) = record { reply = Set; room = rescheduled_as room policy task }
+
+-- ---- leaving and coming back
+
+-- It is offline already, or it is the last, or it leaves.
+abbrev pub taken_offline : RoomState → ℕ → Stepped
+taken_offline room cpu =
+    if not (is_online room cpu)
+    then record { reply = Already; room = room }
+    else (
+    if length (online room) == 1
+    then record { reply = Refused Ebusy; room = room }
+    else record { reply = Done; room = without_sibling room cpu }
+    )
+
+-- It is online already, or it comes back.
+abbrev pub brought_online : RoomState → ℕ → Stepped
+brought_online room cpu =
+    if is_online room cpu
+    then record { reply = Already; room = room }
+    else record { reply = Done; room = with_sibling_back room cpu }
+
 -- ---- every event
 
 -- what each event does, where the test says whether nothing was touched since the last selection for the core
 abbrev pub step : RoomState → Bool → Event → Stepped
-step room is_fresh (Turn cpu) = turned room is_fresh cpu
-step room is_fresh (Resched cpu) = picked Picked (schedule room is_fresh cpu)
-step room is_fresh (Block cpu) = blocked room cpu (running_on room cpu)
-step room is_fresh (Exit cpu) = exited room cpu (running_on room cpu)
-step room is_fresh (Tick cpu) = ticked room cpu (running_on room cpu)
+step room is_fresh (Turn cpu) = unless_offline room cpu (turned room is_fresh cpu)
+step room is_fresh (Resched cpu) = unless_offline room cpu (picked Picked (schedule room is_fresh cpu))
+step room is_fresh (Block cpu) = unless_offline room cpu (blocked room cpu (running_on room cpu))
+step room is_fresh (Exit cpu) = unless_offline room cpu (exited room cpu (running_on room cpu))
+step room is_fresh (Tick cpu) = unless_offline room cpu (ticked room cpu (running_on room cpu))
 step room is_fresh (Wake pid) = woken room (task_of room pid)
 step room is_fresh (Advance delta) = advancing room delta
 step room is_fresh (Fork caller thread) = forked room thread (task_of room caller)
 step room is_fresh (Prctl caller ask) =
     record { reply = prctl_answer room caller ask; room = prctl_room room caller ask }
+step room is_fresh (SetSched pid policy) = set_policy room policy (task_of room pid)
+step room is_fresh (Offline cpu) = taken_offline room cpu
+step room is_fresh (Online cpu) = brought_online room cpu

@@ -141,17 +141,19 @@ ticked_room room cpu task = flagged (sliced room cpu task) cpu (asks_at_tick roo
 
 -- ---- how far the times come
 
--- No task has used more than the clock, and no virtual time is above 69 times the clock, since the least weight is 15.
-pub record IsTimelyTask (clock : ℕ) (task : Task) : Type 0 where
-  pub vtime : task.vtime ≤ 69 * clock
-  pub used : task.used ≤ clock
+-- No task has used more than the clock, and none is further ahead of the least virtual time of its queue than 69 times the
+-- clock, since the least weight is 15.
+pub record IsTimelyTask (room : RoomState) (task : Task) : Type 0 where
+  pub vtime : task.vtime ≤ (sibling_of room task.home).least + 69 * room.clock
+  pub used : task.used ≤ room.clock
 
--- So it is with what is kept of a sibling.
-pub record IsTimelySibling (clock : ℕ) (sibling : SiblingState) : Type 0 where
-  pub least : sibling.least ≤ 69 * clock
-  pub snapshot : sibling.snapshot ≤ 69 * clock
+-- What is kept of a sibling is at most so much.
+pub record IsTimelySibling (most clock : ℕ) (sibling : SiblingState) : Type 0 where
+  pub least : sibling.least ≤ most
+  pub snapshot : sibling.snapshot ≤ most
   pub ran : sibling.ran ≤ clock
 
-pub record IsTimely (room : RoomState) : Type 0 where
-  pub tasks : All (IsTimelyTask room.clock) room.tasks
-  pub siblings : All (IsTimelySibling room.clock) room.siblings
+-- An entry raises a least by at most 69 times the clock.
+pub record IsTimely (entries : ℕ) (room : RoomState) : Type 0 where
+  pub tasks : All (IsTimelyTask room) room.tasks
+  pub siblings : All (IsTimelySibling (entries * (69 * room.clock)) room.clock) room.siblings

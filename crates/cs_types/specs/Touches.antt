@@ -1,18 +1,18 @@
 -- Touches: how often an entry touches the queues of the core, and what follows from it. The kernel counts touches
 -- (`core_task_seq` of `rq->core`) and notes the count of the last selection for the core (`core_pick_seq`) and of
 -- each sibling's last pick from one (`core_sched_seq`); here the three numbers are sums over the history.
-use Rattle.std.specs.Prelude.{ℕ, ◌+◌, Bool, true, false, ◌==◌, ◌&&◌, ◌||◌, not, if◌then◌else◌, List, [], ◌∷◌, sum_by, take_while, Option, Some, None, is_some}
+use Rattle.std.specs.Prelude.{ℕ, ◌+◌, ◌*◌, Bool, true, false, ◌==◌, ◌&&◌, ◌||◌, not, if◌then◌else◌, List, [], ◌∷◌, length, sum_by, take_while, Option, Some, None, is_some}
 use Rattle.std.specs.List.{list_any, list_all, filter_map}
 use Rattle.std.specs.Option.{option_map_or, option_and_then}
 use Rattle.cs_types.specs.declared.event.Event.{Event}
-use Rattle.cs_types.specs.declared.event.Event.TheVariants.{Turn, Resched, Block, Exit, Tick, Wake, Advance, Fork, Prctl}
+use Rattle.cs_types.specs.declared.event.Event.TheVariants.{Turn, Resched, Block, Exit, Tick, Wake, Advance, Fork, Prctl, SetSched, Offline, Online}
 use Rattle.cs_types.specs.declared.reply.Kind.{Kind}
 use Rattle.cs_types.specs.declared.reply.Kind.TheVariants.{Selected, Adopted, Plain}
 use Rattle.cs_types.specs.declared.reply.Pick.{Pick}
 use Rattle.cs_types.specs.declared.reply.Reply.{Reply}
-use Rattle.cs_types.specs.declared.reply.Reply.TheVariants.{Picked, Slept, Ended, Woken, Child, Zero}
+use Rattle.cs_types.specs.declared.reply.Reply.TheVariants.{Picked, Slept, Ended, Stole, Woken, Child, Zero, Set, Done}
 use Rattle.cs_types.specs.declared.reply.Entry.{Entry}
-use Rattle.cs_types.specs.Room.{RoomState}
+use Rattle.cs_types.specs.Room.{RoomState, task_of, queued_on}
 use Rattle.cs_types.specs.declared.task.Task.{Task}
 use Rattle.cs_types.specs.Prctl.{Setting, setting_of}
 use Rattle.cs_types.specs.Accounting.{Interval, interval_by}
@@ -47,6 +47,9 @@ scheduler_of (Wake pid) = None
 scheduler_of (Advance delta) = None
 scheduler_of (Fork caller thread) = None
 scheduler_of (Prctl caller ask) = None
+scheduler_of (SetSched pid policy) = None
+scheduler_of (Offline cpu) = None
+scheduler_of (Online cpu) = None
 
 -- the pick of a selection for the core, if a reply tells one
 abbrev pub selection_of : Reply → Option Pick
@@ -85,6 +88,19 @@ abbrev pub set_touches : RoomState → Event → ℕ
 set_touches room (Prctl caller ask) = setting_touches (setting_of room caller ask)
 set_touches room event = 0
 
+-- a task that leaves a queue and enters one touches twice: one whose policy is set, where it is queued
+abbrev pub policy_touches : Option Task → ℕ
+policy_touches task = option_map_or (λ (task : Task). if task.queued then 2 else 0) task 0
+
+abbrev pub policy_set_touches : RoomState → Event → ℕ
+policy_set_touches room (SetSched pid policy) = policy_touches (task_of room pid)
+policy_set_touches room event = 0
+
+-- and each that is queued on a sibling that leaves
+abbrev pub leaving_touches : RoomState → Event → ℕ
+leaving_touches room (Offline cpu) = 2 * length (queued_on room cpu)
+leaving_touches room event = 0
+
 -- how often an entry touches the queues, read in the room before it
 abbrev pub touches_by : RoomState → Event → Reply → ℕ
 touches_by room event (Woken cpu) = 1
@@ -93,6 +109,9 @@ touches_by room event (Picked pick) = pick_touches pick
 touches_by room event (Slept pid pick) = 1 + pick_touches pick
 touches_by room event (Ended pid pick) = 1 + pick_touches pick
 touches_by room event Zero = set_touches room event
+touches_by room event (Stole pid from) = 2
+touches_by room event Set = policy_set_touches room event
+touches_by room event Done = leaving_touches room event
 touches_by room event reply = 0
 
 -- ---- the ledger: every entry so far with its touches and with the interval that it recorded, the latest first
@@ -108,7 +127,7 @@ Ledger = List Noted
 -- an entry, made in this room, as it stands in the ledger
 abbrev pub noted : RoomState → Entry → Noted
 noted room entry =
-    record { entry = entry; touches = touches_by room entry.event entry.reply; interval = interval_by room entry.reply }
+    record { entry = entry; touches = touches_by room entry.event entry.reply; interval = interval_by room entry.event entry.reply }
 
 -- the recorded intervals, the latest first
 abbrev pub intervals_of : Ledger → List Interval

@@ -1,5 +1,6 @@
 -- Views: what a machine shows of the core, a sibling and a task, from the fold of its history.
-use Rattle.std.specs.Prelude.{ℕ, nat_lt, find, length, Option, Some, None, unwrap_or, if◌then◌else◌}
+use Rattle.std.specs.Prelude.{◌≡◌, ◌⊎◌, ◌-◌, true, false, IsSomeAnd, ℕ, nat_lt, find, length, Option, Some, None, unwrap_or, if◌then◌else◌}
+use Rattle.std.specs.Option.{option_map}
 use Rattle.cs_types.specs.declared.task.Task.{Task}
 use Rattle.cs_types.specs.declared.view.CoreView.{CoreView}
 use Rattle.cs_types.specs.declared.view.CpuView.{CpuView}
@@ -53,3 +54,16 @@ task_view ledger task =
 -- a task that ended, by its pid
 abbrev pub end_view : Ledger → ℕ → EndView
 end_view ledger pid = record { pid = pid; forced = forced_of ledger pid }
+
+-- what a machine shows of the living task with the least pid above this one
+abbrev pub task_view_after : Moment → ℕ → Option TaskView
+task_view_after moment pid = option_map (task_view moment.ledger) (task_after moment.room pid)
+
+-- ---- the trust rule, of what is shown
+
+-- A sibling that is online and not pending runs idle, or the task with its pid has the core cookie; by the core, what
+-- follows each pid among the tasks, and the sibling, as they are shown.
+abbrev pub IsTrusted : CoreView → (ℕ → Option TaskView) → CpuView → Type 0
+IsTrusted core task_after cpu =
+    cpu.online ≡ true → cpu.pending ≡ false →
+    (cpu.run ≡ 0) ⊎ IsSomeAnd (task_after (cpu.run - 1)) (λ task. (task.pid ≡ cpu.run) × (task.cookie ≡ core.cookie))

@@ -1,6 +1,6 @@
 //! What actors do to the core.
 
-use crate::task::{Cpu, Pid};
+use crate::task::{Cpu, Pid, Policy};
 
 /// Who makes a step.
 #[derive(Clone, Copy)]
@@ -9,6 +9,8 @@ pub enum Actor {
     Sibling(u8),
     /// A caller from outside the core, 0 to 7.
     Caller(u8),
+    /// The end of a run, which makes pending siblings schedule.
+    End,
 }
 
 /// The arguments of `prctl(PR_SCHED_CORE, ..)`.
@@ -29,7 +31,8 @@ pub struct Ask {
 /// One event of the core: what one step does, in one piece, under the core's lock.
 #[derive(Clone, Copy)]
 pub enum Event {
-    /// The sibling takes its pending reschedule, if it has one.
+    /// The sibling takes its pending reschedule, if it has one. Else it tries to steal a task, where
+    /// its last schedule left it so.
     Turn(Cpu),
     /// The sibling schedules.
     Resched(Cpu),
@@ -47,6 +50,12 @@ pub enum Event {
     Fork { caller: Pid, thread: bool },
     /// The task, 1 to 999999, calls `prctl(PR_SCHED_CORE, ..)`.
     Prctl { caller: Pid, ask: Ask },
+    /// The task, 1 to 999999, gets another policy.
+    SetSched { pid: Pid, policy: Policy },
+    /// The sibling leaves the core.
+    Offline(Cpu),
+    /// The sibling comes back.
+    Online(Cpu),
 }
 
 /// An event, and who makes it.

@@ -29,7 +29,7 @@ pub struct Pick {
     pub forced: u8,
 }
 
-/// The errors of `prctl` and `fork`.
+/// The errors of `prctl` and `fork`, and of a sibling that is to leave the core.
 #[derive(Clone, Copy)]
 pub enum Errno {
     /// The caller may not access the target, or one of its group.
@@ -46,6 +46,8 @@ pub enum Errno {
     Enodev,
     /// An argument is not valid, or not valid with the command.
     Einval,
+    /// The last sibling that is online may not leave the core.
+    Ebusy,
 }
 
 impl Errno {
@@ -59,6 +61,7 @@ impl Errno {
             Errno::Eagain => 11,
             Errno::Enomem => 12,
             Errno::Efault => 14,
+            Errno::Ebusy => 16,
             Errno::Enodev => 19,
             Errno::Einval => 22,
         }
@@ -72,6 +75,12 @@ pub enum Reply {
     Picked(Pick),
     /// The sibling had nothing to do.
     Nothing,
+    /// The sibling stole this task from that one.
+    Stole { pid: Pid, from: Cpu },
+    /// The sibling found nothing to steal on that one.
+    Missed(Cpu),
+    /// Refused: the sibling is offline.
+    Offline,
     /// The task went to sleep, and its sibling took this pick.
     Slept { pid: Pid, pick: Pick },
     /// The task ended, and its sibling took this pick.
@@ -96,7 +105,13 @@ pub enum Reply {
     Zero,
     /// The call of `prctl` returned 0, and wrote this cookie for its caller.
     Value(Cookie),
-    /// Refused: the call of `prctl` or `fork` failed with this error.
+    /// The task has the policy now.
+    Set,
+    /// The sibling has left the core, or has come back.
+    Done,
+    /// Refused: the sibling is offline, or online, already.
+    Already,
+    /// Refused: the call of `prctl` or `fork`, or the leaving of a sibling, failed with this error.
     Refused(Errno),
     /// Refused: no living task has the caller's pid.
     NoCaller,

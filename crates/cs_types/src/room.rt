@@ -1,13 +1,14 @@
 //! The contract of a machine that plays the core.
 
-ghost use Rattle.std.specs.Prelude.{◌≡◌, ◌+◌, ◌<◌, ℕ, [], ◌∷◌, ◌++◌, length, slice_get, IfSome};
+ghost use Rattle.std.specs.Prelude.{◌≡◌, ◌+◌, ◌*◌, ◌<◌, ◌≤◌, ℕ, [], ◌∷◌, ◌++◌, length, slice_get, IfSome};
 ghost use Rattle.std.specs.Option.{option_map};
 ghost use Rattle.cs_types.specs.declared.scenario.Scenario.{Scenario};
-ghost use Rattle.cs_types.specs.Scenario.{IsEvent};
+ghost use Rattle.cs_types.specs.Scenario.{IsEvent, IsPlayable};
 ghost use Rattle.cs_types.specs.Touches.{task_number, pick_number, selection_of};
-ghost use Rattle.cs_types.specs.History.{History, moment_of, fold_of, ledger_of, reply_to, IsLegal};
-ghost use Rattle.cs_types.specs.View.{core_view, cpu_view, task_after, task_view, end_view};
-ghost use Rattle.cs_types.specs.Laws.{SelectsForTheCore, scheduling_room, cpu_of};
+ghost use Rattle.cs_types.specs.History.{History, moment_of, fold_of, ledger_of, reply_to, AreEvents, IsLegal};
+ghost use Rattle.cs_types.specs.Drain.{pending, drained};
+ghost use Rattle.cs_types.specs.View.{core_view, cpu_view, task_view_after, end_view, IsTrusted};
+ghost use Rattle.cs_types.specs.Laws.{SelectsForTheCore, scheduling_room, cpu_of, IsOrdered, RunOneCookie};
 
 use crate::event::{Actor, Event};
 use crate::reply::{Entry, Reply};
@@ -46,22 +47,40 @@ pub trait Room: Drop {
             (scheduling_room (fold_of (scenario self.old) (history self.old)) event) (cpu_of event) pick
             (fold_of (scenario self.new) (history self.new))) };
 
+    /// Makes the entries of the end of a run, and answers how many: while an online sibling is pending,
+    /// one schedules. At most as many are made as the square of the siblings, and there has to be room
+    /// for so many. It takes no memory, and makes no steal try.
+    fn drain(&mut self) -> u64
+        requires room { (scenario self.old).siblings * (scenario self.old).siblings ≤ free self.old }
+
+        ensures entries { history self.new ≡ drained (scenario self.old) (history self.old) }
+        ensures count { length (history self.new) ≡ length (history self.old) + result }
+        ensures few { result ≤ (scenario self.old).siblings * (scenario self.old).siblings }
+        ensures free { free self.new + result ≡ free self.old }
+        ensures scenario { scenario self.new ≡ scenario self.old }
+
+        // Nobody is pending after it. So no two running tasks differ in cookie.
+        ensures settled { pending (fold_of (scenario self.new) (history self.new)) ≡ [] }
+        ensures one_cookie { RunOneCookie (fold_of (scenario self.new) (history self.new)) };
+
     /// For how many entries there is room, a count.
     fn spare(&self) -> u64
         ensures { result ≡ free self.now };
 
-    /// The length of the history, a count.
+    /// The length of the history, a count. What each entry's event names keeps its limits.
     fn length(&self) -> u64
-        ensures { result ≡ length (history self.now) };
+        ensures length { result ≡ length (history self.now) }
+        ensures events { AreEvents (scenario self.now) (history self.now) };
 
     /// The entry at a place of the history, from 0 for the oldest. `None` exactly where the place is
     /// not below the length.
     fn entry(&self, place: u64) -> Option<Entry>
         ensures { result ≡ slice_get (history self.now) place };
 
-    /// The SMT siblings of the core, a count.
+    /// The SMT siblings of the core, a count. The scenario keeps the limits of one that can be played.
     fn siblings(&self) -> u8
-        ensures { result ≡ (scenario self.now).siblings };
+        ensures siblings { result ≡ (scenario self.now).siblings }
+        ensures playable { IsPlayable (scenario self.now) };
 
     /// The clock, in ns from the start.
     fn clock(&self) -> u64
@@ -79,12 +98,21 @@ pub trait Room: Drop {
 
     /// A sibling. `None` exactly where the core has no such sibling.
     fn cpu(&self, cpu: Cpu) -> Option<CpuView>
-        ensures { result ≡ cpu_view (moment_of (scenario self.now) (history self.now)) cpu };
+        ensures view { result ≡ cpu_view (moment_of (scenario self.now) (history self.now)) cpu }
+
+        // The trust rule, of what `core`, this call and `task_after` show of one room: a sibling that is
+        // online and not pending runs idle or a task with the core cookie. A pending one may still run a
+        // task that no longer matches, until it takes its reschedule.
+        ensures trust { let moment = moment_of (scenario self.now) (history self.now) in
+            IfSome result (IsTrusted (core_view moment) (task_view_after moment)) }
+
+        // What the sibling runs and what waits for it is queued on it, and an offline one does nothing.
+        ensures order { cpu < (scenario self.now).siblings →
+            IsOrdered (moment_of (scenario self.now) (history self.now)) cpu };
 
     /// The living task with the least pid above this one. `None` exactly where there is none.
     fn task_after(&self, pid: Pid) -> Option<TaskView>
-        ensures { result ≡ option_map (task_view (ledger_of (scenario self.now) (history self.now)))
-            (task_after (fold_of (scenario self.now) (history self.now)) pid) };
+        ensures { result ≡ task_view_after (moment_of (scenario self.now) (history self.now)) pid };
 
     /// A task that ended, by the place of its end, from 0 for the first. `None` exactly where no more
     /// ended.

@@ -1,0 +1,200 @@
+-- Balance places: a balance place goes one sibling on at a step at most, so none is above the length of the history.
+use Rattle.std.proofs.Common.{ℕ, ◌+◌, ◌≤◌, length, Bool, true, false, not, List, [], ◌∷◌, subst, Option, Some, None, arith}
+use Rattle.std.specs.Prelude.{All, ◌==◌}
+use Rattle.std.specs.List.{AllByRecursion}
+use Rattle.std.proofs.lemmas.Bool.{cond_both}
+use Rattle.std.proofs.lemmas.List.Elements.{All-from_recursion}
+use Rattle.cs_types.specs.declared.task.Task.{Task}
+use Rattle.cs_types.specs.declared.task.Policy.{Policy}
+use Rattle.cs_types.specs.declared.event.Event.{Event}
+use Rattle.cs_types.specs.declared.event.Event.TheVariants.{Turn, Resched, Block, Exit, Tick, Wake, Advance, Fork, Prctl, SetSched, Offline, Online}
+use Rattle.cs_types.specs.declared.reply.Reply.{Reply}
+use Rattle.cs_types.specs.declared.reply.Reply.TheVariants.{Zero}
+use Rattle.cs_types.specs.declared.reply.Entry.{Entry}
+use Rattle.cs_types.specs.declared.scenario.Scenario.{Scenario}
+use Rattle.cs_types.specs.Room.{RoomState, SiblingState, idle, online, is_online, sibling_of, running_on, task_of, with_sibling, flagged}
+use Rattle.cs_types.specs.Selection.{is_run, told, handed, given, selected_room, selected, plain, is_plain, rescheduled, scheduled, schedule, is_to_steal}
+use Rattle.cs_types.specs.Time.{least_of, with_growth, advanced}
+use Rattle.cs_types.specs.Prctl.{Setting, setting_of, makes_cookie, with_made, with_answer, prctl_answer}
+use Rattle.cs_types.specs.Step.{Stepped, step, woken, turned, tried, idled, blocked, without, has_threads, exited, may_not_fork, forked, ticked, unless_offline, set_policy, taken_offline, brought_online}
+use Rattle.cs_types.specs.Queueing.{dequeued, moved}
+use Rattle.cs_types.specs.Steal.{source_of, stolen, with_place, next_place}
+use Rattle.cs_types.specs.Hotplug.{away, without_sibling}
+use Rattle.cs_types.specs.Touches.{is_fresh}
+use Rattle.cs_types.specs.History.{History, Moment, beginning, next, after, fold_of}
+use Rattle.cs_types.proofs.Foremost.{each_weaker}
+use Rattle.cs_types.proofs.Times.{all_map, all_enumerated, all_set, all_get, all_replicate}
+
+-- no balance place is above this
+abbrev Low : ℕ → SiblingState → Type 0
+Low most sibling = sibling.place ≤ most
+
+abbrev AreLow : ℕ → RoomState → Type 0
+AreLow most room = AllByRecursion (Low most) room.siblings
+
+-- ---- changes of a room
+
+-- what is low is low below a higher bound
+higher : (most : ℕ) (siblings : List SiblingState) → AllByRecursion (Low most) siblings → AllByRecursion (Low (most + 1)) siblings
+higher most siblings low = each_weaker (Low most) (Low (most + 1)) siblings (λ sibling is. omega (arith, is)) low
+
+-- so is the sibling of each number
+low_at : (most : ℕ) (room : RoomState) (cpu : ℕ) → AreLow most room → (sibling_of room cpu).place ≤ most
+low_at most room cpu low = all_get (Low most) room.siblings cpu idle (omega arith) low
+
+-- a sibling with a low place in the place of another
+low-with_sibling : (most : ℕ) (room : RoomState) (cpu : ℕ) (sibling : SiblingState) → sibling.place ≤ most → AreLow most room → AreLow most (with_sibling room cpu sibling)
+low-with_sibling most room cpu sibling is low = all_set (Low most) room.siblings cpu sibling is low
+
+low-flagged : (most : ℕ) (room : RoomState) (cpu : ℕ) (test : Bool) → AreLow most room → AreLow most (flagged room cpu test)
+low-flagged most room cpu test low = low-with_sibling most room cpu _ (low_at most room cpu low) low
+
+low-idled : (most : ℕ) (room : RoomState) (cpu : ℕ) → AreLow most room → AreLow most (idled room cpu)
+low-idled most room cpu low = low-with_sibling most room cpu _ (low_at most room cpu low) low
+
+-- ---- a schedule
+
+-- A sibling that is handed its choice keeps its place.
+handed_is_low : (most selector occupation : ℕ) (run : Option ℕ) (renews : Bool) (cpu : ℕ) (sibling : SiblingState) →
+    sibling.place ≤ most → (handed selector occupation run renews (cpu, sibling)).place ≤ most
+handed_is_low most selector occupation run renews cpu sibling is =
+    let told_is : (told selector cpu sibling run).place ≤ most =
+    cond_both (cpu == selector) _ _ (Low most) (λ _. is) (λ _. cond_both (is_run sibling.run run) _ _ (Low most) (λ _. is) (λ _. is)) in
+    cond_both sibling.online _ sibling (Low most) (λ _. told_is) (λ _. is)
+
+low-selected_room : (most : ℕ) (room : RoomState) (cpu core : ℕ) → AreLow most room → AreLow most (selected_room room cpu core)
+unfolding selected_room
+low-selected_room most room cpu core low =
+    all_enumerated (Low most) (given room core cpu) (λ other sibling is. handed_is_low most cpu _ _ _ other sibling is) 0 room.siblings low
+
+low-rescheduled : (most : ℕ) (room : RoomState) (cpu : ℕ) → AreLow most room → AreLow most (rescheduled room cpu).room
+low-rescheduled most room cpu low =
+    cond_both (is_plain room cpu) (plain room cpu) (selected room cpu) (λ made. AreLow most made.room)
+    (λ _. all_set (Low most) room.siblings cpu _ (low_at most room cpu low) low) (λ _. low-selected_room most room cpu _ low)
+
+low-scheduled : (most : ℕ) (room : RoomState) (fresh : Bool) (cpu : ℕ) (waiting : Option (Option ℕ)) → AreLow most room → AreLow most (scheduled room fresh cpu waiting).room
+low-scheduled most room fresh cpu None low = low-rescheduled most room cpu low
+low-scheduled most room true cpu (Some run) low = low-with_sibling most room cpu _ (low_at most room cpu low) low
+low-scheduled most room false cpu (Some run) low = low-rescheduled most room cpu low
+
+-- After a schedule the place is 1 at most.
+low-schedule : (most : ℕ) (room : RoomState) (fresh : Bool) (cpu : ℕ) → AreLow most room → AreLow (most + 1) (schedule room fresh cpu).room
+low-schedule most room fresh cpu low =
+    let made = (scheduled room fresh cpu (sibling_of room cpu).waiting).room in
+    low-with_sibling (most + 1) made cpu _ (cond_both (is_to_steal made cpu) 1 0 (λ n. n ≤ most + 1) (λ _. omega arith) (λ _. omega arith))
+    (higher most _ (low-scheduled most room fresh cpu (sibling_of room cpu).waiting low))
+
+-- ---- a turn
+
+-- A try that finds nothing goes one sibling on or ends, and one that finds a task ends.
+low-tried : (most : ℕ) (room : RoomState) (cpu : ℕ) (task : Option Task) → AreLow most room → AreLow (most + 1) (tried room cpu task).room
+low-tried most room cpu None low =
+    let at = low_at most room cpu low in
+    let on : next_place room cpu ≤ most + 1 =
+    cond_both ((sibling_of room cpu).place + 1 == length room.siblings) 0 _ (λ n. n ≤ most + 1) (λ _. omega arith) (λ _. omega (arith, at)) in
+    low-with_sibling (most + 1) room cpu _ on (higher most _ low)
+low-tried most room cpu (Some task) low =
+    let ended = low-with_sibling (most + 1) (moved room cpu task) cpu (record (sibling_of (moved room cpu task) cpu) { place = 0 }) (omega arith) (higher most _ low) in
+    low-flagged (most + 1) (flagged (with_place (moved room cpu task) cpu 0) cpu true) (source_of room cpu) _
+    (low-flagged (most + 1) (with_place (moved room cpu task) cpu 0) cpu true ended)
+
+low-turned : (most : ℕ) (room : RoomState) (fresh : Bool) (cpu : ℕ) → AreLow most room → AreLow (most + 1) (turned room fresh cpu).room
+low-turned most room fresh cpu low =
+    cond_both (sibling_of room cpu).pending _ _ (λ (made : Stepped). AreLow (most + 1) made.room) (λ _. low-schedule most room fresh cpu low)
+    (λ _. cond_both ((sibling_of room cpu).place == 0) _ _ (λ (made : Stepped). AreLow (most + 1) made.room) (λ _. higher most _ low)
+    (λ _. low-tried most room cpu (stolen room cpu) low))
+
+-- ---- the other events of a sibling
+
+low-blocked : (most : ℕ) (room : RoomState) (cpu : ℕ) (task : Option Task) → AreLow most room → AreLow (most + 1) (blocked room cpu task).room
+low-blocked most room cpu None low = higher most _ low
+low-blocked most room cpu (Some task) low = low-schedule most (idled (dequeued room task) cpu) false cpu (low-idled most (dequeued room task) cpu low)
+
+low-exited : (most : ℕ) (room : RoomState) (cpu : ℕ) (task : Option Task) → AreLow most room → AreLow (most + 1) (exited room cpu task).room
+low-exited most room cpu None low = higher most _ low
+low-exited most room cpu (Some task) low =
+    cond_both (has_threads room task) _ _ (λ (made : Stepped). AreLow (most + 1) made.room) (λ _. higher most _ low)
+    (λ _. low-schedule most (idled (without room task) cpu) false cpu (low-idled most (without room task) cpu low))
+
+low-ticked : (most : ℕ) (room : RoomState) (cpu : ℕ) (task : Option Task) → AreLow most room → AreLow most (ticked room cpu task).room
+low-ticked most room cpu None low = low
+low-ticked most room cpu (Some task) low = low-flagged most room cpu _ low
+
+low-unless_offline : (most : ℕ) (room : RoomState) (cpu : ℕ) (stepped : Stepped) → AreLow most room → AreLow most stepped.room → AreLow most (unless_offline room cpu stepped).room
+low-unless_offline most room cpu stepped was now =
+    cond_both (is_online room cpu) _ _ (λ (made : Stepped). AreLow most made.room) (λ _. now) (λ _. was)
+
+-- ---- the other events
+
+low-woken : (most : ℕ) (room : RoomState) (task : Option Task) → AreLow most room → AreLow most (woken room task).room
+low-woken most room None low = low
+low-woken most room (Some task) low =
+    cond_both task.queued _ _ (λ (made : Stepped). AreLow most made.room) (λ _. low) (λ _. low-flagged most room _ _ low)
+
+low-forked : (most : ℕ) (room : RoomState) (thread : Bool) (caller : Option Task) → AreLow most room → AreLow most (forked room thread caller).room
+low-forked most room thread None low = low
+low-forked most room thread (Some caller) low =
+    cond_both (may_not_fork room caller) _ _ (λ (made : Stepped). AreLow most made.room) (λ _. low) (λ _. low-flagged most room _ _ low)
+
+low-set_policy : (most : ℕ) (room : RoomState) (policy : Policy) (task : Option Task) → AreLow most room → AreLow most (set_policy room policy task).room
+low-set_policy most room policy None low = low
+low-set_policy most room policy (Some task) low =
+    cond_both task.queued _ _ (AreLow most) (λ _. low-flagged most (flagged room _ _) _ _ (low-flagged most room _ _ low)) (λ _. low)
+
+low-with_answer : (most : ℕ) (room : RoomState) (set : Setting) (answer : Reply) → AreLow most room → AreLow most (with_answer room set answer)
+low-with_answer most room set Zero low = all_map (Low most) _ room.siblings low
+low-with_answer most room set answer low = low
+
+low-advanced : (most : ℕ) (room : RoomState) (delta : ℕ) → AreLow most room → AreLow most (advanced room delta)
+unfolding advanced
+low-advanced most room delta low =
+    all_enumerated (Low most) (λ (place : ℕ × SiblingState). let state : SiblingState = record place.1 { least = least_of (with_growth room delta) place.0 } in state)
+    (λ cpu sibling is. is) 0 (with_growth room delta).siblings (all_map (Low most) _ room.siblings low)
+
+-- A sibling that leaves makes no more tries.
+low-without_sibling : (most : ℕ) (room : RoomState) (cpu : ℕ) → AreLow most room → AreLow most (without_sibling room cpu)
+unfolding without_sibling
+low-without_sibling most room cpu low =
+    all_enumerated (Low most) _ (λ other sibling is. cond_both (other == cpu) (away sibling) _ (Low most) (λ _. omega arith) (λ _. is)) 0 room.siblings low
+
+low-taken_offline : (most : ℕ) (room : RoomState) (cpu : ℕ) → AreLow most room → AreLow most (taken_offline room cpu).room
+low-taken_offline most room cpu low =
+    cond_both (not (is_online room cpu)) _ _ (λ (made : Stepped). AreLow most made.room) (λ _. low)
+    (λ _. cond_both (length (online room) == 1) _ _ (λ (made : Stepped). AreLow most made.room) (λ _. low) (λ _. low-without_sibling most room cpu low))
+
+-- and one that comes back begins with none
+low-brought_online : (most : ℕ) (room : RoomState) (cpu : ℕ) → AreLow most room → AreLow most (brought_online room cpu).room
+low-brought_online most room cpu low =
+    cond_both (is_online room cpu) _ _ (λ (made : Stepped). AreLow most made.room) (λ _. low) (λ _. low-with_sibling most room cpu _ (omega arith) low)
+
+-- ---- every event, and a history
+
+-- At a step no place goes further than one sibling on.
+pub low-step : (most : ℕ) (room : RoomState) (fresh : Bool) (event : Event) → AreLow most room → AreLow (most + 1) (step room fresh event).room
+low-step most room fresh (Turn cpu) low = low-unless_offline (most + 1) room cpu _ (higher most _ low) (low-turned most room fresh cpu low)
+low-step most room fresh (Resched cpu) low = low-unless_offline (most + 1) room cpu _ (higher most _ low) (low-schedule most room fresh cpu low)
+low-step most room fresh (Block cpu) low = low-unless_offline (most + 1) room cpu _ (higher most _ low) (low-blocked most room cpu (running_on room cpu) low)
+low-step most room fresh (Exit cpu) low = low-unless_offline (most + 1) room cpu _ (higher most _ low) (low-exited most room cpu (running_on room cpu) low)
+low-step most room fresh (Tick cpu) low =
+    higher most _ (low-unless_offline most room cpu _ low (low-ticked most room cpu (running_on room cpu) low))
+low-step most room fresh (Wake pid) low = higher most _ (low-woken most room (task_of room pid) low)
+low-step most room fresh (Advance delta) low = higher most _ (low-advanced most room delta low)
+low-step most room fresh (Fork caller thread) low = higher most _ (low-forked most room thread (task_of room caller) low)
+low-step most room fresh (Prctl caller ask) low =
+    higher most _ (low-with_answer most (with_made room (makes_cookie room caller ask)) (setting_of room caller ask) (prctl_answer room caller ask) low)
+low-step most room fresh (SetSched pid policy) low = higher most _ (low-set_policy most room policy (task_of room pid) low)
+low-step most room fresh (Offline cpu) low = higher most _ (low-taken_offline most room cpu low)
+low-step most room fresh (Online cpu) low = higher most _ (low-brought_online most room cpu low)
+
+low_after : (most : ℕ) (moment : Moment) (entries : List Entry) → AreLow most moment.room → AreLow (most + length entries) (after moment entries).room
+low_after most moment [] low = subst (λ n. AreLow n moment.room) (omega arith) low
+low_after most moment (entry ∷ entries) low =
+    subst (λ n. AreLow n (after (next moment entry) entries).room) (omega arith)
+    (low_after (most + 1) (next moment entry) entries (low-step most moment.room (is_fresh moment.ledger) entry.event low))
+
+-- After a history of so many entries no place is above that.
+pub places-fold_of : (scenario : Scenario) (history : History) → All (λ (sibling : SiblingState). sibling.place ≤ length history) (fold_of scenario history).siblings
+places-fold_of scenario history =
+    All-from_recursion (Low (length history)) (fold_of scenario history).siblings
+    (subst (λ n. AreLow n (fold_of scenario history)) (omega arith)
+    (low_after 0 (beginning scenario) history (all_replicate (Low 0) scenario.siblings idle (omega arith))))

@@ -1,0 +1,303 @@
+-- Homes: after every history some sibling is online, and each queued task is at home on one that is.
+use Rattle.std.proofs.Common.{◌≡◌, ◌≢◌, ℕ, ◌+◌, ◌<◌, Bool, cond, true, false, List, [], ◌∷◌, length, refl, sym, ap, ◌∙◌, subst, arith, Option, Some, None}
+use Rattle.std.specs.Prelude.{find, filter, not, is_some, ◌==◌, ◌&&◌, ◌||◌}
+use Rattle.std.specs.List.{AllByRecursion, enumerate_from}
+use Rattle.std.specs.Option.{IfSome, option_map, option_and_then}
+use Rattle.std.proofs.lemmas.Bool.{cond_both, cond-true, and_parts, eqb-true, eqb-false, eq-eqb, not-false}
+use Rattle.std.proofs.lemmas.List.{length-map, length-set}
+use Rattle.std.proofs.lemmas.List.FromFn.{length-enumerate_from}
+use Rattle.std.proofs.lemmas.Option.{IfSome_then}
+use Rattle.cs_types.specs.declared.task.Task.{Task}
+use Rattle.cs_types.specs.declared.task.Policy.{Policy}
+use Rattle.cs_types.specs.declared.event.Event.{Event}
+use Rattle.cs_types.specs.declared.event.Event.TheVariants.{Turn, Resched, Block, Exit, Tick, Wake, Advance, Fork, Prctl, SetSched, Offline, Online}
+use Rattle.cs_types.specs.declared.reply.Reply.{Reply}
+use Rattle.cs_types.specs.declared.reply.Reply.TheVariants.{Zero}
+use Rattle.cs_types.specs.Scenario.{IsEvent}
+use Rattle.cs_types.specs.Room.{RoomState, SiblingState, idle, has_pid, sibling_of, running_on, is_online, online, lowest_online, task_of, queued_on}
+use Rattle.cs_types.specs.Order.{first_of}
+use Rattle.cs_types.specs.Selection.{schedule, queued_with}
+use Rattle.cs_types.specs.Prctl.{Setting, setting_of, is_set, makes_cookie, with_made, with_answer, prctl_answer, with_cookies}
+use Rattle.cs_types.specs.Step.{Stepped, step, woken, blocked, exited, forked, turned, without, has_threads, child_of, settled, may_not_fork, with_child, ticked, idled, tried, unless_offline, set_policy, taken_offline, brought_online}
+use Rattle.cs_types.specs.Queueing.{dequeued, moved_to, rehomed, queued_at_home}
+use Rattle.cs_types.specs.Steal.{source_of, stolen, may_steal}
+use Rattle.cs_types.specs.Hotplug.{away, back, lowest_other, without_sibling, with_sibling_back}
+use Rattle.cs_types.specs.Accounting.{accounted}
+use Rattle.cs_types.specs.Time.{with_growth, least_of, advanced}
+use Rattle.cs_types.proofs.Foremost.{find_passes}
+use Rattle.cs_types.proofs.Filtered.{each-filter, each_found}
+use Rattle.cs_types.proofs.Tasks.{found_again}
+use Rattle.cs_types.proofs.Rising.{AreRising, below_high}
+use Rattle.cs_types.proofs.Siblings.{kept, kept-schedule, kept-tried, kept-idled, kept-without, kept-queued_at_home, kept-ticked, kept-with_answer, kept-set_policy, length-alike, is_online-alike, length-step}
+use Rattle.cs_types.proofs.Selections.{each_both}
+use Rattle.cs_types.proofs.Spots.{Spot, spot_at, each_is_found, find-placed}
+use Rattle.cs_types.proofs.Moves.{spots-schedule, spots-advanced, spots-ticked_room, spots-queued_at_home, spots-dequeued, spots-without, spots-moved, spots-with_child, spots-rescheduled_as, spot_off, spots-without_sibling, spot_set, spots-with_cookies}
+use Rattle.cs_types.proofs.Places.{with_sibling_either, mapped_at, enumerated_at, lowest_online_is, lowest_other_is}
+
+-- ---- homes
+
+-- where a task is queued, its home is online
+abbrev pub IsHome : RoomState → Option Spot → Type 0
+IsHome room one = IfSome one (λ spot. spot.queued ≡ true → is_online room spot.home ≡ true)
+
+pub record IsHoused (room : RoomState) : Type 0 where
+  pub some : (cpu : ℕ) × (cpu < length room.siblings) × (is_online room cpu ≡ true)
+  pub homes : (pid : ℕ) → IsHome room (spot_at room pid)
+
+-- a change that leaves the same siblings online, or more, and each queued task at a home
+housed_more : (old new : RoomState) → length new.siblings ≡ length old.siblings → ((cpu : ℕ) → is_online old cpu ≡ true → is_online new cpu ≡ true) →
+    ((pid : ℕ) → IsHome old (spot_at new pid)) → IsHoused old → IsHoused new
+housed_more old new long same homes housed =
+    record {
+      some = (housed.some.0, subst (λ n. housed.some.0 < n) (sym long) housed.some.1, same housed.some.0 housed.some.2);
+      homes = λ pid. IfSome_then (spot_at new pid) (homes pid) (λ spot home queued. same spot.home (home queued));
+    }
+
+housed_by : (old new : RoomState) → kept new ≡ kept old → ((pid : ℕ) → IsHome old (spot_at new pid)) → IsHoused old → IsHoused new
+housed_by old new same homes housed =
+    housed_more old new (length-alike new old same) (λ cpu up. is_online-alike new old same cpu ∙ up) homes housed
+
+-- so where no task moves
+housed_same : (old new : RoomState) → kept new ≡ kept old → ((pid : ℕ) → spot_at new pid ≡ spot_at old pid) → IsHoused old → IsHoused new
+housed_same old new same spots housed = housed_by old new same (λ pid. subst (IsHome old) (sym (spots pid)) (housed.homes pid)) housed
+
+-- and where one does, to a home
+home_at : (old : RoomState) (new : Option Spot) (pid moves : ℕ) (spot : Option Spot) → new ≡ cond (pid == moves) spot (spot_at old pid) →
+    IsHome old spot → IsHoused old → IsHome old new
+home_at old new pid moves spot same home housed =
+    subst (IsHome old) (sym same) (cond_both (pid == moves) spot (spot_at old pid) (IsHome old) (λ _. home) (λ _. housed.homes pid))
+
+-- ---- what is stolen, and what a sibling runs
+
+-- what is known of a task that is queued on a sibling
+pub record IsQueuedOn (room : RoomState) (cpu : ℕ) (task : Task) : Type 0 where
+  pub found : task_of room task.spec.pid ≡ Some task
+  pub queued : task.queued ≡ true
+  pub home : task.home ≡ cpu
+
+filter_each : {X : Type 0} (p : X → Bool) (xs : List X) → AllByRecursion (λ x. p x ≡ true) (filter p xs)
+filter_each p [] = tt
+filter_each p (x ∷ xs) =
+    cond_both (p x) (x ∷ filter p xs) (filter p xs) (AllByRecursion (λ y. p y ≡ true)) (λ pass. (pass, filter_each p xs)) (λ _. filter_each p xs)
+
+pub each_queued : (room : RoomState) (cpu : ℕ) → AreRising room → AllByRecursion (IsQueuedOn room cpu) (queued_on room cpu)
+each_queued room cpu rises =
+    let test : Task → Bool = λ task. task.queued && (task.home == cpu) in
+    each_both (λ task. test task ≡ true) (λ task. task_of room task.spec.pid ≡ Some task) (IsQueuedOn room cpu) (queued_on room cpu)
+    (λ task pass found. let parts = and_parts task.queued (task.home == cpu) pass in record { found = found; queued = parts.0; home = eqb-true task.home cpu parts.1 })
+    (filter_each test room.tasks)
+    (each-filter (λ task. task_of room task.spec.pid ≡ Some task) test room.tasks (each_is_found 0 room.next_pid room.tasks rises))
+
+-- A stolen task is queued on the source, which neither runs it nor is to run it.
+pub stolen_is : (room : RoomState) (thief : ℕ) (task : Task) → AreRising room → stolen room thief ≡ Some task →
+    IsQueuedOn room (source_of room thief) task × (may_steal room thief (source_of room thief) task ≡ true)
+unfolding stolen
+stolen_is room thief task rises made = (
+  each_found (IsQueuedOn room source) _ (filter may (queued_with room room.core_cookie source)) task found
+      (each-filter (IsQueuedOn room source) may (queued_with room room.core_cookie source)
+      (each-filter (IsQueuedOn room source) (λ other. other.cookie == room.core_cookie) (queued_on room source) (each_queued room source rises))),
+  each_found (λ other. may other ≡ true) _ (filter may (queued_with room room.core_cookie source)) task found (filter_each may (queued_with room room.core_cookie source)),
+) where
+  source : ℕ
+  source = source_of room thief
+
+  may : Task → Bool
+  may other = may_steal room thief source other
+
+  of_some : (b : Bool) (first : Option Task) → cond b None first ≡ Some task → first ≡ Some task
+  of_some true first made = absurd cc
+  of_some false first made = made
+
+  found : first_of (filter may (queued_with room room.core_cookie source)) ≡ Some task
+  found = of_some ((room.core_cookie == 0) || is_some (sibling_of room thief).run) (first_of (filter may (queued_with room room.core_cookie source))) made
+
+-- ---- the steps
+
+housed-schedule : (room : RoomState) (fresh : Bool) (cpu : ℕ) → IsHoused room → IsHoused (schedule room fresh cpu).room
+housed-schedule room fresh cpu housed =
+    housed_same room (schedule room fresh cpu).room (kept-schedule room fresh cpu) (spots-schedule room fresh cpu) housed
+
+housed-tried : (room : RoomState) (cpu : ℕ) (task : Option Task) → is_online room cpu ≡ true → AreRising room → stolen room cpu ≡ task → IsHoused room →
+    IsHoused (tried room cpu task).room
+housed-tried room cpu None up rises made housed = housed_same room (tried room cpu None).room (kept-tried room cpu None) (λ pid. refl) housed
+housed-tried room cpu (Some task) up rises made housed =
+    housed_by room (tried room cpu (Some task)).room (kept-tried room cpu (Some task))
+    (λ pid. home_at room _ pid task.spec.pid _ (spots-moved room cpu task (stolen_is room cpu task rises made).0.found pid) (λ _. up) housed) housed
+
+housed-turned : (room : RoomState) (fresh : Bool) (cpu : ℕ) → is_online room cpu ≡ true → AreRising room → IsHoused room → IsHoused (turned room fresh cpu).room
+housed-turned room fresh cpu up rises housed =
+    cond_both (sibling_of room cpu).pending _ _ (λ (made : Stepped). IsHoused made.room) (λ _. housed-schedule room fresh cpu housed)
+    (λ _. cond_both ((sibling_of room cpu).place == 0) _ _ (λ (made : Stepped). IsHoused made.room) (λ _. housed)
+    (λ _. housed-tried room cpu (stolen room cpu) up rises refl housed))
+
+-- the task that a sibling runs is found by its own pid
+pub running_is_found : (room : RoomState) (cpu : ℕ) (task : Task) → running_on room cpu ≡ Some task →
+    ((sibling_of room cpu).run ≡ Some task.spec.pid) × (task_of room task.spec.pid ≡ Some task)
+running_is_found room cpu task runs = go (sibling_of room cpu).run runs where
+  go : (run : Option ℕ) → option_and_then (task_of room) run ≡ Some task → (run ≡ Some task.spec.pid) × (task_of room task.spec.pid ≡ Some task)
+  go None runs = absurd cc
+  go (Some pid) runs =
+      (ap Some (sym (eqb-true task.spec.pid pid (find_passes (has_pid pid) room.tasks task runs))), found_again pid room.tasks task runs)
+
+housed-blocked : (room : RoomState) (cpu : ℕ) (task : Option Task) → running_on room cpu ≡ task → IsHoused room → IsHoused (blocked room cpu task).room
+housed-blocked room cpu None runs housed = housed
+housed-blocked room cpu (Some task) runs housed =
+    housed-schedule (idled (dequeued room task) cpu) false cpu
+    (housed_by room (idled (dequeued room task) cpu) (kept-idled room cpu task)
+    (λ pid. home_at room _ pid task.spec.pid _ (spots-dequeued room task (running_is_found room cpu task runs).1 pid) (λ queued. absurd cc) housed) housed)
+
+housed-exited : (room : RoomState) (cpu : ℕ) (task : Option Task) → IsHoused room → IsHoused (exited room cpu task).room
+housed-exited room cpu None housed = housed
+housed-exited room cpu (Some task) housed =
+    cond_both (has_threads room task) _ _ (λ (made : Stepped). IsHoused made.room) (λ _. housed)
+    (λ _. housed-schedule (idled (without room task) cpu) false cpu
+    (housed_by room (idled (without room task) cpu) (kept-without room cpu task)
+    (λ pid. home_at room _ pid task.spec.pid None (spots-without room task pid) tt housed) housed))
+
+housed-queued_at_home : (room : RoomState) (task old : Task) → find (has_pid task.spec.pid) room.tasks ≡ Some old → is_online room task.home ≡ true →
+    IsHoused room → IsHoused (queued_at_home room task)
+housed-queued_at_home room task old found up housed =
+    housed_by room (queued_at_home room task) (kept-queued_at_home room task)
+    (λ pid. home_at room _ pid task.spec.pid _ (spots-queued_at_home room task old found pid) (λ _. up) housed) housed
+
+-- a task that woke is at home on an online sibling
+pub rehomed_is_online : (room : RoomState) (task : Task) → IsHoused room → is_online room (rehomed room task).home ≡ true
+rehomed_is_online room task housed =
+    cond_both (is_online room task.home) task (moved_to room (lowest_online room) task) (λ (t : Task). is_online room t.home ≡ true) (λ up. up)
+    (λ _. lowest_online_is room housed.some.0 housed.some.1 housed.some.2)
+
+pub rehomed_is_found : (room : RoomState) (task : Task) → task_of room task.spec.pid ≡ Some task → task_of room (rehomed room task).spec.pid ≡ Some task
+rehomed_is_found room task found =
+    cond_both (is_online room task.home) task (moved_to room (lowest_online room) task) (λ (t : Task). task_of room t.spec.pid ≡ Some task) (λ _. found) (λ _. found)
+
+housed-woken : (room : RoomState) (pid : ℕ) (task : Option Task) → task_of room pid ≡ task → IsHoused room → IsHoused (woken room task).room
+housed-woken room pid None found housed = housed
+housed-woken room pid (Some task) found housed =
+    cond_both task.queued _ _ (λ (made : Stepped). IsHoused made.room) (λ _. housed)
+    (λ _. housed-queued_at_home room (rehomed room task) task (rehomed_is_found room task (found_again pid room.tasks task found)) (rehomed_is_online room task housed) housed)
+
+-- so is a child, which is found by its pid
+pub settled_is_online : (room : RoomState) (child : Task) → IsHoused room → is_online room (settled room child).home ≡ true
+settled_is_online room child housed =
+    cond_both (is_online room child.home) child.home (lowest_online room) (λ home. is_online room home ≡ true) (λ up. up)
+    (λ _. lowest_online_is room housed.some.0 housed.some.1 housed.some.2)
+
+pub child_is_found : (room : RoomState) (caller : Task) (thread : Bool) → AreRising room →
+    task_of (with_child room (child_of caller thread room.next_pid)) room.next_pid ≡ Some (child_of caller thread room.next_pid)
+child_is_found room caller thread rises =
+    find-placed (child_of caller thread room.next_pid) room.tasks (below_high 0 room.next_pid room.tasks rises).1 room.next_pid
+    ∙ cond-true (room.next_pid == room.next_pid) (Some (child_of caller thread room.next_pid)) (task_of room room.next_pid) (eq-eqb _ _ refl)
+
+housed-forked : (room : RoomState) (thread : Bool) (caller : Option Task) → AreRising room → IsHoused room → IsHoused (forked room thread caller).room
+housed-forked room thread None rises housed = housed
+housed-forked room thread (Some caller) rises housed =
+    let child = child_of caller thread room.next_pid in
+    let born = with_child room child in
+    let held : IsHoused born = housed_by room born refl (λ pid. home_at room _ pid room.next_pid _ (spots-with_child room caller thread rises pid) (λ queued. absurd cc) housed) housed in
+    cond_both (may_not_fork room caller) _ _ (λ (made : Stepped). IsHoused made.room) (λ _. housed)
+    (λ _. housed-queued_at_home born (settled room child) child (child_is_found room caller thread rises) (settled_is_online room child housed) held)
+
+housed-ticked : (room : RoomState) (cpu : ℕ) (task : Option Task) → running_on room cpu ≡ task → IsHoused room → IsHoused (ticked room cpu task).room
+housed-ticked room cpu None runs housed = housed_same room (accounted room) refl (λ pid. refl) housed
+housed-ticked room cpu (Some task) runs housed =
+    housed_same room (ticked room cpu (Some task)).room (kept-ticked room cpu (Some task))
+    (spots-ticked_room (accounted room) cpu task (running_is_found room cpu task runs).1) housed
+
+-- an advance leaves the same siblings online
+pub sibling_of-advanced : (P : SiblingState → Type 0) (room : RoomState) (delta cpu : ℕ) → ((least ran : ℕ) → P (record idle { least = least; ran = ran })) →
+    ((least ran : ℕ) → P (record (sibling_of room cpu) { least = least; ran = ran })) → P (sibling_of (advanced room delta) cpu)
+unfolding advanced
+sibling_of-advanced P room delta cpu past is =
+    enumerated_at P (λ place. record place.1 { least = least_of (with_growth room delta) place.0 }) 0 (with_growth room delta).siblings cpu (past 0 0)
+    (mapped_at (λ s. P (record s { least = least_of (with_growth room delta) (0 + cpu) })) (λ s. record s { ran = s.ran + delta }) room.siblings cpu
+    (past (least_of (with_growth room delta) (0 + cpu)) 0) (is (least_of (with_growth room delta) (0 + cpu)) ((sibling_of room cpu).ran + delta)))
+
+housed-advanced : (room : RoomState) (delta : ℕ) → IsHoused room → IsHoused (advanced room delta)
+housed-advanced room delta housed =
+    housed_more room (advanced room delta) (length-step room false (Advance delta))
+    (λ cpu up. sibling_of-advanced (λ s. s.online ≡ true) room delta cpu (λ least ran. refl) (λ least ran. up))
+    (λ pid. subst (IsHome room) (sym (spots-advanced room delta pid)) (housed.homes pid)) housed
+
+housed-with_answer : (room : RoomState) (set : Setting) (answer : Reply) → IsHoused room → IsHoused (with_answer room set answer)
+housed-with_answer room set Zero housed =
+    housed_by room (with_cookies room set) (kept-with_answer room set Zero)
+    (λ pid. subst (IsHome room) (sym (spots-with_cookies room set pid)) (go pid (spot_at room pid) (housed.homes pid))) housed where
+      go : (pid : ℕ) (one : Option Spot) → IsHome room one → IsHome room (option_map (spot_set set pid) one)
+      go pid None home = tt
+      go pid (Some spot) home =
+          cond_both (is_set set pid) (record spot { cookie = set.cookie }) spot (λ (s : Spot). s.queued ≡ true → is_online room s.home ≡ true) (λ _. home) (λ _. home)
+housed-with_answer room set answer housed = housed
+
+housed-set_policy : (room : RoomState) (policy : Policy) (pid : ℕ) (task : Option Task) → task_of room pid ≡ task → IsHoused room → IsHoused (set_policy room policy task).room
+housed-set_policy room policy pid None found housed = housed
+housed-set_policy room policy pid (Some task) found housed =
+    housed_same room (set_policy room policy (Some task)).room (kept-set_policy room policy (Some task))
+    (spots-rescheduled_as room policy task (found_again pid room.tasks task found)) housed
+
+-- what holds of each sibling once one has left
+pub sibling_of-without : (P : SiblingState → Type 0) (room : RoomState) (cpu other : ℕ) → P idle → (other ≡ cpu → P (away (sibling_of room other))) →
+    (other ≢ cpu → P (record (sibling_of room other) { pending = (sibling_of room other).pending || (sibling_of room other).online })) →
+    P (sibling_of (without_sibling room cpu) other)
+unfolding without_sibling
+sibling_of-without P room cpu other past here there =
+    enumerated_at P (λ place. cond (place.0 == cpu) (away place.1) (record place.1 { pending = place.1.pending || place.1.online })) 0 room.siblings other past
+    (subst (λ n. P (cond (n == cpu) (away (sibling_of room other)) (record (sibling_of room other) { pending = (sibling_of room other).pending || (sibling_of room other).online }))) (omega arith)
+    (cond_both (other == cpu) _ _ P (λ same. here (eqb-true other cpu same)) (λ isnt. there (eqb-false other cpu isnt))))
+
+length-without_sibling : (room : RoomState) (cpu : ℕ) → length (without_sibling room cpu).siblings ≡ length room.siblings
+unfolding without_sibling
+length-without_sibling room cpu = length-map (enumerate_from 0 room.siblings) _ ∙ length-enumerate_from 0 room.siblings
+
+housed-without_sibling : (room : RoomState) (cpu : ℕ) → cpu < length room.siblings → is_online room cpu ≡ true → length (online room) ≢ 1 → IsHoused room → IsHoused (without_sibling room cpu)
+housed-without_sibling room cpu below up more housed =
+    record {
+      some = (lowest_other room cpu, subst (λ n. lowest_other room cpu < n) (sym (length-without_sibling room cpu)) other.0, still (lowest_other room cpu) other.2 other.1);
+      homes = λ pid. subst (IsHome (without_sibling room cpu)) (sym (spots-without_sibling room cpu pid)) (go (spot_at room pid) (housed.homes pid));
+    } where
+      other : (lowest_other room cpu < length room.siblings) × (is_online room (lowest_other room cpu) ≡ true) × (lowest_other room cpu ≢ cpu)
+      other = lowest_other_is room cpu below up more
+
+      still : (n : ℕ) → n ≢ cpu → is_online room n ≡ true → is_online (without_sibling room cpu) n ≡ true
+      still n differ up = sibling_of-without (λ s. s.online ≡ true) room cpu n refl (λ same. absurd (differ same)) (λ _. up)
+
+      go : (one : Option Spot) → IsHome room one → IsHome (without_sibling room cpu) (option_map (spot_off cpu (lowest_other room cpu)) one)
+      go None home = tt
+      go (Some spot) home =
+          cond_both (spot.queued && (spot.home == cpu)) (record spot { home = lowest_other room cpu }) spot
+          (λ (s : Spot). s.queued ≡ true → is_online (without_sibling room cpu) s.home ≡ true)
+          (λ _ queued. still (lowest_other room cpu) other.2 other.1)
+          (λ off queued. still spot.home (eqb-false spot.home cpu (sym (ap (λ b. b && (spot.home == cpu)) queued) ∙ off)) (home queued))
+
+housed-taken_offline : (room : RoomState) (cpu : ℕ) → cpu < length room.siblings → IsHoused room → IsHoused (taken_offline room cpu).room
+housed-taken_offline room cpu below housed =
+    cond_both (not (is_online room cpu)) _ _ (λ (made : Stepped). IsHoused made.room) (λ _. housed)
+    (λ up. cond_both (length (online room) == 1) _ _ (λ (made : Stepped). IsHoused made.room) (λ _. housed)
+    (λ more. housed-without_sibling room cpu below (not-false (is_online room cpu) up) (eqb-false (length (online room)) 1 more) housed))
+
+housed-brought_online : (room : RoomState) (cpu : ℕ) → IsHoused room → IsHoused (brought_online room cpu).room
+housed-brought_online room cpu housed =
+    cond_both (is_online room cpu) _ _ (λ (made : Stepped). IsHoused made.room) (λ _. housed)
+    (λ _. housed_more room (with_sibling_back room cpu) (length-set room.siblings cpu (back (sibling_of room cpu)))
+    (λ other up. back_is other up) housed.homes housed) where
+      back_is : (other : ℕ) → is_online room other ≡ true → is_online (with_sibling_back room cpu) other ≡ true
+      back_is = with_sibling_either (λ n s. is_online room n ≡ true → s.online ≡ true) room cpu (back (sibling_of room cpu)) (λ _. refl) (λ n up. up)
+
+housed-unless_offline : (room : RoomState) (cpu : ℕ) (stepped : Stepped) → IsHoused room → (is_online room cpu ≡ true → IsHoused stepped.room) →
+    IsHoused (unless_offline room cpu stepped).room
+housed-unless_offline room cpu stepped housed now = cond_both (is_online room cpu) _ _ (λ (made : Stepped). IsHoused made.room) now (λ _. housed)
+
+pub housed-step : (room : RoomState) (fresh : Bool) (event : Event) → IsEvent (length room.siblings) event → AreRising room → IsHoused room → IsHoused (step room fresh event).room
+housed-step room fresh (Turn cpu) limits rises housed = housed-unless_offline room cpu _ housed (λ up. housed-turned room fresh cpu up rises housed)
+housed-step room fresh (Resched cpu) limits rises housed = housed-unless_offline room cpu _ housed (λ _. housed-schedule room fresh cpu housed)
+housed-step room fresh (Block cpu) limits rises housed = housed-unless_offline room cpu _ housed (λ _. housed-blocked room cpu (running_on room cpu) refl housed)
+housed-step room fresh (Exit cpu) limits rises housed = housed-unless_offline room cpu _ housed (λ _. housed-exited room cpu (running_on room cpu) housed)
+housed-step room fresh (Tick cpu) limits rises housed = housed-unless_offline room cpu _ housed (λ _. housed-ticked room cpu (running_on room cpu) refl housed)
+housed-step room fresh (Wake pid) limits rises housed = housed-woken room pid (task_of room pid) refl housed
+housed-step room fresh (Advance delta) limits rises housed = housed-advanced room delta housed
+housed-step room fresh (Fork caller thread) limits rises housed = housed-forked room thread (task_of room caller) rises housed
+housed-step room fresh (Prctl caller ask) limits rises housed =
+    housed-with_answer (with_made room (makes_cookie room caller ask)) (setting_of room caller ask) (prctl_answer room caller ask)
+    (record { some = housed.some; homes = housed.homes })
+housed-step room fresh (SetSched pid policy) limits rises housed = housed-set_policy room policy pid (task_of room pid) refl housed
+housed-step room fresh (Offline cpu) limits rises housed = housed-taken_offline room cpu limits housed
+housed-step room fresh (Online cpu) limits rises housed = housed-brought_online room cpu housed

@@ -1,0 +1,219 @@
+-- Trust: after every legal history each sibling has what it is to have, and the trust rule holds.
+use Rattle.std.proofs.Common.{◌≡◌, ℕ, zero, suc, ◌<◌, All, Bool, true, false, List, [], ◌∷◌, ◌++◌, map, length, get_or, refl, sym, ap, ◌∙◌, subst, inl, inr, arith, Option, Some, None}
+use Rattle.std.specs.Prelude.{◌⊎◌, ◌==◌, ◌&&◌, Contains, filter, fold, replicate}
+use Rattle.std.specs.List.{AllByRecursion}
+use Rattle.std.specs.Option.{IfSome, option_map, option_and_then}
+use Rattle.std.proofs.lemmas.Bool.{cases_Bool, cond_both, cond-false, and_from, and_left, and_right, eq-eqb, eqb-true, both_ways, false_from_ne_true}
+use Rattle.std.proofs.lemmas.List.{length-map, length-replicate}
+use Rattle.std.proofs.lemmas.List.Elements.{All-contains_itself, recursion_from_All}
+use Rattle.std.proofs.lemmas.Option.{IfSome_then}
+use Rattle.cs_types.specs.declared.task.Task.{Task}
+use Rattle.cs_types.specs.declared.task.TaskSpec.{TaskSpec}
+use Rattle.cs_types.specs.declared.event.Event.{Event}
+use Rattle.cs_types.specs.declared.event.Event.TheVariants.{Turn, Resched, Block, Exit, Tick, Wake, Advance, Fork, Prctl, SetSched, Offline, Online}
+use Rattle.cs_types.specs.declared.reply.Reply.TheVariants as answer
+use Rattle.cs_types.specs.declared.reply.Entry.{Entry}
+use Rattle.cs_types.specs.declared.scenario.Scenario.{Scenario}
+use Rattle.cs_types.specs.Scenario.{IsEvent, IsPlayable}
+use Rattle.cs_types.specs.Room.{RoomState, SiblingState, idle, has_pid, asleep, placed, asleep_tasks, start, queued_on, sibling_of, running_on, is_online, online, task_of}
+use Rattle.cs_types.specs.Selection.{cookie_of}
+use Rattle.cs_types.specs.Step.{Stepped, step, unless_offline}
+use Rattle.cs_types.specs.Touches.{is_fresh}
+use Rattle.cs_types.specs.History.{History, Moment, beginning, step_at, next, after, moment_of, fold_of, IsLegal}
+use Rattle.cs_types.specs.Drain.{pending}
+use Rattle.cs_types.specs.Laws.{IsSettled, RunOneCookie, pids_on, IsOrdered}
+use Rattle.cs_types.proofs.Foremost.{find_passes, each_weaker}
+use Rattle.cs_types.proofs.Filtered.{each_found, Contains-filter}
+use Rattle.cs_types.proofs.Rising.{AreRising, rising-step, rising-fold_of}
+use Rattle.cs_types.proofs.Siblings.{get_or-map_default, length-step}
+use Rattle.cs_types.proofs.Selections.{online_parts}
+use Rattle.cs_types.proofs.Times.{all_placed}
+use Rattle.cs_types.proofs.Spots.{spot_of, spot_at, each_is_found}
+use Rattle.cs_types.proofs.Homes.{IsHome, IsHoused, housed-step}
+use Rattle.cs_types.proofs.Fits.{IsAt, cookie_at, SiblingFits, AllFit, fits_idle}
+use Rattle.cs_types.proofs.Freshness.{fresh_after, is_fresh-noted}
+use Rattle.cs_types.proofs.Orders.{StepFits, resched-fits, turned-fits, blocked-fits, exited-fits, woken-fits, forked-fits, ticked-fits, advanced-fits, set_policy-fits, taken_offline-fits, brought_online-fits}
+use Rattle.cs_types.proofs.Cookies.{prctl-fits}
+
+-- ---- at every step
+
+-- a sibling that is offline does nothing
+unless_offline-fits : (room : RoomState) (fresh : Bool) (event : Event) (cpu : ℕ) (stepped : Stepped) → (is_online room cpu ≡ true → StepFits room fresh event stepped) →
+    AllFit room (fresh_after room fresh event answer.Offline) → StepFits room fresh event (unless_offline room cpu stepped)
+unless_offline-fits room fresh event cpu stepped now off = cond_both (is_online room cpu) _ _ (StepFits room fresh event) now (λ _. off)
+
+step-fits : (room : RoomState) (fresh : Bool) (event : Event) → IsEvent (length room.siblings) event → AreRising room → IsHoused room → AllFit room fresh →
+    StepFits room fresh event (step room fresh event)
+step-fits room fresh (Turn cpu) limits rises housed fits =
+    unless_offline-fits room fresh (Turn cpu) cpu _ (λ up. turned-fits room fresh cpu limits up rises housed fits) fits
+step-fits room fresh (Resched cpu) limits rises housed fits =
+    unless_offline-fits room fresh (Resched cpu) cpu _ (λ up. resched-fits room fresh (Resched cpu) cpu limits up rises fits) fits
+step-fits room fresh (Block cpu) limits rises housed fits =
+    unless_offline-fits room fresh (Block cpu) cpu _ (λ up. blocked-fits room fresh cpu (running_on room cpu) limits up rises refl fits) fits
+step-fits room fresh (Exit cpu) limits rises housed fits =
+    unless_offline-fits room fresh (Exit cpu) cpu _ (λ up. exited-fits room fresh cpu (running_on room cpu) limits up rises refl fits) fits
+step-fits room fresh (Tick cpu) limits rises housed fits =
+    unless_offline-fits room fresh (Tick cpu) cpu _ (λ up. ticked-fits room fresh cpu (running_on room cpu) up refl fits) fits
+step-fits room fresh (Wake pid) limits rises housed fits = woken-fits room fresh pid (task_of room pid) refl housed fits
+step-fits room fresh (Advance delta) limits rises housed fits = advanced-fits room fresh delta fits
+step-fits room fresh (Fork caller thread) limits rises housed fits = forked-fits room fresh caller thread (task_of room caller) rises housed fits
+step-fits room fresh (Prctl caller ask) limits rises housed fits = prctl-fits room fresh caller ask rises fits
+step-fits room fresh (SetSched pid policy) limits rises housed fits = set_policy-fits room fresh pid policy (task_of room pid) refl housed fits
+step-fits room fresh (Offline cpu) limits rises housed fits = taken_offline-fits room fresh cpu fits
+step-fits room fresh (Online cpu) limits rises housed fits = brought_online-fits room fresh cpu fits
+
+-- ---- at every moment
+
+-- what holds at a moment: the tasks stand by rising pid, each queued one is at home, and each sibling has what fits it
+pub record Holds (moment : Moment) : Type 0 where
+  pub rises : AreRising moment.room
+  pub housed : IsHoused moment.room
+  pub fits : AllFit moment.room (is_fresh moment.ledger)
+
+holds_next : (moment : Moment) (entry : Entry) → IsEvent (length moment.room.siblings) entry.event → entry.reply ≡ (step_at moment entry.event).reply → Holds moment → Holds (next moment entry)
+holds_next moment entry limits legal holds =
+    let fresh = is_fresh moment.ledger in
+    let made = step_at moment entry.event in
+    record {
+      rises = rising-step moment.room fresh entry.event holds.rises;
+      housed = housed-step moment.room fresh entry.event limits holds.rises holds.housed;
+      fits = subst (AllFit made.room) (sym (is_fresh-noted moment.room entry moment.ledger ∙ ap (fresh_after moment.room fresh entry.event) legal))
+          (step-fits moment.room fresh entry.event limits holds.rises holds.housed holds.fits);
+    }
+
+holds_after : (siblings : ℕ) (moment : Moment) (entries : List Entry) → length moment.room.siblings ≡ siblings → AllByRecursion (λ entry. IsEvent siblings entry.event) entries →
+    ((past : History) (entry : Entry) (rest : List Entry) → entries ≡ past ++ entry ∷ rest → entry.reply ≡ (step_at (after moment past) entry.event).reply) →
+    Holds moment → Holds (after moment entries)
+holds_after siblings moment [] long limits legal holds = holds
+holds_after siblings moment (entry ∷ entries) long limits legal holds =
+    holds_after siblings (next moment entry) entries (length-step moment.room (is_fresh moment.ledger) entry.event ∙ long) limits.1
+    (λ past later rest e. legal (entry ∷ past) later rest (ap (λ (h : History). entry ∷ h) e))
+    (holds_next moment entry (subst (λ n. IsEvent n entry.event) (sym long) limits.0) (legal [] entry entries refl) holds)
+
+-- ---- at the start
+
+all_asleep : (tasks : List Task) (specs : List TaskSpec) → AllByRecursion (λ task. task.queued ≡ false) tasks →
+    AllByRecursion (λ task. task.queued ≡ false) (fold (λ ts spec. placed (asleep spec) ts) tasks specs)
+all_asleep tasks [] all = all
+all_asleep tasks (spec ∷ specs) all = all_asleep (placed (asleep spec) tasks) specs (all_placed (λ task. task.queued ≡ false) (asleep spec) tasks refl all)
+
+all_idle : (n cpu : ℕ) → get_or (replicate n idle) cpu idle ≡ idle
+all_idle zero cpu = refl
+all_idle (suc n) zero = refl
+all_idle (suc n) (suc cpu) = all_idle n cpu
+
+holds_beginning : (scenario : Scenario) → IsPlayable scenario → Holds (beginning scenario)
+unfolding is_fresh
+holds_beginning scenario keeps =
+    record {
+      rises = rising-fold_of scenario [] (λ k d few. (keeps.tasks k d few).pid.0) keeps.distinct;
+      housed = record { some = (0, subst (λ n. 0 < n) (sym (length-replicate scenario.siblings idle)) keeps.siblings.0, ap (λ (s : SiblingState). s.online) (all_idle scenario.siblings 0)); homes = homes };
+      fits = λ cpu. subst (SiblingFits (spot_at (start scenario)) 0 false cpu) (sym (all_idle scenario.siblings cpu)) (fits_idle (spot_at (start scenario)) 0 false cpu);
+    } where
+      homes : (pid : ℕ) → IsHome (start scenario) (spot_at (start scenario) pid)
+      homes pid = go (task_of (start scenario) pid) refl where
+        go : (found : Option Task) → task_of (start scenario) pid ≡ found → IsHome (start scenario) (option_map spot_of found)
+        go None e = tt
+        go (Some task) e = λ queued.
+            absurd (both_ways task.queued (each_found (λ t. t.queued ≡ false) (has_pid pid) (asleep_tasks scenario.tasks) task e (all_asleep [] scenario.tasks tt)) queued)
+
+-- It holds after every legal history.
+pub holds-moment_of : (scenario : Scenario) (history : History) → IsPlayable scenario → All (λ entry. IsEvent scenario.siblings entry.event) history → IsLegal scenario history →
+    Holds (moment_of scenario history)
+holds-moment_of scenario history keeps limits legal =
+    holds_after scenario.siblings (beginning scenario) history (length-replicate scenario.siblings idle)
+    (recursion_from_All (λ entry. IsEvent scenario.siblings entry.event) history limits) legal (holds_beginning scenario keeps)
+
+-- ---- what a sibling has
+
+Contains-map : {X Y : Type 0} (f : X → Y) (xs : List X) (x : X) → Contains xs x → Contains (map f xs) (f x)
+Contains-map f xs x held = (held.0, subst (λ n. held.0 < n) (sym (length-map xs f)) held.1, get_or-map_default f xs held.0 x ∙ ap f held.2)
+
+-- a pid whose task is at a sibling is one of those queued there
+pid_is_on : (room : RoomState) (cpu pid : ℕ) → IsAt cpu (spot_at room pid) → Contains (pids_on room cpu) pid
+pid_is_on room cpu pid here = go (task_of room pid) refl here where
+  go : (found : Option Task) → task_of room pid ≡ found → IsAt cpu (option_map spot_of found) → Contains (pids_on room cpu) pid
+  go None e here = absurd here
+  go (Some task) e here =
+      let living = each_found (Contains room.tasks) (has_pid pid) room.tasks task e (recursion_from_All (Contains room.tasks) room.tasks (All-contains_itself room.tasks)) in
+      let queued = Contains-filter (λ (other : Task). other.queued && (other.home == cpu)) room.tasks task living (and_from task.queued (task.home == cpu) here.0 (eq-eqb task.home cpu here.1)) in
+      subst (Contains (pids_on room cpu)) (eqb-true task.spec.pid pid (find_passes (has_pid pid) room.tasks task e))
+      (Contains-map (λ (other : Task). other.spec.pid) (queued_on room cpu) task queued)
+
+none_kept : {X : Type 0} (p : X → Bool) (xs : List X) → AllByRecursion (λ x. p x ≡ false) xs → filter p xs ≡ []
+none_kept p [] fails = refl
+none_kept p (x ∷ xs) fails = cond-false (p x) (x ∷ filter p xs) (filter p xs) fails.0 ∙ none_kept p xs fails.1
+
+-- no task is queued on an offline sibling
+no_queue : (room : RoomState) (cpu : ℕ) → AreRising room → IsHoused room → is_online room cpu ≡ false → queued_on room cpu ≡ []
+no_queue room cpu rises housed off =
+    none_kept (λ (task : Task). task.queued && (task.home == cpu)) room.tasks
+    (each_weaker (λ task. task_of room task.spec.pid ≡ Some task) (λ task. (task.queued && (task.home == cpu)) ≡ false) room.tasks
+    (λ task found. elim (cases_Bool task.queued) [
+      | inl queued ↦
+          let home : IsHome room (Some (spot_of task)) = subst (IsHome room) (ap (option_map spot_of) found) (housed.homes task.spec.pid) in
+          and_right task.queued (task.home == cpu) (false_from_ne_true (task.home == cpu) (λ same.
+          both_ways (is_online room cpu) off (subst (λ n. is_online room n ≡ true) (eqb-true task.home cpu same) (home queued))))
+      | inr isnt ↦ and_left task.queued (task.home == cpu) isnt
+    ]) (each_is_found 0 room.next_pid room.tasks rises))
+
+ordered_at : (moment : Moment) (cpu : ℕ) → Holds moment → IsOrdered moment cpu
+ordered_at moment cpu holds =
+    let room = moment.room in
+    let sibling = sibling_of room cpu in
+    let its = holds.fits cpu in
+    record {
+      runs = IfSome_then sibling.run its.runs (pid_is_on room cpu);
+      waits = IfSome_then sibling.waiting its.waits (λ run queued. IfSome_then run queued (pid_is_on room cpu));
+      flagged = its.flags;
+      other = its.other;
+      fresh = λ is. IfSome_then sibling.waiting (its.agrees is) with_task;
+      offline = λ off. let gone = its.away off in (no_queue room cpu holds.rises holds.housed off, gone.0, gone.1, gone.2, gone.3);
+    } where
+      of_found : (found : Option Task) → cookie_at (option_map spot_of found) ≡ moment.room.core_cookie → IfSome found (λ task. task.cookie ≡ moment.room.core_cookie)
+      of_found None same = tt
+      of_found (Some task) same = same
+
+      with_task : (run : Option ℕ) → IfSome run (λ pid. cookie_at (spot_at moment.room pid) ≡ moment.room.core_cookie) →
+          IfSome (option_and_then (task_of moment.room) run) (λ task. task.cookie ≡ moment.room.core_cookie)
+      with_task None same = tt
+      with_task (Some pid) same = of_found (task_of moment.room pid) same
+
+-- After every legal history each sibling has what it is to have.
+pub ordered-moment_of : (scenario : Scenario) (history : History) → IsPlayable scenario → All (λ entry. IsEvent scenario.siblings entry.event) history →
+    IsLegal scenario history → (cpu : ℕ) → cpu < scenario.siblings → IsOrdered (moment_of scenario history) cpu
+ordered-moment_of scenario history keeps limits legal cpu below = ordered_at (moment_of scenario history) cpu (holds-moment_of scenario history keeps limits legal)
+
+-- ---- the trust rule
+
+settled_at : (moment : Moment) → Holds moment → IsSettled moment.room
+settled_at moment holds cpu held calm =
+    go (sibling_of moment.room cpu).run ((holds.fits cpu).trusted (online_parts moment.room cpu held).1 calm) where
+      found : (one : Option Task) → cookie_at (option_map spot_of one) ≡ moment.room.core_cookie → (one ≡ None) ⊎ (cookie_of one ≡ moment.room.core_cookie)
+      found None same = inl refl
+      found (Some task) same = inr same
+
+      go : (run : Option ℕ) → IfSome run (λ pid. cookie_at (spot_at moment.room pid) ≡ moment.room.core_cookie) →
+          (option_and_then (task_of moment.room) run ≡ None) ⊎ (cookie_of (option_and_then (task_of moment.room) run) ≡ moment.room.core_cookie)
+      go None same = inl refl
+      go (Some pid) same = found (task_of moment.room pid) same
+
+-- After every legal history each online sibling that is not pending runs idle or a task with the core cookie.
+pub settled-moment_of : (scenario : Scenario) (history : History) → IsPlayable scenario → All (λ entry. IsEvent scenario.siblings entry.event) history →
+    IsLegal scenario history → IsSettled (fold_of scenario history)
+settled-moment_of scenario history keeps limits legal = settled_at (moment_of scenario history) (holds-moment_of scenario history keeps limits legal)
+
+-- Where the rule holds and no online sibling is pending, all that run a task run tasks with one cookie.
+pub one_cookie : (room : RoomState) → IsSettled room → pending room ≡ [] → RunOneCookie room
+one_cookie room settled calm a b first second held_a held_b runs_a runs_b = its a first held_a runs_a ∙ sym (its b second held_b runs_b) where
+  quiet : (cpu : ℕ) → Contains (online room) cpu → (sibling_of room cpu).pending ≡ false
+  quiet cpu held =
+      false_from_ne_true (sibling_of room cpu).pending (λ is.
+      let one = subst (λ cpus. Contains cpus cpu) calm (Contains-filter (λ n. (sibling_of room n).pending) (online room) cpu held is) in omega (arith, one.1))
+
+  of_rule : (one : Option Task) (task : Task) → one ≡ Some task → (one ≡ None) ⊎ (cookie_of one ≡ room.core_cookie) → task.cookie ≡ room.core_cookie
+  of_rule one task runs (inl none) = let bad : Some task ≡ None = sym runs ∙ none in absurd cc
+  of_rule one task runs (inr same) = ap cookie_of (sym runs) ∙ same
+
+  its : (cpu : ℕ) (task : Task) → Contains (online room) cpu → running_on room cpu ≡ Some task → task.cookie ≡ room.core_cookie
+  its cpu task held runs = of_rule (running_on room cpu) task runs (settled cpu held (quiet cpu held))

@@ -1,0 +1,49 @@
+-- Hotplug: how a sibling leaves the core and comes back (after `sched_core_cpu_deactivate` and `sched_core_cpu_starting`,
+-- kernel/sched/core.c; the details are this project's rules).
+use Rattle.std.specs.Prelude.{ℕ, ◌+◌, true, false, ◌==◌, ◌&&◌, ◌||◌, not, nat_lt, if◌then◌else◌, length, map, find, count_by, None, unwrap_or}
+use Rattle.std.specs.List.{enumerate_from, range_with_len}
+use Rattle.cs_types.specs.declared.task.Task.{Task}
+use Rattle.cs_types.specs.Room.{RoomState, SiblingState, queued_on, sibling_of, is_online, with_sibling}
+use Rattle.cs_types.specs.Queueing.{moved_to}
+
+-- ---- leaving
+
+-- the lowest other sibling that is online
+abbrev pub lowest_other : RoomState → ℕ → ℕ
+lowest_other room cpu =
+    unwrap_or (find (λ other. is_online room other && not (other == cpu)) (range_with_len 0 (length room.siblings))) 0
+
+-- The tasks of the sibling that leaves move to that one. They get the next stamps in the order of those that they had.
+abbrev pub moved_off : RoomState → ℕ → Task → Task
+moved_off room cpu task =
+    if task.queued && (task.home == cpu)
+    then record (moved_to room (lowest_other room cpu) task) {
+      stamp = room.next_stamp + count_by (λ other. nat_lt other.stamp task.stamp) (queued_on room cpu);
+    }
+    else task
+
+-- The sibling runs idle and does nothing while it is offline.
+abbrev pub away : SiblingState → SiblingState
+away sibling = record sibling { online = false; run = None; pending = false; waiting = None; place = 0 }
+
+-- It is away, and every other online sibling is pending. No interval of forced idle is open.
+unfoldable pub without_sibling : RoomState → ℕ → RoomState
+without_sibling room cpu =
+    record room {
+      tasks = map (moved_off room cpu) room.tasks;
+      next_stamp = room.next_stamp + length (queued_on room cpu);
+      siblings = map (λ (place : ℕ × SiblingState). if place.0 == cpu then away place.1 else record place.1 { pending = place.1.pending || place.1.online })
+          (enumerate_from 0 room.siblings);
+      forced = 0;
+      occupation = 0;
+      started = None;
+    }
+
+-- ---- coming back
+
+-- It runs idle and is pending. What else it had when it left it has still.
+abbrev pub back : SiblingState → SiblingState
+back sibling = record sibling { online = true; run = None; pending = true; waiting = None; place = 0 }
+
+abbrev pub with_sibling_back : RoomState → ℕ → RoomState
+with_sibling_back room cpu = with_sibling room cpu (back (sibling_of room cpu))
