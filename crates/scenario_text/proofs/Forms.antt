@@ -4,14 +4,15 @@ use Rattle.std.proofs.lemmas.Bool.{eqb-true, leb-true, le-leb}
 use Rattle.std.proofs.lemmas.List.{nil_from_length}
 use Rattle.std.specs.Prelude.{codes}
 use Rattle.cs_types.specs.declared.event.Actor.{Actor}
+use Rattle.cs_types.specs.declared.event.Actor.TheVariants.{Sibling, Caller, End}
 use Rattle.cs_types.specs.declared.event.Event.{Event}
-use Rattle.cs_types.specs.declared.event.Event.TheVariants.{Turn, Resched, Block, Exit, Tick, Wake, Advance, Fork, Prctl}
+use Rattle.cs_types.specs.declared.event.Event.TheVariants.{Turn, Resched, Block, Exit, Tick, Wake, Advance, Fork, Prctl, SetSched, Offline, Online}
 use Rattle.cs_types.specs.declared.event.Step.{Step}
 use Rattle.cs_types.specs.declared.task.TaskSpec.{TaskSpec}
 use Rattle.cs_types.specs.Scenario.{IsTask, IsStep}
 use Rattle.scenario_text.specs.declared.line.Line.{Line}
 use Rattle.scenario_text.specs.declared.line.Line.TheVariants as forms
-use Rattle.scenario_text.specs.Words.{Word, task_words, actor_word, made_words}
+use Rattle.scenario_text.specs.Words.{Word, task_words, actor_word, event_words, made_words}
 use Rattle.scenario_text.specs.Text.{step_words, end_words}
 use Rattle.scenario_text.specs.Reading.{◌>>=◌, Read, Parts, parts, reading_named, step_of, task_line, step_line, end_line, line_forms, line_of, few}
 use Rattle.scenario_text.proofs.Readings.{Each, each_ok, each_refused, each_bind, each_if, each_when, each_first, first_word, after_is}
@@ -89,16 +90,25 @@ line_again siblings is_after_step (forms.Step step) small is =
     (ap (step_line siblings) (after_is 1 (step_words step)) ∙ step_line_again siblings step.actor step.event small is)
 line_again siblings is_after_step forms.End small is = refl
 
+few_event : (actor : Word) (event : Event) → few (codes "step" ∷ actor ∷ event_words event) ≡ Ok (codes "step" ∷ actor ∷ event_words event)
+few_event actor (Turn cpu) = refl
+few_event actor (Resched cpu) = refl
+few_event actor (Block cpu) = refl
+few_event actor (Exit cpu) = refl
+few_event actor (Tick cpu) = refl
+few_event actor (Wake pid) = refl
+few_event actor (Advance delta) = refl
+few_event actor (Fork caller thread) = refl
+few_event actor (Prctl caller ask) = refl
+few_event actor (SetSched pid policy) = refl
+few_event actor (Offline cpu) = refl
+few_event actor (Online cpu) = refl
+
 few_step : (actor : Actor) (event : Event) → few (codes "step" ∷ made_words actor event) ≡ Ok (codes "step" ∷ made_words actor event)
-few_step actor (Turn cpu) = refl
-few_step actor (Resched cpu) = refl
-few_step actor (Block cpu) = refl
-few_step actor (Exit cpu) = refl
-few_step actor (Tick cpu) = refl
-few_step actor (Wake pid) = refl
-few_step actor (Advance delta) = refl
-few_step actor (Fork caller thread) = refl
-few_step actor (Prctl caller ask) = refl
+few_step (Sibling i) event = few_event (actor_word (Sibling i)) event
+few_step (Caller j) event = few_event (actor_word (Caller j)) event
+few_step End (Resched cpu) = refl
+few_step End event = few_event (actor_word End) event
 
 -- no line has too many words
 pub few_words : (line : Line) → few (line_words line) ≡ Ok (line_words line)

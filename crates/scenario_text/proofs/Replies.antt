@@ -6,10 +6,11 @@ use Rattle.std.proofs.lemmas.Bool.{cond_both, eqb-true}
 use Rattle.cs_types.specs.declared.reply.Kind.{Kind}
 use Rattle.cs_types.specs.declared.reply.Kind.TheVariants.{Selected, Adopted, Plain}
 use Rattle.cs_types.specs.declared.reply.Errno.{Errno}
-use Rattle.cs_types.specs.declared.reply.Errno.TheVariants.{Eperm, Esrch, Eagain, Enomem, Efault, Enodev, Einval}
+use Rattle.cs_types.specs.declared.reply.Errno.TheVariants.{Eperm, Esrch, Eagain, Enomem, Efault, Enodev, Einval, Ebusy}
 use Rattle.cs_types.specs.declared.reply.Pick.{Pick}
 use Rattle.cs_types.specs.declared.reply.Reply.{Reply}
-use Rattle.cs_types.specs.declared.reply.Reply.TheVariants.{Picked, Nothing, Slept, Ended, Idle, HasThreads, Woken, Awake, NoTask, Now, Ticked, Child, Zero, Value, Refused, NoCaller}
+use Rattle.cs_types.specs.declared.reply.Reply.TheVariants.{Picked, Nothing, Stole, Missed, Slept, Ended, Idle, HasThreads, Woken, Awake, NoTask, Now, Ticked, Child, Zero, Value, Set, Done, Already, Refused, NoCaller}
+use Rattle.cs_types.specs.declared.reply.Reply.TheVariants as answer
 use Rattle.scenario_text.specs.Words.{Word, run_word, kind_word, pick_words, errno_word, reply_words}
 use Rattle.scenario_text.specs.Entry.{FitsPick, FitsReply}
 use Rattle.scenario_text.specs.Reading.{Read, number_of}
@@ -42,7 +43,8 @@ errno_of word =
     if bytes_eq word (codes "EAGAIN") then Eagain else (
     if bytes_eq word (codes "ENOMEM") then Enomem else (
     if bytes_eq word (codes "EFAULT") then Efault else (
-    if bytes_eq word (codes "ENODEV") then Enodev else Einval)))))
+    if bytes_eq word (codes "ENODEV") then Enodev else (
+    if bytes_eq word (codes "EINVAL") then Einval else Ebusy))))))
 
 abbrev pick_of : List Word → Pick
 pick_of words =
@@ -54,6 +56,9 @@ reply_of words =
     let second = word_at words 1 in
     if is_kind first then Picked (pick_of words) else (
     if bytes_eq first (codes "Nothing") then Nothing else (
+    if bytes_eq first (codes "Stole") then Stole (number second) (number (word_at words 3)) else (
+    if bytes_eq first (codes "Missed") then Missed (number second) else (
+    if bytes_eq first (codes "Offline") then answer.Offline else (
     if bytes_eq first (codes "Slept") then Slept (number second) (pick_of (drop 2 words)) else (
     if bytes_eq first (codes "Ended") then Ended (number second) (pick_of (drop 2 words)) else (
     if bytes_eq first (codes "Idle") then Idle else (
@@ -65,7 +70,10 @@ reply_of words =
     if bytes_eq first (codes "Ticked") then Ticked (bytes_eq second (codes "yes")) else (
     if bytes_eq first (codes "Child") then Child (number second) else (
     if bytes_eq first (codes "0") then (if bytes_eq second (codes "value") then Value (number (word_at words 2)) else Zero) else (
-    if bytes_eq first (codes "NoCaller") then NoCaller else Refused (errno_of first))))))))))))))
+    if bytes_eq first (codes "Set") then Set else (
+    if bytes_eq first (codes "Done") then Done else (
+    if bytes_eq first (codes "Already") then Already else (
+    if bytes_eq first (codes "NoCaller") then NoCaller else Refused (errno_of first))))))))))))))))))))
 
 -- ---- what is spelled is read again
 
@@ -110,10 +118,15 @@ refused_with Enomem = refl
 refused_with Efault = refl
 refused_with Enodev = refl
 refused_with Einval = refl
+refused_with Ebusy = refl
 
 reply-reply_words : (reply : Reply) → FitsReply reply → reply_of (reply_words reply) ≡ reply
 reply-reply_words (Picked pick) fits = picked pick.kind (drop 1 (pick_words pick)) ∙ ap Picked (pick-pick_words pick fits)
 reply-reply_words Nothing fits = refl
+reply-reply_words (Stole pid from) fits =
+    ap (λ n. Stole n (number (decimal from))) (number-decimal pid fits.0) ∙ ap (Stole pid) (number-decimal from fits.1)
+reply-reply_words (Missed cpu) fits = ap Missed (number-decimal cpu fits)
+reply-reply_words answer.Offline fits = refl
 reply-reply_words (Slept pid pick) fits =
     ap (λ n. Slept n (pick_of (pick_words pick))) (number-decimal pid fits.0) ∙ ap (λ (p : Pick). Slept pid p) (pick-pick_words pick fits.1)
 reply-reply_words (Ended pid pick) fits =
@@ -129,6 +142,9 @@ reply-reply_words (Ticked false) fits = refl
 reply-reply_words (Child pid) fits = ap Child (number-decimal pid fits)
 reply-reply_words Zero fits = refl
 reply-reply_words (Value cookie) fits = ap Value (number-decimal cookie fits)
+reply-reply_words Set fits = refl
+reply-reply_words Done fits = refl
+reply-reply_words Already fits = refl
 reply-reply_words (Refused errno) fits = refused_with errno
 reply-reply_words NoCaller fits = refl
 

@@ -8,10 +8,10 @@ use Rattle.cs_types.specs.declared.task.Policy.{Policy}
 use Rattle.cs_types.specs.declared.task.Policy.TheVariants.{Stop, Deadline, Fifo, Rr, Fair}
 use Rattle.cs_types.specs.declared.task.TaskSpec.{TaskSpec}
 use Rattle.cs_types.specs.declared.event.Actor.{Actor}
-use Rattle.cs_types.specs.declared.event.Actor.TheVariants.{Sibling, Caller}
+use Rattle.cs_types.specs.declared.event.Actor.TheVariants.{Sibling, Caller, End}
 use Rattle.cs_types.specs.declared.event.Ask.{Ask}
 use Rattle.cs_types.specs.declared.event.Event.{Event}
-use Rattle.cs_types.specs.declared.event.Event.TheVariants.{Turn, Resched, Block, Exit, Tick, Wake, Advance, Fork, Prctl}
+use Rattle.cs_types.specs.declared.event.Event.TheVariants.{Turn, Resched, Block, Exit, Tick, Wake, Advance, Fork, Prctl, SetSched, Offline, Online}
 use Rattle.cs_types.specs.declared.event.Step.{Step}
 use Rattle.cs_types.specs.declared.scenario.Scenario.{Scenario}
 use Rattle.cs_types.specs.Scenario.{IsPolicy, IsTask, IsAsk, IsEvent, IsStep, IsBuilt}
@@ -19,7 +19,7 @@ use Rattle.scenario_text.specs.declared.fault.BadKind.TheVariants.{Unbuilt}
 use Rattle.scenario_text.specs.declared.fault.ReadFault.{ReadFault}
 use Rattle.scenario_text.specs.declared.fault.ReadFault.TheVariants.{Bad, OutOfMemory}
 use Rattle.scenario_text.specs.declared.head.Head.{Head}
-use Rattle.scenario_text.specs.Words.{Word, flag_word, policy_word, creds_words, task_words, actor_word, ask_words, child_word, event_words}
+use Rattle.scenario_text.specs.Words.{Word, flag_word, policy_word, creds_words, task_words, actor_word, ask_words, child_word, event_words, made_words}
 use Rattle.scenario_text.specs.Text.{line, version_words, siblings_words, limits_words, step_words, end_words, scenario_lines}
 use Rattle.scenario_text.specs.Reading.{Read, refused, Gives, Contents, lines_in, head_at, plan_of, scenario_of}
 use Rattle.scenario_text.specs.Reader.{IsTextOf, HasNoScenario, HasOneScenario}
@@ -146,13 +146,14 @@ plain_task siblings task few is =
     (plain_decimal task.creds.ruid (omega arith), (plain_decimal task.creds.euid (omega arith), (plain_decimal task.creds.suid (omega arith), (plain_decimal task.creds.rgid (omega arith), (plain_decimal task.creds.egid (omega arith), (plain_decimal task.creds.sgid (omega arith), (plain_flag task.creds.cap, (plain_flag task.creds.mm, (plain_flag task.creds.dumpable, tt))))))))) in
     (plain_word _ refl refl, (plain_decimal task.pid (omega (arith, is.pid)), (plain_decimal task.tgid (omega (arith, is.tgid)), (plain_decimal task.pgid (omega (arith, is.pgid)), (plain_decimal task.cpu (omega arith), (plain_policy task.policy is.policy, creds))))))
 
-pub plain_actor : (siblings : ℕ) (actor : Actor) (event : Event) → siblings < 256 → IsStep siblings (by actor event) → IsPlain (actor_word actor)
+plain_actor : (siblings : ℕ) (actor : Actor) (event : Event) → siblings < 256 → IsStep siblings (by actor event) → IsPlain (actor_word actor)
 plain_actor siblings (Sibling i) event few is =
     let within = sibling_within siblings i event is in
     plain-append (codes "s") (decimal i) (plain_word _ refl refl) (plain_decimal i (omega arith))
 plain_actor siblings (Caller j) event few is =
     let within = caller_within siblings j event is in
     plain-append (codes "c") (decimal j) (plain_word _ refl refl) (plain_decimal j (omega arith))
+plain_actor siblings End event few is = absurd is.actor
 
 plain_ask : (ask : Ask) → IsAsk ask → AllByRecursion IsPlain (ask_words ask)
 plain_ask ask is =
@@ -162,22 +163,32 @@ plain_child : (thread : Bool) → IsPlain (child_word thread)
 plain_child true = plain_word _ refl refl
 plain_child false = plain_word _ refl refl
 
-pub plain_event : (siblings : ℕ) (event : Event) → IsEvent siblings event → AllByRecursion IsPlain (event_words event)
-plain_event siblings (Turn cpu) is = (plain_word _ refl refl, tt)
-plain_event siblings (Resched cpu) is = (plain_word _ refl refl, tt)
-plain_event siblings (Block cpu) is = (plain_word _ refl refl, tt)
-plain_event siblings (Exit cpu) is = (plain_word _ refl refl, tt)
-plain_event siblings (Tick cpu) is = (plain_word _ refl refl, tt)
-plain_event siblings (Wake pid) is = (plain_word _ refl refl, (plain_decimal pid (omega arith), tt))
-plain_event siblings (Advance delta) is = (plain_word _ refl refl, (plain_decimal delta (omega arith), tt))
-plain_event siblings (Fork caller thread) is =
+plain_event : (siblings : ℕ) (event : Event) → siblings < 256 → IsEvent siblings event → AllByRecursion IsPlain (event_words event)
+plain_event siblings (Turn cpu) few is = (plain_word _ refl refl, tt)
+plain_event siblings (Resched cpu) few is = (plain_word _ refl refl, tt)
+plain_event siblings (Block cpu) few is = (plain_word _ refl refl, tt)
+plain_event siblings (Exit cpu) few is = (plain_word _ refl refl, tt)
+plain_event siblings (Tick cpu) few is = (plain_word _ refl refl, tt)
+plain_event siblings (Wake pid) few is = (plain_word _ refl refl, (plain_decimal pid (omega arith), tt))
+plain_event siblings (Advance delta) few is = (plain_word _ refl refl, (plain_decimal delta (omega arith), tt))
+plain_event siblings (Fork caller thread) few is =
     (plain_word _ refl refl, (plain_decimal caller (omega arith), (plain_child thread, tt)))
-plain_event siblings (Prctl caller ask) is =
+plain_event siblings (Prctl caller ask) few is =
     (plain_word _ refl refl, (plain_decimal caller (omega (arith, is.0)), plain_ask ask is.1))
+plain_event siblings (SetSched pid policy) few is =
+    (plain_word _ refl refl, (plain_decimal pid (omega (arith, is.0)), (plain_policy policy is.1, tt)))
+plain_event siblings (Offline cpu) few is = (plain_word _ refl refl, (plain_decimal cpu (omega arith), tt))
+plain_event siblings (Online cpu) few is = (plain_word _ refl refl, (plain_decimal cpu (omega arith), tt))
+
+pub plain_made : (siblings : ℕ) (actor : Actor) (event : Event) → siblings < 256 → IsStep siblings (by actor event) → AllByRecursion IsPlain (made_words actor event)
+plain_made siblings (Sibling i) event few is =
+    (plain_actor siblings (Sibling i) event few is, plain_event siblings event few is.event)
+plain_made siblings (Caller j) event few is =
+    (plain_actor siblings (Caller j) event few is, plain_event siblings event few is.event)
+plain_made siblings End event few is = absurd is.actor
 
 plain_step : (siblings : ℕ) (step : Step) → siblings < 256 → IsStep siblings step → AllByRecursion IsPlain (step_words step)
-plain_step siblings step few is =
-    (plain_word _ refl refl, (plain_actor siblings step.actor step.event few is, plain_event siblings step.event is.event))
+plain_step siblings step few is = (plain_word _ refl refl, plain_made siblings step.actor step.event few is)
 
 plain_tasks : (siblings : ℕ) (tasks : List TaskSpec) → siblings < 256 → AllByRecursion (IsTask siblings) tasks → ArePlain (map task_words tasks)
 plain_tasks siblings [] few is = tt

@@ -21,7 +21,7 @@ nice_is (pos n) = (λ is. is, λ is. is)
 nice_is (negsuc n) = (λ is. omega arith, λ is. omega arith)
 
 -- a policy that is spelled by this word
-abbrev ReadsPolicy : Word → Policy → Type 0
+abbrev pub ReadsPolicy : Word → Policy → Type 0
 ReadsPolicy word policy = (word ≡ policy_word policy) × IsPolicy policy
 
 each_numbered : (mark : Word) (policy : ℕ → Policy) (low high : ℕ) → high < 2 ^ 64 → ((n : ℕ) → IsWithin low high n → ReadsPolicy (mark ++ decimal n) (policy n)) →
@@ -34,7 +34,7 @@ each_fair : (rest : Word) → Each (fair_of rest) (ReadsPolicy (codes "fair:" ++
 unfolding fair_of
 each_fair rest = each_bind _ _ _ _ (each_signed 20 19 (omega arith, omega arith) rest) (λ z w. each_ok _ _ (rw w.0 refl, (nice_is z).0 w.1))
 
-each_policy : (word : Word) → Each (policy_of word) (ReadsPolicy word)
+pub each_policy : (word : Word) → Each (policy_of word) (ReadsPolicy word)
 unfolding policy_of
 each_policy word =
     each_if (bytes_eq word (codes "stop")) _ _ _
@@ -47,7 +47,7 @@ each_policy word =
       ),
     ))
 
-policy_again : (policy : Policy) → IsPolicy policy → policy_of (policy_word policy) ≡ Ok policy
+pub policy_again : (policy : Policy) → IsPolicy policy → policy_of (policy_word policy) ≡ Ok policy
 unfolding policy_of reading_after numbered fair_of
 policy_again Stop is = refl
 policy_again (Deadline relative) is = rw (number_again 1 1000000000 relative (omega arith) is) refl

@@ -1,8 +1,12 @@
 -- Entries whose line spells them alone.
 use Rattle.std.specs.Prelude.{◌<◌, ◌^◌}
+use Rattle.cs_types.specs.declared.event.Actor.{Actor}
+use Rattle.cs_types.specs.declared.event.Actor.TheVariants.{End}
+use Rattle.cs_types.specs.declared.event.Event.{Event}
+use Rattle.cs_types.specs.declared.event.Event.TheVariants.{Resched}
 use Rattle.cs_types.specs.declared.reply.Pick.{Pick}
 use Rattle.cs_types.specs.declared.reply.Reply.{Reply}
-use Rattle.cs_types.specs.declared.reply.Reply.TheVariants.{Picked, Slept, Ended, Woken, Now, Child, Value}
+use Rattle.cs_types.specs.declared.reply.Reply.TheVariants.{Picked, Stole, Missed, Slept, Ended, Woken, Now, Child, Value}
 use Rattle.cs_types.specs.declared.reply.Entry.{Entry}
 use Rattle.cs_types.specs.Scenario.{IsStep}
 
@@ -15,6 +19,8 @@ pub record FitsPick (pick : Pick) : Type 0 where
 -- so have those of a reply
 abbrev pub FitsReply : Reply → Type 0
 FitsReply (Picked pick) = FitsPick pick
+FitsReply (Stole pid from) = (pid < 2 ^ 64) × (from < 2 ^ 64)
+FitsReply (Missed cpu) = cpu < 2 ^ 64
 FitsReply (Slept pid pick) = (pid < 2 ^ 64) × FitsPick pick
 FitsReply (Ended pid pick) = (pid < 2 ^ 64) × FitsPick pick
 FitsReply (Woken cpu) = cpu < 2 ^ 64
@@ -23,7 +29,13 @@ FitsReply (Child pid) = pid < 2 ^ 64
 FitsReply (Value cookie) = cookie < 2 ^ 64
 FitsReply reply = Unit {0}
 
--- Its step is one that a scenario can have, whose core has up to 16 siblings, and the numbers of its reply have 64 bits.
+-- what is made in a core of up to 16 siblings: the end makes a sibling schedule, and each other step is one that a scenario can have
+abbrev pub IsMade : Actor → Event → Type 0
+IsMade End (Resched cpu) = cpu < 16
+IsMade End event = ⊥
+IsMade actor event = IsStep 16 (record { actor = actor; event = event })
+
+-- its step is one that is made, and the numbers of its reply have 64 bits
 pub record IsEntry (entry : Entry) : Type 0 where
-  pub step : IsStep 16 (record { actor = entry.actor; event = entry.event })
+  pub made : IsMade entry.actor entry.event
   pub reply : FitsReply entry.reply

@@ -14,7 +14,7 @@ use Rattle.cs_types.specs.declared.task.TaskSpec.{TaskSpec}
 use Rattle.cs_types.specs.declared.event.Actor.TheVariants.{Sibling, Caller}
 use Rattle.cs_types.specs.declared.event.Ask.{Ask}
 use Rattle.cs_types.specs.declared.event.Event.{Event}
-use Rattle.cs_types.specs.declared.event.Event.TheVariants.{Turn, Resched, Block, Exit, Tick, Wake, Advance, Fork, Prctl}
+use Rattle.cs_types.specs.declared.event.Event.TheVariants.{Turn, Resched, Block, Exit, Tick, Wake, Advance, Fork, Prctl, SetSched, Offline, Online}
 use Rattle.cs_types.specs.declared.event.Step.{Step}
 use Rattle.cs_types.specs.declared.scenario.Scenario.{Scenario}
 use Rattle.scenario_text.specs.declared.head.Head.{Head}
@@ -261,15 +261,34 @@ prctl_of caller cmd target scope addr = do
   ask ← ask_of cmd target scope addr
   Ok (Prctl caller ask)
 
--- what a caller does
-unfoldable pub caller_event_of : Parts → Read Event
-caller_event_of words =
+-- a task, and the policy that it gets
+unfoldable pub setsched_of : Word → Word → Read Event
+setsched_of pid policy = do
+  pid ← number_of 1 999999 pid
+  policy ← policy_of policy
+  Ok (SetSched pid policy)
+
+-- what happens to a sibling that the core has
+unfoldable pub hotplug_of : (ℕ → Event) → ℕ → Word → Read Event
+hotplug_of event siblings cpu = do
+  cpu ← cpu_of siblings cpu
+  Ok (event cpu)
+
+-- what a caller does, in a core of so many siblings
+unfoldable pub caller_event_of : ℕ → Parts → Read Event
+caller_event_of siblings words =
     if words.count == 2
     then reading_named (
-    (codes "wake", wake_of (words.at 1)) ∷ (codes "advance", advance_of (words.at 1)) ∷ []
+    (codes "wake", wake_of (words.at 1))
+    ∷ (codes "advance", advance_of (words.at 1))
+    ∷ (codes "offline", hotplug_of Offline siblings (words.at 1))
+    ∷ (codes "online", hotplug_of Online siblings (words.at 1))
+    ∷ []
     ) (words.at 0)
     else (if words.count == 3
-    then reading_named ((codes "fork", fork_of (words.at 1) (words.at 2)) ∷ []) (words.at 0)
+    then reading_named (
+    (codes "fork", fork_of (words.at 1) (words.at 2)) ∷ (codes "setsched", setsched_of (words.at 1) (words.at 2)) ∷ []
+    ) (words.at 0)
     else (if words.count == 6
     then reading_named (
     (codes "prctl", prctl_of (words.at 1) (words.at 2) (words.at 3) (words.at 4) (words.at 5)) ∷ []
@@ -284,10 +303,10 @@ sibling_step_of siblings digits words = do
   Ok (record { actor = Sibling cpu; event = event })
 
 -- what the caller of this number does
-unfoldable pub caller_step_of : Word → Parts → Read Step
-caller_step_of digits words = do
+unfoldable pub caller_step_of : ℕ → Word → Parts → Read Step
+caller_step_of siblings digits words = do
   caller ← number_of 0 7 digits
-  event ← caller_event_of words
+  event ← caller_event_of siblings words
   Ok (record { actor = Caller caller; event = event })
 
 -- what stands after the word `step`
@@ -296,7 +315,7 @@ step_of siblings [] event = refused
 step_of siblings (kind ∷ digits) event =
     if kind == 115
     then sibling_step_of siblings digits event
-    else (if kind == 99 then caller_step_of digits event else refused)
+    else (if kind == 99 then caller_step_of siblings digits event else refused)
 
 -- ---- lines
 

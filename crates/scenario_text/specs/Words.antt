@@ -8,17 +8,18 @@ use Rattle.cs_types.specs.declared.task.Policy.TheVariants.{Stop, Deadline, Fifo
 use Rattle.cs_types.specs.declared.task.Creds.{Creds}
 use Rattle.cs_types.specs.declared.task.TaskSpec.{TaskSpec}
 use Rattle.cs_types.specs.declared.event.Actor.{Actor}
-use Rattle.cs_types.specs.declared.event.Actor.TheVariants.{Sibling, Caller}
+use Rattle.cs_types.specs.declared.event.Actor.TheVariants.{Sibling, Caller, End}
 use Rattle.cs_types.specs.declared.event.Ask.{Ask}
 use Rattle.cs_types.specs.declared.event.Event.{Event}
-use Rattle.cs_types.specs.declared.event.Event.TheVariants.{Turn, Resched, Block, Exit, Tick, Wake, Advance, Fork, Prctl}
+use Rattle.cs_types.specs.declared.event.Event.TheVariants.{Turn, Resched, Block, Exit, Tick, Wake, Advance, Fork, Prctl, SetSched, Offline, Online}
 use Rattle.cs_types.specs.declared.reply.Kind.{Kind}
 use Rattle.cs_types.specs.declared.reply.Kind.TheVariants.{Selected, Adopted, Plain}
 use Rattle.cs_types.specs.declared.reply.Errno.{Errno}
-use Rattle.cs_types.specs.declared.reply.Errno.TheVariants.{Eperm, Esrch, Eagain, Enomem, Efault, Enodev, Einval}
+use Rattle.cs_types.specs.declared.reply.Errno.TheVariants.{Eperm, Esrch, Eagain, Enomem, Efault, Enodev, Einval, Ebusy}
 use Rattle.cs_types.specs.declared.reply.Pick.{Pick}
 use Rattle.cs_types.specs.declared.reply.Reply.{Reply}
-use Rattle.cs_types.specs.declared.reply.Reply.TheVariants.{Picked, Nothing, Slept, Ended, Idle, HasThreads, Woken, Awake, NoTask, Now, Ticked, Child, Zero, Value, Refused, NoCaller}
+use Rattle.cs_types.specs.declared.reply.Reply.TheVariants.{Picked, Nothing, Stole, Missed, Slept, Ended, Idle, HasThreads, Woken, Awake, NoTask, Now, Ticked, Child, Zero, Value, Set, Done, Already, Refused, NoCaller}
+use Rattle.cs_types.specs.declared.reply.Reply.TheVariants as answer
 
 -- a word is its bytes
 abbrev pub Word : Type 0
@@ -54,10 +55,11 @@ task_words task =
 
 -- ---- steps
 
--- `s` and the sibling's number, `c` and the caller's
+-- `s` and the sibling's number, `c` and the caller's, or `end`
 abbrev pub actor_word : Actor → Word
 actor_word (Sibling i) = codes "s" ++ decimal i
 actor_word (Caller j) = codes "c" ++ decimal j
+actor_word End = codes "end"
 
 -- CMD TARGET SCOPE ADDR
 abbrev pub ask_words : Ask → List Word
@@ -78,10 +80,18 @@ event_words (Wake pid) = codes "wake" ∷ decimal pid ∷ []
 event_words (Advance delta) = codes "advance" ∷ decimal delta ∷ []
 event_words (Fork caller thread) = codes "fork" ∷ decimal caller ∷ child_word thread ∷ []
 event_words (Prctl caller ask) = codes "prctl" ∷ decimal caller ∷ ask_words ask
+event_words (SetSched pid policy) = codes "setsched" ∷ decimal pid ∷ policy_word policy ∷ []
+event_words (Offline cpu) = codes "offline" ∷ decimal cpu ∷ []
+event_words (Online cpu) = codes "online" ∷ decimal cpu ∷ []
+
+-- What the actor does. A sibling schedules itself; the end, which has no number, names the sibling that schedules.
+abbrev pub deed_words : Actor → Event → List Word
+deed_words End (Resched cpu) = codes "resched" ∷ decimal cpu ∷ []
+deed_words actor event = event_words event
 
 -- the actor, and what it does
 abbrev pub made_words : Actor → Event → List Word
-made_words actor event = actor_word actor ∷ event_words event
+made_words actor event = actor_word actor ∷ deed_words actor event
 
 -- ---- replies
 
@@ -107,6 +117,7 @@ errno_word Enomem = codes "ENOMEM"
 errno_word Efault = codes "EFAULT"
 errno_word Enodev = codes "ENODEV"
 errno_word Einval = codes "EINVAL"
+errno_word Ebusy = codes "EBUSY"
 
 -- the answer to the question whether a tick asked for a reschedule
 abbrev pub answer_word : Bool → Word
@@ -116,6 +127,9 @@ answer_word false = codes "no"
 abbrev pub reply_words : Reply → List Word
 reply_words (Picked pick) = pick_words pick
 reply_words Nothing = codes "Nothing" ∷ []
+reply_words (Stole pid from) = codes "Stole" ∷ decimal pid ∷ codes "from" ∷ decimal from ∷ []
+reply_words (Missed cpu) = codes "Missed" ∷ decimal cpu ∷ []
+reply_words answer.Offline = codes "Offline" ∷ []
 reply_words (Slept pid pick) = codes "Slept" ∷ decimal pid ∷ pick_words pick
 reply_words (Ended pid pick) = codes "Ended" ∷ decimal pid ∷ pick_words pick
 reply_words Idle = codes "Idle" ∷ []
@@ -128,5 +142,8 @@ reply_words (Ticked asked) = codes "Ticked" ∷ answer_word asked ∷ []
 reply_words (Child pid) = codes "Child" ∷ decimal pid ∷ []
 reply_words Zero = codes "0" ∷ []
 reply_words (Value cookie) = codes "0" ∷ codes "value" ∷ decimal cookie ∷ []
+reply_words Set = codes "Set" ∷ []
+reply_words Done = codes "Done" ∷ []
+reply_words Already = codes "Already" ∷ []
 reply_words (Refused errno) = errno_word errno ∷ []
 reply_words NoCaller = codes "NoCaller" ∷ []

@@ -2,10 +2,11 @@
 //! with which it shares no more than siblings.
 
 ghost use Rattle.std.specs.Prelude.{◌≡◌};
-ghost use Rattle.scenario_text.specs.Reading.{lent, number_of, signed_of, sibling_event_of, ask_of, child_of, fork_of, caller_event_of, sibling_step_of, caller_step_of, step_of};
+ghost use Rattle.scenario_text.specs.Reading.{lent, number_of, signed_of, sibling_event_of, ask_of, child_of, fork_of, setsched_of, caller_event_of, sibling_step_of, caller_step_of, step_of};
 
 use crate::fault::Refused;
 use crate::number::{parse_cpu, parse_number, parse_signed};
+use crate::task::parse_policy;
 use crate::words::is_word;
 use cs_types::{Actor, Ask, Cpu, Event, Pid, Step};
 
@@ -91,17 +92,31 @@ fn parse_fork(caller: &[u8], child: &[u8]) -> Result<Event, Refused>
     })
 }
 
-/// What a caller does.
-#[tactic(auto, unfolding(crate::specs::Reading::reading_named, crate::specs::Reading::caller_event_of, crate::specs::Reading::wake_of, crate::specs::Reading::advance_of, crate::specs::Reading::prctl_of))]
-fn parse_caller_event(words: &[&[u8]]) -> Result<Event, Refused>
-    ensures { result ≡ caller_event_of (lent words.now) }
+/// A task that gets a policy, by the words after `setsched`.
+#[tactic(auto, unfolding(crate::specs::Reading::setsched_of))]
+fn parse_setsched(pid: &[u8], policy: &[u8]) -> Result<Event, Refused>
+    ensures { result ≡ setsched_of pid.now policy.now }
+{
+    Ok(Event::SetSched {
+        pid: parse_named_pid(pid)?,
+        policy: parse_policy(policy)?,
+    })
+}
+
+/// What a caller does, in a core of so many siblings.
+#[tactic(auto, unfolding(crate::specs::Reading::reading_named, crate::specs::Reading::caller_event_of, crate::specs::Reading::wake_of, crate::specs::Reading::advance_of, crate::specs::Reading::hotplug_of, crate::specs::Reading::prctl_of))]
+fn parse_caller_event(words: &[&[u8]], siblings: u8) -> Result<Event, Refused>
+    ensures { result ≡ caller_event_of siblings (lent words.now) }
 {
     match *words {
         [name, pid] if is_word(name, "wake") => Ok(Event::Wake(parse_named_pid(pid)?)),
         [name, delta] if is_word(name, "advance") => {
             Ok(Event::Advance(parse_number(delta, 1, MOST_ADVANCE)?))
         }
+        [name, cpu] if is_word(name, "offline") => Ok(Event::Offline(parse_cpu(cpu, siblings)?)),
+        [name, cpu] if is_word(name, "online") => Ok(Event::Online(parse_cpu(cpu, siblings)?)),
         [name, caller, child] if is_word(name, "fork") => parse_fork(caller, child),
+        [name, pid, policy] if is_word(name, "setsched") => parse_setsched(pid, policy),
         [name, caller, cmd, target, scope, addr] if is_word(name, "prctl") => Ok(Event::Prctl {
             caller: parse_named_pid(caller)?,
             ask: parse_ask(cmd, target, scope, addr)?,
@@ -122,15 +137,15 @@ fn parse_sibling_step(digits: &[u8], event: &[&[u8]], siblings: u8) -> Result<St
     })
 }
 
-/// What the caller of this number does.
+/// What the caller of this number does, in a core of so many siblings.
 #[tactic(auto, unfolding(crate::specs::Reading::caller_step_of))]
-fn parse_caller_step(digits: &[u8], event: &[&[u8]]) -> Result<Step, Refused>
-    ensures { result ≡ caller_step_of digits.now (lent event.now) }
+fn parse_caller_step(digits: &[u8], event: &[&[u8]], siblings: u8) -> Result<Step, Refused>
+    ensures { result ≡ caller_step_of siblings digits.now (lent event.now) }
 {
     let caller = parse_number(digits, 0, MOST_CALLER)? as u8;
     Ok(Step {
         actor: Actor::Caller(caller),
-        event: parse_caller_event(event)?,
+        event: parse_caller_event(event, siblings)?,
     })
 }
 
@@ -142,7 +157,7 @@ pub(crate) fn parse_step(actor: &[u8], event: &[&[u8]], siblings: u8) -> Result<
 {
     match actor {
         [b's', digits @ ..] => parse_sibling_step(digits, event, siblings),
-        [b'c', digits @ ..] => parse_caller_step(digits, event),
+        [b'c', digits @ ..] => parse_caller_step(digits, event, siblings),
         _ => Err(Refused),
     }
 }

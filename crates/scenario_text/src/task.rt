@@ -43,7 +43,7 @@ fn parse_nice(word: &[u8]) -> Result<i8, Refused>
 
 /// `stop`, or the name of a policy, a colon and its number.
 #[tactic(auto, unfolding(crate::specs::Reading::reading_after, crate::specs::Reading::numbered, crate::specs::Reading::fair_of, crate::specs::Reading::policy_of))]
-fn parse_policy(word: &[u8]) -> Result<Policy, Refused>
+pub(crate) fn parse_policy(word: &[u8]) -> Result<Policy, Refused>
     ensures { result ≡ policy_of word.now }
 {
     if is_word(word, "stop") {

@@ -2,11 +2,11 @@
 //! takes no memory and cannot fail, and a sink is given it whole.
 
 ghost use Rattle.std.specs.Prelude.{◌≡◌, ◌+◌, ◌≤◌, [], ◌∷◌, ◌++◌, length, decimal};
-ghost use Rattle.scenario_text.specs.Words.{made_words, actor_word, ask_words, child_word, event_words, reply_words, pick_words, kind_word, run_word, errno_word};
+ghost use Rattle.scenario_text.specs.Words.{policy_word, made_words, actor_word, ask_words, child_word, event_words, deed_words, reply_words, pick_words, kind_word, run_word, errno_word};
 ghost use Rattle.scenario_text.specs.Text.{line_room, spaced, entry_text};
 
 use arrayvec::ArrayString;
-use cs_types::{Actor, Ask, Entry, Errno, Event, Kind, Pick, Pid, Reply};
+use cs_types::{Actor, Ask, Cpu, Entry, Errno, Event, Kind, Pick, Pid, Policy, Reply};
 use itoa::{Buffer, Integer};
 use std::marker::Model;
 
@@ -62,7 +62,7 @@ impl Line {
     {
         self.actor(actor);
         self.text(" ");
-        self.event(event);
+        self.deed(actor, event);
     }
 
     fn actor(&mut self, actor: Actor)
@@ -79,6 +79,19 @@ impl Line {
                 self.text("c");
                 self.number(j);
             }
+            Actor::End => self.text("end"),
+        }
+    }
+
+    /// What the actor does. The end names the sibling that schedules.
+    fn deed(&mut self, actor: Actor, event: Event)
+        requires { length self.old + 71 ≤ line_room }
+        ensures text { self.new ≡ self.old ++ spaced (deed_words actor event) }
+        ensures room { length self.new ≤ length self.old + 71 }
+    {
+        match (actor, event) {
+            (Actor::End, Event::Resched(cpu)) => self.named("resched", cpu),
+            _ => self.event(event),
         }
     }
 
@@ -106,6 +119,39 @@ impl Line {
                 self.number(caller);
                 self.text(" ");
                 self.ask(ask);
+            }
+            Event::SetSched { pid, policy } => {
+                self.named("setsched", pid);
+                self.text(" ");
+                self.policy(policy);
+            }
+            Event::Offline(cpu) => self.named("offline", cpu),
+            Event::Online(cpu) => self.named("online", cpu),
+        }
+    }
+
+    fn policy(&mut self, policy: Policy)
+        requires { length self.old + 23 ≤ line_room }
+        ensures text { self.new ≡ self.old ++ policy_word policy }
+        ensures room { length self.new ≤ length self.old + 23 }
+    {
+        match policy {
+            Policy::Stop => self.text("stop"),
+            Policy::Deadline(relative) => {
+                self.text("dl:");
+                self.number(relative);
+            }
+            Policy::Fifo(priority) => {
+                self.text("fifo:");
+                self.number(priority);
+            }
+            Policy::Rr(priority) => {
+                self.text("rr:");
+                self.number(priority);
+            }
+            Policy::Fair(nice) => {
+                self.text("fair:");
+                self.number(nice);
             }
         }
     }
@@ -144,6 +190,9 @@ impl Line {
         match reply {
             Reply::Picked(pick) => self.pick(pick),
             Reply::Nothing => self.text("Nothing"),
+            Reply::Stole { pid, from } => self.stolen(pid, from),
+            Reply::Missed(cpu) => self.named("Missed", cpu),
+            Reply::Offline => self.text("Offline"),
             Reply::Slept { pid, pick } => {
                 self.text("Slept ");
                 self.task_and_pick(pid, pick);
@@ -166,9 +215,23 @@ impl Line {
                 self.text("0 value ");
                 self.number(cookie);
             }
+            Reply::Set => self.text("Set"),
+            Reply::Done => self.text("Done"),
+            Reply::Already => self.text("Already"),
             Reply::Refused(errno) => self.errno(errno),
             Reply::NoCaller => self.text("NoCaller"),
         }
+    }
+
+    /// The task that was stolen, and the sibling that had it.
+    fn stolen(&mut self, pid: Pid, from: Cpu)
+        requires { length self.old + 25 ≤ line_room }
+        ensures text { self.new ≡ self.old ++ spaced (reply_words (Reply.Stole pid from)) }
+        ensures room { length self.new ≤ length self.old + 25 }
+    {
+        self.named("Stole", pid);
+        self.text(" ");
+        self.named("from", from);
     }
 
     /// The task that left its sibling, and the pick that the sibling took.
@@ -221,6 +284,7 @@ impl Line {
             Errno::Efault => self.text("EFAULT"),
             Errno::Enodev => self.text("ENODEV"),
             Errno::Einval => self.text("EINVAL"),
+            Errno::Ebusy => self.text("EBUSY"),
         }
     }
 
