@@ -1,18 +1,18 @@
 -- Accounts: whom the machine charges is whom the model charges.
-use Rattle.std.proofs.Common.{◌≡◌, ℕ, zero, suc, ◌+◌, ◌-◌, ◌*◌, ◌<◌, ◌≤◌, Bool, true, false, cond, not, eqb, List, [], ◌∷◌, ◌++◌, map, take, length, get_or, refl, sym, ap, ◌∙◌, subst, inl, inr, arith, Option, Some, None, eq-eqb, ne_eqb}
-use Rattle.std.specs.Prelude.{◌&&◌, ◌||◌, ◌==◌, find, filter, unwrap_or}
-use Rattle.std.specs.List.{list_any, filter_map, range_with_len, AllByRecursion}
+use Rattle.std.proofs.Common.{◌≡◌, ℕ, zero, suc, ◌+◌, ◌<◌, ◌≤◌, Bool, true, false, cond, not, List, [], ◌∷◌, map, take, length, get_or, refl, sym, ap, ◌∙◌, inl, inr, arith, Option, Some, None, ne_eqb}
+use Rattle.std.specs.Prelude.{◌&&◌, ◌||◌, ◌==◌, find}
+use Rattle.std.specs.List.{list_any, filter_map, range_with_len}
 use Rattle.std.specs.Option.{option_and_then, option_map_or}
-use Rattle.std.proofs.lemmas.Bool.{cases_Bool, cond-true, cond-false, eqb-true, and_parts}
+use Rattle.std.proofs.lemmas.List.Elements.{All-weaker}
+use Rattle.std.proofs.lemmas.Bool.{cases_Bool, cond-true, cond-false, eqb-true}
 use Rattle.std.proofs.Math.Bool.{and-false, and-true}
 use Rattle.cs_types.specs.declared.task.Task.{Task}
 use Rattle.cs_types.specs.declared.scenario.Scenario.{Scenario}
-use Rattle.cs_types.specs.Room.{RoomState, SiblingState, idle, has_pid, task_of, sibling_of, is_online, online}
+use Rattle.cs_types.specs.Room.{RoomState, SiblingState, idle, has_pid, task_of, is_online, online}
 use Rattle.cs_types.specs.Selection.{is_run, to_run}
 use Rattle.cs_types.specs.Accounting.{Interval, with_cookie, charged_on, charged, up_to_now, open_interval, accounted}
-use Rattle.cs_types.specs.Time.{IsTimely}
+use Rattle.cs_types.specs.Time.{IsTimely, IsTimelyTask}
 use Rattle.task_table.specs.Table.{Rises, RisesFrom}
-use Rattle.plain_room.specs.declared.sibling.Sibling.{Sibling}
 use Rattle.plain_room.specs.declared.state.State.{State}
 use Rattle.plain_room.specs.State.{sibling_state, room_of}
 use Rattle.plain_room.specs.Account.{is_to_run, is_charged, is_charged_as}
@@ -21,8 +21,11 @@ use Rattle.plain_room.proofs.OnlineCount.{places}
 use Rattle.plain_room.proofs.Lists.{any-map, any-filter}
 
 -- what an interval goes on from does not matter to its times
-pub timely-accounted : (room : RoomState) → IsTimely room → IsTimely (accounted room)
-timely-accounted room timely = record { tasks = timely.tasks; siblings = timely.siblings }
+pub timely-accounted : (entries : ℕ) (room : RoomState) → IsTimely entries room → IsTimely entries (accounted room)
+timely-accounted entries room timely = record {
+  tasks = All-weaker (IsTimelyTask room) (IsTimelyTask (accounted room)) (λ task is. record { vtime = is.vtime; used = is.used }) room.tasks timely.tasks;
+  siblings = timely.siblings;
+}
 
 -- ---- any of a list
 

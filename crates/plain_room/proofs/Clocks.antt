@@ -3,13 +3,14 @@ use Rattle.std.proofs.Common.{◌≡◌, ℕ, zero, suc, ◌+◌, ◌<◌, Bool,
 use Rattle.std.specs.Prelude.{◌&&◌, ◌==◌, find}
 use Rattle.std.specs.List.{list_any}
 use Rattle.std.specs.Cmp.{IsStrictWeakOrder}
+use Rattle.std.proofs.lemmas.List.Elements.{All-weaker}
 use Rattle.std.proofs.lemmas.Bool.{cond_both, cond-true, cond-false}
 use Rattle.std.proofs.lemmas.Bool.Decides.{nat_tests}
 use Rattle.cs_types.specs.declared.task.Task.{Task}
 use Rattle.cs_types.specs.declared.task.Policy.{Policy}
 use Rattle.cs_types.specs.declared.task.Policy.TheVariants.{Stop, Deadline, Fifo, Rr, Fair}
 use Rattle.cs_types.specs.Room.{RoomState, has_pid, with_task}
-use Rattle.cs_types.specs.Time.{IsTimely, grown_by, rotates, has_used_slice, sliced}
+use Rattle.cs_types.specs.Time.{IsTimely, IsTimelyTask, grown_by, rotates, has_used_slice, sliced}
 use Rattle.task_table.specs.Table.{Rises, RisesFrom}
 use Rattle.task_table.proofs.Tables.{changed_each}
 use Rattle.plain_room.specs.Time.{any_other, grown_among, is_run_by}
@@ -17,8 +18,11 @@ use Rattle.plain_room.specs.declared.sibling.Sibling.{Sibling}
 use Rattle.plain_room.proofs.Lists.{filter-filter, any-filter}
 
 -- the times of a room do not depend on the end of its callers' address space
-pub timely_under : (top : ℕ) (room : RoomState) → IsTimely room → IsTimely (record room { user_top = top })
-timely_under top room timely = record { tasks = timely.tasks; siblings = timely.siblings }
+pub timely_under : (top entries : ℕ) (room : RoomState) → IsTimely entries room → IsTimely entries (record room { user_top = top })
+timely_under top entries room timely = record {
+  tasks = All-weaker (IsTimelyTask room) (IsTimelyTask (record room { user_top = top })) (λ task is. record { vtime = is.vtime; used = is.used }) room.tasks timely.tasks;
+  siblings = timely.siblings;
+}
 
 -- ---- the others on a sibling
 

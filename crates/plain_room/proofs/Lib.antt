@@ -11,3 +11,10 @@ pub mod Machines
 pub mod Views
 pub mod Lives
 pub mod Accounts
+pub mod Onlines
+pub mod Pending
+pub mod Playable
+pub mod Steals
+pub mod Ends
+pub mod Hotplugs
+pub mod Moves

@@ -7,7 +7,7 @@ use Rattle.std.proofs.Math.Bool.{and-false, and-true}
 use Rattle.std.proofs.lemmas.List.{map_push}
 use Rattle.std.proofs.lemmas.Bool.{cond-true, cond-false, eq-eqb, ne_eqb}
 use Rattle.cs_types.specs.declared.event.Event.{Event}
-use Rattle.cs_types.specs.declared.event.Event.TheVariants.{Turn, Resched, Block, Exit, Tick, Wake, Advance, Fork, Prctl}
+use Rattle.cs_types.specs.declared.event.Event.TheVariants.{Turn, Resched, Block, Exit, Tick, Wake, Advance, Fork, Prctl, SetSched, Offline, Online}
 use Rattle.cs_types.specs.declared.event.Step.{Step}
 use Rattle.cs_types.specs.declared.reply.Pick.{Pick}
 use Rattle.cs_types.specs.declared.reply.Reply.{Reply}
@@ -19,6 +19,8 @@ use Rattle.cs_types.specs.Step.{Stepped, step}
 use Rattle.cs_types.specs.Accounting.{Interval, total_of}
 use Rattle.cs_types.specs.Touches.{intervals_of, is_selected, is_adopted, pick_of, is_selection, scheduler_of, is_fresh, Noted, Ledger, noted, task_number, pick_number, own_number}
 use Rattle.cs_types.specs.History.{History, Moment, moment_of, fold_of, ledger_of, reply_to, entry_of, history_of, step_at}
+use Rattle.cs_types.specs.Drain.{next_to_schedule}
+use Rattle.plain_room.specs.Drain.{next_by}
 use Rattle.cs_types.proofs.Histories.{moment_of-push, history_of-push}
 use Rattle.cs_types.proofs.Accounts.{with_one, intervals_of-cons, total_of-noted}
 use Rattle.cs_types.proofs.Numbers.{task_number-cons, pick_number-cons, own_number-cons, fresh-ledger_of}
@@ -101,6 +103,9 @@ scheduler_below n (Wake pid) limits = tt
 scheduler_below n (Advance delta) limits = tt
 scheduler_below n (Fork caller thread) limits = tt
 scheduler_below n (Prctl caller ask) limits = tt
+scheduler_below n (SetSched pid policy) limits = tt
+scheduler_below n (Offline cpu) limits = tt
+scheduler_below n (Online cpu) limits = tt
 
 own_more : (n : ℕ) (note : Noted) (ledger : Ledger) → IsEvent n note.entry.event →
     map (λ cpu. own_number cpu (note ∷ ledger)) (range_with_len 0 n)
@@ -113,59 +118,67 @@ own_more n note ledger limits =
 -- ---- the numbers
 
 -- the books of a ledger with one more entry
-books-noted : (scenario : Scenario) (note : Noted) (ledger : Ledger) → books_at scenario (note ∷ ledger) ≡ booked note.interval (books_at scenario ledger)
-books-noted scenario note ledger = by_interval note.interval (intervals_of-cons note ledger) where
-  by_interval : (one : Option Interval) → intervals_of (note ∷ ledger) ≡ with_one one (intervals_of ledger) → books_at scenario (note ∷ ledger) ≡ booked one (books_at scenario ledger)
-  by_interval None same = λ i. record (books_at scenario ledger) { intervals = length (same i); totals = λ pid. total_of pid (same i) }
+books-noted : (scenario : Scenario) (most : ℕ) (note : Noted) (ledger : Ledger) → books_at scenario most (note ∷ ledger) ≡ booked note.interval (books_at scenario most ledger)
+books-noted scenario most note ledger = by_interval note.interval (intervals_of-cons note ledger) where
+  by_interval : (one : Option Interval) → intervals_of (note ∷ ledger) ≡ with_one one (intervals_of ledger) → books_at scenario most (note ∷ ledger) ≡ booked one (books_at scenario most ledger)
+  by_interval None same = λ i. record (books_at scenario most ledger) { intervals = length (same i); totals = λ pid. total_of pid (same i) }
   by_interval (Some interval) same =
       let intervals : length (intervals_of (note ∷ ledger)) ≡ length (intervals_of ledger) + 1 = omega (arith, ap length same) in
       let totals : (pid : ℕ) → total_of pid (intervals_of (note ∷ ledger)) ≡ total_of pid (intervals_of ledger) + owed pid interval =
       λ pid. ap (total_of pid) same ∙ total_of-noted pid (Some interval) (intervals_of ledger) in
-      λ i. record (books_at scenario ledger) { intervals = intervals i; totals = λ pid. totals pid i }
+      λ i. record (books_at scenario most ledger) { intervals = intervals i; totals = λ pid. totals pid i }
 
 -- the numbers of a ledger with one more entry
-numbers-noted : (scenario : Scenario) (room : RoomState) (entry : Entry) (ledger : Ledger) → IsEvent scenario.siblings entry.event →
-    numbers_at scenario (noted room entry ∷ ledger) ≡ numbers_after room entry.event entry.reply (numbers_at scenario ledger)
-numbers-noted scenario room entry ledger limits =
+numbers-noted : (scenario : Scenario) (most : ℕ) (room : RoomState) (entry : Entry) (ledger : Ledger) → IsEvent scenario.siblings entry.event →
+    numbers_at scenario most (noted room entry ∷ ledger) ≡ numbers_after room entry.event entry.reply (numbers_at scenario most ledger)
+numbers-noted scenario most room entry ledger limits =
     let note = noted room entry in
     let task : task_number (note ∷ ledger) ≡ task_number ledger + note.touches = task_number-cons note ledger ∙ omega arith in
     let pick : pick_number (note ∷ ledger) ≡ cond (is_selection entry) (task_number ledger + note.touches) (pick_number ledger) =
     pick_number-cons note ledger ∙ ap (λ n. cond (is_selection entry) n (pick_number ledger)) task in
-    let own = own_more scenario.siblings note ledger limits ∙ ap (λ p. own_after entry.event entry.reply p (numbers_at scenario ledger).own) pick in
-    let books = books-noted scenario note ledger in
+    let own = own_more scenario.siblings note ledger limits ∙ ap (λ p. own_after entry.event entry.reply p (numbers_at scenario most ledger).own) pick in
+    let books = books-noted scenario most note ledger in
     λ i. record { task = task i; pick = pick i; own = own i; books = books i }
 
 -- ---- one step of the machine
 
 -- the state is the fold of the entries, and its numbers are those of their ledger
-pub record Folds (scenario : Scenario) (state : State) (entries : History) : Type 0 where
+pub record Folds (scenario : Scenario) (most : ℕ) (state : State) (entries : History) : Type 0 where
   pub fold : room_of scenario state ≡ fold_of scenario entries
-  pub numbers : numbers_of state ≡ numbers_at scenario (ledger_of scenario entries)
+  pub numbers : numbers_of state ≡ numbers_at scenario most (ledger_of scenario entries)
 
 -- the state's step is that of the moment after the entries
-step_of_moment : (scenario : Scenario) (state : State) (entries : History) (event : Event) → Folds scenario state entries →
+step_of_moment : {most : ℕ} (scenario : Scenario) (state : State) (entries : History) (event : Event) → Folds scenario most state entries →
     step (room_of scenario state) (is_fresh_by (numbers_of state)) event ≡ step_at (moment_of scenario entries) event
-step_of_moment scenario state entries event so_far =
+step_of_moment {most} scenario state entries event so_far =
     let fresh : is_fresh_by (numbers_of state) ≡ is_fresh (ledger_of scenario entries) =
     ap is_fresh_by so_far.numbers ∙ sym (fresh-ledger_of scenario entries) in
     λ i. step (so_far.fold i) (fresh i) event
 
-pub reply_more : (scenario : Scenario) (old new : State) (entries : History) (event : Event) (reply : Reply) →
-    Folds scenario old entries → Makes scenario old new event reply → reply ≡ reply_to scenario entries event
-reply_more scenario old new entries event reply so_far makes =
+pub reply_more : {most : ℕ} (scenario : Scenario) (old new : State) (entries : History) (event : Event) (reply : Reply) →
+    Folds scenario most old entries → Makes scenario old new event reply → reply ≡ reply_to scenario entries event
+reply_more {most} scenario old new entries event reply so_far makes =
     makes.reply ∙ ap (λ (made : Stepped). made.reply) (step_of_moment scenario old entries event so_far)
 
-pub folds_more : (scenario : Scenario) (old new : State) (entries : History) (entry : Entry) → IsEvent scenario.siblings entry.event →
-    Folds scenario old entries → Makes scenario old new entry.event entry.reply → Folds scenario new (entries ++ entry ∷ [])
-folds_more scenario old new entries entry limits so_far makes =
+pub folds_more : {most : ℕ} (scenario : Scenario) (old new : State) (entries : History) (entry : Entry) → IsEvent scenario.siblings entry.event →
+    Folds scenario most old entries → Makes scenario old new entry.event entry.reply → Folds scenario most new (entries ++ entry ∷ [])
+folds_more {most} scenario old new entries entry limits so_far makes =
     let more = sym (moment_of-push scenario entries entry) in
     record {
       fold = makes.room ∙ ap (λ (made : Stepped). made.room) (step_of_moment scenario old entries entry.event so_far)
           ∙ ap (λ (moment : Moment). moment.room) more;
       numbers = makes.numbers ∙ (λ i. numbers_after (so_far.fold i) entry.event entry.reply (so_far.numbers i))
-          ∙ sym (numbers-noted scenario (fold_of scenario entries) entry (ledger_of scenario entries) limits)
-          ∙ ap (λ (moment : Moment). numbers_at scenario moment.ledger) more;
+          ∙ sym (numbers-noted scenario most (fold_of scenario entries) entry (ledger_of scenario entries) limits)
+          ∙ ap (λ (moment : Moment). numbers_at scenario most moment.ledger) more;
     }
+
+-- who schedules next at the end of a run is the same
+pub next_of : {most : ℕ} (scenario : Scenario) (state : State) (entries : History) → Folds scenario most state entries →
+    next_by (room_of scenario state) (is_fresh_by (numbers_of state)) ≡ next_to_schedule (moment_of scenario entries)
+next_of scenario state entries so_far =
+    let fresh : is_fresh_by (numbers_of state) ≡ is_fresh (ledger_of scenario entries) =
+    ap is_fresh_by so_far.numbers ∙ sym (fresh-ledger_of scenario entries) in
+    λ i. next_by (so_far.fold i) (fresh i)
 
 -- ---- the start
 

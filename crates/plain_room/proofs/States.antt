@@ -20,6 +20,7 @@ use Rattle.cs_types.specs.Scenario.{IsTask, IsPolicy, AreDistinct}
 use Rattle.cs_types.specs.Room.{RoomState, first_pid, asleep, placed, asleep_tasks, idle, has_pid}
 use Rattle.task_table.specs.Table.{Table, Rises, add_answer}
 use Rattle.task_table.specs.declared.fault.AddFault.{AddFault}
+use Rattle.cs_types.proofs.Foremost.{find_passes}
 use Rattle.cs_types.proofs.Tasks.{length-asleep_tasks, below_first_pid}
 use Rattle.task_table.proofs.Tables.{changed_each}
 use Rattle.cookie_refs.specs.Refs.{Refs, references, AgreeBut}
@@ -82,22 +83,52 @@ agree-changed refs held change same tasks task rises found agree =
     (agree-map refs held (λ other. cond (has_pid task.spec.pid other) (change other) other)
     (λ other. cond_both (has_pid task.spec.pid other) (change other) other (λ (t : Task). t.cookie ≡ other.cookie) (λ _. same other) (λ _. refl)) tasks agree)
 
--- a task that the state knows fits as the one with its pid does
-pub fit-known : (count next : ℕ) (state : State) (task : Task) (known : Knows state task) → IsFit count next known.old → IsFit count next task
-fit-known count next state task known fit = record {
-  pid = subst (λ (spec : TaskSpec). 0 < spec.pid) (sym known.spec) fit.pid;
-  below = subst (λ (spec : TaskSpec). spec.pid < next) (sym known.spec) fit.below;
-  home = subst (λ home. home < count) (sym known.home) fit.home;
-  policy = subst (λ (spec : TaskSpec). IsPolicy spec.policy) (sym known.spec) fit.policy;
+-- the pid of a task that was found
+pub found_pid : (pid : ℕ) (tasks : List Task) (old : Task) → find (has_pid pid) tasks ≡ Some old → old.spec.pid ≡ pid
+found_pid pid tasks old found = eqb-true old.spec.pid pid (find_passes (has_pid pid) tasks old found)
+
+-- the state knows a task that is one of its own but for its numbers
+pub knows-alike : (state : State) (task old : Task) → find (has_pid task.spec.pid) state.tasks.tasks ≡ Some old →
+    task.spec ≡ old.spec → task.cookie ≡ old.cookie → task.home ≡ old.home → Knows state task
+knows-alike state task old found spec cookie home = record {
+  old = old;
+  there = found;
+  cookie = cookie;
+  fits = λ count sound.
+      let fit = found_fits count state.next_pid task.spec.pid state.tasks.tasks old sound.tasks found in
+      record {
+        pid = subst (λ (s : TaskSpec). 0 < s.pid) (sym spec) fit.pid;
+        below = subst (λ (s : TaskSpec). s.pid < state.next_pid) (sym spec) fit.below;
+        home = subst (λ n. n < count) (sym home) fit.home;
+        policy = subst (λ (s : TaskSpec). IsPolicy s.policy) (sym spec) fit.policy;
+      };
+}
+
+-- and one that has the pid and the cookie of one of its own, at home on one of its siblings
+pub knows-placed : (state : State) (task old : Task) → find (has_pid task.spec.pid) state.tasks.tasks ≡ Some old →
+    task.cookie ≡ old.cookie → task.home < length state.siblings.items → IsPolicy task.spec.policy → Knows state task
+knows-placed state task old found cookie home policy = record {
+  old = old;
+  there = found;
+  cookie = cookie;
+  fits = λ count sound.
+      let fit = found_fits count state.next_pid task.spec.pid state.tasks.tasks old sound.tasks found in
+      let pid = found_pid task.spec.pid state.tasks.tasks old found in
+      record {
+        pid = subst (λ n. 0 < n) pid fit.pid;
+        below = subst (λ n. n < state.next_pid) pid fit.below;
+        home = subst (λ n. task.home < n) sound.siblings home;
+        policy = policy;
+      };
 }
 
 -- and in its place it keeps the counts of the cookies
 pub agree-known : (refs : Refs) (held : ℕ) (tasks : List Task) (task old : Task) → Rises tasks → find (has_pid task.spec.pid) tasks ≡ Some old →
-    task.spec ≡ old.spec → task.cookie ≡ old.cookie → AgreeBut refs tasks held →
+    task.cookie ≡ old.cookie → AgreeBut refs tasks held →
     AgreeBut refs (map (λ other. cond (has_pid task.spec.pid other) task other) tasks) held
-agree-known refs held tasks task old rises found spec cookie agree =
+agree-known refs held tasks task old rises found cookie agree =
     let change : Task → Task = λ other. record task { cookie = other.cookie } in
-    let pids : task.spec.pid ≡ old.spec.pid = ap (λ (s : TaskSpec). s.pid) spec in
+    let pids : task.spec.pid ≡ old.spec.pid = sym (found_pid task.spec.pid tasks old found) in
     let same : change old ≡ task = λ i. record task { cookie = sym cookie i } in
     let by_old = agree-changed refs held change (λ other. refl) tasks old rises (subst (λ pid. find (has_pid pid) tasks ≡ Some old) pids found) agree in
     subst (λ (t : Task). AgreeBut refs (map (λ other. cond (has_pid task.spec.pid other) t other) tasks) held) same
@@ -131,7 +162,7 @@ fit-remembered count next choices occupation tasks all =
 
 -- what a read past the last sibling would give
 abbrev pub nobody : Sibling
-nobody = record { online = false; run = None; pending = false; waiting = None; occupation = 0; number = 0; least = 0; snapshot = 0; ran = 0 }
+nobody = record { online = false; run = None; pending = false; waiting = None; occupation = 0; number = 0; least = 0; snapshot = 0; ran = 0; place = 0 }
 
 -- what a sibling at a place stands for
 pub sibling_at : (siblings : List Sibling) (cpu : ℕ) (x : Sibling) → cpu < length siblings → x ≡ get_or siblings cpu x →

@@ -22,31 +22,31 @@ use Rattle.plain_room.proofs.Machines.{Folds}
 -- ---- a task
 
 -- a task that is found in the state is shown as the fold shows it
-pub task_shown : (scenario : Scenario) (state : State) (entries : History) (pid : ℕ) (task : Option Task) → Folds scenario state entries →
+pub task_shown : {most : ℕ} (scenario : Scenario) (state : State) (entries : History) (pid : ℕ) (task : Option Task) → Folds scenario most state entries →
     task ≡ task_after (room_of scenario state) pid →
     option_map (task_view (ledger_of scenario entries)) task ≡ option_map (task_view (ledger_of scenario entries)) (task_after (fold_of scenario entries) pid)
 task_shown scenario state entries pid task folds found =
     ap (option_map (task_view (ledger_of scenario entries))) (found ∙ ap (λ (room : RoomState). task_after room pid) folds.fold)
 
 -- what a task was charged is kept as the history has it
-pub total_kept : (scenario : Scenario) (state : State) (entries : History) (pid : ℕ) → Folds scenario state entries →
+pub total_kept : {most : ℕ} (scenario : Scenario) (state : State) (entries : History) (pid : ℕ) → Folds scenario most state entries →
     total_at state.totals pid ≡ forced_of (ledger_of scenario entries) pid
 total_kept scenario state entries pid folds = ap (λ (numbers : Numbers). numbers.books.totals pid) folds.numbers
 
 -- ---- a sibling
 
-length_siblings : (scenario : Scenario) (state : State) (entries : History) → Folds scenario state entries →
+length_siblings : {most : ℕ} (scenario : Scenario) (state : State) (entries : History) → Folds scenario most state entries →
     length (fold_of scenario entries).siblings ≡ length state.siblings.items
 length_siblings scenario state entries folds =
     ap (λ (room : RoomState). length room.siblings) (sym folds.fold) ∙ length-map state.siblings.items sibling_state
 
-none_shown : (scenario : Scenario) (state : State) (entries : History) (cpu : ℕ) → Folds scenario state entries →
+none_shown : {most : ℕ} (scenario : Scenario) (state : State) (entries : History) (cpu : ℕ) → Folds scenario most state entries →
     ltb cpu (length state.siblings.items) ≡ false → None ≡ cpu_view (moment_of scenario entries) cpu
 none_shown scenario state entries cpu folds past =
     sym (cond-false (ltb cpu (length (fold_of scenario entries).siblings)) _ None (ap (ltb cpu) (length_siblings scenario state entries folds) ∙ past))
 
 -- the own number of a sibling is that of the ledger
-number_at : (scenario : Scenario) (state : State) (entries : History) (cpu : ℕ) (x : Sibling) → Folds scenario state entries →
+number_at : {most : ℕ} (scenario : Scenario) (state : State) (entries : History) (cpu : ℕ) (x : Sibling) → Folds scenario most state entries →
     IsSound scenario.siblings state → cpu < length state.siblings.items → x ≡ get_or state.siblings.items cpu x →
     x.number ≡ own_number cpu (ledger_of scenario entries)
 number_at scenario state entries cpu x folds sound below is =
@@ -55,7 +55,7 @@ number_at scenario state entries cpu x folds sound below is =
     ∙ ap (λ (numbers : Numbers). get_or numbers.own cpu 0) folds.numbers
     ∙ get_or-map-range_with_len (λ other. own_number other (ledger_of scenario entries)) 0 scenario.siblings cpu cpu 0 (omega (arith, sound.siblings)) (omega arith)
 
-some_shown : (scenario : Scenario) (state : State) (entries : History) (cpu : ℕ) (x : Sibling) → Folds scenario state entries →
+some_shown : {most : ℕ} (scenario : Scenario) (state : State) (entries : History) (cpu : ℕ) (x : Sibling) → Folds scenario most state entries →
     IsSound scenario.siblings state → ltb cpu (length state.siblings.items) ≡ true → x ≡ get_or state.siblings.items cpu x →
     Some (sibling_view x) ≡ cpu_view (moment_of scenario entries) cpu
 some_shown scenario state entries cpu x folds sound within is =
@@ -68,8 +68,8 @@ some_shown scenario state entries cpu x folds sound within is =
     ∙ sym (cond-true (ltb cpu (length (fold_of scenario entries).siblings)) _ None (ap (ltb cpu) (length_siblings scenario state entries folds) ∙ within))
 
 -- a sibling that is looked up in the state is shown as the fold shows it
-pub sibling_shown : (scenario : Scenario) (state : State) (entries : History) (cpu : ℕ) (found : Option (Bor Sibling)) →
-    Folds scenario state entries → IsSound scenario.siblings state →
+pub sibling_shown : {most : ℕ} (scenario : Scenario) (state : State) (entries : History) (cpu : ℕ) (found : Option (Bor Sibling)) →
+    Folds scenario most state entries → IsSound scenario.siblings state →
     is_some found ≡ ltb cpu (length state.siblings.items) → IfSome found (λ x. x.now ≡ get_or state.siblings.items cpu x.now) →
     option_map (λ (x : Bor Sibling). sibling_view x.now) found ≡ cpu_view (moment_of scenario entries) cpu
 sibling_shown scenario state entries cpu None folds sound within is = none_shown scenario state entries cpu folds (sym within)

@@ -6,3 +6,6 @@ pub mod Time
 pub mod Account
 pub mod Machine
 pub mod Inside
+pub mod Hotplug
+pub mod Drain
+pub mod Steal

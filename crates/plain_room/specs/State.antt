@@ -3,6 +3,7 @@ use Rattle.std.specs.Prelude.{◌≡◌, ℕ, ◌+◌, ◌^◌, ◌*◌, ◌≤�
 use Rattle.std.specs.List.{range_with_len}
 use Rattle.std.specs.Option.{option_map_or}
 use Rattle.cs_types.specs.declared.event.Event.{Event}
+use Rattle.cs_types.specs.declared.event.Event.TheVariants.{Turn, Resched}
 use Rattle.cs_types.specs.declared.reply.Pick.{Pick}
 use Rattle.cs_types.specs.declared.reply.Reply.{Reply}
 use Rattle.cs_types.specs.declared.task.Task.{Task}
@@ -14,7 +15,8 @@ use Rattle.task_table.specs.Table.{IsSound as IsTable}
 use Rattle.cookie_refs.specs.Refs.{AgreeBut}
 use Rattle.cs_types.specs.Selection.{Scheduled}
 use Rattle.cs_types.specs.Touches.{Ledger, intervals_of, task_number, pick_number, own_number, is_selected, is_adopted, pick_touches, pick_of, selection_of, scheduler_of, touches_by}
-use Rattle.cs_types.specs.Step.{step}
+use Rattle.cs_types.specs.Steal.{stolen}
+use Rattle.cs_types.specs.Step.{tried, step}
 use Rattle.cs_types.specs.Time.{IsTimely}
 use Rattle.cs_types.specs.Accounting.{Interval, share, charges, total_of, interval_by}
 use Rattle.cs_types.specs.declared.reply.Reply.TheVariants.{Picked}
@@ -35,6 +37,7 @@ sibling_state sibling =
       least = sibling.least;
       snapshot = sibling.snapshot;
       ran = sibling.ran;
+      place = sibling.place;
     }
 
 -- what a machine shows of a sibling
@@ -73,17 +76,12 @@ pub record IsFit (count next : ℕ) (task : Task) : Type 0 where
 abbrev pub Has : State → Task → Type 0
 Has state task = find (has_pid task.spec.pid) state.tasks.tasks ≡ Some task
 
--- the state has this task, but for its numbers: the one with its pid has the same line, cookie and home
-pub record Knows (state : State) (task : Task) : Type 0 where
-  pub old : Task
-  pub there : find (has_pid task.spec.pid) state.tasks.tasks ≡ Some old
-  pub spec : task.spec ≡ old.spec
-  pub cookie : task.cookie ≡ old.cookie
-  pub home : task.home ≡ old.home
-
--- the times of the state keep their bounds, and its clock is so low that no time overflows, after one more advance too
+-- the times of the state keep their bounds, and its clock is so low that no time overflows, after one more advance too,
+-- in a history of so few entries
 pub record IsOnTime (state : State) : Type 0 where
-  pub timely : (scenario : Scenario) → IsTimely (room_of scenario state)
+  pub entries : ℕ
+  pub few : entries < 2 ^ 17
+  pub timely : (scenario : Scenario) → IsTimely entries (room_of scenario state)
   pub clock : state.clock + 1000000000 < 2 ^ 56
 
 -- the open interval did not begin later than now, and no number of the books overflows where it is charged
@@ -107,6 +105,13 @@ pub record IsSoundBut (count : ℕ) (state : State) (held : ℕ) : Type 0 where
 -- the same with no cookie held beside them
 abbrev pub IsSound : ℕ → State → Type 0
 IsSound count state = IsSoundBut count state 0
+
+-- the state has a task with this one's pid and cookie, and this one fits in its place
+pub record Knows (state : State) (task : Task) : Type 0 where
+  pub old : Task
+  pub there : find (has_pid task.spec.pid) state.tasks.tasks ≡ Some old
+  pub cookie : task.cookie ≡ old.cookie
+  pub fits : (count : ℕ) → IsSound count state → IsFit count state.next_pid task
 
 -- the state stays sound
 abbrev pub StaysSound : State → State → Type 0
@@ -163,23 +168,23 @@ numbers_of state =
 abbrev pub charged_with : Option Interval → Numbers → Numbers
 charged_with interval numbers = record numbers { books = booked interval numbers.books }
 
--- the books of a ledger: as many pids may come as the scenario has steps
-abbrev pub books_at : Scenario → Ledger → Books
-books_at scenario ledger =
+-- the books of a ledger: at most so many entries are made, so no more pids may come
+abbrev pub books_at : Scenario → ℕ → Ledger → Books
+books_at scenario most ledger =
     record {
       intervals = length (intervals_of ledger);
       totals = λ pid. total_of pid (intervals_of ledger);
-      places = length scenario.steps + first_pid scenario.tasks;
+      places = most + first_pid scenario.tasks;
     }
 
 -- the numbers of a ledger
-abbrev pub numbers_at : Scenario → Ledger → Numbers
-numbers_at scenario ledger =
+abbrev pub numbers_at : Scenario → ℕ → Ledger → Numbers
+numbers_at scenario most ledger =
     record {
       task = task_number ledger;
       pick = pick_number ledger;
       own = map (λ cpu. own_number cpu ledger) (range_with_len 0 scenario.siblings);
-      books = books_at scenario ledger;
+      books = books_at scenario most ledger;
     }
 
 -- the numbers once the queues were touched so often
@@ -215,7 +220,7 @@ pub record ChargesAndSchedules (old new : State) (cpu : ℕ) (chosen : Pick) (ch
   pub pick : (scenario : Scenario) → chosen ≡ (change (room_of scenario old)).pick
   pub room : (scenario : Scenario) → room_of scenario new ≡ (change (room_of scenario old)).room
   pub numbers : (scenario : Scenario) →
-      numbers_of new ≡ took cpu chosen (charged_with (interval_by (room_of scenario old) (Picked chosen)) (numbers_of old))
+      numbers_of new ≡ took cpu chosen (charged_with (interval_by (room_of scenario old) (Resched cpu) (Picked chosen)) (numbers_of old))
 
 -- each sibling's own number: that of the one whose pick of a selection for the core this is becomes the pick number
 abbrev pub own_after : Event → Reply → ℕ → List ℕ → List ℕ
@@ -233,7 +238,7 @@ numbers_after room event answer numbers =
       task = task;
       pick = pick;
       own = own_after event answer pick numbers.own;
-      books = booked (interval_by room answer) numbers.books;
+      books = booked (interval_by room event answer) numbers.books;
     }
 
 -- the new state and the reply are those of the event's step from the old one
@@ -241,3 +246,9 @@ pub record Makes (scenario : Scenario) (old new : State) (event : Event) (answer
   pub reply : answer ≡ (step (room_of scenario old) (is_fresh_by (numbers_of old)) event).reply
   pub room : room_of scenario new ≡ (step (room_of scenario old) (is_fresh_by (numbers_of old)) event).room
   pub numbers : numbers_of new ≡ numbers_after (room_of scenario old) event answer (numbers_of old)
+
+-- the new state and the reply are those of a steal try of the sibling
+pub record TriesToSteal (old new : State) (thief : ℕ) (answer : Reply) : Type 0 where
+  pub reply : (scenario : Scenario) → answer ≡ (tried (room_of scenario old) thief (stolen (room_of scenario old) thief)).reply
+  pub room : (scenario : Scenario) → room_of scenario new ≡ (tried (room_of scenario old) thief (stolen (room_of scenario old) thief)).room
+  pub numbers : (scenario : Scenario) → numbers_of new ≡ numbers_after (room_of scenario old) (Turn thief) answer (numbers_of old)

@@ -40,7 +40,7 @@ fn touches(task: &Task, cookie: Cookie) -> u64
 
 impl State {
     /// How many siblings are online.
-    fn online_count(&self) -> u8
+    pub fn online_count(&self) -> u8
         requires { length self.now.siblings.items ≤ 16 }
         ensures { (scenario : Scenario) → result ≡ length (siblings_online (room_of scenario self.now)) }
     {

@@ -1,33 +1,62 @@
 //! What each event does to the state.
 
-ghost use Rattle.std.specs.Prelude.{◌≡◌, ◌+◌, ◌*◌, ◌^◌, ◌<◌, ◌≤◌, length, vec_len, vec_capacity};
+ghost use Rattle.std.specs.Prelude.{◌≡◌, ◌+◌, ◌*◌, ◌^◌, ◌<◌, ◌≤◌, Some, All, length, vec_len, vec_capacity};
 ghost use Rattle.cs_types.specs.declared.scenario.Scenario.{Scenario};
-ghost use Rattle.cs_types.specs.Scenario.{IsWithin, IsEvent};
-ghost use Rattle.plain_room.specs.State.{room_of, IsSound, IsOnTime, IsPaid, StaysSound, Makes};
+ghost use Rattle.cs_types.specs.Scenario.{IsWithin, IsPolicy, IsEvent};
+ghost use Rattle.cs_types.specs.Room.{sibling_of, flagged};
+ghost use Rattle.cs_types.specs.Selection.{is_run};
+ghost use Rattle.cs_types.specs.Queueing.{dequeued, queued_at_home};
+ghost use Rattle.plain_room.specs.State.{room_of, Knows, IsSound, IsOnTime, IsPaid, StaysSound, Becomes, numbers_of, touched, Makes};
 ghost use Rattle.cs_types.specs.Step.{settled};
 
 use crate::state::State;
-use cs_types::{Cpu, Errno, Event, Pid, Reply, Scenario, Task};
+use crate::task::with_policy;
+use cs_types::{Cpu, Errno, Event, Pid, Policy, Reply, Scenario, Task};
 use fork_inherit::{ForkFault, leads_others};
 
 impl State {
-    /// A pending reschedule is taken.
+    /// A pending reschedule is taken. Else the sibling tries to steal, where it is to.
     fn turn(&mut self, cpu: Cpu) -> Reply
         requires cpu { cpu < length self.old.siblings.items }
         requires few { length self.old.siblings.items ≤ 16 }
         requires sound { IsSound (length self.old.siblings.items) self.old }
         requires time { IsOnTime self.old }
         requires paid { IsPaid self.old }
-        requires touches { self.old.task_number + 1 < 2 ^ 64 }
+        requires places { All (λ sibling. sibling.place + 1 < 2 ^ 32) self.old.siblings.items }
+        requires stamp { self.old.next_stamp + 1 < 2 ^ 64 }
+        requires touches { self.old.task_number + 2 < 2 ^ 64 }
         ensures makes { (scenario : Scenario) → Makes scenario self.old self.new (Event.Turn cpu) result }
         ensures sound { StaysSound self.old self.new }
         ensures ended { self.new.ended ≡ self.old.ended }
     {
-        if self.siblings[cpu as usize].pending {
-            Reply::Picked(self.schedule(cpu))
-        } else {
-            Reply::Nothing
+        if !self.is_online(cpu) {
+            return Reply::Offline;
         }
+        if self.siblings[cpu as usize].pending {
+            return Reply::Picked(self.schedule(cpu));
+        }
+        if self.siblings[cpu as usize].place == 0 {
+            return Reply::Nothing;
+        }
+        self.try_steal(cpu)
+    }
+
+    /// The sibling schedules.
+    fn resched(&mut self, cpu: Cpu) -> Reply
+        requires cpu { cpu < length self.old.siblings.items }
+        requires few { length self.old.siblings.items ≤ 16 }
+        requires sound { IsSound (length self.old.siblings.items) self.old }
+        requires time { IsOnTime self.old }
+        requires paid { IsPaid self.old }
+        requires touches { self.old.task_number + 1 < 2 ^ 64 }
+        ensures makes { (scenario : Scenario) → Makes scenario self.old self.new (Event.Resched cpu) result }
+        ensures sound { StaysSound self.old self.new }
+        ensures ended { self.new.ended ≡ self.old.ended }
+    {
+        if !self.is_online(cpu) {
+            return Reply::Offline;
+        }
+        Reply::Picked(self.schedule(cpu))
     }
 
     /// The running task goes to sleep, and its sibling takes the next. The open interval is charged while the
@@ -43,6 +72,9 @@ impl State {
         ensures sound { StaysSound self.old self.new }
         ensures ended { self.new.ended ≡ self.old.ended }
     {
+        if !self.is_online(cpu) {
+            return Reply::Offline;
+        }
         let Some(task) = self.running_on(cpu) else {
             return Reply::Idle;
         };
@@ -57,6 +89,7 @@ impl State {
 
     /// A sleeping task is queued at its home.
     fn wake(&mut self, pid: Pid) -> Reply
+        requires few { length self.old.siblings.items ≤ 16 }
         requires sound { IsSound (length self.old.siblings.items) self.old }
         requires time { IsOnTime self.old }
         requires stamp { self.old.next_stamp + 1 < 2 ^ 64 }
@@ -71,6 +104,7 @@ impl State {
         if task.queued {
             return Reply::Awake;
         }
+        let task = self.rehomed(task);
         self.queue_at_home(task);
         Reply::Woken(task.home)
     }
@@ -88,6 +122,9 @@ impl State {
         ensures sound { StaysSound self.old self.new }
         ensures ended { vec_capacity self.new.ended ≡ vec_capacity self.old.ended }
     {
+        if !self.is_online(cpu) {
+            return Reply::Offline;
+        }
         let Some(task) = self.running_on(cpu) else {
             return Reply::Idle;
         };
@@ -103,19 +140,25 @@ impl State {
         }
     }
 
-    /// The child has the least virtual time of its queue, whatever its class.
+    /// The child is at home where its caller is, or on another sibling where that is offline, and has the
+    /// least virtual time of its queue, whatever its class.
     fn settled(&self, child: Task) -> Task
-        requires { child.home < length self.now.siblings.items }
-        ensures { (scenario : Scenario) → result ≡ settled (room_of scenario self.now) child }
+        requires home { child.home < length self.now.siblings.items }
+        requires few { length self.now.siblings.items ≤ 16 }
+        ensures settled { (scenario : Scenario) → result ≡ settled (room_of scenario self.now) child }
+        ensures within { result.home < length self.now.siblings.items }
     {
+        let home = self.online_home(child.home);
         Task {
-            vtime: self.siblings[child.home as usize].least,
+            home,
+            vtime: self.siblings[home as usize].least,
             ..child
         }
     }
 
     /// A task makes a child, which is queued at its home.
     fn fork(&mut self, limit: u16, caller: Pid, thread: bool) -> Reply
+        requires few { length self.old.siblings.items ≤ 16 }
         requires sound { IsSound (length self.old.siblings.items) self.old }
         requires time { IsOnTime self.old }
         requires limit { self.old.tasks.limit ≡ limit }
@@ -137,6 +180,50 @@ impl State {
         }
     }
 
+    /// A queued task leaves its queue and enters it again, and its sibling becomes pending where it runs.
+    fn requeue(&mut self, task: Task)
+        requires known { Knows self.old task }
+        requires home { task.home < length self.old.siblings.items }
+        requires policy { IsPolicy task.spec.policy }
+        requires clock { self.old.clock + 1000000000 < 2 ^ 56 }
+        requires sound { IsSound (length self.old.siblings.items) self.old }
+        requires stamp { self.old.next_stamp + 1 < 2 ^ 64 }
+        requires touches { self.old.task_number + 2 < 2 ^ 64 }
+        ensures room { Becomes self.old self.new (λ room. flagged (queued_at_home (dequeued room task) task)
+            task.home (is_run (sibling_of room task.home).run (Some task.spec.pid))) }
+        ensures sound { StaysSound self.old self.new }
+        ensures numbers { numbers_of self.new ≡ touched 2 (numbers_of self.old) }
+        ensures ended { self.new.ended ≡ self.old.ended }
+    {
+        let runs = self.siblings[task.home as usize].runs(task.spec.pid);
+        self.dequeue(task);
+        self.queue_at_home(task);
+        self.flag(task.home, runs);
+    }
+
+    /// A task gets another policy, and has used nothing of its slice.
+    fn set_policy(&mut self, pid: Pid, policy: Policy) -> Reply
+        requires policy { IsPolicy policy }
+        requires sound { IsSound (length self.old.siblings.items) self.old }
+        requires clock { self.old.clock + 1000000000 < 2 ^ 56 }
+        requires stamp { self.old.next_stamp + 1 < 2 ^ 64 }
+        requires touches { self.old.task_number + 2 < 2 ^ 64 }
+        ensures makes { (scenario : Scenario) → Makes scenario self.old self.new (Event.SetSched pid policy) result }
+        ensures sound { StaysSound self.old self.new }
+        ensures ended { self.new.ended ≡ self.old.ended }
+    {
+        let Some(task) = self.task_of(pid) else {
+            return Reply::NoTask;
+        };
+        let changed = with_policy(policy, task);
+        if task.queued {
+            self.requeue(changed);
+        } else {
+            self.change(changed);
+        }
+        Reply::Set
+    }
+
     /// Makes the step of an event, and answers what the rules answer.
     pub fn apply(&mut self, scenario: &Scenario, event: Event) -> Reply
         requires event { IsEvent (length self.old.siblings.items) event }
@@ -145,7 +232,9 @@ impl State {
         requires paid { IsPaid self.old }
         requires places { 0 < self.old.totals.spare }
         requires few { length self.old.siblings.items ≤ 16 }
-        requires stamp { self.old.next_stamp + 1 < 2 ^ 64 }
+        requires places_to_steal { All (λ sibling. sibling.place + 1 < 2 ^ 32) self.old.siblings.items }
+        requires tasks { length self.old.tasks.tasks ≤ 256 }
+        requires stamp { self.old.next_stamp + length self.old.tasks.tasks + 1 < 2 ^ 64 }
         requires serial { self.old.refs.next < 2 ^ 63 }
         requires limit { self.old.tasks.limit ≡ scenario.now.task_limit }
         requires pid { self.old.next_pid + 1 < 2 ^ 32 }
@@ -158,7 +247,7 @@ impl State {
     {
         match event {
             Event::Turn(cpu) => self.turn(cpu),
-            Event::Resched(cpu) => Reply::Picked(self.schedule(cpu)),
+            Event::Resched(cpu) => self.resched(cpu),
             Event::Block(cpu) => self.block(cpu),
             Event::Exit(cpu) => self.exit(cpu),
             Event::Tick(cpu) => self.tick(cpu),
@@ -166,6 +255,9 @@ impl State {
             Event::Advance(delta) => self.advance(delta),
             Event::Fork { caller, thread } => self.fork(scenario.task_limit, caller, thread),
             Event::Prctl { caller, ask } => self.prctl(scenario.user_top, caller, ask),
+            Event::SetSched { pid, policy } => self.set_policy(pid, policy),
+            Event::Offline(cpu) => self.offline(cpu),
+            Event::Online(cpu) => self.online(cpu),
         }
     }
 }

@@ -5,13 +5,16 @@ mod account;
 mod choice;
 mod cookies;
 mod events;
+mod hotplug;
 mod lead;
 mod life;
+mod queueing;
 mod room;
 mod schedule;
 mod selection;
 mod sibling;
 mod state;
+mod steal;
 mod task;
 mod time;
 

@@ -1,6 +1,6 @@
 //! The machine over plain lists. It keeps its scenario, the state of the core and every entry.
 
-ghost use Rattle.std.specs.Prelude.{◌≡◌, [], length, IfOk};
+ghost use Rattle.std.specs.Prelude.{◌≡◌, ◌+◌, ◌*◌, [], length, IfOk};
 ghost use Rattle.cs_types.specs.Scenario.{IsPlayable};
 
 use crate::state::State;
@@ -34,9 +34,19 @@ impl Model for PlainRoom {
     ghost invariant = { IsFold };
 }
 
+/// How many entries a machine may make: the steps of the scenario, and the entries of the end.
+fn most_entries(scenario: &Scenario) -> usize
+    requires { IsPlayable scenario.now }
+    ensures { result ≡ length scenario.now.steps + scenario.now.siblings * scenario.now.siblings }
+{
+    let siblings = scenario.siblings as usize;
+    scenario.steps.items().len() + siblings * siblings
+}
+
 impl PlainRoom {
     /// The room of a scenario before its first step. It takes memory for as many entries as the
-    /// scenario has steps, and no later call takes any. The core has 1 to 16 siblings.
+    /// scenario has steps, and for those of the end, and no later call takes any. The core has 1 to 16
+    /// siblings.
     pub fn start(
         alloc: Global,
         scenario: &Scenario,
@@ -45,10 +55,12 @@ impl PlainRoom {
         requires { IsPlayable scenario.now }
         ensures scenario { IfOk result (λ room. room.scenario ≡ scenario.now) }
         ensures empty { IfOk result (λ room. room.steps ≡ []) }
-        ensures free { IfOk result (λ room. room.free ≡ length scenario.now.steps) }
+        ensures free { IfOk result (λ room. room.free ≡
+            length scenario.now.steps + scenario.now.siblings * scenario.now.siblings) }
     {
-        let state = State::start(alloc, scenario, guards)?;
-        let entries = Vec::with_capacity(alloc, scenario.steps.items().len())?;
+        let most = most_entries(scenario);
+        let state = State::start(alloc, scenario, most, guards)?;
+        let entries = Vec::with_capacity(alloc, most)?;
         let tasks = List::of(Vec::from_slice(alloc, scenario.tasks.items())?);
         let steps = List::of(Vec::from_slice(alloc, scenario.steps.items())?);
         let scenario = Scenario {
@@ -85,6 +97,18 @@ impl Room for PlainRoom {
             reply,
         });
         reply
+    }
+
+    fn drain(&mut self) -> u64 {
+        let siblings = u64::from(self.scenario.siblings);
+        let most = siblings * siblings;
+        for entries in 0..most {
+            let Some(cpu) = self.state.next_to_schedule() else {
+                return entries;
+            };
+            self.apply(Actor::End, Event::Resched(cpu));
+        }
+        most
     }
 
     fn spare(&self) -> u64 {

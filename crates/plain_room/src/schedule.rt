@@ -1,10 +1,12 @@
 //! A schedule, in its three cases.
 
-ghost use Rattle.std.specs.Prelude.{◌≡◌, ◌+◌, ◌^◌, ◌<◌, ◌≤◌, length, ◌==◌, ◌&&◌, ◌||◌, None, if◌then◌else◌};
+ghost use Rattle.std.specs.Prelude.{◌≡◌, ◌+◌, ◌^◌, ◌<◌, ◌≤◌, length, filter, ◌==◌, ◌&&◌, ◌||◌, not, is_some, None, if◌then◌else◌};
 ghost use Rattle.cs_types.specs.declared.scenario.Scenario.{Scenario};
 ghost use Rattle.cs_types.specs.Room.{sibling_of};
-ghost use Rattle.cs_types.specs.Selection.{cookie_of, lead_from, pid_of, choice, forced_count, is_plain, adopted, plain, selected_room, selected, rescheduled, schedule};
+ghost use Rattle.cs_types.specs.Selection.{cookie_of, lead_from, pid_of, choice, forced_count, is_plain, adopted, plain, selected_room, selected, rescheduled, balanced, schedule};
+ghost use Rattle.cs_types.specs.Drain.{lowest, pending};
 ghost use Rattle.task_table.specs.Table.{IsSound as IsTable};
+ghost use Rattle.plain_room.specs.Drain.{next_by};
 ghost use Rattle.plain_room.specs.State.{Schedules, ChargesAndSchedules, IsSound, IsOnTime, IsPaid, StaysSound, Becomes, room_of, numbers_of, is_fresh_by};
 
 use crate::choice::{forced_count, hand, occupation, remember};
@@ -15,11 +17,12 @@ use cs_types::{Cookie, Cpu, Kind, Pick, Pid};
 
 impl State {
     /// The sibling runs what waits for it.
-    fn adopt(&mut self, cpu: Cpu, run: Option<Pid>) -> Pick
+    fn run_waiting(&mut self, cpu: Cpu, run: Option<Pid>) -> Pick
         requires { cpu < length self.old.siblings.items }
         ensures schedules { Schedules self.old self.new cpu result (λ room. adopted room cpu run) }
         ensures sound { StaysSound self.old self.new }
         ensures ended { self.new.ended ≡ self.old.ended }
+        ensures length { length self.new.siblings.items ≡ length self.old.siblings.items }
     {
         self.siblings[cpu as usize] = Sibling {
             number: self.pick_number,
@@ -31,6 +34,18 @@ impl State {
             core: self.core_cookie,
             forced: self.account.count(),
         }
+    }
+
+    /// The sibling adopts what waits for it.
+    fn adopt(&mut self, cpu: Cpu, run: Option<Pid>) -> Pick
+        requires { cpu < length self.old.siblings.items }
+        ensures schedules { Schedules self.old self.new cpu result (λ room. balanced cpu (adopted room cpu run)) }
+        ensures sound { StaysSound self.old self.new }
+        ensures ended { self.new.ended ≡ self.old.ended }
+    {
+        let pick = self.run_waiting(cpu, run);
+        self.balance(cpu);
+        pick
     }
 
     /// The sibling runs the first of its own queue.
@@ -114,8 +129,8 @@ impl State {
         is_cookieless(self.core_cookie, self.account.count(), cookie)
     }
 
-    /// The sibling picks anew, once the open interval is charged.
-    pub fn pick_anew(&mut self, cpu: Cpu) -> Pick
+    /// The sibling runs its first, or selects for the core.
+    fn run_or_select(&mut self, cpu: Cpu) -> Pick
         requires cpu { cpu < length self.old.siblings.items }
         requires few { length self.old.siblings.items ≤ 16 }
         requires sound { IsSound (length self.old.siblings.items) self.old }
@@ -132,6 +147,22 @@ impl State {
         }
     }
 
+    /// The sibling picks anew, once the open interval is charged.
+    pub fn pick_anew(&mut self, cpu: Cpu) -> Pick
+        requires cpu { cpu < length self.old.siblings.items }
+        requires few { length self.old.siblings.items ≤ 16 }
+        requires sound { IsSound (length self.old.siblings.items) self.old }
+        requires time { IsOnTime self.old }
+        requires touches { self.old.task_number + 1 < 2 ^ 64 }
+        ensures schedules { Schedules self.old self.new cpu result (λ room. balanced cpu (rescheduled room cpu)) }
+        ensures sound { StaysSound self.old self.new }
+        ensures ended { self.new.ended ≡ self.old.ended }
+    {
+        let pick = self.run_or_select(cpu);
+        self.balance(cpu);
+        pick
+    }
+
     /// The sibling schedules, and adopts nothing: the open interval is charged, and it picks anew.
     fn reschedule(&mut self, cpu: Cpu) -> Pick
         requires cpu { cpu < length self.old.siblings.items }
@@ -140,7 +171,7 @@ impl State {
         requires time { IsOnTime self.old }
         requires paid { IsPaid self.old }
         requires touches { self.old.task_number + 1 < 2 ^ 64 }
-        ensures schedules { ChargesAndSchedules self.old self.new cpu result (λ room. rescheduled room cpu) }
+        ensures schedules { ChargesAndSchedules self.old self.new cpu result (λ room. balanced cpu (rescheduled room cpu)) }
         ensures sound { StaysSound self.old self.new }
         ensures ended { self.new.ended ≡ self.old.ended }
     {
@@ -177,6 +208,35 @@ impl State {
         match self.adoptable(cpu) {
             Some(run) => self.adopt(cpu, run),
             None => self.reschedule(cpu),
+        }
+    }
+}
+
+impl State {
+    /// The lowest pending sibling that passes: where the test says so, only one for which something waits.
+    fn lowest_pending(&self, has_waiting: bool) -> Option<Cpu>
+        requires { length self.now.siblings.items ≤ 16 }
+        ensures { (scenario : Scenario) → result ≡ lowest (filter
+            (λ cpu. not has_waiting || is_some (sibling_of (room_of scenario self.now) cpu).waiting) (pending (room_of scenario self.now))) }
+    {
+        for cpu in 0..self.siblings.len() {
+            if self.siblings[cpu].is_due(has_waiting) {
+                return Some(cpu as u8);
+            }
+        }
+        None
+    }
+
+    /// Who schedules next at the end of a run: the lowest pending sibling whose schedule would be an
+    /// adoption, and where there is none, the lowest pending one.
+    pub fn next_to_schedule(&self) -> Option<Cpu>
+        requires { length self.now.siblings.items ≤ 16 }
+        ensures { (scenario : Scenario) → result ≡ next_by (room_of scenario self.now) (is_fresh_by (numbers_of self.now)) }
+    {
+        if self.is_fresh() {
+            self.lowest_pending(true).or(self.lowest_pending(false))
+        } else {
+            self.lowest_pending(false)
         }
     }
 }

@@ -1,11 +1,14 @@
 //! A sibling as the machine keeps it, and what a schedule makes of it.
 
-ghost use Rattle.std.specs.Prelude.{◌≡◌, ◌+◌, ◌^◌, ◌<◌, ◌&&◌, Some};
+ghost use Rattle.std.specs.Prelude.{◌≡◌, ◌+◌, ◌^◌, ◌<◌, ◌&&◌, Some, None, unwrap_or};
 ghost use Rattle.cs_types.specs.Selection.{is_run, running, noted, told, handed};
 ghost use Rattle.plain_room.specs.State.{sibling_state, sibling_view};
 ghost use Rattle.plain_room.specs.Cookies.{flagged_for};
 ghost use Rattle.plain_room.specs.Time.{aged};
 ghost use Rattle.plain_room.specs.Account.{is_to_run};
+ghost use Rattle.plain_room.specs.Drain.{is_due};
+ghost use Rattle.plain_room.specs.Hotplug.{beside_one_that_leaves};
+ghost use Rattle.cs_types.specs.Hotplug.{away, back};
 
 use crate::choice::Choice;
 use cs_types::{Cpu, CpuView, Pid};
@@ -30,6 +33,9 @@ pub struct Sibling {
     pub snapshot: u128,
     /// The time since its last schedule, in ns.
     pub ran: u64,
+    /// How many siblings on from it the next one is from which it tries to steal, a count. 0 where it tries
+    /// none.
+    pub place: u32,
 }
 
 impl Sibling {
@@ -44,6 +50,7 @@ impl Sibling {
         least: 0,
         snapshot: 0,
         ran: 0,
+        place: 0,
     };
 
     /// It runs this from now on, nothing waits for it, and its reschedule is no longer pending.
@@ -140,6 +147,47 @@ impl Sibling {
         }
     }
 
+    /// It is offline, and runs idle while it is.
+    pub fn away(self) -> Sibling
+        ensures state { sibling_state result ≡ away (sibling_state self) }
+        ensures number { result.number ≡ self.number }
+    {
+        Sibling {
+            online: false,
+            run: None,
+            pending: false,
+            waiting: None,
+            place: 0,
+            ..self
+        }
+    }
+
+    /// It becomes pending where it is online, since another sibling leaves.
+    pub fn beside_one_that_leaves(self) -> Sibling
+        ensures state { sibling_state result ≡ beside_one_that_leaves (sibling_state self) }
+        ensures number { result.number ≡ self.number }
+    {
+        Sibling {
+            pending: self.pending || self.online,
+            ..self
+        }
+    }
+
+    /// It is online again, runs idle and is pending.
+    pub fn back(self) -> Sibling
+        ensures state { sibling_state result ≡ back (sibling_state self) }
+        ensures number { result.number ≡ self.number }
+    {
+        Sibling {
+            online: true,
+            run: None,
+            pending: true,
+            waiting: None,
+            place: 0,
+            ..self
+        }
+    }
+
     /// It becomes pending where it runs the task with the pid.
     pub fn flagged_for(self, pid: Pid) -> Sibling
         ensures state { sibling_state result ≡ flagged_for pid (sibling_state self) }
@@ -157,6 +205,20 @@ impl Sibling {
         ensures { result ≡ is_to_run pid (sibling_state self.now) }
     {
         self.online && self.waiting.unwrap_or(self.run) == Some(pid)
+    }
+
+    /// Whether it is online and pending, and where the test asks for it, something waits for it.
+    pub fn is_due(&self, has_waiting: bool) -> bool
+        ensures { result ≡ is_due has_waiting (sibling_state self.now) }
+    {
+        self.online && self.pending && (!has_waiting || self.waiting.is_some())
+    }
+
+    /// Whether the task with the pid waits for it.
+    pub fn awaits(&self, pid: Pid) -> bool
+        ensures { result ≡ is_run (unwrap_or self.now.waiting None) (Some pid) }
+    {
+        self.waiting == Some(Some(pid))
     }
 
     /// Whether it runs the task with the pid.

@@ -6,15 +6,14 @@ ghost use Rattle.std.specs.Prelude.{◌≡◌, ◌+◌, ◌^◌, ◌<◌, ◌≤
 ghost use Rattle.cs_types.specs.declared.scenario.Scenario.{Scenario};
 ghost use Rattle.cs_types.specs.Scenario.{IsPlayable, IsPolicy, AreDistinct};
 ghost use Rattle.cs_types.specs.Room.{start, first_pid, asleep_tasks, has_pid, running_on, with_task, flagged};
-ghost use Rattle.cs_types.specs.Step.{dequeued, idled, enqueued, preempts, refreshed, queued_at_home};
+ghost use Rattle.cs_types.specs.Step.{idled};
 ghost use Rattle.cs_types.specs.View.{task_after};
 ghost use Rattle.task_table.specs.Table.{IsSound as IsTable};
 
 use crate::account::totals_of;
 use crate::sibling::Sibling;
-use crate::task::is_higher;
 use cookie_refs::CookieRefs;
-use cs_types::{Cookie, Cpu, OutOfMemory, Pid, Policy, Scenario, Task, TaskSpec};
+use cs_types::{Cookie, Cpu, OutOfMemory, Pid, Scenario, Task, TaskSpec};
 use forceidle_account::{ForceIdle, Totals};
 use ptrace_check::Guards;
 use std::alloc::Global;
@@ -49,18 +48,25 @@ pub struct State {
 impl State {
     ghost use Rattle.plain_room.specs.State.{room_of, IsFit, Has, Knows, IsSound, StaysSound, Becomes, numbers_of, numbers_at, touched, is_fresh_by};
 
-    /// The start of a scenario: all tasks asleep at home, all siblings idle.
-    pub fn start(alloc: Global, scenario: &Scenario, guards: Guards) -> Result<State, OutOfMemory>
-        requires { IsPlayable scenario.now }
+    /// The start of a scenario: all tasks asleep at home, all siblings idle. There is room for so many
+    /// entries.
+    pub fn start(
+        alloc: Global,
+        scenario: &Scenario,
+        most: usize,
+        guards: Guards,
+    ) -> Result<State, OutOfMemory>
+        requires playable { IsPlayable scenario.now }
+        requires most { most < 2 ^ 32 }
         ensures room { IfOk result (λ state. room_of scenario.now state ≡ start scenario.now) }
         ensures sound { IfOk result (IsSound scenario.now.siblings) }
-        ensures room_for_ended { IfOk result (λ state. length scenario.now.steps ≤ vec_capacity state.ended) }
-        ensures numbers { IfOk result (λ state. numbers_of state ≡ numbers_at scenario.now []) }
+        ensures room_for_ended { IfOk result (λ state. most ≤ vec_capacity state.ended) }
+        ensures numbers { IfOk result (λ state. numbers_of state ≡ numbers_at scenario.now most []) }
     {
         let tasks = asleep_tasks(alloc, scenario.task_limit, scenario.tasks.items())?;
         let refs = CookieRefs::with_limit(alloc, scenario.cookie_limit)?;
-        let totals = totals_of(alloc, &tasks, scenario.steps.items().len())?;
-        let ended = Vec::with_capacity(alloc, scenario.steps.items().len())?;
+        let totals = totals_of(alloc, &tasks, most)?;
+        let ended = Vec::with_capacity(alloc, most)?;
         let siblings = vec![in alloc; Sibling::IDLE; scenario.siblings as usize]?;
         Ok(State {
             tasks,
@@ -134,23 +140,6 @@ impl State {
         self.tasks.change(task);
     }
 
-    /// The task is asleep.
-    pub fn dequeue(&mut self, task: Task)
-        requires there { Has self.old task }
-        requires touches { self.old.task_number + 1 < 2 ^ 64 }
-        ensures room { Becomes self.old self.new (λ room. dequeued room task) }
-        ensures sound { StaysSound self.old self.new }
-        ensures siblings { self.new.siblings ≡ self.old.siblings }
-        ensures numbers { numbers_of self.new ≡ touched 1 (numbers_of self.old) }
-        ensures ended { self.new.ended ≡ self.old.ended }
-    {
-        self.change(Task {
-            queued: false,
-            ..task
-        });
-        self.touch();
-    }
-
     /// The sibling runs idle.
     pub fn idle(&mut self, cpu: Cpu)
         requires { cpu < length self.old.siblings.items }
@@ -161,80 +150,6 @@ impl State {
         ensures ended { self.new.ended ≡ self.old.ended }
     {
         self.siblings[cpu as usize].run = None;
-    }
-
-    /// The task is queued, with the next stamp.
-    pub fn enqueue(&mut self, task: Task)
-        requires known { Knows self.old task }
-        requires stamp { self.old.next_stamp + 1 < 2 ^ 64 }
-        requires touches { self.old.task_number + 1 < 2 ^ 64 }
-        ensures room { Becomes self.old self.new (λ room. enqueued room task) }
-        ensures sound { StaysSound self.old self.new }
-        ensures siblings { self.new.siblings ≡ self.old.siblings }
-        ensures numbers { numbers_of self.new ≡ touched 1 (numbers_of self.old) }
-        ensures ended { self.new.ended ≡ self.old.ended }
-    {
-        self.change(Task {
-            queued: true,
-            stamp: self.next_stamp,
-            ..task
-        });
-        self.next_stamp += 1;
-        self.touch();
-    }
-
-    /// Whether the task, once it is queued, asks its sibling to reschedule: that runs idle or a lower one.
-    fn preempts(&self, task: &Task) -> bool
-        requires { task.now.home < length self.now.siblings.items }
-        ensures { (scenario : Scenario) → result ≡ preempts (room_of scenario self.now) task.now }
-    {
-        match self.running_on(task.home) {
-            None => true,
-            Some(running) => is_higher(task, &running),
-        }
-    }
-
-    /// The task as it is queued anew: a deadline task has its next deadline, and a fair one is pulled up
-    /// to the least virtual time of its queue.
-    fn refreshed(&self, task: Task) -> Task
-        requires home { task.home < length self.now.siblings.items }
-        requires policy { IsPolicy task.spec.policy }
-        requires clock { self.now.clock + 1000000000 < 2 ^ 56 }
-        ensures refreshed { (scenario : Scenario) → result ≡ refreshed (room_of scenario self.now) task }
-        ensures spec { result.spec ≡ task.spec }
-        ensures cookie { result.cookie ≡ task.cookie }
-        ensures home { result.home ≡ task.home }
-    {
-        match task.spec.policy {
-            Policy::Deadline(relative) => Task {
-                deadline: self.clock + relative,
-                ..task
-            },
-            Policy::Fair(_) => Task {
-                vtime: task.vtime.max(self.siblings[task.home as usize].least),
-                ..task
-            },
-            _ => task,
-        }
-    }
-
-    /// The task is queued at its home, which may become pending.
-    pub fn queue_at_home(&mut self, task: Task)
-        requires known { Knows self.old task }
-        requires home { task.home < length self.old.siblings.items }
-        requires policy { IsPolicy task.spec.policy }
-        requires clock { self.old.clock + 1000000000 < 2 ^ 56 }
-        requires stamp { self.old.next_stamp + 1 < 2 ^ 64 }
-        requires touches { self.old.task_number + 1 < 2 ^ 64 }
-        ensures room { Becomes self.old self.new (λ room. queued_at_home room task) }
-        ensures sound { StaysSound self.old self.new }
-        ensures numbers { numbers_of self.new ≡ touched 1 (numbers_of self.old) }
-        ensures ended { self.new.ended ≡ self.old.ended }
-    {
-        let fresh = self.refreshed(task);
-        let preempts = self.preempts(&fresh);
-        self.enqueue(fresh);
-        self.flag(task.home, preempts);
     }
 
     /// The sibling is pending where it was, and where the test says so.

@@ -2,10 +2,11 @@
 
 ghost use Rattle.std.specs.Prelude.{◌≡◌};
 ghost use Rattle.cs_types.specs.Order.{class_of, priority_of, is_fair, goes_before, is_higher_here};
+ghost use Rattle.cs_types.specs.Step.{with_policy};
 ghost use Rattle.cs_types.specs.View.{task_view, forced_of};
 ghost use Rattle.cs_types.specs.Touches.{Ledger};
 
-use cs_types::{Policy, Task, TaskView};
+use cs_types::{Policy, Task, TaskSpec, TaskView};
 use sibling_priority::{DEADLINE, FAIR, REAL_TIME, STOP};
 
 /// The class of a policy, 0 to 3, the smaller the higher.
@@ -36,6 +37,20 @@ pub fn is_fair(task: &Task) -> bool
     ensures { result ≡ is_fair task.now }
 {
     class_of(task.spec.policy) == FAIR
+}
+
+/// The task with this policy. It has used nothing of its slice.
+pub fn with_policy(policy: Policy, task: Task) -> Task
+    ensures { result ≡ with_policy policy task }
+{
+    Task {
+        spec: TaskSpec {
+            policy,
+            ..task.spec
+        },
+        used: 0,
+        ..task
+    }
 }
 
 /// Whether the task is higher than the other, where both queue on one sibling.

@@ -270,6 +270,9 @@ impl State {
         ensures sound { StaysSound self.old self.new }
         ensures ended { self.new.ended ≡ self.old.ended }
     {
+        if !self.is_online(cpu) {
+            return Reply::Offline;
+        }
         self.charge();
         let Some(task) = self.running_on(cpu) else {
             return Reply::Ticked(false);

@@ -1,11 +1,10 @@
-use Rattle.std.proofs.Common.{◌≡◌, ℕ, ◌+◌, ◌<◌, ◌∙◌, ap, sym, subst, length, get_or, take, Bool, true, false, refl, arith}
+use Rattle.std.proofs.Common.{◌≡◌, ◌<◌, ◌∙◌, ap, sym, subst, length, get_or, take, Bool, true, false, refl, arith}
 use Rattle.std.specs.Prelude.{option_copied, unwrap_or, ◌||◌, ◌==◌}
 use Rattle.std.specs.List.{list_any}
 use Rattle.std.proofs.lemmas.List.{take_more}
 use Rattle.std.proofs.lemmas.Option.{slice_get-get_or}
 use Rattle.cs_types.specs.declared.task.Task.{Task}
 use Rattle.cs_types.specs.Room.{has_pid}
-use Rattle.forceidle_account.specs.Charges.{has_total}
 use Rattle.plain_room.proofs.Settings.{any-push, run_test}
 use Rattle.plain_room.proofs.Accounts.{earlier_is_below}
 use Rattle.plain_room.proofs.account.totals_of.Goals as goal

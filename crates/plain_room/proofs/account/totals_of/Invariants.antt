@@ -1,5 +1,4 @@
-use Rattle.std.proofs.Common.{◌≡◌, ℕ, ◌+◌, take, length, true}
-use Rattle.std.specs.Prelude.{All, IsTrue}
+use Rattle.std.proofs.Common.{◌≡◌, ℕ, ◌+◌, take, length}
 use Rattle.std.specs.List.{list_any}
 use Rattle.cs_types.specs.Room.{has_pid}
 use Rattle.forceidle_account.specs.Charges.{has_total, total_at}

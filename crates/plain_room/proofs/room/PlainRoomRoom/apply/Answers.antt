@@ -1,35 +1,60 @@
 use Rattle.std.proofs.Common.{◌≡◌, ◌≤◌, ◌*◌, ◌++◌, ◌∷◌, [], length, ap, sym, subst, ◌∙◌, arith}
-use Rattle.std.specs.Prelude.{IfSome}
+use Rattle.std.specs.Prelude.{IfSome, All, ◌+◌, ◌<◌, ◌^◌}
+use Rattle.std.proofs.lemmas.List.Elements.{All-push, All-weaker}
 use Rattle.cs_types.specs.declared.reply.Entry.{Entry}
 use Rattle.cs_types.specs.Scenario.{IsEvent}
-use Rattle.cs_types.specs.Room.{RoomState}
+use Rattle.cs_types.specs.Room.{RoomState, SiblingState}
 use Rattle.cs_types.specs.Touches.{selection_of}
 use Rattle.cs_types.specs.History.{fold_of, reply_to, history_of, moment_of}
 use Rattle.cs_types.specs.Laws.{SelectsForTheCore, scheduling_room, cpu_of}
 use Rattle.cs_types.proofs.Numbers.{task_number-ledger_of, next_stamp-fold_of, next_cookie-fold_of, next_pid-fold_of, ended-fold_of}
 use Rattle.cs_types.proofs.Tasks.{few-fold_of, task_limit-fold_of}
 use Rattle.cs_types.proofs.Selections.{selects}
+use Rattle.cs_types.proofs.BalancePlaces.{places-fold_of}
 use Rattle.cs_types.proofs.Times.{timely-fold_of, clock-step}
 use Rattle.cs_types.proofs.Accounts.{IsAccounted, charged_up_to, accounted-history_of, intervals-ledger_of}
 use Rattle.forceidle_account.specs.Charges.{total_at}
 use Rattle.plain_room.proofs.Views.{total_kept}
 use Rattle.cs_types.specs.Time.{IsTimely}
 use Rattle.plain_room.proofs.Clocks.{timely_under}
+use Rattle.plain_room.proofs.Ranges.{of_states}
+use Rattle.plain_room.specs.declared.sibling.Sibling.{Sibling}
 use Rattle.plain_room.specs.State.{Numbers, room_of, numbers_of, is_fresh_by}
 use Rattle.plain_room.specs.Machine.{Machine}
-use Rattle.plain_room.specs.Inside.{steps_of}
+use Rattle.plain_room.specs.Inside.{steps_of, most_entries}
+use Rattle.plain_room.proofs.Playable.{most_entries-le, first_pid-low}
 use Rattle.plain_room.proofs.Machines.{Folds, history_more, reply_more, folds_more}
 use Rattle.plain_room.proofs.room.PlainRoomRoom.apply.Goals as goal
 
 pub apply-reply-requires-clause-stamp : goal.apply-reply-requires-clause-stamp
 apply-reply-requires-clause-stamp c =
     let a = c.self.inside in
-    omega (arith, next_stamp-fold_of a.scenario a.entries.items, ap (λ (room : RoomState). room.next_stamp) c.self.invariant.fold, a.entries.ok.0)
+    omega (
+      arith,
+      next_stamp-fold_of a.scenario a.entries.items c.self.invariant.playable.few_tasks c.self.invariant.playable.task_limit.1,
+      ap (λ (room : RoomState). room.next_stamp) c.self.invariant.fold,
+      a.entries.ok.0,
+      c.self.invariant.few_entries,
+      most_entries-le a.scenario c.self.invariant.playable,
+      ap (λ (room : RoomState). length room.tasks) c.self.invariant.fold,
+      few-fold_of a.scenario a.entries.items c.self.invariant.playable.few_tasks,
+      c.self.invariant.playable.task_limit.1,
+    )
+
+pub apply-reply-requires-clause-tasks : goal.apply-reply-requires-clause-tasks
+apply-reply-requires-clause-tasks c =
+    let a = c.self.inside in
+    omega (
+      arith,
+      ap (λ (room : RoomState). length room.tasks) c.self.invariant.fold,
+      few-fold_of a.scenario a.entries.items c.self.invariant.playable.few_tasks,
+      c.self.invariant.playable.task_limit.1,
+    )
 
 pub apply-reply-requires-clause-serial : goal.apply-reply-requires-clause-serial
 apply-reply-requires-clause-serial c =
     let a = c.self.inside in
-    omega (arith, next_cookie-fold_of a.scenario a.entries.items, ap (λ (room : RoomState). room.next_cookie) c.self.invariant.fold, a.entries.ok.0)
+    omega (arith, next_cookie-fold_of a.scenario a.entries.items c.self.invariant.playable.few_tasks c.self.invariant.playable.task_limit.1, ap (λ (room : RoomState). room.next_cookie) c.self.invariant.fold, a.entries.ok.0)
 
 pub apply-reply-requires-clause-limit : goal.apply-reply-requires-clause-limit
 apply-reply-requires-clause-limit c =
@@ -39,14 +64,14 @@ apply-reply-requires-clause-limit c =
 pub apply-reply-requires-clause-pid : goal.apply-reply-requires-clause-pid
 apply-reply-requires-clause-pid c =
     let a = c.self.inside in
-    omega (arith, next_pid-fold_of a.scenario a.entries.items, ap (λ (room : RoomState). room.next_pid) c.self.invariant.fold, a.entries.ok.0, c.self.invariant.low_pids, c.self.invariant.few_entries)
+    omega (arith, next_pid-fold_of a.scenario a.entries.items c.self.invariant.playable.few_tasks c.self.invariant.playable.task_limit.1, ap (λ (room : RoomState). room.next_pid) c.self.invariant.fold, a.entries.ok.0, first_pid-low a.scenario c.self.invariant.playable, c.self.invariant.few_entries, most_entries-le a.scenario c.self.invariant.playable)
 
 pub apply-reply-requires-clause-room : goal.apply-reply-requires-clause-room
 apply-reply-requires-clause-room c =
     let a = c.self.inside in
     omega (
       arith,
-      ended-fold_of a.scenario a.entries.items,
+      ended-fold_of a.scenario a.entries.items c.self.invariant.playable.few_tasks c.self.invariant.playable.task_limit.1,
       ap (λ (room : RoomState). length room.ended) c.self.invariant.fold,
       a.entries.ok.0,
       c.requires.room,
@@ -58,10 +83,21 @@ pub apply-reply-requires-clause-time : goal.apply-reply-requires-clause-time
 apply-reply-requires-clause-time c =
     let a = c.self.inside in
     record {
-      timely = λ scenario. subst (λ (room : RoomState). IsTimely room)
-          (sym (ap (λ (room : RoomState). let other : RoomState = record room { user_top = scenario.user_top } in other) c.self.invariant.fold)) (timely_under scenario.user_top (fold_of a.scenario a.entries.items) (timely-fold_of a.scenario a.entries.items));
-      clock = omega (arith, c.self.invariant.slow, a.entries.ok.0, c.self.invariant.few_entries);
+      entries = length a.entries.items;
+      few = omega (arith, a.entries.ok.0, c.self.invariant.few_entries, most_entries-le a.scenario c.self.invariant.playable);
+      timely = λ scenario. subst (λ (room : RoomState). IsTimely (length a.entries.items) room)
+          (sym (ap (λ (room : RoomState). let other : RoomState = record room { user_top = scenario.user_top } in other) c.self.invariant.fold))
+          (timely_under scenario.user_top (length a.entries.items) (fold_of a.scenario a.entries.items) (timely-fold_of a.scenario a.entries.items));
+      clock = omega (arith, c.self.invariant.slow, a.entries.ok.0, c.self.invariant.few_entries, most_entries-le a.scenario c.self.invariant.playable);
     }
+
+pub apply-reply-requires-clause-places_to_steal : goal.apply-reply-requires-clause-places_to_steal
+apply-reply-requires-clause-places_to_steal c =
+    let a = c.self.inside in
+    All-weaker (λ (sibling : Sibling). sibling.place ≤ length a.entries.items) (λ (sibling : Sibling). sibling.place + 1 < 2 ^ 32)
+    (λ sibling few. omega (arith, few, a.entries.ok.0, c.self.invariant.few_entries, most_entries-le a.scenario c.self.invariant.playable)) a.state.siblings.items
+    (of_states (λ (sibling : SiblingState). sibling.place ≤ length a.entries.items) a.state.siblings.items
+    (subst (λ (room : RoomState). All (λ (sibling : SiblingState). sibling.place ≤ length a.entries.items) room.siblings) (sym c.self.invariant.fold) (places-fold_of a.scenario a.entries.items)))
 
 pub apply-reply-requires-clause-paid : goal.apply-reply-requires-clause-paid
 apply-reply-requires-clause-paid c =
@@ -69,11 +105,11 @@ apply-reply-requires-clause-paid c =
     let room = room_of a.scenario a.state in
     let accounted : IsAccounted 255 (moment_of a.scenario a.entries.items) =
     subst (λ h. IsAccounted 255 (moment_of a.scenario h)) (sym c.self.invariant.history)
-    (accounted-history_of 255 a.scenario (steps_of a.entries.items) (omega arith) (omega (arith, c.self.invariant.few_siblings))) in
+    (accounted-history_of 255 a.scenario (steps_of a.entries.items) (omega arith) (omega (arith, c.self.invariant.playable.siblings.1))) in
     let fold = c.self.invariant.fold in
-    let folds : Folds a.scenario a.state a.entries.items = record { fold = fold; numbers = c.self.invariant.numbers } in
+    let folds : Folds a.scenario (most_entries a.scenario) a.state a.entries.items = record { fold = fold; numbers = c.self.invariant.numbers } in
     record {
-      clock = omega (arith, c.self.invariant.slow, a.entries.ok.0, c.self.invariant.few_entries);
+      clock = omega (arith, c.self.invariant.slow, a.entries.ok.0, c.self.invariant.few_entries, most_entries-le a.scenario c.self.invariant.playable);
       started = subst (λ (r : RoomState). charged_up_to r ≤ r.clock) (sym fold) accounted.opened.started;
       few = subst (λ (r : RoomState). r.forced ≤ 255) (sym fold) accounted.opened.few;
       intervals = omega (
@@ -82,6 +118,7 @@ apply-reply-requires-clause-paid c =
         ap (λ (numbers : Numbers). numbers.books.intervals) c.self.invariant.numbers,
         a.entries.ok.0,
         c.self.invariant.few_entries,
+        most_entries-le a.scenario c.self.invariant.playable,
       );
       totals = λ pid. subst (λ (r : RoomState). total_at a.state.totals pid ≤ 255 * charged_up_to r) (sym fold)
           (subst (λ n. n ≤ 255 * charged_up_to (fold_of a.scenario a.entries.items)) (sym (total_kept a.scenario a.state a.entries.items pid folds)) (accounted.totals pid));
@@ -93,12 +130,12 @@ apply-reply-requires-clause-places c =
     omega (
       arith,
       ap (λ (numbers : Numbers). numbers.books.places) c.self.invariant.numbers,
-      next_pid-fold_of a.scenario a.entries.items,
+      next_pid-fold_of a.scenario a.entries.items c.self.invariant.playable.few_tasks c.self.invariant.playable.task_limit.1,
       ap (λ (room : RoomState). room.next_pid) c.self.invariant.fold,
       a.entries.ok.0,
       c.requires.room,
       ap (λ (m : Machine). m.free) c.self.view_is,
-      c.self.invariant.few_steps,
+      c.self.invariant.few_entries,
     )
 
 pub apply-reply-requires-clause-touches : goal.apply-reply-requires-clause-touches
@@ -106,33 +143,32 @@ apply-reply-requires-clause-touches c =
     let a = c.self.inside in
     omega (
       arith,
-      task_number-ledger_of a.scenario a.entries.items c.self.invariant.few_tasks c.self.invariant.low_limit,
+      task_number-ledger_of a.scenario a.entries.items c.self.invariant.playable.few_tasks c.self.invariant.playable.task_limit.1,
       ap (λ (numbers : Numbers). numbers.task) c.self.invariant.numbers,
       a.entries.ok.0,
+      c.self.invariant.few_entries,
+      most_entries-le a.scenario c.self.invariant.playable,
       ap (λ (room : RoomState). length room.tasks) c.self.invariant.fold,
-      few-fold_of a.scenario a.entries.items c.self.invariant.few_tasks,
-      c.self.invariant.low_limit,
+      few-fold_of a.scenario a.entries.items c.self.invariant.playable.few_tasks,
+      c.self.invariant.playable.task_limit.1,
     )
 
 pub invariant_of-self : goal.invariant_of-self
 invariant_of-self c =
     let a = c.self.inside in
     let entry : Entry = record { actor = c.args.actor; event = c.args.event; reply = c.apply-reply.result } in
-    let so_far : Folds a.scenario a.state a.entries.items = record { fold = c.self.invariant.fold; numbers = c.self.invariant.numbers } in
+    let so_far : Folds a.scenario (most_entries a.scenario) a.state a.entries.items = record { fold = c.self.invariant.fold; numbers = c.self.invariant.numbers } in
     let limits = subst (λ (m : Machine). IsEvent m.scenario.siblings c.args.event) (sym c.self.view_is) c.requires.event in
     let reply = reply_more a.scenario a.state c.apply-reply.new.self a.entries.items c.args.event c.apply-reply.result so_far c.apply-reply.ensures.makes in
     let folds = folds_more a.scenario a.state c.apply-reply.new.self a.entries.items entry limits so_far c.apply-reply.ensures.makes in
     record {
+      playable = c.self.invariant.playable;
+      events = rw c.push_reserved.ensures.items (All-push (λ (e : Entry). IsEvent a.scenario.siblings e.event) a.entries.items entry c.self.invariant.events limits);
       history = rw c.push_reserved.ensures.items (history_more a.scenario a.entries.items entry c.self.invariant.history reply);
       fold = rw c.push_reserved.ensures.items folds.fold;
       numbers = rw c.push_reserved.ensures.items folds.numbers;
       sound = c.apply-reply.ensures.sound a.scenario.siblings c.self.invariant.sound;
-      few_siblings = c.self.invariant.few_siblings;
-      few_tasks = c.self.invariant.few_tasks;
-      low_limit = c.self.invariant.low_limit;
-      low_pids = c.self.invariant.low_pids;
       room_for_ended = omega (arith, c.push_reserved.ensures.capacity, c.apply-reply.ensures.ended, c.self.invariant.room_for_ended);
-      user_top = c.self.invariant.user_top;
       slow = omega (
         arith,
         c.push_reserved.ensures.len,
@@ -141,13 +177,12 @@ invariant_of-self c =
         clock-step (room_of a.scenario a.state) (is_fresh_by (numbers_of a.state)) c.args.event a.scenario.siblings limits,
       );
       few_entries = omega (arith, c.push_reserved.ensures.capacity, c.self.invariant.few_entries);
-      few_steps = omega (arith, c.push_reserved.ensures.capacity, c.self.invariant.few_steps);
     }
 
 pub returns-clause-reply : goal.returns-clause-reply
 returns-clause-reply c =
     let a = c.self.inside in
-    let so_far : Folds a.scenario a.state a.entries.items = record { fold = c.self.invariant.fold; numbers = c.self.invariant.numbers } in
+    let so_far : Folds a.scenario (most_entries a.scenario) a.state a.entries.items = record { fold = c.self.invariant.fold; numbers = c.self.invariant.numbers } in
     reply_more a.scenario a.state c.apply-reply.new.self a.entries.items c.args.event c.apply-reply.result so_far c.apply-reply.ensures.makes
     ∙ ap (λ h. reply_to a.scenario h c.args.event) c.self.invariant.history
     ∙ ap (λ (m : Machine). reply_to m.scenario (history_of m.scenario m.steps) c.args.event) c.self.view_is
@@ -156,7 +191,7 @@ pub returns-clause-entry : goal.returns-clause-entry
 returns-clause-entry c =
     let a = c.self.inside in
     let entry : Entry = record { actor = c.args.actor; event = c.args.event; reply = c.apply-reply.result } in
-    let so_far : Folds a.scenario a.state a.entries.items = record { fold = c.self.invariant.fold; numbers = c.self.invariant.numbers } in
+    let so_far : Folds a.scenario (most_entries a.scenario) a.state a.entries.items = record { fold = c.self.invariant.fold; numbers = c.self.invariant.numbers } in
     let reply = reply_more a.scenario a.state c.apply-reply.new.self a.entries.items c.args.event c.apply-reply.result so_far c.apply-reply.ensures.makes in
     rw c.push_reserved.ensures.items
     (sym (history_more a.scenario a.entries.items entry c.self.invariant.history reply)

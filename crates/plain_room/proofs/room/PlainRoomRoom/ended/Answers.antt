@@ -8,6 +8,7 @@ use Rattle.cs_types.specs.Room.{RoomState}
 use Rattle.cs_types.specs.View.{end_view}
 use Rattle.cs_types.specs.History.{fold_of, ledger_of, history_of}
 use Rattle.plain_room.specs.Machine.{Machine}
+use Rattle.plain_room.specs.Inside.{most_entries}
 use Rattle.plain_room.proofs.Machines.{Folds}
 use Rattle.plain_room.proofs.Views.{total_kept}
 use Rattle.plain_room.proofs.room.PlainRoomRoom.ended.Goals as goal
@@ -17,7 +18,7 @@ returns c =
     let a = c.self.inside in
     let place = c.args.place in
     let ledger = ledger_of a.scenario a.entries.items in
-    let folds : Folds a.scenario a.state a.entries.items = record { fold = c.self.invariant.fold; numbers = c.self.invariant.numbers } in
+    let folds : Folds a.scenario (most_entries a.scenario) a.state a.entries.items = record { fold = c.self.invariant.fold; numbers = c.self.invariant.numbers } in
     let found : c.get.result ≡ Some c.in_ok-pid.field-0 = search rules in
     let within : place < length a.state.ended.items =
     ltb-true place (length a.state.ended.items) (ap (λ (pids : List ℕ). ltb place (length pids)) (sym c.deref.ensures.value) ∙ sym c.get.ensures.lookup.0 ∙ ap is_some found) in

@@ -1,14 +1,14 @@
-use Rattle.std.proofs.Common.{refl, add-zero}
-use Rattle.std.proofs.lemmas.List.{map-set}
-use Rattle.plain_room.specs.State.{sibling_state}
-use Rattle.plain_room.proofs.States.{sibling_at, number_of}
+use Rattle.std.proofs.Common.{◌∙◌, ap}
+use Rattle.cs_types.specs.Room.{RoomState}
+use Rattle.cs_types.specs.Selection.{is_to_steal}
+use Rattle.cs_types.specs.Steal.{with_place}
+use Rattle.std.specs.Prelude.{if◌then◌else◌}
 use Rattle.plain_room.proofs.state.State.adopt.Goals as goal
 
 pub returns-clause-schedules : goal.returns-clause-schedules
-returns-clause-schedules c =
-    let at = sibling_at c.args.self.now.siblings.items c.args.cpu c.index.result.now c.requires c.index.ensures in
-    record {
-      pick = λ scenario. rw (c.unwrap_or.ensures, c.count.ensures.count) refl;
-      room = λ scenario. rw (map-set sibling_state, at) (rw c.running.ensures.state refl);
-      numbers = rw (map-set number_of, add-zero) refl;
-    }
+returns-clause-schedules c = record {
+  pick = c.run_waiting-pick.ensures.schedules.pick;
+  room = λ scenario. c.balance.ensures.room scenario
+      ∙ ap (λ (room : RoomState). with_place room c.args.cpu (if is_to_steal room c.args.cpu then 1 else 0)) (c.run_waiting-pick.ensures.schedules.room scenario);
+  numbers = c.balance.ensures.numbers ∙ c.run_waiting-pick.ensures.schedules.numbers;
+}

@@ -1,4 +1,4 @@
-use Rattle.std.proofs.Common.{ℕ, ◌+◌, ◌≡◌, ◌∙◌, ap, sym, true}
+use Rattle.std.proofs.Common.{ℕ, ◌+◌, ◌≡◌, ◌∙◌, ap, sym, refl, true}
 use Rattle.std.proofs.lemmas.Bool.{and_parts}
 use Rattle.cs_types.specs.declared.task.Task.{Task}
 use Rattle.cs_types.specs.Room.{RoomState, with_task}
@@ -6,6 +6,7 @@ use Rattle.cs_types.specs.Time.{has_used_slice}
 use Rattle.plain_room.specs.State.{room_of}
 use Rattle.plain_room.specs.declared.state.State.{State}
 use Rattle.plain_room.proofs.Clocks.{sliced_behind, sliced_in_place, sliced_not}
+use Rattle.plain_room.proofs.States.{knows-alike}
 use Rattle.plain_room.proofs.state.State.begin_slice.Goals as goal
 
 pub returns-then-goes_behind-clause-room : goal.returns-then-goes_behind-clause-room
@@ -29,3 +30,13 @@ pub returns-else-has_used_slice-clause-room : goal.returns-else-has_used_slice-c
 returns-else-has_used_slice-clause-room c scenario =
     sliced_not (room_of scenario c.args.self.now) c.args.cpu c.args.task c.requires.rising c.requires.there
     (sym c.has_used_slice.ensures ∙ c.if-has_used_slice.false) (sym (c.requires.goes_behind scenario) ∙ c.if-goes_behind.false)
+
+pub change-requires : goal.change-requires
+change-requires c = record {
+  known = knows-alike c.args.self.now (record c.args.task { used = 0; stamp = c.args.self.now.next_stamp }) c.args.task c.requires.there refl refl refl;
+}
+
+pub change-requires-then-has_used_slice : goal.change-requires-then-has_used_slice
+change-requires-then-has_used_slice c = record {
+  known = knows-alike c.args.self.now (record c.args.task { used = 0 }) c.args.task c.requires.there refl refl refl;
+}

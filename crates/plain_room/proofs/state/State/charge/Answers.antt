@@ -1,11 +1,10 @@
-use Rattle.std.proofs.Common.{◌≡◌, ℕ, ◌+◌, ◌*◌, ◌-◌, ◌<◌, ◌≤◌, ◌∙◌, Bool, cond, ap, sym, length, arith, refl, Option, Some, None}
+use Rattle.std.proofs.Common.{◌≡◌, ℕ, ◌+◌, ◌∙◌, cond, ap, sym, arith, refl, Option, Some, None}
 use Rattle.std.specs.Prelude.{unwrap_or, List, ◌==◌}
 use Rattle.std.specs.List.{list_any}
 use Rattle.std.specs.Option.{option_map}
 use Rattle.cs_types.specs.declared.scenario.Scenario.{Scenario}
-use Rattle.cs_types.specs.Room.{RoomState}
-use Rattle.cs_types.specs.Accounting.{Interval, share, charges, charged, open_interval}
-use Rattle.cs_types.proofs.Accounts.{charged_up_to, open_share-le}
+use Rattle.cs_types.specs.Accounting.{Interval, share, charged, open_interval}
+use Rattle.cs_types.proofs.Accounts.{open_share-le}
 use Rattle.forceidle_account.specs.Charges.{total_at}
 use Rattle.plain_room.specs.State.{Books, room_of, numbers_of, books_of, booked, owed}
 use Rattle.plain_room.specs.Account.{is_charged_as}

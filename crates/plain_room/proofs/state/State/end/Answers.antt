@@ -4,11 +4,12 @@ use Rattle.std.specs.Result.{IsOk}
 use Rattle.std.proofs.lemmas.List.Elements.{All-filter}
 use Rattle.cs_types.specs.declared.task.Task.{Task}
 use Rattle.cs_types.specs.Room.{RoomState, has_pid}
-use Rattle.cs_types.specs.Step.{dequeued, has_threads}
+use Rattle.cs_types.specs.Queueing.{dequeued}
+use Rattle.cs_types.specs.Step.{has_threads}
 use Rattle.forceidle_account.specs.Charges.{has_total}
 use Rattle.plain_room.specs.State.{room_of, IsFit, Has, Becomes}
 use Rattle.plain_room.specs.declared.state.State.{State}
-use Rattle.plain_room.proofs.States.{some_scenario}
+use Rattle.plain_room.proofs.States.{some_scenario, knows-alike}
 use Rattle.plain_room.proofs.Lives.{filter-changed, find-changed, any-changed}
 use Rattle.plain_room.proofs.state.State.end.Goals as goal
 
@@ -26,6 +27,9 @@ alone old new task becomes nobody =
     ap (λ (room : RoomState). has_threads room (record task { queued = false })) (becomes some_scenario)
     ∙ ap (λ b. (task.spec.tgid == task.spec.pid) && b) (any-changed (record task { queued = false }) (λ other. other.spec.tgid == task.spec.pid) old.tasks.tasks)
     ∙ nobody
+
+pub dequeue-requires-clause-known : goal.dequeue-requires-clause-known
+dequeue-requires-clause-known c = knows-alike c.args.self.now c.args.task c.args.task c.requires.there refl refl refl
 
 pub end-requires-clause-asleep : goal.end-requires-clause-asleep
 end-requires-clause-asleep c =

@@ -6,11 +6,12 @@ use Rattle.cs_types.specs.declared.task.Task.{Task}
 use Rattle.cs_types.specs.declared.task.TaskSpec.{TaskSpec}
 use Rattle.cs_types.specs.Scenario.{IsPolicy}
 use Rattle.cs_types.specs.Room.{RoomState, has_pid}
-use Rattle.cs_types.specs.Step.{Stepped, forked, settled, queued_at_home, child_of, with_child}
+use Rattle.cs_types.specs.Queueing.{queued_at_home}
+use Rattle.cs_types.specs.Step.{Stepped, forked, settled, child_of, with_child}
 use Rattle.plain_room.specs.State.{room_of, IsSound, Numbers, touched}
 use Rattle.plain_room.specs.Life.{MakesChild}
 use Rattle.plain_room.specs.declared.state.State.{State}
-use Rattle.plain_room.proofs.States.{found_fits, some_scenario}
+use Rattle.plain_room.proofs.States.{found_fits, knows-placed, some_scenario}
 use Rattle.plain_room.proofs.state.State.fork.Goals as goal
 
 -- a child is at home on one of the siblings
@@ -24,28 +25,26 @@ child_home old new caller thread child makes sound =
 
 pub settled-requires : goal.settled-requires
 settled-requires c =
-    child_home c.args.self.now c.make_child.new.self c.args.caller c.args.thread c.in-Ok.child c.in-Ok.ensures.makes c.requires.sound
+    let siblings = ap (λ s. length s.items) c.in-Ok.ensures.makes.2.siblings in
+    record {
+      home = child_home c.args.self.now c.make_child.new.self c.args.caller c.args.thread c.in-Ok.child c.in-Ok.ensures.makes c.requires.sound;
+      few = omega (arith, siblings, c.requires.few);
+    }
 
--- the settled child is the child but for its virtual time
+-- the settled child is the child but for its home and its virtual time
 settled_is : (c : goal.After-settled) → c.settled.result ≡ settled (room_of some_scenario c.make_child.new.self) c.in-Ok.child
-settled_is c = c.settled.ensures some_scenario
+settled_is c = c.settled.ensures.settled some_scenario
 
 pub queue_at_home-requires-clause-known : goal.queue_at_home-requires-clause-known
 queue_at_home-requires-clause-known c =
-    let born = c.in-Ok.ensures.makes.2 in
+    let makes = c.in-Ok.ensures.makes in
+    let old = c.args.self.now in
+    let fit = found_fits (length old.siblings.items) old.next_pid c.args.caller old.tasks.tasks makes.0 c.requires.sound.tasks makes.1 in
     let spec = ap (λ (task : Task). task.spec) (settled_is c) in
-    record {
-      old = c.in-Ok.child;
-      there = ap (λ (s : TaskSpec). find (has_pid s.pid) c.make_child.new.self.tasks.tasks) spec ∙ born.there;
-      spec = spec;
-      cookie = ap (λ (task : Task). task.cookie) (settled_is c);
-      home = ap (λ (task : Task). task.home) (settled_is c);
-    }
-
-pub queue_at_home-requires-clause-home : goal.queue_at_home-requires-clause-home
-queue_at_home-requires-clause-home c =
-    subst (λ home. home < length c.make_child.new.self.siblings.items) (sym (ap (λ (task : Task). task.home) (settled_is c)))
-    (child_home c.args.self.now c.make_child.new.self c.args.caller c.args.thread c.in-Ok.child c.in-Ok.ensures.makes c.requires.sound)
+    knows-placed c.make_child.new.self c.settled.result c.in-Ok.child
+    (ap (λ (s : TaskSpec). find (has_pid s.pid) c.make_child.new.self.tasks.tasks) spec ∙ makes.2.there)
+    (ap (λ (task : Task). task.cookie) (settled_is c)) c.settled.ensures.within
+    (subst (λ (task : Task). IsPolicy task.spec.policy) (sym (settled_is c)) (subst (λ (task : Task). IsPolicy task.spec.policy) (sym makes.2.is) fit.policy))
 
 pub queue_at_home-requires-clause-policy : goal.queue_at_home-requires-clause-policy
 queue_at_home-requires-clause-policy c =
@@ -71,7 +70,7 @@ returns-in-Ok-clause-makes c scenario =
       reply = ap (λ (m : Stepped). m.reply) whole;
       room = c.queue_at_home.ensures.room scenario
           ∙ ap (λ (now : RoomState). queued_at_home now c.settled.result) (born.room scenario)
-          ∙ ap (queued_at_home (with_child room child)) (c.settled.ensures scenario ∙ ap (λ (now : RoomState). settled now child) (born.room scenario))
+          ∙ ap (queued_at_home (with_child room child)) (c.settled.ensures.settled scenario ∙ ap (λ (now : RoomState). settled now child) (born.room scenario))
           ∙ ap (λ (m : Stepped). m.room) whole;
       numbers = c.queue_at_home.ensures.numbers ∙ ap (λ (numbers : Numbers). touched 1 numbers) born.numbers;
     }

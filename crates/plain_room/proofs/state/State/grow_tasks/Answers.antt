@@ -5,7 +5,8 @@ use Rattle.cs_types.specs.Room.{RoomState}
 use Rattle.plain_room.specs.Time.{grown_among}
 use Rattle.plain_room.specs.declared.state.State.{State}
 use Rattle.plain_room.specs.declared.sibling.Sibling.{Sibling}
-use Rattle.plain_room.proofs.States.{some_scenario}
+use Rattle.plain_room.proofs.States.{some_scenario, knows-alike}
+use Rattle.plain_room.proofs.Ranges.{vtimes_are_low}
 use Rattle.plain_room.proofs.Growth.{task_was, kept, there, grown_more}
 use Rattle.plain_room.proofs.state.State.grow_tasks.Goals as goal
 
@@ -27,7 +28,7 @@ grown_among-task-requires-clause-vtime c =
     let within : place < length old.tasks.tasks = omega (arith, c.loop-place-test.true, c.len-place-end.ensures.len) in
     let at = sym c.at.ensures.task ∙ ap option_copied c.unwrap-task.ensures in
     let was = task_was old.siblings.items c.args.delta old.tasks.tasks c.loop-place.self.tasks.tasks place task within c.loop-place.invariant.tasks at in
-    omega (arith, ap (λ (t : Task). t.vtime) was, ((c.requires.time.timely some_scenario).tasks place task within).vtime, c.requires.time.clock, c.requires.delta)
+    omega (arith, ap (λ (t : Task). t.vtime) was, vtimes_are_low old c.requires.time place task within, c.requires.delta)
 
 pub change-requires : goal.change-requires
 change-requires c =
@@ -40,13 +41,9 @@ change-requires c =
     let is = c.grown_among-task.ensures ∙ ap (λ (ss : List Sibling). grown_among ss c.args.delta task) siblings in
     let keeps = kept old.siblings.items c.args.delta old.tasks.tasks c.loop-place.self.tasks.tasks place task within c.loop-place.invariant.tasks at c.at.ensures.sound.rising c.grown_among-task.result is in
     record {
-      known = record {
-        old = task;
-        there = there old.siblings.items c.args.delta old.tasks.tasks c.loop-place.self.tasks.tasks place task within c.loop-place.invariant.tasks at c.at.ensures.sound.rising c.grown_among-task.result is;
-        spec = keeps.spec;
-        cookie = keeps.cookie;
-        home = keeps.home;
-      };
+      known = knows-alike c.loop-place.self c.grown_among-task.result task
+          (there old.siblings.items c.args.delta old.tasks.tasks c.loop-place.self.tasks.tasks place task within c.loop-place.invariant.tasks at c.at.ensures.sound.rising c.grown_among-task.result is)
+          keeps.spec keeps.cookie keeps.home;
     }
 
 pub loop-place-preserved : goal.loop-place-preserved

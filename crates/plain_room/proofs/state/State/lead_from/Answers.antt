@@ -47,7 +47,7 @@ lead_of-requires-clause-vtimes c =
     let room = room_of some_scenario old in
     subst (λ (firsts : List (Option Task)). All (λ first. IfSome first (λ task. task.vtime < 2 ^ 127)) firsts) (sym (gathered c))
     (All-firsts (λ task. task.vtime < 2 ^ 127) room (online_from room c.args.cpu)
-    (All-weaker (λ (task : Task). task.vtime < 2 ^ 63) (λ (task : Task). task.vtime < 2 ^ 127) (λ task low. omega (arith, low)) old.tasks.tasks (vtimes_are_low old c.requires.time)))
+    (All-weaker (λ (task : Task). task.vtime < 2 ^ 81) (λ (task : Task). task.vtime < 2 ^ 127) (λ task low. omega (arith, low)) old.tasks.tasks (vtimes_are_low old c.requires.time)))
 
 pub lead_of-requires-clause-snapshots : goal.lead_of-requires-clause-snapshots
 lead_of-requires-clause-snapshots c =

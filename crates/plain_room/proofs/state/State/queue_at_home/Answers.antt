@@ -1,7 +1,7 @@
 use Rattle.std.proofs.Common.{ap, ◌∙◌}
 use Rattle.cs_types.specs.declared.task.Task.{Task}
 use Rattle.cs_types.specs.Room.{RoomState, flagged}
-use Rattle.cs_types.specs.Step.{enqueued, preempts}
+use Rattle.cs_types.specs.Queueing.{enqueued, preempts}
 use Rattle.plain_room.specs.State.{room_of}
 use Rattle.plain_room.proofs.state.State.queue_at_home.Goals as goal
 

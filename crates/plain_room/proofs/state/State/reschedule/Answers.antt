@@ -1,9 +1,9 @@
-use Rattle.std.proofs.Common.{◌≡◌, ◌∙◌, ap, sym, subst, cond, ◌+◌, ◌<◌, ◌^◌, true, None, length}
+use Rattle.std.proofs.Common.{◌≡◌, ◌∙◌, ap, sym, subst, cond, ◌+◌, ◌<◌, ◌^◌, true, None}
 use Rattle.cs_types.specs.declared.reply.Pick.{Pick}
 use Rattle.cs_types.specs.declared.scenario.Scenario.{Scenario}
 use Rattle.cs_types.specs.Room.{RoomState}
-use Rattle.cs_types.specs.Selection.{Scheduled, rescheduled}
-use Rattle.cs_types.specs.Accounting.{closes, open_interval, accounted}
+use Rattle.cs_types.specs.Selection.{Scheduled, balanced, rescheduled}
+use Rattle.cs_types.specs.Accounting.{closes, open_interval}
 use Rattle.cs_types.specs.Time.{IsTimely}
 use Rattle.cs_types.proofs.Accounts.{rescheduled-accounted, closes-rescheduled}
 use Rattle.plain_room.specs.State.{room_of, numbers_of, Numbers, took, charged_with}
@@ -13,15 +13,18 @@ use Rattle.plain_room.proofs.state.State.reschedule.Goals as goal
 
 pub pick_anew-requires-clause-time : goal.pick_anew-requires-clause-time
 pick_anew-requires-clause-time c = record {
-  timely = λ scenario. subst IsTimely (sym (c.charge.ensures.room scenario)) (timely-accounted (room_of scenario c.args.self.now) (c.requires.time.timely scenario));
+  entries = c.requires.time.entries;
+  few = c.requires.time.few;
+  timely = λ scenario. subst (IsTimely c.requires.time.entries) (sym (c.charge.ensures.room scenario))
+      (timely-accounted c.requires.time.entries (room_of scenario c.args.self.now) (c.requires.time.timely scenario));
   clock = subst (λ (state : State). state.clock + 1000000000 < 2 ^ 56) (sym c.charge.ensures.rest) c.requires.time.clock;
 }
 
 pub returns-clause-schedules : goal.returns-clause-schedules
 returns-clause-schedules c =
-    let same : (scenario : Scenario) → rescheduled (room_of scenario c.charge.new.self) c.args.cpu ≡ rescheduled (room_of scenario c.args.self.now) c.args.cpu =
-    λ scenario. ap (λ (room : RoomState). rescheduled room c.args.cpu) (c.charge.ensures.room scenario)
-    ∙ rescheduled-accounted (room_of scenario c.args.self.now) c.args.cpu in
+    let same : (scenario : Scenario) → balanced c.args.cpu (rescheduled (room_of scenario c.charge.new.self) c.args.cpu) ≡ balanced c.args.cpu (rescheduled (room_of scenario c.args.self.now) c.args.cpu) =
+    λ scenario. ap (λ (room : RoomState). balanced c.args.cpu (rescheduled room c.args.cpu)) (c.charge.ensures.room scenario)
+    ∙ ap (balanced c.args.cpu) (rescheduled-accounted (room_of scenario c.args.self.now) c.args.cpu) in
     record {
       pick = λ scenario. c.pick_anew.ensures.schedules.pick scenario ∙ ap (λ (made : Scheduled). made.pick) (same scenario);
       room = λ scenario. c.pick_anew.ensures.schedules.room scenario ∙ ap (λ (made : Scheduled). made.room) (same scenario);

@@ -1,6 +1,6 @@
-use Rattle.std.proofs.Common.{◌≡◌, ◌∙◌, ap, sym, cond, false, Some, None}
+use Rattle.std.proofs.Common.{◌≡◌, ◌∙◌, ap, sym, cond, false, None}
 use Rattle.cs_types.specs.declared.reply.Pick.{Pick}
-use Rattle.cs_types.specs.Selection.{adopted, rescheduled, schedule}
+use Rattle.cs_types.specs.Selection.{adopted, balanced, rescheduled, schedule}
 use Rattle.cs_types.specs.Accounting.{closes, open_interval}
 use Rattle.plain_room.specs.State.{room_of, numbers_of, took, charged_with, is_fresh_by}
 use Rattle.plain_room.proofs.States.{ChargesAndSchedules-same}
@@ -11,7 +11,7 @@ pub returns-in-Some-clause-schedules : goal.returns-in-Some-clause-schedules
 returns-in-Some-clause-schedules c =
     let old = c.args.self.now in
     let fresh = is_fresh_by (numbers_of old) in
-    ChargesAndSchedules-same old c.adopt.new.self c.args.cpu c.adopt.result (λ room. adopted room c.args.cpu c.in-Some.run') (λ room. schedule room fresh c.args.cpu)
+    ChargesAndSchedules-same old c.adopt.new.self c.args.cpu c.adopt.result (λ room. balanced c.args.cpu (adopted room c.args.cpu c.in-Some.run')) (λ room. schedule room fresh c.args.cpu)
     (λ scenario. schedule_adopted (room_of scenario old) fresh c.args.cpu c.in-Some.run' (c.in-Some.ensures scenario))
     (record {
       pick = c.adopt.ensures.schedules.pick;
@@ -25,6 +25,6 @@ returns-in-Some-clause-schedules c =
 pub returns-in-None-clause-schedules : goal.returns-in-None-clause-schedules
 returns-in-None-clause-schedules c =
     let fresh = is_fresh_by (numbers_of c.args.self.now) in
-    ChargesAndSchedules-same c.args.self.now c.reschedule.new.self c.args.cpu c.reschedule.result (λ room. rescheduled room c.args.cpu) (λ room. schedule room fresh c.args.cpu)
+    ChargesAndSchedules-same c.args.self.now c.reschedule.new.self c.args.cpu c.reschedule.result (λ room. balanced c.args.cpu (rescheduled room c.args.cpu)) (λ room. schedule room fresh c.args.cpu)
     (λ scenario. schedule_not_adopted (room_of scenario c.args.self.now) fresh c.args.cpu (c.in-None.ensures scenario))
     c.reschedule.ensures.schedules

@@ -29,7 +29,7 @@ returns-clause-room c =
     c.in_ok-tasks.ensures.tasks ∙ ap asleep_tasks c.items.ensures in
     let siblings : map sibling_state c.in_ok-siblings.siblings.items ≡ replicate c.args.scenario.now.siblings idle =
     ap (map sibling_state) (c.in_ok-siblings.ensures.items_if_clones_equal (λ y e. e)) ∙ map-replicate sibling_state c.args.scenario.now.siblings _ in
-    let pid : c.first_pid.result ≡ first_pid c.args.scenario.now.tasks = c.first_pid.ensures ∙ ap first_pid c.items-4.ensures in
+    let pid : c.first_pid.result ≡ first_pid c.args.scenario.now.tasks = c.first_pid.ensures ∙ ap first_pid c.items-2.ensures in
     rw (tasks, siblings, pid, c.in_ok-ended.ensures.items, c.in_ok-tasks.ensures.limit, c.in_ok-refs.ensures.next, c.in_ok-refs.ensures.limit, c.closed.ensures.count, c.closed.ensures.occupation, c.closed.ensures.started) refl
 
 pub returns-clause-sound : goal.returns-clause-sound
@@ -39,10 +39,10 @@ returns-clause-sound c =
     record {
       siblings = ap length (c.in_ok-siblings.ensures.items_if_clones_equal (λ y e. e)) ∙ length-replicate c.args.scenario.now.siblings _;
       table = c.in_ok-tasks.ensures.sound;
-      tasks = rw (tasks, c.first_pid.ensures ∙ ap first_pid c.items-4.ensures) (fit-asleep c.args.scenario.now.siblings c.args.scenario.now.tasks c.requires.tasks);
+      tasks = rw (tasks, c.first_pid.ensures ∙ ap first_pid c.items-2.ensures) (fit-asleep c.args.scenario.now.siblings c.args.scenario.now.tasks c.requires.playable.tasks);
       known = c.in_ok-totals.ensures.known;
-      low_pids = λ pid has. rw (c.first_pid.ensures ∙ ap first_pid c.items-4.ensures)
-          (any_below (first_pid c.args.scenario.now.tasks) pid (asleep_tasks c.args.scenario.now.tasks) (fit-asleep c.args.scenario.now.siblings c.args.scenario.now.tasks c.requires.tasks)
+      low_pids = λ pid has. rw (c.first_pid.ensures ∙ ap first_pid c.items-2.ensures)
+          (any_below (first_pid c.args.scenario.now.tasks) pid (asleep_tasks c.args.scenario.now.tasks) (fit-asleep c.args.scenario.now.siblings c.args.scenario.now.tasks c.requires.playable.tasks)
           (ap (list_any (has_pid pid)) (sym tasks) ∙ c.in_ok-totals.ensures.only pid has));
       refs = rw tasks (Agree-none c.in_ok-refs.refs (asleep_tasks c.args.scenario.now.tasks) c.in_ok-refs.ensures.counts (cookieless-asleep c.args.scenario.now.tasks));
     }
@@ -51,8 +51,8 @@ pub returns-clause-numbers : goal.returns-clause-numbers
 returns-clause-numbers c =
     let scenario = c.args.scenario.now in
     let own = ap (map number_of) (c.in_ok-siblings.ensures.items_if_clones_equal (λ y e. e)) ∙ map-replicate number_of scenario.siblings _ ∙ own_number-start 0 scenario.siblings in
-    let places : c.in_ok-totals.totals.spare + c.first_pid.result ≡ length scenario.steps + first_pid scenario.tasks =
-    omega (arith, c.in_ok-totals.ensures.spare, ap length c.items-2.ensures, c.first_pid.ensures, ap first_pid c.items-4.ensures) in
+    let places : c.in_ok-totals.totals.spare + c.first_pid.result ≡ c.args.most + first_pid scenario.tasks =
+    omega (arith, c.in_ok-totals.ensures.spare, c.first_pid.ensures, ap first_pid c.items-2.ensures) in
     λ i. record {
       task = 0;
       pick = 0;

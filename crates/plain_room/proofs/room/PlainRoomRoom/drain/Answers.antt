@@ -1,0 +1,105 @@
+use Rattle.std.proofs.Common.{◌≡◌, ◌+◌, ◌*◌, ◌-◌, ◌<◌, ◌++◌, ◌∷◌, [], ◌∙◌, ap, sym, subst, refl, length, arith, Option, ℕ}
+use Rattle.std.proofs.lemmas.List.{append-nil, length-append}
+use Rattle.cs_types.specs.declared.event.Actor.TheVariants.{End}
+use Rattle.cs_types.specs.declared.event.Event.TheVariants.{Resched}
+use Rattle.cs_types.specs.declared.reply.Entry.{Entry}
+use Rattle.cs_types.specs.declared.scenario.Scenario.{Scenario}
+use Rattle.cs_types.specs.History.{history_of, moment_of, reply_to}
+use Rattle.cs_types.specs.Drain.{drained_from, next_to_schedule}
+use Rattle.cs_types.proofs.Histories.{IsLegal-history_of}
+use Rattle.plain_room.specs.Machine.{Machine}
+use Rattle.plain_room.specs.Inside.{machine_of, most_entries, IsFold}
+use Rattle.plain_room.specs.Drain.{next_by}
+use Rattle.plain_room.specs.State.{room_of, numbers_of, is_fresh_by}
+use Rattle.plain_room.specs.declared.room.PlainRoom.TheInside.{Inside}
+use Rattle.plain_room.proofs.Machines.{Folds, next_of}
+use Rattle.plain_room.proofs.Playable.{playable_of, events_of}
+use Rattle.plain_room.proofs.Ends.{next_below, left_after, none_left, settled_at_end, one_cookie_at_end}
+use Rattle.plain_room.proofs.room.PlainRoomRoom.drain.Goals as goal
+
+-- who schedules next is who the model says, after the history so far
+next_is : (a : Inside) (invariant : IsFold a) (m : Machine) (scenario : Scenario) (found : Option ℕ) → machine_of a ≡ m → m.scenario ≡ scenario →
+    ((other : Scenario) → found ≡ next_by (room_of other a.state) (is_fresh_by (numbers_of a.state))) →
+    found ≡ next_to_schedule (moment_of scenario (history_of scenario m.steps))
+next_is a invariant m scenario found view_is same is =
+    let folds : Folds a.scenario (most_entries a.scenario) a.state a.entries.items = record { fold = invariant.fold; numbers = invariant.numbers } in
+    is a.scenario ∙ next_of a.scenario a.state a.entries.items folds
+    ∙ ap (λ h. next_to_schedule (moment_of a.scenario h)) invariant.history
+    ∙ ap (λ (other : Machine). next_to_schedule (moment_of other.scenario (history_of other.scenario other.steps))) view_is
+    ∙ ap (λ s. next_to_schedule (moment_of s (history_of s m.steps))) same
+
+pub returns-in_default-clause-entries : goal.returns-in_default-clause-entries
+returns-in_default-clause-entries c =
+    let scenario = c.args.self.now.scenario in
+    let inner = c.self-in-loop-entries in
+    let next = next_is inner.inside inner.invariant c.loop-entries.self scenario c.next_to_schedule.result inner.view_is c.loop-entries.invariant.scenario c.next_to_schedule.ensures in
+    ap (λ s. history_of s c.loop-entries.self.steps) c.loop-entries.invariant.scenario
+    ∙ none_left scenario (history_of scenario c.loop-entries.self.steps) _ (sym c.in_default.is ∙ next) ∙ c.loop-entries.invariant.ahead
+
+pub returns-in_default-clause-settled : goal.returns-in_default-clause-settled
+returns-in_default-clause-settled c =
+    let m = c.args.self.now in
+    settled_at_end m.scenario c.loop-entries.self.scenario (history_of m.scenario m.steps) (history_of c.loop-entries.self.scenario c.loop-entries.self.steps)
+    c.loop-entries.invariant.scenario (returns-in_default-clause-entries c)
+
+pub returns-in_default-clause-one_cookie : goal.returns-in_default-clause-one_cookie
+returns-in_default-clause-one_cookie c =
+    let m = c.args.self.now in
+    one_cookie_at_end m.scenario c.loop-entries.self.scenario (history_of m.scenario m.steps) (history_of c.loop-entries.self.scenario c.loop-entries.self.steps)
+    c.loop-entries.invariant.scenario (returns-in_default-clause-entries c)
+    (playable_of c.self.inside c.self.invariant m c.self.view_is) (events_of c.self.inside c.self.invariant m c.self.view_is) (IsLegal-history_of m.scenario m.steps)
+
+pub apply-requires-clause-event : goal.apply-requires-clause-event
+apply-requires-clause-event c =
+    let scenario = c.args.self.now.scenario in
+    let inner = c.self-in-loop-entries in
+    let next = next_is inner.inside inner.invariant c.loop-entries.self scenario c.next_to_schedule.result inner.view_is c.loop-entries.invariant.scenario c.next_to_schedule.ensures in
+    subst (λ (s : Scenario). c.in-Some.cpu < s.siblings) (sym c.loop-entries.invariant.scenario)
+    (next_below scenario (history_of scenario c.loop-entries.self.steps) c.in-Some.cpu (sym c.in-Some.is ∙ next))
+
+-- the entry that was made is the model's, and with it what is left to make
+pub loop-entries-preserved : goal.loop-entries-preserved
+loop-entries-preserved c =
+    let scenario = c.args.self.now.scenario in
+    let before = c.loop-entries.self in
+    let after = c.apply.new.self in
+    let past = history_of scenario before.steps in
+    let entry : Entry = record { actor = End; event = Resched c.in-Some.cpu; reply = c.apply.result } in
+    let inner = c.self-in-loop-entries in
+    let next = next_is inner.inside inner.invariant before scenario c.next_to_schedule.result inner.view_is c.loop-entries.invariant.scenario c.next_to_schedule.ensures in
+    let same : after.scenario ≡ scenario = c.apply.ensures.scenario ∙ c.loop-entries.invariant.scenario in
+    let reply : c.apply.result ≡ reply_to scenario past (Resched c.in-Some.cpu) =
+    c.apply.ensures.reply ∙ ap (λ s. reply_to s (history_of s before.steps) (Resched c.in-Some.cpu)) c.loop-entries.invariant.scenario in
+    let more : history_of scenario after.steps ≡ past ++ entry ∷ [] =
+    ap (λ s. history_of s after.steps) (sym same) ∙ c.apply.ensures.entry ∙ ap (λ s. history_of s before.steps ++ entry ∷ []) c.loop-entries.invariant.scenario in
+    record {
+      scenario = same;
+      free = omega (arith, c.apply.ensures.free, c.loop-entries.invariant.free);
+      made = omega (arith, ap length more, length-append past (entry ∷ []), c.loop-entries.invariant.made);
+      ahead = ap (λ h. h ++ drained_from (c.from-siblings.result * c.from-siblings.result - (c.loop-entries.entries + 1)) (moment_of scenario h)) more
+          ∙ left_after scenario past (c.from-siblings.result * c.from-siblings.result) c.loop-entries.entries c.in-Some.cpu entry c.loop-entries-test.true
+          (sym c.in-Some.is ∙ next) refl refl reply
+          ∙ c.loop-entries.invariant.ahead;
+    }
+
+pub returns-clause-entries : goal.returns-clause-entries
+returns-clause-entries c =
+    let scenario = c.args.self.now.scenario in
+    let now = history_of scenario c.loop-entries.self.steps in
+    let most = c.from-siblings.result * c.from-siblings.result in
+    let none : 0 ≡ most - c.loop-entries.entries = omega (arith, c.loop-entries-test.false) in
+    ap (λ s. history_of s c.loop-entries.self.steps) c.loop-entries.invariant.scenario
+    ∙ sym (append-nil now) ∙ ap (λ n. now ++ drained_from n (moment_of scenario now)) none ∙ c.loop-entries.invariant.ahead
+
+pub returns-clause-settled : goal.returns-clause-settled
+returns-clause-settled c =
+    let m = c.args.self.now in
+    settled_at_end m.scenario c.loop-entries.self.scenario (history_of m.scenario m.steps) (history_of c.loop-entries.self.scenario c.loop-entries.self.steps)
+    c.loop-entries.invariant.scenario (returns-clause-entries c)
+
+pub returns-clause-one_cookie : goal.returns-clause-one_cookie
+returns-clause-one_cookie c =
+    let m = c.args.self.now in
+    one_cookie_at_end m.scenario c.loop-entries.self.scenario (history_of m.scenario m.steps) (history_of c.loop-entries.self.scenario c.loop-entries.self.steps)
+    c.loop-entries.invariant.scenario (returns-clause-entries c)
+    (playable_of c.self.inside c.self.invariant m c.self.view_is) (events_of c.self.inside c.self.invariant m c.self.view_is) (IsLegal-history_of m.scenario m.steps)

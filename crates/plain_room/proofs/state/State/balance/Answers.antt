@@ -1,0 +1,24 @@
+use mir.Val.{bool_byte}
+use Rattle.std.proofs.Common.{ap, ◌∙◌, ◌≡◌, refl, Bool, true, false, if◌then◌else◌}
+use Rattle.cs_types.specs.Selection.{is_to_steal}
+use Rattle.cs_types.specs.Steal.{with_place}
+use Rattle.plain_room.specs.State.{room_of}
+use Rattle.plain_room.specs.declared.state.State.{State}
+use Rattle.plain_room.proofs.state.State.balance.Goals as goal
+
+pub returns-clause-room : goal.returns-clause-room
+returns-clause-room c scenario =
+    c.set_place.ensures.room scenario
+    ∙ ap (with_place (room_of scenario c.args.self.now) c.args.cpu) (c.from-place.ensures ∙ as_number (c.is_to_steal.result) (is_to_steal (room_of scenario c.args.self.now) c.args.cpu) (c.is_to_steal.ensures scenario))
+  where
+    as_number : (b d : Bool) → b ≡ d → bool_byte b ≡ (if d then 1 else 0)
+    as_number true true same = refl
+    as_number false false same = refl
+    as_number true false same = absurd cc
+    as_number false true same = absurd cc
+
+pub returns-clause-account : goal.returns-clause-account
+returns-clause-account c = ap (λ (state : State). state.account) c.set_place.ensures.rest
+
+pub returns-clause-core : goal.returns-clause-core
+returns-clause-core c = ap (λ (state : State). state.core_cookie) c.set_place.ensures.rest

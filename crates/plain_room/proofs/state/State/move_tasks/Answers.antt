@@ -1,0 +1,144 @@
+use Rattle.std.proofs.Common.{◌≡◌, ◌<◌, ◌^◌, ◌∙◌, false, ap, sym, subst, length, get_or, ne_eqb, arith}
+use Rattle.std.specs.Prelude.{option_copied, slice_get, List, All, Some, ◌&&◌, ◌==◌}
+use Rattle.std.proofs.Math.Bool.{and-false}
+use Rattle.std.proofs.lemmas.List.{length-map}
+use Rattle.std.proofs.lemmas.List.Elements.{All-weaker}
+use Rattle.cs_types.specs.declared.task.Task.{Task}
+use Rattle.cs_types.specs.declared.task.TaskSpec.{TaskSpec}
+use Rattle.cs_types.specs.Scenario.{IsPolicy}
+use Rattle.cs_types.specs.Room.{RoomState}
+use Rattle.cs_types.specs.Hotplug.{moved_off}
+use Rattle.plain_room.specs.State.{room_of, StaysSound}
+use Rattle.plain_room.specs.declared.state.State.{State}
+use Rattle.plain_room.specs.declared.sibling.Sibling.{Sibling}
+use Rattle.plain_room.proofs.States.{some_scenario, policies, knows-placed}
+use Rattle.plain_room.proofs.Ranges.{leasts_are_low, vtimes_are_low}
+use Rattle.plain_room.proofs.Moves.{mapped_all, task_is, task_was, same_more, there, changed_more, moved_is, stays, stamp_at}
+use Rattle.plain_room.proofs.state.State.move_tasks.Goals as goal
+use Rattle.plain_room.proofs.state.State.move_tasks.Goals.{then-task+then-task-cpu, else-task, else-task-via-then-task+else-task-cpu, else-task-via-else-task}
+
+-- ---- the calls
+
+pub moved_to-moved-requires-clause-cpu : goal.moved_to-moved-requires-clause-cpu
+moved_to-moved-requires-clause-cpu c =
+    omega (arith, c.requires.within, ap (λ (state : State). length state.siblings.items) c.loop-place.invariant.rest)
+
+pub moved_to-moved-requires-clause-home : goal.moved_to-moved-requires-clause-home
+moved_to-moved-requires-clause-home c =
+    let old = c.args.self.now in
+    let now = c.loop-place.self in
+    let place = c.loop-place.place in
+    let task = c.unwrap-task.result.now in
+    let change = moved_off (room_of some_scenario old) c.args.cpu in
+    let within : place < length old.tasks.tasks = omega (arith, c.loop-place-test.true, c.len-place-end.ensures.len) in
+    let at : slice_get now.tasks.tasks place ≡ Some task = sym c.at.ensures.task ∙ ap option_copied c.unwrap-task.ensures in
+    let sound = c.loop-place.invariant.sound (length old.siblings.items) c.requires.sound in
+    let is = task_is change old.tasks.tasks now.tasks.tasks place task within (c.loop-place.invariant.tasks some_scenario) at in
+    omega (arith, (sound.tasks place task (omega (arith, within, c.loop-place.invariant.as_many))).home, sound.siblings, ap (λ (t : Task). t.home) is)
+
+pub moved_to-moved-requires-clause-vtime : goal.moved_to-moved-requires-clause-vtime
+moved_to-moved-requires-clause-vtime c =
+    let old = c.args.self.now in
+    let now = c.loop-place.self in
+    let place = c.loop-place.place in
+    let task = c.unwrap-task.result.now in
+    let change = moved_off (room_of some_scenario old) c.args.cpu in
+    let within : place < length old.tasks.tasks = omega (arith, c.loop-place-test.true, c.len-place-end.ensures.len) in
+    let at : slice_get now.tasks.tasks place ≡ Some task = sym c.at.ensures.task ∙ ap option_copied c.unwrap-task.ensures in
+    let was = task_was change old.tasks.tasks now.tasks.tasks place task within (c.loop-place.invariant.tasks some_scenario) at in
+    omega (arith, vtimes_are_low old c.requires.time place task within, ap (λ (t : Task). t.vtime) was)
+
+pub moved_to-moved-requires-clause-leasts : goal.moved_to-moved-requires-clause-leasts
+moved_to-moved-requires-clause-leasts c =
+    subst (λ (siblings : List Sibling). All (λ (sibling : Sibling). sibling.least < 2 ^ 126) siblings) (sym (ap (λ (state : State). state.siblings.items) c.loop-place.invariant.rest))
+    (All-weaker (λ (sibling : Sibling). sibling.least < 2 ^ 80) (λ (sibling : Sibling). sibling.least < 2 ^ 126) (λ sibling low. omega (arith, low))
+    c.args.self.now.siblings.items (leasts_are_low c.args.self.now c.requires.time))
+
+pub change-requires : goal.change-requires
+change-requires c =
+    let old = c.args.self.now in
+    let now = c.loop-place.self in
+    let place = c.loop-place.place in
+    let task = c.unwrap-task.result.now in
+    let change = moved_off (room_of some_scenario old) c.args.cpu in
+    let within : place < length old.tasks.tasks = omega (arith, c.loop-place-test.true, c.len-place-end.ensures.len) in
+    let at : slice_get now.tasks.tasks place ≡ Some task = sym c.at.ensures.task ∙ ap option_copied c.unwrap-task.ensures in
+    let sound = c.loop-place.invariant.sound (length old.siblings.items) c.requires.sound in
+    let is = task_is change old.tasks.tasks now.tasks.tasks place task within (c.loop-place.invariant.tasks some_scenario) at in
+    let moved = c.moved_to-moved.ensures some_scenario in
+    let done : Task = record c.moved_to-moved.result { stamp = get_or c.args.stamps.now place 0 } in
+    let spec : done.spec ≡ task.spec = ap (λ (t : Task). t.spec) moved in
+    let policy : IsPolicy task.spec.policy =
+    subst (λ (t : Task). IsPolicy t.spec.policy) (sym is) (policies (length old.siblings.items) now sound place task (omega (arith, within, c.loop-place.invariant.as_many))) in
+    record {
+      known = knows-placed now done task
+          (there change old.tasks.tasks now.tasks.tasks place task within (c.loop-place.invariant.tasks some_scenario) at c.at.ensures.sound.rising done spec)
+          (ap (λ (t : Task). t.cookie) moved)
+          (omega (arith, ap (λ (t : Task). t.home) moved, c.requires.within, ap (λ (state : State). length state.siblings.items) c.loop-place.invariant.rest))
+          (subst (λ (s : TaskSpec). IsPolicy s.policy) (sym spec) policy);
+    }
+
+pub loop-place-preserved : goal.loop-place-preserved
+loop-place-preserved c =
+    let old = c.args.self.now in
+    let now = c.loop-place.self in
+    let place = c.loop-place.place in
+    let task = c.unwrap-task.result.now in
+    let change = moved_off (room_of some_scenario old) c.args.cpu in
+    let within : place < length old.tasks.tasks = omega (arith, c.loop-place-test.true, c.len-place-end.ensures.len) in
+    let at : slice_get now.tasks.tasks place ≡ Some task = sym c.at.ensures.task ∙ ap option_copied c.unwrap-task.ensures in
+    let was = task_was change old.tasks.tasks now.tasks.tasks place task within (c.loop-place.invariant.tasks some_scenario) at in
+    record {
+      as_many = elim c.if-task.branch [
+        | then-task+then-task-cpu w ↦
+            ap (λ (state : State). length state.tasks.tasks) w.self-is
+            ∙ ap (λ (room : RoomState). length room.tasks) (w.change.ensures.room some_scenario)
+            ∙ length-map now.tasks.tasks _ ∙ c.loop-place.invariant.as_many
+        | else-task w ↦ ap (λ (state : State). length state.tasks.tasks) w.self-is ∙ c.loop-place.invariant.as_many
+      ];
+      tasks = λ scenario.
+          let room = room_of scenario old in
+          elim c.if-task.branch [
+            | then-task+then-task-cpu w ↦
+                let done : Task = record w.moved_to-moved.result { stamp = get_or c.args.stamps.now place 0 } in
+                let stamp = stamp_at old.tasks.tasks c.args.cpu old.next_stamp place task c.args.stamps.now within c.requires.stamps was in
+                let is = moved_is scenario old now c.args.cpu c.args.to (get_or c.args.stamps.now place 0) task w.moved_to-moved.result c.loop-place.invariant.rest
+                (c.requires.to scenario) (w.moved_to-moved.ensures scenario) w.if-task.true w.if-task-cpu.true stamp in
+                ap (λ (state : State). state.tasks.tasks) w.self-is
+                ∙ ap (λ (room : RoomState). room.tasks) (w.change.ensures.room some_scenario)
+                ∙ changed_more (moved_off room c.args.cpu) old.tasks.tasks now.tasks.tasks place task within (c.loop-place.invariant.tasks scenario) at c.at.ensures.sound.rising done
+                (ap (λ (t : Task). t.spec) (w.moved_to-moved.ensures scenario)) is
+            | else-task w ↦
+                let stays_there : (task.queued && (task.home == c.args.cpu)) ≡ false = elim w.else-task.branch [
+                  | else-task-via-then-task+else-task-cpu w' ↦ ap (λ b. task.queued && b) (ne_eqb task.home c.args.cpu w'.if-task-cpu.false) ∙ and-false task.queued
+                  | else-task-via-else-task w' ↦ ap (λ b. b && (task.home == c.args.cpu)) w'.if-task.false
+                ] in
+                ap (λ (state : State). state.tasks.tasks) w.self-is
+                ∙ same_more (moved_off room c.args.cpu) old.tasks.tasks now.tasks.tasks place task within (c.loop-place.invariant.tasks scenario) at (stays room c.args.cpu task stays_there)
+          ];
+      limit = elim c.if-task.branch [
+        | then-task+then-task-cpu w ↦
+            ap (λ (state : State). state.tasks.limit) w.self-is ∙ ap (λ (room : RoomState). room.task_limit) (w.change.ensures.room some_scenario) ∙ c.loop-place.invariant.limit
+        | else-task w ↦ ap (λ (state : State). state.tasks.limit) w.self-is ∙ c.loop-place.invariant.limit
+      ];
+      rest = elim c.if-task.branch [
+        | then-task+then-task-cpu w ↦
+            subst (λ (state : State). state ≡ record old { tasks = state.tasks }) (sym w.self-is)
+            (w.change.ensures.rest ∙ ap (λ (state : State). let next : State = record state { tasks = w.change.new.self.tasks } in next) c.loop-place.invariant.rest)
+        | else-task w ↦ subst (λ (state : State). state ≡ record old { tasks = state.tasks }) (sym w.self-is) c.loop-place.invariant.rest
+      ];
+      sound = elim c.if-task.branch [
+        | then-task+then-task-cpu w ↦
+            subst (λ (state : State). StaysSound old state) (sym w.self-is) (λ count sound. w.change.ensures.sound count (c.loop-place.invariant.sound count sound))
+        | else-task w ↦ subst (λ (state : State). StaysSound old state) (sym w.self-is) c.loop-place.invariant.sound
+      ];
+    }
+
+-- ---- all tasks
+
+pub returns-clause-tasks : goal.returns-clause-tasks
+returns-clause-tasks c scenario =
+    let old = c.args.self.now in
+    let all : c.loop-place.place ≡ length old.tasks.tasks = omega (arith, c.loop-place-test.false, c.loop-place.auto.place-end, c.len-place-end.ensures.len) in
+    let tasks = c.loop-place.invariant.tasks scenario ∙ mapped_all (moved_off (room_of scenario old) c.args.cpu) old.tasks.tasks c.loop-place.place all in
+    λ i. record old.tasks { tasks = tasks i; limit = c.loop-place.invariant.limit i }

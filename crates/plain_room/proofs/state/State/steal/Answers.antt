@@ -1,0 +1,70 @@
+use Rattle.std.proofs.Common.{ℕ, ◌≡◌, ◌+◌, ◌<◌, ◌^◌, ap, ◌∙◌, refl, subst, true, arith}
+use Rattle.std.specs.Prelude.{Option, IfSome, length}
+use Rattle.std.proofs.lemmas.List.Elements.{All-weaker}
+use Rattle.cs_types.specs.declared.task.Task.{Task}
+use Rattle.cs_types.specs.Room.{RoomState, has_pid, flagged}
+use Rattle.cs_types.specs.Queueing.{moved_to, moved, enqueued}
+use Rattle.cs_types.specs.Steal.{with_place}
+use Rattle.plain_room.specs.State.{room_of, Knows, IsSound, Numbers, numbers_of, touched}
+use Rattle.plain_room.specs.declared.state.State.{State}
+use Rattle.plain_room.specs.declared.sibling.Sibling.{Sibling}
+use Rattle.plain_room.proofs.Lists.{All-find}
+use Rattle.plain_room.proofs.Ranges.{leasts_are_low, vtimes_are_low}
+use Rattle.plain_room.proofs.States.{found_fits, knows-placed, some_scenario}
+use Rattle.plain_room.proofs.Steals.{is_left}
+use Rattle.plain_room.proofs.state.State.steal.Goals as goal
+
+pub moved_to-moved-requires-clause-home : goal.moved_to-moved-requires-clause-home
+moved_to-moved-requires-clause-home c =
+    let old = c.args.self.now in
+    (found_fits (length old.siblings.items) old.next_pid c.args.task.spec.pid old.tasks.tasks c.args.task c.requires.sound.tasks c.requires.there).home
+
+pub moved_to-moved-requires-clause-vtime : goal.moved_to-moved-requires-clause-vtime
+moved_to-moved-requires-clause-vtime c =
+    let old = c.args.self.now in
+    let low = All-find (λ (task : Task). task.vtime < 2 ^ 81) (has_pid c.args.task.spec.pid) old.tasks.tasks (vtimes_are_low old c.requires.time) in
+    let this : c.args.task.vtime < 2 ^ 81 = subst (λ (found : Option Task). IfSome found (λ task. task.vtime < 2 ^ 81)) c.requires.there low in
+    omega (arith, this)
+
+pub moved_to-moved-requires-clause-leasts : goal.moved_to-moved-requires-clause-leasts
+moved_to-moved-requires-clause-leasts c =
+    All-weaker (λ (sibling : Sibling). sibling.least < 2 ^ 80) (λ (sibling : Sibling). sibling.least < 2 ^ 126)
+    (λ sibling low. omega (arith, low)) c.args.self.now.siblings.items (leasts_are_low c.args.self.now c.requires.time)
+
+pub enqueue-requires-clause-known : goal.enqueue-requires-clause-known
+enqueue-requires-clause-known c =
+    let old = c.args.self.now in
+    let fit = found_fits (length old.siblings.items) old.next_pid c.args.task.spec.pid old.tasks.tasks c.args.task c.requires.sound.tasks c.requires.there in
+    let after : State = record old { task_number = old.task_number + 1 } in
+    let knows : Knows after (moved_to (room_of some_scenario old) c.args.thief c.args.task) =
+    knows-placed after (moved_to (room_of some_scenario old) c.args.thief c.args.task) c.args.task c.requires.there refl c.requires.thief fit.policy in
+    rw (c.touch.ensures, c.moved_to-moved.ensures some_scenario) knows
+
+pub returns-clause-room : goal.returns-clause-room
+returns-clause-room c scenario =
+    let room = room_of scenario c.args.self.now in
+    let thief = c.args.thief in
+    let at : RoomState → RoomState = λ now. flagged (with_place now thief 0) thief true in
+    let after = at (moved room thief c.args.task) in
+    let mid : room_of scenario c.flag.new.self ≡ after =
+    c.flag.ensures.room scenario
+    ∙ ap (λ (now : RoomState). flagged now thief true) (c.set_place.ensures.room scenario)
+    ∙ ap at (c.enqueue.ensures.room scenario)
+    ∙ ap (λ (state : State). at (enqueued (room_of scenario state) c.moved_to-moved.result)) c.touch.ensures
+    ∙ ap (λ (task : Task). at (enqueued room task)) (c.moved_to-moved.ensures scenario) in
+    c.flag-2.ensures.room scenario
+    ∙ ap (flagged (room_of scenario c.flag.new.self) c.args.source) (c.is_left_idle-idles.ensures scenario)
+    ∙ ap (λ (now : RoomState). flagged now c.args.source (is_left now c.args.source)) mid
+    ∙ ap (λ (source : ℕ). flagged after source (is_left after source)) (c.requires.source scenario)
+
+pub returns-clause-sound : goal.returns-clause-sound
+returns-clause-sound c count sound =
+    let touched : IsSound count c.touch.new.self =
+    rw c.touch.ensures (record { siblings = sound.siblings; table = sound.table; tasks = sound.tasks; known = sound.known; low_pids = sound.low_pids; refs = sound.refs }) in
+    c.flag-2.ensures.sound count (c.flag.ensures.sound count (c.set_place.ensures.sound count (c.enqueue.ensures.sound count touched)))
+
+pub returns-clause-numbers : goal.returns-clause-numbers
+returns-clause-numbers c =
+    c.flag-2.ensures.numbers ∙ c.flag.ensures.numbers ∙ c.set_place.ensures.numbers ∙ c.enqueue.ensures.numbers
+    ∙ ap (λ (state : State). touched 1 (numbers_of state)) c.touch.ensures
+    ∙ ap (λ (n : ℕ). let numbers : Numbers = record (numbers_of c.args.self.now) { task = n } in numbers) (omega arith)

@@ -1,0 +1,13 @@
+-- Drain: who schedules next at the end of a run, as the state asks it.
+use Rattle.std.specs.Prelude.{ℕ, Bool, ◌&&◌, ◌||◌, not, is_some, ◌++◌, filter, Option}
+use Rattle.cs_types.specs.Room.{RoomState, SiblingState, sibling_of}
+use Rattle.cs_types.specs.Drain.{pending, lowest}
+
+-- whether a sibling is online and pending, and where the test asks for it, something waits for it
+abbrev pub is_due : Bool → SiblingState → Bool
+is_due has_waiting sibling = sibling.online && (sibling.pending && (not has_waiting || is_some sibling.waiting))
+
+-- who schedules next, where the test says whether what waits is fresh
+abbrev pub next_by : RoomState → Bool → Option ℕ
+next_by room fresh =
+    lowest (filter (λ cpu. fresh && is_some (sibling_of room cpu).waiting) (pending room) ++ pending room)
