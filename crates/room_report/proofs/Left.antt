@@ -15,10 +15,11 @@ use Rattle.cs_types.specs.declared.reply.Entry.{Entry}
 use Rattle.cs_types.specs.declared.scenario.Scenario.{Scenario}
 use Rattle.cs_types.specs.Scenario.{IsPlayable}
 use Rattle.cs_types.specs.Room.{sibling_of}
-use Rattle.cs_types.specs.Touches.{own_number}
-use Rattle.cs_types.specs.History.{History, Moment, moment_of, fold_of}
+use Rattle.cs_types.specs.Touches.{own_number, is_fresh}
+use Rattle.cs_types.specs.History.{History, Moment, beginning, next, after, moment_of, fold_of}
 use Rattle.cs_types.specs.View.{cpu_view, task_after, task_view, end_view}
 use Rattle.cs_types.proofs.Foremost.{find_passes}
+use Rattle.cs_types.proofs.Numbers.{draws-step}
 use Rattle.cs_types.proofs.Rising.{Rises, is_above, rising-fold_of, above_zero, above_next, above_none}
 use Rattle.scenario_text.specs.Words.{Word}
 use Rattle.scenario_text.specs.Text.{line, entry_text}
@@ -138,6 +139,16 @@ task_above moment pid view shown =
     (ltb-true pid found.0.spec.pid (find_passes (is_above pid) moment.room.tasks found.0 found.1))
 
 -- ---- tasks that ended
+
+-- each entry ends one task at most
+ended_after : (moment : Moment) (entries : History) → length (after moment entries).room.ended ≤ length moment.room.ended + length entries
+ended_after moment [] = omega arith
+ended_after moment (entry ∷ entries) =
+    let one = draws-step moment.room (is_fresh moment.ledger) entry.event in
+    omega (arith, ended_after (next moment entry) entries, one.ended)
+
+pub few_ended : (scenario : Scenario) (history : History) → length (moment_of scenario history).room.ended ≤ length history
+few_ended scenario history = omega (arith, ended_after (beginning scenario) history)
 
 abbrev ended_row : Moment → ℕ → List Word
 ended_row moment pid = ended_words (end_view moment.ledger pid)

@@ -56,6 +56,9 @@ pub(crate) fn write_siblings<R: Room, K: Sink>(room: &R, sink: &mut K) -> Result
 
     ensures failed { OnErr result (Rose (K.faults sink.old) (K.faults sink.new)) }
     ensures counted { K.faults sink.old ≤ K.faults sink.new }
+
+    // What the next part asks for.
+    ensures playable { IsPlayable (R.scenario room.now) }
 {
     for cpu in 0..room.siblings() {
         let view = room.cpu(cpu).unwrap();

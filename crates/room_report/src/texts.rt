@@ -1,7 +1,6 @@
 //! The whole texts, part by part.
 
 ghost use Rattle.std.specs.Prelude.{◌≡◌, ◌≤◌, All, OnOk, OnErr};
-ghost use Rattle.cs_types.specs.Scenario.{IsPlayable};
 ghost use Rattle.cs_types.specs.declared.scenario.Scenario.{Scenario};
 ghost use Rattle.cs_types.specs.History.{History, moment_of};
 ghost use Rattle.cs_outside.specs.Device.{appended, Rose, WritesPrefix};
@@ -15,12 +14,7 @@ use cs_types::Room;
 /// Writes the line of each entry, and then the report. Each line goes to the sink in one piece, and
 /// again with the rest where the sink took only a part. At an `Err` the sink has failed, and a
 /// prefix of the text is written. It takes no memory.
-///
-/// The room's scenario has to be one that can be played: no two of its tasks have the same pid, and
-/// none has pid 0, so that a walk by rising pid meets each.
 pub fn output<R: Room, K: Sink>(room: &R, sink: &mut K) -> Result<(), Failed>
-    requires { IsPlayable (R.scenario room.now) }
-
     ensures ok { OnOk result (K.written sink.new ≡ appended (K.written sink.old) (output_text (R.scenario room.now) (R.history room.now))) }
     ensures prefix { WritesPrefix (K.written sink.old) (output_text (R.scenario room.now) (R.history room.now)) (K.written sink.new) }
 
@@ -36,11 +30,8 @@ pub fn output<R: Room, K: Sink>(room: &R, sink: &mut K) -> Result<(), Failed>
     report(room, sink)
 }
 
-/// Writes the report alone, in a room like that of `output` and in the same way: what the machine
-/// shows now.
+/// Writes the report alone, in the same way as `output`: what the machine shows now.
 pub fn report<R: Room, K: Sink>(room: &R, sink: &mut K) -> Result<(), Failed>
-    requires { IsPlayable (R.scenario room.now) }
-
     ensures ok { OnOk result (K.written sink.new ≡ appended (K.written sink.old) (report_text (moment_of (R.scenario room.now) (R.history room.now)))) }
     ensures prefix { WritesPrefix (K.written sink.old) (report_text (moment_of (R.scenario room.now) (R.history room.now))) (K.written sink.new) }
 

@@ -2,3 +2,4 @@ pub mod Plays
 pub mod OneWord
 pub mod Completes
 pub mod Playable
+mod Runs

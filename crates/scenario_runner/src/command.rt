@@ -1,11 +1,10 @@
 //! The commands, each by its words.
 
 ghost use Rattle.std.specs.Prelude.{◌≡◌, ◌≢◌, ◌↔◌, ◌-◌, ◌^◌, ◌<◌, ◌≤◌, Err, IfOk, IfSome, IsTrue};
-ghost use Rattle.cs_types.specs.History.{file};
 ghost use Rattle.cs_outside.specs.Device.{Rose};
 ghost use Rattle.scenario_runner.specs.Commands.{IsReplay};
 ghost use Rattle.scenario_runner.specs.Input.{IsBad, input_limit, count_read};
-ghost use Rattle.scenario_runner.specs.Replay.{Reads};
+ghost use Rattle.scenario_runner.specs.Replay.{Reads, run_of};
 ghost use Rattle.scenario_runner.specs.Ends.{EndsAsReplay};
 
 use crate::input::read_to_end;
@@ -20,10 +19,11 @@ use room_report::output;
 use scenario_text::read;
 use std::alloc::Global;
 
-/// The room of the scenario that the input spells, with all its steps made in the order of the lines.
+/// The room of the scenario that the input spells, with all its steps made in the order of the lines, and
+/// the entries of the end.
 fn played<S: Source>(alloc: Global, source: &mut S) -> Result<PlainRoom, Stop>
     ensures reads { IfOk result (λ room. Reads room.scenario (S.left source.old) (S.left source.new)) }
-    ensures played { IfOk result (λ room. ⟦<PlainRoom as Room>⟧.history room ≡ file room.scenario) }
+    ensures played { IfOk result (λ room. ⟦<PlainRoom as Room>⟧.history room ≡ run_of room.scenario) }
 
     ensures too_long { IfSome (S.left source.old) (λ _.
         (result ≡ Err Stop.TooLong) ↔ (input_limit < count_read (S.left source.old) (S.left source.new))) }
@@ -36,6 +36,7 @@ fn played<S: Source>(alloc: Global, source: &mut S) -> Result<PlainRoom, Stop>
     let scenario = read(alloc, &input)?;
     let mut room = PlainRoom::start(alloc, &scenario, Guards::none())?;
     play(&mut room, scenario.steps.items());
+    room.drain();
     Ok(room)
 }
 
@@ -49,8 +50,8 @@ fn is_replay(words: &[String]) -> bool
     }
 }
 
-/// Reads a scenario to its end, makes its steps in the order of their lines, and writes the line of
-/// each entry and the report, each line in one piece. It waits for nobody and always returns.
+/// Reads a scenario to its end, makes its steps in the order of their lines and then the entries of the
+/// end, and writes the line of each entry and the report, each line in one piece. It waits for nobody and always returns.
 ///
 /// The word is `replay`. Both counts of faults have to be below 2^64 - 1.
 pub fn replay<S: Source, K: Sink>(

@@ -1,7 +1,7 @@
 //! The run of a scenario on a machine. It is over the contract of a machine alone, so that it serves
 //! each of them.
 
-ghost use Rattle.std.specs.Prelude.{◌≡◌, ◌≤◌, [], All, length};
+ghost use Rattle.std.specs.Prelude.{◌≡◌, ◌+◌, ◌≤◌, [], All, length};
 ghost use Rattle.cs_types.specs.Scenario.{IsEvent};
 ghost use Rattle.cs_types.specs.History.{history_of};
 
@@ -14,6 +14,7 @@ pub fn play<R: Room>(room: &mut R, steps: &[Step])
     requires events { All (λ step. IsEvent (R.scenario room.old).siblings step.event) steps.now }
 
     ensures history { R.history room.new ≡ history_of (R.scenario room.old) steps.now }
+    ensures free { R.free room.new + length steps.now ≡ R.free room.old }
     ensures scenario { R.scenario room.new ≡ R.scenario room.old }
 {
     for step in steps {

@@ -1,8 +1,7 @@
 use Rattle.std.proofs.Common.{◌∙◌, arith}
 use Rattle.cs_types.specs.History.{moment_of}
-use Rattle.cs_types.proofs.Numbers.{ended-fold_of}
 use Rattle.room_report.proofs.Reached.{reached_more, reached_prefix, reached_end, whole_prefix}
-use Rattle.room_report.proofs.Left.{ended_next, ended_none, ended_past}
+use Rattle.room_report.proofs.Left.{ended_next, ended_none, ended_past, few_ended}
 use Rattle.room_report.proofs.parts.write_ended.Goals as goal
 
 pub returns-in_err-write_all-in-Some-clause-prefix : goal.returns-in_err-write_all-in-Some-clause-prefix
@@ -26,7 +25,7 @@ pub returns-in-None-clause-prefix : goal.returns-in-None-clause-prefix
 returns-in-None-clause-prefix g c = whole_prefix _ _ _ (reached_end _ _ _ _ c.loop-place.invariant.reached (ended_none (moment_of (g.R.Room.scenario c.args.room.now) (g.R.Room.history c.args.room.now)) c.loop-place.place c.in-None.ensures))
 
 pub returns-clause-ok : goal.returns-clause-ok
-returns-clause-ok g c = reached_end _ _ _ _ c.loop-place.invariant.reached (ended_past (moment_of (g.R.Room.scenario c.args.room.now) (g.R.Room.history c.args.room.now)) c.loop-place.place (omega (arith, ended-fold_of (g.R.Room.scenario c.args.room.now) (g.R.Room.history c.args.room.now), c.length-place-end.ensures, c.loop-place-test.false)))
+returns-clause-ok g c = reached_end _ _ _ _ c.loop-place.invariant.reached (ended_past (moment_of (g.R.Room.scenario c.args.room.now) (g.R.Room.history c.args.room.now)) c.loop-place.place (omega (arith, few_ended (g.R.Room.scenario c.args.room.now) (g.R.Room.history c.args.room.now), c.length-place-end.ensures, c.loop-place-test.false)))
 
 pub returns-clause-prefix : goal.returns-clause-prefix
-returns-clause-prefix g c = whole_prefix _ _ _ (reached_end _ _ _ _ c.loop-place.invariant.reached (ended_past (moment_of (g.R.Room.scenario c.args.room.now) (g.R.Room.history c.args.room.now)) c.loop-place.place (omega (arith, ended-fold_of (g.R.Room.scenario c.args.room.now) (g.R.Room.history c.args.room.now), c.length-place-end.ensures, c.loop-place-test.false))))
+returns-clause-prefix g c = whole_prefix _ _ _ (reached_end _ _ _ _ c.loop-place.invariant.reached (ended_past (moment_of (g.R.Room.scenario c.args.room.now) (g.R.Room.history c.args.room.now)) c.loop-place.place (omega (arith, few_ended (g.R.Room.scenario c.args.room.now) (g.R.Room.history c.args.room.now), c.length-place-end.ensures, c.loop-place-test.false))))

@@ -23,4 +23,4 @@ loop-place-preserved g c = record {
 pub returns-clause-prefix : goal.returns-clause-prefix
 returns-clause-prefix g c =
     whole_prefix _ _ _ (reached_end _ _ _ _ c.loop-place.invariant.reached
-    (ap (flat_map entry_text) (drop_all c.loop-place.place (g.R.Room.history c.args.room.now) (omega (arith, c.length-place-end.ensures, c.loop-place-test.false)))))
+    (ap (flat_map entry_text) (drop_all c.loop-place.place (g.R.Room.history c.args.room.now) (omega (arith, c.length-place-end.ensures.length, c.loop-place-test.false)))))

@@ -1,8 +1,9 @@
-use Rattle.std.proofs.Common.{[], refl, sym}
+use Rattle.std.proofs.Common.{◌≡◌, [], refl, sym}
 use Rattle.std.specs.List.{flat_map}
 use Rattle.std.proofs.lemmas.List.{append-nil}
 use Rattle.std.proofs.lemmas.Result.{on_ok_weaker}
 use Rattle.cs_types.specs.History.{moment_of}
+use Rattle.cs_outside.specs.Device.{appended}
 use Rattle.scenario_text.specs.Text.{entry_text}
 use Rattle.room_report.specs.Report.{report_text, output_text}
 use Rattle.room_report.proofs.Reached.{reached_start, reached_more, reached_prefix, reached_end}
@@ -16,9 +17,15 @@ returns-in_err-write_entries-clause-prefix g c =
 
 pub returns-clause-ok : goal.returns-clause-ok
 returns-clause-ok g c =
-    on_ok_weaker c.report.result (λ sent. reached_end _ _ _ _ (reached_more _ _ _ (report_text (moment_of (g.R.Room.scenario c.args.room.now) (g.R.Room.history c.args.room.now))) [] _ _ _
-    (reached_more _ _ _ (flat_map entry_text (g.R.Room.history c.args.room.now)) (report_text (moment_of (g.R.Room.scenario c.args.room.now) (g.R.Room.history c.args.room.now))) _ _ _ (reached_start (g.K.Sink.written c.args.sink.now) (output_text (g.R.Room.scenario c.args.room.now) (g.R.Room.history c.args.room.now)) (output_text (g.R.Room.scenario c.args.room.now) (g.R.Room.history c.args.room.now)) refl) refl refl c.in_ok-write_entries.ensures.ok)
-    (sym (append-nil (report_text (moment_of (g.R.Room.scenario c.args.room.now) (g.R.Room.history c.args.room.now))))) refl sent) refl) c.report.ensures.ok
+    let before = g.K.Sink.written c.args.sink.now in
+    let mid = g.K.Sink.written c.write_entries.new.sink in
+    let now = g.K.Sink.written c.report.new.sink in
+    let entries = flat_map entry_text (g.R.Room.history c.args.room.now) in
+    let shown = report_text (moment_of (g.R.Room.scenario c.args.room.now) (g.R.Room.history c.args.room.now)) in
+    let whole = output_text (g.R.Room.scenario c.args.room.now) (g.R.Room.history c.args.room.now) in
+    on_ok_weaker {P = now ≡ appended mid shown} {Q = now ≡ appended before whole} c.report.result (λ sent. reached_end before whole [] now (reached_more before whole shown shown [] shown mid now
+    (reached_more before whole whole entries shown entries before mid (reached_start before whole whole refl) refl refl c.in_ok-write_entries.ensures.ok)
+    (sym (append-nil shown)) refl sent) refl) c.report.ensures.ok
 
 pub returns-clause-prefix : goal.returns-clause-prefix
 returns-clause-prefix g c =

@@ -1,7 +1,8 @@
-use Rattle.std.proofs.Common.{refl}
+use Rattle.std.proofs.Common.{◌≡◌, refl}
 use Rattle.std.proofs.lemmas.Result.{on_ok_weaker}
 use Rattle.cs_types.specs.History.{moment_of}
-use Rattle.room_report.specs.Report.{core_lines, cpu_lines, task_lines, ended_lines}
+use Rattle.cs_outside.specs.Device.{appended}
+use Rattle.room_report.specs.Report.{core_lines, cpu_lines, task_lines, ended_lines, report_text}
 use Rattle.room_report.proofs.Reached.{none_left, line_more, line_prefix, part_more, part_prefix}
 use Rattle.room_report.proofs.Left.{after_core, after_siblings, after_tasks, done_lines, report_left}
 use Rattle.room_report.proofs.texts.report.Goals as goal
@@ -40,7 +41,7 @@ returns-in_err-write_ended-clause-prefix g c =
 
 pub returns-clause-ok : goal.returns-clause-ok
 returns-clause-ok g c =
-    on_ok_weaker c.write_all.result (λ sent. none_left _ _ _ (line_more _ _ _ _ _ _ _
+    on_ok_weaker {Q = g.K.Sink.written c.write_all.new.sink ≡ appended (g.K.Sink.written c.args.sink.now) (report_text (moment_of (g.R.Room.scenario c.args.room.now) (g.R.Room.history c.args.room.now)))} c.write_all.result (λ sent. none_left _ _ _ (line_more _ _ _ _ _ _ _
     (part_more _ _ (ended_lines (moment_of (g.R.Room.scenario c.args.room.now) (g.R.Room.history c.args.room.now))) done_lines _ _
     (part_more _ _ (task_lines (moment_of (g.R.Room.scenario c.args.room.now) (g.R.Room.history c.args.room.now))) (after_tasks (moment_of (g.R.Room.scenario c.args.room.now) (g.R.Room.history c.args.room.now))) _ _
     (part_more _ _ (cpu_lines (moment_of (g.R.Room.scenario c.args.room.now) (g.R.Room.history c.args.room.now))) (after_siblings (moment_of (g.R.Room.scenario c.args.room.now) (g.R.Room.history c.args.room.now))) _ _

@@ -4,7 +4,7 @@ use Rattle.scenario_text.specs.declared.fault.BadKind.{BadKind}
 use Rattle.scenario_runner.specs.declared.stop.Stop.TheVariants.{ReadFault, TooLong, BadScenario}
 use Rattle.scenario_runner.specs.Input.{IsBad, input_limit, count_read}
 use Rattle.cs_types.specs.History.{History}
-use Rattle.cs_types.proofs.Histories.{IsLegal-history_of, events_by-file}
+use Rattle.scenario_runner.proofs.Runs.{played}
 use Rattle.cs_outside.specs.Device.{appended, WritesPrefix}
 use Rattle.room_report.specs.Report.{output_text}
 use Rattle.scenario_runner.proofs.Completes.{stop_complete}
@@ -19,7 +19,7 @@ returns-in-Ok-output g c =
         scenario,
         record {
           reads = c.in-Ok.ensures.reads;
-          played = record { legal = IsLegal-history_of scenario scenario.steps; scripts = events_by-file scenario };
+          played = played scenario (built_playable scenario c.in-Ok.ensures.reads.built);
           writes = c.in-Ok-output.ensures.ok
               ∙ ap (λ (history : History). appended (g.K.Sink.written c.args.sink.now) (output_text scenario history)) c.in-Ok.ensures.played;
         },
@@ -33,9 +33,6 @@ returns-in-Ok-output g c =
       unwritten = search rules;
       complete = search rules;
     }
-
-pub output-requires : goal.output-requires
-output-requires g c = built_playable c.in-Ok.room.scenario c.in-Ok.ensures.reads.built
 
 pub returns-in-Ok : goal.returns-in-Ok
 returns-in-Ok g c =
