@@ -63,7 +63,8 @@ pub fn joined(alloc: Global, lines: &[&str]) -> Result<Vec<u8>, AllocError> {
     Ok(text)
 }
 
-fn words_of(alloc: Global, texts: &[&str]) -> Result<Vec<String>, AllocError> {
+/// The words of a command line.
+pub fn words_of(alloc: Global, texts: &[&str]) -> Result<Vec<String>, AllocError> {
     let mut words = Vec::new(alloc);
     for text in texts {
         words.push(String::from_str(alloc, text)?)?;
@@ -76,7 +77,13 @@ pub fn only<R: AllocGlobal + Abort>(rt: &R, call: u64) -> Vec<u64> {
     vec![in rt.alloc(); call].expect(rt, "room")
 }
 
-fn source_of<R: AllocGlobal + Abort>(rt: &R, text: &[u8], most: usize, fails: Vec<u64>) -> MemSource
+/// A source of this text, which gives `most` bytes at once, and fails at these calls.
+pub fn source_of<R: AllocGlobal + Abort>(
+    rt: &R,
+    text: &[u8],
+    most: usize,
+    fails: Vec<u64>,
+) -> MemSource
     requires { 0 < most }
     ensures { result.faults ≡ 0 }
 {

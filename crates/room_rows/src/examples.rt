@@ -4,11 +4,14 @@
 ghost use Rattle.cs_types.specs.Scenario.{IsPlayable};
 
 use crate::commands::{expect_text, joined, only, sink_of};
+use crate::moves::{
+    HOTPLUG, LAST_TASK_STOLEN, LEAVES_WITH_QUEUE, REFUSED_MOVES, SAME_POLICY, STEAL,
+};
 use crate::scripts::{
     CHARGED_AT_EXIT, CORE_COOKIE_0, FORCED_IDLE, FORCED_IDLE_TICK, LOWER_MATCH, NOTHING,
     STALE_PICK, Script, THREE_SHARES, TIE_OF_LEADS, TWO_SHARES,
 };
-use cs_types::{Cookie, Cpu, Pid, Room};
+use cs_types::{Actor, Cookie, Cpu, Entry, Event, Kind, Pid, Reply, Room};
 use plain_room::PlainRoom;
 use ptrace_check::Guards;
 use room_report::{output, report};
@@ -17,7 +20,7 @@ use scenario_text::read;
 use std::process::Abort;
 
 /// The earlier deadline goes first, a deadline task forks none, and a sibling that runs idle has no task
-/// that could sleep or end.
+/// that could sleep or end. The running task becomes a fair one, and makes way.
 const DEADLINES: Script = script!(
     2,
     "8 8 65536",
@@ -31,15 +34,18 @@ const DEADLINES: Script = script!(
         ("c0 wake 1", "Awake"),
         ("c0 wake 9", "NoTask"),
         ("c0 fork 1 process", "EAGAIN"),
+        ("c0 setsched 2 fair:0", "Set"),
+        ("c0 setsched 9 fair:0", "NoTask"),
+        ("s0 turn", "Plain 1 core 0 forced 0"),
         ("s1 block", "Idle"),
         ("s1 exit", "Idle"),
     ],
     [
         "clock 10",
-        "numbers 4 0",
+        "numbers 7 0",
         "core 0 forced 0 occupation 0",
         "intervals 0",
-        "cpu 0 online runs 2 number 0",
+        "cpu 0 online runs 1 number 0",
         "cpu 1 online runs idle number 0",
         "task 1 cpu 0 queued cookie 0 forced 0 vtime 0",
         "task 2 cpu 0 queued cookie 0 forced 0 vtime 0",
@@ -128,7 +134,7 @@ const FORK_AND_EXIT: Script = script!(
 
 /// The refusals of calls, and who may access whom: 2 and 4 are another user's, 3 and 4 are one process
 /// group, 5 may not be dumped, 6 has the capability, 7 too. The group's call that is refused uses
-/// cookie 1.
+/// cookie 1. Where one sibling alone is online, each call is refused.
 const REFUSALS: Script = Script {
     text: concat!(
         "coresched 1\nsiblings 2\nlimits 8 1 65536\n",
@@ -145,7 +151,8 @@ const REFUSALS: Script = Script {
         "step c0 prctl 1 0 1 0 0\nstep c0 prctl 1 0 1 0 65528\nstep c0 prctl 1 0 1 0 65536\n",
         "step c0 prctl 1 3 1 1 0\nstep c0 prctl 1 1 3 2 0\nstep c0 prctl 1 1 0 0 0\n",
         "step c0 prctl 1 0 0 0 4096\nstep c0 prctl 1 1 3 2 0\nstep c0 prctl 1 2 5 0 0\n",
-        "step c0 prctl 6 2 5 0 0\nstep c0 prctl 1 2 6 0 0\nstep c0 prctl 1 2 7 0 0\nend\n",
+        "step c0 prctl 6 2 5 0 0\nstep c0 prctl 1 2 6 0 0\nstep c0 prctl 1 2 7 0 0\n",
+        "step c0 offline 1\nstep c0 prctl 1 4 0 0 0\nend\n",
     ),
     entries: concat!(
         "c0 prctl 9 0 0 0 4096: NoCaller\nc0 prctl 1 4 0 0 0: EINVAL\nc0 prctl 1 1 -1 0 0: EINVAL\n",
@@ -155,14 +162,15 @@ const REFUSALS: Script = Script {
         "c0 prctl 1 3 1 1 0: EINVAL\nc0 prctl 1 1 3 2 0: EPERM\nc0 prctl 1 1 0 0 0: 0\n",
         "c0 prctl 1 0 0 0 4096: 0 value 2\nc0 prctl 1 1 3 2 0: ENOMEM\nc0 prctl 1 2 5 0 0: EPERM\n",
         "c0 prctl 6 2 5 0 0: 0\nc0 prctl 1 2 6 0 0: EPERM\nc0 prctl 1 2 7 0 0: EPERM\n",
+        "c0 offline 1: Done\nc0 prctl 1 4 0 0 0: ENODEV\nend resched 0: Plain idle core 0 forced 0\n",
     ),
     report: report_of!(
         "clock 0",
-        "numbers 0 0",
+        "numbers 1 0",
         "core 0 forced 0 occupation 0",
         "intervals 0",
         "cpu 0 online runs idle number 0",
-        "cpu 1 online runs idle number 0",
+        "cpu 1 offline runs idle number 0",
         "task 1 cpu 0 asleep cookie 2 forced 0 vtime 0",
         "task 2 cpu 0 asleep cookie 0 forced 0 vtime 0",
         "task 3 cpu 0 asleep cookie 0 forced 0 vtime 0",
@@ -226,9 +234,15 @@ fn scripts(rt: HostRuntime) {
     expect_script(&rt, FORK_AND_EXIT);
     expect_script(&rt, REFUSALS);
     expect_script(&rt, LAST_REFERENCE);
+    expect_script(&rt, STEAL);
+    expect_script(&rt, LAST_TASK_STOLEN);
+    expect_script(&rt, HOTPLUG);
+    expect_script(&rt, LEAVES_WITH_QUEUE);
+    expect_script(&rt, REFUSED_MOVES);
+    expect_script(&rt, SAME_POLICY);
 }
 
-/// The machine of a script after all its steps.
+/// The machine of a script after all its steps, before the entries of the end.
 fn played<R: AllocGlobal + Abort>(rt: &R, script: Script) -> PlainRoom
     ensures { IsPlayable result.scenario }
 {
@@ -265,6 +279,25 @@ fn views_of_a_core(rt: HostRuntime) {
         assert!(rt; cpu.online && (cpu.run, cpu.number, cpu.pending) == wanted);
     }
     assert!(rt; room.cpu(2).is_none());
+}
+
+/// Whether an entry is one of the end, in which this sibling adopts this task.
+fn is_adoption_at_end(entry: &Entry, cpu: Cpu, run: Pid) -> bool {
+    matches!(entry.actor, Actor::End)
+        && matches!(entry.event, Event::Resched(other) if other == cpu)
+        && matches!(entry.reply, Reply::Picked(pick) if matches!(pick.kind, Kind::Adopted) && pick.run == run)
+}
+
+// Sibling 1 alone is pending, and has adopted its task then.
+#[test]
+fn end_of_a_run(rt: HostRuntime) {
+    let mut room = played(&rt, FORCED_IDLE_TICK);
+    assert!(rt; room.siblings() == 2 && 4 <= room.spare());
+    assert!(rt; room.drain() == 1);
+    assert!(rt; room.length() == 11);
+    let entry = room.entry(10).expect(&rt, "an entry");
+    assert!(rt; is_adoption_at_end(&entry, 1, 2));
+    assert!(rt; !room.cpu(1).expect(&rt, "a sibling").pending);
 }
 
 /// Expects this task behind the pid: its pid, its sibling, its cookie, its total of forced idle and its

@@ -13,8 +13,8 @@ macro_rules! report_of {
 }
 
 /// The script of this many siblings, of these limits, of these tasks, of these steps, each with its
-/// reply, and of the lines of this report. A task is its pid, its policy and its sibling. It leads its
-/// own groups, and all are one user's.
+/// reply, of the picks of the end, where it makes some, each with its sibling, and of the lines of this
+/// report. A task is its pid, its policy and its sibling. It leads its own groups, and all are one user's.
 #[cfg(test)]
 macro_rules! script {
     (
@@ -22,6 +22,7 @@ macro_rules! script {
         $limits:literal,
         [$(($pid:literal, $policy:literal, $cpu:literal)),* $(,)?],
         [$(($step:literal, $reply:literal)),* $(,)?],
+        $(end [$(($last:literal, $pick:literal)),+ $(,)?],)?
         [$($line:literal),+ $(,)?] $(,)?
     ) => {
         Script {
@@ -31,7 +32,10 @@ macro_rules! script {
                 $("step ", $step, "\n",)*
                 "end\n"
             ),
-            entries: concat!($($step, ": ", $reply, "\n",)*),
+            entries: concat!(
+                $($step, ": ", $reply, "\n",)*
+                $($("end resched ", $last, ": ", $pick, "\n",)+)?
+            ),
             report: report_of!($($line),+),
         }
     };
@@ -44,7 +48,11 @@ mod devices;
 #[cfg(test)]
 mod examples;
 #[cfg(test)]
+mod host;
+#[cfg(test)]
 mod lines;
+#[cfg(test)]
+mod moves;
 #[cfg(test)]
 mod offers;
 #[cfg(test)]

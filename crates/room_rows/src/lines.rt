@@ -183,12 +183,13 @@ fn lines_of_calls_that_tell(rt: HostRuntime) {
 }
 
 /// Linux' numbers of the errors.
-const NUMBERS: [(Errno, i32); 7] = [
+const NUMBERS: [(Errno, i32); 8] = [
     (Errno::Eperm, 1),
     (Errno::Esrch, 3),
     (Errno::Eagain, 11),
     (Errno::Enomem, 12),
     (Errno::Efault, 14),
+    (Errno::Ebusy, 16),
     (Errno::Enodev, 19),
     (Errno::Einval, 22),
 ];

@@ -39,7 +39,7 @@ macro_rules! after_head {
 }
 
 /// For each rule a text that breaks it alone.
-const REFUSED: [(&str, &str); 67] = [
+const REFUSED: [(&str, &str); 73] = [
     ("some line", ""),
     (
         "the version",
@@ -156,6 +156,30 @@ const REFUSED: [(&str, &str); 67] = [
         after_head!("step c0 resched\nend\n"),
     ),
     (
+        "a policy of a change",
+        after_head!("step c0 setsched 1\nend\n"),
+    ),
+    (
+        "the greatest priority of a change",
+        after_head!("step c0 setsched 1 fifo:100\nend\n"),
+    ),
+    (
+        "the least pid of a change",
+        after_head!("step c0 setsched 0 stop\nend\n"),
+    ),
+    (
+        "a change's own actor",
+        after_head!("step s0 setsched 1 stop\nend\n"),
+    ),
+    (
+        "a sibling that leaves",
+        after_head!("step c0 offline 2\nend\n"),
+    ),
+    (
+        "a sibling that comes back",
+        after_head!("step c0 online 01\nend\n"),
+    ),
+    (
         "the greatest pid of a task",
         after_head!("task 10000 1 1 0 fifo:10 0 0 0 0 0 0 0 1 1\nend\n"),
     ),
@@ -255,8 +279,12 @@ const REFUSED: [(&str, &str); 67] = [
     ),
 ];
 
-/// A tick, and for each argument of an advance and of a call the least and the greatest.
-const STEPS: [&str; 7] = [
+/// A tick, and for each argument of the other events the least and the greatest.
+const STEPS: [&str; 11] = [
+    after_head!("step c7 setsched 999999 fair:-20\nend\n"),
+    after_head!("step c0 setsched 1 stop\nend\n"),
+    after_head!("step c0 offline 0\nend\n"),
+    after_head!("step c7 online 1\nend\n"),
     after_head!("step s1 tick\nend\n"),
     after_head!("step c0 advance 1\nend\n"),
     after_head!("step c7 advance 1000000000\nend\n"),

@@ -25,7 +25,8 @@ pub const NOTHING: Script = script!(
     ],
 );
 
-/// The other sibling's task has another cookie, and the running one is charged at a tick.
+/// The other sibling's task has another cookie. That sibling looks once for one with the core's, and the
+/// running task is charged at a tick.
 pub const FORCED_IDLE: Script = script!(
     2,
     "8 8 65536",
@@ -37,6 +38,7 @@ pub const FORCED_IDLE: Script = script!(
         ("c0 wake 2", "Woken 1"),
         ("s0 turn", "Selected 1 core 1 forced 1"),
         ("s1 turn", "Selected idle core 1 forced 1"),
+        ("s1 turn", "Missed 0"),
         ("c0 advance 10", "Now 10"),
         ("s0 tick", "Ticked no"),
         ("s1 turn", "Nothing"),
@@ -111,7 +113,7 @@ pub const CORE_COOKIE_0: Script = script!(
     ],
 );
 
-/// Of two leads that are equal each sibling takes its own.
+/// Of two leads that are equal each sibling takes its own. At the end the other one leaves.
 pub const TIE_OF_LEADS: Script = script!(
     2,
     "8 8 65536",
@@ -124,13 +126,14 @@ pub const TIE_OF_LEADS: Script = script!(
         ("s1 turn", "Selected 2 core 2 forced 1"),
         ("s0 turn", "Selected 1 core 1 forced 1"),
     ],
+    end[(1, "Adopted idle core 1 forced 1")],
     [
         "clock 0",
         "numbers 4 4",
         "core 1 forced 1 occupation 1",
         "intervals 0",
         "cpu 0 online runs 1 number 4",
-        "cpu 1 online runs 2 number 3",
+        "cpu 1 online runs idle number 4",
         "task 1 cpu 0 queued cookie 1 forced 0 vtime 0",
         "task 2 cpu 1 queued cookie 2 forced 0 vtime 0",
     ],
@@ -189,13 +192,14 @@ pub const FORCED_IDLE_TICK: Script = script!(
         ("s0 tick", "Ticked yes"),
         ("s0 turn", "Selected idle core 0 forced 1"),
     ],
+    end[(1, "Adopted 2 core 0 forced 1")],
     [
         "clock 6000000",
         "numbers 7 7",
         "core 0 forced 1 occupation 1",
         "intervals 1",
         "cpu 0 online runs idle number 7",
-        "cpu 1 online runs idle number 6",
+        "cpu 1 online runs 2 number 7",
         "task 1 cpu 0 queued cookie 1 forced 6000000 vtime 6000000",
         "task 2 cpu 1 queued cookie 0 forced 0 vtime 0",
     ],
@@ -222,15 +226,20 @@ pub const TWO_SHARES: Script = script!(
         ("c0 advance 7", "Now 7"),
         ("s0 tick", "Ticked no"),
     ],
+    end [
+        (1, "Adopted 2 core 1 forced 2"),
+        (2, "Selected idle core 1 forced 2"),
+        (3, "Selected idle core 1 forced 2"),
+    ],
     [
         "clock 7",
-        "numbers 5 5",
+        "numbers 7 7",
         "core 1 forced 2 occupation 2",
         "intervals 1",
         "cpu 0 online runs 1 number 5",
-        "cpu 1 online runs idle number 0",
-        "cpu 2 online runs idle number 0",
-        "cpu 3 online runs idle number 0",
+        "cpu 1 online runs 2 number 5",
+        "cpu 2 online runs idle number 6",
+        "cpu 3 online runs idle number 7",
         "task 1 cpu 0 queued cookie 1 forced 7 vtime 0",
         "task 2 cpu 1 queued cookie 1 forced 7 vtime 0",
         "task 3 cpu 2 queued cookie 0 forced 0 vtime 0",
@@ -260,15 +269,20 @@ pub const THREE_SHARES: Script = script!(
         ("c0 advance 10", "Now 10"),
         ("s0 tick", "Ticked no"),
     ],
+    end [
+        (1, "Adopted 2 core 1 forced 1"),
+        (2, "Adopted 3 core 1 forced 1"),
+        (3, "Selected idle core 1 forced 1"),
+    ],
     [
         "clock 10",
-        "numbers 5 5",
+        "numbers 6 6",
         "core 1 forced 1 occupation 3",
         "intervals 1",
         "cpu 0 online runs 1 number 5",
-        "cpu 1 online runs idle number 0",
-        "cpu 2 online runs idle number 0",
-        "cpu 3 online runs idle number 0",
+        "cpu 1 online runs 2 number 5",
+        "cpu 2 online runs 3 number 5",
+        "cpu 3 online runs idle number 6",
         "task 1 cpu 0 queued cookie 1 forced 3 vtime 0",
         "task 2 cpu 1 queued cookie 1 forced 3 vtime 0",
         "task 3 cpu 2 queued cookie 1 forced 3 vtime 0",

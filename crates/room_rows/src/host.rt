@@ -1,0 +1,67 @@
+//! A host as one would find it: two guests of four tasks each, each guest under one cookie, and a task that
+//! keeps house, over 220 rounds in which each sibling ticks and takes its turn.
+
+use crate::commands::{source_of, words_of};
+use cs_outside::MemSink;
+use scenario_runner::{Status, run};
+use std::alloc::{AllocError, Global};
+use std::str;
+
+/// The host, and its steps before the first round.
+const HEAD: &str = concat!(
+    "coresched 1\nsiblings 4\nlimits 64 8 1048576\n",
+    "task 10 10 10 0 fair:0 1000 1000 1000 1000 1000 1000 0 1 1\n",
+    "task 11 10 10 1 fair:0 1000 1000 1000 1000 1000 1000 0 1 1\n",
+    "task 12 10 10 2 fair:0 1000 1000 1000 1000 1000 1000 0 1 1\n",
+    "task 13 10 10 3 fair:0 1000 1000 1000 1000 1000 1000 0 1 1\n",
+    "task 20 20 20 0 fair:0 1000 1000 1000 1000 1000 1000 0 1 1\n",
+    "task 21 20 20 1 fair:0 1000 1000 1000 1000 1000 1000 0 1 1\n",
+    "task 22 20 20 2 fair:0 1000 1000 1000 1000 1000 1000 0 1 1\n",
+    "task 23 20 20 3 fair:0 1000 1000 1000 1000 1000 1000 0 1 1\n",
+    "task 30 30 30 0 fifo:50 1000 1000 1000 1000 1000 1000 0 1 1\n",
+    "step c0 prctl 10 1 0 1 0\nstep c0 prctl 20 1 0 1 0\n",
+    "step c0 wake 10\nstep c0 wake 11\nstep c0 wake 12\nstep c0 wake 13\n",
+    "step c0 wake 20\nstep c0 wake 21\nstep c0 wake 22\nstep c0 wake 23\n",
+    "step c0 wake 30\nstep s0 turn\nstep s0 block\n",
+);
+
+/// The lines of these steps.
+const FIRST_LINES: &str = concat!(
+    "c0 prctl 10 1 0 1 0: 0\nc0 prctl 20 1 0 1 0: 0\n",
+    "c0 wake 10: Woken 0\nc0 wake 11: Woken 1\nc0 wake 12: Woken 2\nc0 wake 13: Woken 3\n",
+    "c0 wake 20: Woken 0\nc0 wake 21: Woken 1\nc0 wake 22: Woken 2\nc0 wake 23: Woken 3\n",
+    "c0 wake 30: Woken 0\ns0 turn: Plain 30 core 0 forced 0\n",
+    "s0 block: Slept 30 Selected 10 core 1 forced 0\n",
+);
+
+/// A millisecond, in which each sibling ticks and takes its turn.
+const ROUND: &str = concat!(
+    "step c0 advance 1000000\n",
+    "step s0 tick\nstep s1 tick\nstep s2 tick\nstep s3 tick\n",
+    "step s0 turn\nstep s1 turn\nstep s2 turn\nstep s3 turn\n",
+);
+
+/// The text of the host, of 1993 steps.
+fn text_of_host(alloc: Global) -> Result<Vec<u8>, AllocError> {
+    let mut text = HEAD.as_bytes().to_vec(alloc)?;
+    for _ in 0..220 {
+        text.extend_from_slice(ROUND.as_bytes())?;
+    }
+    text.extend_from_slice(b"end\n")?;
+    Ok(text)
+}
+
+#[test]
+fn host_of_two_guests(rt: HostRuntime) {
+    let text = text_of_host(rt.alloc()).expect(&rt, "room");
+    let mut source = source_of(&rt, &text, 65_536, Vec::new(rt.alloc()));
+    let mut sink = MemSink::of(rt.alloc(), 131_072, 131_072, Vec::new(rt.alloc())).expect(
+        &rt, "room",
+    );
+    let words = words_of(rt.alloc(), &["replay"]).expect(&rt, "room");
+    assert!(rt; run(&rt, &words, &mut source, &mut sink) == Status::Done);
+    let output = str::from_utf8(sink.bytes()).expect(&rt, "a text");
+    assert!(rt; output.starts_with(FIRST_LINES));
+    let (_, report) = output.split_once("report\n").expect(&rt, "a report");
+    assert!(rt; report.starts_with("clock 220000000\n"));
+}
