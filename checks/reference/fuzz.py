@@ -2,7 +2,7 @@
 """Compares the built program with the rules as reference.py has them: statuses, fault lines and every line of the
 output. Where they differ, the scenario and both outputs are kept in a folder of the system's temporary one.
 
-Usage: fuzz.py --program PATH --count N --seed S [--stage r6] [--mutated | --limits] [--coverage]
+Usage: fuzz.py --program PATH --count N --seed S [--stage r7] [--mutated | --limits] [--coverage]
        fuzz.py --crate .../crates/coresched --count N --seed S [--mutated | --limits]
        fuzz.py --self N [--stage r7] [--seed S]
 
@@ -723,7 +723,7 @@ def show(stats):
 def main():
     p = argparse.ArgumentParser()
     p.add_argument('--program')
-    p.add_argument('--stage', default='r6', choices=['r4', 'r5', 'r6', 'r7'])
+    p.add_argument('--stage', default='r7', choices=['r4', 'r5', 'r6', 'r7'])
     p.add_argument('--count', type=int, default=1000)
     p.add_argument('--seed', type=int, default=1)
     p.add_argument('--mutated', action='store_true')
