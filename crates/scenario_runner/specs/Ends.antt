@@ -1,5 +1,5 @@
 -- Ends: how a command ends. When each status comes, what was read for it, and what was written.
-use Rattle.std.specs.Prelude.{◌≡◌, ◌≢◌, ◌⊎◌, ◌↔◌, ℕ, ◌<◌, ◌≤◌, List, length, Option, Some, IfSome, String}
+use Rattle.std.specs.Prelude.{◌≡◌, ◌≢◌, ◌⊎◌, ◌↔◌, ℕ, ◌+◌, ◌<◌, ◌≤◌, List, length, Option, Some, IfSome, String}
 use Rattle.std.specs.declared.alloc.Global.{Global}
 use Rattle.cs_types.specs.declared.scenario.Scenario.{Scenario}
 use Rattle.cs_types.specs.Scenario.{IsBuilt}
@@ -35,6 +35,9 @@ pub record EndsAsReplay {S K : Type 0} (words : List (String Global)) (source : 
   -- exactly where more bytes were read than an input may have, which a source tells that tells its bytes
   pub too_long : IfSome (source.bytes source.before) (λ _.
       (status ≡ TooLong) ↔ (input_limit < count_read (source.bytes source.before) (source.bytes source.after)))
+  -- no more is read than one byte beyond that
+  pub most : IfSome (source.bytes source.before) (λ _.
+      count_read (source.bytes source.before) (source.bytes source.after) ≤ input_limit + 1)
   -- only where the input was read to its end and no scenario has that text
   pub bad_scenario : (line : ℕ) (kind : BadKind) → status ≡ BadScenario line kind →
       IsBad line kind (source.bytes source.before) (source.bytes source.after)

@@ -1,6 +1,6 @@
 //! The commands, each by its words.
 
-ghost use Rattle.std.specs.Prelude.{◌≡◌, ◌≢◌, ◌↔◌, ◌-◌, ◌^◌, ◌<◌, ◌≤◌, Err, IfOk, IfSome, IsTrue};
+ghost use Rattle.std.specs.Prelude.{◌≡◌, ◌≢◌, ◌↔◌, ◌+◌, ◌-◌, ◌^◌, ◌<◌, ◌≤◌, Err, IfOk, IfSome, IsTrue};
 ghost use Rattle.cs_outside.specs.Device.{Rose};
 ghost use Rattle.scenario_runner.specs.Commands.{IsReplay};
 ghost use Rattle.scenario_runner.specs.Input.{IsBad, input_limit, count_read};
@@ -27,6 +27,8 @@ fn played<S: Source>(alloc: Global, source: &mut S) -> Result<PlainRoom, Stop>
 
     ensures too_long { IfSome (S.left source.old) (λ _.
         (result ≡ Err Stop.TooLong) ↔ (input_limit < count_read (S.left source.old) (S.left source.new))) }
+    ensures most { IfSome (S.left source.old) (λ _.
+        count_read (S.left source.old) (S.left source.new) ≤ input_limit + 1) }
     ensures bad { (line : _) (kind : _) → result ≡ Err (Stop.BadScenario line kind) →
         IsBad line kind (S.left source.old) (S.left source.new) }
     ensures failed { result ≡ Err Stop.ReadFault → Rose (S.faults source.old) (S.faults source.new) }

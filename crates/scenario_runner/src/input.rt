@@ -1,6 +1,6 @@
 //! Reading the input to its end.
 
-ghost use Rattle.std.specs.Prelude.{◌≡◌, ◌≢◌, ◌<◌, ◌≤◌, ◌↔◌, Err, IfOk, IfSome};
+ghost use Rattle.std.specs.Prelude.{◌≡◌, ◌≢◌, ◌+◌, ◌<◌, ◌≤◌, ◌↔◌, Err, IfOk, IfSome};
 ghost use Rattle.cs_outside.specs.Device.{Rose};
 ghost use Rattle.scenario_runner.specs.Input.{IsReadAs, input_limit, count_read};
 
@@ -20,6 +20,8 @@ pub fn read_to_end<S: Source>(alloc: Global, source: &mut S) -> Result<Vec<u8>, 
     ensures whole { IfOk result (λ bytes. IsReadAs (S.left source.old) bytes.items (S.left source.new)) }
     ensures too_long { IfSome (S.left source.old) (λ _.
         (result ≡ Err Stop.TooLong) ↔ (input_limit < count_read (S.left source.old) (S.left source.new))) }
+    ensures most { IfSome (S.left source.old) (λ _.
+        count_read (S.left source.old) (S.left source.new) ≤ input_limit + 1) }
     ensures bad { (line : _) (kind : _) → result ≢ Err (Stop.BadScenario line kind) }
 
     ensures failed { result ≡ Err Stop.ReadFault → Rose (S.faults source.old) (S.faults source.new) }
