@@ -8,7 +8,7 @@ use Rattle.std.proofs.lemmas.List.Elements.{All-head, All-tail}
 use Rattle.std.proofs.lemmas.List.Filters.{sum_by-filter_both}
 use Rattle.std.proofs.lemmas.List.Sums.{sum_by-cons, sum_by-le}
 use Rattle.cs_types.specs.declared.task.Task.{Task}
-use Rattle.cs_types.specs.Room.{has_pid, placed}
+use Rattle.cs_types.specs.Room.{has_pid, inserted}
 use Rattle.cs_types.proofs.Foremost.{find_passes}
 use Rattle.cookie_refs.specs.Refs.{Refs, count_of, references, Agree, AgreeBut}
 use Rattle.cookie_refs.proofs.Counts.{sum_by_none}
@@ -62,12 +62,12 @@ module _ {X : Type 0} (key : X → ℕ) (f : X → ℕ) (wanted : ℕ) (new : X)
       ]
 
 -- one more task in its place adds its term to the sum
-sum_by-placed : (f : Task → ℕ) (task : Task) (tasks : List Task) → sum_by f (placed task tasks) ≡ sum_by f tasks + f task
-sum_by-placed f task [] = omega (arith, sum_by-cons f task [])
-sum_by-placed f task (first ∷ rest) =
+sum_by-inserted : (f : Task → ℕ) (task : Task) (tasks : List Task) → sum_by f (inserted task tasks) ≡ sum_by f tasks + f task
+sum_by-inserted f task [] = omega (arith, sum_by-cons f task [])
+sum_by-inserted f task (first ∷ rest) =
     cond_both (ltb task.spec.pid first.spec.pid) _ _ (λ (ts : List Task). sum_by f ts ≡ sum_by f (first ∷ rest) + f task)
     (λ _. omega (arith, sum_by-cons f task (first ∷ rest)))
-    (λ _. omega (arith, sum_by-cons f first (placed task rest), sum_by-cons f first rest, sum_by-placed f task rest))
+    (λ _. omega (arith, sum_by-cons f first (inserted task rest), sum_by-cons f first rest, sum_by-inserted f task rest))
 
 -- ---- agreements
 
@@ -122,11 +122,11 @@ AgreeBut-with_cookie refs got put tasks held pid cookie task rising found gets p
     omega (arith, gets other, puts other, agree other, replaced)
 
 -- A task is placed among the others, and its cookie got.
-pub AgreeBut-placed : (refs got : Refs) (tasks : List Task) (held : ℕ) (task : Task) →
+pub AgreeBut-inserted : (refs got : Refs) (tasks : List Task) (held : ℕ) (task : Task) →
     ((other : ℕ) → count_of got other ≡ count_of refs other + references task.cookie other) →
-    AgreeBut refs tasks held → AgreeBut got (placed task tasks) held
-AgreeBut-placed refs got tasks held task gets agree other =
-    omega (arith, gets other, agree other, sum_by-placed (λ (task : Task). references task.cookie other) task tasks)
+    AgreeBut refs tasks held → AgreeBut got (inserted task tasks) held
+AgreeBut-inserted refs got tasks held task gets agree other =
+    omega (arith, gets other, agree other, sum_by-inserted (λ (task : Task). references task.cookie other) task tasks)
 
 -- The one task with a pid goes, and its cookie is put.
 pub AgreeBut-without : (refs put : Refs) (tasks : List Task) (held pid : ℕ) (task : Task) → filter (has_pid pid) tasks ≡ task ∷ [] →

@@ -97,7 +97,7 @@ impl CookieRefs {
     /// cookie.
     pub fn get(&mut self, cookie: Cookie)
         requires live { cookie ≢ 0 → 0 < count_of self.old cookie }
-        requires room { count_of self.old cookie < 2 ^ 31 }
+        requires few { count_of self.old cookie < 2 ^ 31 }
         ensures counts { (other : ℕ) →
             count_of self.new other ≡ count_of self.old other + references cookie other }
         ensures live { live_count self.new ≡ live_count self.old }

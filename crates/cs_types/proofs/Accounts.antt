@@ -20,15 +20,15 @@ use Rattle.cs_types.specs.declared.reply.Entry.{Entry}
 use Rattle.cs_types.specs.declared.event.Step.{Step}
 use Rattle.cs_types.specs.declared.scenario.Scenario.{Scenario}
 use Rattle.cs_types.specs.Room.{RoomState, idle, is_online, online, sibling_of, running_on, task_of}
-use Rattle.cs_types.specs.Selection.{Scheduled, choice, is_forced, forced_count, lead_from, cookie_of, selected_room, selected, plain, is_plain, rescheduled, scheduled, schedule}
+use Rattle.cs_types.specs.Selection.{Scheduled, choice, is_forced, forced_count, lead_from, cookie_of, selected_room, selected, plain, is_plain, picked_anew, adopted_or_picked_anew, schedule}
 use Rattle.cs_types.specs.Accounting.{Interval, share, charges, total_of, charged, up_to_now, open_interval, closes, is_charging, interval_by, accounted}
 use Rattle.cs_types.specs.Time.{advanced}
 use Rattle.cs_types.specs.Prctl.{Row, first_answer, rows_before_making, rows_after_making, Setting, setting_of, makes_cookie, with_made, with_answer, prctl_answer}
-use Rattle.cs_types.specs.Step.{Stepped, step, woken, turned, blocked, exited, forked, may_not_fork, ticked, without, has_threads, idled, tried, unless_offline, set_policy, taken_offline, brought_online}
+use Rattle.cs_types.specs.Step.{Stepped, step, woken, turned, blocked, exited, forked, may_not_fork, ticked, without, has_threads, idled, try_steal, unless_offline, set_policy, taken_offline, brought_online}
 use Rattle.cs_types.specs.Queueing.{dequeued}
 use Rattle.cs_types.specs.Steal.{stolen}
-use Rattle.cs_types.specs.Hotplug.{without_sibling}
-use Rattle.cs_types.specs.Touches.{Noted, Ledger, noted, intervals_of, is_fresh}
+use Rattle.cs_types.specs.Hotplug.{leave}
+use Rattle.cs_types.specs.Touches.{LedgerEntry, Ledger, ledger_entry, intervals_of, is_fresh}
 use Rattle.cs_types.specs.History.{History, Moment, beginning, next, after, moment_of, ledger_of, entry_of, made_from, history_of}
 use Rattle.cs_types.proofs.Siblings.{length-step, kept-idled, kept-without, length-alike}
 
@@ -39,9 +39,9 @@ abbrev pub with_one : Option Interval → List Interval → List Interval
 with_one None intervals = intervals
 with_one (Some interval) intervals = interval ∷ intervals
 
-pub intervals_of-cons : (note : Noted) (ledger : Ledger) → intervals_of (note ∷ ledger) ≡ with_one note.interval (intervals_of ledger)
+pub intervals_of-cons : (note : LedgerEntry) (ledger : Ledger) → intervals_of (note ∷ ledger) ≡ with_one note.interval (intervals_of ledger)
 intervals_of-cons note ledger =
-    elim note.interval as (λ one. filter_map (λ (n : Noted). n.interval) (record note { interval = one } ∷ ledger) ≡ with_one one (intervals_of ledger)) [
+    elim note.interval as (λ one. filter_map (λ (n : LedgerEntry). n.interval) (record note { interval = one } ∷ ledger) ≡ with_one one (intervals_of ledger)) [
       | None ↦ refl
       | Some interval ↦ refl
     ]
@@ -59,9 +59,9 @@ total_of-cons pid interval intervals =
       | false ↦ omega arith
     ]
 
-pub total_of-noted : (pid : ℕ) (one : Option Interval) (intervals : List Interval) → total_of pid (with_one one intervals) ≡ total_of pid intervals + owed pid one
-total_of-noted pid None intervals = omega arith
-total_of-noted pid (Some interval) intervals = total_of-cons pid interval intervals
+pub total_of-ledger_entry : (pid : ℕ) (one : Option Interval) (intervals : List Interval) → total_of pid (with_one one intervals) ≡ total_of pid intervals + owed pid one
+total_of-ledger_entry pid None intervals = omega arith
+total_of-ledger_entry pid (Some interval) intervals = total_of-cons pid interval intervals
 
 -- ---- how many intervals there are
 
@@ -72,7 +72,7 @@ length-with_one (Some interval) intervals = omega arith
 intervals_after : (moment : Moment) (entries : List Entry) → length (intervals_of (after moment entries).ledger) ≤ length (intervals_of moment.ledger) + length entries
 intervals_after moment [] = omega arith
 intervals_after moment (entry ∷ entries) =
-    let note = noted moment.room entry in
+    let note = ledger_entry moment.room entry in
     omega (arith, intervals_after (next moment entry) entries, ap length (intervals_of-cons note moment.ledger), length-with_one note.interval (intervals_of moment.ledger))
 
 -- Each entry records one interval at most.
@@ -131,8 +131,8 @@ now-selected room cpu =
     let core = cookie_of (lead_from room cpu) in
     cond_both (eqb (forced_count room core) 0 || eqb core 0) None (Some room.clock) (λ started. unwrap_or started room.clock ≡ room.clock) (λ _. refl) (λ _. refl)
 
-now-rescheduled : (room : RoomState) (cpu : ℕ) → charged_up_to (rescheduled room cpu).room ≡ room.clock
-now-rescheduled room cpu =
+now-picked_anew : (room : RoomState) (cpu : ℕ) → charged_up_to (picked_anew room cpu).room ≡ room.clock
+now-picked_anew room cpu =
     cond_both (is_plain room cpu) (plain room cpu) (selected room cpu) (λ (made : Scheduled). charged_up_to made.room ≡ room.clock) (λ _. refl)
     (λ _. now-selected room cpu)
 
@@ -153,24 +153,24 @@ accounts-selected most room cpu few opened =
       other = omega (arith, now-selected room cpu, opened.started);
     }
 
-accounts-rescheduled : (most : ℕ) (room : RoomState) (cpu : ℕ) → length room.siblings ≤ most → IsOpen most room →
-    Accounts most room (closes (rescheduled room cpu).pick.kind) (rescheduled room cpu).room
-accounts-rescheduled most room cpu few opened =
+accounts-picked_anew : (most : ℕ) (room : RoomState) (cpu : ℕ) → length room.siblings ≤ most → IsOpen most room →
+    Accounts most room (closes (picked_anew room cpu).pick.kind) (picked_anew room cpu).room
+accounts-picked_anew most room cpu few opened =
     cond_both (is_plain room cpu) (plain room cpu) (selected room cpu) (λ (made : Scheduled). Accounts most room (closes made.pick.kind) made.room)
     (λ _. record { opened = record { started = omega arith; few = omega arith }; charging = λ _. refl; other = omega (arith, opened.started) })
     (λ _. accounts-selected most room cpu few opened)
 
-accounts-scheduled : (most : ℕ) (room : RoomState) (fresh : Bool) (cpu : ℕ) (waiting : Option (Option ℕ)) → length room.siblings ≤ most → IsOpen most room →
-    Accounts most room (closes (scheduled room fresh cpu waiting).pick.kind) (scheduled room fresh cpu waiting).room
-accounts-scheduled most room fresh cpu None few opened = accounts-rescheduled most room cpu few opened
-accounts-scheduled most room true cpu (Some run) few opened =
-    unchanged most room false (scheduled room true cpu (Some run)).room opened refl refl refl refl
-accounts-scheduled most room false cpu (Some run) few opened = accounts-rescheduled most room cpu few opened
+accounts-adopted_or_picked_anew : (most : ℕ) (room : RoomState) (fresh : Bool) (cpu : ℕ) (waiting : Option (Option ℕ)) → length room.siblings ≤ most → IsOpen most room →
+    Accounts most room (closes (adopted_or_picked_anew room fresh cpu waiting).pick.kind) (adopted_or_picked_anew room fresh cpu waiting).room
+accounts-adopted_or_picked_anew most room fresh cpu None few opened = accounts-picked_anew most room cpu few opened
+accounts-adopted_or_picked_anew most room true cpu (Some run) few opened =
+    unchanged most room false (adopted_or_picked_anew room true cpu (Some run)).room opened refl refl refl refl
+accounts-adopted_or_picked_anew most room false cpu (Some run) few opened = accounts-picked_anew most room cpu few opened
 
 accounts-schedule : (most : ℕ) (room : RoomState) (fresh : Bool) (cpu : ℕ) → length room.siblings ≤ most → IsOpen most room →
     Accounts most room (closes (schedule room fresh cpu).pick.kind) (schedule room fresh cpu).room
 accounts-schedule most room fresh cpu few opened =
-    let made = accounts-scheduled most room fresh cpu (sibling_of room cpu).waiting few opened in
+    let made = accounts-adopted_or_picked_anew most room fresh cpu (sibling_of room cpu).waiting few opened in
     record { opened = record { started = made.opened.started; few = made.opened.few }; charging = made.charging; other = made.other }
 
 -- a sibling whose task went schedules, and adopts nothing; the entry charges whatever the pick is
@@ -179,27 +179,27 @@ accounts-after : (most : ℕ) (old room : RoomState) (charges : Bool) (cpu : ℕ
 accounts-after most old room charges cpu clock few was opened =
     let made = go (sibling_of room cpu).waiting in
     record { opened = record { started = made.opened.started; few = made.opened.few }; charging = made.charging; other = made.other } where
-      by_schedule : Accounts most old charges (rescheduled room cpu).room
+      by_schedule : Accounts most old charges (picked_anew room cpu).room
       by_schedule =
-          let made = accounts-rescheduled most room cpu few opened in
-          let now = now-rescheduled room cpu ∙ clock in
+          let made = accounts-picked_anew most room cpu few opened in
+          let now = now-picked_anew room cpu ∙ clock in
           record { opened = made.opened; charging = λ _. now; other = omega (arith, now, was.started) }
 
-      go : (waiting : Option (Option ℕ)) → Accounts most old charges (scheduled room false cpu waiting).room
+      go : (waiting : Option (Option ℕ)) → Accounts most old charges (adopted_or_picked_anew room false cpu waiting).room
       go None = by_schedule
       go (Some run) = by_schedule
 
 -- ---- each event
 
-accounts-tried : (most : ℕ) (room : RoomState) (cpu : ℕ) (task : Option Task) → IsOpen most room → StepAccounts most room (Turn cpu) (tried room cpu task)
-accounts-tried most room cpu None opened = unchanged most room false _ opened refl refl refl refl
-accounts-tried most room cpu (Some task) opened = unchanged most room false _ opened refl refl refl refl
+accounts-try_steal : (most : ℕ) (room : RoomState) (cpu : ℕ) (task : Option Task) → IsOpen most room → StepAccounts most room (Turn cpu) (try_steal room cpu task)
+accounts-try_steal most room cpu None opened = unchanged most room false _ opened refl refl refl refl
+accounts-try_steal most room cpu (Some task) opened = unchanged most room false _ opened refl refl refl refl
 
 accounts-turned : (most : ℕ) (room : RoomState) (fresh : Bool) (cpu : ℕ) → length room.siblings ≤ most → IsOpen most room → StepAccounts most room (Turn cpu) (turned room fresh cpu)
 accounts-turned most room fresh cpu few opened =
     cond_both (sibling_of room cpu).pending _ _ (StepAccounts most room (Turn cpu)) (λ _. accounts-schedule most room fresh cpu few opened)
     (λ _. cond_both ((sibling_of room cpu).place == 0) _ _ (StepAccounts most room (Turn cpu)) (λ _. unchanged most room _ room opened refl refl refl refl)
-    (λ _. accounts-tried most room cpu (stolen room cpu) opened))
+    (λ _. accounts-try_steal most room cpu (stolen room cpu) opened))
 
 accounts-blocked : (most : ℕ) (room : RoomState) (cpu : ℕ) (task : Option Task) → length room.siblings ≤ most → IsOpen most room → StepAccounts most room (Block cpu) (blocked room cpu task)
 accounts-blocked most room cpu None few opened = unchanged most room _ room opened refl refl refl refl
@@ -300,7 +300,7 @@ accounts-set_policy most room pid policy (Some task) opened =
 
 -- a sibling that leaves has charged up to now
 accounts-taken_offline : (most : ℕ) (room : RoomState) (cpu : ℕ) → IsOpen most room → StepAccounts most room (Offline cpu) (taken_offline room cpu)
-unfolding without_sibling
+unfolding leave
 accounts-taken_offline most room cpu opened =
     cond_both (not (is_online room cpu)) _ _ (StepAccounts most room (Offline cpu)) (λ _. unchanged most room false room opened refl refl refl refl)
     (λ _. cond_both (length (online room) == 1) _ _ (StepAccounts most room (Offline cpu)) (λ _. unchanged most room false room opened refl refl refl refl)
@@ -358,7 +358,7 @@ owed-le most pid room some opened = go room.started where
 total-next : (pid : ℕ) (moment : Moment) (entry : Entry) →
     total_of pid (intervals_of (next moment entry).ledger) ≡ total_of pid (intervals_of moment.ledger) + owed pid (interval_by moment.room entry.event entry.reply)
 total-next pid moment entry =
-    ap (total_of pid) (intervals_of-cons (noted moment.room entry) moment.ledger) ∙ total_of-noted pid (interval_by moment.room entry.event entry.reply) (intervals_of moment.ledger)
+    ap (total_of pid) (intervals_of-cons (ledger_entry moment.room entry) moment.ledger) ∙ total_of-ledger_entry pid (interval_by moment.room entry.event entry.reply) (intervals_of moment.ledger)
 
 more_time : (most a b : ℕ) → a ≤ b → most * a + most * (b - a) ≡ most * b
 more_time most a b le = grind (arith)
@@ -434,11 +434,11 @@ open_share-le most n room some opened is = go room.started is where
   go (Some start) is = by_test start (eqb room.clock start) is
 
 -- what an interval goes on from makes no difference to a pick
-pub rescheduled-accounted : (room : RoomState) (cpu : ℕ) → rescheduled (accounted room) cpu ≡ rescheduled room cpu
+pub picked_anew-accounted : (room : RoomState) (cpu : ℕ) → picked_anew (accounted room) cpu ≡ picked_anew room cpu
 unfolding lead_from choice selected_room
-rescheduled-accounted room cpu = refl
+picked_anew-accounted room cpu = refl
 
 -- a pick that adopts nothing closes the interval
-pub closes-rescheduled : (room : RoomState) (cpu : ℕ) → closes (rescheduled room cpu).pick.kind ≡ true
-closes-rescheduled room cpu =
+pub closes-picked_anew : (room : RoomState) (cpu : ℕ) → closes (picked_anew room cpu).pick.kind ≡ true
+closes-picked_anew room cpu =
     cond_both (is_plain room cpu) (plain room cpu) (selected room cpu) (λ (made : Scheduled). closes made.pick.kind ≡ true) (λ _. refl) (λ _. refl)

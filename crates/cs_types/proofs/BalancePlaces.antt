@@ -13,13 +13,13 @@ use Rattle.cs_types.specs.declared.reply.Reply.TheVariants.{Zero}
 use Rattle.cs_types.specs.declared.reply.Entry.{Entry}
 use Rattle.cs_types.specs.declared.scenario.Scenario.{Scenario}
 use Rattle.cs_types.specs.Room.{RoomState, SiblingState, idle, online, is_online, sibling_of, running_on, task_of, with_sibling, flagged}
-use Rattle.cs_types.specs.Selection.{is_run, told, handed, given, selected_room, selected, plain, is_plain, rescheduled, scheduled, schedule, is_to_steal}
+use Rattle.cs_types.specs.Selection.{is_run, told, handed, given, selected_room, selected, plain, is_plain, picked_anew, adopted_or_picked_anew, schedule, is_to_steal}
 use Rattle.cs_types.specs.Time.{least_of, with_growth, advanced}
 use Rattle.cs_types.specs.Prctl.{Setting, setting_of, makes_cookie, with_made, with_answer, prctl_answer}
-use Rattle.cs_types.specs.Step.{Stepped, step, woken, turned, tried, idled, blocked, without, has_threads, exited, may_not_fork, forked, ticked, unless_offline, set_policy, taken_offline, brought_online}
+use Rattle.cs_types.specs.Step.{Stepped, step, woken, turned, try_steal, idled, blocked, without, has_threads, exited, may_not_fork, forked, ticked, unless_offline, set_policy, taken_offline, brought_online}
 use Rattle.cs_types.specs.Queueing.{dequeued, moved}
 use Rattle.cs_types.specs.Steal.{source_of, stolen, with_place, next_place}
-use Rattle.cs_types.specs.Hotplug.{away, without_sibling}
+use Rattle.cs_types.specs.Hotplug.{away, leave}
 use Rattle.cs_types.specs.Touches.{is_fresh}
 use Rattle.cs_types.specs.History.{History, Moment, beginning, next, after, fold_of}
 use Rattle.cs_types.proofs.Foremost.{each_weaker}
@@ -67,33 +67,33 @@ unfolding selected_room
 low-selected_room most room cpu core low =
     all_enumerated (Low most) (given room core cpu) (λ other sibling is. handed_is_low most cpu _ _ _ other sibling is) 0 room.siblings low
 
-low-rescheduled : (most : ℕ) (room : RoomState) (cpu : ℕ) → AreLow most room → AreLow most (rescheduled room cpu).room
-low-rescheduled most room cpu low =
+low-picked_anew : (most : ℕ) (room : RoomState) (cpu : ℕ) → AreLow most room → AreLow most (picked_anew room cpu).room
+low-picked_anew most room cpu low =
     cond_both (is_plain room cpu) (plain room cpu) (selected room cpu) (λ made. AreLow most made.room)
     (λ _. all_set (Low most) room.siblings cpu _ (low_at most room cpu low) low) (λ _. low-selected_room most room cpu _ low)
 
-low-scheduled : (most : ℕ) (room : RoomState) (fresh : Bool) (cpu : ℕ) (waiting : Option (Option ℕ)) → AreLow most room → AreLow most (scheduled room fresh cpu waiting).room
-low-scheduled most room fresh cpu None low = low-rescheduled most room cpu low
-low-scheduled most room true cpu (Some run) low = low-with_sibling most room cpu _ (low_at most room cpu low) low
-low-scheduled most room false cpu (Some run) low = low-rescheduled most room cpu low
+low-adopted_or_picked_anew : (most : ℕ) (room : RoomState) (fresh : Bool) (cpu : ℕ) (waiting : Option (Option ℕ)) → AreLow most room → AreLow most (adopted_or_picked_anew room fresh cpu waiting).room
+low-adopted_or_picked_anew most room fresh cpu None low = low-picked_anew most room cpu low
+low-adopted_or_picked_anew most room true cpu (Some run) low = low-with_sibling most room cpu _ (low_at most room cpu low) low
+low-adopted_or_picked_anew most room false cpu (Some run) low = low-picked_anew most room cpu low
 
 -- After a schedule the place is 1 at most.
 low-schedule : (most : ℕ) (room : RoomState) (fresh : Bool) (cpu : ℕ) → AreLow most room → AreLow (most + 1) (schedule room fresh cpu).room
 low-schedule most room fresh cpu low =
-    let made = (scheduled room fresh cpu (sibling_of room cpu).waiting).room in
+    let made = (adopted_or_picked_anew room fresh cpu (sibling_of room cpu).waiting).room in
     low-with_sibling (most + 1) made cpu _ (cond_both (is_to_steal made cpu) 1 0 (λ n. n ≤ most + 1) (λ _. omega arith) (λ _. omega arith))
-    (higher most _ (low-scheduled most room fresh cpu (sibling_of room cpu).waiting low))
+    (higher most _ (low-adopted_or_picked_anew most room fresh cpu (sibling_of room cpu).waiting low))
 
 -- ---- a turn
 
 -- A try that finds nothing goes one sibling on or ends, and one that finds a task ends.
-low-tried : (most : ℕ) (room : RoomState) (cpu : ℕ) (task : Option Task) → AreLow most room → AreLow (most + 1) (tried room cpu task).room
-low-tried most room cpu None low =
+low-try_steal : (most : ℕ) (room : RoomState) (cpu : ℕ) (task : Option Task) → AreLow most room → AreLow (most + 1) (try_steal room cpu task).room
+low-try_steal most room cpu None low =
     let at = low_at most room cpu low in
     let on : next_place room cpu ≤ most + 1 =
     cond_both ((sibling_of room cpu).place + 1 == length room.siblings) 0 _ (λ n. n ≤ most + 1) (λ _. omega arith) (λ _. omega (arith, at)) in
     low-with_sibling (most + 1) room cpu _ on (higher most _ low)
-low-tried most room cpu (Some task) low =
+low-try_steal most room cpu (Some task) low =
     let ended = low-with_sibling (most + 1) (moved room cpu task) cpu (record (sibling_of (moved room cpu task) cpu) { place = 0 }) (omega arith) (higher most _ low) in
     low-flagged (most + 1) (flagged (with_place (moved room cpu task) cpu 0) cpu true) (source_of room cpu) _
     (low-flagged (most + 1) (with_place (moved room cpu task) cpu 0) cpu true ended)
@@ -102,7 +102,7 @@ low-turned : (most : ℕ) (room : RoomState) (fresh : Bool) (cpu : ℕ) → AreL
 low-turned most room fresh cpu low =
     cond_both (sibling_of room cpu).pending _ _ (λ (made : Stepped). AreLow (most + 1) made.room) (λ _. low-schedule most room fresh cpu low)
     (λ _. cond_both ((sibling_of room cpu).place == 0) _ _ (λ (made : Stepped). AreLow (most + 1) made.room) (λ _. higher most _ low)
-    (λ _. low-tried most room cpu (stolen room cpu) low))
+    (λ _. low-try_steal most room cpu (stolen room cpu) low))
 
 -- ---- the other events of a sibling
 
@@ -152,15 +152,15 @@ low-advanced most room delta low =
     (λ cpu sibling is. is) 0 (with_growth room delta).siblings (all_map (Low most) _ room.siblings low)
 
 -- A sibling that leaves makes no more tries.
-low-without_sibling : (most : ℕ) (room : RoomState) (cpu : ℕ) → AreLow most room → AreLow most (without_sibling room cpu)
-unfolding without_sibling
-low-without_sibling most room cpu low =
+low-leave : (most : ℕ) (room : RoomState) (cpu : ℕ) → AreLow most room → AreLow most (leave room cpu)
+unfolding leave
+low-leave most room cpu low =
     all_enumerated (Low most) _ (λ other sibling is. cond_both (other == cpu) (away sibling) _ (Low most) (λ _. omega arith) (λ _. is)) 0 room.siblings low
 
 low-taken_offline : (most : ℕ) (room : RoomState) (cpu : ℕ) → AreLow most room → AreLow most (taken_offline room cpu).room
 low-taken_offline most room cpu low =
     cond_both (not (is_online room cpu)) _ _ (λ (made : Stepped). AreLow most made.room) (λ _. low)
-    (λ _. cond_both (length (online room) == 1) _ _ (λ (made : Stepped). AreLow most made.room) (λ _. low) (λ _. low-without_sibling most room cpu low))
+    (λ _. cond_both (length (online room) == 1) _ _ (λ (made : Stepped). AreLow most made.room) (λ _. low) (λ _. low-leave most room cpu low))
 
 -- and one that comes back begins with none
 low-brought_online : (most : ℕ) (room : RoomState) (cpu : ℕ) → AreLow most room → AreLow most (brought_online room cpu).room

@@ -11,7 +11,7 @@ use Rattle.cs_types.specs.declared.reply.Reply.{Reply}
 use Rattle.cs_types.specs.declared.reply.Reply.TheVariants.{Picked, Slept, Ended}
 use Rattle.cs_types.specs.declared.reply.Entry.{Entry}
 use Rattle.cs_types.specs.Room.{RoomState}
-use Rattle.cs_types.specs.Touches.{is_selected, is_adopted, selection_of, is_selection, touches_by, Ledger, noted, is_fresh}
+use Rattle.cs_types.specs.Touches.{is_selected, is_adopted, selection_of, is_selection, touches_by, Ledger, ledger_entry, is_fresh}
 use Rattle.cs_types.proofs.Numbers.{untouched, untouched-cons}
 
 -- whether a selection is fresh after an event with this reply, where the test says whether one was before it
@@ -25,12 +25,12 @@ by_parts false false rest true = refl
 by_parts false false rest false = refl
 
 -- It is fresh after a selection, and after another entry where it was and that did not touch.
-pub is_fresh-noted : (room : RoomState) (entry : Entry) (ledger : Ledger) →
-    is_fresh (noted room entry ∷ ledger) ≡ fresh_after room (is_fresh ledger) entry.event entry.reply
+pub is_fresh-ledger_entry : (room : RoomState) (entry : Entry) (ledger : Ledger) →
+    is_fresh (ledger_entry room entry ∷ ledger) ≡ fresh_after room (is_fresh ledger) entry.event entry.reply
 unfolding is_fresh
-is_fresh-noted room entry ledger =
+is_fresh-ledger_entry room entry ledger =
     let any = list_any (λ note. is_selection note.entry) ledger in
-    ap (λ b. (is_selection entry || any) && b) (untouched-cons (noted room entry) ledger)
+    ap (λ b. (is_selection entry || any) && b) (untouched-cons (ledger_entry room entry) ledger)
     ∙ by_parts (is_selection entry) any (untouched ledger) (touches_by room entry.event entry.reply == 0)
 
 -- ---- after a reply that tells no selection

@@ -18,20 +18,20 @@ use Rattle.cs_types.specs.Room.{RoomState, SiblingState, idle, has_pid, sibling_
 use Rattle.cs_types.specs.Order.{first_of}
 use Rattle.cs_types.specs.Selection.{schedule, queued_with}
 use Rattle.cs_types.specs.Prctl.{Setting, setting_of, is_set, makes_cookie, with_made, with_answer, prctl_answer, with_cookies}
-use Rattle.cs_types.specs.Step.{Stepped, step, woken, blocked, exited, forked, turned, without, has_threads, child_of, settled, may_not_fork, with_child, ticked, idled, tried, unless_offline, set_policy, taken_offline, brought_online}
+use Rattle.cs_types.specs.Step.{Stepped, step, woken, blocked, exited, forked, turned, without, has_threads, child_of, child_at_home, may_not_fork, with_child, ticked, idled, try_steal, unless_offline, set_policy, taken_offline, brought_online}
 use Rattle.cs_types.specs.Queueing.{dequeued, moved_to, rehomed, queued_at_home}
 use Rattle.cs_types.specs.Steal.{source_of, stolen, may_steal}
-use Rattle.cs_types.specs.Hotplug.{away, back, lowest_other, without_sibling, with_sibling_back}
+use Rattle.cs_types.specs.Hotplug.{away, back, lowest_other, leave, with_sibling_back}
 use Rattle.cs_types.specs.Accounting.{accounted}
 use Rattle.cs_types.specs.Time.{with_growth, least_of, advanced}
 use Rattle.cs_types.proofs.Foremost.{find_passes}
 use Rattle.cs_types.proofs.Filtered.{each-filter, each_found}
 use Rattle.cs_types.proofs.Tasks.{found_again}
 use Rattle.cs_types.proofs.Rising.{AreRising, below_high}
-use Rattle.cs_types.proofs.Siblings.{kept, kept-schedule, kept-tried, kept-idled, kept-without, kept-queued_at_home, kept-ticked, kept-with_answer, kept-set_policy, length-alike, is_online-alike, length-step}
+use Rattle.cs_types.proofs.Siblings.{kept, kept-schedule, kept-try_steal, kept-idled, kept-without, kept-queued_at_home, kept-ticked, kept-with_answer, kept-set_policy, length-alike, is_online-alike, length-step}
 use Rattle.cs_types.proofs.Selections.{each_both}
-use Rattle.cs_types.proofs.Spots.{Spot, spot_at, each_is_found, find-placed}
-use Rattle.cs_types.proofs.Moves.{spots-schedule, spots-advanced, spots-ticked_room, spots-queued_at_home, spots-dequeued, spots-without, spots-moved, spots-with_child, spots-rescheduled_as, spot_off, spots-without_sibling, spot_set, spots-with_cookies}
+use Rattle.cs_types.proofs.Spots.{Spot, spot_at, each_is_found, find-inserted}
+use Rattle.cs_types.proofs.Moves.{spots-schedule, spots-advanced, spots-ticked_room, spots-queued_at_home, spots-dequeued, spots-without, spots-moved, spots-with_child, spots-with_policy_set, spot_off, spots-leave, spot_set, spots-with_cookies}
 use Rattle.cs_types.proofs.Places.{with_sibling_either, mapped_at, enumerated_at, lowest_online_is, lowest_other_is}
 
 -- ---- homes
@@ -90,7 +90,7 @@ each_queued room cpu rises =
 
 -- A stolen task is queued on the source, which neither runs it nor is to run it.
 pub stolen_is : (room : RoomState) (thief : ℕ) (task : Task) → AreRising room → stolen room thief ≡ Some task →
-    IsQueuedOn room (source_of room thief) task × (may_steal room thief (source_of room thief) task ≡ true)
+    IsQueuedOn room (source_of room thief) task × (may_steal (sibling_of room thief) (sibling_of room (source_of room thief)) task ≡ true)
 unfolding stolen
 stolen_is room thief task rises made = (
   each_found (IsQueuedOn room source) _ (filter may (queued_with room room.core_cookie source)) task found
@@ -102,7 +102,7 @@ stolen_is room thief task rises made = (
   source = source_of room thief
 
   may : Task → Bool
-  may other = may_steal room thief source other
+  may other = may_steal (sibling_of room thief) (sibling_of room source) other
 
   of_some : (b : Bool) (first : Option Task) → cond b None first ≡ Some task → first ≡ Some task
   of_some true first made = absurd cc
@@ -117,18 +117,18 @@ housed-schedule : (room : RoomState) (fresh : Bool) (cpu : ℕ) → IsHoused roo
 housed-schedule room fresh cpu housed =
     housed_same room (schedule room fresh cpu).room (kept-schedule room fresh cpu) (spots-schedule room fresh cpu) housed
 
-housed-tried : (room : RoomState) (cpu : ℕ) (task : Option Task) → is_online room cpu ≡ true → AreRising room → stolen room cpu ≡ task → IsHoused room →
-    IsHoused (tried room cpu task).room
-housed-tried room cpu None up rises made housed = housed_same room (tried room cpu None).room (kept-tried room cpu None) (λ pid. refl) housed
-housed-tried room cpu (Some task) up rises made housed =
-    housed_by room (tried room cpu (Some task)).room (kept-tried room cpu (Some task))
+housed-try_steal : (room : RoomState) (cpu : ℕ) (task : Option Task) → is_online room cpu ≡ true → AreRising room → stolen room cpu ≡ task → IsHoused room →
+    IsHoused (try_steal room cpu task).room
+housed-try_steal room cpu None up rises made housed = housed_same room (try_steal room cpu None).room (kept-try_steal room cpu None) (λ pid. refl) housed
+housed-try_steal room cpu (Some task) up rises made housed =
+    housed_by room (try_steal room cpu (Some task)).room (kept-try_steal room cpu (Some task))
     (λ pid. home_at room _ pid task.spec.pid _ (spots-moved room cpu task (stolen_is room cpu task rises made).0.found pid) (λ _. up) housed) housed
 
 housed-turned : (room : RoomState) (fresh : Bool) (cpu : ℕ) → is_online room cpu ≡ true → AreRising room → IsHoused room → IsHoused (turned room fresh cpu).room
 housed-turned room fresh cpu up rises housed =
     cond_both (sibling_of room cpu).pending _ _ (λ (made : Stepped). IsHoused made.room) (λ _. housed-schedule room fresh cpu housed)
     (λ _. cond_both ((sibling_of room cpu).place == 0) _ _ (λ (made : Stepped). IsHoused made.room) (λ _. housed)
-    (λ _. housed-tried room cpu (stolen room cpu) up rises refl housed))
+    (λ _. housed-try_steal room cpu (stolen room cpu) up rises refl housed))
 
 -- the task that a sibling runs is found by its own pid
 pub running_is_found : (room : RoomState) (cpu : ℕ) (task : Task) → running_on room cpu ≡ Some task →
@@ -177,15 +177,15 @@ housed-woken room pid (Some task) found housed =
     (λ _. housed-queued_at_home room (rehomed room task) task (rehomed_is_found room task (found_again pid room.tasks task found)) (rehomed_is_online room task housed) housed)
 
 -- so is a child, which is found by its pid
-pub settled_is_online : (room : RoomState) (child : Task) → IsHoused room → is_online room (settled room child).home ≡ true
-settled_is_online room child housed =
+pub child_at_home_is_online : (room : RoomState) (child : Task) → IsHoused room → is_online room (child_at_home room child).home ≡ true
+child_at_home_is_online room child housed =
     cond_both (is_online room child.home) child.home (lowest_online room) (λ home. is_online room home ≡ true) (λ up. up)
     (λ _. lowest_online_is room housed.some.0 housed.some.1 housed.some.2)
 
 pub child_is_found : (room : RoomState) (caller : Task) (thread : Bool) → AreRising room →
     task_of (with_child room (child_of caller thread room.next_pid)) room.next_pid ≡ Some (child_of caller thread room.next_pid)
 child_is_found room caller thread rises =
-    find-placed (child_of caller thread room.next_pid) room.tasks (below_high 0 room.next_pid room.tasks rises).1 room.next_pid
+    find-inserted (child_of caller thread room.next_pid) room.tasks (below_high 0 room.next_pid room.tasks rises).1 room.next_pid
     ∙ cond-true (room.next_pid == room.next_pid) (Some (child_of caller thread room.next_pid)) (task_of room room.next_pid) (eq-eqb _ _ refl)
 
 housed-forked : (room : RoomState) (thread : Bool) (caller : Option Task) → AreRising room → IsHoused room → IsHoused (forked room thread caller).room
@@ -195,7 +195,7 @@ housed-forked room thread (Some caller) rises housed =
     let born = with_child room child in
     let held : IsHoused born = housed_by room born refl (λ pid. home_at room _ pid room.next_pid _ (spots-with_child room caller thread rises pid) (λ queued. absurd cc) housed) housed in
     cond_both (may_not_fork room caller) _ _ (λ (made : Stepped). IsHoused made.room) (λ _. housed)
-    (λ _. housed-queued_at_home born (settled room child) child (child_is_found room caller thread rises) (settled_is_online room child housed) held)
+    (λ _. housed-queued_at_home born (child_at_home room child) child (child_is_found room caller thread rises) (child_at_home_is_online room child housed) held)
 
 housed-ticked : (room : RoomState) (cpu : ℕ) (task : Option Task) → running_on room cpu ≡ task → IsHoused room → IsHoused (ticked room cpu task).room
 housed-ticked room cpu None runs housed = housed_same room (accounted room) refl (λ pid. refl) housed
@@ -232,39 +232,39 @@ housed-set_policy : (room : RoomState) (policy : Policy) (pid : ℕ) (task : Opt
 housed-set_policy room policy pid None found housed = housed
 housed-set_policy room policy pid (Some task) found housed =
     housed_same room (set_policy room policy (Some task)).room (kept-set_policy room policy (Some task))
-    (spots-rescheduled_as room policy task (found_again pid room.tasks task found)) housed
+    (spots-with_policy_set room policy task (found_again pid room.tasks task found)) housed
 
 -- what holds of each sibling once one has left
 pub sibling_of-without : (P : SiblingState → Type 0) (room : RoomState) (cpu other : ℕ) → P idle → (other ≡ cpu → P (away (sibling_of room other))) →
     (other ≢ cpu → P (record (sibling_of room other) { pending = (sibling_of room other).pending || (sibling_of room other).online })) →
-    P (sibling_of (without_sibling room cpu) other)
-unfolding without_sibling
+    P (sibling_of (leave room cpu) other)
+unfolding leave
 sibling_of-without P room cpu other past here there =
     enumerated_at P (λ place. cond (place.0 == cpu) (away place.1) (record place.1 { pending = place.1.pending || place.1.online })) 0 room.siblings other past
     (subst (λ n. P (cond (n == cpu) (away (sibling_of room other)) (record (sibling_of room other) { pending = (sibling_of room other).pending || (sibling_of room other).online }))) (omega arith)
     (cond_both (other == cpu) _ _ P (λ same. here (eqb-true other cpu same)) (λ isnt. there (eqb-false other cpu isnt))))
 
-length-without_sibling : (room : RoomState) (cpu : ℕ) → length (without_sibling room cpu).siblings ≡ length room.siblings
-unfolding without_sibling
-length-without_sibling room cpu = length-map (enumerate_from 0 room.siblings) _ ∙ length-enumerate_from 0 room.siblings
+length-leave : (room : RoomState) (cpu : ℕ) → length (leave room cpu).siblings ≡ length room.siblings
+unfolding leave
+length-leave room cpu = length-map (enumerate_from 0 room.siblings) _ ∙ length-enumerate_from 0 room.siblings
 
-housed-without_sibling : (room : RoomState) (cpu : ℕ) → cpu < length room.siblings → is_online room cpu ≡ true → length (online room) ≢ 1 → IsHoused room → IsHoused (without_sibling room cpu)
-housed-without_sibling room cpu below up more housed =
+housed-leave : (room : RoomState) (cpu : ℕ) → cpu < length room.siblings → is_online room cpu ≡ true → length (online room) ≢ 1 → IsHoused room → IsHoused (leave room cpu)
+housed-leave room cpu below up more housed =
     record {
-      some = (lowest_other room cpu, subst (λ n. lowest_other room cpu < n) (sym (length-without_sibling room cpu)) other.0, still (lowest_other room cpu) other.2 other.1);
-      homes = λ pid. subst (IsHome (without_sibling room cpu)) (sym (spots-without_sibling room cpu pid)) (go (spot_at room pid) (housed.homes pid));
+      some = (lowest_other room cpu, subst (λ n. lowest_other room cpu < n) (sym (length-leave room cpu)) other.0, still (lowest_other room cpu) other.2 other.1);
+      homes = λ pid. subst (IsHome (leave room cpu)) (sym (spots-leave room cpu pid)) (go (spot_at room pid) (housed.homes pid));
     } where
       other : (lowest_other room cpu < length room.siblings) × (is_online room (lowest_other room cpu) ≡ true) × (lowest_other room cpu ≢ cpu)
       other = lowest_other_is room cpu below up more
 
-      still : (n : ℕ) → n ≢ cpu → is_online room n ≡ true → is_online (without_sibling room cpu) n ≡ true
+      still : (n : ℕ) → n ≢ cpu → is_online room n ≡ true → is_online (leave room cpu) n ≡ true
       still n differ up = sibling_of-without (λ s. s.online ≡ true) room cpu n refl (λ same. absurd (differ same)) (λ _. up)
 
-      go : (one : Option Spot) → IsHome room one → IsHome (without_sibling room cpu) (option_map (spot_off cpu (lowest_other room cpu)) one)
+      go : (one : Option Spot) → IsHome room one → IsHome (leave room cpu) (option_map (spot_off cpu (lowest_other room cpu)) one)
       go None home = tt
       go (Some spot) home =
           cond_both (spot.queued && (spot.home == cpu)) (record spot { home = lowest_other room cpu }) spot
-          (λ (s : Spot). s.queued ≡ true → is_online (without_sibling room cpu) s.home ≡ true)
+          (λ (s : Spot). s.queued ≡ true → is_online (leave room cpu) s.home ≡ true)
           (λ _ queued. still (lowest_other room cpu) other.2 other.1)
           (λ off queued. still spot.home (eqb-false spot.home cpu (sym (ap (λ b. b && (spot.home == cpu)) queued) ∙ off)) (home queued))
 
@@ -272,7 +272,7 @@ housed-taken_offline : (room : RoomState) (cpu : ℕ) → cpu < length room.sibl
 housed-taken_offline room cpu below housed =
     cond_both (not (is_online room cpu)) _ _ (λ (made : Stepped). IsHoused made.room) (λ _. housed)
     (λ up. cond_both (length (online room) == 1) _ _ (λ (made : Stepped). IsHoused made.room) (λ _. housed)
-    (λ more. housed-without_sibling room cpu below (not-false (is_online room cpu) up) (eqb-false (length (online room)) 1 more) housed))
+    (λ more. housed-leave room cpu below (not-false (is_online room cpu) up) (eqb-false (length (online room)) 1 more) housed))
 
 housed-brought_online : (room : RoomState) (cpu : ℕ) → IsHoused room → IsHoused (brought_online room cpu).room
 housed-brought_online room cpu housed =

@@ -11,8 +11,8 @@ use Rattle.cs_types.specs.declared.event.Actor.TheVariants.{End}
 use Rattle.cs_types.specs.declared.event.Event.TheVariants.{Resched}
 use Rattle.cs_types.specs.declared.reply.Reply.TheVariants.{Picked}
 use Rattle.cs_types.specs.Room.{RoomState, SiblingState, Waiting, idle, sibling_of, is_online, online}
-use Rattle.cs_types.specs.Touches.{is_selection, Noted, Ledger, noted, is_fresh}
-use Rattle.cs_types.specs.Selection.{cookie_of, pid_of, is_fair_task, lead_from, choice, occupation_of, renews_snapshots, running, is_run, told, handed, selected, Scheduled, adopted, is_plain, plain, rescheduled, scheduled, balanced, schedule}
+use Rattle.cs_types.specs.Touches.{is_selection, LedgerEntry, Ledger, ledger_entry, is_fresh}
+use Rattle.cs_types.specs.Selection.{cookie_of, pid_of, is_fair_task, lead_from, choice, occupation_of, renews_snapshots, running, is_run, told, handed, selected, Scheduled, adopted, is_plain, plain, picked_anew, adopted_or_picked_anew, balanced, schedule}
 use Rattle.cs_types.specs.Step.{Stepped, picked}
 use Rattle.cs_types.specs.History.{Moment, step_at, next}
 use Rattle.cs_types.specs.Drain.{pending, is_ready, next_to_schedule}
@@ -193,7 +193,7 @@ abbrev moment_after : Moment → ℕ → Stepped → Moment
 moment_after moment cpu made =
     record {
       room = made.room;
-      ledger = noted moment.room (record { actor = End; event = Resched cpu; reply = made.reply }) ∷ moment.ledger;
+      ledger = ledger_entry moment.room (record { actor = End; event = Resched cpu; reply = made.reply }) ∷ moment.ledger;
     }
 
 -- the next place of a steal try makes no difference
@@ -202,25 +202,25 @@ looks-balanced cpu made other = get_or-set_alike looks made.room.siblings cpu _ 
 
 -- ---- the selection after an entry
 
-fresh_cons : (note : Noted) (ledger : Ledger) →
+fresh_cons : (note : LedgerEntry) (ledger : Ledger) →
     is_fresh (note ∷ ledger)
     ≡ ((is_selection note.entry || list_any (λ n. is_selection n.entry) ledger) && cond (is_selection note.entry) true ((note.touches == 0) && untouched ledger))
 unfolding is_fresh
 fresh_cons note ledger =
-    ap (λ b. (is_selection note.entry || list_any (λ (n : Noted). is_selection n.entry) ledger) && b) (untouched-cons note ledger)
+    ap (λ b. (is_selection note.entry || list_any (λ (n : LedgerEntry). is_selection n.entry) ledger) && b) (untouched-cons note ledger)
 
 -- After a selection it is fresh.
-fresh_selected : (note : Noted) (ledger : Ledger) → is_selection note.entry ≡ true → is_fresh (note ∷ ledger) ≡ true
+fresh_selected : (note : LedgerEntry) (ledger : Ledger) → is_selection note.entry ≡ true → is_fresh (note ∷ ledger) ≡ true
 fresh_selected note ledger selects =
     fresh_cons note ledger
-    ∙ ap (λ b. (b || list_any (λ (n : Noted). is_selection n.entry) ledger) && cond b true ((note.touches == 0) && untouched ledger)) selects
+    ∙ ap (λ b. (b || list_any (λ (n : LedgerEntry). is_selection n.entry) ledger) && cond b true ((note.touches == 0) && untouched ledger)) selects
 
 -- After an entry that did not touch it is fresh where it was.
-fresh_untouched : (note : Noted) (ledger : Ledger) → is_selection note.entry ≡ false → note.touches ≡ 0 → is_fresh (note ∷ ledger) ≡ is_fresh ledger
+fresh_untouched : (note : LedgerEntry) (ledger : Ledger) → is_selection note.entry ≡ false → note.touches ≡ 0 → is_fresh (note ∷ ledger) ≡ is_fresh ledger
 unfolding is_fresh
 fresh_untouched note ledger other none =
     fresh_cons note ledger
-    ∙ (λ i. (other i || list_any (λ (n : Noted). is_selection n.entry) ledger) && cond (other i) true ((none i == 0) && untouched ledger))
+    ∙ (λ i. (other i || list_any (λ (n : LedgerEntry). is_selection n.entry) ledger) && cond (other i) true ((none i == 0) && untouched ledger))
 
 -- ---- an adopted schedule
 
@@ -249,7 +249,7 @@ adopted_falls : (moment : Moment) (cpu : ℕ) (run : Option ℕ) → cpu < lengt
 adopted_falls moment cpu run below fresh adopts same =
     let made = adopted moment.room cpu run in
     let now = moment_after moment cpu (picked Picked (balanced cpu made)) in
-    let as_before = fresh_untouched (noted moment.room (record { actor = End; event = Resched cpu; reply = Picked made.pick })) moment.ledger refl refl in
+    let as_before = fresh_untouched (ledger_entry moment.room (record { actor = End; event = Resched cpu; reply = Picked made.pick })) moment.ledger refl refl in
     let gone : (looks (sibling_of now.room cpu)).1 ≡ false =
     ap (λ (look : Bool × Bool × Bool). look.1) (looks-balanced cpu made cpu ∙ looks_there moment.room cpu _ below) in
     let alike = λ (other : ℕ) (apart : other ≡ cpu → ⊥). looks-balanced cpu made other ∙ looks_elsewhere moment.room cpu _ other apart in
@@ -313,7 +313,7 @@ selected_falls moment cpu below due none same =
     let made = selected moment.room cpu in
     let core = cookie_of (lead_from moment.room cpu) in
     let now = moment_after moment cpu (picked Picked (balanced cpu made)) in
-    let is_new = fresh_selected (noted moment.room (record { actor = End; event = Resched cpu; reply = Picked made.pick })) moment.ledger refl in
+    let is_new = fresh_selected (ledger_entry moment.room (record { actor = End; event = Resched cpu; reply = Picked made.pick })) moment.ledger refl in
     let run = λ (other : ℕ). pid_of (choice moment.room core other) in
     let renews = λ (other : ℕ). is_fair_task (choice moment.room core other) && renews_snapshots moment.room core in
     let handed_to = λ (other : ℕ) (high : other < length moment.room.siblings).
@@ -335,7 +335,7 @@ selected_falls moment cpu below due none same =
 
 rescheduled_falls : (moment : Moment) (cpu : ℕ) → cpu < length moment.room.siblings → is_pending moment.room cpu ≡ true →
     ((other : ℕ) → other < length moment.room.siblings → would_adopt moment other ≡ false) →
-    let now = moment_after moment cpu (picked Picked (balanced cpu (rescheduled moment.room cpu))) in
+    let now = moment_after moment cpu (picked Picked (balanced cpu (picked_anew moment.room cpu))) in
     length now.room.siblings ≡ length moment.room.siblings → measure now < measure moment
 rescheduled_falls moment cpu below due none =
     cond_both (is_plain moment.room cpu) (plain moment.room cpu) (selected moment.room cpu)
@@ -364,7 +364,7 @@ pending_parts room cpu held =
 
 scheduled_falls : (moment : Moment) (cpu : ℕ) (fresh : Bool) (waiting : Waiting) → is_fresh moment.ledger ≡ fresh → (sibling_of moment.room cpu).waiting ≡ waiting →
     Contains (pending moment.room) cpu → (is_ready moment cpu ≡ true) ⊎ (filter (is_ready moment) (pending moment.room) ≡ []) →
-    let now = moment_after moment cpu (picked Picked (balanced cpu (scheduled moment.room fresh cpu waiting))) in
+    let now = moment_after moment cpu (picked Picked (balanced cpu (adopted_or_picked_anew moment.room fresh cpu waiting))) in
     length now.room.siblings ≡ length moment.room.siblings → measure now < measure moment
 scheduled_falls moment cpu fresh None is_new waits held (inl ready) same =
     absurd (both_ways (is_some (sibling_of moment.room cpu).waiting) (ap is_some waits) (and_parts (is_fresh moment.ledger) _ ready).1)

@@ -7,15 +7,15 @@ use Rattle.cs_types.specs.declared.task.Task.{Task}
 use Rattle.cs_types.specs.declared.task.Policy.{Policy}
 use Rattle.cs_types.specs.declared.task.Policy.TheVariants.{Stop, Deadline, Fifo, Rr, Fair}
 use Rattle.cs_types.specs.Room.{RoomState, has_pid, task_of, sibling_of, with_task}
-use Rattle.cs_types.specs.Selection.{remembered, selected_room, selected, plain, is_plain, rescheduled, scheduled, schedule}
+use Rattle.cs_types.specs.Selection.{remembered, selected_room, selected, plain, is_plain, picked_anew, adopted_or_picked_anew, schedule}
 use Rattle.cs_types.specs.Queueing.{refreshed_by, refreshed, dequeued, moved, moved_to, queued_at_home}
-use Rattle.cs_types.specs.Step.{without, with_child, child_of, with_policy, rescheduled_as}
+use Rattle.cs_types.specs.Step.{without, with_child, child_of, with_policy, with_policy_set}
 use Rattle.cs_types.specs.Time.{is_running, grown, grown_by, advanced, ticked_room, has_used_slice, rotates}
-use Rattle.cs_types.specs.Hotplug.{lowest_other, moved_off, without_sibling}
+use Rattle.cs_types.specs.Hotplug.{lowest_other, moved_off, leave}
 use Rattle.cs_types.specs.Prctl.{Setting, is_set, with_cookies}
 use Rattle.cs_types.proofs.Foremost.{find_passes}
 use Rattle.cs_types.proofs.Rising.{AreRising, below_high, pid-remembered, pid-grown_by}
-use Rattle.cs_types.proofs.Spots.{Spot, spot_of, spot_at, find-map, spot_in-map, spot_in-replaced, find-replaced, spot_in-alike, spot_in-without, spot_in-placed}
+use Rattle.cs_types.proofs.Spots.{Spot, spot_of, spot_at, find-map, spot_in-map, spot_in-replaced, find-replaced, spot_in-alike, spot_in-without, spot_in-inserted}
 
 -- ---- a schedule moves no task
 
@@ -26,18 +26,18 @@ spots-selected_room room cpu core pid =
     (pid-remembered room core)
     (λ task. cond_both _ _ _ (λ (t : Task). spot_of t ≡ spot_of task) (λ _. refl) (λ _. refl)) room.tasks pid
 
-pub spots-rescheduled : (room : RoomState) (cpu pid : ℕ) → spot_at (rescheduled room cpu).room pid ≡ spot_at room pid
-spots-rescheduled room cpu pid =
+pub spots-picked_anew : (room : RoomState) (cpu pid : ℕ) → spot_at (picked_anew room cpu).room pid ≡ spot_at room pid
+spots-picked_anew room cpu pid =
     cond_both (is_plain room cpu) (plain room cpu) (selected room cpu) (λ made. spot_at made.room pid ≡ spot_at room pid) (λ _. refl)
     (λ _. spots-selected_room room cpu _ pid)
 
-pub spots-scheduled : (room : RoomState) (fresh : Bool) (cpu : ℕ) (waiting : Option (Option ℕ)) (pid : ℕ) → spot_at (scheduled room fresh cpu waiting).room pid ≡ spot_at room pid
-spots-scheduled room fresh cpu None pid = spots-rescheduled room cpu pid
-spots-scheduled room true cpu (Some run) pid = refl
-spots-scheduled room false cpu (Some run) pid = spots-rescheduled room cpu pid
+pub spots-adopted_or_picked_anew : (room : RoomState) (fresh : Bool) (cpu : ℕ) (waiting : Option (Option ℕ)) (pid : ℕ) → spot_at (adopted_or_picked_anew room fresh cpu waiting).room pid ≡ spot_at room pid
+spots-adopted_or_picked_anew room fresh cpu None pid = spots-picked_anew room cpu pid
+spots-adopted_or_picked_anew room true cpu (Some run) pid = refl
+spots-adopted_or_picked_anew room false cpu (Some run) pid = spots-picked_anew room cpu pid
 
 pub spots-schedule : (room : RoomState) (fresh : Bool) (cpu pid : ℕ) → spot_at (schedule room fresh cpu).room pid ≡ spot_at room pid
-spots-schedule room fresh cpu pid = spots-scheduled room fresh cpu (sibling_of room cpu).waiting pid
+spots-schedule room fresh cpu pid = spots-adopted_or_picked_anew room fresh cpu (sibling_of room cpu).waiting pid
 
 -- ---- nor do an advance and a tick
 
@@ -111,7 +111,7 @@ pub spots-with_child : (room : RoomState) (caller : Task) (thread : Bool) → Ar
     spot_at (with_child room (child_of caller thread room.next_pid)) pid
     ≡ cond (pid == room.next_pid) (Some (spot_of (child_of caller thread room.next_pid))) (spot_at room pid)
 spots-with_child room caller thread rises pid =
-    spot_in-placed (child_of caller thread room.next_pid) room.tasks (below_high 0 room.next_pid room.tasks rises).1 pid
+    spot_in-inserted (child_of caller thread room.next_pid) room.tasks (below_high 0 room.next_pid room.tasks rises).1 pid
 
 -- ---- another policy
 
@@ -137,9 +137,9 @@ spots-requeued room policy task found is pid =
       found_then : find (has_pid task.spec.pid) (dequeued room changed).tasks ≡ Some gone
       found_then = find-replaced gone task room.tasks found task.spec.pid ∙ cond-true (task.spec.pid == task.spec.pid) _ _ (eq-eqb _ _ refl)
 
-pub spots-rescheduled_as : (room : RoomState) (policy : Policy) (task : Task) → task_of room task.spec.pid ≡ Some task → (pid : ℕ) →
-    spot_at (rescheduled_as room policy task) pid ≡ spot_at room pid
-spots-rescheduled_as room policy task found pid =
+pub spots-with_policy_set : (room : RoomState) (policy : Policy) (task : Task) → task_of room task.spec.pid ≡ Some task → (pid : ℕ) →
+    spot_at (with_policy_set room policy task) pid ≡ spot_at room pid
+spots-with_policy_set room policy task found pid =
     cond_both task.queued _ _ (λ (made : RoomState). spot_at made pid ≡ spot_at room pid)
     (λ is. spots-requeued room policy task found is pid) (λ _. spots-with_policy room policy task found pid)
 
@@ -153,10 +153,10 @@ spot_cond false x y = refl
 abbrev pub spot_off : ℕ → ℕ → Spot → Spot
 spot_off cpu other spot = cond (spot.queued && (spot.home == cpu)) (record spot { home = other }) spot
 
-pub spots-without_sibling : (room : RoomState) (cpu pid : ℕ) →
-    spot_at (without_sibling room cpu) pid ≡ option_map (spot_off cpu (lowest_other room cpu)) (spot_at room pid)
-unfolding without_sibling
-spots-without_sibling room cpu pid =
+pub spots-leave : (room : RoomState) (cpu pid : ℕ) →
+    spot_at (leave room cpu) pid ≡ option_map (spot_off cpu (lowest_other room cpu)) (spot_at room pid)
+unfolding leave
+spots-leave room cpu pid =
     ap (option_map spot_of) (find-map (moved_off room cpu)
     (λ task. cond_both (task.queued && (task.home == cpu)) _ _ (λ (t : Task). t.spec.pid ≡ task.spec.pid) (λ _. refl) (λ _. refl)) pid room.tasks)
     ∙ go (task_of room pid) where

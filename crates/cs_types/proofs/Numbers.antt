@@ -21,23 +21,23 @@ use Rattle.cs_types.specs.declared.reply.Reply.TheVariants.{Picked, Slept, Ended
 use Rattle.cs_types.specs.declared.reply.Entry.{Entry}
 use Rattle.cs_types.specs.declared.scenario.Scenario.{Scenario}
 use Rattle.cs_types.specs.Room.{RoomState, first_pid, queued_on, sibling_of, running_on, is_online, online, task_of}
-use Rattle.cs_types.specs.Selection.{selected_room, selected, plain, is_plain, rescheduled, scheduled, schedule}
+use Rattle.cs_types.specs.Selection.{selected_room, selected, plain, is_plain, picked_anew, adopted_or_picked_anew, schedule}
 use Rattle.cs_types.specs.Prctl.{Setting, target_of, setting_by, setting_of, is_share_from, is_in_scope, makes_cookie, with_made, with_answer, prctl_answer, prctl_room}
-use Rattle.cs_types.specs.Step.{Stepped, step, woken, blocked, exited, forked, may_not_fork, ticked, turned, without, has_threads, idled, tried, unless_offline, set_policy, taken_offline, brought_online}
+use Rattle.cs_types.specs.Step.{Stepped, step, woken, blocked, exited, forked, may_not_fork, ticked, turned, without, has_threads, idled, try_steal, unless_offline, set_policy, taken_offline, brought_online}
 use Rattle.cs_types.specs.Steal.{stolen}
-use Rattle.cs_types.specs.Hotplug.{without_sibling}
+use Rattle.cs_types.specs.Hotplug.{leave}
 use Rattle.cs_types.specs.Queueing.{dequeued}
 use Rattle.cs_types.specs.Time.{advanced, rotates}
-use Rattle.cs_types.specs.Touches.{is_selected, is_adopted, pick_touches, cookie_touches, set_touches, selection_of, is_selection, policy_touches, policy_set_touches, leaving_touches, touches_by, Noted, Ledger, noted, back_to, task_number, pick_number, own_number, is_taken_by, is_fresh}
+use Rattle.cs_types.specs.Touches.{is_selected, is_adopted, pick_touches, cookie_touches, set_touches, selection_of, is_selection, policy_touches, policy_set_touches, leaving_touches, touches_by, LedgerEntry, Ledger, ledger_entry, back_to, task_number, pick_number, own_number, is_taken_by, is_fresh}
 use Rattle.cs_types.specs.History.{History, Moment, next, after, fold_of, ledger_of, beginning}
 use Rattle.cs_types.proofs.Tasks.{length-asleep_tasks, few-step}
 
 -- ---- one entry more
 
-pub task_number-cons : (note : Noted) (ledger : Ledger) → task_number (note ∷ ledger) ≡ note.touches + task_number ledger
-task_number-cons note ledger = sum_by-cons (λ (n : Noted). n.touches) note ledger
+pub task_number-cons : (note : LedgerEntry) (ledger : Ledger) → task_number (note ∷ ledger) ≡ note.touches + task_number ledger
+task_number-cons note ledger = sum_by-cons (λ (n : LedgerEntry). n.touches) note ledger
 
-pub pick_number-cons : (note : Noted) (ledger : Ledger) →
+pub pick_number-cons : (note : LedgerEntry) (ledger : Ledger) →
     pick_number (note ∷ ledger) ≡ cond (is_selection note.entry) (task_number (note ∷ ledger)) (pick_number ledger)
 pick_number-cons note ledger =
     elim (is_selection note.entry) as (λ b. task_number (cond b (note ∷ ledger) (back_to is_selection ledger)) ≡ cond b (task_number (note ∷ ledger)) (pick_number ledger)) [
@@ -45,7 +45,7 @@ pick_number-cons note ledger =
       | false ↦ refl
     ]
 
-pub own_number-cons : (cpu : ℕ) (note : Noted) (ledger : Ledger) →
+pub own_number-cons : (cpu : ℕ) (note : LedgerEntry) (ledger : Ledger) →
     own_number cpu (note ∷ ledger) ≡ cond (is_taken_by cpu note.entry) (pick_number (note ∷ ledger)) (own_number cpu ledger)
 own_number-cons cpu note ledger =
     elim (is_taken_by cpu note.entry) as (λ b. pick_number (cond b (note ∷ ledger) (back_to (is_taken_by cpu) ledger)) ≡ cond b (pick_number (note ∷ ledger)) (own_number cpu ledger)) [
@@ -90,11 +90,11 @@ by_entry false any all touches pick task some before below = by_other any all to
 abbrev pub untouched : Ledger → Bool
 untouched ledger = list_all (λ note. eqb note.touches 0) (take_while (λ note. not (is_selection note.entry)) ledger)
 
-pub untouched-cons : (note : Noted) (ledger : Ledger) →
+pub untouched-cons : (note : LedgerEntry) (ledger : Ledger) →
     untouched (note ∷ ledger) ≡ cond (is_selection note.entry) true (eqb note.touches 0 && untouched ledger)
 untouched-cons note ledger =
     ap (list_all (λ n. eqb n.touches 0)) (take_while-cons (λ n. not (is_selection n.entry)) note ledger)
-    ∙ elim (is_selection note.entry) as (λ b. list_all (λ (n : Noted). eqb n.touches 0) (cond (not b) (note ∷ take_while (λ n. not (is_selection n.entry)) ledger) []) ≡ cond b true (eqb note.touches 0 && untouched ledger)) [
+    ∙ elim (is_selection note.entry) as (λ b. list_all (λ (n : LedgerEntry). eqb n.touches 0) (cond (not b) (note ∷ take_while (λ n. not (is_selection n.entry)) ledger) []) ≡ cond b true (eqb note.touches 0 && untouched ledger)) [
       | true ↦ refl
       | false ↦ refl
     ]
@@ -105,7 +105,7 @@ pub fresh_by_numbers : (ledger : Ledger) → SelectionsTouch ledger →
 unfolding is_fresh
 fresh_by_numbers [] touch = refl
 fresh_by_numbers (note ∷ ledger) touch =
-    let any = list_any (λ (n : Noted). is_selection n.entry) ledger in
+    let any = list_any (λ (n : LedgerEntry). is_selection n.entry) ledger in
     ap (λ b. (is_selection note.entry || any) && b) (untouched-cons note ledger)
     ∙ by_entry (is_selection note.entry) any (untouched ledger) note.touches (pick_number ledger) (task_number ledger) touch.0
     (fresh_by_numbers ledger touch.1) (pick_number-le ledger)
@@ -209,7 +209,7 @@ touches_after : (moment : Moment) (entries : List Entry) → length moment.room.
     task_number (after moment entries).ledger ≤ task_number moment.ledger + 514 * length entries
 touches_after moment [] few low = omega arith
 touches_after moment (entry ∷ entries) few low =
-    let note = noted moment.room entry in
+    let note = ledger_entry moment.room entry in
     let one = few-step moment.room (is_fresh moment.ledger) entry.event in
     let more = touches_after (next moment entry) entries (subst (λ n. length (next moment entry).room.tasks ≤ n) (sym one.limit) (one.few few)) (omega (arith, low, one.limit)) in
     omega (arith, few, low, more, task_number-cons note moment.ledger, touches_by-le moment.room entry.event entry.reply)
@@ -230,19 +230,19 @@ draws-selected_room : (room : RoomState) (cpu core : ℕ) → draws (selected_ro
 unfolding selected_room
 draws-selected_room room cpu core = refl
 
-draws-rescheduled : (room : RoomState) (cpu : ℕ) → draws (rescheduled room cpu).room ≡ draws room
-draws-rescheduled room cpu =
+draws-picked_anew : (room : RoomState) (cpu : ℕ) → draws (picked_anew room cpu).room ≡ draws room
+draws-picked_anew room cpu =
     cond_both (is_plain room cpu) (plain room cpu) (selected room cpu) (λ made. draws made.room ≡ draws room) (λ _. refl)
     (λ _. draws-selected_room room cpu _)
 
-draws-scheduled : (room : RoomState) (fresh : Bool) (cpu : ℕ) (waiting : Option (Option ℕ)) → draws (scheduled room fresh cpu waiting).room ≡ draws room
-draws-scheduled room fresh cpu None = draws-rescheduled room cpu
-draws-scheduled room true cpu (Some run) = refl
-draws-scheduled room false cpu (Some run) = draws-rescheduled room cpu
+draws-adopted_or_picked_anew : (room : RoomState) (fresh : Bool) (cpu : ℕ) (waiting : Option (Option ℕ)) → draws (adopted_or_picked_anew room fresh cpu waiting).room ≡ draws room
+draws-adopted_or_picked_anew room fresh cpu None = draws-picked_anew room cpu
+draws-adopted_or_picked_anew room true cpu (Some run) = refl
+draws-adopted_or_picked_anew room false cpu (Some run) = draws-picked_anew room cpu
 
 -- A schedule draws nothing.
 draws-schedule : (room : RoomState) (fresh : Bool) (cpu : ℕ) → draws (schedule room fresh cpu).room ≡ draws room
-draws-schedule room fresh cpu = draws-scheduled room fresh cpu (sibling_of room cpu).waiting
+draws-schedule room fresh cpu = draws-adopted_or_picked_anew room fresh cpu (sibling_of room cpu).waiting
 
 -- at most one more of each was drawn, and of the stamps one more than there were tasks
 pub record DrawsOne (tasks : ℕ) (old new : ℕ × ℕ × ℕ × ℕ) : Type 0 where
@@ -259,16 +259,16 @@ draws_none tasks old new same = record {
   ended = omega (arith, ap (λ (d : ℕ × ℕ × ℕ × ℕ). d.3) same);
 }
 
-draws-tried : (room : RoomState) (cpu : ℕ) (task : Option Task) → DrawsOne (length room.tasks) (draws room) (draws (tried room cpu task).room)
-draws-tried room cpu None = draws_none _ _ _ refl
-draws-tried room cpu (Some task) = record { stamp = omega arith; cookie = omega arith; pid = omega arith; ended = omega arith }
+draws-try_steal : (room : RoomState) (cpu : ℕ) (task : Option Task) → DrawsOne (length room.tasks) (draws room) (draws (try_steal room cpu task).room)
+draws-try_steal room cpu None = draws_none _ _ _ refl
+draws-try_steal room cpu (Some task) = record { stamp = omega arith; cookie = omega arith; pid = omega arith; ended = omega arith }
 
 draws-turned : (room : RoomState) (fresh : Bool) (cpu : ℕ) → DrawsOne (length room.tasks) (draws room) (draws (turned room fresh cpu).room)
 draws-turned room fresh cpu =
     cond_both (sibling_of room cpu).pending _ _ (λ (made : Stepped). DrawsOne (length room.tasks) (draws room) (draws made.room))
     (λ _. draws_none _ _ _ (draws-schedule room fresh cpu))
     (λ _. cond_both ((sibling_of room cpu).place == 0) _ _ (λ (made : Stepped). DrawsOne (length room.tasks) (draws room) (draws made.room)) (λ _. draws_none _ _ _ refl)
-    (λ _. draws-tried room cpu (stolen room cpu)))
+    (λ _. draws-try_steal room cpu (stolen room cpu)))
 
 draws-blocked : (room : RoomState) (cpu : ℕ) (task : Option Task) → draws (blocked room cpu task).room ≡ draws room
 draws-blocked room cpu None = refl
@@ -343,7 +343,7 @@ draws-set_policy room policy (Some task) =
 
 -- a sibling that leaves draws a stamp for each task that moves
 draws-taken_offline : (room : RoomState) (cpu : ℕ) → DrawsOne (length room.tasks) (draws room) (draws (taken_offline room cpu).room)
-unfolding without_sibling
+unfolding leave
 draws-taken_offline room cpu =
     cond_both (not (is_online room cpu)) _ _ (λ (made : Stepped). DrawsOne (length room.tasks) (draws room) (draws made.room)) (λ _. draws_none _ _ _ refl)
     (λ _. cond_both (length (online room) == 1) _ _ (λ (made : Stepped). DrawsOne (length room.tasks) (draws room) (draws made.room)) (λ _. draws_none _ _ _ refl)

@@ -11,9 +11,9 @@ use Rattle.cs_types.specs.declared.reply.Reply.TheVariants.{Picked, Set, Done}
 use Rattle.cs_types.specs.Room.{RoomState, Waiting, idle, has_pid, sibling_of, running_on, is_online, online, task_of, with_task, flagged}
 use Rattle.cs_types.specs.Selection.{schedule, is_run}
 use Rattle.cs_types.specs.Queueing.{dequeued, enqueued, refreshed, moved, rehomed, preempts, queued_at_home}
-use Rattle.cs_types.specs.Step.{Stepped, picked, woken, blocked, exited, forked, turned, without, has_threads, child_of, settled, may_not_fork, with_child, ticked, idled, tried, with_policy, set_policy, rescheduled_as, taken_offline, brought_online}
+use Rattle.cs_types.specs.Step.{Stepped, picked, woken, blocked, exited, forked, turned, without, has_threads, child_of, child_at_home, may_not_fork, with_child, ticked, idled, try_steal, with_policy, set_policy, with_policy_set, taken_offline, brought_online}
 use Rattle.cs_types.specs.Steal.{source_of, may_steal, stolen, with_place, next_place}
-use Rattle.cs_types.specs.Hotplug.{back, lowest_other, without_sibling}
+use Rattle.cs_types.specs.Hotplug.{back, lowest_other, leave}
 use Rattle.cs_types.specs.Accounting.{accounted}
 use Rattle.cs_types.specs.Time.{sliced, asks_at_tick, advanced}
 use Rattle.cs_types.proofs.Foremost.{find_none, each_weaker}
@@ -21,9 +21,9 @@ use Rattle.cs_types.proofs.Tasks.{found_again}
 use Rattle.cs_types.proofs.Rising.{AreRising, below_high, rising-dequeued, rising-without}
 use Rattle.cs_types.proofs.Siblings.{kept, kept-with_sibling, kept-idled, kept-without, length-alike, is_online-alike}
 use Rattle.cs_types.proofs.Spots.{Spot, spot_of, spot_at}
-use Rattle.cs_types.proofs.Moves.{spots-advanced, spots-ticked_room, spots-queued_at_home, spots-dequeued, spots-without, spots-moved, spots-with_child, spots-with_policy, spots-requeued, spot_off, spots-without_sibling}
+use Rattle.cs_types.proofs.Moves.{spots-advanced, spots-ticked_room, spots-queued_at_home, spots-dequeued, spots-without, spots-moved, spots-with_child, spots-with_policy, spots-requeued, spot_off, spots-leave}
 use Rattle.cs_types.proofs.Places.{with_sibling_at, with_sibling_either}
-use Rattle.cs_types.proofs.Homes.{IsHoused, IsQueuedOn, stolen_is, running_is_found, rehomed_is_online, rehomed_is_found, settled_is_online, child_is_found, sibling_of-advanced, sibling_of-without}
+use Rattle.cs_types.proofs.Homes.{IsHoused, IsQueuedOn, stolen_is, running_is_found, rehomed_is_online, rehomed_is_found, child_at_home_is_online, child_is_found, sibling_of-advanced, sibling_of-without}
 use Rattle.cs_types.proofs.Fits.{IsAt, cookie_at, Fits, SiblingFits, AllFit, Has, fits_where, fits_moved, fits_running, fits_away, fits_idle, all_same, all_later, all_flagged, all_placed}
 use Rattle.cs_types.proofs.Freshness.{fresh_after, fresh_before, picked_fresh, slept_fresh, ended_fresh}
 use Rattle.cs_types.proofs.Schedules.{OthersFit, schedule_fits, again_fits}
@@ -52,10 +52,10 @@ pub resched-fits : (room : RoomState) (fresh : Bool) (event : Event) (cpu : ℕ)
 resched-fits room fresh event cpu below up rises fits =
     schedule_fits room fresh _ cpu below up rises (picked_fresh room fresh event (schedule room fresh cpu).pick) fits
 
-tried-fits : (room : RoomState) (fresh : Bool) (cpu : ℕ) (task : Option Task) → is_online room cpu ≡ true → AreRising room → IsHoused room → stolen room cpu ≡ task → AllFit room fresh →
-    StepFits room fresh (Turn cpu) (tried room cpu task)
-tried-fits room fresh cpu None up rises housed made fits = all_placed room fresh cpu (next_place room cpu) up fits
-tried-fits room fresh cpu (Some task) up rises housed made fits =
+try_steal-fits : (room : RoomState) (fresh : Bool) (cpu : ℕ) (task : Option Task) → is_online room cpu ≡ true → AreRising room → IsHoused room → stolen room cpu ≡ task → AllFit room fresh →
+    StepFits room fresh (Turn cpu) (try_steal room cpu task)
+try_steal-fits room fresh cpu None up rises housed made fits = all_placed room fresh cpu (next_place room cpu) up fits
+try_steal-fits room fresh cpu (Some task) up rises housed made fits =
     all_flagged after false source _ (is_online-alike after room kept_after source ∙ its_home)
     (all_flagged placed false cpu true (is_online-alike placed room kept_placed cpu ∙ up)
     (all_placed (moved room cpu task) false cpu 0 up
@@ -63,7 +63,7 @@ tried-fits room fresh cpu (Some task) up rises housed made fits =
       source : ℕ
       source = source_of room cpu
 
-      is : IsQueuedOn room source task × (may_steal room cpu source task ≡ true)
+      is : IsQueuedOn room source task × (may_steal (sibling_of room cpu) (sibling_of room source) task ≡ true)
       is = stolen_is room cpu task rises made
 
       placed : RoomState
@@ -107,7 +107,7 @@ pub turned-fits : (room : RoomState) (fresh : Bool) (cpu : ℕ) → cpu < length
     StepFits room fresh (Turn cpu) (turned room fresh cpu)
 turned-fits room fresh cpu below up rises housed fits =
     cond_both (sibling_of room cpu).pending _ _ (StepFits room fresh (Turn cpu)) (λ _. resched-fits room fresh (Turn cpu) cpu below up rises fits)
-    (λ _. cond_both ((sibling_of room cpu).place == 0) _ _ (StepFits room fresh (Turn cpu)) (λ _. fits) (λ _. tried-fits room fresh cpu (stolen room cpu) up rises housed refl fits))
+    (λ _. cond_both ((sibling_of room cpu).place == 0) _ _ (StepFits room fresh (Turn cpu)) (λ _. fits) (λ _. try_steal-fits room fresh cpu (stolen room cpu) up rises housed refl fits))
 
 -- ---- block and exit
 
@@ -190,7 +190,7 @@ forked-fits room fresh pid thread (Some caller) rises housed fits =
     find_none (has_pid room.next_pid) room.tasks (each_weaker (λ other. other.spec.pid ≢ room.next_pid) (λ other. has_pid room.next_pid other ≡ false) room.tasks
     (λ other differ. false_from_ne_true (has_pid room.next_pid other) (λ same. differ (eqb-true other.spec.pid room.next_pid same))) (below_high 0 room.next_pid room.tasks rises).1) in
     cond_both (may_not_fork room caller) _ _ (StepFits room fresh (Fork pid thread)) (λ _. fits)
-    (λ _. queued-fits born fresh (settled room child) child (child_is_found room caller thread rises) refl (settled_is_online room child housed)
+    (λ _. queued-fits born fresh (child_at_home room child) child (child_is_found room caller thread rises) refl (child_at_home_is_online room child housed)
     (all_moved room born fresh fresh room.next_pid _ refl refl (spots-with_child room caller thread rises)
     (λ cpu has here. subst (IsAt cpu) (ap (option_map spot_of) nobody) here) (λ e. e) fits))
 
@@ -216,7 +216,7 @@ pub set_policy-fits : (room : RoomState) (fresh : Bool) (pid : ℕ) (policy : Po
     StepFits room fresh (SetSched pid policy) (set_policy room policy task)
 set_policy-fits room fresh pid policy None found housed fits = fits
 set_policy-fits room fresh pid policy (Some task) found housed fits =
-    all_later (rescheduled_as room policy task) fresh _ (λ later. (fresh_before room fresh (SetSched pid policy) Set refl later).1)
+    all_later (with_policy_set room policy task) fresh _ (λ later. (fresh_before room fresh (SetSched pid policy) Set refl later).1)
     (cond_both task.queued _ _ (λ (made : RoomState). AllFit made fresh) queued
     (λ _. all_same (spot_at room) (spot_at (with_task room changed)) room.core_cookie fresh (sibling_of room) (spots-with_policy room policy task its) fits)) where
       changed : Task
@@ -239,10 +239,10 @@ set_policy-fits room fresh pid policy (Some task) found housed fits =
 
 -- ---- leaving and coming back
 
-without-fits : (room : RoomState) (fresh : Bool) (cpu : ℕ) → AllFit room fresh → AllFit (without_sibling room cpu) fresh
-unfolding without_sibling
+without-fits : (room : RoomState) (fresh : Bool) (cpu : ℕ) → AllFit room fresh → AllFit (leave room cpu) fresh
+unfolding leave
 without-fits room fresh cpu fits other =
-    subst (λ at. SiblingFits at room.core_cookie fresh other (sibling_of (without_sibling room cpu) other)) (λ i pid. sym (spots-without_sibling room cpu pid) i)
+    subst (λ at. SiblingFits at room.core_cookie fresh other (sibling_of (leave room cpu) other)) (λ i pid. sym (spots-leave room cpu pid) i)
     (sibling_of-without (SiblingFits now room.core_cookie fresh other) room cpu other (fits_idle now room.core_cookie fresh other)
     (λ _. fits_away now room.core_cookie fresh other false None false None 0 refl (refl, refl, refl, refl))
     (λ differ. let sibling = sibling_of room other in
@@ -272,7 +272,7 @@ pub taken_offline-fits : (room : RoomState) (fresh : Bool) (cpu : ℕ) → AllFi
 taken_offline-fits room fresh cpu fits =
     cond_both (not (is_online room cpu)) _ _ (StepFits room fresh (Offline cpu)) (λ _. fits)
     (λ _. cond_both (length (online room) == 1) _ _ (StepFits room fresh (Offline cpu)) (λ _. fits)
-    (λ _. all_later (without_sibling room cpu) fresh _ (λ later. (fresh_before room fresh (Offline cpu) Done refl later).1) (without-fits room fresh cpu fits)))
+    (λ _. all_later (leave room cpu) fresh _ (λ later. (fresh_before room fresh (Offline cpu) Done refl later).1) (without-fits room fresh cpu fits)))
 
 pub brought_online-fits : (room : RoomState) (fresh : Bool) (cpu : ℕ) → AllFit room fresh → StepFits room fresh (Online cpu) (brought_online room cpu)
 brought_online-fits room fresh cpu fits =

@@ -16,13 +16,13 @@ use Rattle.cs_types.specs.declared.reply.Reply.TheVariants.{Zero}
 use Rattle.cs_types.specs.declared.reply.Entry.{Entry}
 use Rattle.cs_types.specs.declared.scenario.Scenario.{Scenario}
 use Rattle.cs_types.specs.Scenario.{AreDistinct}
-use Rattle.cs_types.specs.Room.{RoomState, has_pid, sibling_of, running_on, is_online, online, task_of, asleep, placed, first_pid, with_task}
-use Rattle.cs_types.specs.Selection.{remembered, selected_room, selected, plain, is_plain, rescheduled, scheduled, schedule}
+use Rattle.cs_types.specs.Room.{RoomState, has_pid, sibling_of, running_on, is_online, online, task_of, asleep, inserted, first_pid, with_task}
+use Rattle.cs_types.specs.Selection.{remembered, selected_room, selected, plain, is_plain, picked_anew, adopted_or_picked_anew, schedule}
 use Rattle.cs_types.specs.Prctl.{Setting, setting_of, is_set, makes_cookie, with_made, with_answer, prctl_answer}
-use Rattle.cs_types.specs.Step.{Stepped, step, woken, blocked, exited, forked, turned, without, has_threads, child_of, settled, may_not_fork, with_child, ticked, idled, tried, unless_offline, with_policy, set_policy, taken_offline, brought_online}
+use Rattle.cs_types.specs.Step.{Stepped, step, woken, blocked, exited, forked, turned, without, has_threads, child_of, child_at_home, may_not_fork, with_child, ticked, idled, try_steal, unless_offline, with_policy, set_policy, taken_offline, brought_online}
 use Rattle.cs_types.specs.Queueing.{refreshed, dequeued, moved_to, rehomed, queued_at_home}
 use Rattle.cs_types.specs.Steal.{stolen}
-use Rattle.cs_types.specs.Hotplug.{moved_off, without_sibling}
+use Rattle.cs_types.specs.Hotplug.{moved_off, leave}
 use Rattle.cs_types.specs.Accounting.{accounted}
 use Rattle.cs_types.specs.Time.{advanced, is_running, grown, grown_by}
 use Rattle.cs_types.specs.Touches.{is_fresh}
@@ -68,13 +68,13 @@ rises-filter p low high (task ∷ tasks) rises =
     cond_both (p task) (task ∷ filter p tasks) (filter p tasks) (Rises low high) (λ _. (rises.0, rest))
     (λ _. rises_wider task.spec.pid low high high (filter p tasks) (omega arith) (omega arith) rest)
 
-rises-placed : (task : Task) (low high : ℕ) (tasks : List Task) → low < task.spec.pid → task.spec.pid < high →
-    AllByRecursion (λ other. other.spec.pid ≢ task.spec.pid) tasks → Rises low high tasks → Rises low high (placed task tasks)
-rises-placed task low high [] above below fresh rises = (above, below)
-rises-placed task low high (first ∷ rest) above below fresh rises =
-    cond_both (ltb task.spec.pid first.spec.pid) (task ∷ first ∷ rest) (first ∷ placed task rest) (Rises low high)
+rises-inserted : (task : Task) (low high : ℕ) (tasks : List Task) → low < task.spec.pid → task.spec.pid < high →
+    AllByRecursion (λ other. other.spec.pid ≢ task.spec.pid) tasks → Rises low high tasks → Rises low high (inserted task tasks)
+rises-inserted task low high [] above below fresh rises = (above, below)
+rises-inserted task low high (first ∷ rest) above below fresh rises =
+    cond_both (ltb task.spec.pid first.spec.pid) (task ∷ first ∷ rest) (first ∷ inserted task rest) (Rises low high)
     (λ is. (above, (ltb-true task.spec.pid first.spec.pid is, rises.1)))
-    (λ is. (rises.0, rises-placed task first.spec.pid high rest (past is) below fresh.1 rises.1)) where
+    (λ is. (rises.0, rises-inserted task first.spec.pid high rest (past is) below fresh.1 rises.1)) where
       past : ltb task.spec.pid first.spec.pid ≡ false → first.spec.pid < task.spec.pid
       past is = let other = fresh.0 in grind (arith, nat_tests)
 
@@ -134,7 +134,7 @@ above_none pid (first ∷ rest) found =
 
 fresh_more : (first : TaskSpec) (tasks : List Task) (specs : List TaskSpec) → AllByRecursion (λ spec. first.pid ≢ spec.pid) specs →
     AllByRecursion (λ spec. AllByRecursion (λ other. other.spec.pid ≢ spec.pid) tasks) specs →
-    AllByRecursion (λ spec. AllByRecursion (λ other. other.spec.pid ≢ spec.pid) (placed (asleep first) tasks)) specs
+    AllByRecursion (λ spec. AllByRecursion (λ other. other.spec.pid ≢ spec.pid) (inserted (asleep first) tasks)) specs
 fresh_more first tasks [] others fresh = tt
 fresh_more first tasks (spec ∷ specs) others fresh =
     (all_placed (λ other. other.spec.pid ≢ spec.pid) (asleep first) tasks others.0 fresh.0, fresh_more first tasks specs others.1 fresh.1)
@@ -142,10 +142,10 @@ fresh_more first tasks (spec ∷ specs) others fresh =
 rises-added : (high : ℕ) (tasks : List Task) (specs : List TaskSpec) → Rises 0 high tasks →
     AllByRecursion (λ spec. 0 < spec.pid) specs → AllByRecursion (λ spec. spec.pid < high) specs →
     AllByRecursion (λ spec. AllByRecursion (λ other. other.spec.pid ≢ spec.pid) tasks) specs → AreDistinct specs →
-    Rises 0 high (fold (λ ts spec. placed (asleep spec) ts) tasks specs)
+    Rises 0 high (fold (λ ts spec. inserted (asleep spec) ts) tasks specs)
 rises-added high tasks [] rises above below fresh distinct = rises
 rises-added high tasks (spec ∷ specs) rises above below fresh distinct =
-    rises-added high (placed (asleep spec) tasks) specs (rises-placed (asleep spec) 0 high tasks above.0 below.0 fresh.0 rises) above.1 below.1
+    rises-added high (inserted (asleep spec) tasks) specs (rises-inserted (asleep spec) 0 high tasks above.0 below.0 fresh.0 rises) above.1 below.1
     (fresh_more spec tasks specs (recursion_from_All (λ other. spec.pid ≢ other.pid) specs (λ k d few. distinct 0 (suc k) d (omega arith) (omega arith))) fresh.1)
     (λ i j d before few. distinct (suc i) (suc j) d (omega arith) (omega arith))
 
@@ -168,30 +168,30 @@ rising-with_task room task rises =
 pub pid-remembered : (room : RoomState) (core : ℕ) (task : Task) → (remembered room core task).spec.pid ≡ task.spec.pid
 pid-remembered room core task = cond_both _ _ _ (λ (t : Task). t.spec.pid ≡ task.spec.pid) (λ _. refl) (λ _. refl)
 
-rising-rescheduled : (room : RoomState) (cpu : ℕ) → AreRising room → AreRising (rescheduled room cpu).room
+rising-picked_anew : (room : RoomState) (cpu : ℕ) → AreRising room → AreRising (picked_anew room cpu).room
 unfolding selected_room
-rising-rescheduled room cpu rises =
+rising-picked_anew room cpu rises =
     cond_both (is_plain room cpu) (plain room cpu) (selected room cpu) (λ made. AreRising made.room) (λ _. rises)
     (λ _. rises-map (remembered room _) (pid-remembered room _) 0 room.next_pid room.tasks rises)
 
-rising-scheduled : (room : RoomState) (fresh : Bool) (cpu : ℕ) (waiting : Option (Option ℕ)) → AreRising room → AreRising (scheduled room fresh cpu waiting).room
-rising-scheduled room fresh cpu None rises = rising-rescheduled room cpu rises
-rising-scheduled room true cpu (Some run) rises = rises
-rising-scheduled room false cpu (Some run) rises = rising-rescheduled room cpu rises
+rising-adopted_or_picked_anew : (room : RoomState) (fresh : Bool) (cpu : ℕ) (waiting : Option (Option ℕ)) → AreRising room → AreRising (adopted_or_picked_anew room fresh cpu waiting).room
+rising-adopted_or_picked_anew room fresh cpu None rises = rising-picked_anew room cpu rises
+rising-adopted_or_picked_anew room true cpu (Some run) rises = rises
+rising-adopted_or_picked_anew room false cpu (Some run) rises = rising-picked_anew room cpu rises
 
 rising-schedule : (room : RoomState) (fresh : Bool) (cpu : ℕ) → AreRising room → AreRising (schedule room fresh cpu).room
-rising-schedule room fresh cpu rises = rising-scheduled room fresh cpu (sibling_of room cpu).waiting rises
+rising-schedule room fresh cpu rises = rising-adopted_or_picked_anew room fresh cpu (sibling_of room cpu).waiting rises
 
-rising-tried : (room : RoomState) (cpu : ℕ) (task : Option Task) → AreRising room → AreRising (tried room cpu task).room
-rising-tried room cpu None rises = rises
-rising-tried room cpu (Some task) rises =
+rising-try_steal : (room : RoomState) (cpu : ℕ) (task : Option Task) → AreRising room → AreRising (try_steal room cpu task).room
+rising-try_steal room cpu None rises = rises
+rising-try_steal room cpu (Some task) rises =
     rising-with_task room (record (moved_to room cpu task) { queued = true; stamp = room.next_stamp }) rises
 
 rising-turned : (room : RoomState) (fresh : Bool) (cpu : ℕ) → AreRising room → AreRising (turned room fresh cpu).room
 rising-turned room fresh cpu rises =
     cond_both (sibling_of room cpu).pending _ _ (λ (made : Stepped). AreRising made.room) (λ _. rising-schedule room fresh cpu rises)
     (λ _. cond_both ((sibling_of room cpu).place == 0) _ _ (λ (made : Stepped). AreRising made.room) (λ _. rises)
-    (λ _. rising-tried room cpu (stolen room cpu) rises))
+    (λ _. rising-try_steal room cpu (stolen room cpu) rises))
 
 pub rising-dequeued : (room : RoomState) (task : Task) → AreRising room → AreRising (dequeued room task)
 rising-dequeued room task rises = rising-with_task room (record task { queued = false }) rises
@@ -224,7 +224,7 @@ rising-woken room (Some task) rises =
 rising-with_child : (room : RoomState) (caller : Task) (thread : Bool) → AreRising room → AreRising (with_child room (child_of caller thread room.next_pid))
 rising-with_child room caller thread rises =
     let bound = below_high 0 room.next_pid room.tasks rises in
-    rises-placed (child_of caller thread room.next_pid) 0 (room.next_pid + 1) room.tasks bound.0 (omega arith) bound.1
+    rises-inserted (child_of caller thread room.next_pid) 0 (room.next_pid + 1) room.tasks bound.0 (omega arith) bound.1
     (rises_wider 0 0 room.next_pid (room.next_pid + 1) room.tasks (omega arith) (omega arith) rises)
 
 rising-forked : (room : RoomState) (thread : Bool) (caller : Option Task) → AreRising room → AreRising (forked room thread caller).room
@@ -232,7 +232,7 @@ rising-forked room thread None rises = rises
 rising-forked room thread (Some caller) rises =
     let born = with_child room (child_of caller thread room.next_pid) in
     cond_both (may_not_fork room caller) _ _ (λ (made : Stepped). AreRising made.room) (λ _. rises)
-    (λ _. rising-queued_at_home born (settled room (child_of caller thread room.next_pid)) (rising-with_child room caller thread rises))
+    (λ _. rising-queued_at_home born (child_at_home room (child_of caller thread room.next_pid)) (rising-with_child room caller thread rises))
 
 rising-ticked : (room : RoomState) (cpu : ℕ) (task : Option Task) → AreRising room → AreRising (ticked room cpu task).room
 rising-ticked room cpu None rises = rises
@@ -272,7 +272,7 @@ rising-set_policy room policy (Some task) rises =
     (λ _. rising-with_task room changed rises)
 
 rising-taken_offline : (room : RoomState) (cpu : ℕ) → AreRising room → AreRising (taken_offline room cpu).room
-unfolding without_sibling
+unfolding leave
 rising-taken_offline room cpu rises =
     cond_both (not (is_online room cpu)) _ _ (λ (made : Stepped). AreRising made.room) (λ _. rises)
     (λ _. cond_both (length (online room) == 1) _ _ (λ (made : Stepped). AreRising made.room) (λ _. rises)

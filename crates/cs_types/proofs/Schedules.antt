@@ -6,12 +6,12 @@ use Rattle.std.proofs.lemmas.Bool.{cond_both, and_parts, eqb-true, eqb-false, bo
 use Rattle.cs_types.specs.declared.task.Task.{Task}
 use Rattle.cs_types.specs.Room.{RoomState, SiblingState, Waiting, queued_on, sibling_of, is_online, with_sibling}
 use Rattle.cs_types.specs.Order.{first_of}
-use Rattle.cs_types.specs.Selection.{first_on, queued_with, cookie_of, pid_of, choice, lead_from, is_run, running, is_fair_task, renews_snapshots, occupation_of, told, noted, handed, given, selected_room, selected, plain, is_plain, rescheduled, scheduled, schedule, adopted}
+use Rattle.cs_types.specs.Selection.{first_on, queued_with, cookie_of, pid_of, choice, lead_from, is_run, running, is_fair_task, renews_snapshots, occupation_of, told, noted, handed, given, selected_room, selected, plain, is_plain, picked_anew, adopted_or_picked_anew, schedule, adopted}
 use Rattle.cs_types.specs.Touches.{is_selected}
 use Rattle.cs_types.proofs.Filtered.{each-filter, each_found}
 use Rattle.cs_types.proofs.Rising.{AreRising}
 use Rattle.cs_types.proofs.Selections.{choice_matches, is_run_same}
-use Rattle.cs_types.proofs.Siblings.{kept-scheduled, is_online-alike}
+use Rattle.cs_types.proofs.Siblings.{kept-adopted_or_picked_anew, is_online-alike}
 use Rattle.cs_types.proofs.Spots.{Spot, spot_of, spot_at}
 use Rattle.cs_types.proofs.Moves.{spots-selected_room}
 use Rattle.cs_types.proofs.Places.{with_sibling_at, enumerated_at}
@@ -125,13 +125,13 @@ selected_fits room fresh later cpu up rises fits =
 -- ---- every schedule
 
 -- a schedule that adopts nothing is a selection where it leaves one fresh
-rescheduled_selects : (room : RoomState) (fresh : Bool) (cpu : ℕ) → freshened (rescheduled room cpu).pick.kind fresh ≡ true → is_selected (rescheduled room cpu).pick.kind ≡ true
+rescheduled_selects : (room : RoomState) (fresh : Bool) (cpu : ℕ) → freshened (picked_anew room cpu).pick.kind fresh ≡ true → is_selected (picked_anew room cpu).pick.kind ≡ true
 rescheduled_selects room fresh cpu old =
     cond_both (is_plain room cpu) (plain room cpu) (selected room cpu) (λ made. freshened made.pick.kind fresh ≡ true → is_selected made.pick.kind ≡ true)
     (λ _ e. e) (λ _ _. refl) old
 
 rescheduled_fits : (room : RoomState) (fresh later : Bool) (cpu : ℕ) → cpu < length room.siblings → is_online room cpu ≡ true → AreRising room →
-    (later ≡ true → is_selected (rescheduled room cpu).pick.kind ≡ true) → OthersFit room fresh cpu → AllFit (rescheduled room cpu).room later
+    (later ≡ true → is_selected (picked_anew room cpu).pick.kind ≡ true) → OthersFit room fresh cpu → AllFit (picked_anew room cpu).room later
 rescheduled_fits room fresh later cpu below up rises old fits =
     cond_both (is_plain room cpu) (plain room cpu) (selected room cpu) (λ made. (later ≡ true → is_selected made.pick.kind ≡ true) → AllFit made.room later)
     (λ is old. plain_fits room fresh later cpu below up rises is (λ e. let bad = old e in absurd cc) fits)
@@ -151,8 +151,8 @@ adopted_fits room later cpu run below up waits fits =
     fits_same (spot_at room) (spot_at room) room.core_cookie true later other one.online one.run one.pending one.waiting one.place (λ pid has here. refl) (λ _. refl) (fits other))
 
 scheduled_fits : (room : RoomState) (fresh later : Bool) (cpu : ℕ) (waiting : Waiting) → cpu < length room.siblings → is_online room cpu ≡ true → AreRising room →
-    (sibling_of room cpu).waiting ≡ waiting → (later ≡ true → freshened (scheduled room fresh cpu waiting).pick.kind fresh ≡ true) → AllFit room fresh →
-    AllFit (scheduled room fresh cpu waiting).room later
+    (sibling_of room cpu).waiting ≡ waiting → (later ≡ true → freshened (adopted_or_picked_anew room fresh cpu waiting).pick.kind fresh ≡ true) → AllFit room fresh →
+    AllFit (adopted_or_picked_anew room fresh cpu waiting).room later
 scheduled_fits room fresh later cpu None below up rises waits old fits =
     rescheduled_fits room fresh later cpu below up rises (λ e. rescheduled_selects room fresh cpu (old e)) (λ other differ. fits other)
 scheduled_fits room true later cpu (Some run) below up rises waits old fits = adopted_fits room later cpu run below up waits fits
@@ -161,11 +161,11 @@ scheduled_fits room false later cpu (Some run) below up rises waits old fits =
 
 -- the sibling's next place of a steal try makes no difference
 balanced_fits : (room : RoomState) (fresh later : Bool) (cpu : ℕ) (waiting : Waiting) (place : ℕ) → is_online room cpu ≡ true →
-    AllFit (scheduled room fresh cpu waiting).room later →
-    AllFit (with_sibling (scheduled room fresh cpu waiting).room cpu (record (sibling_of (scheduled room fresh cpu waiting).room cpu) { place = place })) later
+    AllFit (adopted_or_picked_anew room fresh cpu waiting).room later →
+    AllFit (with_sibling (adopted_or_picked_anew room fresh cpu waiting).room cpu (record (sibling_of (adopted_or_picked_anew room fresh cpu waiting).room cpu) { place = place })) later
 balanced_fits room fresh later cpu waiting place up fits =
-    all_placed (scheduled room fresh cpu waiting).room later cpu place
-    (is_online-alike (scheduled room fresh cpu waiting).room room (kept-scheduled room fresh cpu waiting) cpu ∙ up) fits
+    all_placed (adopted_or_picked_anew room fresh cpu waiting).room later cpu place
+    (is_online-alike (adopted_or_picked_anew room fresh cpu waiting).room room (kept-adopted_or_picked_anew room fresh cpu waiting) cpu ∙ up) fits
 
 -- After a schedule of an online sibling every one has what fits it.
 pub schedule_fits : (room : RoomState) (fresh later : Bool) (cpu : ℕ) → cpu < length room.siblings → is_online room cpu ≡ true → AreRising room →
@@ -179,6 +179,6 @@ pub again_fits : (room : RoomState) (fresh later : Bool) (cpu : ℕ) → cpu < l
     (later ≡ true → freshened (schedule room false cpu).pick.kind false ≡ true) → OthersFit room fresh cpu → AllFit (schedule room false cpu).room later
 again_fits room fresh later cpu below up rises old fits =
     balanced_fits room false later cpu (sibling_of room cpu).waiting _ up (go (sibling_of room cpu).waiting old) where
-      go : (waiting : Waiting) → (later ≡ true → freshened (scheduled room false cpu waiting).pick.kind false ≡ true) → AllFit (scheduled room false cpu waiting).room later
+      go : (waiting : Waiting) → (later ≡ true → freshened (adopted_or_picked_anew room false cpu waiting).pick.kind false ≡ true) → AllFit (adopted_or_picked_anew room false cpu waiting).room later
       go None old = rescheduled_fits room fresh later cpu below up rises (λ e. rescheduled_selects room false cpu (old e)) fits
       go (Some run) old = rescheduled_fits room fresh later cpu below up rises (λ e. rescheduled_selects room false cpu (old e)) fits

@@ -22,10 +22,10 @@ use Rattle.cs_types.specs.declared.scenario.Scenario.{Scenario}
 use Rattle.cs_types.specs.Scenario.{IsEvent}
 use Rattle.cs_types.specs.Room.{RoomState, SiblingState, idle, queued_on, sibling_of, is_online, online, online_from, running_on, task_of, with_sibling}
 use Rattle.cs_types.specs.Order.{foremost, is_higher_here, outranks, goes_before, first_of}
-use Rattle.cs_types.specs.Selection.{to_run, first_on, cookie_of, pid_of, is_fair_task, renews_snapshots, snapshot_of, lead_from, choice, eligible, is_forced, forced_count, is_run, told, handed, given, occupation_of, selected_room, selected, Scheduled, is_plain, plain, rescheduled, scheduled, schedule}
+use Rattle.cs_types.specs.Selection.{to_run, first_on, cookie_of, pid_of, is_fair_task, renews_snapshots, snapshot_of, lead_from, choice, eligible, is_forced, forced_count, is_run, told, handed, given, occupation_of, selected_room, selected, Scheduled, is_plain, plain, picked_anew, adopted_or_picked_anew, schedule}
 use Rattle.cs_types.specs.Prctl.{Row, first_answer, rows_before_making, rows_after_making, prctl_answer}
 use Rattle.cs_types.specs.Touches.{selection_of, is_fresh}
-use Rattle.cs_types.specs.Step.{Stepped, step, picked, turned, tried, unless_offline, blocked, woken, idled, exited, forked, may_not_fork, ticked, without, has_threads, set_policy, taken_offline, brought_online}
+use Rattle.cs_types.specs.Step.{Stepped, step, picked, turned, try_steal, unless_offline, blocked, woken, idled, exited, forked, may_not_fork, ticked, without, has_threads, set_policy, taken_offline, brought_online}
 use Rattle.cs_types.specs.Steal.{stolen}
 use Rattle.cs_types.specs.Queueing.{dequeued}
 use Rattle.cs_types.specs.History.{History, moment_of, fold_of, ledger_of, reply_to, step_at}
@@ -340,12 +340,12 @@ selected_keeps_law room cpu below up =
 abbrev pub KeepsLaw : RoomState → ℕ → Scheduled → Type 0
 KeepsLaw room cpu made = IfSome (selection_of (Picked made.pick)) (λ pick. SelectsForTheCore room cpu pick made.room)
 
-rescheduled_keeps_law : (room : RoomState) (cpu : ℕ) → cpu < length room.siblings → is_online room cpu ≡ true → KeepsLaw room cpu (rescheduled room cpu)
+rescheduled_keeps_law : (room : RoomState) (cpu : ℕ) → cpu < length room.siblings → is_online room cpu ≡ true → KeepsLaw room cpu (picked_anew room cpu)
 rescheduled_keeps_law room cpu below up =
     cond_both (is_plain room cpu) (plain room cpu) (selected room cpu) (KeepsLaw room cpu) (λ _. tt) (λ _. selected_keeps_law room cpu below up)
 
 scheduled_keeps_law : (room : RoomState) (fresh : Bool) (cpu : ℕ) (waiting : Option (Option ℕ)) →
-    cpu < length room.siblings → is_online room cpu ≡ true → KeepsLaw room cpu (scheduled room fresh cpu waiting)
+    cpu < length room.siblings → is_online room cpu ≡ true → KeepsLaw room cpu (adopted_or_picked_anew room fresh cpu waiting)
 scheduled_keeps_law room fresh cpu None below up = rescheduled_keeps_law room cpu below up
 scheduled_keeps_law room true cpu (Some run) below up = tt
 scheduled_keeps_law room false cpu (Some run) below up = rescheduled_keeps_law room cpu below up
@@ -381,7 +381,7 @@ balanced_keeps_law room cpu pick now place law =
 -- Every schedule of an online sibling keeps the law.
 pub schedule_keeps_law : (room : RoomState) (fresh : Bool) (cpu : ℕ) → cpu < length room.siblings → is_online room cpu ≡ true → KeepsLaw room cpu (schedule room fresh cpu)
 schedule_keeps_law room fresh cpu below up =
-    let made = scheduled room fresh cpu (sibling_of room cpu).waiting in
+    let made = adopted_or_picked_anew room fresh cpu (sibling_of room cpu).waiting in
     go (selection_of (Picked made.pick)) made.room _ (scheduled_keeps_law room fresh cpu (sibling_of room cpu).waiting below up) where
       go : (pick : Option Pick) (now : RoomState) (place : ℕ) → IfSome pick (λ pick. SelectsForTheCore room cpu pick now) →
           IfSome pick (λ pick. SelectsForTheCore room cpu pick (with_sibling now cpu (record (sibling_of now cpu) { place = place })))
@@ -392,15 +392,15 @@ schedule_keeps_law room fresh cpu below up =
 abbrev pub StepKeepsLaw : RoomState → Event → Stepped → Type 0
 StepKeepsLaw room event made = IfSome (selection_of made.reply) (λ pick. SelectsForTheCore (scheduling_room room event) (cpu_of event) pick made.room)
 
-tried_keeps_law : (room : RoomState) (cpu : ℕ) (task : Option Task) → StepKeepsLaw room (Turn cpu) (tried room cpu task)
-tried_keeps_law room cpu None = tt
-tried_keeps_law room cpu (Some task) = tt
+try_steal_keeps_law : (room : RoomState) (cpu : ℕ) (task : Option Task) → StepKeepsLaw room (Turn cpu) (try_steal room cpu task)
+try_steal_keeps_law room cpu None = tt
+try_steal_keeps_law room cpu (Some task) = tt
 
 turned_keeps_law : (room : RoomState) (fresh : Bool) (cpu : ℕ) → cpu < length room.siblings → is_online room cpu ≡ true →
     StepKeepsLaw room (Turn cpu) (turned room fresh cpu)
 turned_keeps_law room fresh cpu below up =
     cond_both (sibling_of room cpu).pending _ _ (StepKeepsLaw room (Turn cpu)) (λ _. schedule_keeps_law room fresh cpu below up)
-    (λ _. cond_both ((sibling_of room cpu).place == 0) _ _ (StepKeepsLaw room (Turn cpu)) (λ _. tt) (λ _. tried_keeps_law room cpu (stolen room cpu)))
+    (λ _. cond_both ((sibling_of room cpu).place == 0) _ _ (StepKeepsLaw room (Turn cpu)) (λ _. tt) (λ _. try_steal_keeps_law room cpu (stolen room cpu)))
 
 -- a sibling that blocks schedules in the room without the task that went to sleep, where the same siblings are online
 blocked_keeps_law : (room : RoomState) (cpu : ℕ) (task : Option Task) → cpu < length room.siblings → is_online room cpu ≡ true →

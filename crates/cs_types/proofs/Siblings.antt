@@ -16,12 +16,12 @@ use Rattle.cs_types.specs.declared.reply.Reply.TheVariants.{Zero}
 use Rattle.cs_types.specs.declared.reply.Entry.{Entry}
 use Rattle.cs_types.specs.declared.scenario.Scenario.{Scenario}
 use Rattle.cs_types.specs.Room.{RoomState, SiblingState, idle, sibling_of, running_on, is_online, online, task_of, with_sibling, flagged}
-use Rattle.cs_types.specs.Selection.{is_run, told, handed, given, selected_room, selected, plain, is_plain, rescheduled, scheduled, schedule}
+use Rattle.cs_types.specs.Selection.{is_run, told, handed, given, selected_room, selected, plain, is_plain, picked_anew, adopted_or_picked_anew, schedule}
 use Rattle.cs_types.specs.Prctl.{Setting, setting_of, runs_one, makes_cookie, with_made, with_answer, prctl_answer, prctl_room}
-use Rattle.cs_types.specs.Step.{Stepped, step, woken, blocked, exited, forked, may_not_fork, settled, ticked, turned, without, has_threads, child_of, with_child, idled, tried, unless_offline, with_policy, set_policy, taken_offline, brought_online}
+use Rattle.cs_types.specs.Step.{Stepped, step, woken, blocked, exited, forked, may_not_fork, child_at_home, ticked, turned, without, has_threads, child_of, with_child, idled, try_steal, unless_offline, with_policy, set_policy, taken_offline, brought_online}
 use Rattle.cs_types.specs.Queueing.{refreshed, dequeued, enqueued, moved, rehomed, queued_at_home}
 use Rattle.cs_types.specs.Steal.{source_of, stolen, with_place}
-use Rattle.cs_types.specs.Hotplug.{without_sibling}
+use Rattle.cs_types.specs.Hotplug.{leave}
 use Rattle.cs_types.specs.Time.{with_growth, advanced, sliced}
 use Rattle.cs_types.specs.Touches.{is_fresh}
 use Rattle.cs_types.specs.History.{History, Moment, beginning, next, after, fold_of}
@@ -76,32 +76,32 @@ kept-selected_room room cpu core =
 
 -- ---- what each step keeps
 
-pub kept-rescheduled : (room : RoomState) (cpu : ℕ) → kept (rescheduled room cpu).room ≡ kept room
-kept-rescheduled room cpu =
+pub kept-picked_anew : (room : RoomState) (cpu : ℕ) → kept (picked_anew room cpu).room ≡ kept room
+kept-picked_anew room cpu =
     cond_both (is_plain room cpu) (plain room cpu) (selected room cpu) (λ made. kept made.room ≡ kept room)
     (λ _. kept-with_sibling room cpu _ refl) (λ _. kept-selected_room room cpu _)
 
-pub kept-scheduled : (room : RoomState) (fresh : Bool) (cpu : ℕ) (waiting : Option (Option ℕ)) → kept (scheduled room fresh cpu waiting).room ≡ kept room
-kept-scheduled room fresh cpu None = kept-rescheduled room cpu
-kept-scheduled room true cpu (Some run) = kept-with_sibling room cpu _ refl
-kept-scheduled room false cpu (Some run) = kept-rescheduled room cpu
+pub kept-adopted_or_picked_anew : (room : RoomState) (fresh : Bool) (cpu : ℕ) (waiting : Option (Option ℕ)) → kept (adopted_or_picked_anew room fresh cpu waiting).room ≡ kept room
+kept-adopted_or_picked_anew room fresh cpu None = kept-picked_anew room cpu
+kept-adopted_or_picked_anew room true cpu (Some run) = kept-with_sibling room cpu _ refl
+kept-adopted_or_picked_anew room false cpu (Some run) = kept-picked_anew room cpu
 
 pub kept-schedule : (room : RoomState) (fresh : Bool) (cpu : ℕ) → kept (schedule room fresh cpu).room ≡ kept room
 kept-schedule room fresh cpu =
-    kept-with_sibling (scheduled room fresh cpu (sibling_of room cpu).waiting).room cpu _ refl ∙ kept-scheduled room fresh cpu (sibling_of room cpu).waiting
+    kept-with_sibling (adopted_or_picked_anew room fresh cpu (sibling_of room cpu).waiting).room cpu _ refl ∙ kept-adopted_or_picked_anew room fresh cpu (sibling_of room cpu).waiting
 
-pub kept-tried : (room : RoomState) (cpu : ℕ) (task : Option Task) → kept (tried room cpu task).room ≡ kept room
-kept-tried room cpu None = kept-with_sibling room cpu _ refl
-kept-tried room cpu (Some task) =
-    let placed = with_place (moved room cpu task) cpu 0 in
-    let asked = flagged placed cpu true in
-    kept-with_sibling asked (source_of room cpu) _ refl ∙ (kept-with_sibling placed cpu _ refl ∙ kept-with_sibling (moved room cpu task) cpu _ refl)
+pub kept-try_steal : (room : RoomState) (cpu : ℕ) (task : Option Task) → kept (try_steal room cpu task).room ≡ kept room
+kept-try_steal room cpu None = kept-with_sibling room cpu _ refl
+kept-try_steal room cpu (Some task) =
+    let inserted = with_place (moved room cpu task) cpu 0 in
+    let asked = flagged inserted cpu true in
+    kept-with_sibling asked (source_of room cpu) _ refl ∙ (kept-with_sibling inserted cpu _ refl ∙ kept-with_sibling (moved room cpu task) cpu _ refl)
 
 pub kept-turned : (room : RoomState) (fresh : Bool) (cpu : ℕ) → kept (turned room fresh cpu).room ≡ kept room
 kept-turned room fresh cpu =
     cond_both (sibling_of room cpu).pending _ _ (λ (made : Stepped). kept made.room ≡ kept room) (λ _. kept-schedule room fresh cpu)
     (λ _. cond_both ((sibling_of room cpu).place == 0) _ _ (λ (made : Stepped). kept made.room ≡ kept room) (λ _. refl)
-    (λ _. kept-tried room cpu (stolen room cpu)))
+    (λ _. kept-try_steal room cpu (stolen room cpu)))
 
 -- the task that a sibling runs goes to sleep, and the sibling runs idle
 pub kept-idled : (room : RoomState) (cpu : ℕ) (task : Task) → kept (idled (dequeued room task) cpu) ≡ kept room
@@ -137,7 +137,7 @@ kept-exited room cpu (Some task) =
 pub kept-forked : (room : RoomState) (thread : Bool) (caller : Option Task) → kept (forked room thread caller).room ≡ kept room
 kept-forked room thread None = refl
 kept-forked room thread (Some caller) =
-    let child = settled room (child_of caller thread room.next_pid) in
+    let child = child_at_home room (child_of caller thread room.next_pid) in
     let born = with_child room (child_of caller thread room.next_pid) in
     cond_both (may_not_fork room caller) _ _ (λ (made : Stepped). kept made.room ≡ kept room) (λ _. refl)
     (λ _. kept-queued_at_home born child)
@@ -191,7 +191,7 @@ least-alike room other same cpu = ap (λ (p : Bool × ℕ). p.1) (parts-alike ro
 -- ---- how many siblings there are
 
 length-taken_offline : (room : RoomState) (cpu : ℕ) → length (taken_offline room cpu).room.siblings ≡ length room.siblings
-unfolding without_sibling
+unfolding leave
 length-taken_offline room cpu =
     cond_both (not (is_online room cpu)) _ _ (λ (made : Stepped). length made.room.siblings ≡ length room.siblings) (λ _. refl)
     (λ _. cond_both (length (online room) == 1) _ _ (λ (made : Stepped). length made.room.siblings ≡ length room.siblings) (λ _. refl)

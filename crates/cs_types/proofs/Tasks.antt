@@ -17,13 +17,13 @@ use Rattle.cs_types.specs.declared.reply.Reply.TheVariants.{Zero, Child, Refused
 use Rattle.cs_types.specs.declared.reply.Errno.TheVariants.{Eagain}
 use Rattle.cs_types.specs.declared.reply.Entry.{Entry}
 use Rattle.cs_types.specs.declared.scenario.Scenario.{Scenario}
-use Rattle.cs_types.specs.Room.{RoomState, first_pid, has_pid, sibling_of, running_on, is_online, online, task_of, with_task, asleep, placed, asleep_tasks}
-use Rattle.cs_types.specs.Selection.{remembered, selected_room, selected, plain, is_plain, rescheduled, scheduled, schedule}
+use Rattle.cs_types.specs.Room.{RoomState, first_pid, has_pid, sibling_of, running_on, is_online, online, task_of, with_task, asleep, inserted, asleep_tasks}
+use Rattle.cs_types.specs.Selection.{remembered, selected_room, selected, plain, is_plain, picked_anew, adopted_or_picked_anew, schedule}
 use Rattle.cs_types.specs.Prctl.{Setting, setting_of, makes_cookie, with_made, with_answer, prctl_answer, prctl_room}
-use Rattle.cs_types.specs.Step.{Stepped, step, woken, blocked, exited, forked, turned, without, has_threads, child_of, settled, may_not_fork, with_child, ticked, idled, tried, unless_offline, with_policy, set_policy, taken_offline, brought_online}
+use Rattle.cs_types.specs.Step.{Stepped, step, woken, blocked, exited, forked, turned, without, has_threads, child_of, child_at_home, may_not_fork, with_child, ticked, idled, try_steal, unless_offline, with_policy, set_policy, taken_offline, brought_online}
 use Rattle.cs_types.specs.Queueing.{dequeued, queued_at_home, rehomed}
 use Rattle.cs_types.specs.Steal.{stolen}
-use Rattle.cs_types.specs.Hotplug.{moved_off, without_sibling, with_sibling_back}
+use Rattle.cs_types.specs.Hotplug.{moved_off, leave, with_sibling_back}
 use Rattle.cs_types.specs.Accounting.{accounted}
 use Rattle.cs_types.specs.Time.{advanced, grown, ticked_room}
 use Rattle.cs_types.specs.Touches.{is_fresh}
@@ -32,17 +32,17 @@ use Rattle.cs_types.proofs.Foremost.{find_passes}
 
 -- ---- at the start
 
-length-placed : (task : Task) (tasks : List Task) → length (placed task tasks) ≡ suc (length tasks)
-length-placed task [] = refl
-length-placed task (first ∷ rest) =
+length-inserted : (task : Task) (tasks : List Task) → length (inserted task tasks) ≡ suc (length tasks)
+length-inserted task [] = refl
+length-inserted task (first ∷ rest) =
     cond_both (ltb task.spec.pid first.spec.pid) _ _ (λ (ts : List Task). length ts ≡ suc (suc (length rest))) (λ _. refl)
-    (λ _. ap suc (length-placed task rest))
+    (λ _. ap suc (length-inserted task rest))
 
 length-added : (tasks : List Task) (specs : List TaskSpec) →
-    length (fold (λ ts spec. placed (asleep spec) ts) tasks specs) ≡ length tasks + length specs
+    length (fold (λ ts spec. inserted (asleep spec) ts) tasks specs) ≡ length tasks + length specs
 length-added tasks [] = omega arith
 length-added tasks (spec ∷ specs) =
-    omega (arith, length-added (placed (asleep spec) tasks) specs, length-placed (asleep spec) tasks)
+    omega (arith, length-added (inserted (asleep spec) tasks) specs, length-inserted (asleep spec) tasks)
 
 pub length-asleep_tasks : (specs : List TaskSpec) → length (asleep_tasks specs) ≡ length specs
 length-asleep_tasks specs = omega (arith, length-added [] specs)
@@ -71,32 +71,32 @@ few-trans old mid new one two = record {
   few = λ few. subst (λ n. length new.tasks ≤ n) one.limit (two.few (subst (λ n. length mid.tasks ≤ n) (sym one.limit) (one.few few)));
 }
 
-few-rescheduled : (room : RoomState) (cpu : ℕ) → KeepsFew room (rescheduled room cpu).room
+few-picked_anew : (room : RoomState) (cpu : ℕ) → KeepsFew room (picked_anew room cpu).room
 unfolding selected_room
-few-rescheduled room cpu =
+few-picked_anew room cpu =
     cond_both (is_plain room cpu) (plain room cpu) (selected room cpu) (λ made. KeepsFew room made.room)
     (λ _. as_many room (plain room cpu).room refl refl)
     (λ _. as_many room (selected room cpu).room refl (length-map room.tasks (remembered room _)))
 
-few-scheduled : (room : RoomState) (fresh : Bool) (cpu : ℕ) (waiting : Option (Option ℕ)) → KeepsFew room (scheduled room fresh cpu waiting).room
-few-scheduled room fresh cpu None = few-rescheduled room cpu
-few-scheduled room true cpu (Some run) = as_many room (scheduled room true cpu (Some run)).room refl refl
-few-scheduled room false cpu (Some run) = few-rescheduled room cpu
+few-adopted_or_picked_anew : (room : RoomState) (fresh : Bool) (cpu : ℕ) (waiting : Option (Option ℕ)) → KeepsFew room (adopted_or_picked_anew room fresh cpu waiting).room
+few-adopted_or_picked_anew room fresh cpu None = few-picked_anew room cpu
+few-adopted_or_picked_anew room true cpu (Some run) = as_many room (adopted_or_picked_anew room true cpu (Some run)).room refl refl
+few-adopted_or_picked_anew room false cpu (Some run) = few-picked_anew room cpu
 
 few-schedule : (room : RoomState) (fresh : Bool) (cpu : ℕ) → KeepsFew room (schedule room fresh cpu).room
 few-schedule room fresh cpu =
-    let made = few-scheduled room fresh cpu (sibling_of room cpu).waiting in record { limit = made.limit; few = made.few }
+    let made = few-adopted_or_picked_anew room fresh cpu (sibling_of room cpu).waiting in record { limit = made.limit; few = made.few }
 
-few-tried : (room : RoomState) (cpu : ℕ) (task : Option Task) → KeepsFew room (tried room cpu task).room
-few-tried room cpu None = as_many room (tried room cpu None).room refl refl
-few-tried room cpu (Some task) = as_many room (tried room cpu (Some task)).room refl (length-map room.tasks _)
+few-try_steal : (room : RoomState) (cpu : ℕ) (task : Option Task) → KeepsFew room (try_steal room cpu task).room
+few-try_steal room cpu None = as_many room (try_steal room cpu None).room refl refl
+few-try_steal room cpu (Some task) = as_many room (try_steal room cpu (Some task)).room refl (length-map room.tasks _)
 
 few-turned : (room : RoomState) (fresh : Bool) (cpu : ℕ) → KeepsFew room (turned room fresh cpu).room
 few-turned room fresh cpu =
     cond_both (sibling_of room cpu).pending _ _ (λ (made : Stepped). KeepsFew room made.room)
     (λ _. few-schedule room fresh cpu)
     (λ _. cond_both ((sibling_of room cpu).place == 0) _ _ (λ (made : Stepped). KeepsFew room made.room) (λ _. as_many room room refl refl)
-    (λ _. few-tried room cpu (stolen room cpu)))
+    (λ _. few-try_steal room cpu (stolen room cpu)))
 
 few-blocked : (room : RoomState) (cpu : ℕ) (task : Option Task) → KeepsFew room (blocked room cpu task).room
 few-blocked room cpu None = as_many room room refl refl
@@ -127,7 +127,7 @@ few-forked room thread None = as_many room room refl refl
 few-forked room thread (Some caller) =
     by_limit (child_of caller thread room.next_pid) (may_not_fork room caller) refl where
       made : Bool → Task → Stepped
-      made test child = cond test (record { reply = Refused Eagain; room = room }) (record { reply = Child child.spec.pid; room = queued_at_home (with_child room child) (settled room child) })
+      made test child = cond test (record { reply = Refused Eagain; room = room }) (record { reply = Child child.spec.pid; room = queued_at_home (with_child room child) (child_at_home room child) })
 
       length_queued : (born : RoomState) (task : Task) → length (queued_at_home born task).tasks ≡ length born.tasks
       length_queued born task = length-map born.tasks _
@@ -138,7 +138,7 @@ few-forked room thread (Some caller) =
           let free = eqb-false (length room.tasks) room.task_limit (or_parts (length room.tasks == room.task_limit) _ is).0 in
           record {
             limit = refl;
-            few = λ few. omega (arith, few, free, length_queued (with_child room child) (settled room child), length-placed child room.tasks);
+            few = λ few. omega (arith, few, free, length_queued (with_child room child) (child_at_home room child), length-inserted child room.tasks);
           }
 
 few-ticked : (room : RoomState) (cpu : ℕ) (task : Option Task) → KeepsFew room (ticked room cpu task).room
@@ -165,11 +165,11 @@ few-set_policy room policy (Some task) =
     (λ _. as_many room _ refl (length-map (dequeued room changed).tasks _ ∙ length-map room.tasks _)) (λ _. as_many room (with_task room changed) refl (length-map room.tasks _))
 
 few-taken_offline : (room : RoomState) (cpu : ℕ) → KeepsFew room (taken_offline room cpu).room
-unfolding without_sibling
+unfolding leave
 few-taken_offline room cpu =
     cond_both (not (is_online room cpu)) _ _ (λ (made : Stepped). KeepsFew room made.room) (λ _. as_many room room refl refl)
     (λ _. cond_both (length (online room) == 1) _ _ (λ (made : Stepped). KeepsFew room made.room) (λ _. as_many room room refl refl)
-    (λ _. as_many room (without_sibling room cpu) refl (length-map room.tasks (moved_off room cpu))))
+    (λ _. as_many room (leave room cpu) refl (length-map room.tasks (moved_off room cpu))))
 
 few-brought_online : (room : RoomState) (cpu : ℕ) → KeepsFew room (brought_online room cpu).room
 few-brought_online room cpu =

@@ -18,15 +18,15 @@ use Rattle.cs_types.specs.declared.reply.Reply.TheVariants.{Zero}
 use Rattle.cs_types.specs.declared.reply.Entry.{Entry}
 use Rattle.cs_types.specs.declared.scenario.Scenario.{Scenario}
 use Rattle.cs_types.specs.Scenario.{IsEvent}
-use Rattle.cs_types.specs.Room.{RoomState, SiblingState, idle, asleep, placed, has_pid, start, online, is_online, lowest_online, queued_on, sibling_of, running_on, task_of, with_sibling, with_task, flagged}
+use Rattle.cs_types.specs.Room.{RoomState, SiblingState, idle, asleep, inserted, has_pid, start, online, is_online, lowest_online, queued_on, sibling_of, running_on, task_of, with_sibling, with_task, flagged}
 use Rattle.cs_types.specs.Order.{foremost, is_fair, first_of}
-use Rattle.cs_types.specs.Selection.{is_run, pid_of, choice, occupation_of, remembered, told, noted, handed, given, selected_room, selected, plain, is_plain, rescheduled, scheduled, schedule}
-use Rattle.cs_types.specs.Time.{weights, weight_of, place_of, growth, grown_by, is_running, grown, with_growth, fair_times, least_of, with_leasts, advanced, has_used_slice, sliced, IsTimelyTask, IsTimelySibling, IsTimely}
+use Rattle.cs_types.specs.Selection.{is_run, pid_of, choice, occupation_of, remembered, told, noted, handed, given, selected_room, selected, plain, is_plain, picked_anew, adopted_or_picked_anew, schedule}
+use Rattle.cs_types.specs.Time.{weights, weight_of, weight_index, growth, grown_by, is_running, grown, with_growth, fair_times, least_of, with_leasts, advanced, has_used_slice, sliced, IsTimelyTask, IsTimelySibling, IsTimely}
 use Rattle.cs_types.specs.Prctl.{Setting, setting_of, is_set, makes_cookie, with_made, with_answer, prctl_answer}
-use Rattle.cs_types.specs.Step.{Stepped, step, woken, turned, tried, idled, blocked, without, has_threads, exited, child_of, settled, with_child, may_not_fork, forked, ticked, unless_offline, with_policy, set_policy, taken_offline, brought_online}
+use Rattle.cs_types.specs.Step.{Stepped, step, woken, turned, try_steal, idled, blocked, without, has_threads, exited, child_of, child_at_home, with_child, may_not_fork, forked, ticked, unless_offline, with_policy, set_policy, taken_offline, brought_online}
 use Rattle.cs_types.specs.Queueing.{refreshed_by, refreshed, enqueued, queued_at_home, dequeued, moved_to, moved, rehomed}
 use Rattle.cs_types.specs.Steal.{source_of, stolen, with_place}
-use Rattle.cs_types.specs.Hotplug.{lowest_other, moved_off, away, without_sibling, with_sibling_back}
+use Rattle.cs_types.specs.Hotplug.{lowest_other, moved_off, away, leave, with_sibling_back}
 use Rattle.cs_types.specs.Accounting.{accounted}
 use Rattle.cs_types.specs.Touches.{is_fresh}
 use Rattle.cs_types.specs.History.{History, Moment, beginning, next, after, fold_of}
@@ -59,10 +59,10 @@ pub all_replicate : {X : Type 0} (P : X → Type 0) (n : ℕ) (x : X) → P x �
 all_replicate P zero x is = tt
 all_replicate P (suc n) x is = (is, all_replicate P n x is)
 
-pub all_placed : (P : Task → Type 0) (task : Task) (tasks : List Task) → P task → AllByRecursion P tasks → AllByRecursion P (placed task tasks)
+pub all_placed : (P : Task → Type 0) (task : Task) (tasks : List Task) → P task → AllByRecursion P tasks → AllByRecursion P (inserted task tasks)
 all_placed P task [] is all = (is, tt)
 all_placed P task (first ∷ rest) is all =
-    cond_both (ltb task.spec.pid first.spec.pid) (task ∷ first ∷ rest) (first ∷ placed task rest) (AllByRecursion P) (λ _. (is, all))
+    cond_both (ltb task.spec.pid first.spec.pid) (task ∷ first ∷ rest) (first ∷ inserted task rest) (AllByRecursion P) (λ _. (is, all))
     (λ _. (all.0, all_placed P task rest is all.1))
 
 -- ---- growth
@@ -71,7 +71,7 @@ all_placed P task (first ∷ rest) is all =
 pub weight_of-ge : (nice : ℤ) → 15 ≤ weight_of nice
 unfolding weight_of
 weight_of-ge nice =
-    all_get (λ w. 15 ≤ w) weights (place_of nice) 1024 (omega arith)
+    all_get (λ w. 15 ≤ w) weights (weight_index nice) 1024 (omega arith)
     (each_weaker (λ w. not (ltb w 15) ≡ true) (λ w. 15 ≤ w) weights (λ w e. grind (arith, nat_tests))
     (each_of_all (λ w. not (ltb w 15)) weights refl))
 
@@ -192,21 +192,21 @@ timely-plain most room cpu timely =
     (noted_is_timely most room.clock _ _ (record { least = is.least; snapshot = is.snapshot; ran = omega arith }))
     (same_core most room closed refl refl refl timely)
 
-timely-rescheduled : (most : ℕ) (room : RoomState) (cpu : ℕ) → Timely most room → Timely most (rescheduled room cpu).room
-timely-rescheduled most room cpu timely =
+timely-picked_anew : (most : ℕ) (room : RoomState) (cpu : ℕ) → Timely most room → Timely most (picked_anew room cpu).room
+timely-picked_anew most room cpu timely =
     cond_both (is_plain room cpu) (plain room cpu) (selected room cpu) (λ made. Timely most made.room) (λ _. timely-plain most room cpu timely)
     (λ _. timely-selected_room most room cpu _ timely)
 
-timely-scheduled : (most : ℕ) (room : RoomState) (fresh : Bool) (cpu : ℕ) (waiting : Option (Option ℕ)) → Timely most room → Timely most (scheduled room fresh cpu waiting).room
-timely-scheduled most room fresh cpu None timely = timely-rescheduled most room cpu timely
-timely-scheduled most room true cpu (Some run) timely =
+timely-adopted_or_picked_anew : (most : ℕ) (room : RoomState) (fresh : Bool) (cpu : ℕ) (waiting : Option (Option ℕ)) → Timely most room → Timely most (adopted_or_picked_anew room fresh cpu waiting).room
+timely-adopted_or_picked_anew most room fresh cpu None timely = timely-picked_anew most room cpu timely
+timely-adopted_or_picked_anew most room true cpu (Some run) timely =
     timely-with_sibling most room cpu _ refl (like most room cpu _ refl refl (omega arith) timely) timely
-timely-scheduled most room false cpu (Some run) timely = timely-rescheduled most room cpu timely
+timely-adopted_or_picked_anew most room false cpu (Some run) timely = timely-picked_anew most room cpu timely
 
 timely-schedule : (most : ℕ) (room : RoomState) (fresh : Bool) (cpu : ℕ) → Timely most room → Timely most (schedule room fresh cpu).room
 timely-schedule most room fresh cpu timely =
-    let made = scheduled room fresh cpu (sibling_of room cpu).waiting in
-    let is = timely-scheduled most room fresh cpu (sibling_of room cpu).waiting timely in
+    let made = adopted_or_picked_anew room fresh cpu (sibling_of room cpu).waiting in
+    let is = timely-adopted_or_picked_anew most room fresh cpu (sibling_of room cpu).waiting timely in
     timely-with_sibling most made.room cpu _ refl (like most made.room cpu _ refl refl (omega arith) is) is
 
 -- ---- changes of one task or one sibling
@@ -296,14 +296,14 @@ timely-forked : (most : ℕ) (room : RoomState) (thread : Bool) (caller : Option
 timely-forked most room thread None timely = timely
 timely-forked most room thread (Some caller) timely =
     let child = child_of caller thread room.next_pid in
-    let is : IsTimelyTask (with_child room child) (settled room child) = record { vtime = omega arith; used = omega arith } in
+    let is : IsTimelyTask (with_child room child) (child_at_home room child) = record { vtime = omega arith; used = omega arith } in
     let born : Timely most (with_child room child) = record {
       tasks = kept_timely room (with_child room child) (with_child room child).tasks refl refl
           (all_placed (IsTimelyTask room) child room.tasks (record { vtime = omega arith; used = omega arith }) timely.tasks);
       siblings = timely.siblings;
     } in
     cond_both (may_not_fork room caller) _ _ (λ (made : Stepped). Timely most made.room) (λ _. timely)
-    (λ _. timely-queued_at_home most (with_child room child) (settled room child) is born)
+    (λ _. timely-queued_at_home most (with_child room child) (child_at_home room child) is born)
 
 timely-set_policy : (most : ℕ) (room : RoomState) (policy : Policy) (task : Option Task) → IfSome task (IsTimelyTask room) → Timely most room → Timely most (set_policy room policy task).room
 timely-set_policy most room policy None is timely = timely
@@ -321,13 +321,13 @@ timely-with_place : (most : ℕ) (room : RoomState) (cpu place : ℕ) → Timely
 timely-with_place most room cpu place timely =
     timely-with_sibling most room cpu _ refl (like most room cpu _ refl refl (omega arith) timely) timely
 
-timely-tried : (most : ℕ) (room : RoomState) (cpu : ℕ) (task : Option Task) → IfSome task (IsTimelyTask room) → Timely most room → Timely most (tried room cpu task).room
-timely-tried most room cpu None is timely = timely-with_place most room cpu _ timely
-timely-tried most room cpu (Some task) is timely =
+timely-try_steal : (most : ℕ) (room : RoomState) (cpu : ℕ) (task : Option Task) → IfSome task (IsTimelyTask room) → Timely most room → Timely most (try_steal room cpu task).room
+timely-try_steal most room cpu None is timely = timely-with_place most room cpu _ timely
+timely-try_steal most room cpu (Some task) is timely =
     let came = timely-enqueued most room (moved_to room cpu task) (moved_is_timely room cpu task is) timely in
-    let placed = timely-with_place most (moved room cpu task) cpu 0 came in
+    let inserted = timely-with_place most (moved room cpu task) cpu 0 came in
     timely-flagged most (flagged (with_place (moved room cpu task) cpu 0) cpu true) (source_of room cpu) _
-    (timely-flagged most (with_place (moved room cpu task) cpu 0) cpu true placed)
+    (timely-flagged most (with_place (moved room cpu task) cpu 0) cpu true inserted)
 
 -- what is stolen is a task of the room
 stolen_is_timely : (most : ℕ) (room : RoomState) (cpu : ℕ) → Timely most room → IfSome (stolen room cpu) (IsTimelyTask room)
@@ -345,23 +345,23 @@ timely-turned : (most : ℕ) (room : RoomState) (fresh : Bool) (cpu : ℕ) → T
 timely-turned most room fresh cpu timely =
     cond_both (sibling_of room cpu).pending _ _ (λ (made : Stepped). Timely most made.room) (λ _. timely-schedule most room fresh cpu timely)
     (λ _. cond_both ((sibling_of room cpu).place == 0) _ _ (λ (made : Stepped). Timely most made.room) (λ _. timely)
-    (λ _. timely-tried most room cpu (stolen room cpu) (stolen_is_timely most room cpu timely) timely))
+    (λ _. timely-try_steal most room cpu (stolen room cpu) (stolen_is_timely most room cpu timely) timely))
 
 -- ---- a sibling leaves or comes back
 
-least-left : (room : RoomState) (cpu other : ℕ) → (sibling_of (without_sibling room cpu) other).least ≡ (sibling_of room other).least
-unfolding without_sibling
+least-left : (room : RoomState) (cpu other : ℕ) → (sibling_of (leave room cpu) other).least ≡ (sibling_of room other).least
+unfolding leave
 least-left room cpu other =
-    sym (get_or-map_default (λ (s : SiblingState). s.least) (without_sibling room cpu).siblings other idle)
+    sym (get_or-map_default (λ (s : SiblingState). s.least) (leave room cpu).siblings other idle)
     ∙ (ap (λ ns. get_or ns other 0)
     (map-enumerate_alike (λ (s : SiblingState). s.least) _
     (λ place. cond_both (place.0 == cpu) (away place.1) _ (λ (s : SiblingState). s.least ≡ place.1.least) (λ _. refl) (λ _. refl)) 0 room.siblings)
     ∙ get_or-map_default (λ (s : SiblingState). s.least) room.siblings other idle)
 
-left_is_timely : (most : ℕ) (room : RoomState) (cpu : ℕ) → Timely most room → Timely most (without_sibling room cpu)
-unfolding without_sibling
+left_is_timely : (most : ℕ) (room : RoomState) (cpu : ℕ) → Timely most room → Timely most (leave room cpu)
+unfolding leave
 left_is_timely most room cpu timely = record {
-  tasks = still_timely room (without_sibling room cpu) (map (moved_off room cpu) room.tasks) refl (λ other. omega (arith, least-left room cpu other))
+  tasks = still_timely room (leave room cpu) (map (moved_off room cpu) room.tasks) refl (λ other. omega (arith, least-left room cpu other))
       (all_map (IsTimelyTask room) (moved_off room cpu) room.tasks (each_weaker (IsTimelyTask room) _ room.tasks
       (λ task is. cond_both (task.queued && (task.home == cpu)) _ task (IsTimelyTask room)
       (λ _. let moved_is = moved_is_timely room (lowest_other room cpu) task is in record { vtime = moved_is.vtime; used = moved_is.used }) (λ _. is)) timely.tasks));
@@ -579,27 +579,27 @@ clock-selected_room : (room : RoomState) (cpu core : ℕ) → (selected_room roo
 unfolding selected_room
 clock-selected_room room cpu core = refl
 
-clock-rescheduled : (room : RoomState) (cpu : ℕ) → (rescheduled room cpu).room.clock ≡ room.clock
-clock-rescheduled room cpu =
+clock-picked_anew : (room : RoomState) (cpu : ℕ) → (picked_anew room cpu).room.clock ≡ room.clock
+clock-picked_anew room cpu =
     cond_both (is_plain room cpu) (plain room cpu) (selected room cpu) (λ made. made.room.clock ≡ room.clock) (λ _. refl)
     (λ _. clock-selected_room room cpu _)
 
-clock-scheduled : (room : RoomState) (fresh : Bool) (cpu : ℕ) (waiting : Option (Option ℕ)) → (scheduled room fresh cpu waiting).room.clock ≡ room.clock
-clock-scheduled room fresh cpu None = clock-rescheduled room cpu
-clock-scheduled room true cpu (Some run) = refl
-clock-scheduled room false cpu (Some run) = clock-rescheduled room cpu
+clock-adopted_or_picked_anew : (room : RoomState) (fresh : Bool) (cpu : ℕ) (waiting : Option (Option ℕ)) → (adopted_or_picked_anew room fresh cpu waiting).room.clock ≡ room.clock
+clock-adopted_or_picked_anew room fresh cpu None = clock-picked_anew room cpu
+clock-adopted_or_picked_anew room true cpu (Some run) = refl
+clock-adopted_or_picked_anew room false cpu (Some run) = clock-picked_anew room cpu
 
 clock-schedule : (room : RoomState) (fresh : Bool) (cpu : ℕ) → (schedule room fresh cpu).room.clock ≡ room.clock
-clock-schedule room fresh cpu = clock-scheduled room fresh cpu (sibling_of room cpu).waiting
+clock-schedule room fresh cpu = clock-adopted_or_picked_anew room fresh cpu (sibling_of room cpu).waiting
 
-clock-tried : (room : RoomState) (cpu : ℕ) (task : Option Task) → (tried room cpu task).room.clock ≡ room.clock
-clock-tried room cpu None = refl
-clock-tried room cpu (Some task) = refl
+clock-try_steal : (room : RoomState) (cpu : ℕ) (task : Option Task) → (try_steal room cpu task).room.clock ≡ room.clock
+clock-try_steal room cpu None = refl
+clock-try_steal room cpu (Some task) = refl
 
 clock-turned : (room : RoomState) (fresh : Bool) (cpu : ℕ) → (turned room fresh cpu).room.clock ≡ room.clock
 clock-turned room fresh cpu =
     cond_both (sibling_of room cpu).pending _ _ (λ (made : Stepped). made.room.clock ≡ room.clock) (λ _. clock-schedule room fresh cpu)
-    (λ _. cond_both ((sibling_of room cpu).place == 0) _ _ (λ (made : Stepped). made.room.clock ≡ room.clock) (λ _. refl) (λ _. clock-tried room cpu (stolen room cpu)))
+    (λ _. cond_both ((sibling_of room cpu).place == 0) _ _ (λ (made : Stepped). made.room.clock ≡ room.clock) (λ _. refl) (λ _. clock-try_steal room cpu (stolen room cpu)))
 
 clock-blocked : (room : RoomState) (cpu : ℕ) (task : Option Task) → (blocked room cpu task).room.clock ≡ room.clock
 clock-blocked room cpu None = refl
@@ -641,7 +641,7 @@ clock-set_policy room policy None = refl
 clock-set_policy room policy (Some task) = cond_both task.queued _ _ (λ (made : RoomState). made.clock ≡ room.clock) (λ _. refl) (λ _. refl)
 
 clock-taken_offline : (room : RoomState) (cpu : ℕ) → (taken_offline room cpu).room.clock ≡ room.clock
-unfolding without_sibling
+unfolding leave
 clock-taken_offline room cpu =
     cond_both (not (is_online room cpu)) _ _ (λ (made : Stepped). made.room.clock ≡ room.clock) (λ _. refl)
     (λ _. cond_both (length (online room) == 1) _ _ (λ (made : Stepped). made.room.clock ≡ room.clock) (λ _. refl) (λ _. refl))
@@ -735,10 +735,10 @@ asleep_is_timely : (scenario : Scenario) (spec : TaskSpec) → IsTimelyTask (sta
 asleep_is_timely scenario spec = record { vtime = omega arith; used = omega arith }
 
 timely_asleep : (scenario : Scenario) (tasks : List Task) (specs : List TaskSpec) → AllByRecursion (IsTimelyTask (start scenario)) tasks →
-    AllByRecursion (IsTimelyTask (start scenario)) (fold (λ ts spec. placed (asleep spec) ts) tasks specs)
+    AllByRecursion (IsTimelyTask (start scenario)) (fold (λ ts spec. inserted (asleep spec) ts) tasks specs)
 timely_asleep scenario tasks [] all = all
 timely_asleep scenario tasks (spec ∷ specs) all =
-    timely_asleep scenario (placed (asleep spec) tasks) specs (all_placed (IsTimelyTask (start scenario)) (asleep spec) tasks (asleep_is_timely scenario spec) all)
+    timely_asleep scenario (inserted (asleep spec) tasks) specs (all_placed (IsTimelyTask (start scenario)) (asleep spec) tasks (asleep_is_timely scenario spec) all)
 
 -- After every history the times keep their bounds.
 pub timely-fold_of : (scenario : Scenario) (history : History) → IsTimely (length history) (fold_of scenario history)

@@ -15,7 +15,7 @@ use Rattle.cs_types.specs.declared.reply.Reply.TheVariants as answer
 use Rattle.cs_types.specs.declared.reply.Entry.{Entry}
 use Rattle.cs_types.specs.declared.scenario.Scenario.{Scenario}
 use Rattle.cs_types.specs.Scenario.{IsEvent, IsPlayable}
-use Rattle.cs_types.specs.Room.{RoomState, SiblingState, idle, has_pid, asleep, placed, asleep_tasks, start, queued_on, sibling_of, running_on, is_online, online, task_of}
+use Rattle.cs_types.specs.Room.{RoomState, SiblingState, idle, has_pid, asleep, inserted, asleep_tasks, start, queued_on, sibling_of, running_on, is_online, online, task_of}
 use Rattle.cs_types.specs.Selection.{cookie_of}
 use Rattle.cs_types.specs.Step.{Stepped, step, unless_offline}
 use Rattle.cs_types.specs.Touches.{is_fresh}
@@ -31,7 +31,7 @@ use Rattle.cs_types.proofs.Times.{all_placed}
 use Rattle.cs_types.proofs.Spots.{spot_of, spot_at, each_is_found}
 use Rattle.cs_types.proofs.Homes.{IsHome, IsHoused, housed-step}
 use Rattle.cs_types.proofs.Fits.{IsAt, cookie_at, SiblingFits, AllFit, fits_idle}
-use Rattle.cs_types.proofs.Freshness.{fresh_after, is_fresh-noted}
+use Rattle.cs_types.proofs.Freshness.{fresh_after, is_fresh-ledger_entry}
 use Rattle.cs_types.proofs.Orders.{StepFits, resched-fits, turned-fits, blocked-fits, exited-fits, woken-fits, forked-fits, ticked-fits, advanced-fits, set_policy-fits, taken_offline-fits, brought_online-fits}
 use Rattle.cs_types.proofs.Cookies.{prctl-fits}
 
@@ -77,7 +77,7 @@ holds_next moment entry limits legal holds =
     record {
       rises = rising-step moment.room fresh entry.event holds.rises;
       housed = housed-step moment.room fresh entry.event limits holds.rises holds.housed;
-      fits = subst (AllFit made.room) (sym (is_fresh-noted moment.room entry moment.ledger ∙ ap (fresh_after moment.room fresh entry.event) legal))
+      fits = subst (AllFit made.room) (sym (is_fresh-ledger_entry moment.room entry moment.ledger ∙ ap (fresh_after moment.room fresh entry.event) legal))
           (step-fits moment.room fresh entry.event limits holds.rises holds.housed holds.fits);
     }
 
@@ -93,9 +93,9 @@ holds_after siblings moment (entry ∷ entries) long limits legal holds =
 -- ---- at the start
 
 all_asleep : (tasks : List Task) (specs : List TaskSpec) → AllByRecursion (λ task. task.queued ≡ false) tasks →
-    AllByRecursion (λ task. task.queued ≡ false) (fold (λ ts spec. placed (asleep spec) ts) tasks specs)
+    AllByRecursion (λ task. task.queued ≡ false) (fold (λ ts spec. inserted (asleep spec) ts) tasks specs)
 all_asleep tasks [] all = all
-all_asleep tasks (spec ∷ specs) all = all_asleep (placed (asleep spec) tasks) specs (all_placed (λ task. task.queued ≡ false) (asleep spec) tasks refl all)
+all_asleep tasks (spec ∷ specs) all = all_asleep (inserted (asleep spec) tasks) specs (all_placed (λ task. task.queued ≡ false) (asleep spec) tasks refl all)
 
 all_idle : (n cpu : ℕ) → get_or (replicate n idle) cpu idle ≡ idle
 all_idle zero cpu = refl

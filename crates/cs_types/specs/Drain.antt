@@ -29,7 +29,7 @@ next_to_schedule moment = lowest (filter (is_ready moment) (pending moment.room)
 abbrev pub made_by_end : ℕ → Step
 made_by_end cpu = record { actor = End; event = Resched cpu }
 
--- the entries of the end from a moment on, at most so many
+-- the entries of the end from a moment on, at most this number
 abbrev pub drained_from : ℕ → Moment → List Entry
 drained_from zero moment = []
 drained_from (suc most) moment =

@@ -9,7 +9,7 @@ use Rattle.cs_types.specs.declared.scenario.Scenario.{Scenario}
 use Rattle.cs_types.specs.Scenario.{IsEvent, is_actor}
 use Rattle.cs_types.specs.Room.{RoomState, start}
 use Rattle.cs_types.specs.Step.{Stepped, step}
-use Rattle.cs_types.specs.Touches.{Ledger, noted, is_fresh}
+use Rattle.cs_types.specs.Touches.{Ledger, ledger_entry, is_fresh}
 
 -- a history is a list of entries, the oldest first
 abbrev pub History : Type 0
@@ -31,7 +31,7 @@ step_at moment event = step moment.room (is_fresh moment.ledger) event
 -- the moment after the step of an entry
 abbrev pub next : Moment → Entry → Moment
 next moment entry =
-    record { room = (step_at moment entry.event).room; ledger = noted moment.room entry ∷ moment.ledger }
+    record { room = (step_at moment entry.event).room; ledger = ledger_entry moment.room entry ∷ moment.ledger }
 
 -- the moment after the steps of these entries
 abbrev pub after : Moment → List Entry → Moment

@@ -27,8 +27,8 @@ abbrev pub away : SiblingState → SiblingState
 away sibling = record sibling { online = false; run = None; pending = false; waiting = None; place = 0 }
 
 -- It is away, and every other online sibling is pending. No interval of forced idle is open.
-unfoldable pub without_sibling : RoomState → ℕ → RoomState
-without_sibling room cpu =
+unfoldable pub leave : RoomState → ℕ → RoomState
+leave room cpu =
     record room {
       tasks = map (moved_off room cpu) room.tasks;
       next_stamp = room.next_stamp + length (queued_on room cpu);

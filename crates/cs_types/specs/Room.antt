@@ -1,4 +1,4 @@
--- The room: the state of the core and its tasks, and how it starts. Beside each part stands the kernel's field.
+-- The room: the state of the core and its tasks, and how it starts. Each part names the kernel's field.
 use Rattle.std.specs.Prelude.{ℕ, ◌+◌, max, Bool, true, false, ◌==◌, ◌&&◌, ◌||◌, ◌-◌, nat_lt, if◌then◌else◌, List, [], ◌∷◌, ◌++◌, length, map, filter, find, fold, replicate, slice_index_or, slice_set, Option, None, unwrap_or}
 use Rattle.std.specs.List.{range_with_len}
 use Rattle.std.specs.Option.{option_and_then}
@@ -6,45 +6,58 @@ use Rattle.cs_types.specs.declared.task.Task.{Task}
 use Rattle.cs_types.specs.declared.task.TaskSpec.{TaskSpec}
 use Rattle.cs_types.specs.declared.scenario.Scenario.{Scenario}
 
--- What waits for a sibling is none, idle or a task.
+-- what waits for a sibling: nothing, idle or a task
 abbrev pub Waiting : Type 0
 Waiting = Option (Option ℕ)
 
--- a sibling: whether it is online, the pid of its running task, none where it runs idle (`rq->curr`), whether it
--- has a pending reschedule (`TIF_NEED_RESCHED`), its waiting pick (`core_pick`), the occupation that its idle
--- remembers (the running task stays queued), the least virtual time of its queue (`min_vruntime`), what that was when
--- it was last noted for a comparison with other siblings (`min_vruntime_fi`), the time since its last schedule, and its
--- balance place: how far off the next sibling is from which it tries to steal, 0 where it tries none
+-- an SMT sibling of the core (`struct rq`)
 pub record SiblingState : Type 0 where
+  -- whether it is online
   pub online : Bool
+  -- the pid of its running task, which stays queued; none where it runs idle (`rq->curr`)
   pub run : Option ℕ
+  -- whether it has a pending reschedule (`TIF_NEED_RESCHED` of `rq->curr`)
   pub pending : Bool
+  -- its waiting pick (`rq->core_pick`)
   pub waiting : Waiting
+  -- the occupation that its idle remembers (`core_occupation` of `rq->idle`)
   pub occupation : ℕ
+  -- the least virtual time of its queue, in ns (`cfs_rq->min_vruntime`)
   pub least : ℕ
+  -- its snapshot: the least as it was last kept for comparisons with other siblings (`cfs_rq->min_vruntime_fi`)
   pub snapshot : ℕ
+  -- the time since its last schedule, in ns (this project's)
   pub ran : ℕ
+  -- its balance place: how far on the sibling is from which it tries to steal next, 0 where it tries none
+  -- (`rq->core_balance_head`, and the loop of `sched_core_balance`)
   pub place : ℕ
 
--- the core, with the limits of its scenario, which no step changes: the clock, its living tasks, by rising pid, the pids of those
--- that ended, in the order of their ends, the next pid, the next stamp and the next cookie, the core
--- cookie (`core_cookie` of `rq->core`), how many siblings are forced idle (`core_forceidle_count`), for how many
--- a task was chosen (`core_forceidle_occupation`), and since when the open interval of forced idle has not been charged,
--- none where none is open (`core_forceidle_start`)
+-- the room: the core and its tasks (`rq->core`)
 pub record RoomState : Type 0 where
+  -- the limits of the scenario, which no step changes (this project's)
   pub task_limit : ℕ
   pub cookie_limit : ℕ
   pub user_top : ℕ
+  -- the clock, in ns (`rq_clock`)
   pub clock : ℕ
+  -- the living tasks, by rising pid
   pub tasks : List Task
+  -- the pids of the tasks that ended, in the order of their ends (this project's)
   pub ended : List ℕ
+  -- the siblings, by rising number
   pub siblings : List SiblingState
+  -- the next pid, the next stamp and the next cookie (this project's)
   pub next_pid : ℕ
   pub next_stamp : ℕ
   pub next_cookie : ℕ
+  -- the core cookie (`rq->core->core_cookie`)
   pub core_cookie : ℕ
+  -- the forced-idle count: how many siblings are forced idle (`rq->core->core_forceidle_count`)
   pub forced : ℕ
+  -- the occupation: for how many siblings a task was chosen (`rq->core->core_forceidle_occupation`)
   pub occupation : ℕ
+  -- since when the open interval of forced idle has not been charged, none where none is open
+  -- (`rq->core->core_forceidle_start`)
   pub started : Option ℕ
 
 -- ---- the start
@@ -65,14 +78,14 @@ asleep spec =
     }
 
 -- the tasks, by rising pid, with one more in its place
-abbrev pub placed : Task → List Task → List Task
-placed task [] = task ∷ []
-placed task (first ∷ rest) =
-    if nat_lt task.spec.pid first.spec.pid then task ∷ first ∷ rest else first ∷ placed task rest
+abbrev pub inserted : Task → List Task → List Task
+inserted task [] = task ∷ []
+inserted task (first ∷ rest) =
+    if nat_lt task.spec.pid first.spec.pid then task ∷ first ∷ rest else first ∷ inserted task rest
 
 -- the tasks of these lines before the first wake, by rising pid
 abbrev pub asleep_tasks : List TaskSpec → List Task
-asleep_tasks specs = fold (λ tasks spec. placed (asleep spec) tasks) [] specs
+asleep_tasks specs = fold (λ tasks spec. inserted (asleep spec) tasks) [] specs
 
 -- a sibling that is online, runs idle and is not pending
 abbrev pub idle : SiblingState

@@ -40,7 +40,7 @@ pub record AreCreds (creds : Creds) : Type 0 where
   pub egid : creds.egid ≤ 65535
   pub sgid : creds.sgid ≤ 65535
 
--- the numbers of a task line, in a core of so many siblings
+-- the numbers of a task line, in a core with this number of siblings
 pub record IsTask (siblings : ℕ) (task : TaskSpec) : Type 0 where
   pub pid : IsWithin 1 9999 task.pid
   pub tgid : IsWithin 1 9999 task.tgid
@@ -119,12 +119,12 @@ IsMadeBy (Caller j) (Exit cpu) = ⊥
 IsMadeBy (Caller j) (Tick cpu) = ⊥
 IsMadeBy End event = ⊥
 
--- a step line, in a core of so many siblings
+-- a step line, in a core with this number of siblings
 pub record IsStep (siblings : ℕ) (step : Step) : Type 0 where
   pub event : IsEvent siblings step.event
   pub actor : IsMadeBy step.actor step.event
 
--- what a scenario keeps, whose core has at most so many siblings
+-- what a scenario keeps whose core has at most this number of siblings
 pub record KeepsLimits (most : ℕ) (scenario : Scenario) : Type 0 where
   pub siblings : IsWithin 1 most scenario.siblings
   pub task_limit : IsWithin 1 256 scenario.task_limit

@@ -6,7 +6,7 @@ use Rattle.std.specs.Option.{option_map, option_map_or, option_and_then, option_
 use Rattle.cs_types.specs.declared.task.Task.{Task}
 use Rattle.cs_types.specs.declared.reply.Kind.TheVariants.{Selected, Adopted, Plain}
 use Rattle.cs_types.specs.declared.reply.Pick.{Pick}
-use Rattle.cs_types.specs.Room.{RoomState, SiblingState, queued_on, sibling_of, online, online_from, with_sibling}
+use Rattle.cs_types.specs.Room.{RoomState, SiblingState, Waiting, queued_on, sibling_of, online, online_from, with_sibling}
 use Rattle.cs_types.specs.Order.{is_fair, foremost, outranks, first_of}
 
 -- ---- what a sibling has for a core cookie
@@ -196,15 +196,15 @@ selected room cpu =
 
 -- ---- every case
 
--- a schedule in which nothing is adopted
-abbrev pub rescheduled : RoomState → ℕ → Scheduled
-rescheduled room cpu = if is_plain room cpu then plain room cpu else selected room cpu
+-- a pick that adopts nothing
+abbrev pub picked_anew : RoomState → ℕ → Scheduled
+picked_anew room cpu = if is_plain room cpu then plain room cpu else selected room cpu
 
--- a schedule: adopted where nothing was touched since the last selection for the core, which the test says, and
--- something waits
-abbrev pub scheduled : RoomState → Bool → ℕ → Option (Option ℕ) → Scheduled
-scheduled room is_fresh cpu None = rescheduled room cpu
-scheduled room is_fresh cpu (Some run) = if is_fresh then adopted room cpu run else rescheduled room cpu
+-- A waiting pick is adopted where it may be: nothing was touched since the last selection for the core, and this event has
+-- dequeued no task. Else the sibling picks anew.
+abbrev pub adopted_or_picked_anew : RoomState → Bool → ℕ → Waiting → Scheduled
+adopted_or_picked_anew room may_adopt cpu None = picked_anew room cpu
+adopted_or_picked_anew room may_adopt cpu (Some run) = if may_adopt then adopted room cpu run else picked_anew room cpu
 
 -- A sibling is to try to steal where some sibling is forced idle, it runs idle itself, the core has a cookie, and a task
 -- is queued on it (`queue_core_balance`).
@@ -220,5 +220,6 @@ balanced cpu made =
           (record (sibling_of made.room cpu) { place = if is_to_steal made.room cpu then 1 else 0 });
     }
 
+-- a schedule
 abbrev pub schedule : RoomState → Bool → ℕ → Scheduled
-schedule room is_fresh cpu = balanced cpu (scheduled room is_fresh cpu (sibling_of room cpu).waiting)
+schedule room may_adopt cpu = balanced cpu (adopted_or_picked_anew room may_adopt cpu (sibling_of room cpu).waiting)

@@ -2,22 +2,22 @@
 -- (`sched_core_balance`, `steal_cookie_task` and `try_steal_cookie`, kernel/sched/core.c).
 use Rattle.std.specs.Prelude.{ℕ, ◌+◌, ◌%◌, Bool, true, ◌==◌, ◌&&◌, ◌||◌, not, nat_lt, if◌then◌else◌, length, filter, Option, Some, None, is_none, is_some, unwrap_or}
 use Rattle.cs_types.specs.declared.task.Task.{Task}
-use Rattle.cs_types.specs.Room.{RoomState, sibling_of, with_sibling, flagged}
+use Rattle.cs_types.specs.Room.{RoomState, SiblingState, sibling_of, with_sibling, flagged}
 use Rattle.cs_types.specs.Order.{first_of}
 use Rattle.cs_types.specs.Selection.{first_on, queued_with, is_run}
 use Rattle.cs_types.specs.Queueing.{moved}
 
--- the sibling from which a sibling tries to steal next: so many after it as its balance place says, going on from 0
+-- the sibling from which a sibling tries to steal next: as far on from it as its balance place says, and from 0 after the last
 abbrev pub source_of : RoomState → ℕ → ℕ
 source_of room cpu = (cpu + (sibling_of room cpu).place) % length room.siblings
 
--- A task is passed over that its sibling is to run, or runs, or that was chosen beside more tasks than the thief's idle was
--- (`core_occupation`).
-abbrev pub may_steal : RoomState → ℕ → ℕ → Task → Bool
-may_steal room thief source task =
-    not (is_run (unwrap_or (sibling_of room source).waiting None) (Some task.spec.pid))
-    && not (is_run (sibling_of room source).run (Some task.spec.pid))
-    && not (nat_lt (sibling_of room thief).occupation task.occupation)
+-- whether a thief may take a task from a source: the source neither runs it nor has it waiting, and it was chosen beside
+-- no more tasks than the thief's idle was (`try_steal_cookie`, `core_occupation`)
+abbrev pub may_steal : SiblingState → SiblingState → Task → Bool
+may_steal thief source task =
+    not (is_run (unwrap_or source.waiting None) (Some task.spec.pid))
+    && not (is_run source.run (Some task.spec.pid))
+    && not (nat_lt thief.occupation task.occupation)
 
 -- What is stolen: the first of the source's tasks with the core's cookie that is not passed over, where the core has a
 -- cookie and the thief runs idle.
@@ -25,7 +25,8 @@ unfoldable pub stolen : RoomState → ℕ → Option Task
 stolen room thief =
     if (room.core_cookie == 0) || is_some (sibling_of room thief).run
     then None
-    else first_of (filter (may_steal room thief (source_of room thief)) (queued_with room room.core_cookie (source_of room thief)))
+    else first_of (filter (may_steal (sibling_of room thief) (sibling_of room (source_of room thief)))
+    (queued_with room room.core_cookie (source_of room thief)))
 
 -- the room with the sibling's next try at this place
 abbrev pub with_place : RoomState → ℕ → ℕ → RoomState

@@ -11,14 +11,14 @@ use Rattle.cs_types.specs.declared.reply.Reply.TheVariants.{Picked, Nothing, Sto
 use Rattle.cs_types.specs.declared.reply.Reply.TheVariants as answer
 use Rattle.cs_types.specs.declared.reply.Errno.TheVariants.{Eagain, Ebusy}
 use Rattle.cs_types.specs.declared.reply.Pick.{Pick}
-use Rattle.cs_types.specs.Room.{RoomState, asleep, placed, has_pid, task_of, sibling_of, running_on, is_online, online, with_sibling, with_task, flagged}
+use Rattle.cs_types.specs.Room.{RoomState, asleep, inserted, has_pid, task_of, sibling_of, running_on, is_online, online, with_sibling, with_task, flagged}
 use Rattle.cs_types.specs.Order.{deadline_class, class_of}
 use Rattle.cs_types.specs.Accounting.{accounted}
 use Rattle.cs_types.specs.Time.{advanced, ticked_room, asks_at_tick}
 use Rattle.cs_types.specs.Selection.{Scheduled, schedule, is_run}
 use Rattle.cs_types.specs.Queueing.{dequeued, online_home, rehomed, queued_at_home}
 use Rattle.cs_types.specs.Steal.{source_of, stolen, with_stolen, with_place, next_place}
-use Rattle.cs_types.specs.Hotplug.{without_sibling, with_sibling_back}
+use Rattle.cs_types.specs.Hotplug.{leave, with_sibling_back}
 use Rattle.cs_types.specs.Prctl.{prctl_answer, prctl_room}
 
 -- the reply to an event, and the room after it
@@ -43,10 +43,10 @@ woken room (Some task) =
 abbrev pub picked : (Pick → Reply) → Scheduled → Stepped
 picked answer scheduled = record { reply = answer scheduled.pick; room = scheduled.room }
 
--- A task is stolen, or none is found.
-abbrev pub tried : RoomState → ℕ → Option Task → Stepped
-tried room cpu None = record { reply = Missed (source_of room cpu); room = with_place room cpu (next_place room cpu) }
-tried room cpu (Some task) =
+-- A steal try: a task is stolen, or none is found (`steal_cookie_task`).
+abbrev pub try_steal : RoomState → ℕ → Option Task → Stepped
+try_steal room cpu None = record { reply = Missed (source_of room cpu); room = with_place room cpu (next_place room cpu) }
+try_steal room cpu (Some task) =
     record { reply = Stole task.spec.pid (source_of room cpu); room = with_stolen room cpu task }
 
 -- A sibling that is offline does nothing.
@@ -56,13 +56,13 @@ unless_offline room cpu stepped = if is_online room cpu then stepped else record
 -- A pending reschedule is taken (`TIF_NEED_RESCHED` is set). Else the sibling tries to steal where it is to, and else
 -- there is nothing to do.
 abbrev pub turned : RoomState → Bool → ℕ → Stepped
-turned room is_fresh cpu =
+turned room may_adopt cpu =
     if (sibling_of room cpu).pending
-    then picked Picked (schedule room is_fresh cpu)
+    then picked Picked (schedule room may_adopt cpu)
     else (
     if (sibling_of room cpu).place == 0
     then record { reply = Nothing; room = room }
-    else tried room cpu (stolen room cpu)
+    else try_steal room cpu (stolen room cpu)
     )
 
 -- ---- block (`deactivate_task` in `__schedule`, kernel/sched/core.c)
@@ -123,12 +123,12 @@ child_of caller thread pid = record (asleep (child_spec caller thread pid)) { co
 
 -- The child is among the living, and its pid is never given again.
 abbrev pub with_child : RoomState → Task → RoomState
-with_child room child = record room { tasks = placed child room.tasks; next_pid = room.next_pid + 1 }
+with_child room child = record room { tasks = inserted child room.tasks; next_pid = room.next_pid + 1 }
 
 -- It is at home where its caller is, or on another sibling where that is offline, and its virtual time is the least of its
 -- queue, whatever its class (after `task_fork_fair`; this project's rule).
-abbrev pub settled : RoomState → Task → Task
-settled room child =
+abbrev pub child_at_home : RoomState → Task → Task
+child_at_home room child =
     let home = online_home room child.home in record child { home = home; vtime = (sibling_of room home).least }
 
 -- whether a fork is refused: as many tasks live as may, or the caller is a deadline task (`sched_fork`)
@@ -144,7 +144,7 @@ forked room thread (Some caller) =
     then record { reply = Refused Eagain; room = room }
     else (
     let child = child_of caller thread room.next_pid in
-    record { reply = Child child.spec.pid; room = queued_at_home (with_child room child) (settled room child) }
+    record { reply = Child child.spec.pid; room = queued_at_home (with_child room child) (child_at_home room child) }
     )
 
 -- ---- advance and tick (`update_curr`, `scheduler_tick`)
@@ -166,18 +166,20 @@ ticked room cpu (Some task) =
 abbrev pub with_policy : Policy → Task → Task
 with_policy policy task = record task { spec = record task.spec { policy = policy }; used = 0 }
 
--- An asleep task has the policy. A queued one is dequeued, has it, and is queued again at its home, and its sibling becomes
--- pending where it runs.
-abbrev pub rescheduled_as : RoomState → Policy → Task → RoomState
-rescheduled_as room policy task =
-    let changed = with_policy policy task in
-    if task.queued
-    then flagged (queued_at_home (dequeued room changed) changed) task.home (is_run (sibling_of room task.home).run (Some task.spec.pid))
-    else with_task room changed
+-- A queued task leaves its queue and enters it again, and its sibling becomes pending where it runs.
+abbrev pub requeued : RoomState → Task → RoomState
+requeued room task =
+    flagged (queued_at_home (dequeued room task) task) task.home (is_run (sibling_of room task.home).run (Some task.spec.pid))
 
+-- An asleep task has the policy. A queued one has it and is queued anew.
+abbrev pub with_policy_set : RoomState → Policy → Task → RoomState
+with_policy_set room policy task =
+    let changed = with_policy policy task in if task.queued then requeued room changed else with_task room changed
+
+-- There is no such task, or it has the policy.
 abbrev pub set_policy : RoomState → Policy → Option Task → Stepped
 set_policy room policy None = record { reply = NoTask; room = room }
-set_policy room policy (Some task) = record { reply = Set; room = rescheduled_as room policy task }
+set_policy room policy (Some task) = record { reply = Set; room = with_policy_set room policy task }
 
 -- ---- leaving and coming back
 
@@ -189,7 +191,7 @@ taken_offline room cpu =
     else (
     if length (online room) == 1
     then record { reply = Refused Ebusy; room = room }
-    else record { reply = Done; room = without_sibling room cpu }
+    else record { reply = Done; room = leave room cpu }
     )
 
 -- It is online already, or it comes back.
@@ -201,18 +203,18 @@ brought_online room cpu =
 
 -- ---- every event
 
--- what each event does, where the test says whether nothing was touched since the last selection for the core
+-- what each event does, where the test says whether a waiting pick may be adopted
 abbrev pub step : RoomState → Bool → Event → Stepped
-step room is_fresh (Turn cpu) = unless_offline room cpu (turned room is_fresh cpu)
-step room is_fresh (Resched cpu) = unless_offline room cpu (picked Picked (schedule room is_fresh cpu))
-step room is_fresh (Block cpu) = unless_offline room cpu (blocked room cpu (running_on room cpu))
-step room is_fresh (Exit cpu) = unless_offline room cpu (exited room cpu (running_on room cpu))
-step room is_fresh (Tick cpu) = unless_offline room cpu (ticked room cpu (running_on room cpu))
-step room is_fresh (Wake pid) = woken room (task_of room pid)
-step room is_fresh (Advance delta) = advancing room delta
-step room is_fresh (Fork caller thread) = forked room thread (task_of room caller)
-step room is_fresh (Prctl caller ask) =
+step room may_adopt (Turn cpu) = unless_offline room cpu (turned room may_adopt cpu)
+step room may_adopt (Resched cpu) = unless_offline room cpu (picked Picked (schedule room may_adopt cpu))
+step room may_adopt (Block cpu) = unless_offline room cpu (blocked room cpu (running_on room cpu))
+step room may_adopt (Exit cpu) = unless_offline room cpu (exited room cpu (running_on room cpu))
+step room may_adopt (Tick cpu) = unless_offline room cpu (ticked room cpu (running_on room cpu))
+step room may_adopt (Wake pid) = woken room (task_of room pid)
+step room may_adopt (Advance delta) = advancing room delta
+step room may_adopt (Fork caller thread) = forked room thread (task_of room caller)
+step room may_adopt (Prctl caller ask) =
     record { reply = prctl_answer room caller ask; room = prctl_room room caller ask }
-step room is_fresh (SetSched pid policy) = set_policy room policy (task_of room pid)
-step room is_fresh (Offline cpu) = taken_offline room cpu
-step room is_fresh (Online cpu) = brought_online room cpu
+step room may_adopt (SetSched pid policy) = set_policy room policy (task_of room pid)
+step room may_adopt (Offline cpu) = taken_offline room cpu
+step room may_adopt (Online cpu) = brought_online room cpu

@@ -20,16 +20,16 @@ weights =
     ∷ 1024 ∷ 820 ∷ 655 ∷ 526 ∷ 423 ∷ 335 ∷ 272 ∷ 215 ∷ 172 ∷ 137
     ∷ 110 ∷ 87 ∷ 70 ∷ 56 ∷ 45 ∷ 36 ∷ 29 ∷ 23 ∷ 18 ∷ 15 ∷ []
 
--- the place of a nice value among them; `negsuc n` is -1 - n
-abbrev pub place_of : ℤ → ℕ
-place_of (pos n) = n + 20
-place_of (negsuc n) = 19 - n
+-- the index of a nice value among them; `negsuc n` is -1 - n
+abbrev pub weight_index : ℤ → ℕ
+weight_index (pos n) = n + 20
+weight_index (negsuc n) = 19 - n
 
 -- the weight of a nice value
 unfoldable pub weight_of : ℤ → ℕ
-weight_of nice = slice_index_or weights (place_of nice) 1024
+weight_of nice = slice_index_or weights (weight_index nice) 1024
 
--- how far the virtual time of a running fair task grows while the clock does by so much, rounded down
+-- how far the virtual time of a running fair task grows while the clock does by delta ns, rounded down
 -- (`calc_delta_fair`; that it is exact is this project's rule)
 unfoldable pub growth : ℕ → ℤ → ℕ
 growth delta nice = delta * 1024 / weight_of nice
@@ -147,7 +147,7 @@ pub record IsTimelyTask (room : RoomState) (task : Task) : Type 0 where
   pub vtime : task.vtime ≤ (sibling_of room task.home).least + 69 * room.clock
   pub used : task.used ≤ room.clock
 
--- What is kept of a sibling is at most so much.
+-- What is kept of a sibling is at most this.
 pub record IsTimelySibling (most clock : ℕ) (sibling : SiblingState) : Type 0 where
   pub least : sibling.least ≤ most
   pub snapshot : sibling.snapshot ≤ most

@@ -116,17 +116,17 @@ touches_by room event reply = 0
 
 -- ---- the ledger: every entry so far with its touches and with the interval that it recorded, the latest first
 
-pub record Noted : Type 0 where
+pub record LedgerEntry : Type 0 where
   pub entry : Entry
   pub touches : ℕ
   pub interval : Option Interval
 
 abbrev pub Ledger : Type 0
-Ledger = List Noted
+Ledger = List LedgerEntry
 
 -- an entry, made in this room, as it stands in the ledger
-abbrev pub noted : RoomState → Entry → Noted
-noted room entry =
+abbrev pub ledger_entry : RoomState → Entry → LedgerEntry
+ledger_entry room entry =
     record { entry = entry; touches = touches_by room entry.event entry.reply; interval = interval_by room entry.event entry.reply }
 
 -- the recorded intervals, the latest first

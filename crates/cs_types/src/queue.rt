@@ -35,31 +35,31 @@ impl Queued {
 }
 
 /// The queue of a scheduling class on one sibling. Whatever it keeps, it stands for the pids of its
-/// tasks, each at the place that its rank and its stamp are, and for how many more it has room.
+/// tasks, each at the key that its rank and its stamp are, and how many more it can take.
 ///
-/// A call that looks for a place counts its comparisons.
+/// A call that looks for a key counts its comparisons.
 pub trait ClassQueue: Drop {
-    /// The pid at each place.
+    /// The pid at each key.
     ghost members: { Self → Members };
 
-    /// For how many more tasks there is room.
+    /// How many more tasks it can take.
     ghost spare: { Self → ℕ };
 
-    /// Makes room for `n` more tasks where there is less. This call alone takes memory. An `Err`, for
-    /// want of it or where there would be more than 4294967295 tasks, changes nothing.
+    /// Raises `spare` to `n` where it is below. This call alone takes memory. An `Err`, for want of it
+    /// or where there would be more than 4294967295 tasks, changes nothing.
     fn reserve(&mut self, n: u32) -> Result<(), OutOfMemory>
         ensures members { members self.new ≡ members self.old }
         ensures spare { OnOk result (spare self.new ≡ max n (spare self.old)) }
         ensures err { OnErr result (spare self.new ≡ spare self.old) };
 
-    /// Puts a task at a place where none is.
+    /// Puts a task at a key where none is.
     fn put<L: Ledger>(&mut self, rank: u128, stamp: u64, pid: Pid, steps: &mut Steps<L>)
-        requires room { 0 < spare self.old }
+        requires spare { 0 < spare self.old }
         requires free { map.get (members self.old) (rank, stamp) ≡ None }
         ensures members { members self.new ≡ map.insert (members self.old) (rank, stamp) pid }
         ensures spare { spare self.new + 1 ≡ spare self.old };
 
-    /// Takes the task at a place out. `false` comes exactly where none is there, and then nothing
+    /// Takes the task at a key out. `false` comes exactly where none is there, and then nothing
     /// changes.
     fn take<L: Ledger>(&mut self, rank: u128, stamp: u64, steps: &mut Steps<L>) -> bool
         ensures found { result ≡ map.contains_key (members self.old) (rank, stamp) }

@@ -24,15 +24,14 @@ pub trait Room: Drop {
     /// The steps so far, with their replies.
     ghost history: { Self → History };
 
-    /// For how many entries there is room.
+    /// How many more entries it can take.
     ghost free: { Self → ℕ };
 
     /// Makes one step, and answers what the rules answer. It takes no memory.
     ///
-    /// There has to be room for an entry, and what the event names keeps its limits: a sibling that
-    /// the core has, a pid from 1 to 999999, and an advance of 1 to 1000000000 ns.
+    /// `spare` has to be above 0, and what the event names keeps its limits: a sibling that the core has, a pid from 1 to 999999, and an advance of 1 to 1000000000 ns.
     fn apply(&mut self, actor: Actor, event: Event) -> Reply
-        requires room { 0 < free self.old }
+        requires spare { 0 < free self.old }
         requires event { IsEvent (scenario self.old).siblings event }
 
         ensures reply { result ≡ reply_to (scenario self.old) (history self.old) event }
@@ -48,10 +47,10 @@ pub trait Room: Drop {
             (fold_of (scenario self.new) (history self.new))) };
 
     /// Makes the entries of the end of a run, and answers how many: while an online sibling is pending,
-    /// one schedules. At most as many are made as the square of the siblings, and there has to be room
-    /// for so many. It takes no memory, and makes no steal try.
+    /// one schedules. At most as many are made as the square of the siblings, and `spare` has to be at
+    /// least that. It takes no memory, and makes no steal try.
     fn drain(&mut self) -> u64
-        requires room { (scenario self.old).siblings * (scenario self.old).siblings ≤ free self.old }
+        requires spare { (scenario self.old).siblings * (scenario self.old).siblings ≤ free self.old }
 
         ensures entries { history self.new ≡ drained (scenario self.old) (history self.old) }
         ensures count { length (history self.new) ≡ length (history self.old) + result }
@@ -60,10 +59,10 @@ pub trait Room: Drop {
         ensures scenario { scenario self.new ≡ scenario self.old }
 
         // Nobody is pending after it. So no two running tasks differ in cookie.
-        ensures settled { pending (fold_of (scenario self.new) (history self.new)) ≡ [] }
+        ensures nobody_pending { pending (fold_of (scenario self.new) (history self.new)) ≡ [] }
         ensures one_cookie { RunOneCookie (fold_of (scenario self.new) (history self.new)) };
 
-    /// For how many entries there is room, a count.
+    /// How many more entries it can take, a count.
     fn spare(&self) -> u64
         ensures { result ≡ free self.now };
 

@@ -2,7 +2,7 @@
 
 ghost use Rattle.std.specs.Prelude.{◌≡◌, ◌<◌, ◌≤◌};
 ghost use Rattle.cs_types.specs.Scenario.{IsNice};
-ghost use Rattle.cs_types.specs.Time.{place_of, weight_of, growth};
+ghost use Rattle.cs_types.specs.Time.{weight_index, weight_of, growth};
 
 /// The weights of the nice values from -20 to 19 (`sched_prio_to_weight`, kernel/sched/core.c).
 const WEIGHTS: [u32; 40] = [
@@ -11,10 +11,10 @@ const WEIGHTS: [u32; 40] = [
     70, 56, 45, 36, 29, 23, 18, 15,
 ];
 
-/// The place of a nice value among the weights.
-fn place_of(nice: i8) -> usize
+/// The index of a nice value among the weights.
+fn weight_index(nice: i8) -> usize
     requires { IsNice nice }
-    ensures place { result ≡ place_of nice }
+    ensures index { result ≡ weight_index nice }
     ensures below { result < 40 }
 {
     if nice < 0 {
@@ -31,7 +31,7 @@ pub fn weight(nice: i8) -> u32
     ensures weight { result ≡ weight_of nice }
     ensures least { 15 ≤ result }
 {
-    WEIGHTS[place_of(nice)]
+    WEIGHTS[weight_index(nice)]
 }
 
 /// How far the virtual time of a running fair task of this nice value, from -20 to 19, grows in so

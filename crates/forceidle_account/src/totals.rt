@@ -49,7 +49,7 @@ impl Totals {
     /// A task more, charged nothing yet. There has to be room for it, and its pid is above all that
     /// are there.
     pub fn add(&mut self, pid: Pid)
-        requires room { 0 < self.old.spare }
+        requires spare { 0 < self.old.spare }
         requires above { (other : ℕ) → IsTrue (has_total self.old other) → other < pid }
         ensures totals { self.new.totals ≡ map.insert self.old.totals pid 0 }
         ensures spare { self.new.spare + 1 ≡ self.old.spare }

@@ -19,7 +19,7 @@ use thiserror::Error;
 pub struct HasThreads;
 
 /// Whether the task leads a thread group that has another member.
-pub fn leads_others(table: &TaskTable, task: &Task) -> bool
+pub fn has_threads(table: &TaskTable, task: &Task) -> bool
     ensures { (room : RoomState) → room.tasks ≡ table.now.tasks → result ≡ has_threads room task.now }
 {
     let leader = task.spec.pid;
@@ -52,7 +52,7 @@ pub fn end(table: &mut TaskTable, refs: &mut CookieRefs, pid: Pid) -> Result<Tas
     ensures sound { IsSound table.new }
 {
     let task = table.find(pid).copied().unwrap();
-    if leads_others(table, &task) {
+    if has_threads(table, &task) {
         return Err(HasThreads);
     }
     table.remove(pid);

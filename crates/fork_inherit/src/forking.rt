@@ -2,7 +2,7 @@
 
 ghost use Rattle.std.specs.Prelude.{◌≡◌, ◌≢◌, ◌==◌, length, find, None, Some, OnOk, OnErr};
 ghost use Rattle.cs_types.specs.declared.task.Task.{Task as SomeTask};
-ghost use Rattle.cs_types.specs.Room.{has_pid, placed};
+ghost use Rattle.cs_types.specs.Room.{has_pid, inserted};
 ghost use Rattle.cs_types.specs.Order.{deadline_class, class_of};
 ghost use Rattle.cs_types.specs.Step.{child_of};
 ghost use Rattle.task_table.specs.Table.{IsSound};
@@ -59,11 +59,11 @@ fn is_deadline(policy: Policy) -> bool
     matches!(policy, Policy::Deadline(_))
 }
 
-/// Puts the task into a table that has a place left and no task with its pid.
-fn place(table: &mut TaskTable, task: Task)
+/// Puts the task into a table that has a slot left and no task with its pid.
+fn insert(table: &mut TaskTable, task: Task)
     requires free { find (has_pid task.spec.pid) table.old.tasks ≡ None }
-    requires room { length table.old.tasks ≢ table.old.limit }
-    ensures placed { table.new ≡ record table.old { tasks = placed task table.old.tasks } }
+    requires spare { length table.old.tasks ≢ table.old.limit }
+    ensures inserted { table.new ≡ record table.old { tasks = inserted task table.old.tasks } }
     ensures sound { IsSound table.new }
 {
     table.add(task.spec).unwrap();
@@ -92,7 +92,7 @@ pub fn fork(
     ensures answer { result ≡ fork_answer table.old (find (has_pid caller) table.old.tasks) }
     ensures child { (by : SomeTask) → find (has_pid caller) table.old.tasks ≡ Some by →
         OnOk result (table.new ≡
-        record table.old { tasks = placed (child_of by thread child) table.old.tasks }) }
+        record table.old { tasks = inserted (child_of by thread child) table.old.tasks }) }
     ensures unchanged { OnErr result (table.new ≡ table.old) }
     ensures same_refs { OnErr result (refs.new ≡ refs.old) }
 
@@ -107,7 +107,7 @@ pub fn fork(
     if table.len() == limit || is_deadline(by.spec.policy) {
         return Err(ForkFault::Eagain);
     }
-    place(table, child_of(&by, thread, child));
+    insert(table, child_of(&by, thread, child));
     refs.get(by.cookie);
     Ok(())
 }

@@ -10,7 +10,7 @@ use Rattle.std.proofs.lemmas.List.Elements.{filter-append, All-map, All-filter}
 use Rattle.std.proofs.lemmas.List.FromFn.{get_or-map-range_with_len}
 use Rattle.cs_types.specs.Room.{RoomState, is_online, online, online_from, queued_on, sibling_of}
 use Rattle.cs_types.specs.Order.{first_of, goes_before, foremost, outranks}
-use Rattle.cs_types.specs.Selection.{first_on, cookie_of, pid_of, is_fair_task, renews_snapshots, snapshot_of, queued_with, choice, is_forced, forced_count, occupation_of, is_run, handed, given, remembered, lead_from, adopted, balanced, rescheduled, scheduled, schedule}
+use Rattle.cs_types.specs.Selection.{first_on, cookie_of, pid_of, is_fair_task, renews_snapshots, snapshot_of, queued_with, choice, is_forced, forced_count, occupation_of, is_run, handed, given, remembered, lead_from, adopted, balanced, picked_anew, adopted_or_picked_anew, schedule}
 use Rattle.plain_room.specs.declared.choice.Choice.{Choice}
 use Rattle.cs_types.specs.declared.task.Task.{Task}
 use Rattle.plain_room.specs.declared.state.State.{State}
@@ -166,9 +166,9 @@ remembered-choices room core occupation (task ∷ tasks) same =
 
 -- nothing may be adopted, or this may
 pub schedule_not_adopted : (room : RoomState) (fresh : Bool) (cpu : ℕ) → None ≡ cond fresh (sibling_of room cpu).waiting None →
-    schedule room fresh cpu ≡ balanced cpu (rescheduled room cpu)
+    schedule room fresh cpu ≡ balanced cpu (picked_anew room cpu)
 schedule_not_adopted room fresh cpu none = ap (balanced cpu) (not_adopted fresh (sibling_of room cpu).waiting none) where
-  not_adopted : (b : Bool) (waiting : Option (Option ℕ)) → None ≡ cond b waiting None → scheduled room b cpu waiting ≡ rescheduled room cpu
+  not_adopted : (b : Bool) (waiting : Option (Option ℕ)) → None ≡ cond b waiting None → adopted_or_picked_anew room b cpu waiting ≡ picked_anew room cpu
   not_adopted b None e = refl
   not_adopted false (Some run) e = refl
   not_adopted true (Some run) e = absurd cc
@@ -176,7 +176,7 @@ schedule_not_adopted room fresh cpu none = ap (balanced cpu) (not_adopted fresh 
 pub schedule_adopted : (room : RoomState) (fresh : Bool) (cpu : ℕ) (run : Option ℕ) → Some run ≡ cond fresh (sibling_of room cpu).waiting None →
     schedule room fresh cpu ≡ balanced cpu (adopted room cpu run)
 schedule_adopted room fresh cpu run some = ap (balanced cpu) (is_adopted fresh (sibling_of room cpu).waiting some) where
-  is_adopted : (b : Bool) (waiting : Option (Option ℕ)) → Some run ≡ cond b waiting None → scheduled room b cpu waiting ≡ adopted room cpu run
+  is_adopted : (b : Bool) (waiting : Option (Option ℕ)) → Some run ≡ cond b waiting None → adopted_or_picked_anew room b cpu waiting ≡ adopted room cpu run
   is_adopted true None e = absurd cc
   is_adopted false None e = absurd cc
   is_adopted false (Some other) e = absurd cc

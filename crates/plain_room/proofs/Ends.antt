@@ -50,8 +50,8 @@ none_left scenario history most next_is =
 -- ---- the end
 
 -- nobody is pending after it
-pub settled_at_end : (scenario other : Scenario) (past now : History) → other ≡ scenario → now ≡ drained scenario past → pending (fold_of other now) ≡ []
-settled_at_end scenario other past now same is = (λ i. pending (fold_of (same i) (is i))) ∙ nobody_pending scenario past
+pub nobody_pending_at_end : (scenario other : Scenario) (past now : History) → other ≡ scenario → now ≡ drained scenario past → pending (fold_of other now) ≡ []
+nobody_pending_at_end scenario other past now same is = (λ i. pending (fold_of (same i) (is i))) ∙ nobody_pending scenario past
 
 -- and all that run a task run tasks with one cookie
 pub one_cookie_at_end : (scenario other : Scenario) (past now : History) → other ≡ scenario → now ≡ drained scenario past →
@@ -61,4 +61,4 @@ one_cookie_at_end scenario other past now same is playable events legal =
     let all = All-append (λ (entry : Entry). IsEvent scenario.siblings entry.event) past (drained_from most (moment_of scenario past)) events (drained_is_event most scenario past) in
     one_cookie (fold_of other now)
     (subst IsSettled (λ i. fold_of (sym same i) (sym is i)) (settled-moment_of scenario (drained scenario past) playable all (IsLegal-drained scenario past legal)))
-    (settled_at_end scenario other past now same is)
+    (nobody_pending_at_end scenario other past now same is)

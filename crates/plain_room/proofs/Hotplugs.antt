@@ -10,7 +10,7 @@ use Rattle.cs_types.specs.declared.task.Task.{Task}
 use Rattle.cs_types.specs.declared.reply.Reply.TheVariants.{Already, Refused, Done}
 use Rattle.cs_types.specs.declared.reply.Errno.TheVariants.{Ebusy}
 use Rattle.cs_types.specs.Room.{RoomState, is_online, online}
-use Rattle.cs_types.specs.Hotplug.{without_sibling, with_sibling_back}
+use Rattle.cs_types.specs.Hotplug.{leave, with_sibling_back}
 use Rattle.cs_types.specs.Step.{taken_offline, brought_online}
 use Rattle.cs_types.specs.Time.{IsTimelyTask}
 use Rattle.cs_types.proofs.Foremost.{find-append_none}
@@ -79,10 +79,10 @@ before_is tasks cpu stamp =
 pub offline_step : (room : RoomState) (cpu : ℕ) (is_there alone : Bool) → is_online room cpu ≡ is_there → (length (online room) == 1) ≡ alone →
     taken_offline room cpu
     ≡ cond (not is_there) (record { reply = Already; room = room })
-    (cond alone (record { reply = Refused Ebusy; room = room }) (record { reply = Done; room = without_sibling room cpu }))
+    (cond alone (record { reply = Refused Ebusy; room = room }) (record { reply = Done; room = leave room cpu }))
 offline_step room cpu is_there alone there_is alone_is =
     λ i. cond (not (there_is i)) (record { reply = Already; room = room })
-    (cond (alone_is i) (record { reply = Refused Ebusy; room = room }) (record { reply = Done; room = without_sibling room cpu }))
+    (cond (alone_is i) (record { reply = Refused Ebusy; room = room }) (record { reply = Done; room = leave room cpu }))
 
 -- a sibling is brought back
 pub online_step : (room : RoomState) (cpu : ℕ) (is_there : Bool) → is_online room cpu ≡ is_there →
@@ -96,8 +96,8 @@ closed room = record room { forced = 0; occupation = 0; started = None }
 
 -- The tasks move, the sibling leaves, and no interval is open: it is without the sibling.
 pub without_is : (room : RoomState) (cpu : ℕ) →
-    record (with_moves (closed room) cpu) { siblings = map (left cpu) (enumerate_from 0 room.siblings) } ≡ without_sibling room cpu
-unfolding without_sibling
+    record (with_moves (closed room) cpu) { siblings = map (left cpu) (enumerate_from 0 room.siblings) } ≡ leave room cpu
+unfolding leave
 without_is room cpu = refl
 
 -- a step that touches nothing

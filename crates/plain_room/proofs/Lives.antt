@@ -6,7 +6,7 @@ use Rattle.std.proofs.lemmas.Bool.{cases_Bool, cond_both, cond-true, cond-false}
 use Rattle.std.proofs.Math.Bool.{and-false}
 use Rattle.std.proofs.lemmas.List.Elements.{All-head, All-tail}
 use Rattle.cs_types.specs.declared.task.Task.{Task}
-use Rattle.cs_types.specs.Room.{has_pid, placed}
+use Rattle.cs_types.specs.Room.{has_pid, inserted}
 use Rattle.plain_room.specs.State.{IsFit}
 
 -- the tasks once the one with its pid is this one
@@ -50,17 +50,17 @@ any-changed task p (first ∷ rest) =
     ]
 
 -- A task that was placed is found by its pid, where none had it.
-pub find-placed : (task : Task) (tasks : List Task) → find (has_pid task.spec.pid) tasks ≡ None →
-    find (has_pid task.spec.pid) (placed task tasks) ≡ Some task
-find-placed task [] none = cond-true (has_pid task.spec.pid task) _ _ (own_pid task)
-find-placed task (first ∷ rest) none =
+pub find-inserted : (task : Task) (tasks : List Task) → find (has_pid task.spec.pid) tasks ≡ None →
+    find (has_pid task.spec.pid) (inserted task tasks) ≡ Some task
+find-inserted task [] none = cond-true (has_pid task.spec.pid task) _ _ (own_pid task)
+find-inserted task (first ∷ rest) none =
     elim (cases_Bool (has_pid task.spec.pid first)) [
       | inl is ↦ let bad : Some first ≡ None = sym (cond-true (has_pid task.spec.pid first) _ _ is) ∙ none in absurd cc
       | inr is ↦
-          cond_both (ltb task.spec.pid first.spec.pid) (task ∷ first ∷ rest) (first ∷ placed task rest)
+          cond_both (ltb task.spec.pid first.spec.pid) (task ∷ first ∷ rest) (first ∷ inserted task rest)
           (λ (ts : List Task). find (has_pid task.spec.pid) ts ≡ Some task)
           (λ _. cond-true (has_pid task.spec.pid task) _ _ (own_pid task))
-          (λ _. cond-false (has_pid task.spec.pid first) _ _ is ∙ find-placed task rest (rw is at none))
+          (λ _. cond-false (has_pid task.spec.pid first) _ _ is ∙ find-inserted task rest (rw is at none))
     ]
 
 -- No task that fits has the next pid.

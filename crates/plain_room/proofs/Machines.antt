@@ -17,12 +17,12 @@ use Rattle.cs_types.specs.Scenario.{IsEvent}
 use Rattle.cs_types.specs.Room.{RoomState}
 use Rattle.cs_types.specs.Step.{Stepped, step}
 use Rattle.cs_types.specs.Accounting.{Interval, total_of}
-use Rattle.cs_types.specs.Touches.{intervals_of, is_selected, is_adopted, pick_of, is_selection, scheduler_of, is_fresh, Noted, Ledger, noted, task_number, pick_number, own_number}
+use Rattle.cs_types.specs.Touches.{intervals_of, is_selected, is_adopted, pick_of, is_selection, scheduler_of, is_fresh, LedgerEntry, Ledger, ledger_entry, task_number, pick_number, own_number}
 use Rattle.cs_types.specs.History.{History, Moment, moment_of, fold_of, ledger_of, reply_to, entry_of, history_of, step_at}
 use Rattle.cs_types.specs.Drain.{next_to_schedule}
 use Rattle.plain_room.specs.Drain.{next_by}
 use Rattle.cs_types.proofs.Histories.{moment_of-push, history_of-push}
-use Rattle.cs_types.proofs.Accounts.{with_one, intervals_of-cons, total_of-noted}
+use Rattle.cs_types.proofs.Accounts.{with_one, intervals_of-cons, total_of-ledger_entry}
 use Rattle.cs_types.proofs.Numbers.{task_number-cons, pick_number-cons, own_number-cons, fresh-ledger_of}
 use Rattle.plain_room.specs.State.{owed, booked, books_at, numbers_at, numbers_of, numbers_after, own_after, is_fresh_by, room_of, Makes}
 use Rattle.plain_room.specs.Inside.{steps_of}
@@ -107,7 +107,7 @@ scheduler_below n (SetSched pid policy) limits = tt
 scheduler_below n (Offline cpu) limits = tt
 scheduler_below n (Online cpu) limits = tt
 
-own_more : (n : ℕ) (note : Noted) (ledger : Ledger) → IsEvent n note.entry.event →
+own_more : (n : ℕ) (note : LedgerEntry) (ledger : Ledger) → IsEvent n note.entry.event →
     map (λ cpu. own_number cpu (note ∷ ledger)) (range_with_len 0 n)
     ≡ own_after note.entry.event note.entry.reply (pick_number (note ∷ ledger)) (map (λ cpu. own_number cpu ledger) (range_with_len 0 n))
 own_more n note ledger limits =
@@ -118,26 +118,26 @@ own_more n note ledger limits =
 -- ---- the numbers
 
 -- the books of a ledger with one more entry
-books-noted : (scenario : Scenario) (most : ℕ) (note : Noted) (ledger : Ledger) → books_at scenario most (note ∷ ledger) ≡ booked note.interval (books_at scenario most ledger)
-books-noted scenario most note ledger = by_interval note.interval (intervals_of-cons note ledger) where
+books-ledger_entry : (scenario : Scenario) (most : ℕ) (note : LedgerEntry) (ledger : Ledger) → books_at scenario most (note ∷ ledger) ≡ booked note.interval (books_at scenario most ledger)
+books-ledger_entry scenario most note ledger = by_interval note.interval (intervals_of-cons note ledger) where
   by_interval : (one : Option Interval) → intervals_of (note ∷ ledger) ≡ with_one one (intervals_of ledger) → books_at scenario most (note ∷ ledger) ≡ booked one (books_at scenario most ledger)
   by_interval None same = λ i. record (books_at scenario most ledger) { intervals = length (same i); totals = λ pid. total_of pid (same i) }
   by_interval (Some interval) same =
       let intervals : length (intervals_of (note ∷ ledger)) ≡ length (intervals_of ledger) + 1 = omega (arith, ap length same) in
       let totals : (pid : ℕ) → total_of pid (intervals_of (note ∷ ledger)) ≡ total_of pid (intervals_of ledger) + owed pid interval =
-      λ pid. ap (total_of pid) same ∙ total_of-noted pid (Some interval) (intervals_of ledger) in
+      λ pid. ap (total_of pid) same ∙ total_of-ledger_entry pid (Some interval) (intervals_of ledger) in
       λ i. record (books_at scenario most ledger) { intervals = intervals i; totals = λ pid. totals pid i }
 
 -- the numbers of a ledger with one more entry
-numbers-noted : (scenario : Scenario) (most : ℕ) (room : RoomState) (entry : Entry) (ledger : Ledger) → IsEvent scenario.siblings entry.event →
-    numbers_at scenario most (noted room entry ∷ ledger) ≡ numbers_after room entry.event entry.reply (numbers_at scenario most ledger)
-numbers-noted scenario most room entry ledger limits =
-    let note = noted room entry in
+numbers-ledger_entry : (scenario : Scenario) (most : ℕ) (room : RoomState) (entry : Entry) (ledger : Ledger) → IsEvent scenario.siblings entry.event →
+    numbers_at scenario most (ledger_entry room entry ∷ ledger) ≡ numbers_after room entry.event entry.reply (numbers_at scenario most ledger)
+numbers-ledger_entry scenario most room entry ledger limits =
+    let note = ledger_entry room entry in
     let task : task_number (note ∷ ledger) ≡ task_number ledger + note.touches = task_number-cons note ledger ∙ omega arith in
     let pick : pick_number (note ∷ ledger) ≡ cond (is_selection entry) (task_number ledger + note.touches) (pick_number ledger) =
     pick_number-cons note ledger ∙ ap (λ n. cond (is_selection entry) n (pick_number ledger)) task in
     let own = own_more scenario.siblings note ledger limits ∙ ap (λ p. own_after entry.event entry.reply p (numbers_at scenario most ledger).own) pick in
-    let books = books-noted scenario most note ledger in
+    let books = books-ledger_entry scenario most note ledger in
     λ i. record { task = task i; pick = pick i; own = own i; books = books i }
 
 -- ---- one step of the machine
@@ -168,7 +168,7 @@ folds_more {most} scenario old new entries entry limits so_far makes =
       fold = makes.room ∙ ap (λ (made : Stepped). made.room) (step_of_moment scenario old entries entry.event so_far)
           ∙ ap (λ (moment : Moment). moment.room) more;
       numbers = makes.numbers ∙ (λ i. numbers_after (so_far.fold i) entry.event entry.reply (so_far.numbers i))
-          ∙ sym (numbers-noted scenario most (fold_of scenario entries) entry (ledger_of scenario entries) limits)
+          ∙ sym (numbers-ledger_entry scenario most (fold_of scenario entries) entry (ledger_of scenario entries) limits)
           ∙ ap (λ (moment : Moment). numbers_at scenario most moment.ledger) more;
     }
 

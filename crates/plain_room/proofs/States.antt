@@ -17,7 +17,7 @@ use Rattle.forceidle_account.specs.Charges.{Charges, has_total}
 use Rattle.cs_types.specs.declared.task.TaskSpec.{TaskSpec}
 use Rattle.cs_types.specs.declared.scenario.Scenario.{Scenario}
 use Rattle.cs_types.specs.Scenario.{IsTask, IsPolicy, AreDistinct}
-use Rattle.cs_types.specs.Room.{RoomState, first_pid, asleep, placed, asleep_tasks, idle, has_pid}
+use Rattle.cs_types.specs.Room.{RoomState, first_pid, asleep, inserted, asleep_tasks, idle, has_pid}
 use Rattle.task_table.specs.Table.{Table, Rises, add_answer}
 use Rattle.task_table.specs.declared.fault.AddFault.{AddFault}
 use Rattle.cs_types.proofs.Foremost.{find_passes}
@@ -105,9 +105,9 @@ knows-alike state task old found spec cookie home = record {
 }
 
 -- and one that has the pid and the cookie of one of its own, at home on one of its siblings
-pub knows-placed : (state : State) (task old : Task) → find (has_pid task.spec.pid) state.tasks.tasks ≡ Some old →
+pub knows-inserted : (state : State) (task old : Task) → find (has_pid task.spec.pid) state.tasks.tasks ≡ Some old →
     task.cookie ≡ old.cookie → task.home < length state.siblings.items → IsPolicy task.spec.policy → Knows state task
-knows-placed state task old found cookie home policy = record {
+knows-inserted state task old found cookie home policy = record {
   old = old;
   there = found;
   cookie = cookie;
@@ -181,26 +181,26 @@ numbers_kept siblings cpu x y is same = map-set_same number_of siblings cpu y x 
 -- ---- the start
 
 -- what holds of each of some tasks, and of those that are added
-placed_all : (P : Task → Type 0) (task : Task) (tasks : List Task) → P task → AllByRecursion P tasks → AllByRecursion P (placed task tasks)
+placed_all : (P : Task → Type 0) (task : Task) (tasks : List Task) → P task → AllByRecursion P tasks → AllByRecursion P (inserted task tasks)
 placed_all P task [] here all = (here, tt)
 placed_all P task (first ∷ rest) here all =
-    cond_both (ltb task.spec.pid first.spec.pid) (task ∷ first ∷ rest) (first ∷ placed task rest) (AllByRecursion P)
+    cond_both (ltb task.spec.pid first.spec.pid) (task ∷ first ∷ rest) (first ∷ inserted task rest) (AllByRecursion P)
     (λ _. (here, all)) (λ _. (all.0, placed_all P task rest here all.1))
 
 -- what holds of each of some tasks, and of one that is placed among them
-pub All-placed : (P : Task → Type 0) (task : Task) (tasks : List Task) → P task → All P tasks → All P (placed task tasks)
-All-placed P task tasks here all = All-from_recursion P (placed task tasks) (placed_all P task tasks here (recursion_from_All P tasks all))
+pub All-inserted : (P : Task → Type 0) (task : Task) (tasks : List Task) → P task → All P tasks → All P (inserted task tasks)
+All-inserted P task tasks here all = All-from_recursion P (inserted task tasks) (placed_all P task tasks here (recursion_from_All P tasks all))
 
 -- a task that fits, placed among others that do
-pub fit-placed : (count next : ℕ) (task : Task) (tasks : List Task) → IsFit count next task → All (IsFit count next) tasks → All (IsFit count next) (placed task tasks)
-fit-placed count next task tasks fit all =
-    All-placed (IsFit count next) task tasks fit all
+pub fit-inserted : (count next : ℕ) (task : Task) (tasks : List Task) → IsFit count next task → All (IsFit count next) tasks → All (IsFit count next) (inserted task tasks)
+fit-inserted count next task tasks fit all =
+    All-inserted (IsFit count next) task tasks fit all
 
 added_all : (P : Task → Type 0) (tasks : List Task) (specs : List TaskSpec) → AllByRecursion P tasks → All (λ spec. P (asleep spec)) specs →
-    AllByRecursion P (fold (λ ts spec. placed (asleep spec) ts) tasks specs)
+    AllByRecursion P (fold (λ ts spec. inserted (asleep spec) ts) tasks specs)
 added_all P tasks [] all each = all
 added_all P tasks (spec ∷ specs) all each =
-    added_all P (placed (asleep spec) tasks) specs (placed_all P (asleep spec) tasks (All-head (λ spec. P (asleep spec)) spec specs each) all)
+    added_all P (inserted (asleep spec) tasks) specs (placed_all P (asleep spec) tasks (All-head (λ spec. P (asleep spec)) spec specs each) all)
     (All-tail (λ spec. P (asleep spec)) spec specs each)
 
 -- the tasks of a scenario fit the siblings that there are, and have no cookie

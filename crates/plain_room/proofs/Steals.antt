@@ -29,7 +29,7 @@ stolen_there room thief task rises found =
       | inr so ↦ first_there task_test room.tasks task rises (ap first_of (sym thrice) ∙ (sym (cond-false _ None _ so) ∙ found))
     ] where
       may : Task → Bool
-      may = may_steal room thief (source_of room thief)
+      may = may_steal (sibling_of room thief) (sibling_of room (source_of room thief))
 
       here : Task → Bool
       here x = x.queued && (x.home == source_of room thief)

@@ -8,4 +8,3 @@ pub mod Machine
 pub mod Inside
 pub mod Hotplug
 pub mod Drain
-pub mod Steal

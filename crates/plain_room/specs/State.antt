@@ -16,7 +16,7 @@ use Rattle.cookie_refs.specs.Refs.{AgreeBut}
 use Rattle.cs_types.specs.Selection.{Scheduled}
 use Rattle.cs_types.specs.Touches.{Ledger, intervals_of, task_number, pick_number, own_number, is_selected, is_adopted, pick_touches, pick_of, selection_of, scheduler_of, touches_by}
 use Rattle.cs_types.specs.Steal.{stolen}
-use Rattle.cs_types.specs.Step.{tried, step}
+use Rattle.cs_types.specs.Step.{try_steal, step}
 use Rattle.cs_types.specs.Time.{IsTimely}
 use Rattle.cs_types.specs.Accounting.{Interval, share, charges, total_of, interval_by}
 use Rattle.cs_types.specs.declared.reply.Reply.TheVariants.{Picked}
@@ -65,7 +65,7 @@ room_of scenario state =
       started = state.account.started;
     }
 
--- the task has a pid below the next, is at home on one of so many siblings, and its policy keeps its limits
+-- the task has a pid below the next, is at home on one of this number of siblings, and its policy keeps its limits
 pub record IsFit (count next : ℕ) (task : Task) : Type 0 where
   pub pid : 0 < task.spec.pid
   pub below : task.spec.pid < next
@@ -77,7 +77,7 @@ abbrev pub Has : State → Task → Type 0
 Has state task = find (has_pid task.spec.pid) state.tasks.tasks ≡ Some task
 
 -- the times of the state keep their bounds, and its clock is so low that no time overflows, after one more advance too,
--- in a history of so few entries
+-- in a history of fewer than 2^17 entries
 pub record IsOnTime (state : State) : Type 0 where
   pub entries : ℕ
   pub few : entries < 2 ^ 17
@@ -92,7 +92,7 @@ pub record IsPaid (state : State) : Type 0 where
   pub intervals : state.account.intervals < 2 ^ 63
   pub totals : (pid : ℕ) → total_at state.totals pid ≤ 255 * unwrap_or state.account.started state.clock
 
--- there are so many siblings, each task fits them and has a total, no pid with a total is given again, and the references
+-- there is this number of siblings, each task fits them and has a total, no pid with a total is given again, and the references
 -- are those of the tasks, and one more for a cookie that is held beside them
 pub record IsSoundBut (count : ℕ) (state : State) (held : ℕ) : Type 0 where
   pub siblings : length state.siblings.items ≡ count
@@ -168,7 +168,7 @@ numbers_of state =
 abbrev pub charged_with : Option Interval → Numbers → Numbers
 charged_with interval numbers = record numbers { books = booked interval numbers.books }
 
--- the books of a ledger: at most so many entries are made, so no more pids may come
+-- the books of a ledger: at most this number of entries is made, so no more pids may come
 abbrev pub books_at : Scenario → ℕ → Ledger → Books
 books_at scenario most ledger =
     record {
@@ -249,6 +249,6 @@ pub record Makes (scenario : Scenario) (old new : State) (event : Event) (answer
 
 -- the new state and the reply are those of a steal try of the sibling
 pub record TriesToSteal (old new : State) (thief : ℕ) (answer : Reply) : Type 0 where
-  pub reply : (scenario : Scenario) → answer ≡ (tried (room_of scenario old) thief (stolen (room_of scenario old) thief)).reply
-  pub room : (scenario : Scenario) → room_of scenario new ≡ (tried (room_of scenario old) thief (stolen (room_of scenario old) thief)).room
+  pub reply : (scenario : Scenario) → answer ≡ (try_steal (room_of scenario old) thief (stolen (room_of scenario old) thief)).reply
+  pub room : (scenario : Scenario) → room_of scenario new ≡ (try_steal (room_of scenario old) thief (stolen (room_of scenario old) thief)).room
   pub numbers : (scenario : Scenario) → numbers_of new ≡ numbers_after (room_of scenario old) (Turn thief) answer (numbers_of old)

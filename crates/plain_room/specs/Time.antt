@@ -22,7 +22,7 @@ is_run_by siblings task = list_any (λ sibling. is_run sibling.run (Some task.sp
 abbrev pub grown_among : List Sibling → ℕ → Task → Task
 grown_among siblings delta task = if is_run_by siblings task then grown_by delta task.spec.policy task else task
 
--- a sibling has run so much longer
+-- a sibling has run delta ns longer
 abbrev pub aged : ℕ → SiblingState → SiblingState
 aged delta sibling = record sibling { ran = sibling.ran + delta }
 

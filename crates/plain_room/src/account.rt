@@ -17,7 +17,7 @@ use forceidle_account::Totals;
 use std::alloc::Global;
 use task_table::TaskTable;
 
-/// A total of 0 for each task of the table, and room for so many more.
+/// A total of 0 for each task of the table, and capacity for `more` others.
 pub fn totals_of(alloc: Global, tasks: &TaskTable, more: usize) -> Result<Totals, OutOfMemory>
     requires { more < 2 ^ 32 }
     ensures known { IfOk result (λ totals. All (λ task. IsTrue (has_total totals task.spec.pid)) tasks.now.tasks) }

@@ -7,12 +7,12 @@ ghost use Rattle.cs_types.specs.Room.{sibling_of, flagged};
 ghost use Rattle.cs_types.specs.Selection.{is_run};
 ghost use Rattle.cs_types.specs.Queueing.{dequeued, queued_at_home};
 ghost use Rattle.plain_room.specs.State.{room_of, Knows, IsSound, IsOnTime, IsPaid, StaysSound, Becomes, numbers_of, touched, Makes};
-ghost use Rattle.cs_types.specs.Step.{settled};
+ghost use Rattle.cs_types.specs.Step.{child_at_home};
 
 use crate::state::State;
 use crate::task::with_policy;
 use cs_types::{Cpu, Errno, Event, Pid, Policy, Reply, Scenario, Task};
-use fork_inherit::{ForkFault, leads_others};
+use fork_inherit::{ForkFault, has_threads};
 
 impl State {
     /// A pending reschedule is taken. Else the sibling tries to steal, where it is to.
@@ -83,7 +83,7 @@ impl State {
         self.idle(cpu);
         Reply::Slept {
             pid: task.spec.pid,
-            pick: self.pick_anew(cpu),
+            pick: self.pick_and_balance(cpu),
         }
     }
 
@@ -117,7 +117,7 @@ impl State {
         requires cpu { cpu < length self.old.siblings.items }
         requires few { length self.old.siblings.items ≤ 16 }
         requires touches { self.old.task_number + 2 < 2 ^ 64 }
-        requires room { vec_len self.old.ended < vec_capacity self.old.ended }
+        requires spare { vec_len self.old.ended < vec_capacity self.old.ended }
         ensures makes { (scenario : Scenario) → Makes scenario self.old self.new (Event.Exit cpu) result }
         ensures sound { StaysSound self.old self.new }
         ensures ended { vec_capacity self.new.ended ≡ vec_capacity self.old.ended }
@@ -128,7 +128,7 @@ impl State {
         let Some(task) = self.running_on(cpu) else {
             return Reply::Idle;
         };
-        if leads_others(&self.tasks, &task) {
+        if has_threads(&self.tasks, &task) {
             return Reply::HasThreads;
         }
         self.charge();
@@ -136,16 +136,16 @@ impl State {
         self.idle(cpu);
         Reply::Ended {
             pid: task.spec.pid,
-            pick: self.pick_anew(cpu),
+            pick: self.pick_and_balance(cpu),
         }
     }
 
     /// The child is at home where its caller is, or on another sibling where that is offline, and has the
     /// least virtual time of its queue, whatever its class.
-    fn settled(&self, child: Task) -> Task
+    fn child_at_home(&self, child: Task) -> Task
         requires home { child.home < length self.now.siblings.items }
         requires few { length self.now.siblings.items ≤ 16 }
-        ensures settled { (scenario : Scenario) → result ≡ settled (room_of scenario self.now) child }
+        ensures child_at_home { (scenario : Scenario) → result ≡ child_at_home (room_of scenario self.now) child }
         ensures within { result.home < length self.now.siblings.items }
     {
         let home = self.online_home(child.home);
@@ -172,7 +172,7 @@ impl State {
     {
         match self.make_child(limit, caller, thread) {
             Ok(child) => {
-                self.queue_at_home(self.settled(child));
+                self.queue_at_home(self.child_at_home(child));
                 Reply::Child(child.spec.pid)
             }
             Err(ForkFault::NoCaller) => Reply::NoCaller,
@@ -238,7 +238,7 @@ impl State {
         requires serial { self.old.refs.next < 2 ^ 63 }
         requires limit { self.old.tasks.limit ≡ scenario.now.task_limit }
         requires pid { self.old.next_pid + 1 < 2 ^ 32 }
-        requires room { vec_len self.old.ended < vec_capacity self.old.ended }
+        requires spare { vec_len self.old.ended < vec_capacity self.old.ended }
         requires touches { self.old.task_number + 2 * length self.old.tasks.tasks + 2 < 2 ^ 64 }
         requires user_top { IsWithin 8192 9223372036854775807 scenario.now.user_top }
         ensures makes { Makes scenario.now self.old self.new event result }

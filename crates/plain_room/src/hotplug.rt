@@ -21,7 +21,7 @@ const MOST_TASKS: usize = 256;
 type Stamps = ArrayVec<u64, MOST_TASKS>;
 
 /// The sibling is away, and each other online one is pending.
-fn leave(siblings: &mut [Sibling], cpu: Cpu)
+fn set_away(siblings: &mut [Sibling], cpu: Cpu)
     requires few { length siblings.old ≤ 16 }
     ensures states { map sibling_state siblings.new ≡
         map (left cpu) (enumerate_from 0 (map sibling_state siblings.old)) }
@@ -162,7 +162,7 @@ impl State {
         self.charge();
         self.account.close();
         self.move_off(cpu);
-        leave(&mut self.siblings, cpu);
+        set_away(&mut self.siblings, cpu);
         Reply::Done
     }
 

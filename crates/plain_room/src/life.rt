@@ -17,7 +17,7 @@ impl State {
         requires sound { IsSound (length self.old.siblings.items) self.old }
         requires alone { (scenario : Scenario) → has_threads (room_of scenario self.old) task ≡ false }
         requires touches { self.old.task_number + 1 < 2 ^ 64 }
-        requires room { vec_len self.old.ended < vec_capacity self.old.ended }
+        requires spare { vec_len self.old.ended < vec_capacity self.old.ended }
         ensures room { Becomes self.old self.new (λ room. without room task) }
         ensures sound { StaysSound self.old self.new }
         ensures siblings { self.new.siblings ≡ self.old.siblings }

@@ -3,7 +3,7 @@
 ghost use Rattle.std.specs.Prelude.{◌≡◌, ◌+◌, ◌^◌, ◌<◌, ◌≤◌, length, filter, ◌==◌, ◌&&◌, ◌||◌, not, is_some, None, if◌then◌else◌};
 ghost use Rattle.cs_types.specs.declared.scenario.Scenario.{Scenario};
 ghost use Rattle.cs_types.specs.Room.{sibling_of};
-ghost use Rattle.cs_types.specs.Selection.{cookie_of, lead_from, pid_of, choice, forced_count, is_plain, adopted, plain, selected_room, selected, rescheduled, balanced, schedule};
+ghost use Rattle.cs_types.specs.Selection.{cookie_of, lead_from, pid_of, choice, forced_count, is_plain, adopted, plain, selected_room, selected, picked_anew, balanced, schedule};
 ghost use Rattle.cs_types.specs.Drain.{lowest, pending};
 ghost use Rattle.task_table.specs.Table.{IsSound as IsTable};
 ghost use Rattle.plain_room.specs.Drain.{next_by};
@@ -130,13 +130,13 @@ impl State {
     }
 
     /// The sibling runs its first, or selects for the core.
-    fn run_or_select(&mut self, cpu: Cpu) -> Pick
+    fn pick_anew(&mut self, cpu: Cpu) -> Pick
         requires cpu { cpu < length self.old.siblings.items }
         requires few { length self.old.siblings.items ≤ 16 }
         requires sound { IsSound (length self.old.siblings.items) self.old }
         requires time { IsOnTime self.old }
         requires touches { self.old.task_number + 1 < 2 ^ 64 }
-        ensures schedules { Schedules self.old self.new cpu result (λ room. rescheduled room cpu) }
+        ensures schedules { Schedules self.old self.new cpu result (λ room. picked_anew room cpu) }
         ensures sound { StaysSound self.old self.new }
         ensures ended { self.new.ended ≡ self.old.ended }
     {
@@ -148,35 +148,35 @@ impl State {
     }
 
     /// The sibling picks anew, once the open interval is charged.
-    pub fn pick_anew(&mut self, cpu: Cpu) -> Pick
+    pub fn pick_and_balance(&mut self, cpu: Cpu) -> Pick
         requires cpu { cpu < length self.old.siblings.items }
         requires few { length self.old.siblings.items ≤ 16 }
         requires sound { IsSound (length self.old.siblings.items) self.old }
         requires time { IsOnTime self.old }
         requires touches { self.old.task_number + 1 < 2 ^ 64 }
-        ensures schedules { Schedules self.old self.new cpu result (λ room. balanced cpu (rescheduled room cpu)) }
+        ensures schedules { Schedules self.old self.new cpu result (λ room. balanced cpu (picked_anew room cpu)) }
         ensures sound { StaysSound self.old self.new }
         ensures ended { self.new.ended ≡ self.old.ended }
     {
-        let pick = self.run_or_select(cpu);
+        let pick = self.pick_anew(cpu);
         self.balance(cpu);
         pick
     }
 
     /// The sibling schedules, and adopts nothing: the open interval is charged, and it picks anew.
-    fn reschedule(&mut self, cpu: Cpu) -> Pick
+    fn charge_and_pick(&mut self, cpu: Cpu) -> Pick
         requires cpu { cpu < length self.old.siblings.items }
         requires few { length self.old.siblings.items ≤ 16 }
         requires sound { IsSound (length self.old.siblings.items) self.old }
         requires time { IsOnTime self.old }
         requires paid { IsPaid self.old }
         requires touches { self.old.task_number + 1 < 2 ^ 64 }
-        ensures schedules { ChargesAndSchedules self.old self.new cpu result (λ room. balanced cpu (rescheduled room cpu)) }
+        ensures schedules { ChargesAndSchedules self.old self.new cpu result (λ room. balanced cpu (picked_anew room cpu)) }
         ensures sound { StaysSound self.old self.new }
         ensures ended { self.new.ended ≡ self.old.ended }
     {
         self.charge();
-        self.pick_anew(cpu)
+        self.pick_and_balance(cpu)
     }
 
     /// What waits for the sibling and may be adopted: nothing was touched since it was chosen.
@@ -207,7 +207,7 @@ impl State {
     {
         match self.adoptable(cpu) {
             Some(run) => self.adopt(cpu, run),
-            None => self.reschedule(cpu),
+            None => self.charge_and_pick(cpu),
         }
     }
 }

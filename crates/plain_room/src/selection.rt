@@ -100,7 +100,7 @@ impl State {
         requires ordered { from ≤ to }
         requires within { to ≤ length self.now.siblings.items }
         requires few { length self.now.siblings.items ≤ 16 }
-        requires room { array_vec_len firsts.old + (to - from) ≤ 16 }
+        requires spare { array_vec_len firsts.old + (to - from) ≤ 16 }
         ensures pushed { (scenario : Scenario) → firsts.new.items ≡ firsts.old.items
             ++ map (first_on (room_of scenario self.now)) (filter (is_online (room_of scenario self.now)) (range_with_len from (to - from))) }
         ensures length { array_vec_len firsts.new ≤ array_vec_len firsts.old + (to - from) }

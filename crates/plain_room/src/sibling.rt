@@ -78,7 +78,7 @@ impl Sibling {
         }
     }
 
-    /// It has run so much longer, in ns.
+    /// It has run `delta` ns longer.
     pub fn aged(self, delta: u64) -> Sibling
         requires { self.ran + delta < 2 ^ 64 }
         ensures state { sibling_state result ≡ aged delta (sibling_state self) }

@@ -48,8 +48,7 @@ pub struct State {
 impl State {
     ghost use Rattle.plain_room.specs.State.{room_of, IsFit, Has, Knows, IsSound, StaysSound, Becomes, numbers_of, numbers_at, touched, is_fresh_by};
 
-    /// The start of a scenario: all tasks asleep at home, all siblings idle. There is room for so many
-    /// entries.
+    /// The start of a scenario: all tasks asleep at home, all siblings idle. It can take `most` entries.
     pub fn start(
         alloc: Global,
         scenario: &Scenario,

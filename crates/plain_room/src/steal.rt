@@ -7,8 +7,7 @@ ghost use Rattle.cs_types.specs.Room.{sibling_of};
 ghost use Rattle.cs_types.specs.Order.{first_of};
 ghost use Rattle.cs_types.specs.Selection.{first_on, queued_with, is_to_steal};
 ghost use Rattle.cs_types.specs.Steal.{source_of, may_steal, stolen, with_place, with_stolen, next_place};
-ghost use Rattle.cs_types.specs.Step.{Stepped, tried};
-ghost use Rattle.plain_room.specs.Steal.{may_take};
+ghost use Rattle.cs_types.specs.Step.{Stepped, try_steal};
 ghost use Rattle.plain_room.specs.State.{sibling_state, room_of, Has, IsFit, IsSound, IsOnTime, StaysSound, Becomes, numbers_of, touched, TriesToSteal};
 
 use crate::sibling::Sibling;
@@ -72,7 +71,7 @@ impl State {
         requires thief { thief < length self.now.siblings.items }
         requires source { source < length self.now.siblings.items }
         ensures { (scenario : Scenario) → let room = room_of scenario self.now in
-            result ≡ first_of (filter (may_steal room thief source) (queued_with room room.core_cookie source)) }
+            result ≡ first_of (filter (may_steal (sibling_of room thief) (sibling_of room source)) (queued_with room room.core_cookie source)) }
     {
         let idle = &self.siblings[thief as usize];
         let sibling = &self.siblings[source as usize];
@@ -82,7 +81,7 @@ impl State {
             .filter(|task| task.queued
                 && task.home == source
                 && task.cookie == self.core_cookie
-                && may_take(idle, sibling, task))
+                && may_steal(idle, sibling, task))
             .reduce(|first, task| if goes_before(&task, &first) {
                 task
             } else {
@@ -187,8 +186,8 @@ impl State {
 
 /// Whether the thief may take the task from the source: that neither is to run it nor runs it, and it was
 /// chosen beside no more tasks than the thief's idle.
-fn may_take(thief: &Sibling, source: &Sibling, task: &Task) -> bool
-    ensures { result ≡ may_take (sibling_state thief.now) (sibling_state source.now) task.now }
+fn may_steal(thief: &Sibling, source: &Sibling, task: &Task) -> bool
+    ensures { result ≡ may_steal (sibling_state thief.now) (sibling_state source.now) task.now }
 {
     !source.awaits(task.spec.pid)
         && !source.runs(task.spec.pid)

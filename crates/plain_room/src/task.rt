@@ -77,7 +77,7 @@ pub fn goes_before(task: &Task, other: &Task) -> bool
     is_higher(task, other) || (!is_higher(other, task) && task.stamp < other.stamp)
 }
 
-/// What a machine shows of the task, which was charged so much for forced idle, in ns.
+/// What a machine shows of the task, which was charged this for forced idle, in ns.
 pub fn view(task: &Task, forced: u64) -> TaskView
     ensures { (ledger : Ledger) → forced ≡ forced_of ledger task.now.spec.pid → result ≡ task_view ledger task.now }
 {

@@ -7,6 +7,7 @@ ghost use Rattle.cs_types.specs.declared.scenario.Scenario.{Scenario};
 ghost use Rattle.cs_types.specs.declared.event.Event.TheVariants.{Tick, Advance};
 ghost use Rattle.cs_types.specs.Scenario.{IsPolicy, IsWithin};
 ghost use Rattle.cs_types.specs.Order.{is_fair};
+ghost use Rattle.cs_types.specs.Time as time;
 ghost use Rattle.cs_types.specs.Time.{grown_by, with_growth, with_leasts, has_used_slice, is_peer, rotates, is_overtaken, is_to_yield, asks_at_tick, sliced};
 ghost use Rattle.task_table.specs.Table.{Rises};
 ghost use Rattle.plain_room.specs.State.{sibling_state, room_of, Has, IsSound, IsOnTime, IsPaid, StaysSound, Becomes, numbers_of, Makes};
@@ -26,7 +27,7 @@ const SLICE: u64 = 100_000_000;
 /// How long a fair task that is alone may run while a sibling is forced idle, in ns.
 const PATIENCE: u64 = 6_000_000;
 
-/// A running task as it is so many ns later.
+/// A running task as it is `delta` ns later.
 fn grown(task: Task, delta: u64) -> Task
     requires policy { IsPolicy task.spec.policy }
     requires used { task.used + delta < 2 ^ 64 }
@@ -53,7 +54,7 @@ fn is_run_by(siblings: &[Sibling], task: &Task) -> bool
     siblings.iter().any(|sibling| sibling.runs(task.spec.pid))
 }
 
-/// The task as it is so many ns later: it grows where one of the siblings runs it.
+/// The task as it is `delta` ns later: it grows where one of the siblings runs it.
 fn grown_among(siblings: &[Sibling], task: Task, delta: u64) -> Task
     requires policy { IsPolicy task.spec.policy }
     requires used { task.used + delta < 2 ^ 64 }
@@ -67,7 +68,7 @@ fn grown_among(siblings: &[Sibling], task: Task, delta: u64) -> Task
     }
 }
 
-/// The siblings have run so many ns longer.
+/// The siblings have run `delta` ns longer.
 fn age(siblings: &mut [Sibling], delta: u64)
     requires { All (λ sibling. sibling.ran + delta < 2 ^ 64) siblings.old }
     ensures states { map sibling_state siblings.new ≡ map (aged delta) (map sibling_state siblings.old) }
@@ -141,7 +142,7 @@ fn is_other_on(task: &Task, other: &Task, cpu: Cpu) -> bool
 }
 
 impl State {
-    /// The running tasks are so many ns later.
+    /// The running tasks grow by `delta` ns.
     fn grow_tasks(&mut self, delta: u64)
         requires sound { IsSound (length self.old.siblings.items) self.old }
         requires time { IsOnTime self.old }
@@ -159,7 +160,7 @@ impl State {
         }
     }
 
-    /// The clock goes on by so many ns.
+    /// The clock goes on by `delta` ns.
     pub fn advance(&mut self, delta: u64) -> Reply
         requires sound { IsSound (length self.old.siblings.items) self.old }
         requires few { length self.old.siblings.items ≤ 16 }
@@ -226,20 +227,20 @@ impl State {
 
     /// Whether the tick asks for a reschedule, where the test says whether the running task goes behind the
     /// others of its priority.
-    fn asks_at_tick(&self, cpu: Cpu, task: &Task, goes_behind: bool) -> bool
+    fn asks_at_tick(&self, cpu: Cpu, task: &Task, rotates: bool) -> bool
         requires cpu { cpu < length self.now.siblings.items }
-        requires goes_behind { (scenario : Scenario) → goes_behind ≡ rotates (room_of scenario self.now) cpu task.now }
+        requires rotates { (scenario : Scenario) → rotates ≡ time.rotates (room_of scenario self.now) cpu task.now }
         ensures { (scenario : Scenario) → result ≡ asks_at_tick (room_of scenario self.now) cpu task.now }
     {
-        goes_behind || self.is_asked(cpu, task)
+        rotates || self.is_asked(cpu, task)
     }
 
     /// An RR task that has used its slice begins a new one, with the next stamp where it goes behind the
     /// others of its priority.
-    fn begin_slice(&mut self, cpu: Cpu, task: Task, goes_behind: bool)
+    fn begin_slice(&mut self, cpu: Cpu, task: Task, rotates: bool)
         requires there { Has self.old task }
         requires rising { Rises self.old.tasks.tasks }
-        requires goes_behind { (scenario : Scenario) → goes_behind ≡ rotates (room_of scenario self.old) cpu task }
+        requires rotates { (scenario : Scenario) → rotates ≡ time.rotates (room_of scenario self.old) cpu task }
         requires stamp { self.old.next_stamp + 1 < 2 ^ 64 }
         ensures room { Becomes self.old self.new (λ room. sliced room cpu task) }
         ensures sound { StaysSound self.old self.new }
@@ -247,7 +248,7 @@ impl State {
         ensures numbers { numbers_of self.new ≡ numbers_of self.old }
         ensures ended { self.new.ended ≡ self.old.ended }
     {
-        if goes_behind {
+        if rotates {
             let stamp = self.next_stamp;
             self.change(Task {
                 used: 0,
@@ -277,9 +278,9 @@ impl State {
         let Some(task) = self.running_on(cpu) else {
             return Reply::Ticked(false);
         };
-        let goes_behind = self.rotates(cpu, &task);
-        let asks = self.asks_at_tick(cpu, &task, goes_behind);
-        self.begin_slice(cpu, task, goes_behind);
+        let rotates = self.rotates(cpu, &task);
+        let asks = self.asks_at_tick(cpu, &task, rotates);
+        self.begin_slice(cpu, task, rotates);
         self.flag(cpu, asks);
         Reply::Ticked(asks)
     }

@@ -106,7 +106,7 @@ fn share(
     give(refs, task.cookie, to)
 }
 
-/// What a call of `prctl(PR_SCHED_CORE, ..)` by the task with the pid comes to, where so many siblings
+/// What a call of `prctl(PR_SCHED_CORE, ..)` by the task with the pid comes to, where `online` siblings
 /// are online and the caller's address space has `user_top` bytes, 8192 to 9223372036854775807.
 ///
 /// `Answer` carries `NoCaller`, or the error of the first row of the table that applies. `Go` says

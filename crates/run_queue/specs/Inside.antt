@@ -24,7 +24,7 @@ seated_of queue =
       spare = queue.limit - count queue;
     }
 
--- whether a class has room for so many tasks in all
+-- whether a class can take this number of tasks in all
 abbrev pub Holds : ℕ → Ranked → Type 0
 Holds limit queue = limit ≤ len queue.members + queue.spare
 

@@ -77,7 +77,7 @@ impl RunQueue {
 
     /// Puts a task at a seat where none is.
     pub fn enqueue<L: Ledger>(&mut self, task: Queued, steps: &mut Steps<L>)
-        requires room { 0 < self.old.spare }
+        requires spare { 0 < self.old.spare }
         requires class { task.class ≤ Queued.FAIR }
         requires free { map.get self.old.tasks (seat_of task) ≡ None }
         ensures tasks { self.new.tasks ≡ map.insert self.old.tasks (seat_of task) task.pid }

@@ -30,7 +30,7 @@ pub record IsPlayed (scenario : Scenario) : Type 0 where
       IfSome (selection_of entry.reply) (λ pick.
       SelectsForTheCore (scheduling_room (fold_of scenario past) entry.event) (cpu_of entry.event) pick (fold_of scenario (past ++ entry ∷ [])))
   -- at its end no sibling is pending, and no two running tasks differ in cookie
-  pub settled : pending (fold_of scenario (run_of scenario)) ≡ []
+  pub nobody_pending : pending (fold_of scenario (run_of scenario)) ≡ []
   pub one_cookie : RunOneCookie (fold_of scenario (run_of scenario))
 
 -- the input is the text of a scenario that can be played, and was read to its end

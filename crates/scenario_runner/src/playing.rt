@@ -10,7 +10,7 @@ use cs_types::{Room, Step};
 /// Makes the steps, in their order, in a room that has made none.
 pub fn play<R: Room>(room: &mut R, steps: &[Step])
     requires empty { R.history room.old ≡ [] }
-    requires room { length steps.now ≤ R.free room.old }
+    requires spare { length steps.now ≤ R.free room.old }
     requires events { All (λ step. IsEvent (R.scenario room.old).siblings step.event) steps.now }
 
     ensures history { R.history room.new ≡ history_of (R.scenario room.old) steps.now }

@@ -8,8 +8,8 @@ use Rattle.cs_types.specs.declared.task.TaskSpec.{TaskSpec}
 use Rattle.cs_types.specs.declared.event.Step.{Step}
 use Rattle.cs_types.specs.Scenario.{IsTask, IsStep, AreDistinct, AreLed}
 use Rattle.scenario_text.specs.declared.head.Head.{Head}
-use Rattle.scenario_text.specs.declared.line.Line.{Line}
-use Rattle.scenario_text.specs.declared.line.Line.TheVariants as forms
+use Rattle.scenario_text.specs.declared.line.ScenarioLine.{ScenarioLine}
+use Rattle.scenario_text.specs.declared.line.ScenarioLine.TheVariants as forms
 use Rattle.scenario_text.specs.Words.{Word, task_words}
 use Rattle.scenario_text.specs.Text.{step_words, end_words}
 use Rattle.scenario_text.specs.Reading.{Read, Contents, is_fresh, is_led, task_check, step_check, line_check, follower_of, with_task, with_step, end_of, plan_of}
@@ -70,7 +70,7 @@ unfolding step_check
 step_check_again plan few = rw (lt-ltb (length plan.steps) 100000 few) refl
 
 -- a line that is spelled by these words, and may follow
-record Following (head : Head) (plan : Contents) (words : List Word) (line : Line) : Type 0 where
+record Following (head : Head) (plan : Contents) (words : List Word) (line : ScenarioLine) : Type 0 where
   words_are : words ≡ line_words line
   is : IsLine head.siblings (has_step plan) line
   checked : line_check head.task_limit line plan ≡ Ok tt
@@ -82,7 +82,7 @@ each_follower head plan words =
     each_bind _ _ (λ unit. line_check head.task_limit line plan ≡ Ok tt) _ (record { all = λ unit e. e }) (λ unit checked.
     each_ok _ _ (record { words_are = is.0; is = is.1; checked = checked })))
 
-follower_again : (head : Head) (plan : Contents) (line : Line) → head.siblings < 256 → IsLine head.siblings (has_step plan) line → line_check head.task_limit line plan ≡ Ok tt → follower_of head plan (line_words line) ≡ Ok line
+follower_again : (head : Head) (plan : Contents) (line : ScenarioLine) → head.siblings < 256 → IsLine head.siblings (has_step plan) line → line_check head.task_limit line plan ≡ Ok tt → follower_of head plan (line_words line) ≡ Ok line
 unfolding follower_of
 follower_again head plan line small is checked = rw (line_again head.siblings (has_step plan) line small is, checked) refl
 
@@ -148,12 +148,12 @@ each_end (((byte ∷ word) ∷ words) ∷ lines) = each_refused _
 
 module _ (head : Head) (words : List Word) (lines : List (List Word)) (plan : Contents) (is : IsPlan head.siblings head.task_limit plan) (rest : (more : Contents) → IsPlan head.siblings head.task_limit more → Each (plan_of head more lines) (Completes head.siblings head.task_limit more lines)) where
   -- the lines after a line complete what it makes of the plan
-  grown : (line : Line) (more : Contents) → Following head plan words line → Grows head.siblings head.task_limit plan (line_words line) more → Each (plan_of head more lines) (Completes head.siblings head.task_limit plan (words ∷ lines))
+  grown : (line : ScenarioLine) (more : Contents) → Following head plan words line → Grows head.siblings head.task_limit plan (line_words line) more → Each (plan_of head more lines) (Completes head.siblings head.task_limit plan (words ∷ lines))
   grown line more follows grows =
       let here = subst (λ (ws : List Word). Grows head.siblings head.task_limit plan ws more) (sym follows.words_are) grows in
       record { all = λ done e. completes_more head.siblings head.task_limit plan more done words lines here ((rest more grows.is).all done e) }
 
-  by_line : (line : Line) → Following head plan words line → Each (goes_on head plan lines line) (Completes head.siblings head.task_limit plan (words ∷ lines))
+  by_line : (line : ScenarioLine) → Following head plan words line → Each (goes_on head plan lines line) (Completes head.siblings head.task_limit plan (words ∷ lines))
   by_line (forms.Task task) follows =
       grown (forms.Task task) (with_task task plan) follows (task_grows head.siblings head.task_limit plan task is follows.is.0 follows.is.1 follows.checked)
   by_line (forms.Step step) follows =
@@ -189,7 +189,7 @@ has_first [] y ys = (y, ys, refl)
 has_first (x ∷ xs) y ys = (x, xs ++ y ∷ ys, refl)
 
 -- a line that further lines follow is taken
-line_goes_on : (head : Head) (plan : Contents) (line : Line) (next : List Word) (lines : List (List Word)) → head.siblings < 256 → IsLine head.siblings (has_step plan) line → line_check head.task_limit line plan ≡ Ok tt →
+line_goes_on : (head : Head) (plan : Contents) (line : ScenarioLine) (next : List Word) (lines : List (List Word)) → head.siblings < 256 → IsLine head.siblings (has_step plan) line → line_check head.task_limit line plan ≡ Ok tt →
     plan_of head plan (line_words line ∷ next ∷ lines) ≡ goes_on head plan (next ∷ lines) line
 unfolding plan_of
 line_goes_on head plan line next lines small is checked =
@@ -203,7 +203,7 @@ module _ (head : Head) (all : Contents) (small : head.siblings < 256) (is : IsPl
   abbrev ends : List (List Word) → List (List Word)
   ends lines = lines ++ end_lines
 
-  taken : (plan : Contents) (line : Line) (lines : List (List Word)) → IsLine head.siblings (has_step plan) line → line_check head.task_limit line plan ≡ Ok tt → plan_of head plan (line_words line ∷ ends lines) ≡ goes_on head plan (ends lines) line
+  taken : (plan : Contents) (line : ScenarioLine) (lines : List (List Word)) → IsLine head.siblings (has_step plan) line → line_check head.task_limit line plan ≡ Ok tt → plan_of head plan (line_words line ∷ ends lines) ≡ goes_on head plan (ends lines) line
   taken plan line lines fits checked =
       let some = has_first lines end_words (([] ∷ []) ∷ []) in
       ap (λ (ls : List (List Word)). plan_of head plan (line_words line ∷ ls)) some.2

@@ -10,8 +10,8 @@ use Rattle.cs_types.specs.declared.event.Event.TheVariants.{Turn, Resched, Block
 use Rattle.cs_types.specs.declared.event.Step.{Step}
 use Rattle.cs_types.specs.declared.task.TaskSpec.{TaskSpec}
 use Rattle.cs_types.specs.Scenario.{IsTask, IsStep}
-use Rattle.scenario_text.specs.declared.line.Line.{Line}
-use Rattle.scenario_text.specs.declared.line.Line.TheVariants as forms
+use Rattle.scenario_text.specs.declared.line.ScenarioLine.{ScenarioLine}
+use Rattle.scenario_text.specs.declared.line.ScenarioLine.TheVariants as forms
 use Rattle.scenario_text.specs.Words.{Word, task_words, actor_word, event_words, made_words}
 use Rattle.scenario_text.specs.Text.{step_words, end_words}
 use Rattle.scenario_text.specs.Reading.{◌>>=◌, Read, Parts, parts, reading_named, step_of, task_line, step_line, end_line, line_forms, line_of, few}
@@ -21,19 +21,19 @@ use Rattle.scenario_text.proofs.Tasks.{task_rest, each_task, task_again}
 use Rattle.scenario_text.proofs.Steps.{by, each_step, step_again}
 
 -- the words of a line
-abbrev pub line_words : Line → List Word
+abbrev pub line_words : ScenarioLine → List Word
 line_words (forms.Task task) = task_words task
 line_words (forms.Step step) = step_words step
 line_words forms.End = end_words
 
 -- a line that may stand after a step or after none, in a core of so many siblings
-abbrev pub IsLine : ℕ → Bool → Line → Type 0
+abbrev pub IsLine : ℕ → Bool → ScenarioLine → Type 0
 IsLine siblings is_after_step (forms.Task task) = IsTask siblings task × (is_after_step ≡ false)
 IsLine siblings is_after_step (forms.Step step) = IsStep siblings step
 IsLine siblings is_after_step forms.End = Unit {0}
 
 -- a line that is spelled by these words
-abbrev ReadsLine : ℕ → Bool → List Word → Line → Type 0
+abbrev ReadsLine : ℕ → Bool → List Word → ScenarioLine → Type 0
 ReadsLine siblings is_after_step words line = (words ≡ line_words line) × IsLine siblings is_after_step line
 
 -- each of the three lines, by the words after its first
@@ -80,7 +80,7 @@ task_line_again : (siblings : ℕ) (task : TaskSpec) → siblings < 256 → IsTa
 unfolding task_line
 task_line_again siblings task small is = rw (task_again siblings task small is) refl
 
-pub line_again : (siblings : ℕ) (is_after_step : Bool) (line : Line) → siblings < 256 → IsLine siblings is_after_step line → line_of siblings is_after_step (parts (line_words line)) ≡ Ok line
+pub line_again : (siblings : ℕ) (is_after_step : Bool) (line : ScenarioLine) → siblings < 256 → IsLine siblings is_after_step line → line_of siblings is_after_step (parts (line_words line)) ≡ Ok line
 unfolding line_of reading_named end_line
 line_again siblings is_after_step (forms.Task task) small is =
     rw is.1
@@ -111,7 +111,7 @@ few_step End (Resched cpu) = refl
 few_step End event = few_event (actor_word End) event
 
 -- no line has too many words
-pub few_words : (line : Line) → few (line_words line) ≡ Ok (line_words line)
+pub few_words : (line : ScenarioLine) → few (line_words line) ≡ Ok (line_words line)
 few_words (forms.Task task) = refl
 few_words (forms.Step step) = few_step step.actor step.event
 few_words forms.End = refl

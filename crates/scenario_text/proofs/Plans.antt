@@ -4,7 +4,7 @@ use Rattle.scenario_text.specs.declared.fault.BadKind.TheVariants.{Unbuilt}
 use Rattle.scenario_text.specs.declared.fault.ReadFault.TheVariants.{Bad}
 use Rattle.scenario_text.specs.declared.fault.Refused.{Refused}
 use Rattle.scenario_text.specs.declared.head.Head.{Head}
-use Rattle.scenario_text.specs.declared.line.Line.{Line}
+use Rattle.scenario_text.specs.declared.line.ScenarioLine.{ScenarioLine}
 use Rattle.scenario_text.specs.Words.{Word}
 use Rattle.scenario_text.specs.Reading.{◌>>=◌, Read, refused, Fails, Contents, before, line_at, end_of, match_line, follower_of, next_of, with_task, with_step, plan_of}
 use Rattle.scenario_text.proofs.Readings.{Each, each_ok, each_refused, each_any, each_bind, each_when}
@@ -20,7 +20,7 @@ each_line_at (words ∷ lines) =
     each_bind _ _ _ _ (each_before lines words) (λ ws same. each_ok _ _ (ap (λ (w : List Word). w ∷ lines) (sym same)))
 
 -- what is done with a line after a plan
-abbrev pub goes_on : Head → Contents → List (List Word) → Line → Read Contents
+abbrev pub goes_on : Head → Contents → List (List Word) → ScenarioLine → Read Contents
 goes_on head plan lines line =
     match_line line
     (λ task. plan_of head (with_task task plan) lines)
@@ -36,7 +36,7 @@ pub plan_of-next : (head : Head) (plan : Contents) (lines : List (List Word)) �
 unfolding plan_of next_of
 plan_of-next head plan [] = refl
 plan_of-next head plan (words ∷ lines) = taken (before lines words) where
-  after : (read : Read Line) → (read >>= goes_on head plan lines) ≡ (read >>= with_rest lines >>= λ x. goes_on head plan x.1 x.0)
+  after : (read : Read ScenarioLine) → (read >>= goes_on head plan lines) ≡ (read >>= with_rest lines >>= λ x. goes_on head plan x.1 x.0)
   after (Ok line) = refl
   after (Err refusal) = refl
 
@@ -48,12 +48,12 @@ plan_of-next head plan (words ∷ lines) = taken (before lines words) where
 
 module _ (head : Head) (plan : Contents) (lines : List (List Word)) where
   -- the next line is taken
-  pub plan_of-taken : (line : Line) (rest : List (List Word)) → next_of head plan lines ≡ Ok (line, rest) → plan_of head plan lines ≡ goes_on head plan rest line
-  plan_of-taken line rest e = plan_of-next head plan lines ∙ ap (λ (read : Read (Line × List (List Word))). read >>= λ x. goes_on head plan x.1 x.0) e
+  pub plan_of-taken : (line : ScenarioLine) (rest : List (List Word)) → next_of head plan lines ≡ Ok (line, rest) → plan_of head plan lines ≡ goes_on head plan rest line
+  plan_of-taken line rest e = plan_of-next head plan lines ∙ ap (λ (read : Read (ScenarioLine × List (List Word))). read >>= λ x. goes_on head plan x.1 x.0) e
 
   -- the next line is refused
   pub plan_of-refused : (refusal : Refused) → next_of head plan lines ≡ Err refusal → plan_of head plan lines ≡ refused
-  plan_of-refused refusal e = plan_of-next head plan lines ∙ ap (λ (read : Read (Line × List (List Word))). read >>= λ x. goes_on head plan x.1 x.0) e
+  plan_of-refused refusal e = plan_of-next head plan lines ∙ ap (λ (read : Read (ScenarioLine × List (List Word))). read >>= λ x. goes_on head plan x.1 x.0) e
 
   -- lines are left after it, fewer than before
   pub each_next : Each (next_of head plan lines) (λ x. length x.1 < length lines)

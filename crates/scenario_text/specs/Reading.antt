@@ -18,8 +18,8 @@ use Rattle.cs_types.specs.declared.event.Event.TheVariants.{Turn, Resched, Block
 use Rattle.cs_types.specs.declared.event.Step.{Step}
 use Rattle.cs_types.specs.declared.scenario.Scenario.{Scenario}
 use Rattle.scenario_text.specs.declared.head.Head.{Head}
-use Rattle.scenario_text.specs.declared.line.Line.{Line}
-use Rattle.scenario_text.specs.declared.line.Line.TheVariants as forms
+use Rattle.scenario_text.specs.declared.line.ScenarioLine.{ScenarioLine}
+use Rattle.scenario_text.specs.declared.line.ScenarioLine.TheVariants as forms
 use Rattle.scenario_text.specs.declared.plan.Plan.{Plan}
 use Rattle.scenario_text.specs.declared.fault.BadKind.TheVariants.{Unbuilt}
 use Rattle.scenario_text.specs.declared.fault.Refused.{Refused}
@@ -86,7 +86,7 @@ parts words = record { count = length words; at = λ k. slice_index_or words k [
 abbrev pub lent : List (Bor Word) → Parts
 lent words = record { count = length words; at = λ k. (slice_index_or words k (record { ref_ptr = (0, 0); now = [] })).now }
 
--- the words after the first so many
+-- the words after the first n
 abbrev pub after : ℕ → Parts → Parts
 after n words = record { count = words.count - n; at = λ k. words.at (n + k) }
 
@@ -274,7 +274,7 @@ hotplug_of event siblings cpu = do
   cpu ← cpu_of siblings cpu
   Ok (event cpu)
 
--- what a caller does, in a core of so many siblings
+-- what a caller does, in a core with this number of siblings
 unfoldable pub caller_event_of : ℕ → Parts → Read Event
 caller_event_of siblings words =
     if words.count == 2
@@ -356,7 +356,7 @@ siblings_of words =
     then reading_named ((codes "siblings", number_of 1 8 (words.at 1)) ∷ []) (words.at 0)
     else refused
 
--- TASKS COOKIES TOP, in a core of so many siblings
+-- TASKS COOKIES TOP, in a core with this number of siblings
 unfoldable pub limits_of : ℕ → Word → Word → Word → Read Head
 limits_of siblings tasks cookies top = do
   tasks ← number_of 1 256 tasks
@@ -384,29 +384,29 @@ head_at lines = do
 -- ---- the lines after the head
 
 -- a task line after a step line is refused
-unfoldable pub task_line : ℕ → Bool → Parts → Read Line
+unfoldable pub task_line : ℕ → Bool → Parts → Read ScenarioLine
 task_line siblings is_after_step words =
     if is_after_step then refused else (task_of siblings words >>= λ task. Ok (forms.Task task))
 
-unfoldable pub step_line : ℕ → Parts → Read Line
+unfoldable pub step_line : ℕ → Parts → Read ScenarioLine
 step_line siblings words =
     if nat_le 1 words.count
     then (step_of siblings (words.at 0) (after 1 words) >>= λ step. Ok (forms.Step step))
     else refused
 
-unfoldable pub end_line : Parts → Read Line
+unfoldable pub end_line : Parts → Read ScenarioLine
 end_line words = if words.count == 0 then Ok forms.End else refused
 
 -- what the words after the first say, by what the first names
-abbrev pub line_forms : ℕ → Bool → Parts → List (Word × Read Line)
+abbrev pub line_forms : ℕ → Bool → Parts → List (Word × Read ScenarioLine)
 line_forms siblings is_after_step words =
     (codes "task", task_line siblings is_after_step words)
     ∷ (codes "step", step_line siblings words)
     ∷ (codes "end", end_line words)
     ∷ []
 
--- a line after the head, in a core of so many siblings
-unfoldable pub line_of : ℕ → Bool → Parts → Read Line
+-- a line after the head, in a core with this number of siblings
+unfoldable pub line_of : ℕ → Bool → Parts → Read ScenarioLine
 line_of siblings is_after_step words =
     if nat_le 1 words.count
     then reading_named (line_forms siblings is_after_step (after 1 words)) (words.at 0)
@@ -443,20 +443,20 @@ unfoldable pub step_check : Contents → Read (Unit {0})
 step_check plan = check (nat_lt (length plan.steps) 100000)
 
 -- the line may follow
-abbrev pub line_check : ℕ → Line → Contents → Read (Unit {0})
+abbrev pub line_check : ℕ → ScenarioLine → Contents → Read (Unit {0})
 line_check limit (forms.Task task) plan = task_check limit task plan
 line_check limit (forms.Step step) plan = step_check plan
 line_check limit forms.End plan = Ok tt
 
 -- the line that the words spell, which may follow those of the plan
-unfoldable pub follower_of : Head → Contents → List Word → Read Line
+unfoldable pub follower_of : Head → Contents → List Word → Read ScenarioLine
 follower_of head plan words = do
   line ← line_of head.siblings (not (length plan.steps == 0)) (parts words)
   follows ← line_check head.task_limit line plan
   Ok line
 
 -- the next line, which may follow those of the plan
-unfoldable pub next_of : Head → Contents → List (List Word) → Read (Line × List (List Word))
+unfoldable pub next_of : Head → Contents → List (List Word) → Read (ScenarioLine × List (List Word))
 next_of head plan lines = do
   taken ← line_at lines
   line ← follower_of head plan taken.0
@@ -469,7 +469,7 @@ abbrev pub with_step : Step → Contents → Contents
 with_step step plan = record { tasks = plan.tasks; steps = plan.steps ++ step ∷ [] }
 
 -- one answer for each form of a line
-abbrev pub match_line : {A : Type 0} → Line → (TaskSpec → A) → (Step → A) → A → A
+abbrev pub match_line : {A : Type 0} → ScenarioLine → (TaskSpec → A) → (Step → A) → A → A
 match_line (forms.Task task) f g x = f task
 match_line (forms.Step step) f g x = g step
 match_line forms.End f g x = x

@@ -10,7 +10,7 @@ use crate::number::parse_number;
 use crate::words::is_word;
 
 /// The greatest number of SMT siblings of a core. The least is 1.
-const MOST_SIBLINGS: u64 = 8;
+const MOST_SIBLINGS_IN_TEXT: u64 = 8;
 
 /// The greatest limit of tasks or cookies that live at once. The least is 1.
 const MOST_LIMIT: u64 = 256;
@@ -48,13 +48,13 @@ fn parse_siblings(words: &[&[u8]]) -> Result<u8, Refused>
 {
     match *words {
         [name, count] if is_word(name, "siblings") => {
-            Ok(parse_number(count, 1, MOST_SIBLINGS)? as u8)
+            Ok(parse_number(count, 1, MOST_SIBLINGS_IN_TEXT)? as u8)
         }
         _ => Err(Refused),
     }
 }
 
-/// `limits` and the limits, in a core of so many siblings.
+/// `limits` and the limits, in a core with this number of siblings.
 #[tactic(auto, unfolding(crate::specs::Reading::reading_named, crate::specs::Reading::head_of, crate::specs::Reading::limits_of))]
 fn parse_limits(words: &[&[u8]], siblings: u8) -> Result<Head, Refused>
     ensures { result ≡ head_of siblings (lent words.now) }

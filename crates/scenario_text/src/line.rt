@@ -12,7 +12,7 @@ use cs_types::{Step, TaskSpec};
 
 /// What a line after the head says.
 #[derive(Drop)]
-pub(crate) enum Line {
+pub(crate) enum ScenarioLine {
     Task(TaskSpec),
     Step(Step),
     End,
@@ -20,44 +20,48 @@ pub(crate) enum Line {
 
 /// A task, by the words after `task`. After a step line none may stand.
 #[tactic(auto, unfolding(crate::specs::Reading::task_line))]
-fn parse_task_line(words: &[&[u8]], siblings: u8, is_after_step: bool) -> Result<Line, Refused>
+fn parse_task_line(
+    words: &[&[u8]],
+    siblings: u8,
+    is_after_step: bool,
+) -> Result<ScenarioLine, Refused>
     ensures { result ≡ task_line siblings is_after_step (lent words.now) }
 {
     if is_after_step {
         return Err(Refused);
     }
-    Ok(Line::Task(parse_task(words, siblings)?))
+    Ok(ScenarioLine::Task(parse_task(words, siblings)?))
 }
 
 /// A step, by the words after `step`.
 #[tactic(auto, unfolding(crate::specs::Reading::step_line))]
-fn parse_step_line(words: &[&[u8]], siblings: u8) -> Result<Line, Refused>
+fn parse_step_line(words: &[&[u8]], siblings: u8) -> Result<ScenarioLine, Refused>
     ensures { result ≡ step_line siblings (lent words.now) }
 {
     let [actor, ref event @ ..] = *words else {
         return Err(Refused);
     };
-    Ok(Line::Step(parse_step(actor, event, siblings)?))
+    Ok(ScenarioLine::Step(parse_step(actor, event, siblings)?))
 }
 
 /// The end, after which no word stands.
 #[tactic(auto, unfolding(crate::specs::Reading::end_line))]
-fn parse_end_line(words: &[&[u8]]) -> Result<Line, Refused>
+fn parse_end_line(words: &[&[u8]]) -> Result<ScenarioLine, Refused>
     ensures { result ≡ end_line (lent words.now) }
 {
     if !words.is_empty() {
         return Err(Refused);
     }
-    Ok(Line::End)
+    Ok(ScenarioLine::End)
 }
 
-/// The line that the words spell, in a core of so many siblings.
+/// The line that the words spell, in a core with this number of siblings.
 #[tactic(auto, unfolding(crate::specs::Reading::reading_named, crate::specs::Reading::line_of))]
 pub(crate) fn parse_line(
     words: &[&[u8]],
     siblings: u8,
     is_after_step: bool,
-) -> Result<Line, Refused>
+) -> Result<ScenarioLine, Refused>
     ensures { result ≡ line_of siblings is_after_step (lent words.now) }
 {
     let [name, ref rest @ ..] = *words else {

@@ -5,7 +5,7 @@ ghost use Rattle.std.specs.Prelude.{◌≡◌, []};
 ghost use Rattle.scenario_text.specs.Reading.{is_fresh, is_led};
 
 use crate::fault::Refused;
-use crate::line::Line;
+use crate::line::ScenarioLine;
 use cs_types::{Step, TaskSpec};
 use std::alloc::Global;
 
@@ -81,14 +81,14 @@ impl Plan {
         Ok(())
     }
 
-    /// Whether the line may follow, where so many tasks may live at once.
-    pub fn check(&self, line: &Line, limit: u16) -> Result<(), Refused>
+    /// Whether the line may follow, where `limit` tasks may live at once.
+    pub fn check(&self, line: &ScenarioLine, limit: u16) -> Result<(), Refused>
         ensures { result ≡ line_check limit line.now (contents self.now) }
     {
         match line {
-            Line::Task(task) => self.check_task(task, limit),
-            Line::Step(_) => self.check_step(),
-            Line::End => Ok(()),
+            ScenarioLine::Task(task) => self.check_task(task, limit),
+            ScenarioLine::Step(_) => self.check_step(),
+            ScenarioLine::End => Ok(()),
         }
     }
 }

@@ -7,7 +7,7 @@ ghost use Rattle.scenario_text.specs.Reader.{IsTextOf, HasNoScenario, HasOneScen
 
 use crate::fault::{BadKind, ReadFault, Refused};
 use crate::head::{Head, next_head};
-use crate::line::{Line, parse_line};
+use crate::line::{ScenarioLine, parse_line};
 use crate::lines::Lines;
 use crate::plan::Plan;
 use cs_types::{List, Scenario};
@@ -15,7 +15,7 @@ use std::alloc::Global;
 
 /// The next line, which may follow those of the plan.
 #[tactic(auto, using(crate::proofs::Cuts::lent_is), unfolding(crate::specs::Reading::next_of, crate::specs::Reading::follower_of))]
-fn next_line(lines: &mut Lines<'_>, head: Head, plan: &Plan) -> Result<Line, Refused>
+fn next_line(lines: &mut Lines<'_>, head: Head, plan: &Plan) -> Result<ScenarioLine, Refused>
     ensures { Takes (λ line. line) result lines.new (next_of head (contents plan.now) lines.old) }
 {
     let words = lines.next_line()?;
@@ -31,9 +31,9 @@ fn read_plan(alloc: Global, lines: &mut Lines<'_>, head: Head) -> Result<Plan, R
     let mut plan = Plan::new(alloc);
     loop {
         match next_line(lines, head, &plan)? {
-            Line::Task(task) => plan.tasks.push(task)?,
-            Line::Step(step) => plan.steps.push(step)?,
-            Line::End => break,
+            ScenarioLine::Task(task) => plan.tasks.push(task)?,
+            ScenarioLine::Step(step) => plan.steps.push(step)?,
+            ScenarioLine::End => break,
         }
     }
     lines.end()?;

@@ -103,7 +103,7 @@ fn parse_setsched(pid: &[u8], policy: &[u8]) -> Result<Event, Refused>
     })
 }
 
-/// What a caller does, in a core of so many siblings.
+/// What a caller does, in a core with this number of siblings.
 #[tactic(auto, unfolding(crate::specs::Reading::reading_named, crate::specs::Reading::caller_event_of, crate::specs::Reading::wake_of, crate::specs::Reading::advance_of, crate::specs::Reading::hotplug_of, crate::specs::Reading::prctl_of))]
 fn parse_caller_event(words: &[&[u8]], siblings: u8) -> Result<Event, Refused>
     ensures { result ≡ caller_event_of siblings (lent words.now) }
@@ -137,7 +137,7 @@ fn parse_sibling_step(digits: &[u8], event: &[&[u8]], siblings: u8) -> Result<St
     })
 }
 
-/// What the caller of this number does, in a core of so many siblings.
+/// What the caller of this number does, in a core with this number of siblings.
 #[tactic(auto, unfolding(crate::specs::Reading::caller_step_of))]
 fn parse_caller_step(digits: &[u8], event: &[&[u8]], siblings: u8) -> Result<Step, Refused>
     ensures { result ≡ caller_step_of siblings digits.now (lent event.now) }
@@ -149,7 +149,7 @@ fn parse_caller_step(digits: &[u8], event: &[&[u8]], siblings: u8) -> Result<Ste
     })
 }
 
-/// What stands after the word `step`, in a core of so many siblings. The letter of the actor tells whose
+/// What stands after the word `step`, in a core with this number of siblings. The letter of the actor tells whose
 /// event it is.
 #[tactic(auto, unfolding(crate::specs::Reading::step_of))]
 pub(crate) fn parse_step(actor: &[u8], event: &[&[u8]], siblings: u8) -> Result<Step, Refused>

@@ -96,7 +96,7 @@ fn parse_creds(words: &[&[u8]]) -> Result<Creds, Refused>
     })
 }
 
-/// What stands after the word `task`, in a core of so many siblings.
+/// What stands after the word `task`, in a core with this number of siblings.
 #[tactic(auto, unfolding(crate::specs::Reading::task_of))]
 pub(crate) fn parse_task(words: &[&[u8]], siblings: u8) -> Result<TaskSpec, Refused>
     ensures { result ≡ task_of siblings (lent words.now) }

@@ -8,7 +8,7 @@ use Rattle.slab.proofs.SlabLemmas.{ContainsKey-within}
 use Rattle.std.proofs.lemmas.List.Sums.{sum_by-set}
 use Rattle.cs_types.specs.declared.task.Task.{Task}
 use Rattle.cs_types.specs.declared.task.TaskSpec.{TaskSpec}
-use Rattle.cs_types.specs.Room.{has_pid, placed}
+use Rattle.cs_types.specs.Room.{has_pid, inserted}
 use Rattle.task_table.specs.declared.entry.Entry.{Entry}
 use Rattle.task_table.specs.Table.{pid_of, Table, IsSound, Rises, add_answer}
 use Rattle.task_table.specs.declared.fault.AddFault.TheVariants.{Full}
@@ -61,14 +61,14 @@ module _ {slots : Slab Task} {entries : List Entry} {room limit : ℕ} {tasks : 
   pub kept_insert : (new : Slab Task) (after : List Entry) (more key place : ℕ) (task : Task) → IsGap task.spec.pid place tasks →
       get slots key ≡ None → Updates slots new key (Some task) → slab_len new ≡ slab_len slots + 1 → new.capacity ≡ slots.capacity →
       room ≤ more → length entries ≢ limit → after ≡ insert entries place (record { pid = task.spec.pid; key = key }) →
-      IsKept new after more limit (placed task tasks)
+      IsKept new after more limit (inserted task tasks)
   kept_insert new after more key place task gap empty updates longer same_room more_room free is =
       let entry : Entry = record { pid = task.spec.pid; key = key } in
       let inside = gap_in_entries task.spec.pid place gap in
       let long : length after ≡ length entries + 1 = ap length is ∙ length-insert entries place entry inside in
       let there = sym (placed_gap task place tasks gap) in
       record {
-        holds = subst (λ es. map (λ (e : Entry). get new e.key) es ≡ map Some (placed task tasks)) (sym is)
+        holds = subst (λ es. map (λ (e : Entry). get new e.key) es ≡ map Some (inserted task tasks)) (sym is)
             (holds_insert slots new key task empty updates entries tasks place entry refl kept.holds ∙ ap (map Some) there);
         index = ap (map (λ (e : Entry). e.pid)) is ∙ insert_both (λ (e : Entry). e.pid) pid_of entries tasks place entry task kept.index refl
             ∙ ap (map pid_of) there;

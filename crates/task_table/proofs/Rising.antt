@@ -9,7 +9,7 @@ use Rattle.std.proofs.lemmas.List.Sorted.{IsPartitionedBy-leb}
 use Rattle.std.proofs.lemmas.Bool.{ne_eqb, lt-ltb, le-ltb, cases_Bool, cond-true, cond-false}
 use Rattle.std.proofs.lemmas.Bool.Decides.{nat_tests}
 use Rattle.cs_types.specs.declared.task.Task.{Task}
-use Rattle.cs_types.specs.Room.{has_pid, placed}
+use Rattle.cs_types.specs.Room.{has_pid, inserted}
 use Rattle.task_table.specs.declared.entry.Entry.{Entry}
 use Rattle.task_table.specs.Table.{pid_of, RisesFrom, Rises}
 use Rattle.task_table.specs.Places.{IsIndexOf, IsAt, IsSplit, IsGap, IsAbove}
@@ -225,7 +225,7 @@ filter_split p pid (suc place) (task ∷ rest) above =
     cond-false (p task && ltb pid task.spec.pid) _ _ (and_false (p task) _ (le-ltb pid task.spec.pid (omega (arith, above.0))))
     ∙ filter_split p pid place rest above.1
 
-pub placed_gap : (new : Task) (place : ℕ) (tasks : List Task) → IsGap new.spec.pid place tasks → placed new tasks ≡ insert tasks place new
+pub placed_gap : (new : Task) (place : ℕ) (tasks : List Task) → IsGap new.spec.pid place tasks → inserted new tasks ≡ insert tasks place new
 placed_gap new zero [] gap = refl
 placed_gap new zero (task ∷ rest) gap = cond-true (ltb new.spec.pid task.spec.pid) _ _ (lt-ltb new.spec.pid task.spec.pid (omega (arith, gap.0)))
 placed_gap new (suc place) [] gap = absurd gap

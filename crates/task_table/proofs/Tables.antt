@@ -8,7 +8,7 @@ use Rattle.std.proofs.lemmas.List.Elements.{All-head, All-tail, All-from_recursi
 use Rattle.std.proofs.lemmas.List.Kept.{AllPairs-cons}
 use Rattle.cs_types.specs.declared.task.Task.{Task}
 use Rattle.cs_types.specs.declared.task.TaskSpec.{TaskSpec}
-use Rattle.cs_types.specs.Room.{has_pid, asleep, placed}
+use Rattle.cs_types.specs.Room.{has_pid, asleep, inserted}
 use Rattle.cs_types.specs.Prctl.{is_set}
 use Rattle.task_table.specs.Table.{RisesFrom, Rises}
 use Rattle.task_table.specs.declared.group.Group.{Group}
@@ -143,7 +143,7 @@ none_found pid (first ∷ rest) none =
 
 -- To put a task asleep in its place and then change it puts the changed one there.
 pub placed_changed : (task : Task) (tasks : List Task) → find (has_pid task.spec.pid) tasks ≡ None →
-    map (λ other. cond (has_pid task.spec.pid other) task other) (placed (asleep task.spec) tasks) ≡ placed task tasks
+    map (λ other. cond (has_pid task.spec.pid other) task other) (inserted (asleep task.spec) tasks) ≡ inserted task tasks
 placed_changed task tasks none = go tasks (none_found task.spec.pid tasks none) where
   change : List Task → List Task
   change ts = map (λ other. cond (has_pid task.spec.pid other) task other) ts
@@ -151,10 +151,10 @@ placed_changed task tasks none = go tasks (none_found task.spec.pid tasks none) 
   its_own : has_pid task.spec.pid (asleep task.spec) ≡ true
   its_own = eq-eqb task.spec.pid task.spec.pid refl
 
-  go : (ts : List Task) → NoneHas task.spec.pid ts → change (placed (asleep task.spec) ts) ≡ placed task ts
+  go : (ts : List Task) → NoneHas task.spec.pid ts → change (inserted (asleep task.spec) ts) ≡ inserted task ts
   go [] none = ap (λ b. cond b task (asleep task.spec) ∷ []) its_own
   go (first ∷ rest) none =
-      elim (ltb task.spec.pid first.spec.pid) as (λ b. change (cond b (asleep task.spec ∷ first ∷ rest) (first ∷ placed (asleep task.spec) rest)) ≡ cond b (task ∷ first ∷ rest) (first ∷ placed task rest)) [
+      elim (ltb task.spec.pid first.spec.pid) as (λ b. change (cond b (asleep task.spec ∷ first ∷ rest) (first ∷ inserted (asleep task.spec) rest)) ≡ cond b (task ∷ first ∷ rest) (first ∷ inserted task rest)) [
         | true ↦ (λ i. cond (its_own i) task (asleep task.spec) ∷ with_none task (first ∷ rest) none i)
         | false ↦ (λ i. cond-false _ task first none.0 i ∷ go rest none.1 i)
       ]

@@ -2,7 +2,7 @@
 
 ghost use Rattle.std.specs.Prelude.{◌≡◌, ◌≤◌, ◌&&◌, nat_lt, [], ◌∷◌, length, map, drop, filter, find, not, if◌then◌else◌, IfOk, IfNone, IfSome, OnOk, OnErr, MatchResult, MatchOption, option_copied, slice_get};
 ghost use Rattle.std.specs.Option.{option_map};
-ghost use Rattle.cs_types.specs.Room.{asleep, placed, has_pid};
+ghost use Rattle.cs_types.specs.Room.{asleep, inserted, has_pid};
 ghost use Rattle.task_table.specs.Table.{Table, pid_of, IsSound, add_answer};
 ghost use Rattle.task_table.specs.Group.{is_in_group, group_above};
 ghost use Rattle.task_table.specs.Walk.{WalksInOrder};
@@ -82,7 +82,7 @@ impl TaskTable {
     /// `Full` exactly where the table has as many tasks as its limit. An `Err` changes nothing.
     pub fn add(&mut self, spec: TaskSpec) -> Result<(), AddFault>
         ensures answer { result ≡ add_answer self.old spec }
-        ensures added { OnOk result (self.new ≡ record self.old { tasks = placed (asleep spec) self.old.tasks }) }
+        ensures added { OnOk result (self.new ≡ record self.old { tasks = inserted (asleep spec) self.old.tasks }) }
         ensures unchanged { OnErr result (self.new ≡ self.old) }
         ensures sound { IsSound self.new }
     {
@@ -96,7 +96,7 @@ impl TaskTable {
     fn insert(&mut self, place: usize, spec: TaskSpec) -> Result<(), AddFault>
         requires { IsGap spec.pid place self.old.tasks }
         ensures answer { result ≡ add_answer self.old spec }
-        ensures added { OnOk result (self.new ≡ record self.old { tasks = placed (asleep spec) self.old.tasks }) }
+        ensures added { OnOk result (self.new ≡ record self.old { tasks = inserted (asleep spec) self.old.tasks }) }
         ensures unchanged { OnErr result (self.new ≡ self.old) }
         ensures sound { IsSound self.new }
     {

@@ -58,7 +58,7 @@ impl Line {
     fn made(&mut self, actor: Actor, event: Event)
         requires { length self.old + 76 ≤ line_room }
         ensures text { self.new ≡ self.old ++ spaced (made_words actor event) }
-        ensures room { length self.new ≤ length self.old + 76 }
+        ensures longest { length self.new ≤ length self.old + 76 }
     {
         self.actor(actor);
         self.text(" ");
@@ -68,7 +68,7 @@ impl Line {
     fn actor(&mut self, actor: Actor)
         requires { length self.old + 4 ≤ line_room }
         ensures text { self.new ≡ self.old ++ actor_word actor }
-        ensures room { length self.new ≤ length self.old + 4 }
+        ensures longest { length self.new ≤ length self.old + 4 }
     {
         match actor {
             Actor::Sibling(i) => {
@@ -87,7 +87,7 @@ impl Line {
     fn deed(&mut self, actor: Actor, event: Event)
         requires { length self.old + 71 ≤ line_room }
         ensures text { self.new ≡ self.old ++ spaced (deed_words actor event) }
-        ensures room { length self.new ≤ length self.old + 71 }
+        ensures longest { length self.new ≤ length self.old + 71 }
     {
         match (actor, event) {
             (Actor::End, Event::Resched(cpu)) => self.named("resched", cpu),
@@ -98,7 +98,7 @@ impl Line {
     fn event(&mut self, event: Event)
         requires { length self.old + 71 ≤ line_room }
         ensures text { self.new ≡ self.old ++ spaced (event_words event) }
-        ensures room { length self.new ≤ length self.old + 71 }
+        ensures longest { length self.new ≤ length self.old + 71 }
     {
         match event {
             Event::Turn(_) => self.text("turn"),
@@ -133,7 +133,7 @@ impl Line {
     fn policy(&mut self, policy: Policy)
         requires { length self.old + 23 ≤ line_room }
         ensures text { self.new ≡ self.old ++ policy_word policy }
-        ensures room { length self.new ≤ length self.old + 23 }
+        ensures longest { length self.new ≤ length self.old + 23 }
     {
         match policy {
             Policy::Stop => self.text("stop"),
@@ -159,7 +159,7 @@ impl Line {
     fn child(&mut self, is_thread: bool)
         requires { length self.old + 7 ≤ line_room }
         ensures text { self.new ≡ self.old ++ child_word is_thread }
-        ensures room { length self.new ≤ length self.old + 7 }
+        ensures longest { length self.new ≤ length self.old + 7 }
     {
         if is_thread {
             self.text("thread");
@@ -171,7 +171,7 @@ impl Line {
     fn ask(&mut self, ask: Ask)
         requires { length self.old + 54 ≤ line_room }
         ensures text { self.new ≡ self.old ++ spaced (ask_words ask) }
-        ensures room { length self.new ≤ length self.old + 54 }
+        ensures longest { length self.new ≤ length self.old + 54 }
     {
         self.number(ask.cmd);
         self.text(" ");
@@ -185,7 +185,7 @@ impl Line {
     fn reply(&mut self, reply: Reply)
         requires { length self.old + 73 ≤ line_room }
         ensures text { self.new ≡ self.old ++ spaced (reply_words reply) }
-        ensures room { length self.new ≤ length self.old + 73 }
+        ensures longest { length self.new ≤ length self.old + 73 }
     {
         match reply {
             Reply::Picked(pick) => self.pick(pick),
@@ -227,7 +227,7 @@ impl Line {
     fn stolen(&mut self, pid: Pid, from: Cpu)
         requires { length self.old + 25 ≤ line_room }
         ensures text { self.new ≡ self.old ++ spaced (reply_words (Reply.Stole pid from)) }
-        ensures room { length self.new ≤ length self.old + 25 }
+        ensures longest { length self.new ≤ length self.old + 25 }
     {
         self.named("Stole", pid);
         self.text(" ");
@@ -238,7 +238,7 @@ impl Line {
     fn task_and_pick(&mut self, pid: Pid, pick: Pick)
         requires { length self.old + 67 ≤ line_room }
         ensures text { self.new ≡ self.old ++ spaced (decimal pid ∷ pick_words pick) }
-        ensures room { length self.new ≤ length self.old + 67 }
+        ensures longest { length self.new ≤ length self.old + 67 }
     {
         self.number(pid);
         self.text(" ");
@@ -248,7 +248,7 @@ impl Line {
     fn pick(&mut self, pick: Pick)
         requires { length self.old + 56 ≤ line_room }
         ensures text { self.new ≡ self.old ++ spaced (pick_words pick) }
-        ensures room { length self.new ≤ length self.old + 56 }
+        ensures longest { length self.new ≤ length self.old + 56 }
     {
         self.kind(pick.kind);
         self.text(" ");
@@ -262,7 +262,7 @@ impl Line {
     fn kind(&mut self, kind: Kind)
         requires { length self.old + 8 ≤ line_room }
         ensures text { self.new ≡ self.old ++ kind_word kind }
-        ensures room { length self.new ≤ length self.old + 8 }
+        ensures longest { length self.new ≤ length self.old + 8 }
     {
         match kind {
             Kind::Selected => self.text("Selected"),
@@ -274,7 +274,7 @@ impl Line {
     fn errno(&mut self, errno: Errno)
         requires { length self.old + 6 ≤ line_room }
         ensures text { self.new ≡ self.old ++ errno_word errno }
-        ensures room { length self.new ≤ length self.old + 6 }
+        ensures longest { length self.new ≤ length self.old + 6 }
     {
         match errno {
             Errno::Eperm => self.text("EPERM"),
@@ -292,7 +292,7 @@ impl Line {
     pub fn run(&mut self, pid: Pid)
         requires { length self.old + 10 ≤ line_room }
         ensures text { self.new ≡ self.old ++ run_word pid }
-        ensures room { length self.new ≤ length self.old + 10 }
+        ensures longest { length self.new ≤ length self.old + 10 }
     {
         if pid == 0 {
             self.text("idle");
@@ -305,7 +305,7 @@ impl Line {
     pub fn named<N: Integer>(&mut self, name: &str, number: N)
         requires { length self.old + length name.now + 1 + N.MAX_STR_LEN ≤ line_room }
         ensures text { self.new ≡ self.old ++ spaced (name.now ∷ N.text number ∷ []) }
-        ensures room { length self.new ≤ length self.old + length name.now + 1 + N.MAX_STR_LEN }
+        ensures longest { length self.new ≤ length self.old + length name.now + 1 + N.MAX_STR_LEN }
     {
         self.text(name);
         self.text(" ");
@@ -316,7 +316,7 @@ impl Line {
     pub fn number<N: Integer>(&mut self, number: N)
         requires { length self.old + N.MAX_STR_LEN ≤ line_room }
         ensures text { self.new ≡ self.old ++ N.text number }
-        ensures room { length self.new ≤ length self.old + N.MAX_STR_LEN }
+        ensures longest { length self.new ≤ length self.old + N.MAX_STR_LEN }
     {
         let mut buffer = Buffer::new();
         self.text(buffer.format(number));

@@ -1,7 +1,7 @@
 use Rattle.std.proofs.Common.{arith, ◌≡◌, ◌∙◌, sym, ap, subst}
 use Rattle.cs_types.specs.declared.task.Task.{Task}
 use Rattle.cookie_refs.specs.Refs.{Agree}
-use Rattle.cookie_refs.proofs.Agreements.{own_cookie_is_live, count_of-le, AgreeBut-placed}
+use Rattle.cookie_refs.proofs.Agreements.{own_cookie_is_live, count_of-le, AgreeBut-inserted}
 use Rattle.task_table.specs.Table.{Table}
 use Rattle.fork_inherit.proofs.forking.fork.Goals as goal
 
@@ -9,12 +9,12 @@ pub get-requires-clause-live : goal.get-requires-clause-live
 get-requires-clause-live c =
     own_cookie_is_live c.args.refs.now c.args.table.now.tasks 0 c.args.caller c.in-Some.by (sym (c.in-Some.ensures ∙ c.find.ensures.task)) c.requires.agree
 
-pub get-requires-clause-room : goal.get-requires-clause-room
-get-requires-clause-room c =
+pub get-requires-clause-few : goal.get-requires-clause-few
+get-requires-clause-few c =
     omega (arith, c.find.ensures.sound.few, c.find.ensures.sound.limit, count_of-le c.args.refs.now c.args.table.now.tasks 0 c.requires.agree c.in-Some.by.cookie)
 
 pub returns-clause-agree : goal.returns-clause-agree
 returns-clause-agree c =
     let inherited : c.child_of.result.cookie ≡ c.in-Some.by.cookie = ap (λ (task : Task). task.cookie) c.child_of.ensures in
-    subst (λ (table : Table). Agree c.get.new.self table.tasks) (sym c.place.ensures.placed)
-    (AgreeBut-placed c.args.refs.now c.get.new.self c.args.table.now.tasks 0 c.child_of.result (λ other. rw inherited (c.get.ensures.counts other)) c.requires.agree)
+    subst (λ (table : Table). Agree c.get.new.self table.tasks) (sym c.insert.ensures.inserted)
+    (AgreeBut-inserted c.args.refs.now c.get.new.self c.args.table.now.tasks 0 c.child_of.result (λ other. rw inherited (c.get.ensures.counts other)) c.requires.agree)

@@ -6,6 +6,6 @@ pub get-requires-clause-live : goal.get-requires-clause-live
 get-requires-clause-live c =
     own_cookie_is_live c.args.refs.now c.args.table.now.tasks 0 c.args.task.now.spec.pid c.args.task.now c.requires.there c.requires.agree
 
-pub get-requires-clause-room : goal.get-requires-clause-room
-get-requires-clause-room c =
+pub get-requires-clause-few : goal.get-requires-clause-few
+get-requires-clause-few c =
     omega (arith, c.requires.sound.few, c.requires.sound.limit, count_of-le c.args.refs.now c.args.table.now.tasks 0 c.requires.agree c.args.task.now.cookie)

@@ -66,15 +66,15 @@ apply-reply-requires-clause-pid c =
     let a = c.self.inside in
     omega (arith, next_pid-fold_of a.scenario a.entries.items c.self.invariant.playable.few_tasks c.self.invariant.playable.task_limit.1, ap (λ (room : RoomState). room.next_pid) c.self.invariant.fold, a.entries.ok.0, first_pid-low a.scenario c.self.invariant.playable, c.self.invariant.few_entries, most_entries-le a.scenario c.self.invariant.playable)
 
-pub apply-reply-requires-clause-room : goal.apply-reply-requires-clause-room
-apply-reply-requires-clause-room c =
+pub apply-reply-requires-clause-spare : goal.apply-reply-requires-clause-spare
+apply-reply-requires-clause-spare c =
     let a = c.self.inside in
     omega (
       arith,
       ended-fold_of a.scenario a.entries.items c.self.invariant.playable.few_tasks c.self.invariant.playable.task_limit.1,
       ap (λ (room : RoomState). length room.ended) c.self.invariant.fold,
       a.entries.ok.0,
-      c.requires.room,
+      c.requires.spare,
       ap (λ (m : Machine). m.free) c.self.view_is,
       c.self.invariant.room_for_ended,
     )
@@ -133,7 +133,7 @@ apply-reply-requires-clause-places c =
       next_pid-fold_of a.scenario a.entries.items c.self.invariant.playable.few_tasks c.self.invariant.playable.task_limit.1,
       ap (λ (room : RoomState). room.next_pid) c.self.invariant.fold,
       a.entries.ok.0,
-      c.requires.room,
+      c.requires.spare,
       ap (λ (m : Machine). m.free) c.self.view_is,
       c.self.invariant.few_entries,
     )

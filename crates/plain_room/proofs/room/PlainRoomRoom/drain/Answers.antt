@@ -14,7 +14,7 @@ use Rattle.plain_room.specs.State.{room_of, numbers_of, is_fresh_by}
 use Rattle.plain_room.specs.declared.room.PlainRoom.TheInside.{Inside}
 use Rattle.plain_room.proofs.Machines.{Folds, next_of}
 use Rattle.plain_room.proofs.Playable.{playable_of, events_of}
-use Rattle.plain_room.proofs.Ends.{next_below, left_after, none_left, settled_at_end, one_cookie_at_end}
+use Rattle.plain_room.proofs.Ends.{next_below, left_after, none_left, nobody_pending_at_end, one_cookie_at_end}
 use Rattle.plain_room.proofs.room.PlainRoomRoom.drain.Goals as goal
 
 -- who schedules next is who the model says, after the history so far
@@ -36,10 +36,10 @@ returns-in_default-clause-entries c =
     ap (λ s. history_of s c.loop-entries.self.steps) c.loop-entries.invariant.scenario
     ∙ none_left scenario (history_of scenario c.loop-entries.self.steps) _ (sym c.in_default.is ∙ next) ∙ c.loop-entries.invariant.ahead
 
-pub returns-in_default-clause-settled : goal.returns-in_default-clause-settled
-returns-in_default-clause-settled c =
+pub returns-in_default-clause-nobody_pending : goal.returns-in_default-clause-nobody_pending
+returns-in_default-clause-nobody_pending c =
     let m = c.args.self.now in
-    settled_at_end m.scenario c.loop-entries.self.scenario (history_of m.scenario m.steps) (history_of c.loop-entries.self.scenario c.loop-entries.self.steps)
+    nobody_pending_at_end m.scenario c.loop-entries.self.scenario (history_of m.scenario m.steps) (history_of c.loop-entries.self.scenario c.loop-entries.self.steps)
     c.loop-entries.invariant.scenario (returns-in_default-clause-entries c)
 
 pub returns-in_default-clause-one_cookie : goal.returns-in_default-clause-one_cookie
@@ -91,10 +91,10 @@ returns-clause-entries c =
     ap (λ s. history_of s c.loop-entries.self.steps) c.loop-entries.invariant.scenario
     ∙ sym (append-nil now) ∙ ap (λ n. now ++ drained_from n (moment_of scenario now)) none ∙ c.loop-entries.invariant.ahead
 
-pub returns-clause-settled : goal.returns-clause-settled
-returns-clause-settled c =
+pub returns-clause-nobody_pending : goal.returns-clause-nobody_pending
+returns-clause-nobody_pending c =
     let m = c.args.self.now in
-    settled_at_end m.scenario c.loop-entries.self.scenario (history_of m.scenario m.steps) (history_of c.loop-entries.self.scenario c.loop-entries.self.steps)
+    nobody_pending_at_end m.scenario c.loop-entries.self.scenario (history_of m.scenario m.steps) (history_of c.loop-entries.self.scenario c.loop-entries.self.steps)
     c.loop-entries.invariant.scenario (returns-clause-entries c)
 
 pub returns-clause-one_cookie : goal.returns-clause-one_cookie

@@ -4,14 +4,14 @@ use Rattle.cs_types.specs.Time.{is_overtaken, is_to_yield}
 use Rattle.plain_room.specs.State.{room_of}
 use Rattle.plain_room.proofs.state.State.asks_at_tick.Goals as goal
 
-pub returns-then-goes_behind : goal.returns-then-goes_behind
-returns-then-goes_behind c scenario =
+pub returns-then-rotates : goal.returns-then-rotates
+returns-then-rotates c scenario =
     let room = room_of scenario c.args.self.now in
-    let behind = sym (c.requires.goes_behind scenario) ∙ c.if-goes_behind.true in
-    c.if-goes_behind.true ∙ sym (λ i. behind i || is_overtaken room c.args.cpu c.args.task.now || is_to_yield room c.args.cpu c.args.task.now)
+    let behind = sym (c.requires.rotates scenario) ∙ c.if-rotates.true in
+    c.if-rotates.true ∙ sym (λ i. behind i || is_overtaken room c.args.cpu c.args.task.now || is_to_yield room c.args.cpu c.args.task.now)
 
-pub returns-else-goes_behind : goal.returns-else-goes_behind
-returns-else-goes_behind c scenario =
+pub returns-else-rotates : goal.returns-else-rotates
+returns-else-rotates c scenario =
     let room = room_of scenario c.args.self.now in
-    let behind = sym (c.requires.goes_behind scenario) ∙ c.if-goes_behind.false in
+    let behind = sym (c.requires.rotates scenario) ∙ c.if-rotates.false in
     c.is_asked.ensures scenario ∙ sym (λ i. behind i || is_overtaken room c.args.cpu c.args.task.now || is_to_yield room c.args.cpu c.args.task.now)

@@ -9,10 +9,10 @@ use Rattle.plain_room.proofs.Clocks.{sliced_behind, sliced_in_place, sliced_not}
 use Rattle.plain_room.proofs.States.{knows-alike}
 use Rattle.plain_room.proofs.state.State.begin_slice.Goals as goal
 
-pub returns-then-goes_behind-clause-room : goal.returns-then-goes_behind-clause-room
-returns-then-goes_behind-clause-room c scenario =
+pub returns-then-rotates-clause-room : goal.returns-then-rotates-clause-room
+returns-then-rotates-clause-room c scenario =
     let room = room_of scenario c.args.self.now in
-    let behind = sym (c.requires.goes_behind scenario) ∙ c.if-goes_behind.true in
+    let behind = sym (c.requires.rotates scenario) ∙ c.if-rotates.true in
     let used : has_used_slice c.args.task ≡ true = (and_parts (has_used_slice c.args.task) _ behind).0 in
     let task : Task = record c.args.task { used = 0; stamp = c.args.self.now.next_stamp } in
     let stamped : RoomState → ℕ → RoomState = λ now stamp. record now { next_stamp = stamp + 1 } in
@@ -24,12 +24,12 @@ pub returns-then-has_used_slice-clause-room : goal.returns-then-has_used_slice-c
 returns-then-has_used_slice-clause-room c scenario =
     c.change-then-has_used_slice.ensures.room scenario
     ∙ sliced_in_place (room_of scenario c.args.self.now) c.args.cpu c.args.task (sym c.has_used_slice.ensures ∙ c.if-has_used_slice.true)
-    (sym (c.requires.goes_behind scenario) ∙ c.if-goes_behind.false)
+    (sym (c.requires.rotates scenario) ∙ c.if-rotates.false)
 
 pub returns-else-has_used_slice-clause-room : goal.returns-else-has_used_slice-clause-room
 returns-else-has_used_slice-clause-room c scenario =
     sliced_not (room_of scenario c.args.self.now) c.args.cpu c.args.task c.requires.rising c.requires.there
-    (sym c.has_used_slice.ensures ∙ c.if-has_used_slice.false) (sym (c.requires.goes_behind scenario) ∙ c.if-goes_behind.false)
+    (sym c.has_used_slice.ensures ∙ c.if-has_used_slice.false) (sym (c.requires.rotates scenario) ∙ c.if-rotates.false)
 
 pub change-requires : goal.change-requires
 change-requires c = record {

@@ -7,11 +7,11 @@ use Rattle.cs_types.specs.declared.task.TaskSpec.{TaskSpec}
 use Rattle.cs_types.specs.Scenario.{IsPolicy}
 use Rattle.cs_types.specs.Room.{RoomState, has_pid}
 use Rattle.cs_types.specs.Queueing.{queued_at_home}
-use Rattle.cs_types.specs.Step.{Stepped, forked, settled, child_of, with_child}
+use Rattle.cs_types.specs.Step.{Stepped, forked, child_at_home, child_of, with_child}
 use Rattle.plain_room.specs.State.{room_of, IsSound, Numbers, touched}
 use Rattle.plain_room.specs.Life.{MakesChild}
 use Rattle.plain_room.specs.declared.state.State.{State}
-use Rattle.plain_room.proofs.States.{found_fits, knows-placed, some_scenario}
+use Rattle.plain_room.proofs.States.{found_fits, knows-inserted, some_scenario}
 use Rattle.plain_room.proofs.state.State.fork.Goals as goal
 
 -- a child is at home on one of the siblings
@@ -23,8 +23,8 @@ child_home old new caller thread child makes sound =
     subst (λ (task : Task). task.home < length new.siblings.items) (sym born.is)
     (subst (λ siblings. makes.0.home < length siblings) (sym (ap (λ s. s.items) born.siblings)) fit.home)
 
-pub settled-requires : goal.settled-requires
-settled-requires c =
+pub child_at_home-requires : goal.child_at_home-requires
+child_at_home-requires c =
     let siblings = ap (λ s. length s.items) c.in-Ok.ensures.makes.2.siblings in
     record {
       home = child_home c.args.self.now c.make_child.new.self c.args.caller c.args.thread c.in-Ok.child c.in-Ok.ensures.makes c.requires.sound;
@@ -32,26 +32,26 @@ settled-requires c =
     }
 
 -- the settled child is the child but for its home and its virtual time
-settled_is : (c : goal.After-settled) → c.settled.result ≡ settled (room_of some_scenario c.make_child.new.self) c.in-Ok.child
-settled_is c = c.settled.ensures.settled some_scenario
+child_at_home_is : (c : goal.After-child_at_home) → c.child_at_home.result ≡ child_at_home (room_of some_scenario c.make_child.new.self) c.in-Ok.child
+child_at_home_is c = c.child_at_home.ensures.child_at_home some_scenario
 
 pub queue_at_home-requires-clause-known : goal.queue_at_home-requires-clause-known
 queue_at_home-requires-clause-known c =
     let makes = c.in-Ok.ensures.makes in
     let old = c.args.self.now in
     let fit = found_fits (length old.siblings.items) old.next_pid c.args.caller old.tasks.tasks makes.0 c.requires.sound.tasks makes.1 in
-    let spec = ap (λ (task : Task). task.spec) (settled_is c) in
-    knows-placed c.make_child.new.self c.settled.result c.in-Ok.child
+    let spec = ap (λ (task : Task). task.spec) (child_at_home_is c) in
+    knows-inserted c.make_child.new.self c.child_at_home.result c.in-Ok.child
     (ap (λ (s : TaskSpec). find (has_pid s.pid) c.make_child.new.self.tasks.tasks) spec ∙ makes.2.there)
-    (ap (λ (task : Task). task.cookie) (settled_is c)) c.settled.ensures.within
-    (subst (λ (task : Task). IsPolicy task.spec.policy) (sym (settled_is c)) (subst (λ (task : Task). IsPolicy task.spec.policy) (sym makes.2.is) fit.policy))
+    (ap (λ (task : Task). task.cookie) (child_at_home_is c)) c.child_at_home.ensures.within
+    (subst (λ (task : Task). IsPolicy task.spec.policy) (sym (child_at_home_is c)) (subst (λ (task : Task). IsPolicy task.spec.policy) (sym makes.2.is) fit.policy))
 
 pub queue_at_home-requires-clause-policy : goal.queue_at_home-requires-clause-policy
 queue_at_home-requires-clause-policy c =
     let makes = c.in-Ok.ensures.makes in
     let old = c.args.self.now in
     let fit = found_fits (length old.siblings.items) old.next_pid c.args.caller old.tasks.tasks makes.0 c.requires.sound.tasks makes.1 in
-    subst (λ (task : Task). IsPolicy task.spec.policy) (sym (settled_is c)) (subst (λ (task : Task). IsPolicy task.spec.policy) (sym makes.2.is) fit.policy)
+    subst (λ (task : Task). IsPolicy task.spec.policy) (sym (child_at_home_is c)) (subst (λ (task : Task). IsPolicy task.spec.policy) (sym makes.2.is) fit.policy)
 
 pub queue_at_home-requires-clause-clock : goal.queue_at_home-requires-clause-clock
 queue_at_home-requires-clause-clock c = omega (arith, c.in-Ok.ensures.makes.2.clock, c.requires.time.clock)
@@ -62,15 +62,15 @@ returns-in-Ok-clause-makes c scenario =
     let born = makes.2 in
     let room = room_of scenario c.args.self.now in
     let child = c.in-Ok.child in
-    let made : Task → Stepped = λ task. record { reply = Child task.spec.pid; room = queued_at_home (with_child room task) (settled room task) } in
+    let made : Task → Stepped = λ task. record { reply = Child task.spec.pid; room = queued_at_home (with_child room task) (child_at_home room task) } in
     let is : made child ≡ forked room c.args.thread (Some makes.0) =
     ap made born.is ∙ sym (cond-false _ _ (made (child_of makes.0 c.args.thread room.next_pid)) born.allowed) in
     let whole = is ∙ ap (forked room c.args.thread) (sym makes.1) in
     record {
       reply = ap (λ (m : Stepped). m.reply) whole;
       room = c.queue_at_home.ensures.room scenario
-          ∙ ap (λ (now : RoomState). queued_at_home now c.settled.result) (born.room scenario)
-          ∙ ap (queued_at_home (with_child room child)) (c.settled.ensures.settled scenario ∙ ap (λ (now : RoomState). settled now child) (born.room scenario))
+          ∙ ap (λ (now : RoomState). queued_at_home now c.child_at_home.result) (born.room scenario)
+          ∙ ap (queued_at_home (with_child room child)) (c.child_at_home.ensures.child_at_home scenario ∙ ap (λ (now : RoomState). child_at_home now child) (born.room scenario))
           ∙ ap (λ (m : Stepped). m.room) whole;
       numbers = c.queue_at_home.ensures.numbers ∙ ap (λ (numbers : Numbers). touched 1 numbers) born.numbers;
     }

@@ -4,7 +4,7 @@ use Rattle.std.specs.Option.{IsSome}
 use Rattle.std.proofs.lemmas.Bool.{cases_Bool, cond-true, eqb-true}
 use Rattle.std.proofs.lemmas.List.Elements.{All-weaker}
 use Rattle.cs_types.specs.declared.task.Task.{Task}
-use Rattle.cs_types.specs.Room.{has_pid, placed}
+use Rattle.cs_types.specs.Room.{has_pid, inserted}
 use Rattle.cs_types.specs.Order.{deadline_class, class_of}
 use Rattle.cs_types.specs.Step.{child_of, with_child}
 use Rattle.task_table.specs.Table.{Table}
@@ -12,8 +12,8 @@ use Rattle.fork_inherit.specs.Answers.{fork_answer}
 use Rattle.fork_inherit.specs.declared.forking.ForkFault.TheVariants.{Eagain}
 use Rattle.plain_room.specs.State.{IsFit, room_of, numbers_of, books_of}
 use Rattle.forceidle_account.specs.Charges.{Charges, has_total}
-use Rattle.plain_room.proofs.States.{found_fits, fit-placed, All-placed}
-use Rattle.plain_room.proofs.Lives.{find-placed, next_is_unused}
+use Rattle.plain_room.proofs.States.{found_fits, fit-inserted, All-inserted}
+use Rattle.plain_room.proofs.Lives.{find-inserted, next_is_unused}
 use Rattle.plain_room.proofs.state.State.make_child.Goals as goal
 
 -- where a child is made, the caller was found, and there was a place left
@@ -30,10 +30,10 @@ caller_of table (Some by) made = (
 )
 
 -- each task has a total, the child too
-known-placed : (old new : Charges) (child : Task) (tasks : List Task) → ((other : ℕ) → has_total new other ≡ (other == child.spec.pid || has_total old other)) →
-    All (λ task. IsTrue (has_total old task.spec.pid)) tasks → All (λ task. IsTrue (has_total new task.spec.pid)) (placed child tasks)
-known-placed old new child tasks has all =
-    All-placed (λ task. IsTrue (has_total new task.spec.pid)) child tasks
+known-inserted : (old new : Charges) (child : Task) (tasks : List Task) → ((other : ℕ) → has_total new other ≡ (other == child.spec.pid || has_total old other)) →
+    All (λ task. IsTrue (has_total old task.spec.pid)) tasks → All (λ task. IsTrue (has_total new task.spec.pid)) (inserted child tasks)
+known-inserted old new child tasks has all =
+    All-inserted (λ task. IsTrue (has_total new task.spec.pid)) child tasks
     (has child.spec.pid ∙ ap (λ b. b || has_total old child.spec.pid) (eq-eqb child.spec.pid child.spec.pid refl))
     (All-weaker (λ (task : Task). IsTrue (has_total old task.spec.pid)) (λ (task : Task). IsTrue (has_total new task.spec.pid))
     (λ task known. has task.spec.pid ∙ or_right (task.spec.pid == child.spec.pid) (has_total old task.spec.pid) known) tasks all) where
@@ -64,8 +64,8 @@ unwrap-requires c =
     let unused = next_is_unused (length old.siblings.items) old.next_pid old.tasks.tasks c.requires.sound.tasks in
     let by = caller_of old.tasks (find (has_pid c.args.caller) old.tasks.tasks) (sym c.fork.ensures.answer ∙ c.in_ok-fork.was) in
     let child = child_of by.0 c.args.thread old.next_pid in
-    let placed = c.in_ok-fork.ensures.child by.0 by.1 in
-    subst IsSome (sym (c.task_of.ensures.task ∙ ap (λ (table : Table). find (has_pid old.next_pid) table.tasks) placed ∙ find-placed child old.tasks.tasks unused)) refl
+    let inserted = c.in_ok-fork.ensures.child by.0 by.1 in
+    subst IsSome (sym (c.task_of.ensures.task ∙ ap (λ (table : Table). find (has_pid old.next_pid) table.tasks) inserted ∙ find-inserted child old.tasks.tasks unused)) refl
 
 pub returns : goal.returns
 returns c =
@@ -74,8 +74,8 @@ returns c =
     let unused = next_is_unused (length old.siblings.items) next old.tasks.tasks c.requires.sound.tasks in
     let by = caller_of old.tasks (find (has_pid c.args.caller) old.tasks.tasks) (sym c.fork.ensures.answer ∙ c.in_ok-fork.was) in
     let child = child_of by.0 c.args.thread next in
-    let placed = c.in_ok-fork.ensures.child by.0 by.1 in
-    let there = ap (λ (table : Table). find (has_pid next) table.tasks) placed ∙ find-placed child old.tasks.tasks unused in
+    let inserted = c.in_ok-fork.ensures.child by.0 by.1 in
+    let there = ap (λ (table : Table). find (has_pid next) table.tasks) inserted ∙ find-inserted child old.tasks.tasks unused in
     let is : c.unwrap.result ≡ child = ap (λ one. unwrap_or one c.unwrap.result) (sym c.unwrap.ensures ∙ c.task_of.ensures.task ∙ there) in
     let places : c.add.new.self.spare + (next + 1) ≡ old.totals.spare + next = omega (arith, c.add.ensures.spare) in
     record {
@@ -85,17 +85,17 @@ returns c =
         record {
           allowed = by.2;
           is = is;
-          room = λ scenario. rw (placed, c.fork.ensures.next, c.fork.ensures.limit) (ap (with_child (room_of scenario old)) (sym is));
+          room = λ scenario. rw (inserted, c.fork.ensures.next, c.fork.ensures.limit) (ap (with_child (room_of scenario old)) (sym is));
           there = subst (λ (task : Task). find (has_pid task.spec.pid) c.fork.new.table.tasks ≡ Some task) (sym is) there;
           sound = λ count sound.
               let fit = found_fits count next c.args.caller old.tasks.tasks by.0 sound.tasks by.1 in
               record {
                 siblings = sound.siblings;
                 table = c.fork.ensures.sound;
-                tasks = rw placed (fit-placed count (next + 1) child old.tasks.tasks
+                tasks = rw inserted (fit-inserted count (next + 1) child old.tasks.tasks
                     (record { pid = omega (arith, fit.pid, fit.below); below = omega arith; home = fit.home; policy = fit.policy })
                     (All-weaker (IsFit count next) (IsFit count (next + 1)) (λ task fits. record { pid = fits.pid; below = omega (arith, fits.below); home = fits.home; policy = fits.policy }) old.tasks.tasks sound.tasks));
-                known = rw placed (known-placed old.totals c.add.new.self child old.tasks.tasks c.add.ensures.has sound.known);
+                known = rw inserted (known-inserted old.totals c.add.new.self child old.tasks.tasks c.add.ensures.has sound.known);
                 low_pids = λ pid has. low_child old.totals c.add.new.self next pid c.add.ensures.has (sound.low_pids pid) has;
                 refs = c.fork.ensures.agree;
               };

@@ -11,7 +11,7 @@ use Rattle.cs_types.specs.Hotplug.{moved_off}
 use Rattle.plain_room.specs.State.{room_of, StaysSound}
 use Rattle.plain_room.specs.declared.state.State.{State}
 use Rattle.plain_room.specs.declared.sibling.Sibling.{Sibling}
-use Rattle.plain_room.proofs.States.{some_scenario, policies, knows-placed}
+use Rattle.plain_room.proofs.States.{some_scenario, policies, knows-inserted}
 use Rattle.plain_room.proofs.Ranges.{leasts_are_low, vtimes_are_low}
 use Rattle.plain_room.proofs.Moves.{mapped_all, task_is, task_was, same_more, there, changed_more, moved_is, stays, stamp_at}
 use Rattle.plain_room.proofs.state.State.move_tasks.Goals as goal
@@ -71,7 +71,7 @@ change-requires c =
     let policy : IsPolicy task.spec.policy =
     subst (λ (t : Task). IsPolicy t.spec.policy) (sym is) (policies (length old.siblings.items) now sound place task (omega (arith, within, c.loop-place.invariant.as_many))) in
     record {
-      known = knows-placed now done task
+      known = knows-inserted now done task
           (there change old.tasks.tasks now.tasks.tasks place task within (c.loop-place.invariant.tasks some_scenario) at c.at.ensures.sound.rising done spec)
           (ap (λ (t : Task). t.cookie) moved)
           (omega (arith, ap (λ (t : Task). t.home) moved, c.requires.within, ap (λ (state : State). length state.siblings.items) c.loop-place.invariant.rest))

@@ -47,16 +47,16 @@ returns-clause-makes c scenario =
     let account = c.close.new.self in
     let several = ne_eqb (length (online room)) 1 (λ alone. c.if-online_count-eq1.false (c.online_count.ensures scenario ∙ alone)) in
     let step = offline_step room cpu true false (sym (c.is_online.ensures scenario) ∙ c.if-not-is_online.false) several in
-    let kept = items-as_many c.move_off.new.self.siblings c.leave.new.siblings (c.leave.auto.siblings ∙ ap length c.deref_mut.ensures.value) in
+    let kept = items-as_many c.move_off.new.self.siblings c.set_away.new.siblings (c.set_away.auto.siblings ∙ ap length c.deref_mut.ensures.value) in
     let same : c.move_off.new.self.siblings ≡ old.siblings = c.move_off.ensures.siblings ∙ c.charge.ensures.siblings in
-    let states : map sibling_state c.leave.new.siblings ≡ map (left cpu) (enumerate_from 0 room.siblings) =
-    c.leave.ensures.states
+    let states : map sibling_state c.set_away.new.siblings ≡ map (left cpu) (enumerate_from 0 room.siblings) =
+    c.set_away.ensures.states
     ∙ ap (λ (siblings : List Sibling). map (left cpu) (enumerate_from 0 (map sibling_state siblings))) (c.deref_mut.ensures.value ∙ ap (λ (siblings : Vec Sibling). siblings.items) same) in
     let is_closed : record (room_of scenario c.charge.new.self) { forced = account.count; occupation = account.occupation; started = account.started } ≡ closed room =
     ap (λ (state : State). let next : RoomState = record (room_of scenario state) { forced = account.count; occupation = account.occupation; started = account.started } in next) c.charge.ensures.rest
     ∙ (λ i. let next : RoomState = record room { forced = c.close.ensures.count i; occupation = c.close.ensures.occupation i; started = c.close.ensures.started i } in next) in
     let moved = c.move_off.ensures.room scenario ∙ ap (λ (r : RoomState). with_moves r cpu) is_closed in
-    let own : map number_of c.leave.new.siblings ≡ map number_of c.move_off.new.self.siblings.items = c.leave.ensures.numbers ∙ ap (map number_of) c.deref_mut.ensures.value in
+    let own : map number_of c.set_away.new.siblings ≡ map number_of c.move_off.new.self.siblings.items = c.set_away.ensures.numbers ∙ ap (map number_of) c.deref_mut.ensures.value in
     let touches : 2 * length (queued_on (record (room_of scenario c.charge.new.self) { forced = account.count; occupation = account.occupation; started = account.started }) cpu) ≡ 2 * length (queued_on room cpu) =
     ap (λ (r : RoomState). 2 * length (queued_on r cpu)) is_closed in
     let charged : record (numbers_of c.charge.new.self) { books = record (books_of c.charge.new.self) { intervals = account.intervals } } ≡ charged_with (open_interval room) (numbers_of old) =
@@ -76,7 +76,7 @@ returns-clause-makes c scenario =
 
 pub returns-clause-sound : goal.returns-clause-sound
 returns-clause-sound c count sound =
-    let kept = items-as_many c.move_off.new.self.siblings c.leave.new.siblings (c.leave.auto.siblings ∙ ap length c.deref_mut.ensures.value) in
+    let kept = items-as_many c.move_off.new.self.siblings c.set_away.new.siblings (c.set_away.auto.siblings ∙ ap length c.deref_mut.ensures.value) in
     let charged = c.charge.ensures.sound count sound in
     let moved = c.move_off.ensures.sound count (record {
       siblings = charged.siblings;
@@ -87,7 +87,7 @@ returns-clause-sound c count sound =
       refs = charged.refs;
     }) in
     record {
-      siblings = ap length kept ∙ c.leave.auto.siblings ∙ ap length c.deref_mut.ensures.value ∙ moved.siblings;
+      siblings = ap length kept ∙ c.set_away.auto.siblings ∙ ap length c.deref_mut.ensures.value ∙ moved.siblings;
       table = moved.table;
       tasks = moved.tasks;
       known = moved.known;

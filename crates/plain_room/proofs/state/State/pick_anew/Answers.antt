@@ -1,14 +1,19 @@
-use Rattle.std.proofs.Common.{◌∙◌, ap}
-use Rattle.cs_types.specs.Room.{RoomState}
-use Rattle.cs_types.specs.Selection.{is_to_steal}
-use Rattle.cs_types.specs.Steal.{with_place}
-use Rattle.std.specs.Prelude.{if◌then◌else◌}
+use Rattle.std.proofs.Common.{ap, ◌∙◌, sym, cond}
+use Rattle.cs_types.specs.Selection.{plain, selected, picked_anew}
+use Rattle.plain_room.specs.State.{room_of}
+use Rattle.plain_room.proofs.States.{Schedules-same}
 use Rattle.plain_room.proofs.state.State.pick_anew.Goals as goal
 
-pub returns-clause-schedules : goal.returns-clause-schedules
-returns-clause-schedules c = record {
-  pick = c.run_or_select-pick.ensures.schedules.pick;
-  room = λ scenario. c.balance.ensures.room scenario
-      ∙ ap (λ (room : RoomState). with_place room c.args.cpu (if is_to_steal room c.args.cpu then 1 else 0)) (c.run_or_select-pick.ensures.schedules.room scenario);
-  numbers = c.balance.ensures.numbers ∙ c.run_or_select-pick.ensures.schedules.numbers;
-}
+pub returns-then-is_plain-clause-schedules : goal.returns-then-is_plain-clause-schedules
+returns-then-is_plain-clause-schedules c =
+    Schedules-same c.args.self.now c.run_first.new.self c.args.cpu c.run_first.result (λ room. plain room c.args.cpu) (λ room. picked_anew room c.args.cpu)
+    (λ scenario. let room = room_of scenario c.args.self.now in
+    ap (λ b. cond b (plain room c.args.cpu) (selected room c.args.cpu)) (sym (c.is_plain.ensures scenario) ∙ c.if-is_plain.true))
+    c.run_first.ensures.schedules
+
+pub returns-else-is_plain-clause-schedules : goal.returns-else-is_plain-clause-schedules
+returns-else-is_plain-clause-schedules c =
+    Schedules-same c.args.self.now c.select.new.self c.args.cpu c.select.result (λ room. selected room c.args.cpu) (λ room. picked_anew room c.args.cpu)
+    (λ scenario. let room = room_of scenario c.args.self.now in
+    ap (λ b. cond b (plain room c.args.cpu) (selected room c.args.cpu)) (sym (c.is_plain.ensures scenario) ∙ c.if-is_plain.false))
+    c.select.ensures.schedules

@@ -4,14 +4,14 @@ use Rattle.cs_types.specs.Room.{RoomState, SiblingState, flagged, has_pid}
 use Rattle.cs_types.specs.Selection.{is_run}
 use Rattle.cs_types.specs.Queueing.{dequeued, queued_at_home}
 use Rattle.plain_room.specs.State.{room_of}
-use Rattle.plain_room.proofs.States.{some_scenario, knows-placed, sibling_at}
+use Rattle.plain_room.proofs.States.{some_scenario, knows-inserted, sibling_at}
 use Rattle.plain_room.proofs.Lives.{find-changed}
 use Rattle.plain_room.proofs.state.State.requeue.Goals as goal
 
 pub queue_at_home-requires-clause-known : goal.queue_at_home-requires-clause-known
 queue_at_home-requires-clause-known c =
     let task = c.args.task in
-    knows-placed c.dequeue.new.self task (record task { queued = false })
+    knows-inserted c.dequeue.new.self task (record task { queued = false })
     (ap (λ (room : RoomState). find (has_pid task.spec.pid) room.tasks) (c.dequeue.ensures.room some_scenario)
     ∙ find-changed (record task { queued = false }) c.requires.known.old c.args.self.now.tasks.tasks c.requires.known.there)
     refl (subst (λ siblings. task.home < length siblings) (sym (ap (λ s. s.items) c.dequeue.ensures.siblings)) c.requires.home) c.requires.policy

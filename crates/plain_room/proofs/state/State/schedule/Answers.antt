@@ -1,6 +1,6 @@
 use Rattle.std.proofs.Common.{◌≡◌, ◌∙◌, ap, sym, cond, false, None}
 use Rattle.cs_types.specs.declared.reply.Pick.{Pick}
-use Rattle.cs_types.specs.Selection.{adopted, balanced, rescheduled, schedule}
+use Rattle.cs_types.specs.Selection.{adopted, balanced, picked_anew, schedule}
 use Rattle.cs_types.specs.Accounting.{closes, open_interval}
 use Rattle.plain_room.specs.State.{room_of, numbers_of, took, charged_with, is_fresh_by}
 use Rattle.plain_room.proofs.States.{ChargesAndSchedules-same}
@@ -25,6 +25,6 @@ returns-in-Some-clause-schedules c =
 pub returns-in-None-clause-schedules : goal.returns-in-None-clause-schedules
 returns-in-None-clause-schedules c =
     let fresh = is_fresh_by (numbers_of c.args.self.now) in
-    ChargesAndSchedules-same c.args.self.now c.reschedule.new.self c.args.cpu c.reschedule.result (λ room. balanced c.args.cpu (rescheduled room c.args.cpu)) (λ room. schedule room fresh c.args.cpu)
+    ChargesAndSchedules-same c.args.self.now c.charge_and_pick.new.self c.args.cpu c.charge_and_pick.result (λ room. balanced c.args.cpu (picked_anew room c.args.cpu)) (λ room. schedule room fresh c.args.cpu)
     (λ scenario. schedule_not_adopted (room_of scenario c.args.self.now) fresh c.args.cpu (c.in-None.ensures scenario))
-    c.reschedule.ensures.schedules
+    c.charge_and_pick.ensures.schedules

@@ -11,8 +11,8 @@ use Rattle.plain_room.proofs.States.{items-as_many, found_fits, fit-changed, kno
 use Rattle.plain_room.proofs.Settings.{sets_one, sets_numbers}
 use Rattle.plain_room.proofs.state.State.set_cookie.Goals as goal
 
-pub get-requires-clause-room : goal.get-requires-clause-room
-get-requires-clause-room c =
+pub get-requires-clause-few : goal.get-requires-clause-few
+get-requires-clause-few c =
     omega (arith, c.requires.sound.table.few, c.requires.sound.table.limit, count_of-le c.args.self.now.refs c.args.self.now.tasks.tasks c.args.cookie c.requires.sound.refs c.args.cookie)
 
 pub put-requires : goal.put-requires

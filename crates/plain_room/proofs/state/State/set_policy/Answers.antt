@@ -7,7 +7,7 @@ use Rattle.cs_types.specs.Queueing.{dequeued, queued_at_home}
 use Rattle.cs_types.specs.Step.{with_policy, set_policy}
 use Rattle.cs_types.specs.Touches.{policy_touches}
 use Rattle.plain_room.specs.State.{room_of, numbers_of, Numbers, Knows}
-use Rattle.plain_room.proofs.States.{knows-placed}
+use Rattle.plain_room.proofs.States.{knows-inserted}
 use Rattle.plain_room.proofs.Onlines.{untouched}
 use Rattle.plain_room.proofs.state.State.set_policy.Goals as goal
 
@@ -23,7 +23,7 @@ requeue-requires-clause-known c =
     let task = c.in-Some.task in
     let fit = c.in-Some.ensures.fit (length c.args.self.now.siblings.items) c.requires.sound in
     subst (Knows c.args.self.now) (sym c.with_policy-changed.ensures)
-    (knows-placed c.args.self.now (with_policy c.args.policy task) task c.in-Some.ensures.there refl fit.home c.requires.policy)
+    (knows-inserted c.args.self.now (with_policy c.args.policy task) task c.in-Some.ensures.there refl fit.home c.requires.policy)
 
 pub change-requires : goal.change-requires
 change-requires c =
@@ -31,7 +31,7 @@ change-requires c =
     let fit = c.in-Some.ensures.fit (length c.args.self.now.siblings.items) c.requires.sound in
     record {
       known = subst (Knows c.args.self.now) (sym c.with_policy-changed.ensures)
-          (knows-placed c.args.self.now (with_policy c.args.policy task) task c.in-Some.ensures.there refl fit.home c.requires.policy);
+          (knows-inserted c.args.self.now (with_policy c.args.policy task) task c.in-Some.ensures.there refl fit.home c.requires.policy);
     }
 
 pub returns-else-task-clause-makes : goal.returns-else-task-clause-makes

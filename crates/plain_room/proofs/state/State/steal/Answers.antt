@@ -10,7 +10,7 @@ use Rattle.plain_room.specs.declared.state.State.{State}
 use Rattle.plain_room.specs.declared.sibling.Sibling.{Sibling}
 use Rattle.plain_room.proofs.Lists.{All-find}
 use Rattle.plain_room.proofs.Ranges.{leasts_are_low, vtimes_are_low}
-use Rattle.plain_room.proofs.States.{found_fits, knows-placed, some_scenario}
+use Rattle.plain_room.proofs.States.{found_fits, knows-inserted, some_scenario}
 use Rattle.plain_room.proofs.Steals.{is_left}
 use Rattle.plain_room.proofs.state.State.steal.Goals as goal
 
@@ -37,7 +37,7 @@ enqueue-requires-clause-known c =
     let fit = found_fits (length old.siblings.items) old.next_pid c.args.task.spec.pid old.tasks.tasks c.args.task c.requires.sound.tasks c.requires.there in
     let after : State = record old { task_number = old.task_number + 1 } in
     let knows : Knows after (moved_to (room_of some_scenario old) c.args.thief c.args.task) =
-    knows-placed after (moved_to (room_of some_scenario old) c.args.thief c.args.task) c.args.task c.requires.there refl c.requires.thief fit.policy in
+    knows-inserted after (moved_to (room_of some_scenario old) c.args.thief c.args.task) c.args.task c.requires.there refl c.requires.thief fit.policy in
     rw (c.touch.ensures, c.moved_to-moved.ensures some_scenario) knows
 
 pub returns-clause-room : goal.returns-clause-room

@@ -3,7 +3,7 @@ use Rattle.std.specs.Prelude.{Option}
 use Rattle.cs_types.specs.declared.task.Task.{Task}
 use Rattle.cs_types.specs.declared.reply.Reply.TheVariants.{Stole, Missed}
 use Rattle.cs_types.specs.Steal.{with_place}
-use Rattle.cs_types.specs.Step.{tried}
+use Rattle.cs_types.specs.Step.{try_steal}
 use Rattle.plain_room.specs.State.{room_of, Numbers, numbers_of}
 use Rattle.plain_room.proofs.States.{some_scenario}
 use Rattle.plain_room.proofs.Steals.{stolen_there}
@@ -18,10 +18,10 @@ returns-in-Some-clause-tries c = record {
   reply = λ scenario.
       let room = room_of scenario c.args.self.now in
       ap (Stole c.in-Some.task.spec.pid) (c.source_of-source.ensures.source scenario)
-      ∙ ap (λ (found : Option Task). (tried room c.args.thief found).reply) (c.in-Some.ensures.stolen scenario);
+      ∙ ap (λ (found : Option Task). (try_steal room c.args.thief found).reply) (c.in-Some.ensures.stolen scenario);
   room = λ scenario.
       let room = room_of scenario c.args.self.now in
-      c.steal.ensures.room scenario ∙ ap (λ (found : Option Task). (tried room c.args.thief found).room) (c.in-Some.ensures.stolen scenario);
+      c.steal.ensures.room scenario ∙ ap (λ (found : Option Task). (try_steal room c.args.thief found).room) (c.in-Some.ensures.stolen scenario);
   numbers = λ scenario. c.steal.ensures.numbers;
 }
 
@@ -30,11 +30,11 @@ returns-in-None-clause-tries c = record {
   reply = λ scenario.
       let room = room_of scenario c.args.self.now in
       ap Missed (c.source_of-source.ensures.source scenario)
-      ∙ ap (λ (found : Option Task). (tried room c.args.thief found).reply) (c.in-None.ensures.stolen scenario);
+      ∙ ap (λ (found : Option Task). (try_steal room c.args.thief found).reply) (c.in-None.ensures.stolen scenario);
   room = λ scenario.
       let room = room_of scenario c.args.self.now in
       c.set_place.ensures.room scenario ∙ ap (with_place room c.args.thief) (c.next_place-place.ensures scenario)
-      ∙ ap (λ (found : Option Task). (tried room c.args.thief found).room) (c.in-None.ensures.stolen scenario);
+      ∙ ap (λ (found : Option Task). (try_steal room c.args.thief found).room) (c.in-None.ensures.stolen scenario);
   numbers = λ scenario.
       c.set_place.ensures.numbers
       ∙ ap (λ (n : ℕ). let numbers : Numbers = record (numbers_of c.args.self.now) { task = n } in numbers) (sym (add-zero c.args.self.now.task_number));

@@ -3,7 +3,7 @@ use Rattle.cs_types.specs.declared.reply.Reply.TheVariants.{Picked, Nothing}
 use Rattle.cs_types.specs.Room.{RoomState, sibling_of}
 use Rattle.cs_types.specs.Selection.{schedule}
 use Rattle.cs_types.specs.Steal.{stolen}
-use Rattle.cs_types.specs.Step.{Stepped, turned, tried, picked}
+use Rattle.cs_types.specs.Step.{Stepped, turned, try_steal, picked}
 use Rattle.plain_room.specs.State.{room_of, numbers_of, is_fresh_by}
 use Rattle.plain_room.proofs.States.{sibling_at}
 use Rattle.plain_room.proofs.Onlines.{untouched, when_online, when_offline}
@@ -24,7 +24,7 @@ returns-then-not-is_online-clause-makes c scenario =
 abbrev turn_by : RoomState → Bool → ℕ → Bool → ℕ → Stepped
 turn_by room fresh cpu pending place =
     cond pending (picked Picked (schedule room fresh cpu))
-    (cond (eqb place 0) (record { reply = Nothing; room = room }) (tried room cpu (stolen room cpu)))
+    (cond (eqb place 0) (record { reply = Nothing; room = room }) (try_steal room cpu (stolen room cpu)))
 
 pub returns-then-index-clause-makes : goal.returns-then-index-clause-makes
 returns-then-index-clause-makes c scenario =
@@ -64,9 +64,9 @@ returns-clause-makes c scenario =
     let pending = sibling_at c.args.self.now.siblings.items c.args.cpu c.index.result.now c.requires.cpu c.index.ensures in
     let place = sibling_at c.args.self.now.siblings.items c.args.cpu c.index-2.result.now c.requires.cpu c.index-2.ensures in
     let some : eqb c.index-2.result.now.place 0 ≡ false = ne_eqb _ _ c.if-index-eq0.false in
-    let is : tried room c.args.cpu (stolen room c.args.cpu) ≡ turned room fresh c.args.cpu =
+    let is : try_steal room c.args.cpu (stolen room c.args.cpu) ≡ turned room fresh c.args.cpu =
     (λ i. cond (sym c.if-index.false i) (picked Picked (schedule room fresh c.args.cpu))
-    (cond (sym some i) (record { reply = Nothing; room = room }) (tried room c.args.cpu (stolen room c.args.cpu))))
+    (cond (sym some i) (record { reply = Nothing; room = room }) (try_steal room c.args.cpu (stolen room c.args.cpu))))
     ∙ (λ i. turn_by room fresh c.args.cpu (sym pending i).pending (sym place i).place) in
     let made = is ∙ when_online room c.args.cpu (turned room fresh c.args.cpu) (sym (c.is_online.ensures scenario) ∙ c.if-not-is_online.false) in
     record {

@@ -13,7 +13,7 @@ use Rattle.plain_room.specs.State.{room_of}
 use Rattle.plain_room.specs.declared.sibling.Sibling.{Sibling}
 use Rattle.plain_room.proofs.Lists.{All-find}
 use Rattle.plain_room.proofs.Ranges.{vtimes_are_low, leasts_are_low}
-use Rattle.plain_room.proofs.States.{some_scenario, knows-placed}
+use Rattle.plain_room.proofs.States.{some_scenario, knows-inserted}
 use Rattle.plain_room.proofs.state.State.wake.Goals as goal
 
 pub rehomed-task-requires-clause-home : goal.rehomed-task-requires-clause-home
@@ -45,7 +45,7 @@ queue_at_home-requires-clause-known c =
     let same = kept (room_of some_scenario state) c.in-Some.task in
     let spec = ap (λ (t : Task). t.spec) is ∙ same.0 in
     let fit = c.in-Some.ensures.fit (length state.siblings.items) c.requires.sound in
-    knows-placed state c.rehomed-task.result c.in-Some.task
+    knows-inserted state c.rehomed-task.result c.in-Some.task
     (ap (λ (s : TaskSpec). find (has_pid s.pid) state.tasks.tasks) spec ∙ c.in-Some.ensures.there)
     (ap (λ (t : Task). t.cookie) is ∙ same.1) c.rehomed-task.ensures.within
     (subst (λ (s : TaskSpec). IsPolicy s.policy) (sym spec) fit.policy)

@@ -19,7 +19,7 @@ pub invariant_of-self : goal.invariant_of-self
 invariant_of-self g c =
     let sound = c.self.invariant in
     let gap : IsGap place_cmp c.self.inside.entries.items (c.args.rank, c.args.stamp) c.in-Err.index = rw (← c.deref.ensures.value) c.in-Err.ensures in
-    let room = rw (← c.self.view_is) at c.requires.room in
+    let room = rw (← c.self.view_is) at c.requires.spare in
     let items = rw c.unwrap.ensures at c.insert.ensures.items in
     let len = rw c.unwrap.ensures at c.insert.ensures.len in
     record {

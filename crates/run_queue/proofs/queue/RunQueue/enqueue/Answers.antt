@@ -11,7 +11,7 @@ put-requires-clause-free g c =
 
 stop : (g : given.Over) (c : goal.After-put g) → Enters c.self.inside (with_ranked c.self.inside 0 c.put.new.self) (0, (c.args.task.rank, c.args.task.stamp)) c.args.task.pid
 stop g c =
-    entered c.self.inside c.self.invariant 0 (omega arith) (c.args.task.rank, c.args.task.stamp) c.args.task.pid (rw (← c.self.view_is) at c.requires.room)
+    entered c.self.inside c.self.invariant 0 (omega arith) (c.args.task.rank, c.args.task.stamp) c.args.task.pid (rw (← c.self.view_is) at c.requires.spare)
     (rw (c.in-0.is, ← c.self.view_is) at c.requires.free) c.put.new.self c.put.ensures.members c.put.ensures.spare
 
 pub invariant_of-self : goal.invariant_of-self
@@ -31,7 +31,7 @@ put-requires-in-1-clause-free g c =
 
 deadline : (g : given.Over) (c : goal.After-put-in-1 g) → Enters c.self.inside (with_ranked c.self.inside 1 c.put-in-1.new.self) (1, (c.args.task.rank, c.args.task.stamp)) c.args.task.pid
 deadline g c =
-    entered c.self.inside c.self.invariant 1 (omega arith) (c.args.task.rank, c.args.task.stamp) c.args.task.pid (rw (← c.self.view_is) at c.requires.room)
+    entered c.self.inside c.self.invariant 1 (omega arith) (c.args.task.rank, c.args.task.stamp) c.args.task.pid (rw (← c.self.view_is) at c.requires.spare)
     (rw (c.in-1.is, ← c.self.view_is) at c.requires.free) c.put-in-1.new.self c.put-in-1.ensures.members c.put-in-1.ensures.spare
 
 pub invariant_of-self-in-1 : goal.invariant_of-self-in-1
@@ -51,7 +51,7 @@ put-requires-in-2-clause-free g c =
 
 real_time : (g : given.Over) (c : goal.After-put-in-2 g) → Enters c.self.inside (with_ranked c.self.inside 2 c.put-in-2.new.self) (2, (c.args.task.rank, c.args.task.stamp)) c.args.task.pid
 real_time g c =
-    entered c.self.inside c.self.invariant 2 (omega arith) (c.args.task.rank, c.args.task.stamp) c.args.task.pid (rw (← c.self.view_is) at c.requires.room)
+    entered c.self.inside c.self.invariant 2 (omega arith) (c.args.task.rank, c.args.task.stamp) c.args.task.pid (rw (← c.self.view_is) at c.requires.spare)
     (rw (c.in-2.is, ← c.self.view_is) at c.requires.free) c.put-in-2.new.self c.put-in-2.ensures.members c.put-in-2.ensures.spare
 
 pub invariant_of-self-in-2 : goal.invariant_of-self-in-2
@@ -75,7 +75,7 @@ fair_class g c = omega arith
 
 fair : (g : given.Over) (c : goal.After-put-in_default g) → Enters c.self.inside (with_ranked c.self.inside 3 c.put-in_default.new.self) (3, (c.args.task.rank, c.args.task.stamp)) c.args.task.pid
 fair g c =
-    entered c.self.inside c.self.invariant 3 (omega arith) (c.args.task.rank, c.args.task.stamp) c.args.task.pid (rw (← c.self.view_is) at c.requires.room)
+    entered c.self.inside c.self.invariant 3 (omega arith) (c.args.task.rank, c.args.task.stamp) c.args.task.pid (rw (← c.self.view_is) at c.requires.spare)
     (rw (fair_class g c, ← c.self.view_is) at c.requires.free) c.put-in_default.new.self c.put-in_default.ensures.members c.put-in_default.ensures.spare
 
 pub invariant_of-self-in_default : goal.invariant_of-self-in_default

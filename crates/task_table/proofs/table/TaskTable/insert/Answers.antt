@@ -1,6 +1,6 @@
 use Rattle.std.proofs.Common.{◌∙◌, sym, ap, arith}
 use Rattle.std.specs.Prelude.{vec_capacity}
-use Rattle.cs_types.specs.Room.{asleep, placed}
+use Rattle.cs_types.specs.Room.{asleep, inserted}
 use Rattle.task_table.specs.Table.{Table}
 use Rattle.task_table.specs.Inside.{IsKept}
 use Rattle.task_table.proofs.Kept.{kept_of, kept_again, kept_sound, kept_length, seen_as, gap_in_entries, kept_insert, full_answer, free_answer}
@@ -17,7 +17,7 @@ insert-requires c =
     omega (arith, c.self.inside.entries.ok.0, gap_in_entries (kept_of _ _ _ _ _ c.self.view_is c.self.invariant) c.args.spec.pid c.args.place c.requires)
 
 after : (c : goal.After-unwrap) → IsKept c.insert_reserved-key.new.self c.insert.new.self.items
-    (vec_capacity c.insert.new.self) c.self.inside.limit (placed (asleep c.args.spec) c.args.self.now.tasks)
+    (vec_capacity c.insert.new.self) c.self.inside.limit (inserted (asleep c.args.spec) c.args.self.now.tasks)
 after c =
     kept_insert (kept_of _ _ _ _ _ c.self.view_is c.self.invariant) c.insert_reserved-key.new.self c.insert.new.self.items _ c.insert_reserved-key.result
     c.args.place (asleep c.args.spec) c.requires c.insert_reserved-key.ensures.was_vacant

@@ -4,7 +4,7 @@ use Rattle.std.specs.List.{list_any}
 use Rattle.std.proofs.lemmas.Iterator.Consumers.{YieldsList-from_first}
 use Rattle.std.proofs.lemmas.Iterator.Search.{any_from_yields_List}
 use Rattle.cs_types.specs.declared.task.Task.{Task}
-use Rattle.fork_inherit.proofs.ending.leads_others.Goals as goal
+use Rattle.fork_inherit.proofs.ending.has_threads.Goals as goal
 
 pub returns-then-task-leader : goal.returns-then-task-leader
 returns-then-task-leader c room same =

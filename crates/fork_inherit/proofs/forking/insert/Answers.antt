@@ -2,10 +2,10 @@ use Rattle.std.proofs.Common.{◌∙◌, ap, cond, map}
 use Rattle.cs_types.specs.Room.{has_pid}
 use Rattle.task_table.specs.Table.{Table}
 use Rattle.task_table.proofs.Tables.{placed_changed}
-use Rattle.fork_inherit.proofs.forking.place.Goals as goal
+use Rattle.fork_inherit.proofs.forking.insert.Goals as goal
 
-pub returns-clause-placed : goal.returns-clause-placed
-returns-clause-placed c =
+pub returns-clause-inserted : goal.returns-clause-inserted
+returns-clause-inserted c =
     let task = c.args.task in
     let added = rw c.unwrap.ensures at c.add.ensures.added in
     let changed : Table → Table = λ (table : Table). record table { tasks = map (λ other. cond (has_pid task.spec.pid other) task other) table.tasks } in

@@ -3,7 +3,7 @@ use Rattle.std.specs.List.{enumerate_from}
 use Rattle.plain_room.specs.State.{sibling_state}
 use Rattle.plain_room.specs.Hotplug.{left}
 use Rattle.plain_room.proofs.States.{number_of}
-use Rattle.plain_room.proofs.hotplug.leave.Given as goal
+use Rattle.plain_room.proofs.hotplug.set_away.Given as goal
 
 abbrev pub invariant-loop-other : goal.invariant-loop-other
 invariant-loop-other l =

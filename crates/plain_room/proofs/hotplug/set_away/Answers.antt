@@ -8,8 +8,8 @@ use Rattle.plain_room.specs.State.{sibling_state}
 use Rattle.plain_room.specs.Hotplug.{left, beside_one_that_leaves}
 use Rattle.plain_room.proofs.Lists.{placed_more}
 use Rattle.plain_room.proofs.States.{number_of, nobody}
-use Rattle.plain_room.proofs.hotplug.leave.Goals as goal
-use Rattle.plain_room.proofs.hotplug.leave.Goals.{then-other-cpu, else-other-cpu}
+use Rattle.plain_room.proofs.hotplug.set_away.Goals as goal
+use Rattle.plain_room.proofs.hotplug.set_away.Goals.{then-other-cpu, else-other-cpu}
 
 pub loop-other-preserved : goal.loop-other-preserved
 loop-other-preserved c =

@@ -1,0 +1,14 @@
+use Rattle.std.proofs.Common.{◌∙◌, ap}
+use Rattle.cs_types.specs.Room.{RoomState}
+use Rattle.cs_types.specs.Selection.{is_to_steal}
+use Rattle.cs_types.specs.Steal.{with_place}
+use Rattle.std.specs.Prelude.{if◌then◌else◌}
+use Rattle.plain_room.proofs.state.State.pick_and_balance.Goals as goal
+
+pub returns-clause-schedules : goal.returns-clause-schedules
+returns-clause-schedules c = record {
+  pick = c.pick_anew-pick.ensures.schedules.pick;
+  room = λ scenario. c.balance.ensures.room scenario
+      ∙ ap (λ (room : RoomState). with_place room c.args.cpu (if is_to_steal room c.args.cpu then 1 else 0)) (c.pick_anew-pick.ensures.schedules.room scenario);
+  numbers = c.balance.ensures.numbers ∙ c.pick_anew-pick.ensures.schedules.numbers;
+}
