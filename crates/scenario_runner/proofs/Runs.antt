@@ -78,7 +78,7 @@ played scenario playable =
       selections = λ past entry rest is.
           let events = all_right P past (entry ∷ rest) (recursion_from_All P (past ++ entry ∷ rest) (subst (AreEvents scenario) is (run_events scenario playable))) in
           selects scenario past entry events.0 (legal_run scenario past entry rest is);
-      settled = nobody_pending scenario (file scenario);
+      nobody_pending = nobody_pending scenario (file scenario);
       one_cookie = one_cookie (fold_of scenario (run_of scenario))
           (settled-moment_of scenario (run_of scenario) playable (run_events scenario playable) (legal_run scenario)) (nobody_pending scenario (file scenario));
     }
