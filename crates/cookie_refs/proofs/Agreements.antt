@@ -1,8 +1,8 @@
 -- What keeps the counts in agreement with the tasks, and what follows from it.
-use Rattle.std.proofs.Common.{◌≡◌, ℕ, suc, ◌+◌, ◌<◌, ◌≤◌, Bool, false, not, cond, ltb, List, [], ◌∷◌, map, length, Some, refl, sym, ap, ◌∙◌, inl, inr, subst, arith}
+use Rattle.std.proofs.Common.{◌≡◌, ℕ, suc, ◌+◌, ◌<◌, ◌≤◌, Bool, false, not, cond, List, [], ◌∷◌, map, length, Some, None, refl, sym, ap, ◌∙◌, inl, inr, subst, arith}
 use Rattle.std.specs.Prelude.{◌≢◌, ◌==◌}
 use Rattle.std.specs.List.{All, AllPairs, filter, find, sum_by}
-use Rattle.std.proofs.lemmas.Bool.{cases_Bool, cond-true, cond-false, cond_both, eqb-true}
+use Rattle.std.proofs.lemmas.Bool.{cases_Bool, cond-true, cond-false, eqb-true}
 use Rattle.std.proofs.lemmas.Bool.Decides.{nat_tests}
 use Rattle.std.proofs.lemmas.List.Elements.{All-head, All-tail}
 use Rattle.std.proofs.lemmas.List.Filters.{sum_by-filter_both}
@@ -10,6 +10,7 @@ use Rattle.std.proofs.lemmas.List.Sums.{sum_by-cons, sum_by-le}
 use Rattle.cs_types.specs.declared.task.Task.{Task}
 use Rattle.cs_types.specs.Room.{has_pid, inserted}
 use Rattle.cs_types.proofs.Foremost.{find_passes}
+use Rattle.cs_types.proofs.Inserted.{sum_by-inserted}
 use Rattle.cookie_refs.specs.Refs.{Refs, count_of, references, Agree, AgreeBut}
 use Rattle.cookie_refs.proofs.Counts.{sum_by_none}
 
@@ -60,14 +61,6 @@ module _ {X : Type 0} (key : X → ℕ) (f : X → ℕ) (wanted : ℕ) (new : X)
             omega (arith, sum_by-cons f x xs, ap f is)
         | inr past ↦ omega (arith, sum_by-cons f x xs, term-le xs old (sym (cond-false _ (Some x) (find (λ x. key x == wanted) xs) past) ∙ found))
       ]
-
--- one more task in its place adds its term to the sum
-sum_by-inserted : (f : Task → ℕ) (task : Task) (tasks : List Task) → sum_by f (inserted task tasks) ≡ sum_by f tasks + f task
-sum_by-inserted f task [] = omega (arith, sum_by-cons f task [])
-sum_by-inserted f task (first ∷ rest) =
-    cond_both (ltb task.spec.pid first.spec.pid) _ _ (λ (ts : List Task). sum_by f ts ≡ sum_by f (first ∷ rest) + f task)
-    (λ _. omega (arith, sum_by-cons f task (first ∷ rest)))
-    (λ _. omega (arith, sum_by-cons f first (inserted task rest), sum_by-cons f first rest, sum_by-inserted f task rest))
 
 -- ---- agreements
 
@@ -121,12 +114,12 @@ AgreeBut-with_cookie refs got put tasks held pid cookie task rising found gets p
     (subst (λ n. find (λ (other : Task). other.spec.pid == n) tasks ≡ Some task) (sym pid_is) found) in
     omega (arith, gets other, puts other, agree other, replaced)
 
--- A task is placed among the others, and its cookie got.
-pub AgreeBut-inserted : (refs got : Refs) (tasks : List Task) (held : ℕ) (task : Task) →
+-- A task is put in its place, where no other has its pid, and its cookie got.
+pub AgreeBut-inserted : (refs got : Refs) (tasks : List Task) (held : ℕ) (task : Task) → find (has_pid task.spec.pid) tasks ≡ None →
     ((other : ℕ) → count_of got other ≡ count_of refs other + references task.cookie other) →
     AgreeBut refs tasks held → AgreeBut got (inserted task tasks) held
-AgreeBut-inserted refs got tasks held task gets agree other =
-    omega (arith, gets other, agree other, sum_by-inserted (λ (task : Task). references task.cookie other) task tasks)
+AgreeBut-inserted refs got tasks held task none gets agree other =
+    omega (arith, gets other, agree other, sum_by-inserted (λ (task : Task). references task.cookie other) task tasks none)
 
 -- The one task with a pid goes, and its cookie is put.
 pub AgreeBut-without : (refs put : Refs) (tasks : List Task) (held pid : ℕ) (task : Task) → filter (has_pid pid) tasks ≡ task ∷ [] →

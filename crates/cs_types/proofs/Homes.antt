@@ -3,7 +3,7 @@ use Rattle.std.proofs.Common.{◌≡◌, ◌≢◌, ℕ, ◌+◌, ◌<◌, Bool,
 use Rattle.std.specs.Prelude.{find, filter, not, is_some, ◌==◌, ◌&&◌, ◌||◌}
 use Rattle.std.specs.List.{AllByRecursion, enumerate_from}
 use Rattle.std.specs.Option.{IfSome, option_map, option_and_then}
-use Rattle.std.proofs.lemmas.Bool.{cond_both, cond-true, and_parts, eqb-true, eqb-false, eq-eqb, not-false}
+use Rattle.std.proofs.lemmas.Bool.{cond_both, and_parts, eqb-true, eqb-false, not-false}
 use Rattle.std.proofs.lemmas.List.{length-map, length-set}
 use Rattle.std.proofs.lemmas.List.FromFn.{length-enumerate_from}
 use Rattle.std.proofs.lemmas.Option.{IfSome_then}
@@ -26,11 +26,12 @@ use Rattle.cs_types.specs.Accounting.{accounted}
 use Rattle.cs_types.specs.Time.{with_growth, least_of, advanced}
 use Rattle.cs_types.proofs.Foremost.{find_passes}
 use Rattle.cs_types.proofs.Filtered.{each-filter, each_found}
+use Rattle.cs_types.proofs.Inserted.{found-inserted}
 use Rattle.cs_types.proofs.Tasks.{found_again}
-use Rattle.cs_types.proofs.Rising.{AreRising, below_high}
+use Rattle.cs_types.proofs.Rising.{AreRising}
 use Rattle.cs_types.proofs.Siblings.{kept, kept-schedule, kept-try_steal, kept-idled, kept-without, kept-queued_at_home, kept-ticked, kept-with_answer, kept-set_policy, length-alike, is_online-alike, length-step}
 use Rattle.cs_types.proofs.Selections.{each_both}
-use Rattle.cs_types.proofs.Spots.{Spot, spot_at, each_is_found, find-inserted}
+use Rattle.cs_types.proofs.Spots.{Spot, spot_at, each_is_found}
 use Rattle.cs_types.proofs.Moves.{spots-schedule, spots-advanced, spots-ticked_room, spots-queued_at_home, spots-dequeued, spots-without, spots-moved, spots-with_child, spots-with_policy_set, spot_off, spots-leave, spot_set, spots-with_cookies}
 use Rattle.cs_types.proofs.Places.{with_sibling_either, mapped_at, enumerated_at, lowest_online_is, lowest_other_is}
 
@@ -182,20 +183,18 @@ child_at_home_is_online room child housed =
     cond_both (is_online room child.home) child.home (lowest_online room) (λ home. is_online room home ≡ true) (λ up. up)
     (λ _. lowest_online_is room housed.some.0 housed.some.1 housed.some.2)
 
-pub child_is_found : (room : RoomState) (caller : Task) (thread : Bool) → AreRising room →
+pub child_is_found : (room : RoomState) (caller : Task) (thread : Bool) →
     task_of (with_child room (child_of caller thread room.next_pid)) room.next_pid ≡ Some (child_of caller thread room.next_pid)
-child_is_found room caller thread rises =
-    find-inserted (child_of caller thread room.next_pid) room.tasks (below_high 0 room.next_pid room.tasks rises).1 room.next_pid
-    ∙ cond-true (room.next_pid == room.next_pid) (Some (child_of caller thread room.next_pid)) (task_of room room.next_pid) (eq-eqb _ _ refl)
+child_is_found room caller thread = found-inserted (child_of caller thread room.next_pid) room.tasks
 
-housed-forked : (room : RoomState) (thread : Bool) (caller : Option Task) → AreRising room → IsHoused room → IsHoused (forked room thread caller).room
-housed-forked room thread None rises housed = housed
-housed-forked room thread (Some caller) rises housed =
+housed-forked : (room : RoomState) (thread : Bool) (caller : Option Task) → IsHoused room → IsHoused (forked room thread caller).room
+housed-forked room thread None housed = housed
+housed-forked room thread (Some caller) housed =
     let child = child_of caller thread room.next_pid in
     let born = with_child room child in
-    let held : IsHoused born = housed_by room born refl (λ pid. home_at room _ pid room.next_pid _ (spots-with_child room caller thread rises pid) (λ queued. absurd cc) housed) housed in
+    let held : IsHoused born = housed_by room born refl (λ pid. home_at room _ pid room.next_pid _ (spots-with_child room caller thread pid) (λ queued. absurd cc) housed) housed in
     cond_both (may_not_fork room caller) _ _ (λ (made : Stepped). IsHoused made.room) (λ _. housed)
-    (λ _. housed-queued_at_home born (child_at_home room child) child (child_is_found room caller thread rises) (child_at_home_is_online room child housed) held)
+    (λ _. housed-queued_at_home born (child_at_home room child) child (child_is_found room caller thread) (child_at_home_is_online room child housed) held)
 
 housed-ticked : (room : RoomState) (cpu : ℕ) (task : Option Task) → running_on room cpu ≡ task → IsHoused room → IsHoused (ticked room cpu task).room
 housed-ticked room cpu None runs housed = housed_same room (accounted room) refl (λ pid. refl) housed
@@ -294,7 +293,7 @@ housed-step room fresh (Exit cpu) limits rises housed = housed-unless_offline ro
 housed-step room fresh (Tick cpu) limits rises housed = housed-unless_offline room cpu _ housed (λ _. housed-ticked room cpu (running_on room cpu) refl housed)
 housed-step room fresh (Wake pid) limits rises housed = housed-woken room pid (task_of room pid) refl housed
 housed-step room fresh (Advance delta) limits rises housed = housed-advanced room delta housed
-housed-step room fresh (Fork caller thread) limits rises housed = housed-forked room thread (task_of room caller) rises housed
+housed-step room fresh (Fork caller thread) limits rises housed = housed-forked room thread (task_of room caller) housed
 housed-step room fresh (Prctl caller ask) limits rises housed =
     housed-with_answer (with_made room (makes_cookie room caller ask)) (setting_of room caller ask) (prctl_answer room caller ask)
     (record { some = housed.some; homes = housed.homes })

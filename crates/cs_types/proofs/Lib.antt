@@ -1,6 +1,7 @@
 pub mod Histories
 pub mod Foremost
 pub mod First
+pub mod Inserted
 pub mod Tasks
 pub mod Settings
 pub mod Siblings

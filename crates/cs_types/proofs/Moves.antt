@@ -14,7 +14,7 @@ use Rattle.cs_types.specs.Time.{is_running, grown, grown_by, advanced, ticked_ro
 use Rattle.cs_types.specs.Hotplug.{lowest_other, moved_off, leave}
 use Rattle.cs_types.specs.Prctl.{Setting, is_set, with_cookies}
 use Rattle.cs_types.proofs.Foremost.{find_passes}
-use Rattle.cs_types.proofs.Rising.{AreRising, below_high, pid-remembered, pid-grown_by}
+use Rattle.cs_types.proofs.Rising.{pid-remembered, pid-grown_by}
 use Rattle.cs_types.proofs.Spots.{Spot, spot_of, spot_at, find-map, spot_in-map, spot_in-replaced, find-replaced, spot_in-alike, spot_in-without, spot_in-inserted}
 
 -- ---- a schedule moves no task
@@ -107,11 +107,11 @@ spots-moved room cpu task found pid = spot_in-replaced (record (moved_to room cp
 
 -- ---- a child
 
-pub spots-with_child : (room : RoomState) (caller : Task) (thread : Bool) → AreRising room → (pid : ℕ) →
+pub spots-with_child : (room : RoomState) (caller : Task) (thread : Bool) (pid : ℕ) →
     spot_at (with_child room (child_of caller thread room.next_pid)) pid
     ≡ cond (pid == room.next_pid) (Some (spot_of (child_of caller thread room.next_pid))) (spot_at room pid)
-spots-with_child room caller thread rises pid =
-    spot_in-inserted (child_of caller thread room.next_pid) room.tasks (below_high 0 room.next_pid room.tasks rises).1 pid
+spots-with_child room caller thread pid =
+    spot_in-inserted (child_of caller thread room.next_pid) room.tasks pid
 
 -- ---- another policy
 

@@ -218,7 +218,7 @@ touches_after moment (entry ∷ entries) few low =
 pub task_number-ledger_of : (scenario : Scenario) (history : History) → length scenario.tasks ≤ scenario.task_limit → scenario.task_limit ≤ 256 →
     task_number (ledger_of scenario history) ≤ 514 * length history
 task_number-ledger_of scenario history few low =
-    omega (arith, touches_after (beginning scenario) history (subst (λ n. n ≤ scenario.task_limit) (sym (length-asleep_tasks scenario.tasks)) few) low)
+    omega (arith, touches_after (beginning scenario) history (omega (arith, few, length-asleep_tasks scenario.tasks)) low)
 
 -- ---- how far the stamps, the cookies, the pids and the list of the ended come
 
@@ -388,7 +388,7 @@ draws-fold_of : (scenario : Scenario) (history : History) → length scenario.ta
     (room.next_stamp ≤ 257 * length history) × (room.next_cookie ≤ 1 + length history)
     × (room.next_pid ≤ first_pid scenario.tasks + length history) × (length room.ended ≤ length history)
 draws-fold_of scenario history few low =
-    let made = draws_after (beginning scenario) history (subst (λ n. n ≤ scenario.task_limit) (sym (length-asleep_tasks scenario.tasks)) few) low in
+    let made = draws_after (beginning scenario) history (omega (arith, few, length-asleep_tasks scenario.tasks)) low in
     (omega (arith, made.0), omega (arith, made.1), omega (arith, made.2), omega (arith, made.3))
 
 pub next_stamp-fold_of : (scenario : Scenario) (history : History) → length scenario.tasks ≤ scenario.task_limit → scenario.task_limit ≤ 256 →

@@ -1,8 +1,8 @@
 -- Rising: after every history the living tasks stand by rising pid, all above 0 and below the next pid.
-use Rattle.std.proofs.Common.{◌≡◌, ◌≢◌, ℕ, suc, ◌+◌, ◌<◌, ◌≤◌, All, Bool, cond, true, false, ltb, List, [], ◌∷◌, length, map, refl, sym, ap, ◌∙◌, subst, arith, Option, Some, None}
+use Rattle.std.proofs.Common.{◌≡◌, ◌≢◌, ℕ, suc, ◌+◌, ◌<◌, ◌≤◌, All, Bool, cond, true, false, ltb, List, [], ◌∷◌, length, map, refl, sym, ap, ◌∙◌, subst, arith, Option, Some, None, inl, inr}
 use Rattle.std.specs.Prelude.{find, filter, fold, not, ◌==◌, ◌&&◌}
 use Rattle.std.specs.List.{AllByRecursion}
-use Rattle.std.proofs.lemmas.Bool.{cond_both, cond-true, cond-false, eqb-true, ltb-true, lt-ltb}
+use Rattle.std.proofs.lemmas.Bool.{cases_Bool, cond_both, cond-true, cond-false, eqb-true, ltb-true, lt-ltb}
 use Rattle.std.proofs.lemmas.Bool.Decides.{nat_tests}
 use Rattle.std.proofs.lemmas.List.Elements.{recursion_from_All}
 use Rattle.cs_types.specs.declared.task.Task.{Task}
@@ -28,8 +28,8 @@ use Rattle.cs_types.specs.Time.{advanced, is_running, grown, grown_by}
 use Rattle.cs_types.specs.Touches.{is_fresh}
 use Rattle.cs_types.specs.History.{History, Moment, beginning, next, after, fold_of}
 use Rattle.cs_types.proofs.Tasks.{below_first_pid}
-use Rattle.cs_types.proofs.Foremost.{find_passes}
-use Rattle.cs_types.proofs.Times.{all_placed}
+use Rattle.cs_types.proofs.Foremost.{find_passes, each_weaker}
+use Rattle.cs_types.proofs.Inserted.{is_above, inserted-first, inserted-past, each-inserted}
 
 -- each pid is above the one before it, the first above the one number, and the last below the other
 abbrev pub Rises : ℕ → ℕ → List Task → Type 0
@@ -68,20 +68,26 @@ rises-filter p low high (task ∷ tasks) rises =
     cond_both (p task) (task ∷ filter p tasks) (filter p tasks) (Rises low high) (λ _. (rises.0, rest))
     (λ _. rises_wider task.spec.pid low high high (filter p tasks) (omega arith) (omega arith) rest)
 
+above_low : (low high : ℕ) (tasks : List Task) → Rises low high tasks → AllByRecursion (λ other. low < other.spec.pid) tasks
+above_low low high [] rises = tt
+above_low low high (task ∷ tasks) rises =
+    let first = rises.0 in
+    (first, each_weaker (λ other. task.spec.pid < other.spec.pid) (λ other. low < other.spec.pid) tasks (λ other above. omega arith) (above_low task.spec.pid high tasks rises.1))
+
 rises-inserted : (task : Task) (low high : ℕ) (tasks : List Task) → low < task.spec.pid → task.spec.pid < high →
     AllByRecursion (λ other. other.spec.pid ≢ task.spec.pid) tasks → Rises low high tasks → Rises low high (inserted task tasks)
 rises-inserted task low high [] above below fresh rises = (above, below)
 rises-inserted task low high (first ∷ rest) above below fresh rises =
-    cond_both (ltb task.spec.pid first.spec.pid) (task ∷ first ∷ rest) (first ∷ inserted task rest) (Rises low high)
-    (λ is. (above, (ltb-true task.spec.pid first.spec.pid is, rises.1)))
-    (λ is. (rises.0, rises-inserted task first.spec.pid high rest (past is) below fresh.1 rises.1)) where
-      past : ltb task.spec.pid first.spec.pid ≡ false → first.spec.pid < task.spec.pid
-      past is = let other = fresh.0 in grind (arith, nat_tests)
+    elim (cases_Bool (ltb task.spec.pid first.spec.pid)) [
+      | inl is ↦
+          let rises_too : Rises task.spec.pid high (first ∷ rest) = (ltb-true task.spec.pid first.spec.pid is, rises.1) in
+          subst (Rises low high) (sym (inserted-first task (first ∷ rest) (above_low task.spec.pid high (first ∷ rest) rises_too))) (above, rises_too)
+      | inr is ↦
+          let past : first.spec.pid < task.spec.pid = let other = fresh.0 in grind (arith, nat_tests) in
+          subst (Rises low high) (sym (inserted-past task first rest past)) (rises.0, rises-inserted task first.spec.pid high rest past below fresh.1 rises.1)
+    ]
 
 -- ---- the tasks above a pid
-
-abbrev pub is_above : ℕ → Task → Bool
-is_above pid task = ltb pid task.spec.pid
 
 -- all of them, where the first is
 all_above : (pid low high : ℕ) (tasks : List Task) → pid ≤ low → Rises low high tasks → filter (is_above pid) tasks ≡ tasks
@@ -137,7 +143,7 @@ fresh_more : (first : TaskSpec) (tasks : List Task) (specs : List TaskSpec) → 
     AllByRecursion (λ spec. AllByRecursion (λ other. other.spec.pid ≢ spec.pid) (inserted (asleep first) tasks)) specs
 fresh_more first tasks [] others fresh = tt
 fresh_more first tasks (spec ∷ specs) others fresh =
-    (all_placed (λ other. other.spec.pid ≢ spec.pid) (asleep first) tasks others.0 fresh.0, fresh_more first tasks specs others.1 fresh.1)
+    (each-inserted (λ other. other.spec.pid ≢ spec.pid) (asleep first) tasks others.0 fresh.0, fresh_more first tasks specs others.1 fresh.1)
 
 rises-added : (high : ℕ) (tasks : List Task) (specs : List TaskSpec) → Rises 0 high tasks →
     AllByRecursion (λ spec. 0 < spec.pid) specs → AllByRecursion (λ spec. spec.pid < high) specs →

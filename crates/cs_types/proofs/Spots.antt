@@ -1,14 +1,15 @@
 -- Spots: what matters of a task for where it may run, by its pid: whether it is queued, its home and its cookie; and how it
 -- changes with the list of tasks.
-use Rattle.std.proofs.Common.{◌≡◌, ◌≢◌, ℕ, ◌<◌, Bool, cond, true, false, ltb, List, [], ◌∷◌, map, refl, sym, ap, ◌∙◌, inl, inr, arith, Option, Some, None}
+use Rattle.std.proofs.Common.{◌≡◌, ℕ, ◌<◌, Bool, cond, true, false, List, [], ◌∷◌, map, refl, sym, ap, ◌∙◌, inl, inr, arith, Option, Some, None}
 use Rattle.std.specs.Prelude.{find, filter, not, ◌==◌}
 use Rattle.std.specs.List.{AllByRecursion}
 use Rattle.std.specs.Option.{option_map}
-use Rattle.std.proofs.lemmas.Bool.{cases_Bool, cond_both, cond-true, cond-false, eqb-true, eq-eqb, false_from_ne_true}
+use Rattle.std.proofs.lemmas.Bool.{cases_Bool, cond_both, cond-true, cond-false, eqb-true, eq-eqb}
 use Rattle.std.proofs.lemmas.Bool.Decides.{nat_tests}
 use Rattle.cs_types.specs.declared.task.Task.{Task}
 use Rattle.cs_types.specs.Room.{RoomState, has_pid, inserted}
 use Rattle.cs_types.proofs.Foremost.{find_passes, each_weaker}
+use Rattle.cs_types.proofs.Inserted.{find-inserted}
 use Rattle.cs_types.proofs.Rising.{Rises}
 
 -- ---- spots
@@ -136,23 +137,8 @@ spot_in-without gone (task ∷ tasks) pid =
       ]
     ]
 
--- a task that comes, with a pid that no other has
-pub find-inserted : (task : Task) (tasks : List Task) → AllByRecursion (λ other. other.spec.pid ≢ task.spec.pid) tasks → (pid : ℕ) →
-    find (has_pid pid) (inserted task tasks) ≡ cond (pid == task.spec.pid) (Some task) (find (has_pid pid) tasks)
-find-inserted task [] others pid = ap (λ b. cond b (Some task) None) (either_way task.spec.pid pid)
-find-inserted task (first ∷ rest) others pid =
-    cond_both (ltb task.spec.pid first.spec.pid) (task ∷ first ∷ rest) (first ∷ inserted task rest)
-    (λ ts. find (has_pid pid) ts ≡ cond (pid == task.spec.pid) (Some task) (find (has_pid pid) (first ∷ rest)))
-    (λ _. ap (λ b. cond b (Some task) (find (has_pid pid) (first ∷ rest))) (either_way task.spec.pid pid))
-    (λ _. elim (cases_Bool (first.spec.pid == pid)) [
-      | inl is ↦ let no : (pid == task.spec.pid) ≡ false = differ is in simp (is, no)
-      | inr is ↦ simp (is, find-inserted task rest others.1 pid)
-    ]) where
-      differ : (first.spec.pid == pid) ≡ true → (pid == task.spec.pid) ≡ false
-      differ is =
-          false_from_ne_true (pid == task.spec.pid) (λ same. others.0 (eqb-true first.spec.pid pid is ∙ eqb-true pid task.spec.pid same))
-
-pub spot_in-inserted : (task : Task) (tasks : List Task) → AllByRecursion (λ other. other.spec.pid ≢ task.spec.pid) tasks → (pid : ℕ) →
+-- a task that comes
+pub spot_in-inserted : (task : Task) (tasks : List Task) (pid : ℕ) →
     spot_in (inserted task tasks) pid ≡ cond (pid == task.spec.pid) (Some (spot_of task)) (spot_in tasks pid)
-spot_in-inserted task tasks others pid =
-    ap (option_map spot_of) (find-inserted task tasks others pid) ∙ spot-cond (pid == task.spec.pid) task (find (has_pid pid) tasks)
+spot_in-inserted task tasks pid =
+    ap (option_map spot_of) (find-inserted task tasks pid) ∙ spot-cond (pid == task.spec.pid) task (find (has_pid pid) tasks)

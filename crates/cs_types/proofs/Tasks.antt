@@ -1,5 +1,5 @@
 -- Tasks: how many there are, and that one is found by its pid.
-use Rattle.std.proofs.Common.{◌≡◌, ℕ, suc, ◌+◌, ◌<◌, ◌≤◌, max, All, Bool, cond, true, false, List, [], ◌∷◌, length, refl, subst, sym, ap, ◌∙◌, arith, ltb, Option, Some, None}
+use Rattle.std.proofs.Common.{◌≡◌, ℕ, ◌+◌, ◌<◌, ◌≤◌, max, All, Bool, cond, true, false, List, [], ◌∷◌, length, refl, subst, sym, ◌∙◌, arith, Option, Some, None}
 use Rattle.std.specs.Prelude.{fold, find, not, ◌==◌}
 use Rattle.std.proofs.lemmas.Bool.{cond_both, or_parts, eqb-true, eqb-false}
 use Rattle.std.proofs.lemmas.List.Filters.{length-filter_both}
@@ -29,22 +29,17 @@ use Rattle.cs_types.specs.Time.{advanced, grown, ticked_room}
 use Rattle.cs_types.specs.Touches.{is_fresh}
 use Rattle.cs_types.specs.History.{History, Moment, beginning, next, after, fold_of}
 use Rattle.cs_types.proofs.Foremost.{find_passes}
+use Rattle.cs_types.proofs.Inserted.{length-inserted}
 
 -- ---- at the start
 
-length-inserted : (task : Task) (tasks : List Task) → length (inserted task tasks) ≡ suc (length tasks)
-length-inserted task [] = refl
-length-inserted task (first ∷ rest) =
-    cond_both (ltb task.spec.pid first.spec.pid) _ _ (λ (ts : List Task). length ts ≡ suc (suc (length rest))) (λ _. refl)
-    (λ _. ap suc (length-inserted task rest))
-
 length-added : (tasks : List Task) (specs : List TaskSpec) →
-    length (fold (λ ts spec. inserted (asleep spec) ts) tasks specs) ≡ length tasks + length specs
+    length (fold (λ ts spec. inserted (asleep spec) ts) tasks specs) ≤ length tasks + length specs
 length-added tasks [] = omega arith
 length-added tasks (spec ∷ specs) =
     omega (arith, length-added (inserted (asleep spec) tasks) specs, length-inserted (asleep spec) tasks)
 
-pub length-asleep_tasks : (specs : List TaskSpec) → length (asleep_tasks specs) ≡ length specs
+pub length-asleep_tasks : (specs : List TaskSpec) → length (asleep_tasks specs) ≤ length specs
 length-asleep_tasks specs = omega (arith, length-added [] specs)
 
 -- ---- by their pids
@@ -203,7 +198,7 @@ few-after moment (entry ∷ entries) =
 -- So after a history there are no more tasks than the scenario allows.
 pub few-fold_of : (scenario : Scenario) (history : History) → length scenario.tasks ≤ scenario.task_limit → length (fold_of scenario history).tasks ≤ scenario.task_limit
 few-fold_of scenario history few =
-    (few-after (beginning scenario) history).few (subst (λ n. n ≤ scenario.task_limit) (sym (length-asleep_tasks scenario.tasks)) few)
+    (few-after (beginning scenario) history).few (omega (arith, few, length-asleep_tasks scenario.tasks))
 
 pub task_limit-fold_of : (scenario : Scenario) (history : History) → (fold_of scenario history).task_limit ≡ scenario.task_limit
 task_limit-fold_of scenario history = (few-after (beginning scenario) history).limit

@@ -32,6 +32,7 @@ use Rattle.cs_types.specs.Touches.{is_fresh}
 use Rattle.cs_types.specs.History.{History, Moment, beginning, next, after, fold_of}
 use Rattle.cs_types.proofs.Foremost.{each_of_all, each_weaker}
 use Rattle.cs_types.proofs.Filtered.{each-filter, each_found}
+use Rattle.cs_types.proofs.Inserted.{each-inserted}
 use Rattle.cs_types.proofs.Siblings.{map-set_alike, map-enumerate_alike, map-map_alike, get_or-map_default, kept-with_answer, parts_of, kept, kept-with_sibling, kept-selected_room, least-alike}
 
 -- ---- lists
@@ -58,12 +59,6 @@ all_get P (x ∷ xs) (suc i) d is all = all_get P xs i d is all.1
 pub all_replicate : {X : Type 0} (P : X → Type 0) (n : ℕ) (x : X) → P x → AllByRecursion P (replicate n x)
 all_replicate P zero x is = tt
 all_replicate P (suc n) x is = (is, all_replicate P n x is)
-
-pub all_placed : (P : Task → Type 0) (task : Task) (tasks : List Task) → P task → AllByRecursion P tasks → AllByRecursion P (inserted task tasks)
-all_placed P task [] is all = (is, tt)
-all_placed P task (first ∷ rest) is all =
-    cond_both (ltb task.spec.pid first.spec.pid) (task ∷ first ∷ rest) (first ∷ inserted task rest) (AllByRecursion P) (λ _. (is, all))
-    (λ _. (all.0, all_placed P task rest is all.1))
 
 -- ---- growth
 
@@ -299,7 +294,7 @@ timely-forked most room thread (Some caller) timely =
     let is : IsTimelyTask (with_child room child) (child_at_home room child) = record { vtime = omega arith; used = omega arith } in
     let born : Timely most (with_child room child) = record {
       tasks = kept_timely room (with_child room child) (with_child room child).tasks refl refl
-          (all_placed (IsTimelyTask room) child room.tasks (record { vtime = omega arith; used = omega arith }) timely.tasks);
+          (each-inserted (IsTimelyTask room) child room.tasks (record { vtime = omega arith; used = omega arith }) timely.tasks);
       siblings = timely.siblings;
     } in
     cond_both (may_not_fork room caller) _ _ (λ (made : Stepped). Timely most made.room) (λ _. timely)
@@ -738,7 +733,7 @@ timely_asleep : (scenario : Scenario) (tasks : List Task) (specs : List TaskSpec
     AllByRecursion (IsTimelyTask (start scenario)) (fold (λ ts spec. inserted (asleep spec) ts) tasks specs)
 timely_asleep scenario tasks [] all = all
 timely_asleep scenario tasks (spec ∷ specs) all =
-    timely_asleep scenario (inserted (asleep spec) tasks) specs (all_placed (IsTimelyTask (start scenario)) (asleep spec) tasks (asleep_is_timely scenario spec) all)
+    timely_asleep scenario (inserted (asleep spec) tasks) specs (each-inserted (IsTimelyTask (start scenario)) (asleep spec) tasks (asleep_is_timely scenario spec) all)
 
 -- After every history the times keep their bounds.
 pub timely-fold_of : (scenario : Scenario) (history : History) → IsTimely (length history) (fold_of scenario history)

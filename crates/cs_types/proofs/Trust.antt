@@ -27,7 +27,7 @@ use Rattle.cs_types.proofs.Filtered.{each_found, Contains-filter}
 use Rattle.cs_types.proofs.Rising.{AreRising, rising-step, rising-fold_of}
 use Rattle.cs_types.proofs.Siblings.{get_or-map_default, length-step}
 use Rattle.cs_types.proofs.Selections.{online_parts}
-use Rattle.cs_types.proofs.Times.{all_placed}
+use Rattle.cs_types.proofs.Inserted.{each-inserted}
 use Rattle.cs_types.proofs.Spots.{spot_of, spot_at, each_is_found}
 use Rattle.cs_types.proofs.Homes.{IsHome, IsHoused, housed-step}
 use Rattle.cs_types.proofs.Fits.{IsAt, cookie_at, SiblingFits, AllFit, fits_idle}
@@ -95,7 +95,7 @@ holds_after siblings moment (entry ∷ entries) long limits legal holds =
 all_asleep : (tasks : List Task) (specs : List TaskSpec) → AllByRecursion (λ task. task.queued ≡ false) tasks →
     AllByRecursion (λ task. task.queued ≡ false) (fold (λ ts spec. inserted (asleep spec) ts) tasks specs)
 all_asleep tasks [] all = all
-all_asleep tasks (spec ∷ specs) all = all_asleep (inserted (asleep spec) tasks) specs (all_placed (λ task. task.queued ≡ false) (asleep spec) tasks refl all)
+all_asleep tasks (spec ∷ specs) all = all_asleep (inserted (asleep spec) tasks) specs (each-inserted (λ task. task.queued ≡ false) (asleep spec) tasks refl all)
 
 all_idle : (n cpu : ℕ) → get_or (replicate n idle) cpu idle ≡ idle
 all_idle zero cpu = refl

@@ -77,11 +77,10 @@ asleep spec =
       occupation = 0;
     }
 
--- the tasks, by rising pid, with one more in its place
+-- the tasks, by rising pid, with one more in its place: those with a smaller pid, the task, and those with a greater one
 abbrev pub inserted : Task → List Task → List Task
-inserted task [] = task ∷ []
-inserted task (first ∷ rest) =
-    if nat_lt task.spec.pid first.spec.pid then task ∷ first ∷ rest else first ∷ inserted task rest
+inserted task tasks =
+    filter (λ other. nat_lt other.spec.pid task.spec.pid) tasks ++ task ∷ filter (λ other. nat_lt task.spec.pid other.spec.pid) tasks
 
 -- the tasks of these lines before the first wake, by rising pid
 abbrev pub asleep_tasks : List TaskSpec → List Task

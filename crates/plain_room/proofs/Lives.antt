@@ -1,12 +1,12 @@
 -- Lives: the tasks with one more among them, with one changed and then gone, and how one is found there.
-use Rattle.std.proofs.Common.{◌≡◌, ℕ, Bool, true, cond, List, [], ◌∷◌, map, refl, sym, ap, ◌∙◌, inl, inr, ltb, eq-eqb, ne_eqb, arith}
+use Rattle.std.proofs.Common.{◌≡◌, ℕ, Bool, true, cond, List, [], ◌∷◌, map, refl, ap, ◌∙◌, inl, inr, eq-eqb, ne_eqb, arith}
 use Rattle.std.specs.Prelude.{All, Some, None, filter, find, not, ◌&&◌, ◌||◌}
 use Rattle.std.specs.List.{list_any}
-use Rattle.std.proofs.lemmas.Bool.{cases_Bool, cond_both, cond-true, cond-false}
+use Rattle.std.proofs.lemmas.Bool.{cases_Bool, cond-false}
 use Rattle.std.proofs.Math.Bool.{and-false}
 use Rattle.std.proofs.lemmas.List.Elements.{All-head, All-tail}
 use Rattle.cs_types.specs.declared.task.Task.{Task}
-use Rattle.cs_types.specs.Room.{has_pid, inserted}
+use Rattle.cs_types.specs.Room.{has_pid}
 use Rattle.plain_room.specs.State.{IsFit}
 
 -- the tasks once the one with its pid is this one
@@ -47,20 +47,6 @@ any-changed task p (first ∷ rest) =
     elim (cases_Bool (has_pid task.spec.pid first)) [
       | inl is ↦ rw (is, own_pid task, and-false (p task), and-false (p first)) more
       | inr is ↦ rw (is, is) (ap (λ b. (p first && true) || b) more)
-    ]
-
--- A task that was placed is found by its pid, where none had it.
-pub find-inserted : (task : Task) (tasks : List Task) → find (has_pid task.spec.pid) tasks ≡ None →
-    find (has_pid task.spec.pid) (inserted task tasks) ≡ Some task
-find-inserted task [] none = cond-true (has_pid task.spec.pid task) _ _ (own_pid task)
-find-inserted task (first ∷ rest) none =
-    elim (cases_Bool (has_pid task.spec.pid first)) [
-      | inl is ↦ let bad : Some first ≡ None = sym (cond-true (has_pid task.spec.pid first) _ _ is) ∙ none in absurd cc
-      | inr is ↦
-          cond_both (ltb task.spec.pid first.spec.pid) (task ∷ first ∷ rest) (first ∷ inserted task rest)
-          (λ (ts : List Task). find (has_pid task.spec.pid) ts ≡ Some task)
-          (λ _. cond-true (has_pid task.spec.pid task) _ _ (own_pid task))
-          (λ _. cond-false (has_pid task.spec.pid first) _ _ is ∙ find-inserted task rest (rw is at none))
     ]
 
 -- No task that fits has the next pid.

@@ -1,5 +1,5 @@
 -- What searches, changes and counts of the lists say of the states that these stand for.
-use Rattle.std.proofs.Common.{◌≡◌, ℕ, ◌+◌, ◌<◌, ◌≤◌, cond, false, List, [], ◌∷◌, map, refl, subst, sym, ap, ◌∙◌, length, set, take, length-take, get_or, ltb, eqb, arith}
+use Rattle.std.proofs.Common.{◌≡◌, ℕ, ◌+◌, ◌<◌, ◌≤◌, cond, false, List, [], ◌∷◌, map, refl, subst, sym, ap, ◌∙◌, length, set, take, length-take, get_or, eqb, arith}
 use Rattle.std.specs.Prelude.{All, IsTrue, Option, Some, None, Result, Ok, IfSome, find, fold, sum_by}
 use Rattle.std.specs.List.{AllByRecursion}
 use Rattle.std.specs.Result.{IsOk}
@@ -9,7 +9,7 @@ use Rattle.cs_types.specs.Selection.{cookie_of, Scheduled}
 use Rattle.std.specs.Global.{Vec}
 use Rattle.std.specs.Vec.{with_items}
 use Rattle.std.proofs.lemmas.List.{get_or-take, get_or_default, get_or-map, length-map, with_items_is}
-use Rattle.std.proofs.lemmas.List.Elements.{All-map, All-weaker, All-head, All-tail, All-from_recursion, recursion_from_All}
+use Rattle.std.proofs.lemmas.List.Elements.{All-map, All-weaker, All-head, All-tail, All-from_recursion}
 use Rattle.std.proofs.lemmas.List.Sums.{sum_by-cons}
 use Rattle.std.proofs.Math.Seq.{map-set_same}
 use Rattle.std.proofs.lemmas.Bool.{cond_both, cond-false, ne_eqb, eqb-true}
@@ -21,6 +21,7 @@ use Rattle.cs_types.specs.Room.{RoomState, first_pid, asleep, inserted, asleep_t
 use Rattle.task_table.specs.Table.{Table, Rises, add_answer}
 use Rattle.task_table.specs.declared.fault.AddFault.{AddFault}
 use Rattle.cs_types.proofs.Foremost.{find_passes}
+use Rattle.cs_types.proofs.Inserted.{All-inserted, each-inserted}
 use Rattle.cs_types.proofs.Tasks.{length-asleep_tasks, below_first_pid}
 use Rattle.task_table.proofs.Tables.{changed_each}
 use Rattle.cookie_refs.specs.Refs.{Refs, references, AgreeBut}
@@ -180,27 +181,17 @@ numbers_kept siblings cpu x y is same = map-set_same number_of siblings cpu y x 
 
 -- ---- the start
 
--- what holds of each of some tasks, and of those that are added
-placed_all : (P : Task → Type 0) (task : Task) (tasks : List Task) → P task → AllByRecursion P tasks → AllByRecursion P (inserted task tasks)
-placed_all P task [] here all = (here, tt)
-placed_all P task (first ∷ rest) here all =
-    cond_both (ltb task.spec.pid first.spec.pid) (task ∷ first ∷ rest) (first ∷ inserted task rest) (AllByRecursion P)
-    (λ _. (here, all)) (λ _. (all.0, placed_all P task rest here all.1))
-
--- what holds of each of some tasks, and of one that is placed among them
-pub All-inserted : (P : Task → Type 0) (task : Task) (tasks : List Task) → P task → All P tasks → All P (inserted task tasks)
-All-inserted P task tasks here all = All-from_recursion P (inserted task tasks) (placed_all P task tasks here (recursion_from_All P tasks all))
-
 -- a task that fits, placed among others that do
 pub fit-inserted : (count next : ℕ) (task : Task) (tasks : List Task) → IsFit count next task → All (IsFit count next) tasks → All (IsFit count next) (inserted task tasks)
 fit-inserted count next task tasks fit all =
     All-inserted (IsFit count next) task tasks fit all
 
+-- what holds of each of some tasks, and of those that are added
 added_all : (P : Task → Type 0) (tasks : List Task) (specs : List TaskSpec) → AllByRecursion P tasks → All (λ spec. P (asleep spec)) specs →
     AllByRecursion P (fold (λ ts spec. inserted (asleep spec) ts) tasks specs)
 added_all P tasks [] all each = all
 added_all P tasks (spec ∷ specs) all each =
-    added_all P (inserted (asleep spec) tasks) specs (placed_all P (asleep spec) tasks (All-head (λ spec. P (asleep spec)) spec specs each) all)
+    added_all P (inserted (asleep spec) tasks) specs (each-inserted P (asleep spec) tasks (All-head (λ spec. P (asleep spec)) spec specs each) all)
     (All-tail (λ spec. P (asleep spec)) spec specs each)
 
 -- the tasks of a scenario fit the siblings that there are, and have no cookie

@@ -20,7 +20,8 @@ use Rattle.cs_types.specs.History.{History, Moment, beginning, next, after, mome
 use Rattle.cs_types.specs.View.{cpu_view, task_after, task_view, end_view}
 use Rattle.cs_types.proofs.Foremost.{find_passes}
 use Rattle.cs_types.proofs.Numbers.{draws-step}
-use Rattle.cs_types.proofs.Rising.{Rises, is_above, rising-fold_of, above_zero, above_next, above_none}
+use Rattle.cs_types.proofs.Inserted.{is_above}
+use Rattle.cs_types.proofs.Rising.{Rises, rising-fold_of, above_zero, above_next, above_none}
 use Rattle.scenario_text.specs.Words.{Word}
 use Rattle.scenario_text.specs.Text.{line, entry_text}
 use Rattle.room_report.specs.Report.{cpu_words, task_words, ended_words, core_lines, cpu_lines, task_lines, ended_lines, lines_text, report_lines, report_text}

@@ -11,6 +11,7 @@ use Rattle.std.proofs.lemmas.Bool.Decides.{nat_tests}
 use Rattle.cs_types.specs.declared.task.Task.{Task}
 use Rattle.cs_types.specs.Room.{has_pid, inserted}
 use Rattle.task_table.specs.declared.entry.Entry.{Entry}
+use Rattle.cs_types.proofs.Inserted.{inserted-first, inserted-past}
 use Rattle.task_table.specs.Table.{pid_of, RisesFrom, Rises}
 use Rattle.task_table.specs.Places.{IsIndexOf, IsAt, IsSplit, IsGap, IsAbove}
 
@@ -25,6 +26,19 @@ and_false true b h = h
 and_false false b h = refl
 
 -- ---- the order
+
+pub weaker : {X : Type 0} (P Q : X → Type 0) → ((x : X) → P x → Q x) → (xs : List X) → AllByRecursion P xs → AllByRecursion Q xs
+weaker P Q step [] all = tt
+weaker P Q step (x ∷ xs) all = (step x all.0, weaker P Q step xs all.1)
+
+-- no pid is below the start of those that rise from it
+pub above_all : (low : ℕ) (tasks : List Task) → RisesFrom low tasks → AllByRecursion (λ task. low ≤ task.spec.pid) tasks
+above_all low [] rises = tt
+above_all low (task ∷ tasks) rises = (
+  rises.0,
+  weaker (λ other. task.spec.pid + 1 ≤ other.spec.pid) (λ other. low ≤ other.spec.pid) (λ other above. omega (arith, rises.0, above)) tasks
+      (above_all (task.spec.pid + 1) tasks rises.1),
+)
 
 lower_start : (high low : ℕ) (tasks : List Task) → low ≤ high → RisesFrom high tasks → RisesFrom low tasks
 lower_start high low [] le rises = tt
@@ -226,12 +240,13 @@ filter_split p pid (suc place) (task ∷ rest) above =
     ∙ filter_split p pid place rest above.1
 
 pub placed_gap : (new : Task) (place : ℕ) (tasks : List Task) → IsGap new.spec.pid place tasks → inserted new tasks ≡ insert tasks place new
-placed_gap new zero [] gap = refl
-placed_gap new zero (task ∷ rest) gap = cond-true (ltb new.spec.pid task.spec.pid) _ _ (lt-ltb new.spec.pid task.spec.pid (omega (arith, gap.0)))
+placed_gap new zero tasks gap =
+    inserted-first new tasks
+    (weaker (λ other. new.spec.pid + 1 ≤ other.spec.pid) (λ other. new.spec.pid < other.spec.pid) (λ other above. omega (arith, above)) tasks
+    (above_all (new.spec.pid + 1) tasks gap))
 placed_gap new (suc place) [] gap = absurd gap
 placed_gap new (suc place) (task ∷ rest) gap =
-    cond-false (ltb new.spec.pid task.spec.pid) _ _ (le-ltb new.spec.pid task.spec.pid (omega (arith, gap.0)))
-    ∙ ap (λ (ts : List Task). task ∷ ts) (placed_gap new place rest gap.1)
+    inserted-past new task rest (omega (arith, gap.0)) ∙ ap (λ (ts : List Task). task ∷ ts) (placed_gap new place rest gap.1)
 
 pub rises_insert : (new : Task) (low place : ℕ) (tasks : List Task) → RisesFrom low tasks → low ≤ new.spec.pid → IsGap new.spec.pid place tasks →
     RisesFrom low (insert tasks place new)

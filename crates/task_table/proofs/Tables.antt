@@ -1,9 +1,10 @@
 -- Tasks by rising pid: what a change of the one with a pid leaves, and which are a group's.
-use Rattle.std.proofs.Common.{◌≡◌, ℕ, ◌+◌, ◌<◌, ◌≤◌, Bool, true, false, cond, List, [], ◌∷◌, map, refl, sym, ap, ◌∙◌, arith, ltb, eqb, Some, None, inl, inr}
+use Rattle.std.proofs.Common.{◌≡◌, ℕ, ◌+◌, ◌<◌, ◌≤◌, Bool, true, false, cond, List, [], ◌∷◌, ◌++◌, map, refl, sym, ap, ◌∙◌, arith, ltb, eqb, Some, None, inl, inr}
 use Rattle.std.specs.Prelude.{◌==◌, ◌&&◌, ◌||◌, filter, find, All as Every, AllPairs}
 use Rattle.std.specs.List.{AllByRecursion}
 use Rattle.std.proofs.lemmas.Bool.{cases_Bool, cond-true, cond-false, eqb-true, eq-eqb}
 use Rattle.std.proofs.lemmas.Bool.Decides.{nat_tests}
+use Rattle.std.proofs.lemmas.List.{map-append}
 use Rattle.std.proofs.lemmas.List.Elements.{All-head, All-tail, All-from_recursion}
 use Rattle.std.proofs.lemmas.List.Kept.{AllPairs-cons}
 use Rattle.cs_types.specs.declared.task.Task.{Task}
@@ -14,17 +15,15 @@ use Rattle.task_table.specs.Table.{RisesFrom, Rises}
 use Rattle.task_table.specs.declared.group.Group.{Group}
 use Rattle.task_table.specs.declared.group.Group.TheVariants.{All, Threads, Process}
 use Rattle.task_table.specs.Group.{is_in_group, group_above}
-use Rattle.task_table.proofs.Rising.{NoneHas, with_none}
+use Rattle.cs_types.proofs.Filtered.{each-filter}
+use Rattle.cs_types.proofs.Inserted.{is_below, is_above}
+use Rattle.task_table.proofs.Rising.{weaker, above_all, NoneHas, with_none}
 
 -- ---- lists
 
 map_alike : {X Y : Type 0} (f g : X → Y) (xs : List X) → AllByRecursion (λ x. f x ≡ g x) xs → map f xs ≡ map g xs
 map_alike f g [] same = refl
 map_alike {X} {Y} f g (x ∷ xs) same = λ i. same.0 i ∷ map_alike f g xs same.1 i
-
-weaker : {X : Type 0} (P Q : X → Type 0) → ((x : X) → P x → Q x) → (xs : List X) → AllByRecursion P xs → AllByRecursion Q xs
-weaker P Q step [] all = tt
-weaker P Q step (x ∷ xs) all = (step x all.0, weaker P Q step xs all.1)
 
 -- a filter that does not tell an element from what it becomes, and keeps none that changes
 filter-map_kept : {X : Type 0} (p : X → Bool) (f : X → X) → ((x : X) → p (f x) ≡ p x) → ((x : X) → p x ≡ true → f x ≡ x) →
@@ -46,14 +45,6 @@ filter_alike {X} p q (x ∷ xs) same =
     ∙ ap (λ (ys : List X). cond (q x) (x ∷ ys) ys) (filter_alike p q xs (All-tail (λ x. p x ≡ q x) x xs same))
 
 -- ---- the one task with a pid
-
-above_all : (low : ℕ) (tasks : List Task) → RisesFrom low tasks → AllByRecursion (λ task. low ≤ task.spec.pid) tasks
-above_all low [] rises = tt
-above_all low (task ∷ tasks) rises = (
-  rises.0,
-  weaker (λ other. task.spec.pid + 1 ≤ other.spec.pid) (λ other. low ≤ other.spec.pid) (λ other above. omega (arith, rises.0, above)) tasks
-      (above_all (task.spec.pid + 1) tasks rises.1),
-)
 
 other_pid : (low pid : ℕ) (task : Task) → pid < low → low ≤ task.spec.pid → has_pid pid task ≡ false
 other_pid low pid task below above = grind (arith, nat_tests)
@@ -144,20 +135,17 @@ none_found pid (first ∷ rest) none =
 -- To put a task asleep in its place and then change it puts the changed one there.
 pub placed_changed : (task : Task) (tasks : List Task) → find (has_pid task.spec.pid) tasks ≡ None →
     map (λ other. cond (has_pid task.spec.pid other) task other) (inserted (asleep task.spec) tasks) ≡ inserted task tasks
-placed_changed task tasks none = go tasks (none_found task.spec.pid tasks none) where
-  change : List Task → List Task
-  change ts = map (λ other. cond (has_pid task.spec.pid other) task other) ts
+placed_changed task tasks none =
+    map-append (λ other. cond (has_pid task.spec.pid other) task other) (filter (is_below task.spec.pid) tasks)
+    (asleep task.spec ∷ filter (is_above task.spec.pid) tasks)
+    ∙ (λ i. kept (is_below task.spec.pid) i ++ cond (its_own i) task (asleep task.spec) ∷ kept (is_above task.spec.pid) i) where
+      its_own : has_pid task.spec.pid (asleep task.spec) ≡ true
+      its_own = eq-eqb task.spec.pid task.spec.pid refl
 
-  its_own : has_pid task.spec.pid (asleep task.spec) ≡ true
-  its_own = eq-eqb task.spec.pid task.spec.pid refl
-
-  go : (ts : List Task) → NoneHas task.spec.pid ts → change (inserted (asleep task.spec) ts) ≡ inserted task ts
-  go [] none = ap (λ b. cond b task (asleep task.spec) ∷ []) its_own
-  go (first ∷ rest) none =
-      elim (ltb task.spec.pid first.spec.pid) as (λ b. change (cond b (asleep task.spec ∷ first ∷ rest) (first ∷ inserted (asleep task.spec) rest)) ≡ cond b (task ∷ first ∷ rest) (first ∷ inserted task rest)) [
-        | true ↦ (λ i. cond (its_own i) task (asleep task.spec) ∷ with_none task (first ∷ rest) none i)
-        | false ↦ (λ i. cond-false _ task first none.0 i ∷ go rest none.1 i)
-      ]
+      kept : (p : Task → Bool) → map (λ other. cond (has_pid task.spec.pid other) task other) (filter p tasks) ≡ filter p tasks
+      kept p =
+          with_none task (filter p tasks)
+          (each-filter (λ other. has_pid task.spec.pid other ≡ false) p tasks (none_found task.spec.pid tasks none))
 
 -- ---- a task whose cookie is set
 

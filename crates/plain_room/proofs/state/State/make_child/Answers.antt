@@ -7,13 +7,14 @@ use Rattle.cs_types.specs.declared.task.Task.{Task}
 use Rattle.cs_types.specs.Room.{has_pid, inserted}
 use Rattle.cs_types.specs.Order.{deadline_class, class_of}
 use Rattle.cs_types.specs.Step.{child_of, with_child}
+use Rattle.cs_types.proofs.Inserted.{All-inserted, found-inserted}
 use Rattle.task_table.specs.Table.{Table}
 use Rattle.fork_inherit.specs.Answers.{fork_answer}
 use Rattle.fork_inherit.specs.declared.forking.ForkFault.TheVariants.{Eagain}
 use Rattle.plain_room.specs.State.{IsFit, room_of, numbers_of, books_of}
 use Rattle.forceidle_account.specs.Charges.{Charges, has_total}
-use Rattle.plain_room.proofs.States.{found_fits, fit-inserted, All-inserted}
-use Rattle.plain_room.proofs.Lives.{find-inserted, next_is_unused}
+use Rattle.plain_room.proofs.States.{found_fits, fit-inserted}
+use Rattle.plain_room.proofs.Lives.{next_is_unused}
 use Rattle.plain_room.proofs.state.State.make_child.Goals as goal
 
 -- where a child is made, the caller was found, and there was a place left
@@ -61,21 +62,19 @@ fork-requires-clause-unused c =
 pub unwrap-requires : goal.unwrap-requires
 unwrap-requires c =
     let old = c.args.self.now in
-    let unused = next_is_unused (length old.siblings.items) old.next_pid old.tasks.tasks c.requires.sound.tasks in
     let by = caller_of old.tasks (find (has_pid c.args.caller) old.tasks.tasks) (sym c.fork.ensures.answer ∙ c.in_ok-fork.was) in
     let child = child_of by.0 c.args.thread old.next_pid in
     let inserted = c.in_ok-fork.ensures.child by.0 by.1 in
-    subst IsSome (sym (c.task_of.ensures.task ∙ ap (λ (table : Table). find (has_pid old.next_pid) table.tasks) inserted ∙ find-inserted child old.tasks.tasks unused)) refl
+    subst IsSome (sym (c.task_of.ensures.task ∙ ap (λ (table : Table). find (has_pid old.next_pid) table.tasks) inserted ∙ found-inserted child old.tasks.tasks)) refl
 
 pub returns : goal.returns
 returns c =
     let old = c.args.self.now in
     let next = old.next_pid in
-    let unused = next_is_unused (length old.siblings.items) next old.tasks.tasks c.requires.sound.tasks in
     let by = caller_of old.tasks (find (has_pid c.args.caller) old.tasks.tasks) (sym c.fork.ensures.answer ∙ c.in_ok-fork.was) in
     let child = child_of by.0 c.args.thread next in
     let inserted = c.in_ok-fork.ensures.child by.0 by.1 in
-    let there = ap (λ (table : Table). find (has_pid next) table.tasks) inserted ∙ find-inserted child old.tasks.tasks unused in
+    let there = ap (λ (table : Table). find (has_pid next) table.tasks) inserted ∙ found-inserted child old.tasks.tasks in
     let is : c.unwrap.result ≡ child = ap (λ one. unwrap_or one c.unwrap.result) (sym c.unwrap.ensures ∙ c.task_of.ensures.task ∙ there) in
     let places : c.add.new.self.spare + (next + 1) ≡ old.totals.spare + next = omega (arith, c.add.ensures.spare) in
     record {
