@@ -12,7 +12,7 @@ use Rattle.cs_types.specs.declared.reply.Reply.{Reply}
 use Rattle.cs_types.specs.declared.reply.Reply.TheVariants.{Zero}
 use Rattle.cs_types.specs.declared.reply.Entry.{Entry}
 use Rattle.cs_types.specs.declared.scenario.Scenario.{Scenario}
-use Rattle.cs_types.specs.Room.{RoomState, SiblingState, idle, online, is_online, sibling_of, running_on, task_of, with_sibling, flagged}
+use Rattle.cs_types.specs.Room.{RoomState, SiblingState, idle, absent, online, is_online, sibling_of, running_on, task_of, with_sibling, flagged}
 use Rattle.cs_types.specs.Selection.{is_run, told, handed, given, selected_room, selected, plain, is_plain, picked_anew, adopted_or_picked_anew, schedule, is_to_steal}
 use Rattle.cs_types.specs.Time.{least_of, with_growth, advanced}
 use Rattle.cs_types.specs.Prctl.{Setting, setting_of, makes_cookie, with_made, with_answer, prctl_answer}
@@ -40,7 +40,7 @@ higher most siblings low = each_weaker (Low most) (Low (most + 1)) siblings (λ 
 
 -- so is the sibling of each number
 low_at : (most : ℕ) (room : RoomState) (cpu : ℕ) → AreLow most room → (sibling_of room cpu).place ≤ most
-low_at most room cpu low = all_get (Low most) room.siblings cpu idle (omega arith) low
+low_at most room cpu low = all_get (Low most) room.siblings cpu absent (omega arith) low
 
 -- a sibling with a low place in the place of another
 low-with_sibling : (most : ℕ) (room : RoomState) (cpu : ℕ) (sibling : SiblingState) → sibling.place ≤ most → AreLow most room → AreLow most (with_sibling room cpu sibling)

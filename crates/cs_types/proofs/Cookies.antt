@@ -22,7 +22,7 @@ use Rattle.cs_types.proofs.Selections.{prctl_selects_nothing}
 use Rattle.cs_types.proofs.Spots.{Spot, spot_of, spot_at, each_is_found}
 use Rattle.cs_types.proofs.Moves.{spot_set, spots-with_cookies}
 use Rattle.cs_types.proofs.Places.{mapped_at}
-use Rattle.cs_types.proofs.Fits.{IsAt, cookie_at, Fits, SiblingFits, AllFit, fits_where, fits_idle, all_later}
+use Rattle.cs_types.proofs.Fits.{IsAt, cookie_at, Fits, SiblingFits, AllFit, fits_where, fits_absent, all_later}
 use Rattle.cs_types.proofs.Freshness.{fresh_after, fresh_before}
 
 -- ---- the tasks that a call sets
@@ -91,7 +91,7 @@ set_fits : (room : RoomState) (fresh later : Bool) (set : Setting) → AreFound 
 set_fits room fresh later set found old fits cpu =
     subst (λ at. SiblingFits at room.core_cookie later cpu (sibling_of (with_cookies room set) cpu)) (λ i pid. sym (spots-with_cookies room set pid) i)
     (mapped_at (SiblingFits now room.core_cookie later cpu) (λ sibling. record sibling { pending = sibling.pending || runs_one set sibling }) room.siblings cpu
-    (fits_idle now room.core_cookie later cpu)
+    (fits_absent now room.core_cookie later cpu)
     (go sibling.online sibling.run sibling.pending sibling.waiting sibling.place (fits cpu))) where
       sibling : SiblingState
       sibling = sibling_of room cpu

@@ -4,7 +4,7 @@ use Rattle.std.specs.Prelude.{◌⊎◌, ◌==◌, ◌||◌}
 use Rattle.std.specs.Option.{IfSome}
 use Rattle.std.proofs.lemmas.Bool.{cond_both, or_parts, eqb-true, true_from_ne_false, both_ways}
 use Rattle.std.proofs.lemmas.Option.{IfSome_then}
-use Rattle.cs_types.specs.Room.{RoomState, SiblingState, Waiting, idle, sibling_of, is_online, flagged}
+use Rattle.cs_types.specs.Room.{RoomState, SiblingState, Waiting, absent, sibling_of, is_online, flagged}
 use Rattle.cs_types.specs.Selection.{is_run}
 use Rattle.cs_types.specs.Steal.{with_place}
 use Rattle.cs_types.proofs.Spots.{Spot, spot_at}
@@ -157,8 +157,8 @@ fits_away at core fresh cpu up run pending waiting place off gone =
       trusted = λ on _. absurd (both_ways up off on);
     }
 
-pub fits_idle : (at : ℕ → Option Spot) (core : ℕ) (fresh : Bool) (cpu : ℕ) → SiblingFits at core fresh cpu idle
-fits_idle at core fresh cpu = fits_running at core fresh cpu true None false 0 refl tt tt
+pub fits_absent : (at : ℕ → Option Spot) (core : ℕ) (fresh : Bool) (cpu : ℕ) → SiblingFits at core fresh cpu absent
+fits_absent at core fresh cpu = fits_away at core fresh cpu false None false None 0 refl (refl, refl, refl, refl)
 
 -- ---- of every sibling
 

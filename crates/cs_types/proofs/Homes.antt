@@ -1,5 +1,5 @@
 -- Homes: after every history some sibling is online, and each queued task is at home on one that is.
-use Rattle.std.proofs.Common.{◌≡◌, ◌≢◌, ℕ, ◌+◌, ◌<◌, Bool, cond, true, false, List, [], ◌∷◌, length, refl, sym, ap, ◌∙◌, subst, arith, Option, Some, None}
+use Rattle.std.proofs.Common.{◌≡◌, ◌≢◌, ℕ, ◌+◌, ◌<◌, Bool, cond, true, false, List, [], ◌∷◌, length, map, get_or, refl, sym, ap, ◌∙◌, subst, arith, Option, Some, None}
 use Rattle.std.specs.Prelude.{find, filter, not, is_some, ◌==◌, ◌&&◌, ◌||◌}
 use Rattle.std.specs.List.{AllByRecursion, enumerate_from}
 use Rattle.std.specs.Option.{IfSome, option_map, option_and_then}
@@ -14,7 +14,7 @@ use Rattle.cs_types.specs.declared.event.Event.TheVariants.{Turn, Resched, Block
 use Rattle.cs_types.specs.declared.reply.Reply.{Reply}
 use Rattle.cs_types.specs.declared.reply.Reply.TheVariants.{Zero}
 use Rattle.cs_types.specs.Scenario.{IsEvent}
-use Rattle.cs_types.specs.Room.{RoomState, SiblingState, idle, has_pid, sibling_of, running_on, is_online, online, lowest_online, task_of, queued_on}
+use Rattle.cs_types.specs.Room.{RoomState, SiblingState, absent, has_pid, sibling_of, running_on, is_online, online, lowest_online, task_of, queued_on}
 use Rattle.cs_types.specs.Order.{first_of}
 use Rattle.cs_types.specs.Selection.{schedule, queued_with}
 use Rattle.cs_types.specs.Prctl.{Setting, setting_of, is_set, makes_cookie, with_made, with_answer, prctl_answer, with_cookies}
@@ -29,7 +29,7 @@ use Rattle.cs_types.proofs.Filtered.{each-filter, each_found}
 use Rattle.cs_types.proofs.Inserted.{found-inserted}
 use Rattle.cs_types.proofs.Tasks.{found_again}
 use Rattle.cs_types.proofs.Rising.{AreRising}
-use Rattle.cs_types.proofs.Siblings.{kept, kept-schedule, kept-try_steal, kept-idled, kept-without, kept-queued_at_home, kept-ticked, kept-with_answer, kept-set_policy, length-alike, is_online-alike, length-step}
+use Rattle.cs_types.proofs.Siblings.{map-enumerate_alike, map-map_alike, get_or-map_default, kept, kept-schedule, kept-try_steal, kept-idled, kept-without, kept-queued_at_home, kept-ticked, kept-with_answer, kept-set_policy, length-alike, is_online-alike, length-step}
 use Rattle.cs_types.proofs.Selections.{each_both}
 use Rattle.cs_types.proofs.Spots.{Spot, spot_at, each_is_found}
 use Rattle.cs_types.proofs.Moves.{spots-schedule, spots-advanced, spots-ticked_room, spots-queued_at_home, spots-dequeued, spots-without, spots-moved, spots-with_child, spots-with_policy_set, spot_off, spots-leave, spot_set, spots-with_cookies}
@@ -202,19 +202,31 @@ housed-ticked room cpu (Some task) runs housed =
     housed_same room (ticked room cpu (Some task)).room (kept-ticked room cpu (Some task))
     (spots-ticked_room (accounted room) cpu task (running_is_found room cpu task runs).1) housed
 
--- an advance leaves the same siblings online
-pub sibling_of-advanced : (P : SiblingState → Type 0) (room : RoomState) (delta cpu : ℕ) → ((least ran : ℕ) → P (record idle { least = least; ran = ran })) →
+-- what a sibling is after an advance
+pub sibling_of-advanced : (P : SiblingState → Type 0) (room : RoomState) (delta cpu : ℕ) → ((least ran : ℕ) → P (record absent { least = least; ran = ran })) →
     ((least ran : ℕ) → P (record (sibling_of room cpu) { least = least; ran = ran })) → P (sibling_of (advanced room delta) cpu)
 unfolding advanced
 sibling_of-advanced P room delta cpu past is =
-    enumerated_at P (λ place. record place.1 { least = least_of (with_growth room delta) place.0 }) 0 (with_growth room delta).siblings cpu (past 0 0)
+    enumerated_at P (λ place. record place.1 { least = least_of (with_growth room delta) place.0 }) 0 (with_growth room delta).siblings cpu (λ _. past 0 0)
     (mapped_at (λ s. P (record s { least = least_of (with_growth room delta) (0 + cpu) })) (λ s. record s { ran = s.ran + delta }) room.siblings cpu
     (past (least_of (with_growth room delta) (0 + cpu)) 0) (is (least_of (with_growth room delta) (0 + cpu)) ((sibling_of room cpu).ran + delta)))
+
+-- an advance leaves the same siblings online
+online-advanced : (room : RoomState) (delta cpu : ℕ) → is_online (advanced room delta) cpu ≡ is_online room cpu
+unfolding advanced
+online-advanced room delta cpu =
+    let is : SiblingState → Bool = λ sibling. sibling.online in
+    let now = with_growth room delta in
+    let same : map is (advanced room delta).siblings ≡ map is room.siblings =
+    map-enumerate_alike is (λ place. record place.1 { least = least_of now place.0 }) (λ place. refl) 0 now.siblings
+    ∙ map-map_alike is (λ sibling. record sibling { ran = sibling.ran + delta }) (λ sibling. refl) room.siblings in
+    sym (get_or-map_default is (advanced room delta).siblings cpu absent)
+    ∙ (ap (λ ons. get_or ons cpu false) same ∙ get_or-map_default is room.siblings cpu absent)
 
 housed-advanced : (room : RoomState) (delta : ℕ) → IsHoused room → IsHoused (advanced room delta)
 housed-advanced room delta housed =
     housed_more room (advanced room delta) (length-step room false (Advance delta))
-    (λ cpu up. sibling_of-advanced (λ s. s.online ≡ true) room delta cpu (λ least ran. refl) (λ least ran. up))
+    (λ cpu up. online-advanced room delta cpu ∙ up)
     (λ pid. subst (IsHome room) (sym (spots-advanced room delta pid)) (housed.homes pid)) housed
 
 housed-with_answer : (room : RoomState) (set : Setting) (answer : Reply) → IsHoused room → IsHoused (with_answer room set answer)
@@ -234,7 +246,7 @@ housed-set_policy room policy pid (Some task) found housed =
     (spots-with_policy_set room policy task (found_again pid room.tasks task found)) housed
 
 -- what holds of each sibling once one has left
-pub sibling_of-without : (P : SiblingState → Type 0) (room : RoomState) (cpu other : ℕ) → P idle → (other ≡ cpu → P (away (sibling_of room other))) →
+pub sibling_of-without : (P : SiblingState → Type 0) (room : RoomState) (cpu other : ℕ) → (sibling_of room other ≡ absent → P absent) → (other ≡ cpu → P (away (sibling_of room other))) →
     (other ≢ cpu → P (record (sibling_of room other) { pending = (sibling_of room other).pending || (sibling_of room other).online })) →
     P (sibling_of (leave room cpu) other)
 unfolding leave
@@ -257,7 +269,8 @@ housed-leave room cpu below up more housed =
       other = lowest_other_is room cpu below up more
 
       still : (n : ℕ) → n ≢ cpu → is_online room n ≡ true → is_online (leave room cpu) n ≡ true
-      still n differ up = sibling_of-without (λ s. s.online ≡ true) room cpu n refl (λ same. absurd (differ same)) (λ _. up)
+      still n differ up = sibling_of-without (λ s. s.online ≡ true) room cpu n
+          (λ gone. ap (λ (s : SiblingState). s.online) (sym gone) ∙ up) (λ same. absurd (differ same)) (λ _. up)
 
       go : (one : Option Spot) → IsHome room one → IsHome (leave room cpu) (option_map (spot_off cpu (lowest_other room cpu)) one)
       go None home = tt

@@ -10,7 +10,7 @@ use Rattle.std.proofs.lemmas.List.FromFn.{length-range_with_len}
 use Rattle.cs_types.specs.declared.event.Actor.TheVariants.{End}
 use Rattle.cs_types.specs.declared.event.Event.TheVariants.{Resched}
 use Rattle.cs_types.specs.declared.reply.Reply.TheVariants.{Picked}
-use Rattle.cs_types.specs.Room.{RoomState, SiblingState, Waiting, idle, sibling_of, is_online, online}
+use Rattle.cs_types.specs.Room.{RoomState, SiblingState, Waiting, absent, sibling_of, is_online, online}
 use Rattle.cs_types.specs.Touches.{is_selection, LedgerEntry, Ledger, ledger_entry, is_fresh}
 use Rattle.cs_types.specs.Selection.{cookie_of, pid_of, is_fair_task, lead_from, choice, occupation_of, renews_snapshots, running, is_run, told, handed, selected, Scheduled, adopted, is_plain, plain, picked_anew, adopted_or_picked_anew, balanced, schedule}
 use Rattle.cs_types.specs.Step.{Stepped, picked}
@@ -198,7 +198,7 @@ moment_after moment cpu made =
 
 -- the next place of a steal try makes no difference
 looks-balanced : (cpu : ℕ) (made : Scheduled) (other : ℕ) → looks (sibling_of (balanced cpu made).room other) ≡ looks (sibling_of made.room other)
-looks-balanced cpu made other = get_or-set_alike looks made.room.siblings cpu _ other idle refl
+looks-balanced cpu made other = get_or-set_alike looks made.room.siblings cpu _ other absent refl
 
 -- ---- the selection after an entry
 
@@ -225,12 +225,12 @@ fresh_untouched note ledger other none =
 -- ---- an adopted schedule
 
 -- a sibling is set: it looks so, and the others look as they did
-looks_there : (room : RoomState) (cpu : ℕ) (sibling : SiblingState) → cpu < length room.siblings → looks (slice_index_or (slice_set room.siblings cpu sibling) cpu idle) ≡ looks sibling
-looks_there room cpu sibling below = ap looks (get_or-set_same room.siblings cpu sibling idle below)
+looks_there : (room : RoomState) (cpu : ℕ) (sibling : SiblingState) → cpu < length room.siblings → looks (slice_index_or (slice_set room.siblings cpu sibling) cpu absent) ≡ looks sibling
+looks_there room cpu sibling below = ap looks (get_or-set_same room.siblings cpu sibling absent below)
 
 looks_elsewhere : (room : RoomState) (cpu : ℕ) (sibling : SiblingState) (other : ℕ) → (other ≡ cpu → ⊥) →
-    looks (slice_index_or (slice_set room.siblings cpu sibling) other idle) ≡ looks (sibling_of room other)
-looks_elsewhere room cpu sibling other apart = ap looks (get_or-set_other room.siblings cpu other sibling idle apart)
+    looks (slice_index_or (slice_set room.siblings cpu sibling) other absent) ≡ looks (sibling_of room other)
+looks_elsewhere room cpu sibling other apart = ap looks (get_or-set_other room.siblings cpu other sibling absent apart)
 
 -- what passes after a sibling was set and passes not itself passed before
 passed_before : (room now : RoomState) (cpu : ℕ) (test was : Bool × Bool × Bool → Bool) → test (looks (sibling_of now cpu)) ≡ false →

@@ -8,7 +8,7 @@ use Rattle.cs_types.specs.declared.task.Policy.{Policy}
 use Rattle.cs_types.specs.declared.event.Event.{Event}
 use Rattle.cs_types.specs.declared.event.Event.TheVariants.{Turn, Block, Exit, Tick, Wake, Fork, SetSched, Offline, Online}
 use Rattle.cs_types.specs.declared.reply.Reply.TheVariants.{Picked, Set, Done}
-use Rattle.cs_types.specs.Room.{RoomState, Waiting, idle, has_pid, sibling_of, running_on, is_online, online, task_of, with_task, flagged}
+use Rattle.cs_types.specs.Room.{RoomState, Waiting, absent, has_pid, sibling_of, running_on, is_online, online, task_of, with_task, flagged}
 use Rattle.cs_types.specs.Selection.{schedule, is_run}
 use Rattle.cs_types.specs.Queueing.{dequeued, enqueued, refreshed, moved, rehomed, preempts, queued_at_home}
 use Rattle.cs_types.specs.Step.{Stepped, picked, woken, blocked, exited, forked, turned, without, has_threads, child_of, child_at_home, may_not_fork, with_child, ticked, idled, try_steal, with_policy, set_policy, with_policy_set, taken_offline, brought_online}
@@ -24,7 +24,7 @@ use Rattle.cs_types.proofs.Spots.{Spot, spot_of, spot_at}
 use Rattle.cs_types.proofs.Moves.{spots-advanced, spots-ticked_room, spots-queued_at_home, spots-dequeued, spots-without, spots-moved, spots-with_child, spots-with_policy, spots-requeued, spot_off, spots-leave}
 use Rattle.cs_types.proofs.Places.{with_sibling_at, with_sibling_either}
 use Rattle.cs_types.proofs.Homes.{IsHoused, IsQueuedOn, stolen_is, running_is_found, rehomed_is_online, rehomed_is_found, child_at_home_is_online, child_is_found, sibling_of-advanced, sibling_of-without}
-use Rattle.cs_types.proofs.Fits.{IsAt, cookie_at, Fits, SiblingFits, AllFit, Has, fits_where, fits_moved, fits_running, fits_away, fits_idle, all_same, all_later, all_flagged, all_placed}
+use Rattle.cs_types.proofs.Fits.{IsAt, cookie_at, Fits, SiblingFits, AllFit, Has, fits_where, fits_moved, fits_running, fits_away, fits_absent, all_same, all_later, all_flagged, all_placed}
 use Rattle.cs_types.proofs.Freshness.{fresh_after, fresh_before, picked_fresh, slept_fresh, ended_fresh}
 use Rattle.cs_types.proofs.Schedules.{OthersFit, schedule_fits, again_fits}
 
@@ -41,7 +41,7 @@ all_moved : (old new : RoomState) (fresh later : Bool) (moves : ℕ) (spot : Opt
     AllFit old fresh → AllFit new later
 all_moved old new fresh later moves spot same core moved hasnt still fits cpu =
     let sibling = sibling_of old cpu in
-    subst (λ s. SiblingFits (spot_at new) new.core_cookie later cpu (get_or s cpu idle)) (sym same)
+    subst (λ s. SiblingFits (spot_at new) new.core_cookie later cpu (get_or s cpu absent)) (sym same)
     (subst (λ c. SiblingFits (spot_at new) c later cpu sibling) (sym core)
     (fits_moved (spot_at old) (spot_at new) old.core_cookie fresh later cpu sibling.online sibling.run sibling.pending sibling.waiting sibling.place moves spot moved (hasnt cpu) still (fits cpu)))
 
@@ -133,7 +133,7 @@ others_fit room gone fresh cpu task spot below runs same core moved fits other d
       there n differ =
           let sibling = sibling_of room n in
           let here : IsAt cpu (spot_at room task.spec.pid) = subst (λ run. IfSome run (λ pid. IsAt cpu (spot_at room pid))) found.0 (fits cpu).runs in
-          subst (λ ss. SiblingFits (spot_at gone) gone.core_cookie fresh n (get_or ss n idle)) (sym same)
+          subst (λ ss. SiblingFits (spot_at gone) gone.core_cookie fresh n (get_or ss n absent)) (sym same)
           (subst (λ c. SiblingFits (spot_at gone) c fresh n sibling) (sym core)
           (fits_moved (spot_at room) (spot_at gone) room.core_cookie fresh fresh n sibling.online sibling.run sibling.pending sibling.waiting sibling.place task.spec.pid spot moved
           (λ has there. runs_alone room cpu n task found.1 here differ there) (λ e. e) (fits n)))
@@ -208,7 +208,7 @@ pub advanced-fits : (room : RoomState) (fresh : Bool) (delta : ℕ) → AllFit r
 unfolding advanced
 advanced-fits room fresh delta fits =
     all_same (spot_at room) (spot_at (advanced room delta)) room.core_cookie fresh (sibling_of (advanced room delta)) (spots-advanced room delta)
-    (λ cpu. sibling_of-advanced (SiblingFits (spot_at room) room.core_cookie fresh cpu) room delta cpu (λ least ran. fits_idle (spot_at room) room.core_cookie fresh cpu) (λ least ran. fits cpu))
+    (λ cpu. sibling_of-advanced (SiblingFits (spot_at room) room.core_cookie fresh cpu) room delta cpu (λ least ran. fits_absent (spot_at room) room.core_cookie fresh cpu) (λ least ran. fits cpu))
 
 -- ---- setsched
 
@@ -243,7 +243,7 @@ without-fits : (room : RoomState) (fresh : Bool) (cpu : ℕ) → AllFit room fre
 unfolding leave
 without-fits room fresh cpu fits other =
     subst (λ at. SiblingFits at room.core_cookie fresh other (sibling_of (leave room cpu) other)) (λ i pid. sym (spots-leave room cpu pid) i)
-    (sibling_of-without (SiblingFits now room.core_cookie fresh other) room cpu other (fits_idle now room.core_cookie fresh other)
+    (sibling_of-without (SiblingFits now room.core_cookie fresh other) room cpu other (λ _. fits_absent now room.core_cookie fresh other)
     (λ _. fits_away now room.core_cookie fresh other false None false None 0 refl (refl, refl, refl, refl))
     (λ differ. let sibling = sibling_of room other in
     let its = fits other in

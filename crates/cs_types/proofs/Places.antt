@@ -6,7 +6,7 @@ use Rattle.std.proofs.lemmas.Bool.{cases_Bool, cond_both, cond-true, cond-false,
 use Rattle.std.proofs.lemmas.Bool.Decides.{nat_tests}
 use Rattle.std.proofs.lemmas.List.{get_or-set_same, get_or-set_other}
 use Rattle.std.proofs.lemmas.List.Elements.{All-contains, All-from_recursion, recursion_from_All, All-contains_itself}
-use Rattle.cs_types.specs.Room.{RoomState, SiblingState, idle, sibling_of, is_online, online, lowest_online, with_sibling}
+use Rattle.cs_types.specs.Room.{RoomState, SiblingState, absent, sibling_of, is_online, online, lowest_online, with_sibling}
 use Rattle.cs_types.specs.Hotplug.{lowest_other}
 use Rattle.cs_types.proofs.Foremost.{find_passes}
 use Rattle.cs_types.proofs.Filtered.{each_found, Contains-filter, Contains-range, Contains-range_within}
@@ -19,8 +19,8 @@ pub with_sibling_at : (P : ℕ → SiblingState → Type 0) (room : RoomState) (
 with_sibling_at P room cpu sibling below here there other =
     elim (cases_Bool (other == cpu)) [
       | inl same ↦ subst (λ n. P n (sibling_of (with_sibling room cpu sibling) n)) (sym (eqb-true other cpu same))
-          (subst (P cpu) (sym (get_or-set_same room.siblings cpu sibling idle below)) here)
-      | inr isnt ↦ let differ = eqb-false other cpu isnt in subst (P other) (sym (get_or-set_other room.siblings cpu other sibling idle differ)) (there other differ)
+          (subst (P cpu) (sym (get_or-set_same room.siblings cpu sibling absent below)) here)
+      | inr isnt ↦ let differ = eqb-false other cpu isnt in subst (P other) (sym (get_or-set_other room.siblings cpu other sibling absent differ)) (there other differ)
     ]
 
 set_either : {X : Type 0} (P : X → Type 0) (xs : List X) (i : ℕ) (x : X) (j : ℕ) (d : X) → (i ≡ j → P x) → P (get_or xs j d) → P (get_or (set xs i x) j d)
@@ -34,22 +34,22 @@ set_either P (y ∷ xs) (suc i) x (suc j) d here there = set_either P xs i x j d
 pub with_sibling_either : (P : ℕ → SiblingState → Type 0) (room : RoomState) (cpu : ℕ) (sibling : SiblingState) → P cpu sibling →
     ((other : ℕ) → P other (sibling_of room other)) → (other : ℕ) → P other (sibling_of (with_sibling room cpu sibling) other)
 with_sibling_either P room cpu sibling here there other =
-    set_either (P other) room.siblings cpu sibling other idle (λ same. subst (λ n. P n sibling) same here) (there other)
+    set_either (P other) room.siblings cpu sibling other absent (λ same. subst (λ n. P n sibling) same here) (there other)
 
 -- what holds of each sibling that is changed
-pub mapped_at : (P : SiblingState → Type 0) (g : SiblingState → SiblingState) (siblings : List SiblingState) (other : ℕ) → P idle →
-    P (g (get_or siblings other idle)) → P (get_or (map g siblings) other idle)
+pub mapped_at : (P : SiblingState → Type 0) (g : SiblingState → SiblingState) (siblings : List SiblingState) (other : ℕ) → P absent →
+    P (g (get_or siblings other absent)) → P (get_or (map g siblings) other absent)
 mapped_at P g [] other past is = past
 mapped_at P g (sibling ∷ siblings) zero past is = is
 mapped_at P g (sibling ∷ siblings) (suc other) past is = mapped_at P g siblings other past is
 
 -- the same by its place
-pub enumerated_at : (P : SiblingState → Type 0) (g : ℕ × SiblingState → SiblingState) (n : ℕ) (siblings : List SiblingState) (other : ℕ) → P idle →
-    P (g (n + other, get_or siblings other idle)) → P (get_or (map g (enumerate_from n siblings)) other idle)
-enumerated_at P g n [] other past is = past
+pub enumerated_at : (P : SiblingState → Type 0) (g : ℕ × SiblingState → SiblingState) (n : ℕ) (siblings : List SiblingState) (other : ℕ) →
+    (get_or siblings other absent ≡ absent → P absent) → P (g (n + other, get_or siblings other absent)) → P (get_or (map g (enumerate_from n siblings)) other absent)
+enumerated_at P g n [] other past is = past refl
 enumerated_at P g n (sibling ∷ siblings) zero past is = subst (λ k. P (g (k, sibling))) (omega arith) is
 enumerated_at P g n (sibling ∷ siblings) (suc other) past is =
-    enumerated_at P g (n + 1) siblings other past (subst (λ k. P (g (k, get_or siblings other idle))) (omega arith) is)
+    enumerated_at P g (n + 1) siblings other past (subst (λ k. P (g (k, get_or siblings other absent))) (omega arith) is)
 
 -- ---- searches
 

@@ -16,7 +16,7 @@ use Rattle.cs_types.proofs.Spots.{Spot, spot_of, spot_at}
 use Rattle.cs_types.proofs.Moves.{spots-selected_room}
 use Rattle.cs_types.proofs.Places.{with_sibling_at, enumerated_at}
 use Rattle.cs_types.proofs.Homes.{IsQueuedOn, each_queued}
-use Rattle.cs_types.proofs.Fits.{IsAt, cookie_at, SiblingFits, AllFit, fits_same, fits_running, fits_waiting, fits_away, fits_idle, all_same, all_placed}
+use Rattle.cs_types.proofs.Fits.{IsAt, cookie_at, SiblingFits, AllFit, fits_same, fits_running, fits_waiting, fits_away, fits_absent, all_same, all_placed}
 use Rattle.cs_types.proofs.Freshness.{freshened}
 
 -- ---- what is chosen
@@ -119,7 +119,7 @@ selected_fits room fresh later cpu up rises fits =
 
       each : (other : ℕ) → SiblingFits (spot_at room) core later other (sibling_of (selected_room room cpu core) other)
       each other =
-          enumerated_at (SiblingFits (spot_at room) core later other) (given room core cpu) 0 room.siblings other (fits_idle (spot_at room) core later other)
+          enumerated_at (SiblingFits (spot_at room) core later other) (given room core cpu) 0 room.siblings other (λ _. fits_absent (spot_at room) core later other)
           (subst (λ n. SiblingFits (spot_at room) core later other (given room core cpu (n, sibling_of room other))) (omega arith) (one other))
 
 -- ---- every schedule

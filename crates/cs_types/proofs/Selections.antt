@@ -20,7 +20,7 @@ use Rattle.cs_types.specs.declared.reply.Reply.TheVariants.{Picked}
 use Rattle.cs_types.specs.declared.reply.Entry.{Entry}
 use Rattle.cs_types.specs.declared.scenario.Scenario.{Scenario}
 use Rattle.cs_types.specs.Scenario.{IsEvent}
-use Rattle.cs_types.specs.Room.{RoomState, SiblingState, idle, queued_on, sibling_of, is_online, online, online_from, running_on, task_of, with_sibling}
+use Rattle.cs_types.specs.Room.{RoomState, SiblingState, absent, queued_on, sibling_of, is_online, online, online_from, running_on, task_of, with_sibling}
 use Rattle.cs_types.specs.Order.{foremost, is_higher_here, outranks, goes_before, first_of}
 use Rattle.cs_types.specs.Selection.{to_run, first_on, cookie_of, pid_of, is_fair_task, renews_snapshots, snapshot_of, lead_from, choice, eligible, is_forced, forced_count, is_run, told, handed, given, occupation_of, selected_room, selected, Scheduled, is_plain, plain, picked_anew, adopted_or_picked_anew, schedule}
 use Rattle.cs_types.specs.Prctl.{Row, first_answer, rows_before_making, rows_after_making, prctl_answer}
@@ -224,8 +224,8 @@ pub sibling_of-selected_room : (room : RoomState) (cpu core other : ℕ) → oth
     sibling_of (selected_room room cpu core) other ≡ given room core cpu (other, sibling_of room other)
 unfolding selected_room
 sibling_of-selected_room room cpu core other below =
-    get_or-map (given room core cpu) (enumerate_from 0 room.siblings) other (0, idle) idle (omega (arith, length-enumerate_from 0 room.siblings))
-    ∙ ap (given room core cpu) (get_or-enumerate_from 0 room.siblings other (0, idle) below ∙ ap (λ n. (n, sibling_of room other)) (omega arith))
+    get_or-map (given room core cpu) (enumerate_from 0 room.siblings) other (0, absent) absent (omega (arith, length-enumerate_from 0 room.siblings))
+    ∙ ap (given room core cpu) (get_or-enumerate_from 0 room.siblings other (0, absent) below ∙ ap (λ n. (n, sibling_of room other)) (omega arith))
 
 -- ---- while a sibling is forced idle, some sibling has a task
 
@@ -368,7 +368,7 @@ balanced_keeps_law room cpu pick now place law =
       highest = law.highest;
       cookie = law.cookie;
       told = law.told;
-      choices = λ other there. get_or-set_alike to_run now.siblings cpu (record (sibling_of now cpu) { place = place }) other idle refl ∙ law.choices other there;
+      choices = λ other there. get_or-set_alike to_run now.siblings cpu (record (sibling_of now cpu) { place = place }) other absent refl ∙ law.choices other there;
       first = law.first;
       took = law.took;
       matches = law.matches;

@@ -15,7 +15,7 @@ use Rattle.cs_types.specs.declared.reply.Reply.{Reply}
 use Rattle.cs_types.specs.declared.reply.Reply.TheVariants.{Zero}
 use Rattle.cs_types.specs.declared.reply.Entry.{Entry}
 use Rattle.cs_types.specs.declared.scenario.Scenario.{Scenario}
-use Rattle.cs_types.specs.Room.{RoomState, SiblingState, idle, sibling_of, running_on, is_online, online, task_of, with_sibling, flagged}
+use Rattle.cs_types.specs.Room.{RoomState, SiblingState, idle, absent, sibling_of, running_on, is_online, online, task_of, with_sibling, flagged}
 use Rattle.cs_types.specs.Selection.{is_run, told, handed, given, selected_room, selected, plain, is_plain, picked_anew, adopted_or_picked_anew, schedule}
 use Rattle.cs_types.specs.Prctl.{Setting, setting_of, runs_one, makes_cookie, with_made, with_answer, prctl_answer, prctl_room}
 use Rattle.cs_types.specs.Step.{Stepped, step, woken, blocked, exited, forked, may_not_fork, child_at_home, ticked, turned, without, has_threads, child_of, with_child, idled, try_steal, unless_offline, with_policy, set_policy, taken_offline, brought_online}
@@ -56,7 +56,7 @@ kept room = map parts_of room.siblings
 
 -- a sibling is changed, but in these parts it is not
 pub kept-with_sibling : (room : RoomState) (cpu : ℕ) (sibling : SiblingState) → parts_of sibling ≡ parts_of (sibling_of room cpu) → kept (with_sibling room cpu sibling) ≡ kept room
-kept-with_sibling room cpu sibling same = map-set_alike parts_of room.siblings cpu sibling idle same
+kept-with_sibling room cpu sibling same = map-set_alike parts_of room.siblings cpu sibling absent same
 
 -- so where it is told its choice
 parts-told : (selector cpu : ℕ) (sibling : SiblingState) (run : Option ℕ) → parts_of (told selector cpu sibling run) ≡ parts_of sibling
@@ -176,8 +176,8 @@ length-alike room other same =
 
 parts-alike : (room other : RoomState) → kept room ≡ kept other → (cpu : ℕ) → parts_of (sibling_of room cpu) ≡ parts_of (sibling_of other cpu)
 parts-alike room other same cpu =
-    sym (get_or-map_default parts_of room.siblings cpu idle)
-    ∙ (ap (λ ps. get_or ps cpu (parts_of idle)) same ∙ get_or-map_default parts_of other.siblings cpu idle)
+    sym (get_or-map_default parts_of room.siblings cpu absent)
+    ∙ (ap (λ ps. get_or ps cpu (parts_of absent)) same ∙ get_or-map_default parts_of other.siblings cpu absent)
 
 -- and they have the same siblings online
 pub is_online-alike : (room other : RoomState) → kept room ≡ kept other → (cpu : ℕ) → is_online room cpu ≡ is_online other cpu

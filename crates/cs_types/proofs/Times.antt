@@ -18,7 +18,7 @@ use Rattle.cs_types.specs.declared.reply.Reply.TheVariants.{Zero}
 use Rattle.cs_types.specs.declared.reply.Entry.{Entry}
 use Rattle.cs_types.specs.declared.scenario.Scenario.{Scenario}
 use Rattle.cs_types.specs.Scenario.{IsEvent}
-use Rattle.cs_types.specs.Room.{RoomState, SiblingState, idle, asleep, inserted, has_pid, start, online, is_online, lowest_online, queued_on, sibling_of, running_on, task_of, with_sibling, with_task, flagged}
+use Rattle.cs_types.specs.Room.{RoomState, SiblingState, idle, absent, asleep, inserted, has_pid, start, online, is_online, lowest_online, queued_on, sibling_of, running_on, task_of, with_sibling, with_task, flagged}
 use Rattle.cs_types.specs.Order.{foremost, is_fair, first_of}
 use Rattle.cs_types.specs.Selection.{is_run, pid_of, choice, occupation_of, remembered, told, noted, handed, given, selected_room, selected, plain, is_plain, picked_anew, adopted_or_picked_anew, schedule}
 use Rattle.cs_types.specs.Time.{weights, weight_of, weight_index, growth, grown_by, is_running, grown, with_growth, fair_times, least_of, with_leasts, advanced, has_used_slice, sliced, IsTimelyTask, IsTimelySibling, IsTimely}
@@ -99,11 +99,11 @@ parts_timely entries room timely = record {
   siblings = recursion_from_All (IsTimelySibling (entries * (69 * room.clock)) room.clock) room.siblings timely.siblings;
 }
 
-idle_is_timely : (most clock : ℕ) → IsTimelySibling most clock idle
-idle_is_timely most clock = record { least = omega arith; snapshot = omega arith; ran = omega arith }
+absent_is_timely : (most clock : ℕ) → IsTimelySibling most clock absent
+absent_is_timely most clock = record { least = omega arith; snapshot = omega arith; ran = omega arith }
 
 sibling_is_timely : (most : ℕ) (room : RoomState) (cpu : ℕ) → Timely most room → IsTimelySibling most room.clock (sibling_of room cpu)
-sibling_is_timely most room cpu timely = all_get (IsTimelySibling most room.clock) room.siblings cpu idle (idle_is_timely most room.clock) timely.siblings
+sibling_is_timely most room cpu timely = all_get (IsTimelySibling most room.clock) room.siblings cpu absent (absent_is_timely most room.clock) timely.siblings
 
 -- A task is as timely in a room of the same time whose leasts are no smaller.
 still_timely : (old new : RoomState) (tasks : List Task) → new.clock ≡ old.clock → ((cpu : ℕ) → (sibling_of old cpu).least ≤ (sibling_of new cpu).least) →
@@ -347,11 +347,11 @@ timely-turned most room fresh cpu timely =
 least-left : (room : RoomState) (cpu other : ℕ) → (sibling_of (leave room cpu) other).least ≡ (sibling_of room other).least
 unfolding leave
 least-left room cpu other =
-    sym (get_or-map_default (λ (s : SiblingState). s.least) (leave room cpu).siblings other idle)
+    sym (get_or-map_default (λ (s : SiblingState). s.least) (leave room cpu).siblings other absent)
     ∙ (ap (λ ns. get_or ns other 0)
     (map-enumerate_alike (λ (s : SiblingState). s.least) _
     (λ place. cond_both (place.0 == cpu) (away place.1) _ (λ (s : SiblingState). s.least ≡ place.1.least) (λ _. refl) (λ _. refl)) 0 room.siblings)
-    ∙ get_or-map_default (λ (s : SiblingState). s.least) room.siblings other idle)
+    ∙ get_or-map_default (λ (s : SiblingState). s.least) room.siblings other absent)
 
 left_is_timely : (most : ℕ) (room : RoomState) (cpu : ℕ) → Timely most room → Timely most (leave room cpu)
 unfolding leave
@@ -368,9 +368,9 @@ left_is_timely most room cpu timely = record {
 
 least-back : (room : RoomState) (cpu other : ℕ) → (sibling_of (with_sibling_back room cpu) other).least ≡ (sibling_of room other).least
 least-back room cpu other =
-    sym (get_or-map_default (λ (s : SiblingState). s.least) (with_sibling_back room cpu).siblings other idle)
-    ∙ (ap (λ ns. get_or ns other 0) (map-set_alike (λ (s : SiblingState). s.least) room.siblings cpu _ idle refl)
-    ∙ get_or-map_default (λ (s : SiblingState). s.least) room.siblings other idle)
+    sym (get_or-map_default (λ (s : SiblingState). s.least) (with_sibling_back room cpu).siblings other absent)
+    ∙ (ap (λ ns. get_or ns other 0) (map-set_alike (λ (s : SiblingState). s.least) room.siblings cpu _ absent refl)
+    ∙ get_or-map_default (λ (s : SiblingState). s.least) room.siblings other absent)
 
 back_is_timely : (most : ℕ) (room : RoomState) (cpu : ℕ) → Timely most room → Timely most (with_sibling_back room cpu)
 back_is_timely most room cpu timely = record {
@@ -483,13 +483,13 @@ least_of-ge room cpu = go (foremost ltb (fair_times room cpu)) where
 
 -- an element of a list that was changed by its places
 get_or-changed : (f : ℕ × SiblingState → SiblingState) (n i : ℕ) (xs : List SiblingState) → i < length xs →
-    get_or (map f (enumerate_from n xs)) i idle ≡ f (n + i, get_or xs i idle)
+    get_or (map f (enumerate_from n xs)) i absent ≡ f (n + i, get_or xs i absent)
 get_or-changed f n i [] few = absurd (omega (arith, few))
 get_or-changed f n zero (x ∷ xs) few = ap (λ m. f (m, x)) (omega arith)
 get_or-changed f n (suc i) (x ∷ xs) few =
-    get_or-changed f (n + 1) i xs (omega (arith, few)) ∙ ap (λ m. f (m, get_or xs i idle)) (omega arith)
+    get_or-changed f (n + 1) i xs (omega (arith, few)) ∙ ap (λ m. f (m, get_or xs i absent)) (omega arith)
 
-get_or_past : (xs : List SiblingState) (i : ℕ) → length xs ≤ i → get_or xs i idle ≡ idle
+get_or_past : (xs : List SiblingState) (i : ℕ) → length xs ≤ i → get_or xs i absent ≡ absent
 get_or_past [] i past = refl
 get_or_past (x ∷ xs) zero past = absurd (omega (arith, past))
 get_or_past (x ∷ xs) (suc i) past = get_or_past xs i (omega (arith, past))
@@ -741,5 +741,5 @@ timely-fold_of scenario history =
     subst (λ n. IsTimely n (fold_of scenario history)) (omega arith)
     (timely_after 0 (beginning scenario) history (timely_parts 0 (start scenario) (record {
       tasks = timely_asleep scenario [] scenario.tasks tt;
-      siblings = all_replicate (IsTimelySibling 0 0) scenario.siblings idle (idle_is_timely 0 0);
+      siblings = all_replicate (IsTimelySibling 0 0) scenario.siblings idle (record { least = omega arith; snapshot = omega arith; ran = omega arith });
     })))

@@ -15,7 +15,7 @@ use Rattle.cs_types.specs.declared.reply.Reply.TheVariants as answer
 use Rattle.cs_types.specs.declared.reply.Entry.{Entry}
 use Rattle.cs_types.specs.declared.scenario.Scenario.{Scenario}
 use Rattle.cs_types.specs.Scenario.{IsEvent, IsPlayable}
-use Rattle.cs_types.specs.Room.{RoomState, SiblingState, idle, has_pid, asleep, inserted, asleep_tasks, start, queued_on, sibling_of, running_on, is_online, online, task_of}
+use Rattle.cs_types.specs.Room.{RoomState, SiblingState, idle, absent, has_pid, asleep, inserted, asleep_tasks, start, queued_on, sibling_of, running_on, is_online, online, task_of}
 use Rattle.cs_types.specs.Selection.{cookie_of}
 use Rattle.cs_types.specs.Step.{Stepped, step, unless_offline}
 use Rattle.cs_types.specs.Touches.{is_fresh}
@@ -30,7 +30,7 @@ use Rattle.cs_types.proofs.Selections.{online_parts}
 use Rattle.cs_types.proofs.Inserted.{each-inserted}
 use Rattle.cs_types.proofs.Spots.{spot_of, spot_at, each_is_found}
 use Rattle.cs_types.proofs.Homes.{IsHome, IsHoused, housed-step}
-use Rattle.cs_types.proofs.Fits.{IsAt, cookie_at, SiblingFits, AllFit, fits_idle}
+use Rattle.cs_types.proofs.Fits.{IsAt, cookie_at, SiblingFits, AllFit, fits_running, fits_absent}
 use Rattle.cs_types.proofs.Freshness.{fresh_after, is_fresh-ledger_entry}
 use Rattle.cs_types.proofs.Orders.{StepFits, resched-fits, turned-fits, blocked-fits, exited-fits, woken-fits, forked-fits, ticked-fits, advanced-fits, set_policy-fits, taken_offline-fits, brought_online-fits}
 use Rattle.cs_types.proofs.Cookies.{prctl-fits}
@@ -97,18 +97,24 @@ all_asleep : (tasks : List Task) (specs : List TaskSpec) → AllByRecursion (λ 
 all_asleep tasks [] all = all
 all_asleep tasks (spec ∷ specs) all = all_asleep (inserted (asleep spec) tasks) specs (each-inserted (λ task. task.queued ≡ false) (asleep spec) tasks refl all)
 
-all_idle : (n cpu : ℕ) → get_or (replicate n idle) cpu idle ≡ idle
-all_idle zero cpu = refl
-all_idle (suc n) zero = refl
-all_idle (suc n) (suc cpu) = all_idle n cpu
+first_is_idle : (n : ℕ) → 0 < n → get_or (replicate n idle) 0 absent ≡ idle
+first_is_idle zero some = absurd (omega (arith, some))
+first_is_idle (suc n) some = refl
+
+-- what holds of an idle sibling, and of one that is not there, holds of each
+each_is_idle : (P : SiblingState → Type 0) → P idle → P absent → (n cpu : ℕ) → P (get_or (replicate n idle) cpu absent)
+each_is_idle P here past zero cpu = past
+each_is_idle P here past (suc n) zero = here
+each_is_idle P here past (suc n) (suc cpu) = each_is_idle P here past n cpu
 
 holds_beginning : (scenario : Scenario) → IsPlayable scenario → Holds (beginning scenario)
 unfolding is_fresh
 holds_beginning scenario keeps =
     record {
       rises = rising-fold_of scenario [] (λ k d few. (keeps.tasks k d few).pid.0) keeps.distinct;
-      housed = record { some = (0, subst (λ n. 0 < n) (sym (length-replicate scenario.siblings idle)) keeps.siblings.0, ap (λ (s : SiblingState). s.online) (all_idle scenario.siblings 0)); homes = homes };
-      fits = λ cpu. subst (SiblingFits (spot_at (start scenario)) 0 false cpu) (sym (all_idle scenario.siblings cpu)) (fits_idle (spot_at (start scenario)) 0 false cpu);
+      housed = record { some = (0, subst (λ n. 0 < n) (sym (length-replicate scenario.siblings idle)) keeps.siblings.0, ap (λ (s : SiblingState). s.online) (first_is_idle scenario.siblings keeps.siblings.0)); homes = homes };
+      fits = λ cpu. each_is_idle (SiblingFits (spot_at (start scenario)) 0 false cpu)
+          (fits_running (spot_at (start scenario)) 0 false cpu true None false 0 refl tt tt) (fits_absent (spot_at (start scenario)) 0 false cpu) scenario.siblings cpu;
     } where
       homes : (pid : ℕ) → IsHome (start scenario) (spot_at (start scenario) pid)
       homes pid = go (task_of (start scenario) pid) refl where

@@ -139,9 +139,13 @@ task_of room pid = find (has_pid pid) room.tasks
 abbrev pub queued_on : RoomState → ℕ → List Task
 queued_on room cpu = filter (λ task. task.queued && (task.home == cpu)) room.tasks
 
+-- what stands for a sibling that is not there: it is offline, and has nothing
+abbrev pub absent : SiblingState
+absent = record idle { online = false }
+
 -- the sibling of this number
 abbrev pub sibling_of : RoomState → ℕ → SiblingState
-sibling_of room cpu = slice_index_or room.siblings cpu idle
+sibling_of room cpu = slice_index_or room.siblings cpu absent
 
 -- the task that a sibling runs, none where it runs idle
 abbrev pub running_on : RoomState → ℕ → Option Task

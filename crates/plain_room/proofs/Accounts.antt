@@ -8,7 +8,7 @@ use Rattle.std.proofs.lemmas.Bool.{cases_Bool, cond-true, cond-false, eqb-true}
 use Rattle.std.proofs.Math.Bool.{and-false, and-true}
 use Rattle.cs_types.specs.declared.task.Task.{Task}
 use Rattle.cs_types.specs.declared.scenario.Scenario.{Scenario}
-use Rattle.cs_types.specs.Room.{RoomState, SiblingState, idle, has_pid, task_of, is_online, online}
+use Rattle.cs_types.specs.Room.{RoomState, SiblingState, absent, has_pid, task_of, is_online, online}
 use Rattle.cs_types.specs.Selection.{is_run, to_run}
 use Rattle.cs_types.specs.Accounting.{Interval, with_cookie, charged_on, charged, up_to_now, open_interval, accounted}
 use Rattle.cs_types.specs.Time.{IsTimely, IsTimelyTask}
@@ -133,7 +133,7 @@ module _ (room : RoomState) (pid : ℕ) where
   charged_is =
       any-filter_map (λ other. other == pid) (charged_on room) (online room)
       ∙ any-filter (λ cpu. option_map_or (λ other. other == pid) (charged_on room cpu) false) (is_online room) (range_with_len 0 (length room.siblings))
-      ∙ any_places (λ (sibling : SiblingState). sibling.online && charged_for (to_run sibling)) room.siblings idle
+      ∙ any_places (λ (sibling : SiblingState). sibling.online && charged_for (to_run sibling)) room.siblings absent
       ∙ any_alike (λ (sibling : SiblingState). sibling.online && charged_for (to_run sibling)) (λ sibling. is_to_run pid sibling && has_cookie (task_of room pid)) by_sibling room.siblings
       ∙ any_and (is_to_run pid) (has_cookie (task_of room pid)) room.siblings
 

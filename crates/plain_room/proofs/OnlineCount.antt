@@ -4,7 +4,7 @@ use Rattle.std.specs.Prelude.{filter}
 use Rattle.std.specs.List.{range_with_len}
 use Rattle.std.proofs.lemmas.List.{length-map}
 use Rattle.cs_types.specs.declared.scenario.Scenario.{Scenario}
-use Rattle.cs_types.specs.Room.{SiblingState, idle, online}
+use Rattle.cs_types.specs.Room.{SiblingState, absent, online}
 use Rattle.plain_room.specs.State.{sibling_state, room_of}
 use Rattle.plain_room.specs.declared.state.State.{State}
 use Rattle.plain_room.proofs.Lists.{filter-map}
@@ -36,4 +36,4 @@ length-online scenario state =
     let siblings = state.siblings.items in
     sym (length-map (filter (λ sibling. sibling.online) siblings) sibling_state)
     ∙ ap length (sym (filter-map sibling_state (λ (sibling : SiblingState). sibling.online) siblings))
-    ∙ length-filter_places (λ (sibling : SiblingState). sibling.online) (map sibling_state siblings) idle
+    ∙ length-filter_places (λ (sibling : SiblingState). sibling.online) (map sibling_state siblings) absent

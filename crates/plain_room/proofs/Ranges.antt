@@ -4,7 +4,7 @@ use Rattle.std.specs.Prelude.{slice_index_or, All, Option, Some, None, IfSome}
 use Rattle.std.proofs.lemmas.Nat.{mul-le}
 use Rattle.std.proofs.lemmas.List.Elements.{All-head, All-tail, All-weaker}
 use Rattle.cs_types.specs.declared.task.Task.{Task}
-use Rattle.cs_types.specs.Room.{SiblingState, idle}
+use Rattle.cs_types.specs.Room.{SiblingState, absent}
 use Rattle.cs_types.specs.Time.{IsTimelyTask, IsTimelySibling}
 use Rattle.sibling_priority.specs.Offers.{IsTimeInRange}
 use Rattle.plain_room.specs.declared.sibling.Sibling.{Sibling}
@@ -64,7 +64,7 @@ leasts_are_low state time =
     (λ sibling is. omega (arith, is.least, most_is_low state time)) state.siblings.items (siblings_are_timely state time)
 
 -- the least of each sibling, also past the last, is low
-low_leasts : (siblings : List Sibling) → All (λ sibling. sibling.least < 2 ^ 80) siblings → (cpu : ℕ) → (slice_index_or (map sibling_state siblings) cpu idle).least < 2 ^ 80
+low_leasts : (siblings : List Sibling) → All (λ sibling. sibling.least < 2 ^ 80) siblings → (cpu : ℕ) → (slice_index_or (map sibling_state siblings) cpu absent).least < 2 ^ 80
 low_leasts [] all cpu = omega arith
 low_leasts (sibling ∷ siblings) all zero = All-head (λ (s : Sibling). s.least < 2 ^ 80) sibling siblings all
 low_leasts (sibling ∷ siblings) all (suc cpu) = low_leasts siblings (All-tail (λ (s : Sibling). s.least < 2 ^ 80) sibling siblings all) cpu

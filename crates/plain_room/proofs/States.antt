@@ -17,7 +17,7 @@ use Rattle.forceidle_account.specs.Charges.{Charges, has_total}
 use Rattle.cs_types.specs.declared.task.TaskSpec.{TaskSpec}
 use Rattle.cs_types.specs.declared.scenario.Scenario.{Scenario}
 use Rattle.cs_types.specs.Scenario.{IsTask, IsPolicy, AreDistinct}
-use Rattle.cs_types.specs.Room.{RoomState, first_pid, asleep, inserted, asleep_tasks, idle, has_pid}
+use Rattle.cs_types.specs.Room.{RoomState, first_pid, asleep, inserted, asleep_tasks, absent, has_pid}
 use Rattle.task_table.specs.Table.{Table, Rises, add_answer}
 use Rattle.task_table.specs.declared.fault.AddFault.{AddFault}
 use Rattle.cs_types.proofs.Foremost.{find_passes}
@@ -167,8 +167,8 @@ nobody = record { online = false; run = None; pending = false; waiting = None; o
 
 -- what a sibling at a place stands for
 pub sibling_at : (siblings : List Sibling) (cpu : ℕ) (x : Sibling) → cpu < length siblings → x ≡ get_or siblings cpu x →
-    get_or (map sibling_state siblings) cpu idle ≡ sibling_state x
-sibling_at siblings cpu x lt is = get_or-map sibling_state siblings cpu x idle lt ∙ ap sibling_state (sym is)
+    get_or (map sibling_state siblings) cpu absent ≡ sibling_state x
+sibling_at siblings cpu x lt is = get_or-map sibling_state siblings cpu x absent lt ∙ ap sibling_state (sym is)
 
 -- the own numbers, where a sibling keeps its own
 abbrev pub number_of : Sibling → ℕ

@@ -3,7 +3,7 @@ use Rattle.std.specs.Prelude.{ℕ, ◌+◌, max, ◌==◌, ◌&&◌, not, nat_lt
 use Rattle.std.specs.List.{list_any}
 use Rattle.std.specs.Option.{option_map_or}
 use Rattle.cs_types.specs.declared.task.Task.{Task}
-use Rattle.cs_types.specs.Room.{SiblingState, idle, has_pid}
+use Rattle.cs_types.specs.Room.{SiblingState, absent, has_pid}
 use Rattle.cs_types.specs.Order.{foremost, is_fair}
 use Rattle.cs_types.specs.Selection.{is_run}
 use Rattle.cs_types.specs.Time.{grown_by}
@@ -12,7 +12,7 @@ use Rattle.plain_room.specs.State.{sibling_state}
 
 -- the snapshot of a sibling among these
 abbrev pub snapshot_in : List Sibling → ℕ → ℕ
-snapshot_in siblings cpu = (slice_index_or (map sibling_state siblings) cpu idle).snapshot
+snapshot_in siblings cpu = (slice_index_or (map sibling_state siblings) cpu absent).snapshot
 
 -- whether one of these siblings runs the task
 abbrev pub is_run_by : List Sibling → Task → Bool

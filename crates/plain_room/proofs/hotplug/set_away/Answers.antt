@@ -2,7 +2,7 @@ use Rattle.std.proofs.Common.{◌≡◌, ◌<◌, ◌∙◌, ap, sym, map, lengt
 use Rattle.std.proofs.lemmas.List.{map-set, length-map, get_or-map}
 use Rattle.std.proofs.lemmas.Bool.{cond-true, cond-false}
 use Rattle.std.proofs.Math.Seq.{map-set_same}
-use Rattle.cs_types.specs.Room.{SiblingState, idle}
+use Rattle.cs_types.specs.Room.{SiblingState, absent}
 use Rattle.cs_types.specs.Hotplug.{away}
 use Rattle.plain_room.specs.State.{sibling_state}
 use Rattle.plain_room.specs.Hotplug.{left, beside_one_that_leaves}
@@ -34,7 +34,7 @@ loop-other-preserved c =
     ] in
     record {
       states = map-set sibling_state c.loop-other.siblings other now
-          ∙ placed_more (left cpu) states (map sibling_state c.loop-other.siblings) other (sibling_state now) idle within c.loop-other.invariant.states
-          (is ∙ ap (λ (state : SiblingState). left cpu (other, state)) (sym (get_or-map sibling_state c.loop-other.siblings other nobody idle inside)));
+          ∙ placed_more (left cpu) states (map sibling_state c.loop-other.siblings) other (sibling_state now) absent within c.loop-other.invariant.states
+          (is ∙ ap (λ (state : SiblingState). left cpu (other, state)) (sym (get_or-map sibling_state c.loop-other.siblings other nobody absent inside)));
       numbers = map-set_same number_of c.loop-other.siblings other now nobody number ∙ c.loop-other.invariant.numbers;
     }

@@ -6,7 +6,7 @@ use Rattle.std.proofs.lemmas.List.{length-map}
 use Rattle.std.proofs.lemmas.List.FromFn.{length-enumerate_from}
 use Rattle.cs_types.specs.declared.task.Task.{Task}
 use Rattle.cs_types.specs.declared.reply.Reply.TheVariants.{Now}
-use Rattle.cs_types.specs.Room.{RoomState, SiblingState, idle}
+use Rattle.cs_types.specs.Room.{RoomState, SiblingState, absent}
 use Rattle.cs_types.specs.Time.{with_growth, least_of, advanced}
 use Rattle.task_table.specs.Table.{Table}
 use Rattle.plain_room.specs.State.{sibling_state, room_of, numbers_of, books_of}
@@ -53,10 +53,10 @@ numbers_are c =
 leasts_are : (room : RoomState) (tasks : List Task) → tasks ≡ room.tasks →
     map (renewed tasks) (enumerate_from 0 room.siblings) ≡ map (λ (place : ℕ × SiblingState). let state : SiblingState = record place.1 { least = least_of room place.0 } in state) (enumerate_from 0 room.siblings)
 leasts_are room tasks same =
-    map_enumerated (renewed tasks) (λ (place : ℕ × SiblingState). let state : SiblingState = record place.1 { least = least_of room place.0 } in state) idle 0 room.siblings
+    map_enumerated (renewed tasks) (λ (place : ℕ × SiblingState). let state : SiblingState = record place.1 { least = least_of room place.0 } in state) absent 0 room.siblings
     (λ k m lt at.
-    ap (λ (ts : List Task). renewed ts (m, get_or room.siblings k idle)) same
-    ∙ ap (λ n. let state : SiblingState = record (get_or room.siblings k idle) { least = least_among room.tasks m (get_or room.siblings n idle).least } in state) (omega (arith, at)))
+    ap (λ (ts : List Task). renewed ts (m, get_or room.siblings k absent)) same
+    ∙ ap (λ n. let state : SiblingState = record (get_or room.siblings k absent) { least = least_among room.tasks m (get_or room.siblings n absent).least } in state) (omega (arith, at)))
 
 pub returns-clause-makes : goal.returns-clause-makes
 unfolding advanced
