@@ -1,11 +1,10 @@
--- Drains: what the end of a run makes: how many entries and of whom, that they are legal, and how it goes on by one entry.
-use Rattle.std.proofs.Common.{◌≡◌, ℕ, zero, suc, ◌+◌, ◌*◌, ◌<◌, ◌≤◌, Bool, true, false, cond, List, [], ◌∷◌, ◌++◌, map, length, length-append, refl, sym, ap, ◌∙◌, subst, inl, inr, Option, Some, None, arith}
+-- Drains: what the end of a run makes: of whom its entries are, that they are legal, and that there is one such end.
+use Rattle.std.proofs.Common.{◌≡◌, ℕ, zero, suc, ◌+◌, ◌<◌, ◌≤◌, Bool, true, false, cond, List, [], ◌∷◌, ◌++◌, map, length, refl, sym, ap, ◌∙◌, subst, inl, inr, Some, None, arith}
 use Rattle.std.specs.Prelude.{◌&&◌, is_some, ◌⊎◌, filter, All, Contains}
 use Rattle.std.specs.List.{AllByRecursion, range_with_len}
-use Rattle.std.specs.Option.{option_map_or}
 use Rattle.std.proofs.lemmas.Bool.{cond_both, and_right}
 use Rattle.std.proofs.lemmas.List.{map-append, append-nil}
-use Rattle.std.proofs.lemmas.List.Elements.{All-contains, All-from_recursion, filter-append}
+use Rattle.std.proofs.lemmas.List.Elements.{All-contains, All-append, All-from_recursion, filter-append}
 use Rattle.cs_types.specs.declared.event.Actor.{Actor}
 use Rattle.cs_types.specs.declared.event.Actor.TheVariants.{End}
 use Rattle.cs_types.specs.declared.event.Event.{Event}
@@ -17,8 +16,8 @@ use Rattle.cs_types.specs.Scenario.{is_actor, IsEvent}
 use Rattle.cs_types.specs.Room.{RoomState, Waiting, sibling_of, is_online, online}
 use Rattle.cs_types.specs.Touches.{is_adopted, is_fresh}
 use Rattle.cs_types.specs.Selection.{selected, is_plain, plain, picked_anew, adopted_or_picked_anew, schedule}
-use Rattle.cs_types.specs.History.{History, Moment, beginning, step_at, next, after, moment_of, IsLegal, events_by, entry_of, made_from, history_of}
-use Rattle.cs_types.specs.Drain.{pending, is_ready, lowest, next_to_schedule, made_by_end, drained_from, drained}
+use Rattle.cs_types.specs.History.{History, Moment, beginning, step_at, next, after, moment_of, fold_of, IsLegal, AreEvents, events_by, entry_of, made_from, history_of}
+use Rattle.cs_types.specs.Drain.{pending, is_ready, lowest, next_to_schedule, entry_by_end, IsEndFrom, IsDrained}
 use Rattle.cs_types.proofs.Histories.{IsLegal-history_of}
 use Rattle.cs_types.proofs.Siblings.{kept, kept-schedule, kept-unless_offline, length-alike, is_online-alike, length-fold_of}
 use Rattle.cs_types.proofs.Filtered.{each-filter, Contains-filter, Contains-filter_parts}
@@ -118,113 +117,85 @@ next_is_none moment none = lowest_none (is_ready moment) (pending moment.room) n
 pub none_is_next : (moment : Moment) → pending moment.room ≡ [] → next_to_schedule moment ≡ None
 none_is_next moment none = ap (λ cpus. lowest (filter (is_ready moment) cpus ++ cpus)) none
 
--- ---- one entry more
-
--- the entry that the end makes of a sibling at a moment
-abbrev pub entry_by_end : Moment → ℕ → Entry
-entry_by_end moment cpu = entry_of moment (made_by_end cpu)
-
--- The next sibling schedules, and then the end goes on.
-pub drained_from-some : (most : ℕ) (moment : Moment) (cpu : ℕ) → next_to_schedule moment ≡ Some cpu →
-    drained_from (suc most) moment ≡ entry_by_end moment cpu ∷ drained_from most (next moment (entry_by_end moment cpu))
-drained_from-some most moment cpu found =
-    ap (λ who. option_map_or (λ cpu. entry_by_end moment cpu ∷ drained_from most (next moment (entry_by_end moment cpu))) who []) found
-
--- Where nobody schedules next, the end makes nothing.
-pub drained_from-none : (most : ℕ) (moment : Moment) → next_to_schedule moment ≡ None → drained_from most moment ≡ []
-drained_from-none zero moment none = refl
-drained_from-none (suc most) moment none =
-    ap (λ who. option_map_or (λ cpu. entry_by_end moment cpu ∷ drained_from most (next moment (entry_by_end moment cpu))) who []) none
-
--- what holds of nothing where nobody schedules next, and of the next sibling's entry with what comes after it, holds of what the
--- end makes
-pub drained_from_holds : (P : List Entry → Type 0) (most : ℕ) (moment : Moment) → (next_to_schedule moment ≡ None → P []) →
-    ((cpu : ℕ) → next_to_schedule moment ≡ Some cpu → P (entry_by_end moment cpu ∷ drained_from most (next moment (entry_by_end moment cpu)))) →
-    P (drained_from (suc most) moment)
-drained_from_holds P most moment none some = go (next_to_schedule moment) refl where
-  go : (who : Option ℕ) → next_to_schedule moment ≡ who →
-      P (option_map_or (λ cpu. entry_by_end moment cpu ∷ drained_from most (next moment (entry_by_end moment cpu))) who [])
-  go None found = none found
-  go (Some cpu) found = some cpu found
-
--- ---- how many entries
-
--- The end makes at most as many entries as it may.
-pub length-drained_from : (most : ℕ) (moment : Moment) → length (drained_from most moment) ≤ most
-length-drained_from zero moment = omega arith
-length-drained_from (suc most) moment =
-    drained_from_holds (λ entries. length entries ≤ suc most) most moment (λ _. omega arith)
-    (λ cpu _. omega (arith, length-drained_from most (next moment (entry_by_end moment cpu))))
-
--- So it adds at most as many as the square of the siblings.
-pub length-drained : (scenario : Scenario) (history : History) → length (drained scenario history) ≤ length history + scenario.siblings * scenario.siblings
-length-drained scenario history =
-    let most = scenario.siblings * scenario.siblings in
-    let added = drained_from most (moment_of scenario history) in
-    omega (arith, length-append history added, length-drained_from most (moment_of scenario history))
-
--- ---- its steps
-
--- the step of an entry
-abbrev pub step_of : Entry → Step
-step_of entry = record { actor = entry.actor; event = entry.event }
-
+-- the moment after more entries
 pub after-append : (moment : Moment) (entries more : List Entry) → after moment (entries ++ more) ≡ after (after moment entries) more
 after-append moment [] more = refl
 after-append moment (entry ∷ entries) more = after-append (next moment entry) entries more
 
-pub made_from-append : (moment : Moment) (steps more : List Step) →
+-- ---- how it ends
+
+-- After the entries of the end nobody is pending.
+pub end_is_calm : (moment : Moment) (entries : List Entry) → IsEndFrom moment entries → pending (after moment entries).room ≡ []
+end_is_calm moment [] ends = ends
+end_is_calm moment (entry ∷ entries) ends = end_is_calm (next moment entry) entries ends.3
+
+pub nobody_pending : (scenario : Scenario) (past now : History) → IsDrained scenario past now → pending (fold_of scenario now) ≡ []
+nobody_pending scenario past now drained =
+    ap (λ (history : History). pending (fold_of scenario history)) drained.added
+    ∙ (ap (λ (last : Moment). pending last.room) (after-append (beginning scenario) past drained.made)
+    ∙ end_is_calm (moment_of scenario past) drained.made drained.ends)
+
+-- A moment has one end, and so a history one that is drained.
+one_end : (moment : Moment) (a b : List Entry) → IsEndFrom moment a → IsEndFrom moment b → a ≡ b
+one_end moment [] [] calm ends = refl
+one_end moment [] (y ∷ ys) calm ends = let none = none_is_next moment calm in let some = ends.1 in absurd cc
+one_end moment (x ∷ xs) [] ends calm = let none = none_is_next moment calm in let some = ends.1 in absurd cc
+one_end moment (x ∷ xs) (y ∷ ys) one other =
+    let found : Some one.0 ≡ Some other.0 = sym one.1 ∙ other.1 in
+    let cpu : one.0 ≡ other.0 = cc in
+    let same : x ≡ y = one.2 ∙ (ap (entry_by_end moment) cpu ∙ sym other.2) in
+    let rest : IsEndFrom (next moment x) ys = subst (λ (entry : Entry). IsEndFrom (next moment entry) ys) (sym same) other.3 in
+    λ i. same i ∷ one_end (next moment x) xs ys one.3 rest i
+
+pub drained_alone : (scenario : Scenario) (past now other : History) → IsDrained scenario past now → IsDrained scenario past other → now ≡ other
+drained_alone scenario past now other one two =
+    one.added ∙ (ap (λ (made : List Entry). past ++ made) (one_end (moment_of scenario past) one.made two.made one.ends two.ends) ∙ sym two.added)
+
+-- ---- it is legal
+
+-- the step of an entry
+abbrev step_of : Entry → Step
+step_of entry = record { actor = entry.actor; event = entry.event }
+
+made_from-append : (moment : Moment) (steps more : List Step) →
     made_from moment (steps ++ more) ≡ made_from moment steps ++ made_from (after moment (made_from moment steps)) more
 made_from-append moment [] more = refl
 made_from-append moment (made ∷ steps) more =
     ap (λ (entries : List Entry). entry_of moment made ∷ entries) (made_from-append (next moment (entry_of moment made)) steps more)
 
--- The entries that the end makes are those of their steps.
-pub drained_from_is_made : (most : ℕ) (moment : Moment) → made_from moment (map step_of (drained_from most moment)) ≡ drained_from most moment
-drained_from_is_made zero moment = refl
-drained_from_is_made (suc most) moment =
-    drained_from_holds (λ entries. made_from moment (map step_of entries) ≡ entries) most moment (λ _. refl)
-    (λ cpu _. ap (λ (entries : List Entry). entry_by_end moment cpu ∷ entries) (drained_from_is_made most (next moment (entry_by_end moment cpu))))
+-- entries of which each has the reply of the rules are those of their steps
+made_more : (moment : Moment) (entry : Entry) (entries : List Entry) → entry_of moment (step_of entry) ≡ entry →
+    made_from (next moment entry) (map step_of entries) ≡ entries → made_from moment (map step_of (entry ∷ entries)) ≡ entry ∷ entries
+made_more moment entry entries same rest =
+    (λ i. same i ∷ made_from (next moment (same i)) (map step_of entries)) ∙ ap (λ (es : List Entry). entry ∷ es) rest
 
--- the steps that the end makes after a history
-abbrev pub steps_of_end : Scenario → History → List Step
-steps_of_end scenario history = map step_of (drained_from (scenario.siblings * scenario.siblings) (moment_of scenario history))
+end_is_made : (moment : Moment) (entries : List Entry) → IsEndFrom moment entries → made_from moment (map step_of entries) ≡ entries
+end_is_made moment [] ends = refl
+end_is_made moment (entry ∷ entries) ends =
+    made_more moment entry entries (subst (λ (one : Entry). entry_of moment (step_of one) ≡ one) (sym ends.2) refl)
+    (end_is_made (next moment entry) entries ends.3)
 
--- The history of steps with the entries of the end is the history of those steps and the end's.
-pub drained-history_of : (scenario : Scenario) (steps : List Step) →
-    drained scenario (history_of scenario steps) ≡ history_of scenario (steps ++ steps_of_end scenario (history_of scenario steps))
-drained-history_of scenario steps =
-    let history = history_of scenario steps in
-    sym (made_from-append (beginning scenario) steps (steps_of_end scenario history)
-    ∙ ap (λ (entries : List Entry). history ++ entries) (drained_from_is_made (scenario.siblings * scenario.siblings) (moment_of scenario history)))
-
--- ---- it is legal
-
--- entries that have the replies of the rules are those of their steps
 made_again : (moment : Moment) (entries : List Entry) →
     ((past : List Entry) (entry : Entry) (rest : List Entry) → entries ≡ past ++ entry ∷ rest → entry.reply ≡ (step_at (after moment past) entry.event).reply) →
     made_from moment (map step_of entries) ≡ entries
 made_again moment [] legal = refl
 made_again moment (entry ∷ entries) legal =
-    let same : entry_of moment (step_of entry) ≡ entry =
-    λ i. record { actor = entry.actor; event = entry.event; reply = sym (legal [] entry entries refl) i } in
-    let rest : made_from (next moment entry) (map step_of entries) ≡ entries =
-    made_again (next moment entry) entries (λ past later rest e. legal (entry ∷ past) later rest (ap (λ (es : List Entry). entry ∷ es) e)) in
-    (λ i. same i ∷ made_from (next moment (same i)) (map step_of entries)) ∙ ap (λ (es : List Entry). entry ∷ es) rest
+    made_more moment entry entries (λ i. record { actor = entry.actor; event = entry.event; reply = sym (legal [] entry entries refl) i })
+    (made_again (next moment entry) entries (λ past later rest e. legal (entry ∷ past) later rest (ap (λ (es : List Entry). entry ∷ es) e)))
 
--- A legal history is that of its steps.
-pub history_of-steps : (scenario : Scenario) (history : History) → IsLegal scenario history → history_of scenario (map step_of history) ≡ history
-history_of-steps scenario history legal = made_again (beginning scenario) history legal
+-- A legal history is legal also with the entries of the end.
+pub IsLegal-drained : (scenario : Scenario) (past now : History) → IsLegal scenario past → IsDrained scenario past now → IsLegal scenario now
+IsLegal-drained scenario past now legal drained =
+    let steps = map step_of past in
+    let more = map step_of drained.made in
+    let again : history_of scenario steps ≡ past = made_again (beginning scenario) past legal in
+    let is : history_of scenario (steps ++ more) ≡ now =
+    made_from-append (beginning scenario) steps more
+    ∙ (ap (λ (history : History). history ++ made_from (moment_of scenario history) more) again
+    ∙ (ap (λ (entries : List Entry). past ++ entries) (end_is_made (moment_of scenario past) drained.made drained.ends) ∙ sym drained.added)) in
+    subst (IsLegal scenario) is (IsLegal-history_of scenario (steps ++ more))
 
--- With the entries of the end a legal history is legal.
-pub IsLegal-drained : (scenario : Scenario) (history : History) → IsLegal scenario history → IsLegal scenario (drained scenario history)
-IsLegal-drained scenario history legal =
-    let steps = map step_of history in
-    subst (λ (h : History). IsLegal scenario (drained scenario h)) (history_of-steps scenario history legal)
-    (subst (IsLegal scenario) (sym (drained-history_of scenario steps))
-    (IsLegal-history_of scenario (steps ++ steps_of_end scenario (history_of scenario steps))))
-
--- ---- of whom they are
+-- ---- of whom its entries are
 
 -- rooms that are alike have the same siblings online
 online-alike : (room other : RoomState) → kept room ≡ kept other → online room ≡ online other
@@ -232,7 +203,7 @@ online-alike room other same =
     λ i. filter (λ cpu. is_online-alike room other same cpu i) (range_with_len 0 (length-alike room other same i))
 
 -- A schedule that the end makes leaves the same siblings online.
-pub online-next : (moment : Moment) (cpu : ℕ) → online (next moment (entry_by_end moment cpu)).room ≡ online moment.room
+online-next : (moment : Moment) (cpu : ℕ) → online (next moment (entry_by_end moment cpu)).room ≡ online moment.room
 online-next moment cpu =
     let fresh = is_fresh moment.ledger in
     online-alike (next moment (entry_by_end moment cpu)).room moment.room
@@ -249,24 +220,26 @@ pub record IsByEnd (room : RoomState) (entry : Entry) : Type 0 where
 pending_up : (room : RoomState) (cpu : ℕ) → Contains (pending room) cpu → Contains (online room) cpu
 pending_up room cpu held = (Contains-filter_parts (λ other. (sibling_of room other).pending) (online room) cpu held).0
 
-by_end_from : (most : ℕ) (moment : Moment) (room : RoomState) → online moment.room ≡ online room → AllByRecursion (IsByEnd room) (drained_from most moment)
-by_end_from zero moment room same = tt
-by_end_from (suc most) moment room same =
-    drained_from_holds (AllByRecursion (IsByEnd room)) most moment (λ _. tt)
-    (λ cpu found. (
-      record {
-        actor = refl;
-        cpu = cpu;
-        event = refl;
-        up = subst (λ cpus. Contains cpus cpu) same (pending_up moment.room cpu (next_is_pending moment cpu found).0);
-      },
-      by_end_from most (next moment (entry_by_end moment cpu)) room (online-next moment cpu ∙ same),
-    ))
+-- Each entry of the end is of the end, and in it a sibling schedules that is online.
+pub drained_by_end : (moment : Moment) (room : RoomState) (entries : List Entry) → online moment.room ≡ online room → IsEndFrom moment entries →
+    AllByRecursion (IsByEnd room) entries
+drained_by_end moment room [] same ends = tt
+drained_by_end moment room (entry ∷ entries) same ends = (
+  record {
+    actor = ap (λ (one : Entry). one.actor) ends.2;
+    cpu = ends.0;
+    event = ap (λ (one : Entry). one.event) ends.2;
+    up = subst (λ cpus. Contains cpus ends.0) same (pending_up moment.room ends.0 (next_is_pending moment ends.0 ends.1).0);
+  },
+  drained_by_end (next moment entry) room entries
+      (ap (λ (one : Entry). online (next moment one).room) ends.2 ∙ (online-next moment ends.0 ∙ same)) ends.3,
+)
 
--- Each entry that the end makes is of the end, and in it a sibling schedules that is online.
-pub drained_by_end : (most : ℕ) (moment : Moment) → All (IsByEnd moment.room) (drained_from most moment)
-drained_by_end most moment = All-from_recursion (IsByEnd moment.room) (drained_from most moment) (by_end_from most moment moment.room refl)
+by_end_of : (scenario : Scenario) (past now : History) (drained : IsDrained scenario past now) →
+    AllByRecursion (IsByEnd (fold_of scenario past)) drained.made
+by_end_of scenario past now drained = drained_by_end (moment_of scenario past) (fold_of scenario past) drained.made refl drained.ends
 
+-- So each event that it makes is one of the scenario's core.
 events_in : (siblings : ℕ) (room : RoomState) (entries : List Entry) → length room.siblings ≡ siblings → AllByRecursion (IsByEnd room) entries →
     AllByRecursion (λ entry. IsEvent siblings entry.event) entries
 events_in siblings room [] many by_end = tt
@@ -274,34 +247,30 @@ events_in siblings room (entry ∷ entries) many by_end =
     let below : by_end.0.cpu < siblings = omega (arith, many, (online_parts room by_end.0.cpu by_end.0.up).0) in
     (subst (IsEvent siblings) (sym by_end.0.event) below, events_in siblings room entries many by_end.1)
 
--- So each event that it makes is one of the scenario's core.
-pub drained_is_event : (most : ℕ) (scenario : Scenario) (history : History) →
-    All (λ entry. IsEvent scenario.siblings entry.event) (drained_from most (moment_of scenario history))
-drained_is_event most scenario history =
-    let moment = moment_of scenario history in
-    All-from_recursion (λ entry. IsEvent scenario.siblings entry.event) (drained_from most moment)
-    (events_in scenario.siblings moment.room (drained_from most moment) (length-fold_of scenario history) (by_end_from most moment moment.room refl))
-
--- ---- the events of the others
-
-none_by : (actor : Actor) → is_actor End actor ≡ false → (most : ℕ) (moment : Moment) → events_by actor (drained_from most moment) ≡ []
-none_by actor other zero moment = refl
-none_by actor other (suc most) moment =
-    drained_from_holds (λ entries. events_by actor entries ≡ []) most moment (λ _. refl)
-    (λ cpu _.
-    let entry = entry_by_end moment cpu in
-    let entries = drained_from most (next moment entry) in
-    let kept = filter (λ (e : Entry). is_actor e.actor actor) entries in
-    ap (λ b. map (λ (e : Entry). e.event) (cond b (entry ∷ kept) kept)) other ∙ none_by actor other most (next moment entry))
+pub AreEvents-drained : (scenario : Scenario) (past now : History) → AreEvents scenario past → IsDrained scenario past now → AreEvents scenario now
+AreEvents-drained scenario past now events drained =
+    let keeps : Entry → Type 0 = λ entry. IsEvent scenario.siblings entry.event in
+    subst (All keeps) (sym drained.added)
+    (All-append keeps past drained.made events
+    (All-from_recursion keeps drained.made
+    (events_in scenario.siblings (fold_of scenario past) drained.made (length-fold_of scenario past) (by_end_of scenario past now drained))))
 
 -- The end adds nothing to the events of another actor, a sibling or a caller.
-pub events_by-drained : (scenario : Scenario) (history : History) (actor : Actor) → is_actor End actor ≡ false →
-    events_by actor (drained scenario history) ≡ events_by actor history
-events_by-drained scenario history actor other =
-    let added = drained_from (scenario.siblings * scenario.siblings) (moment_of scenario history) in
+none_by : (actor : Actor) → is_actor End actor ≡ false → (room : RoomState) (entries : List Entry) → AllByRecursion (IsByEnd room) entries →
+    events_by actor entries ≡ []
+none_by actor other room [] by_end = refl
+none_by actor other room (entry ∷ entries) by_end =
+    let kept = filter (λ (e : Entry). is_actor e.actor actor) entries in
+    ap (λ b. map (λ (e : Entry). e.event) (cond b (entry ∷ kept) kept)) (ap (λ a. is_actor a actor) by_end.0.actor ∙ other)
+    ∙ none_by actor other room entries by_end.1
+
+pub events_by-drained : (scenario : Scenario) (past now : History) (actor : Actor) → is_actor End actor ≡ false → IsDrained scenario past now →
+    events_by actor now ≡ events_by actor past
+events_by-drained scenario past now actor other drained =
     let event : Entry → Event = λ entry. entry.event in
     let test : Entry → Bool = λ entry. is_actor entry.actor actor in
-    ap (map event) (filter-append test history added)
-    ∙ (map-append event (filter test history) (filter test added)
-    ∙ (ap (λ events. events_by actor history ++ events) (none_by actor other (scenario.siblings * scenario.siblings) (moment_of scenario history))
-    ∙ append-nil (events_by actor history)))
+    ap (events_by actor) drained.added
+    ∙ (ap (map event) (filter-append test past drained.made)
+    ∙ (map-append event (filter test past) (filter test drained.made)
+    ∙ (ap (λ events. events_by actor past ++ events) (none_by actor other (fold_of scenario past) drained.made (by_end_of scenario past now drained))
+    ∙ append-nil (events_by actor past))))

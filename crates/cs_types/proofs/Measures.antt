@@ -15,12 +15,12 @@ use Rattle.cs_types.specs.Touches.{is_selection, LedgerEntry, Ledger, ledger_ent
 use Rattle.cs_types.specs.Selection.{cookie_of, pid_of, is_fair_task, lead_from, choice, occupation_of, renews_snapshots, running, is_run, told, handed, selected, Scheduled, adopted, is_plain, plain, picked_anew, adopted_or_picked_anew, balanced, schedule}
 use Rattle.cs_types.specs.Step.{Stepped, picked}
 use Rattle.cs_types.specs.History.{Moment, step_at, next}
-use Rattle.cs_types.specs.Drain.{pending, is_ready, next_to_schedule}
+use Rattle.cs_types.specs.Drain.{pending, is_ready, next_to_schedule, entry_by_end}
 use Rattle.cs_types.proofs.Siblings.{length-step}
 use Rattle.cs_types.proofs.Filtered.{Contains-filter, Contains-filter_parts, Contains-range}
 use Rattle.cs_types.proofs.Selections.{online_parts, sibling_of-selected_room, get_or-set_alike}
 use Rattle.cs_types.proofs.Numbers.{untouched, untouched-cons}
-use Rattle.cs_types.proofs.Drains.{entry_by_end, next_is_pending}
+use Rattle.cs_types.proofs.Drains.{next_is_pending}
 
 -- ---- counts of a range
 

@@ -1,9 +1,7 @@
 -- Drain: how a run ends (this project's rule). While an online sibling is pending, the end makes one schedule.
-use Rattle.std.specs.Prelude.{ℕ, zero, suc, ◌*◌, Bool, ◌&&◌, List, [], ◌∷◌, ◌++◌, filter, Option, Some, None, is_some}
-use Rattle.std.specs.Option.{option_map_or}
+use Rattle.std.specs.Prelude.{◌≡◌, ℕ, Bool, ◌&&◌, List, [], ◌∷◌, ◌++◌, filter, Option, Some, None, is_some}
 use Rattle.cs_types.specs.declared.event.Actor.TheVariants.{End}
 use Rattle.cs_types.specs.declared.event.Event.TheVariants.{Resched}
-use Rattle.cs_types.specs.declared.event.Step.{Step}
 use Rattle.cs_types.specs.declared.reply.Entry.{Entry}
 use Rattle.cs_types.specs.declared.scenario.Scenario.{Scenario}
 use Rattle.cs_types.specs.Room.{RoomState, sibling_of, online}
@@ -26,16 +24,19 @@ lowest (cpu ∷ cpus) = Some cpu
 abbrev pub next_to_schedule : Moment → Option ℕ
 next_to_schedule moment = lowest (filter (is_ready moment) (pending moment.room) ++ pending moment.room)
 
-abbrev pub made_by_end : ℕ → Step
-made_by_end cpu = record { actor = End; event = Resched cpu }
+-- the entry of that schedule, which the end makes of a sibling
+abbrev pub entry_by_end : Moment → ℕ → Entry
+entry_by_end moment cpu = entry_of moment (record { actor = End; event = Resched cpu })
 
--- the entries of the end from a moment on, at most this number
-abbrev pub drained_from : ℕ → Moment → List Entry
-drained_from zero moment = []
-drained_from (suc most) moment =
-    option_map_or (λ cpu. let entry = entry_of moment (made_by_end cpu) in entry ∷ drained_from most (next moment entry)) (next_to_schedule moment) []
+-- These are the entries of the end from a moment on: each is made of the one who schedules next, and after the last
+-- nobody is pending.
+abbrev pub IsEndFrom : Moment → List Entry → Type 0
+IsEndFrom moment [] = pending moment.room ≡ []
+IsEndFrom moment (entry ∷ entries) =
+    (cpu : ℕ) × (next_to_schedule moment ≡ Some cpu) × (entry ≡ entry_by_end moment cpu) × IsEndFrom (next moment entry) entries
 
--- the history with the entries of the end, of which there are at most as many as the square of the siblings
-abbrev pub drained : Scenario → History → History
-drained scenario history =
-    history ++ drained_from (scenario.siblings * scenario.siblings) (moment_of scenario history)
+-- The one history is the other with the entries of the end.
+pub record IsDrained (scenario : Scenario) (past now : History) : Type 0 where
+  pub made : List Entry
+  pub added : now ≡ past ++ made
+  pub ends : IsEndFrom (moment_of scenario past) made

@@ -6,7 +6,7 @@ ghost use Rattle.cs_types.specs.declared.scenario.Scenario.{Scenario};
 ghost use Rattle.cs_types.specs.Scenario.{IsEvent, IsPlayable};
 ghost use Rattle.cs_types.specs.Touches.{task_number, pick_number, selection_of};
 ghost use Rattle.cs_types.specs.History.{History, moment_of, fold_of, ledger_of, reply_to, AreEvents, IsLegal};
-ghost use Rattle.cs_types.specs.Drain.{pending, drained};
+ghost use Rattle.cs_types.specs.Drain.{pending, IsDrained};
 ghost use Rattle.cs_types.specs.View.{core_view, cpu_view, task_view_after, end_view, IsTrusted};
 ghost use Rattle.cs_types.specs.Laws.{SelectsForTheCore, scheduling_room, cpu_of, IsOrdered, RunOneCookie};
 
@@ -52,7 +52,7 @@ pub trait Room: Drop {
     fn drain(&mut self) -> u64
         requires spare { (scenario self.old).siblings * (scenario self.old).siblings ≤ free self.old }
 
-        ensures entries { history self.new ≡ drained (scenario self.old) (history self.old) }
+        ensures entries { IsDrained (scenario self.old) (history self.old) (history self.new) }
         ensures count { length (history self.new) ≡ length (history self.old) + result }
         ensures few { result ≤ (scenario self.old).siblings * (scenario self.old).siblings }
         ensures free { free self.new + result ≡ free self.old }

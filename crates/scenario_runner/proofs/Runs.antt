@@ -1,8 +1,8 @@
 -- Runs: what is so of the history of a run.
-use Rattle.std.proofs.Common.{◌≡◌, ◌≢◌, ◌*◌, ℕ, false, List, [], ◌∷◌, ◌++◌, refl, ap, ◌∙◌, subst}
+use Rattle.std.proofs.Common.{◌≡◌, ◌≢◌, ℕ, false, List, [], ◌∷◌, ◌++◌, refl, ap, ◌∙◌, subst}
 use Rattle.std.specs.List.{AllByRecursion}
 use Rattle.std.proofs.lemmas.List.{append_assoc}
-use Rattle.std.proofs.lemmas.List.Elements.{All-append, All-from_recursion, recursion_from_All}
+use Rattle.std.proofs.lemmas.List.Elements.{All-from_recursion, recursion_from_All}
 use Rattle.cs_types.specs.declared.event.Actor.{Actor}
 use Rattle.cs_types.specs.declared.event.Actor.TheVariants.{Sibling, Caller, End}
 use Rattle.cs_types.specs.declared.event.Step.{Step}
@@ -10,14 +10,12 @@ use Rattle.cs_types.specs.declared.reply.Entry.{Entry}
 use Rattle.cs_types.specs.declared.scenario.Scenario.{Scenario}
 use Rattle.cs_types.specs.Scenario.{IsEvent, IsStep, IsPlayable, is_actor}
 use Rattle.cs_types.specs.History.{History, Moment, AreEvents, IsLegal, moment_of, next, fold_of, entry_of, made_from, file}
-use Rattle.cs_types.specs.Drain.{drained_from}
-use Rattle.cs_types.specs.Laws.{IsSettled}
+use Rattle.cs_types.specs.Drain.{IsDrained}
 use Rattle.cs_types.proofs.Histories.{IsLegal-history_of, events_by-file}
 use Rattle.cs_types.proofs.Selections.{selects}
-use Rattle.cs_types.proofs.Drains.{IsLegal-drained, drained_is_event, events_by-drained}
-use Rattle.cs_types.proofs.Drained.{nobody_pending}
+use Rattle.cs_types.proofs.Drains.{drained_alone, nobody_pending, IsLegal-drained, AreEvents-drained, events_by-drained}
 use Rattle.cs_types.proofs.Trust.{settled-moment_of, one_cookie}
-use Rattle.scenario_runner.specs.Replay.{run_of, IsPlayed}
+use Rattle.scenario_runner.specs.Replay.{IsRun, IsPlayed}
 
 -- ---- the events of a run keep their limits
 
@@ -30,12 +28,6 @@ file_events : (scenario : Scenario) → IsPlayable scenario → AreEvents scenar
 file_events scenario playable =
     All-from_recursion (λ entry. IsEvent scenario.siblings entry.event) (file scenario)
     (events_made scenario.siblings (moment_of scenario []) scenario.steps (recursion_from_All (IsStep scenario.siblings) scenario.steps playable.steps))
-
-run_events : (scenario : Scenario) → IsPlayable scenario → AreEvents scenario (run_of scenario)
-run_events scenario playable =
-    let most = scenario.siblings * scenario.siblings in
-    All-append (λ (entry : Entry). IsEvent scenario.siblings entry.event) (file scenario) (drained_from most (moment_of scenario (file scenario)))
-    (file_events scenario playable) (drained_is_event most scenario (file scenario))
 
 -- ---- a part of a legal history
 
@@ -53,32 +45,34 @@ all_right P (entry ∷ past) rest all = all_right P past rest all.1
 
 -- ---- the run
 
-legal_run : (scenario : Scenario) → IsLegal scenario (run_of scenario)
-legal_run scenario = IsLegal-drained scenario (file scenario) (IsLegal-history_of scenario scenario.steps)
+pub run_alone : (scenario : Scenario) (run : History) → IsDrained scenario (file scenario) run → IsRun scenario run
+run_alone scenario run drained = record { drained = drained; alone = λ other too. drained_alone scenario (file scenario) other run too drained }
 
 no_end : (actor : Actor) → actor ≢ End → is_actor End actor ≡ false
 no_end (Sibling i) other = refl
 no_end (Caller j) other = refl
 no_end End other = absurd (other refl)
 
-trust_in_run : (scenario : Scenario) → IsPlayable scenario → (past rest : History) → run_of scenario ≡ past ++ rest → IsSettled (fold_of scenario past)
-trust_in_run scenario playable past rest is =
-    let P : Entry → Type 0 = λ entry. IsEvent scenario.siblings entry.event in
-    settled-moment_of scenario past playable
-    (All-from_recursion P past (all_left P past rest (recursion_from_All P (past ++ rest) (subst (AreEvents scenario) is (run_events scenario playable)))))
-    (legal_part scenario past rest (subst (IsLegal scenario) is (legal_run scenario)))
-
-pub played : (scenario : Scenario) → IsPlayable scenario → IsPlayed scenario
-played scenario playable =
-    let P : Entry → Type 0 = λ entry. IsEvent scenario.siblings entry.event in
+pub played : (scenario : Scenario) (run : History) → IsPlayable scenario → IsDrained scenario (file scenario) run → IsPlayed scenario run
+played scenario run playable drained =
     record {
-      legal = legal_run scenario;
-      scripts = λ actor other. events_by-drained scenario (file scenario) actor (no_end actor other) ∙ events_by-file scenario actor;
-      trust = trust_in_run scenario playable;
+      legal = legal;
+      scripts = λ actor other. events_by-drained scenario (file scenario) run actor (no_end actor other) drained ∙ events_by-file scenario actor;
+      trust = λ past rest is.
+          settled-moment_of scenario past playable
+          (All-from_recursion P past (all_left P past rest (recursion_from_All P (past ++ rest) (subst (AreEvents scenario) is events))))
+          (legal_part scenario past rest (subst (IsLegal scenario) is legal));
       selections = λ past entry rest is.
-          let events = all_right P past (entry ∷ rest) (recursion_from_All P (past ++ entry ∷ rest) (subst (AreEvents scenario) is (run_events scenario playable))) in
-          selects scenario past entry events.0 (legal_run scenario past entry rest is);
-      nobody_pending = nobody_pending scenario (file scenario);
-      one_cookie = one_cookie (fold_of scenario (run_of scenario))
-          (settled-moment_of scenario (run_of scenario) playable (run_events scenario playable) (legal_run scenario)) (nobody_pending scenario (file scenario));
-    }
+          let named = all_right P past (entry ∷ rest) (recursion_from_All P (past ++ entry ∷ rest) (subst (AreEvents scenario) is events)) in
+          selects scenario past entry named.0 (legal past entry rest is);
+      nobody_pending = nobody_pending scenario (file scenario) run drained;
+      one_cookie = one_cookie (fold_of scenario run) (settled-moment_of scenario run playable events legal) (nobody_pending scenario (file scenario) run drained);
+    } where
+      P : Entry → Type 0
+      P entry = IsEvent scenario.siblings entry.event
+
+      legal : IsLegal scenario run
+      legal = IsLegal-drained scenario (file scenario) run (IsLegal-history_of scenario scenario.steps) drained
+
+      events : AreEvents scenario run
+      events = AreEvents-drained scenario (file scenario) run (file_events scenario playable) drained

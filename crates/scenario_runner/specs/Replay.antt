@@ -7,44 +7,49 @@ use Rattle.cs_types.specs.declared.scenario.Scenario.{Scenario}
 use Rattle.cs_types.specs.Scenario.{IsBuilt, script}
 use Rattle.cs_types.specs.Touches.{selection_of}
 use Rattle.cs_types.specs.History.{History, IsLegal, fold_of, events_by, file}
-use Rattle.cs_types.specs.Drain.{pending, drained}
+use Rattle.cs_types.specs.Drain.{pending, IsDrained}
 use Rattle.cs_types.specs.Laws.{SelectsForTheCore, scheduling_room, cpu_of, IsSettled, RunOneCookie}
 use Rattle.cs_outside.specs.Device.{appended, WritesPrefix}
 use Rattle.scenario_text.specs.Text.{scenario_text}
 use Rattle.room_report.specs.Report.{output_text}
 use Rattle.scenario_runner.specs.Input.{IsReadAs}
 
--- the history of a run: the file's steps in order, and then the entries of the end
-abbrev pub run_of : Scenario → History
-run_of scenario = drained scenario (file scenario)
+-- The history is that of a run: the file's steps in order, and then the entries of the end. No other is.
+pub record IsRun (scenario : Scenario) (run : History) : Type 0 where
+  pub drained : IsDrained scenario (file scenario) run
+  pub alone : (other : History) → IsDrained scenario (file scenario) other → other ≡ run
 
 -- What is so of that history.
-pub record IsPlayed (scenario : Scenario) : Type 0 where
+pub record IsPlayed (scenario : Scenario) (run : History) : Type 0 where
   -- it is legal, and each sibling and each caller made its script in it
-  pub legal : IsLegal scenario (run_of scenario)
-  pub scripts : (actor : Actor) → actor ≢ End → events_by actor (run_of scenario) ≡ script scenario actor
+  pub legal : IsLegal scenario run
+  pub scripts : (actor : Actor) → actor ≢ End → events_by actor run ≡ script scenario actor
   -- at each moment of it each online sibling without a pending reschedule runs idle or a task with the core cookie
-  pub trust : (past rest : History) → run_of scenario ≡ past ++ rest → IsSettled (fold_of scenario past)
+  pub trust : (past rest : History) → run ≡ past ++ rest → IsSettled (fold_of scenario past)
   -- each selection for the core takes a highest task, and gives each sibling only a task with its cookie, or idle
-  pub selections : (past : History) (entry : Entry) (rest : History) → run_of scenario ≡ past ++ entry ∷ rest →
+  pub selections : (past : History) (entry : Entry) (rest : History) → run ≡ past ++ entry ∷ rest →
       IfSome (selection_of entry.reply) (λ pick.
       SelectsForTheCore (scheduling_room (fold_of scenario past) entry.event) (cpu_of entry.event) pick (fold_of scenario (past ++ entry ∷ [])))
   -- at its end no sibling is pending, and no two running tasks differ in cookie
-  pub nobody_pending : pending (fold_of scenario (run_of scenario)) ≡ []
-  pub one_cookie : RunOneCookie (fold_of scenario (run_of scenario))
+  pub nobody_pending : pending (fold_of scenario run) ≡ []
+  pub one_cookie : RunOneCookie (fold_of scenario run)
 
 -- the input is the text of a scenario that can be played, and was read to its end
 pub record Reads (scenario : Scenario) (input left : Option (List ℕ)) : Type 0 where
   pub built : IsBuilt scenario
   pub read : IsReadAs input (scenario_text scenario) left
 
--- and what was written is the output of that history: the line of each entry, and its report
+-- and what was written is the output of its run: the line of each entry, and its report
 pub record Replays (scenario : Scenario) (input left written now : Option (List ℕ)) : Type 0 where
   pub reads : Reads scenario input left
-  pub played : IsPlayed scenario
-  pub writes : now ≡ appended written (output_text scenario (run_of scenario))
+  pub run : History
+  pub is_run : IsRun scenario run
+  pub played : IsPlayed scenario run
+  pub writes : now ≡ appended written (output_text scenario run)
 
 -- or a prefix of that output
 pub record BreaksOff (scenario : Scenario) (input left written now : Option (List ℕ)) : Type 0 where
   pub reads : Reads scenario input left
-  pub writes : WritesPrefix written (output_text scenario (run_of scenario)) now
+  pub run : History
+  pub is_run : IsRun scenario run
+  pub writes : WritesPrefix written (output_text scenario run) now

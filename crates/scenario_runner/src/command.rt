@@ -4,7 +4,9 @@ ghost use Rattle.std.specs.Prelude.{◌≡◌, ◌≢◌, ◌↔◌, ◌+◌, �
 ghost use Rattle.cs_outside.specs.Device.{Rose};
 ghost use Rattle.scenario_runner.specs.Commands.{IsReplay};
 ghost use Rattle.scenario_runner.specs.Input.{IsBad, input_limit, count_read};
-ghost use Rattle.scenario_runner.specs.Replay.{Reads, run_of};
+ghost use Rattle.cs_types.specs.History.{file};
+ghost use Rattle.cs_types.specs.Drain.{IsDrained};
+ghost use Rattle.scenario_runner.specs.Replay.{Reads};
 ghost use Rattle.scenario_runner.specs.Ends.{EndsAsReplay};
 
 use crate::input::read_to_end;
@@ -23,7 +25,8 @@ use std::alloc::Global;
 /// the entries of the end.
 fn played<S: Source>(alloc: Global, source: &mut S) -> Result<PlainRoom, Stop>
     ensures reads { IfOk result (λ room. Reads room.scenario (S.left source.old) (S.left source.new)) }
-    ensures played { IfOk result (λ room. ⟦<PlainRoom as Room>⟧.history room ≡ run_of room.scenario) }
+    ensures played { IfOk result (λ room.
+        IsDrained room.scenario (file room.scenario) (⟦<PlainRoom as Room>⟧.history room)) }
 
     ensures too_long { IfSome (S.left source.old) (λ _.
         (result ≡ Err Stop.TooLong) ↔ (input_limit < count_read (S.left source.old) (S.left source.new))) }

@@ -3,10 +3,8 @@ use Rattle.std.specs.Prelude.{Option, Err, IfSome, ◌↔◌}
 use Rattle.scenario_text.specs.declared.fault.BadKind.{BadKind}
 use Rattle.scenario_runner.specs.declared.stop.Stop.TheVariants.{ReadFault, TooLong, BadScenario}
 use Rattle.scenario_runner.specs.Input.{IsBad, input_limit, count_read}
-use Rattle.cs_types.specs.History.{History}
-use Rattle.scenario_runner.proofs.Runs.{played}
-use Rattle.cs_outside.specs.Device.{appended, WritesPrefix}
-use Rattle.room_report.specs.Report.{output_text}
+use Rattle.cs_types.specs.History.{history_of}
+use Rattle.scenario_runner.proofs.Runs.{run_alone, played}
 use Rattle.scenario_runner.proofs.Completes.{stop_complete}
 use Rattle.scenario_runner.proofs.Playable.{built_playable}
 use Rattle.scenario_runner.proofs.command.replay.Goals as goal
@@ -19,9 +17,10 @@ returns-in-Ok-output g c =
         scenario,
         record {
           reads = c.in-Ok.ensures.reads;
-          played = played scenario (built_playable scenario c.in-Ok.ensures.reads.built);
-          writes = c.in-Ok-output.ensures.ok
-              ∙ ap (λ (history : History). appended (g.K.Sink.written c.args.sink.now) (output_text scenario history)) c.in-Ok.ensures.played;
+          run = history_of scenario c.in-Ok.room.steps;
+          is_run = run_alone scenario (history_of scenario c.in-Ok.room.steps) c.in-Ok.ensures.played;
+          played = played scenario (history_of scenario c.in-Ok.room.steps) (built_playable scenario c.in-Ok.ensures.reads.built) c.in-Ok.ensures.played;
+          writes = c.in-Ok-output.ensures.ok;
         },
       );
       bad_words = search rules;
@@ -38,7 +37,7 @@ returns-in-Ok-output g c =
 pub returns-in-Ok : goal.returns-in-Ok
 returns-in-Ok g c =
     let scenario = c.in-Ok.room.scenario in
-    let writes = subst (λ (history : History). WritesPrefix (g.K.Sink.written c.args.sink.now) (output_text scenario history) (g.K.Sink.written c.output.new.sink)) c.in-Ok.ensures.played c.output.ensures.prefix in
+    let run = history_of scenario c.in-Ok.room.steps in
     record {
       done = search rules;
       bad_words = search rules;
@@ -47,7 +46,10 @@ returns-in-Ok g c =
       too_long = search rules;
       most = search rules;
       bad_scenario = search rules;
-      write_fault = λ _. (omega (arith, c.in-Err-output.ensures.failed, c.requires.sink), (scenario, record { reads = c.in-Ok.ensures.reads; writes = writes }));
+      write_fault = λ _. (omega (arith, c.in-Err-output.ensures.failed, c.requires.sink), (
+        scenario,
+        record { reads = c.in-Ok.ensures.reads; run = run; is_run = run_alone scenario run c.in-Ok.ensures.played; writes = c.output.ensures.prefix },
+      ));
       unwritten = search rules;
       complete = search rules;
     }

@@ -1,11 +1,11 @@
 use Rattle.std.proofs.Common.{◌≡◌, ◌+◌, ◌*◌, ◌-◌, ◌<◌, ◌++◌, ◌∷◌, [], ◌∙◌, ap, sym, subst, refl, length, arith, Option, ℕ}
-use Rattle.std.proofs.lemmas.List.{append-nil, length-append}
+use Rattle.std.proofs.lemmas.List.{length-append}
 use Rattle.cs_types.specs.declared.event.Actor.TheVariants.{End}
 use Rattle.cs_types.specs.declared.event.Event.TheVariants.{Resched}
 use Rattle.cs_types.specs.declared.reply.Entry.{Entry}
 use Rattle.cs_types.specs.declared.scenario.Scenario.{Scenario}
-use Rattle.cs_types.specs.History.{history_of, moment_of, reply_to}
-use Rattle.cs_types.specs.Drain.{drained_from, next_to_schedule}
+use Rattle.cs_types.specs.History.{History, history_of, moment_of, reply_to}
+use Rattle.cs_types.specs.Drain.{next_to_schedule, IsDrained}
 use Rattle.cs_types.proofs.Histories.{IsLegal-history_of}
 use Rattle.plain_room.specs.Machine.{Machine}
 use Rattle.plain_room.specs.Inside.{machine_of, most_entries, IsFold}
@@ -14,7 +14,7 @@ use Rattle.plain_room.specs.State.{room_of, numbers_of, is_fresh_by}
 use Rattle.plain_room.specs.declared.room.PlainRoom.TheInside.{Inside}
 use Rattle.plain_room.proofs.Machines.{Folds, next_of}
 use Rattle.plain_room.proofs.Playable.{playable_of, events_of}
-use Rattle.plain_room.proofs.Ends.{next_below, left_after, none_left, nobody_pending_at_end, one_cookie_at_end}
+use Rattle.plain_room.proofs.Ends.{IsAhead, next_below, ahead_first, ahead_after, none_left, all_made, nobody_pending_at_end, one_cookie_at_end}
 use Rattle.plain_room.proofs.room.PlainRoomRoom.drain.Goals as goal
 
 -- who schedules next is who the model says, after the history so far
@@ -33,8 +33,9 @@ returns-in_default-clause-entries c =
     let scenario = c.args.self.now.scenario in
     let inner = c.self-in-loop-entries in
     let next = next_is inner.inside inner.invariant c.loop-entries.self scenario c.next_to_schedule.result inner.view_is c.loop-entries.invariant.scenario c.next_to_schedule.ensures in
-    ap (λ s. history_of s c.loop-entries.self.steps) c.loop-entries.invariant.scenario
-    ∙ none_left scenario (history_of scenario c.loop-entries.self.steps) _ (sym c.in_default.is ∙ next) ∙ c.loop-entries.invariant.ahead
+    let past = history_of scenario c.args.self.now.steps in
+    subst (λ (s : Scenario). IsDrained scenario past (history_of s c.loop-entries.self.steps)) (sym c.loop-entries.invariant.scenario)
+    (none_left scenario past (history_of scenario c.loop-entries.self.steps) _ c.loop-entries.invariant.ahead (sym c.in_default.is ∙ next))
 
 pub returns-in_default-clause-nobody_pending : goal.returns-in_default-clause-nobody_pending
 returns-in_default-clause-nobody_pending c =
@@ -57,13 +58,27 @@ apply-requires-clause-event c =
     subst (λ (s : Scenario). c.in-Some.cpu < s.siblings) (sym c.loop-entries.invariant.scenario)
     (next_below scenario (history_of scenario c.loop-entries.self.steps) c.in-Some.cpu (sym c.in-Some.is ∙ next))
 
+pub loop-entries-init : goal.loop-entries-init
+loop-entries-init c =
+    let scenario = c.args.self.now.scenario in
+    let past = history_of scenario c.args.self.now.steps in
+    let count : c.from-siblings.result ≡ scenario.siblings = c.from-siblings.ensures ∙ ap (λ (m : Machine). m.scenario.siblings) c.self.view_is in
+    record {
+      scenario = refl;
+      free = omega arith;
+      made = omega arith;
+      ahead = subst (IsAhead scenario past past) (ap (λ n. n * n) (sym count) ∙ omega arith) (ahead_first scenario past);
+    }
+
 -- the entry that was made is the model's, and with it what is left to make
 pub loop-entries-preserved : goal.loop-entries-preserved
 loop-entries-preserved c =
     let scenario = c.args.self.now.scenario in
     let before = c.loop-entries.self in
     let after = c.apply.new.self in
+    let first = history_of scenario c.args.self.now.steps in
     let past = history_of scenario before.steps in
+    let most = c.from-siblings.result * c.from-siblings.result in
     let entry : Entry = record { actor = End; event = Resched c.in-Some.cpu; reply = c.apply.result } in
     let inner = c.self-in-loop-entries in
     let next = next_is inner.inside inner.invariant before scenario c.next_to_schedule.result inner.view_is c.loop-entries.invariant.scenario c.next_to_schedule.ensures in
@@ -76,20 +91,21 @@ loop-entries-preserved c =
       scenario = same;
       free = omega (arith, c.apply.ensures.free, c.loop-entries.invariant.free);
       made = omega (arith, ap length more, length-append past (entry ∷ []), c.loop-entries.invariant.made);
-      ahead = ap (λ h. h ++ drained_from (c.from-siblings.result * c.from-siblings.result - (c.loop-entries.entries + 1)) (moment_of scenario h)) more
-          ∙ left_after scenario past (c.from-siblings.result * c.from-siblings.result) c.loop-entries.entries c.in-Some.cpu entry c.loop-entries-test.true
-          (sym c.in-Some.is ∙ next) refl refl reply
-          ∙ c.loop-entries.invariant.ahead;
+      ahead = subst (λ (h : History). IsAhead scenario first h (most - (c.loop-entries.entries + 1))) (sym more)
+          (subst (IsAhead scenario first (past ++ entry ∷ [])) (omega (arith, c.loop-entries-test.true))
+          (ahead_after scenario first past (most - c.loop-entries.entries) c.in-Some.cpu entry c.loop-entries.invariant.ahead
+          (sym c.in-Some.is ∙ next) refl refl reply));
     }
 
 pub returns-clause-entries : goal.returns-clause-entries
 returns-clause-entries c =
     let scenario = c.args.self.now.scenario in
+    let past = history_of scenario c.args.self.now.steps in
     let now = history_of scenario c.loop-entries.self.steps in
     let most = c.from-siblings.result * c.from-siblings.result in
-    let none : 0 ≡ most - c.loop-entries.entries = omega (arith, c.loop-entries-test.false) in
-    ap (λ s. history_of s c.loop-entries.self.steps) c.loop-entries.invariant.scenario
-    ∙ sym (append-nil now) ∙ ap (λ n. now ++ drained_from n (moment_of scenario now)) none ∙ c.loop-entries.invariant.ahead
+    let none : most - c.loop-entries.entries ≡ 0 = omega (arith, c.loop-entries-test.false) in
+    subst (λ (s : Scenario). IsDrained scenario past (history_of s c.loop-entries.self.steps)) (sym c.loop-entries.invariant.scenario)
+    (all_made scenario past now (subst (IsAhead scenario past now) none c.loop-entries.invariant.ahead))
 
 pub returns-clause-nobody_pending : goal.returns-clause-nobody_pending
 returns-clause-nobody_pending c =

@@ -1,6 +1,6 @@
-use Rattle.std.proofs.Common.{◌≡◌, ◌+◌, ◌-◌, ◌++◌, length}
-use Rattle.cs_types.specs.History.{history_of, moment_of}
-use Rattle.cs_types.specs.Drain.{drained, drained_from}
+use Rattle.std.proofs.Common.{◌≡◌, ◌+◌, ◌-◌, length}
+use Rattle.cs_types.specs.History.{history_of}
+use Rattle.plain_room.proofs.Ends.{IsAhead}
 use Rattle.plain_room.proofs.room.PlainRoomRoom.drain.Given as goal
 
 abbrev pub invariant-loop-entries : goal.invariant-loop-entries
@@ -11,5 +11,5 @@ invariant-loop-entries l =
       scenario : l.self.scenario ≡ l.fn.self.scenario;
       free : l.self.free + l.entries ≡ l.fn.self.free;
       made : length now ≡ length past + l.entries;
-      ahead : now ++ drained_from (l.most - l.entries) (moment_of l.fn.self.scenario now) ≡ drained l.fn.self.scenario past;
+      ahead : IsAhead l.fn.self.scenario past now (l.most - l.entries);
     }
