@@ -8,6 +8,7 @@ pub mod Siblings
 pub mod Filtered
 pub mod Selections
 pub mod Numbers
+pub mod Timely
 pub mod Times
 pub mod Queues
 pub mod Accounts

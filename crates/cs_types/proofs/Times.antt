@@ -21,7 +21,8 @@ use Rattle.cs_types.specs.Scenario.{IsEvent}
 use Rattle.cs_types.specs.Room.{RoomState, SiblingState, idle, absent, asleep, inserted, has_pid, start, online, is_online, lowest_online, queued_on, sibling_of, running_on, task_of, with_sibling, with_task, flagged}
 use Rattle.cs_types.specs.Order.{foremost, is_fair, first_of}
 use Rattle.cs_types.specs.Selection.{is_run, pid_of, choice, occupation_of, remembered, told, noted, handed, given, selected_room, selected, plain, is_plain, picked_anew, adopted_or_picked_anew, schedule}
-use Rattle.cs_types.specs.Time.{weights, weight_of, weight_index, growth, grown_by, is_running, grown, with_growth, fair_times, least_of, with_leasts, advanced, has_used_slice, sliced, IsTimelyTask, IsTimelySibling, IsTimely}
+use Rattle.cs_types.specs.Time.{weights, weight_of, weight_index, growth, grown_by, is_running, grown, with_growth, fair_times, least_of, with_leasts, advanced, has_used_slice, sliced}
+use Rattle.cs_types.proofs.Timely.{IsTimelyTask, IsTimelySibling, IsTimely}
 use Rattle.cs_types.specs.Prctl.{Setting, setting_of, is_set, makes_cookie, with_made, with_answer, prctl_answer}
 use Rattle.cs_types.specs.Step.{Stepped, step, woken, turned, try_steal, idled, blocked, without, has_threads, exited, child_of, child_at_home, with_child, may_not_fork, forked, ticked, unless_offline, with_policy, set_policy, taken_offline, brought_online}
 use Rattle.cs_types.specs.Queueing.{refreshed_by, refreshed, enqueued, queued_at_home, dequeued, moved_to, moved, rehomed}

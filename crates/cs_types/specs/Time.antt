@@ -1,6 +1,6 @@
 -- Time: what an advance of the clock and a tick of a sibling's timer do (`update_curr`, `task_tick_rt`, `task_tick_core`
 -- and `sched_prio_to_weight` of kernel/sched; the moments and the exact numbers are this project's rules).
-use Rattle.std.specs.Prelude.{ℕ, ◌≤◌, All, ◌+◌, ◌-◌, ◌*◌, ◌/◌, max, ℤ, pos, negsuc, Bool, true, false, ◌==◌, ◌&&◌, ◌||◌, not, nat_lt, if◌then◌else◌, List, [], ◌∷◌, map, filter, Some, slice_index_or}
+use Rattle.std.specs.Prelude.{ℕ, ◌+◌, ◌-◌, ◌*◌, ◌/◌, max, ℤ, pos, negsuc, Bool, true, false, ◌==◌, ◌&&◌, ◌||◌, not, nat_lt, if◌then◌else◌, List, [], ◌∷◌, map, filter, Some, slice_index_or}
 use Rattle.std.specs.List.{list_any, enumerate_from}
 use Rattle.std.specs.Option.{option_map_or}
 use Rattle.cs_types.specs.declared.task.Task.{Task}
@@ -138,22 +138,3 @@ sliced room cpu task =
 -- the room after a tick of a sibling that runs the task
 abbrev pub ticked_room : RoomState → ℕ → Task → RoomState
 ticked_room room cpu task = flagged (sliced room cpu task) cpu (asks_at_tick room cpu task)
-
--- ---- how far the times come
-
--- No task has used more than the clock, and none is further ahead of the least virtual time of its queue than 69 times the
--- clock, since the least weight is 15.
-pub record IsTimelyTask (room : RoomState) (task : Task) : Type 0 where
-  pub vtime : task.vtime ≤ (sibling_of room task.home).least + 69 * room.clock
-  pub used : task.used ≤ room.clock
-
--- What is kept of a sibling is at most this.
-pub record IsTimelySibling (most clock : ℕ) (sibling : SiblingState) : Type 0 where
-  pub least : sibling.least ≤ most
-  pub snapshot : sibling.snapshot ≤ most
-  pub ran : sibling.ran ≤ clock
-
--- An entry raises a least by at most 69 times the clock.
-pub record IsTimely (entries : ℕ) (room : RoomState) : Type 0 where
-  pub tasks : All (IsTimelyTask room) room.tasks
-  pub siblings : All (IsTimelySibling (entries * (69 * room.clock)) room.clock) room.siblings

@@ -11,7 +11,7 @@ use Rattle.cs_types.specs.declared.scenario.Scenario.{Scenario}
 use Rattle.cs_types.specs.Room.{RoomState, SiblingState, absent, has_pid, task_of, is_online, online}
 use Rattle.cs_types.specs.Selection.{is_run, to_run}
 use Rattle.cs_types.specs.Accounting.{Interval, with_cookie, charged_on, charged, up_to_now, open_interval, accounted}
-use Rattle.cs_types.specs.Time.{IsTimely, IsTimelyTask}
+use Rattle.cs_types.proofs.Timely.{IsTimely, IsTimelyTask}
 use Rattle.task_table.specs.Table.{Rises, RisesFrom}
 use Rattle.plain_room.specs.declared.state.State.{State}
 use Rattle.plain_room.specs.State.{sibling_state, room_of}

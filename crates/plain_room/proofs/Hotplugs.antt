@@ -12,7 +12,7 @@ use Rattle.cs_types.specs.declared.reply.Errno.TheVariants.{Ebusy}
 use Rattle.cs_types.specs.Room.{RoomState, is_online, online}
 use Rattle.cs_types.specs.Hotplug.{leave, with_sibling_back}
 use Rattle.cs_types.specs.Step.{taken_offline, brought_online}
-use Rattle.cs_types.specs.Time.{IsTimelyTask}
+use Rattle.cs_types.proofs.Timely.{IsTimelyTask}
 use Rattle.cs_types.proofs.Foremost.{find-append_none}
 use Rattle.plain_room.specs.State.{Numbers, room_of, IsOnTime}
 use Rattle.plain_room.specs.Time.{queued_among}

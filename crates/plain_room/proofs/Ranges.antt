@@ -5,7 +5,7 @@ use Rattle.std.proofs.lemmas.Nat.{mul-le}
 use Rattle.std.proofs.lemmas.List.Elements.{All-head, All-tail, All-weaker}
 use Rattle.cs_types.specs.declared.task.Task.{Task}
 use Rattle.cs_types.specs.Room.{SiblingState, absent}
-use Rattle.cs_types.specs.Time.{IsTimelyTask, IsTimelySibling}
+use Rattle.cs_types.proofs.Timely.{IsTimelyTask, IsTimelySibling}
 use Rattle.sibling_priority.specs.Offers.{IsTimeInRange}
 use Rattle.plain_room.specs.declared.sibling.Sibling.{Sibling}
 use Rattle.plain_room.specs.declared.state.State.{State}

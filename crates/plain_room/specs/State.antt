@@ -17,7 +17,7 @@ use Rattle.cs_types.specs.Selection.{Scheduled}
 use Rattle.cs_types.specs.Touches.{Ledger, intervals_of, task_number, pick_number, own_number, is_selected, is_adopted, pick_touches, pick_of, selection_of, scheduler_of, touches_by}
 use Rattle.cs_types.specs.Steal.{stolen}
 use Rattle.cs_types.specs.Step.{try_steal, step}
-use Rattle.cs_types.specs.Time.{IsTimely}
+use Rattle.cs_types.proofs.Timely.{IsTimely}
 use Rattle.cs_types.specs.Accounting.{Interval, share, charges, total_of, interval_by}
 use Rattle.cs_types.specs.declared.reply.Reply.TheVariants.{Picked}
 use Rattle.forceidle_account.specs.Charges.{has_total, total_at}

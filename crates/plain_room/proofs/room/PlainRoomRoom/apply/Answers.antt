@@ -15,7 +15,7 @@ use Rattle.cs_types.proofs.Times.{timely-fold_of, clock-step}
 use Rattle.cs_types.proofs.Accounts.{IsAccounted, charged_up_to, accounted-history_of, intervals-ledger_of}
 use Rattle.forceidle_account.specs.Charges.{total_at}
 use Rattle.plain_room.proofs.Views.{total_kept}
-use Rattle.cs_types.specs.Time.{IsTimely}
+use Rattle.cs_types.proofs.Timely.{IsTimely}
 use Rattle.plain_room.proofs.Clocks.{timely_under}
 use Rattle.plain_room.proofs.Ranges.{of_states}
 use Rattle.plain_room.specs.declared.sibling.Sibling.{Sibling}

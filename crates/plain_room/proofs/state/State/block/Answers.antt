@@ -7,7 +7,7 @@ use Rattle.cs_types.specs.Selection.{Scheduled, schedule, balanced, picked_anew}
 use Rattle.cs_types.specs.Accounting.{accounted}
 use Rattle.cs_types.specs.Queueing.{dequeued}
 use Rattle.cs_types.specs.Step.{Stepped, idled, blocked, unless_offline}
-use Rattle.cs_types.specs.Time.{IsTimely}
+use Rattle.cs_types.proofs.Timely.{IsTimely}
 use Rattle.cs_types.proofs.Times.{IsTimely-slept}
 use Rattle.cs_types.proofs.Accounts.{picked_anew-accounted}
 use Rattle.plain_room.specs.State.{room_of, numbers_of, took, touched, Numbers}

@@ -4,7 +4,7 @@ use Rattle.cs_types.specs.declared.scenario.Scenario.{Scenario}
 use Rattle.cs_types.specs.Room.{RoomState}
 use Rattle.cs_types.specs.Selection.{Scheduled, balanced, picked_anew}
 use Rattle.cs_types.specs.Accounting.{closes, open_interval}
-use Rattle.cs_types.specs.Time.{IsTimely}
+use Rattle.cs_types.proofs.Timely.{IsTimely}
 use Rattle.cs_types.proofs.Accounts.{picked_anew-accounted, closes-picked_anew}
 use Rattle.plain_room.specs.State.{room_of, numbers_of, Numbers, took, charged_with}
 use Rattle.plain_room.specs.declared.state.State.{State}

@@ -6,7 +6,7 @@ use Rattle.cs_types.specs.Room.{RoomState, has_pid, running_on}
 use Rattle.cs_types.specs.Selection.{Scheduled, schedule, balanced, picked_anew}
 use Rattle.cs_types.specs.Accounting.{accounted}
 use Rattle.cs_types.specs.Step.{Stepped, without, idled, has_threads, picked, exited}
-use Rattle.cs_types.specs.Time.{IsTimely}
+use Rattle.cs_types.proofs.Timely.{IsTimely}
 use Rattle.cs_types.proofs.Times.{IsTimely-gone}
 use Rattle.cs_types.proofs.Accounts.{picked_anew-accounted}
 use Rattle.plain_room.specs.State.{room_of, numbers_of, took, touched, Numbers}
