@@ -1,12 +1,13 @@
 -- Times: how far the clock and the times come at each step, and so in a history.
-use Rattle.std.proofs.Common.{◌≡◌, ℕ, zero, suc, ◌+◌, ◌*◌, ◌<◌, ◌≤◌, length, max, ℤ, Bool, true, false, cond, not, ltb, List, [], ◌∷◌, map, get_or, set, refl, sym, ap, ◌∙◌, subst, inl, inr, Option, Some, None, arith}
-use Rattle.std.specs.Prelude.{◌⊎◌, ◌==◌, ◌&&◌, ◌||◌, is_some, filter, fold, replicate}
+use Rattle.std.proofs.Common.{◌≡◌, ℕ, zero, suc, ◌+◌, ◌*◌, ◌^◌, ◌<◌, ◌≤◌, length, max, ℤ, Bool, true, false, cond, not, ltb, List, [], ◌∷◌, map, get_or, set, refl, sym, ap, ◌∙◌, subst, inl, inr, Option, Some, None, arith}
+use Rattle.std.specs.Prelude.{All, ◌⊎◌, ◌==◌, ◌&&◌, ◌||◌, is_some, filter, fold, replicate}
 use Rattle.std.specs.List.{AllByRecursion, enumerate_from, list_any}
-use Rattle.std.specs.Option.{IfSome, option_map_or}
+use Rattle.std.specs.Option.{IfSome, option_map, option_map_or}
 use Rattle.std.proofs.Math.Nat.{div-le_of_le-mul, max-le, le-max_left}
 use Rattle.std.proofs.lemmas.Bool.{cond_both, cases_lt}
 use Rattle.std.proofs.lemmas.Bool.Decides.{nat_tests}
-use Rattle.std.proofs.lemmas.List.Elements.{All-from_recursion, recursion_from_All}
+use Rattle.std.proofs.lemmas.Nat.{mul-le}
+use Rattle.std.proofs.lemmas.List.Elements.{All-from_recursion, All-weaker, recursion_from_All}
 use Rattle.cs_types.specs.declared.task.Task.{Task}
 use Rattle.cs_types.specs.declared.task.TaskSpec.{TaskSpec}
 use Rattle.cs_types.specs.declared.task.Policy.{Policy}
@@ -30,7 +31,8 @@ use Rattle.cs_types.specs.Steal.{source_of, stolen, with_place}
 use Rattle.cs_types.specs.Hotplug.{lowest_other, moved_off, away, leave, with_sibling_back}
 use Rattle.cs_types.specs.Accounting.{accounted}
 use Rattle.cs_types.specs.Touches.{is_fresh}
-use Rattle.cs_types.specs.History.{History, Moment, beginning, next, after, fold_of}
+use Rattle.cs_types.specs.History.{History, Moment, beginning, next, after, moment_of, fold_of, ledger_of}
+use Rattle.cs_types.specs.View.{task_after, task_view, task_view_after}
 use Rattle.cs_types.proofs.Foremost.{each_of_all, each_weaker}
 use Rattle.cs_types.proofs.Filtered.{each-filter, each_found}
 use Rattle.cs_types.proofs.Inserted.{each-inserted}
@@ -744,3 +746,42 @@ timely-fold_of scenario history =
       tasks = timely_asleep scenario [] scenario.tasks tt;
       siblings = all_replicate (IsTimelySibling 0 0) scenario.siblings idle (record { least = omega arith; snapshot = omega arith; ran = omega arith });
     })))
+
+-- ---- after a history that a machine plays
+
+-- what fewer than 2^17 entries and a clock below 2^56 come to
+most_is_low : (entries clock : ℕ) → entries < 2 ^ 17 → clock < 2 ^ 56 → entries * (69 * clock) + 69 * clock < 2 ^ 80
+most_is_low entries clock few low =
+    let slow : 69 * clock ≤ 69 * 2 ^ 56 = omega (arith, low) in
+    let within : entries ≤ 2 ^ 17 = omega (arith, few) in
+    omega (arith, slow, mul-le entries (69 * clock) (2 ^ 17) (69 * 2 ^ 56) within slow)
+
+-- Each virtual time, each least and each snapshot stays below 2^80.
+pub vtimes_bounded : (entries : ℕ) (room : RoomState) → IsTimely entries room → entries < 2 ^ 17 → room.clock < 2 ^ 56 →
+    All (λ (task : Task). task.vtime < 2 ^ 80) room.tasks
+vtimes_bounded entries room timely few low =
+    All-weaker (IsTimelyTask room) (λ (task : Task). task.vtime < 2 ^ 80)
+    (λ task is.
+    let home = sibling_is_timely (entries * (69 * room.clock)) room task.home (parts_timely entries room timely) in
+    omega (arith, is.vtime, home.least, most_is_low entries room.clock few low)) room.tasks timely.tasks
+
+pub siblings_bounded : (entries : ℕ) (room : RoomState) → IsTimely entries room → entries < 2 ^ 17 → room.clock < 2 ^ 56 →
+    All (λ (sibling : SiblingState). (sibling.least < 2 ^ 80) × (sibling.snapshot < 2 ^ 80)) room.siblings
+siblings_bounded entries room timely few low =
+    All-weaker (IsTimelySibling (entries * (69 * room.clock)) room.clock) (λ (sibling : SiblingState). (sibling.least < 2 ^ 80) × (sibling.snapshot < 2 ^ 80))
+    (λ sibling is. (omega (arith, is.least, most_is_low entries room.clock few low), omega (arith, is.snapshot, most_is_low entries room.clock few low)))
+    room.siblings timely.siblings
+
+-- So each virtual time that is shown is below 2^80.
+pub shown_bounded : (scenario : Scenario) (history : History) (pid : ℕ) → length history < 2 ^ 17 → (fold_of scenario history).clock < 2 ^ 56 →
+    IfSome (task_view_after (moment_of scenario history) pid) (λ task. task.vtime < 2 ^ 80)
+shown_bounded scenario history pid few low = go (task_after room pid) refl where
+  room : RoomState
+  room = fold_of scenario history
+
+  go : (found : Option Task) → task_after room pid ≡ found → IfSome (option_map (task_view (ledger_of scenario history)) found) (λ task. task.vtime < 2 ^ 80)
+  go None none = tt
+  go (Some task) found =
+      each_found (λ (t : Task). t.vtime < 2 ^ 80) (λ t. ltb pid t.spec.pid) room.tasks task found
+      (recursion_from_All (λ (t : Task). t.vtime < 2 ^ 80) room.tasks
+      (vtimes_bounded (length history) room (timely-fold_of scenario history) few low))

@@ -1,6 +1,6 @@
 //! The contract of a machine that plays the core.
 
-ghost use Rattle.std.specs.Prelude.{◌≡◌, ◌+◌, ◌*◌, ◌<◌, ◌≤◌, ℕ, [], ◌∷◌, ◌++◌, length, slice_get, IfSome};
+ghost use Rattle.std.specs.Prelude.{◌≡◌, ◌+◌, ◌*◌, ◌^◌, ◌<◌, ◌≤◌, ℕ, [], ◌∷◌, ◌++◌, length, slice_get, IfSome};
 ghost use Rattle.std.specs.Option.{option_map};
 ghost use Rattle.cs_types.specs.declared.scenario.Scenario.{Scenario};
 ghost use Rattle.cs_types.specs.Scenario.{IsEvent, IsPlayable};
@@ -111,7 +111,10 @@ pub trait Room: Drop {
 
     /// The living task with the least pid above this one. `None` exactly where there is none.
     fn task_after(&self, pid: Pid) -> Option<TaskView>
-        ensures { result ≡ task_view_after (moment_of (scenario self.now) (history self.now)) pid };
+        ensures view { result ≡ task_view_after (moment_of (scenario self.now) (history self.now)) pid }
+
+        // A virtual time is far below what its type holds.
+        ensures bounded { IfSome result (λ task. task.vtime < 2 ^ 80) };
 
     /// A task that ended, by the place of its end, from 0 for the first. `None` exactly where no more
     /// ended.

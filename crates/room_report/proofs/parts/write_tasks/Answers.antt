@@ -12,24 +12,24 @@ loop-task-init g c = record {
 }
 
 pub loop-task-smaller : goal.loop-task-smaller
-loop-task-smaller g c = omega (arith, task_above (moment_of (g.R.Room.scenario c.args.room.now) (g.R.Room.history c.args.room.now)) c.loop-task.pid c.in-Some.task c.in-Some.ensures)
+loop-task-smaller g c = omega (arith, task_above (moment_of (g.R.Room.scenario c.args.room.now) (g.R.Room.history c.args.room.now)) c.loop-task.pid c.in-Some.task c.in-Some.ensures.view)
 
 pub returns-in_err-write_all-clause-prefix : goal.returns-in_err-write_all-clause-prefix
 returns-in_err-write_all-clause-prefix g c =
     reached_prefix _ _ _ _ _ _ _ _ c.loop-task.invariant.reached
-    (task_next (g.R.Room.scenario c.args.room.now) (g.R.Room.history c.args.room.now) c.requires c.loop-task.pid c.in-Some.task c.in-Some.ensures)
+    (task_next (g.R.Room.scenario c.args.room.now) (g.R.Room.history c.args.room.now) c.requires c.loop-task.pid c.in-Some.task c.in-Some.ensures.view)
     (c.as_bytes.ensures ∙ c.task_line.ensures) c.write_all.ensures.prefix
 
 pub loop-task-preserved : goal.loop-task-preserved
 loop-task-preserved g c = record {
   reached = reached_more _ _ _ _ _ _ _ _ c.loop-task.invariant.reached
-      (task_next (g.R.Room.scenario c.args.room.now) (g.R.Room.history c.args.room.now) c.requires c.loop-task.pid c.in-Some.task c.in-Some.ensures)
+      (task_next (g.R.Room.scenario c.args.room.now) (g.R.Room.history c.args.room.now) c.requires c.loop-task.pid c.in-Some.task c.in-Some.ensures.view)
       (c.as_bytes.ensures ∙ c.task_line.ensures) c.in_ok-write_all.ensures.ok;
   counted = omega (arith, c.write_all.ensures.counted, c.loop-task.invariant.counted);
 }
 
 pub returns-clause-ok : goal.returns-clause-ok
-returns-clause-ok g c = reached_end _ _ _ _ c.loop-task.invariant.reached (task_end (moment_of (g.R.Room.scenario c.args.room.now) (g.R.Room.history c.args.room.now)) c.loop-task.pid c.in_default.ensures)
+returns-clause-ok g c = reached_end _ _ _ _ c.loop-task.invariant.reached (task_end (moment_of (g.R.Room.scenario c.args.room.now) (g.R.Room.history c.args.room.now)) c.loop-task.pid c.in_default.ensures.view)
 
 pub returns-clause-prefix : goal.returns-clause-prefix
-returns-clause-prefix g c = whole_prefix _ _ _ (reached_end _ _ _ _ c.loop-task.invariant.reached (task_end (moment_of (g.R.Room.scenario c.args.room.now) (g.R.Room.history c.args.room.now)) c.loop-task.pid c.in_default.ensures))
+returns-clause-prefix g c = whole_prefix _ _ _ (reached_end _ _ _ _ c.loop-task.invariant.reached (task_end (moment_of (g.R.Room.scenario c.args.room.now) (g.R.Room.history c.args.room.now)) c.loop-task.pid c.in_default.ensures.view))

@@ -47,11 +47,13 @@ lead_of-requires-clause-vtimes c =
     let room = room_of some_scenario old in
     subst (λ (firsts : List (Option Task)). All (λ first. IfSome first (λ task. task.vtime < 2 ^ 127)) firsts) (sym (gathered c))
     (All-firsts (λ task. task.vtime < 2 ^ 127) room (online_from room c.args.cpu)
-    (All-weaker (λ (task : Task). task.vtime < 2 ^ 81) (λ (task : Task). task.vtime < 2 ^ 127) (λ task low. omega (arith, low)) old.tasks.tasks (vtimes_are_low old c.requires.time)))
+    (All-weaker (λ (task : Task). task.vtime < 2 ^ 80) (λ (task : Task). task.vtime < 2 ^ 127) (λ task low. omega (arith, low)) old.tasks.tasks (vtimes_are_low old c.requires.time)))
 
 pub lead_of-requires-clause-snapshots : goal.lead_of-requires-clause-snapshots
 lead_of-requires-clause-snapshots c =
-    subst (λ (siblings : List Sibling). All (λ sibling. sibling.snapshot < 2 ^ 127) siblings) (sym c.deref-2.ensures.value) (snapshots_are_low c.args.self.now c.requires.time)
+    subst (λ (siblings : List Sibling). All (λ sibling. sibling.snapshot < 2 ^ 127) siblings) (sym c.deref-2.ensures.value)
+    (All-weaker (λ (sibling : Sibling). sibling.snapshot < 2 ^ 80) (λ (sibling : Sibling). sibling.snapshot < 2 ^ 127) (λ sibling low. omega (arith, low))
+    c.args.self.now.siblings.items (snapshots_are_low c.args.self.now c.requires.time))
 
 pub returns : goal.returns
 returns c scenario =

@@ -22,8 +22,8 @@ moved_to-moved-requires-clause-home c =
 pub moved_to-moved-requires-clause-vtime : goal.moved_to-moved-requires-clause-vtime
 moved_to-moved-requires-clause-vtime c =
     let old = c.args.self.now in
-    let low = All-find (λ (task : Task). task.vtime < 2 ^ 81) (has_pid c.args.task.spec.pid) old.tasks.tasks (vtimes_are_low old c.requires.time) in
-    let this : c.args.task.vtime < 2 ^ 81 = subst (λ (found : Option Task). IfSome found (λ task. task.vtime < 2 ^ 81)) c.requires.there low in
+    let low = All-find (λ (task : Task). task.vtime < 2 ^ 80) (has_pid c.args.task.spec.pid) old.tasks.tasks (vtimes_are_low old c.requires.time) in
+    let this : c.args.task.vtime < 2 ^ 80 = subst (λ (found : Option Task). IfSome found (λ task. task.vtime < 2 ^ 80)) c.requires.there low in
     omega (arith, this)
 
 pub moved_to-moved-requires-clause-leasts : goal.moved_to-moved-requires-clause-leasts

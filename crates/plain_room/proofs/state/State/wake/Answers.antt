@@ -22,8 +22,8 @@ rehomed-task-requires-clause-home c = (c.in-Some.ensures.fit (length c.args.self
 pub rehomed-task-requires-clause-vtime : goal.rehomed-task-requires-clause-vtime
 rehomed-task-requires-clause-vtime c =
     let state = c.args.self.now in
-    let low = All-find (λ (task : Task). task.vtime < 2 ^ 81) (has_pid c.args.pid) state.tasks.tasks (vtimes_are_low state c.requires.time) in
-    let here : c.in-Some.task.vtime < 2 ^ 81 = subst (λ (one : Option Task). IfSome one (λ task. task.vtime < 2 ^ 81)) (sym c.in-Some.ensures.task) low in
+    let low = All-find (λ (task : Task). task.vtime < 2 ^ 80) (has_pid c.args.pid) state.tasks.tasks (vtimes_are_low state c.requires.time) in
+    let here : c.in-Some.task.vtime < 2 ^ 80 = subst (λ (one : Option Task). IfSome one (λ task. task.vtime < 2 ^ 80)) (sym c.in-Some.ensures.task) low in
     omega (arith, here)
 
 pub rehomed-task-requires-clause-leasts : goal.rehomed-task-requires-clause-leasts
