@@ -28,3 +28,4 @@ pub mod Cookies
 pub mod Trust
 pub mod Shown
 pub mod BalancePlaces
+pub mod Codes

@@ -1,10 +1,9 @@
 -- Queue: where a queued task stands in its class and on its sibling, and what a class's queue and a sibling's run
 -- queue stand for (`struct rq`, and the queues of the classes in it; ties by the queue stamp are this project's rule).
-use Rattle.std.specs.Prelude.{ℕ, ◌-◌, Option, List, map, slice_get, refl}
+use Rattle.std.specs.Prelude.{ℕ, ◌-◌, Option, List, map, slice_get}
 use Rattle.std.specs.Ordering.{ordering_then, nat_cmp}
 use Rattle.std.specs.declared.cmp.Ordering.{Ordering}
-use Rattle.std.specs.FinMap.{FinMap, code, from_entries, values}
-use Rattle.std.specs.Coded.{Coded, code_by, coded×, coded_ℕ}
+use Rattle.std.specs.FinMap.{FinMap, from_entries, values}
 use Rattle.cs_types.specs.declared.queue.Queued.{Queued}
 use Rattle.cs_types.specs.declared.task.Policy.{Policy}
 use Rattle.cs_types.specs.declared.task.Policy.TheVariants.{Stop, Deadline, Fifo, Rr, Fair}
@@ -33,12 +32,6 @@ pub record Ranked : Type 0 where
   pub members : Members
   pub spare : ℕ
 
--- it is stored as the pair of its parts
-abbrev pub ranked_code : Coded Ranked
-ranked_code =
-    code_by (Members × ℕ) (coded× (code (coded× coded_ℕ coded_ℕ) coded_ℕ) coded_ℕ) (λ queue. (queue.members, queue.spare))
-    (λ parts. record { members = parts.0; spare = parts.1 }) (λ _. refl)
-
 -- ---- on a sibling
 
 -- a task's seat on its sibling: its class, and then its place in the class. The smaller seat is the higher
@@ -56,12 +49,6 @@ Seats = FinMap seat_cmp ℕ
 pub record Seated : Type 0 where
   pub tasks : Seats
   pub spare : ℕ
-
--- it is stored as the pair of its parts
-abbrev pub seated_code : Coded Seated
-seated_code =
-    code_by (Seats × ℕ) (coded× (code (coded× coded_ℕ (coded× coded_ℕ coded_ℕ)) coded_ℕ) coded_ℕ) (λ queue. (queue.tasks, queue.spare))
-    (λ parts. record { tasks = parts.0; spare = parts.1 }) (λ _. refl)
 
 -- the seat of a queued task
 abbrev pub seat_of : Queued → Seat

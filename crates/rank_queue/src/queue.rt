@@ -19,7 +19,8 @@ pub struct RankQueue {
 }
 
 impl Model for RankQueue {
-    ghost use Rattle.cs_types.specs.Queue.{Ranked, ranked_code};
+    ghost use Rattle.cs_types.specs.Queue.{Ranked};
+    ghost use Rattle.cs_types.proofs.Codes.{ranked_code};
 
     ghost Value = { Ranked };
 

@@ -17,7 +17,8 @@ pub struct RtQueue {
 }
 
 impl Model for RtQueue {
-    ghost use Rattle.cs_types.specs.Queue.{Ranked, ranked_code};
+    ghost use Rattle.cs_types.specs.Queue.{Ranked};
+    ghost use Rattle.cs_types.proofs.Codes.{ranked_code};
 
     ghost Value = { Ranked };
 

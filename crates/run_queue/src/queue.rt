@@ -29,7 +29,8 @@ pub struct RunQueue {
 }
 
 impl Model for RunQueue {
-    ghost use Rattle.cs_types.specs.Queue.{Seated, seated_code};
+    ghost use Rattle.cs_types.specs.Queue.{Seated};
+    ghost use Rattle.cs_types.proofs.Codes.{seated_code};
 
     ghost Value = { Seated };
 

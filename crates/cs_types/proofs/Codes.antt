@@ -1,0 +1,15 @@
+-- Codes: how the model of a queue is stored, as the pair of its parts.
+use Rattle.std.specs.Prelude.{ℕ, refl}
+use Rattle.std.specs.FinMap.{code}
+use Rattle.std.specs.Coded.{Coded, code_by, coded×, coded_ℕ}
+use Rattle.cs_types.specs.Queue.{Members, Ranked, Seats, Seated}
+
+abbrev pub ranked_code : Coded Ranked
+ranked_code =
+    code_by (Members × ℕ) (coded× (code (coded× coded_ℕ coded_ℕ) coded_ℕ) coded_ℕ) (λ queue. (queue.members, queue.spare))
+    (λ parts. record { members = parts.0; spare = parts.1 }) (λ _. refl)
+
+abbrev pub seated_code : Coded Seated
+seated_code =
+    code_by (Seats × ℕ) (coded× (code (coded× coded_ℕ (coded× coded_ℕ coded_ℕ)) coded_ℕ) coded_ℕ) (λ queue. (queue.tasks, queue.spare))
+    (λ parts. record { tasks = parts.0; spare = parts.1 }) (λ _. refl)
