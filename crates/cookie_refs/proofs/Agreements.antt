@@ -12,7 +12,7 @@ use Rattle.cs_types.specs.Room.{has_pid, inserted}
 use Rattle.cs_types.proofs.Foremost.{find_passes}
 use Rattle.cs_types.proofs.Inserted.{sum_by-inserted}
 use Rattle.cookie_refs.specs.Refs.{Refs, count_of, references, Agree, AgreeBut}
-use Rattle.cookie_refs.proofs.Counts.{sum_by_none}
+use Rattle.cookie_refs.proofs.Counts.{AllPairs-head, AllPairs-tail, sum_by_none}
 
 -- ---- lists in which one element changes
 
@@ -21,13 +21,6 @@ map_none : {X : Type 0} (p : X → Bool) (y : X) (xs : List X) → All (λ x. p 
 map_none p y [] none = refl
 map_none p y (x ∷ xs) none =
     rw (cond-false (p x) y x (All-head (λ x. p x ≡ false) x xs none), map_none p y xs (All-tail (λ x. p x ≡ false) x xs none)) refl
-
--- what holds of all pairs holds of those of the rest, and of the first with each of the rest
-AllPairs-tail : {X : Type 0} (R : X → X → Type 0) (x : X) (xs : List X) → AllPairs R (x ∷ xs) → AllPairs R xs
-AllPairs-tail R x xs pairs i j d lt in_range = pairs (suc i) (suc j) d (omega arith) (omega arith)
-
-AllPairs-head : {X : Type 0} (R : X → X → Type 0) (x : X) (xs : List X) → AllPairs R (x ∷ xs) → All (R x) xs
-AllPairs-head R x xs pairs k d lt = pairs 0 (suc k) d (omega arith) (omega arith)
 
 module _ {X : Type 0} (key : X → ℕ) (f : X → ℕ) (wanted : ℕ) (new : X) where
   -- one element, found by its key among rising keys, is replaced: the sum loses its term, and gains that of the new one

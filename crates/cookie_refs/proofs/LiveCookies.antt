@@ -15,7 +15,10 @@ use Rattle.std.proofs.lemmas.Map.Made.{IsDistinct-from_AllPairs, is_member-filte
 use Rattle.cs_types.specs.declared.task.Task.{Task}
 use Rattle.cs_types.specs.Prctl.{distinct, live_cookies}
 use Rattle.cookie_refs.specs.declared.refs.LiveCookie.{LiveCookie}
-use Rattle.cookie_refs.specs.Refs.{Refs, count_of, live_count, references, Agree}
+use Rattle.cookie_refs.specs.declared.refs.CookieRefs.TheInside.{Inside}
+use Rattle.cookie_refs.specs.Refs.{count_of, live_count, references, Agree}
+use Rattle.cookie_refs.specs.Inside.{IsRising, IsSound, count_in, refs_of}
+use Rattle.cookie_refs.proofs.Counts.{count-entries, len-entries}
 
 -- ---- the cookies that tasks have, each once
 
@@ -77,15 +80,15 @@ list_any-and p b (x ∷ xs) = rw (list_any-and p b xs) (both (p x) (list_any p x
   both false false false = refl
 
 -- the serials of the live cookies
-abbrev serials : Refs → List ℕ
-serials refs = map (λ one. one.cookie) refs.live
+abbrev serials : List LiveCookie → List ℕ
+serials live = map (λ one. one.cookie) live
 
 -- a cookie has a count where it is live
-count_of_above_0 : (refs : Refs) → All (λ one. 0 < one.count) refs.live → (cookie : ℕ) →
-    ltb 0 (count_of refs cookie) ≡ is_member eqb (serials refs) cookie
-count_of_above_0 refs counted cookie =
-    sum_by_above_0 _ (λ one. eqb cookie one.cookie) refs.live (λ k d lt. let above = counted k d lt in grind (arith, nat_tests))
-    ∙ sym (list_any-map (eqb cookie) (λ one. one.cookie) refs.live)
+count_in_above_0 : (live : List LiveCookie) → All (λ one. 0 < one.count) live → (cookie : ℕ) →
+    ltb 0 (count_in live cookie) ≡ is_member eqb (serials live) cookie
+count_in_above_0 live counted cookie =
+    sum_by_above_0 _ (λ one. eqb cookie one.cookie) live (λ k d lt. let above = counted k d lt in grind (arith, nat_tests))
+    ∙ sym (list_any-map (eqb cookie) (λ one. one.cookie) live)
 
 -- tasks have a reference to a cookie where one has it
 references_above_0 : (tasks : List Task) (cookie : ℕ) →
@@ -97,23 +100,26 @@ references_above_0 tasks cookie =
     ∙ sym (is_member-filter nat_eq_equiv is_cookie cookie (λ y same. ap is_cookie (eqb-true cookie y same)) (map (λ task. task.cookie) tasks))
 
 -- rising serials are distinct
-serials_are_distinct : (refs : Refs) → AllPairs (λ one other. one.cookie < other.cookie) refs.live → IsDistinct eqb (serials refs)
-serials_are_distinct refs rising =
-    IsDistinct-from_AllPairs unsigned_Decides (serials refs) (λ i j d lt in_range same.
+serials_are_distinct : (live : List LiveCookie) → IsRising live → IsDistinct eqb (serials live)
+serials_are_distinct live rising =
+    IsDistinct-from_AllPairs unsigned_Decides (serials live) (λ i j d lt in_range same.
     let one : LiveCookie = record { cookie = d; count = 0 } in
     let cookie = λ (live : LiveCookie). live.cookie in
-    let up = rising i j one lt (rw (← length-map refs.live cookie) in_range) in
-    omega (arith, up, get_or-map cookie refs.live i one, get_or-map cookie refs.live j one, same))
+    let up = rising i j one lt (rw (← length-map live cookie) in_range) in
+    omega (arith, up, get_or-map cookie live i one, get_or-map cookie live j one, same))
 
 -- where the counts agree with the tasks, as many cookies are live as the tasks have
-pub live_count-agreed : (refs : Refs) → AllPairs (λ one other. one.cookie < other.cookie) refs.live → All (λ one. 0 < one.count) refs.live →
-    (tasks : List Task) → Agree refs tasks → live_count refs ≡ length (live_cookies tasks)
-live_count-agreed refs rising counted tasks agree =
+pub live_count-agreed : (refs : Inside) → IsSound refs → (tasks : List Task) → Agree (refs_of refs) tasks →
+    live_count (refs_of refs) ≡ length (live_cookies tasks)
+live_count-agreed refs sound tasks agree =
+    let live = refs.live.items in
     let cookies = map (λ (task : Task). task.cookie) tasks in
-    let member : (cookie : ℕ) → is_member eqb (serials refs) cookie ≡ is_member eqb (filter is_cookie cookies) cookie = λ cookie.
-    sym (count_of_above_0 refs counted cookie) ∙ ap (ltb 0) (agree_at cookie) ∙ references_above_0 tasks cookie in
-    sym (length-map refs.live (λ one. one.cookie))
-    ∙ length-from_keys nat_eq_equiv (serials refs) (filter is_cookie cookies) (serials_are_distinct refs rising) member
+    let member : (cookie : ℕ) → is_member eqb (serials live) cookie ≡ is_member eqb (filter is_cookie cookies) cookie = λ cookie.
+    sym (count_in_above_0 live sound.counted cookie) ∙ ap (ltb 0) (sym (count-entries live sound.rising cookie) ∙ agree_at cookie)
+    ∙ references_above_0 tasks cookie in
+    len-entries live sound.rising
+    ∙ sym (length-map live (λ one. one.cookie))
+    ∙ length-from_keys nat_eq_equiv (serials live) (filter is_cookie cookies) (serials_are_distinct live sound.rising) member
     ∙ ap length (sym (filter-distinct cookies)) where
-      agree_at : (cookie : ℕ) → count_of refs cookie ≡ sum_by (λ task. references task.cookie cookie) tasks
+      agree_at : (cookie : ℕ) → count_of (refs_of refs) cookie ≡ sum_by (λ task. references task.cookie cookie) tasks
       agree_at cookie = let said = agree cookie in grind (arith, nat_tests)

@@ -2,7 +2,8 @@
 
 ghost use Rattle.std.specs.Prelude.{◌≡◌, ◌≢◌, ℕ, ◌+◌, ◌^◌, ◌<◌, ◌↔◌, ◌==◌, if◌then◌else◌, IsErr, IfOk, IfErr, OnOk, OnErr, IfSome, IfNone, ◌≤◌, length};
 ghost use Rattle.cs_types.specs.Prctl.{live_cookies};
-ghost use Rattle.cookie_refs.specs.Refs.{count_of, live_count, references, Agree, IsAt};
+ghost use Rattle.cookie_refs.specs.Refs.{count_of, live_count, references, Agree};
+ghost use Rattle.cookie_refs.specs.Inside.{IsRising, IsAt, count_in};
 
 use cs_types::{Cookie, OutOfMemory};
 use std::alloc::Global;
@@ -34,9 +35,11 @@ pub struct CookieRefs {
 }
 
 impl Model for CookieRefs {
-    ghost use Rattle.cookie_refs.specs.Refs.{Refs};
+    ghost use Rattle.cookie_refs.specs.Refs.{Refs, refs_code};
 
     ghost Value = { Refs };
+
+    ghost coded = { refs_code };
 
     ghost use Rattle.cookie_refs.specs.Inside.{refs_of, IsSound};
 
@@ -104,8 +107,8 @@ impl CookieRefs {
         ensures next { self.new.next ≡ self.old.next }
         ensures limit { self.new.limit ≡ self.old.limit }
     {
-        if let Some(place) = self.place_of(cookie) {
-            self.live[place].count += 1;
+        if let Some(index) = index_of(&self.live, cookie) {
+            self.live[index].count += 1;
         }
     }
 
@@ -120,11 +123,11 @@ impl CookieRefs {
         ensures next { self.new.next ≡ self.old.next }
         ensures limit { self.new.limit ≡ self.old.limit }
     {
-        if let Some(place) = self.place_of(cookie) {
-            if self.live[place].count == 1 {
-                self.live.remove(place);
+        if let Some(index) = index_of(&self.live, cookie) {
+            if self.live[index].count == 1 {
+                self.live.remove(index);
             } else {
-                self.live[place].count -= 1;
+                self.live[index].count -= 1;
             }
         }
     }
@@ -134,8 +137,8 @@ impl CookieRefs {
         ensures count { result ≡ count_of self.now cookie }
         ensures none { cookie ≡ 0 → result ≡ 0 }
     {
-        match self.place_of(cookie) {
-            Some(place) => self.live[place].count,
+        match index_of(&self.live, cookie) {
+            Some(index) => self.live[index].count,
             None => 0,
         }
     }
@@ -150,14 +153,13 @@ impl CookieRefs {
     {
         self.live.len() as u16
     }
+}
 
-    /// The place of a live cookie.
-    fn place_of(&self, cookie: Cookie) -> Option<usize>
-        ensures found { IfSome result (IsAt self.now cookie) }
-        ensures none { IfNone result (count_of self.now cookie ≡ 0) }
-    {
-        self.live
-            .binary_search_by_key(&cookie, |live| live.cookie)
-            .ok()
-    }
+/// The index of a live cookie. It halves what is left with each comparison.
+fn index_of(live: &[LiveCookie], cookie: Cookie) -> Option<usize>
+    requires { IsRising live.now }
+    ensures found { IfSome result (IsAt live.now cookie) }
+    ensures none { IfNone result (count_in live.now cookie ≡ 0) }
+{
+    live.binary_search_by_key(&cookie, |one| one.cookie).ok()
 }

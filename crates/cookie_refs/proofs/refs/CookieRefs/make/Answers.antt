@@ -1,22 +1,34 @@
-use Rattle.std.proofs.Common.{◌+◌, ◌<◌, arith}
+use Rattle.std.proofs.Common.{◌+◌, ◌<◌, ◌∙◌, sym, ap, cond, arith}
+use Rattle.std.specs.Prelude.{◌==◌}
+use Rattle.std.proofs.lemmas.List.{length_push}
 use Rattle.std.proofs.lemmas.List.Elements.{All-push, All-weaker}
 use Rattle.std.proofs.lemmas.List.Quantifiers.{all_pairs_push}
 use Rattle.cookie_refs.specs.declared.refs.LiveCookie.{LiveCookie}
-use Rattle.cookie_refs.specs.Inside.{refs_of}
-use Rattle.cookie_refs.proofs.Counts.{count_of-next, count_of-push}
+use Rattle.cookie_refs.proofs.Counts.{count-entries, count_in-next, count_in-push, len-entries}
 use Rattle.cookie_refs.proofs.LiveCookies.{live_count-agreed}
 use Rattle.cookie_refs.proofs.refs.CookieRefs.make.Goals as goal
 
+pub returns-then-len-from-clause-full : goal.returns-then-len-from-clause-full
+returns-then-len-from-clause-full c =
+    let count = len-entries c.self.inside.live.items c.self.invariant.rising in
+    rw (← c.self.view_is) (grind (arith, count))
+
+pub returns-clause-full : goal.returns-clause-full
+returns-clause-full c =
+    let count = len-entries c.self.inside.live.items c.self.invariant.rising in
+    rw (← c.self.view_is) (grind (arith, count))
+
 pub returns-then-len-from-clause-unused : goal.returns-then-len-from-clause-unused
-returns-then-len-from-clause-unused c = rw (← c.self.view_is) (count_of-next (refs_of c.self.inside) c.self.invariant.below_next)
+returns-then-len-from-clause-unused c =
+    let sound = c.self.invariant in
+    rw (← c.self.view_is)
+    (count-entries c.self.inside.live.items sound.rising c.self.inside.next ∙ count_in-next c.self.inside.live.items c.self.inside.next sound.below_next)
 
 pub returns-then-len-from-clause-tasks : goal.returns-then-len-from-clause-tasks
-returns-then-len-from-clause-tasks c =
-    rw (← c.self.view_is) (live_count-agreed (refs_of c.self.inside) c.self.invariant.rising c.self.invariant.counted)
+returns-then-len-from-clause-tasks c = rw (← c.self.view_is) (live_count-agreed c.self.inside c.self.invariant)
 
 pub returns-clause-tasks : goal.returns-clause-tasks
-returns-clause-tasks c =
-    rw (← c.self.view_is) (live_count-agreed (refs_of c.self.inside) c.self.invariant.rising c.self.invariant.counted)
+returns-clause-tasks c = rw (← c.self.view_is) (live_count-agreed c.self.inside c.self.invariant)
 
 -- the new serial is above all others
 pub invariant_of-self : goal.invariant_of-self
@@ -40,9 +52,28 @@ invariant_of-self c =
     }
 
 pub returns-clause-unused : goal.returns-clause-unused
-returns-clause-unused c = rw (← c.self.view_is) (count_of-next (refs_of c.self.inside) c.self.invariant.below_next)
+returns-clause-unused c =
+    let sound = c.self.invariant in
+    rw (← c.self.view_is)
+    (count-entries c.self.inside.live.items sound.rising c.self.inside.next ∙ count_in-next c.self.inside.live.items c.self.inside.next sound.below_next)
 
 pub returns-clause-counts : goal.returns-clause-counts
 returns-clause-counts c cookie =
+    let live = c.self.inside.live.items in
+    let next = c.self.inside.next in
+    let sound = c.self.invariant in
+    let new : LiveCookie = record { cookie = next; count = 1 } in
+    let rising = all_pairs_push (λ (one other : LiveCookie). one.cookie < other.cookie) live new sound.rising sound.below_next in
     rw (c.push_reserved.ensures.items, ← c.self.view_is)
-    (count_of-push (refs_of c.self.inside) c.self.inside.next (c.self.inside.next + 1) cookie (count_of-next (refs_of c.self.inside) c.self.invariant.below_next))
+    (count-entries _ rising cookie
+    ∙ count_in-push live next cookie (count_in-next live next sound.below_next)
+    ∙ ap (cond (cookie == next) 1) (sym (count-entries live sound.rising cookie)))
+
+pub returns-clause-live : goal.returns-clause-live
+returns-clause-live c =
+    let live = c.self.inside.live.items in
+    let sound = c.self.invariant in
+    let new : LiveCookie = record { cookie = c.self.inside.next; count = 1 } in
+    let rising = all_pairs_push (λ (one other : LiveCookie). one.cookie < other.cookie) live new sound.rising sound.below_next in
+    rw (c.push_reserved.ensures.items, ← c.self.view_is)
+    (len-entries _ rising ∙ length_push live new ∙ ap (λ n. n + 1) (sym (len-entries live sound.rising)))
