@@ -1,4 +1,4 @@
--- The queues: their orders are total, only equal places tie, and the top of the queue of some tasks is their first.
+-- The queues: their orders are total, only equal keys tie, and the top of the queue of some tasks is their first.
 use Rattle.std.proofs.Common.{◌≡◌, ◌≢◌, ℕ, ◌+◌, ◌-◌, ◌≤◌, Bool, true, false, not, cond, ltb, eqb, List, [], ◌∷◌, map, length, inl, inr, refl, sym, ap, ◌∙◌, subst, Option, Some, None, arith}
 use Rattle.std.specs.Prelude.{◌&&◌, ◌||◌, find, slice_get}
 use lib.Dec.{T}
@@ -18,17 +18,18 @@ use Rattle.std.proofs.lemmas.List.Sorted.{ranks_by}
 use Rattle.cs_types.specs.declared.task.Policy.{Policy}
 use Rattle.cs_types.specs.declared.task.Policy.TheVariants.{Stop, Deadline, Fifo, Rr, Fair}
 use Rattle.cs_types.specs.declared.task.Task.{Task}
-use Rattle.cs_types.specs.Order.{foremost, class_of, priority_of, goes_before, first_of}
-use Rattle.cs_types.specs.Queue.{top_of, Place, place_cmp, Seat, seat_cmp, rank_by, entry_of, queue_of}
+use Rattle.cs_types.specs.declared.queue.TheConstants.Queued.{STOP, DEADLINE, REAL_TIME, FAIR}
+use Rattle.cs_types.specs.Order.{foremost, stop_class, deadline_class, real_time_class, fair_class, class_of, priority_of, goes_before, first_of}
+use Rattle.cs_types.specs.Queue.{top_of, Key, key_cmp, Seat, seat_cmp, rank_by, entry_of, queue_of}
 use Rattle.cs_types.proofs.Foremost.{find_passes, find_narrower, find_same, each_of_all, all_of_each, each_weaker, foremost_none, not_before_itself}
 
 -- ---- the orders
 
-pub place_total : IsTotalOrder place_cmp
-place_total = then_total (on_total (λ (place : Place). place.0) nat_cmp_total) (on_total (λ (place : Place). place.1) nat_cmp_total)
+pub key_total : IsTotalOrder key_cmp
+key_total = then_total (on_total (λ (key : Key). key.0) nat_cmp_total) (on_total (λ (key : Key). key.1) nat_cmp_total)
 
 pub seat_total : IsTotalOrder seat_cmp
-seat_total = then_total (on_total (λ (seat : Seat). seat.0) nat_cmp_total) (on_total (λ (seat : Seat). seat.1) place_total)
+seat_total = then_total (on_total (λ (seat : Seat). seat.0) nat_cmp_total) (on_total (λ (seat : Seat). seat.1) key_total)
 
 -- only equal pairs tie, where only equal parts do
 same_pair : {A B : Type 0} {R : A → A → Ordering} {S : B → B → Ordering} → IsAntisymmetric R → IsAntisymmetric S →
@@ -40,11 +41,16 @@ same_pair {R = R} {S = S} first second x y e =
       | Greater ↦ λ p e. absurd cc
     ] refl e
 
-pub place_cmp-IsAntisymmetric : IsAntisymmetric place_cmp
-place_cmp-IsAntisymmetric = same_pair nat_cmp-IsAntisymmetric nat_cmp-IsAntisymmetric
+pub key_cmp-IsAntisymmetric : IsAntisymmetric key_cmp
+key_cmp-IsAntisymmetric = same_pair nat_cmp-IsAntisymmetric nat_cmp-IsAntisymmetric
 
 pub seat_cmp-IsAntisymmetric : IsAntisymmetric seat_cmp
-seat_cmp-IsAntisymmetric = same_pair nat_cmp-IsAntisymmetric place_cmp-IsAntisymmetric
+seat_cmp-IsAntisymmetric = same_pair nat_cmp-IsAntisymmetric key_cmp-IsAntisymmetric
+
+-- ---- the classes that the code names
+
+classes_named : record { stop : STOP ≡ stop_class; deadline : DEADLINE ≡ deadline_class; real_time : REAL_TIME ≡ real_time_class; fair : FAIR ≡ fair_class }
+classes_named = record { stop = refl; deadline = refl; real_time = refl; fair = refl }
 
 -- ---- a map that is made of sorted entries
 

@@ -1,4 +1,4 @@
--- Queue: where a queued task stands in its class and on its sibling, and what a class's queue and a sibling's run
+-- Queue: the key of a queued task in its class and its seat on its sibling, and what a class's queue and a sibling's run
 -- queue stand for (`struct rq`, and the queues of the classes in it; ties by the queue stamp are this project's rule).
 use Rattle.std.specs.Prelude.{ℕ, ◌-◌, Option, List, map, slice_get}
 use Rattle.std.specs.Ordering.{ordering_then, nat_cmp}
@@ -16,16 +16,16 @@ top_of members = slice_get (values members) 0
 
 -- ---- in a class
 
--- a task's place in its class: its rank, and then its stamp. The smaller place is the higher
-abbrev pub Place : Type 0
-Place = ℕ × ℕ
+-- a task's key in its class: its rank, and then its stamp. The smaller key is the higher
+abbrev pub Key : Type 0
+Key = ℕ × ℕ
 
-abbrev pub place_cmp : Place → Place → Ordering
-place_cmp a b = ordering_then (nat_cmp a.0 b.0) (nat_cmp a.1 b.1)
+abbrev pub key_cmp : Key → Key → Ordering
+key_cmp a b = ordering_then (nat_cmp a.0 b.0) (nat_cmp a.1 b.1)
 
--- the tasks of a class: the pid at each place
+-- the tasks of a class: the pid at each key
 abbrev pub Members : Type 0
-Members = FinMap place_cmp ℕ
+Members = FinMap key_cmp ℕ
 
 -- a class's queue: its tasks, and for how many more there is room
 pub record Ranked : Type 0 where
@@ -34,12 +34,12 @@ pub record Ranked : Type 0 where
 
 -- ---- on a sibling
 
--- a task's seat on its sibling: its class, and then its place in the class. The smaller seat is the higher
+-- a task's seat on its sibling: its class, and then its key in the class. The smaller seat is the higher
 abbrev pub Seat : Type 0
-Seat = ℕ × Place
+Seat = ℕ × Key
 
 abbrev pub seat_cmp : Seat → Seat → Ordering
-seat_cmp a b = ordering_then (nat_cmp a.0 b.0) (place_cmp a.1 b.1)
+seat_cmp a b = ordering_then (nat_cmp a.0 b.0) (key_cmp a.1 b.1)
 
 -- the queued tasks of a sibling: the pid at each seat
 abbrev pub Seats : Type 0

@@ -1,9 +1,9 @@
-//! The queue: its entries in one vector, by rising place.
+//! The queue: its entries in one vector, by rising key.
 
 ghost use Rattle.std.specs.Prelude.{◌≡◌};
 ghost use Rattle.std.specs.FinMap.{empty};
 
-use crate::search::{Place, search};
+use crate::search::{Key, search};
 use cs_types::{ClassQueue, OutOfMemory, Pid, Steps};
 use std::alloc::Global;
 use std::marker::Model;
@@ -13,7 +13,7 @@ use std::sync::ledger::Ledger;
 /// goes in and out in as many moves as there are tasks behind it.
 #[derive(Drop)]
 pub struct RankQueue {
-    entries: Vec<(Place, Pid)>,
+    entries: Vec<(Key, Pid)>,
     /// How many tasks there is room for in all.
     limit: u32,
 }
@@ -61,11 +61,11 @@ impl ClassQueue for RankQueue {
     }
 
     fn put<L: Ledger>(&mut self, rank: u128, stamp: u64, pid: Pid, steps: &mut Steps<L>) {
-        let place = (rank, stamp);
-        let Err(index) = search(&self.entries, place, steps) else {
+        let key = (rank, stamp);
+        let Err(index) = search(&self.entries, key, steps) else {
             unreachable!()
         };
-        self.entries.insert(index, (place, pid)).unwrap();
+        self.entries.insert(index, (key, pid)).unwrap();
     }
 
     fn take<L: Ledger>(&mut self, rank: u128, stamp: u64, steps: &mut Steps<L>) -> bool {

@@ -14,54 +14,54 @@ use Rattle.std.specs.FinMap.{FinMap, get, from_sorted, entries, entries_sorted, 
 use Rattle.std.specs.FinMap.Entries.{below_all}
 use Rattle.std.proofs.lemmas.Bool.{and_parts, and_from, eqb-true}
 use Rattle.std.proofs.lemmas.List.{length-map}
-use Rattle.cs_types.specs.Queue.{top_of, Place, place_cmp, Members, Seat, seat_cmp, Seats}
+use Rattle.cs_types.specs.Queue.{top_of, Key, key_cmp, Members, Seat, seat_cmp, Seats}
 use Rattle.cs_types.proofs.Queues.{said, seat_total, seat_cmp-IsAntisymmetric, top_of-from_sorted, len-from_sorted}
 use Rattle.run_queue.specs.Inside.{seats_in, joined}
 
 -- ---- comparisons of seats
 
--- two seats of one class compare as their places
-seat_cmp-same : (class : ℕ) (a b : Place) → seat_cmp (class, a) (class, b) ≡ place_cmp a b
-seat_cmp-same class a b = ap (λ r. ordering_then r (place_cmp a b)) (tied_itself nat_cmp_total class)
+-- two seats of one class compare as their keys
+seat_cmp-same : (class : ℕ) (a b : Key) → seat_cmp (class, a) (class, b) ≡ key_cmp a b
+seat_cmp-same class a b = ap (λ r. ordering_then r (key_cmp a b)) (tied_itself nat_cmp_total class)
 
 -- a seat of a higher class is less
 seat_cmp-less : (a b : Seat) → a.0 < b.0 → seat_cmp a b ≡ Less
-seat_cmp-less a b lt = ap (λ r. ordering_then r (place_cmp a.1 b.1)) (sym (nat_cmp_is a.0 b.0 Less lt))
+seat_cmp-less a b lt = ap (λ r. ordering_then r (key_cmp a.1 b.1)) (sym (nat_cmp_is a.0 b.0 Less lt))
 
 is_eq-then : (r s : Ordering) → is_eq (ordering_then r s) ≡ (is_eq r && is_eq s)
 is_eq-then Less s = refl
 is_eq-then Equal s = refl
 is_eq-then Greater s = refl
 
--- two seats tie where their classes are equal and their places tie
-is_eq-seat_cmp : (a b : Seat) → is_eq (seat_cmp a b) ≡ (eqb a.0 b.0 && is_eq (place_cmp a.1 b.1))
-is_eq-seat_cmp a b = is_eq-then (nat_cmp a.0 b.0) (place_cmp a.1 b.1) ∙ ap (λ t. t && is_eq (place_cmp a.1 b.1)) (unsigned_tied a.0 b.0)
+-- two seats tie where their classes are equal and their keys tie
+is_eq-seat_cmp : (a b : Seat) → is_eq (seat_cmp a b) ≡ (eqb a.0 b.0 && is_eq (key_cmp a.1 b.1))
+is_eq-seat_cmp a b = is_eq-then (nat_cmp a.0 b.0) (key_cmp a.1 b.1) ∙ ap (λ t. t && is_eq (key_cmp a.1 b.1)) (unsigned_tied a.0 b.0)
 
 -- ---- one more class in front
 
 -- these tasks, each at its seat in the class
-abbrev seated : ℕ → List (Place × ℕ) → List (Seat × ℕ)
+abbrev seated : ℕ → List (Key × ℕ) → List (Seat × ℕ)
 seated class es = map (λ entry. ((class, entry.0), entry.1)) es
 
 -- all of these are in lower classes
 abbrev pub AllBelow : ℕ → List (Seat × ℕ) → Type 0
 AllBelow class later = AllByRecursion (λ entry. class < entry.0.0) later
 
-below_all-seated : (class : ℕ) (place : Place) (es : List (Place × ℕ)) (later : List (Seat × ℕ)) → below_all place_cmp place es ≡ true → AllBelow class later →
-    below_all seat_cmp (class, place) (seated class es ++ later) ≡ true
-below_all-seated class place [] [] below lower = refl
-below_all-seated class place [] (y ∷ later) below lower =
-    and_from _ _ (ap is_lt (seat_cmp-less (class, place) y.0 lower.0)) (below_all-seated class place [] later refl lower.1)
-below_all-seated class place (e ∷ es) later below lower =
-    and_from _ _ (ap is_lt (seat_cmp-same class place e.0) ∙ (and_parts _ _ below).0) (below_all-seated class place es later (and_parts _ _ below).1 lower)
+below_all-seated : (class : ℕ) (key : Key) (es : List (Key × ℕ)) (later : List (Seat × ℕ)) → below_all key_cmp key es ≡ true → AllBelow class later →
+    below_all seat_cmp (class, key) (seated class es ++ later) ≡ true
+below_all-seated class key [] [] below lower = refl
+below_all-seated class key [] (y ∷ later) below lower =
+    and_from _ _ (ap is_lt (seat_cmp-less (class, key) y.0 lower.0)) (below_all-seated class key [] later refl lower.1)
+below_all-seated class key (e ∷ es) later below lower =
+    and_from _ _ (ap is_lt (seat_cmp-same class key e.0) ∙ (and_parts _ _ below).0) (below_all-seated class key es later (and_parts _ _ below).1 lower)
 
-is_sorted-seated : (class : ℕ) (es : List (Place × ℕ)) (later : List (Seat × ℕ)) → is_sorted place_cmp es ≡ true → is_sorted seat_cmp later ≡ true → AllBelow class later →
+is_sorted-seated : (class : ℕ) (es : List (Key × ℕ)) (later : List (Seat × ℕ)) → is_sorted key_cmp es ≡ true → is_sorted seat_cmp later ≡ true → AllBelow class later →
     is_sorted seat_cmp (seated class es ++ later) ≡ true
 is_sorted-seated class [] later rising rest lower = rest
 is_sorted-seated class (e ∷ es) later rising rest lower =
     and_from _ _ (below_all-seated class e.0 es later (and_parts _ _ rising).0 lower) (is_sorted-seated class es later (and_parts _ _ rising).1 rest lower)
 
-AllBelow-seated : (class lower : ℕ) (es : List (Place × ℕ)) (later : List (Seat × ℕ)) → class < lower → AllBelow class later → AllBelow class (seated lower es ++ later)
+AllBelow-seated : (class lower : ℕ) (es : List (Key × ℕ)) (later : List (Seat × ℕ)) → class < lower → AllBelow class later → AllBelow class (seated lower es ++ later)
 AllBelow-seated class lower [] later lt rest = rest
 AllBelow-seated class lower (e ∷ es) later lt rest = (lt, AllBelow-seated class lower es later lt rest)
 
@@ -74,16 +74,16 @@ picked : {A : Type 0} (here there : Bool) (x y z : A) → cond (here && there) x
 picked true there x y z = refl
 picked false there x y z = refl
 
-find-seated : (seat : Seat) (class : ℕ) (es : List (Place × ℕ)) (later : List (Seat × ℕ)) → AllBelow class later →
-    find seat_cmp seat (seated class es ++ later) ≡ cond (eqb seat.0 class) (find place_cmp seat.1 es) (find seat_cmp seat later)
+find-seated : (seat : Seat) (class : ℕ) (es : List (Key × ℕ)) (later : List (Seat × ℕ)) → AllBelow class later →
+    find seat_cmp seat (seated class es ++ later) ≡ cond (eqb seat.0 class) (find key_cmp seat.1 es) (find seat_cmp seat later)
 find-seated seat class [] later lower = by_class (eqb seat.0 class) refl where
   by_class : (b : Bool) → eqb seat.0 class ≡ b → find seat_cmp seat later ≡ cond b None (find seat_cmp seat later)
   by_class true same = find-lower seat later (subst (λ c. AllBelow c later) (sym (eqb-true seat.0 class same)) lower)
   by_class false other = refl
 find-seated seat class (e ∷ es) later lower =
     ap (λ b. cond b (Some e.1) (find seat_cmp seat (seated class es ++ later))) (is_eq-seat_cmp seat (class, e.0))
-    ∙ ap (cond (eqb seat.0 class && is_eq (place_cmp seat.1 e.0)) (Some e.1)) (find-seated seat class es later lower)
-    ∙ picked (eqb seat.0 class) (is_eq (place_cmp seat.1 e.0)) (Some e.1) (find place_cmp seat.1 es) (find seat_cmp seat later)
+    ∙ ap (cond (eqb seat.0 class && is_eq (key_cmp seat.1 e.0)) (Some e.1)) (find-seated seat class es later lower)
+    ∙ picked (eqb seat.0 class) (is_eq (key_cmp seat.1 e.0)) (Some e.1) (find key_cmp seat.1 es) (find seat_cmp seat later)
 
 true_by : (b : Bool) → T b → b ≡ true
 true_by true h = refl
@@ -98,7 +98,7 @@ module _ (class : ℕ) (members : Members) (later : List (Seat × ℕ)) where
   -- the first of all is that of the class, where it has one
   first-seats_in : (pid : ℕ) → top_of members ≡ Some pid → option_map (λ (entry : Seat × ℕ). entry.1) (slice_get (seats_in class members ++ later) 0) ≡ Some pid
   first-seats_in pid = by_entries (entries members) where
-    by_entries : (es : List (Place × ℕ)) → slice_get (map (λ (entry : Place × ℕ). entry.1) es) 0 ≡ Some pid →
+    by_entries : (es : List (Key × ℕ)) → slice_get (map (λ (entry : Key × ℕ). entry.1) es) 0 ≡ Some pid →
         option_map (λ (entry : Seat × ℕ). entry.1) (slice_get (seated class es ++ later) 0) ≡ Some pid
     by_entries [] is = absurd cc
     by_entries (e ∷ es) is = is
@@ -106,7 +106,7 @@ module _ (class : ℕ) (members : Members) (later : List (Seat × ℕ)) where
   -- and else that of the others
   first_later-seats_in : top_of members ≡ None → slice_get (seats_in class members ++ later) 0 ≡ slice_get later 0
   first_later-seats_in = by_entries (entries members) where
-    by_entries : (es : List (Place × ℕ)) → slice_get (map (λ (entry : Place × ℕ). entry.1) es) 0 ≡ None → slice_get (seated class es ++ later) 0 ≡ slice_get later 0
+    by_entries : (es : List (Key × ℕ)) → slice_get (map (λ (entry : Key × ℕ). entry.1) es) 0 ≡ None → slice_get (seated class es ++ later) 0 ≡ slice_get later 0
     by_entries [] is = refl
     by_entries (e ∷ es) is = absurd cc
 
@@ -152,15 +152,15 @@ module _ (stop deadline real_time fair : Members) where
   get-joined seat =
       get-from_sorted seat_cmp (joined stop deadline real_time fair) seat (said joined_rise)
       ∙ find-seated seat 0 (entries stop) from_deadline lower_than_stop
-      ∙ ap (cond (eqb seat.0 0) (find place_cmp seat.1 (entries stop)))
+      ∙ ap (cond (eqb seat.0 0) (find key_cmp seat.1 (entries stop)))
       (find-seated seat 1 (entries deadline) from_real_time lower_than_deadline
-      ∙ ap (cond (eqb seat.0 1) (find place_cmp seat.1 (entries deadline)))
+      ∙ ap (cond (eqb seat.0 1) (find key_cmp seat.1 (entries deadline)))
       (find-seated seat 2 (entries real_time) from_fair lower_than_real_time
-      ∙ ap (cond (eqb seat.0 2) (find place_cmp seat.1 (entries real_time))) (find-seated seat 3 (entries fair) [] tt)))
+      ∙ ap (cond (eqb seat.0 2) (find key_cmp seat.1 (entries real_time))) (find-seated seat 3 (entries fair) [] tt)))
       ∙ sym by_find where
         by_find : pid_in stop deadline real_time fair seat
-            ≡ cond (eqb seat.0 0) (find place_cmp seat.1 (entries stop)) (cond (eqb seat.0 1) (find place_cmp seat.1 (entries deadline))
-            (cond (eqb seat.0 2) (find place_cmp seat.1 (entries real_time)) (cond (eqb seat.0 3) (find place_cmp seat.1 (entries fair)) None)))
+            ≡ cond (eqb seat.0 0) (find key_cmp seat.1 (entries stop)) (cond (eqb seat.0 1) (find key_cmp seat.1 (entries deadline))
+            (cond (eqb seat.0 2) (find key_cmp seat.1 (entries real_time)) (cond (eqb seat.0 3) (find key_cmp seat.1 (entries fair)) None)))
         by_find = rw (get-entries stop seat.1, get-entries deadline seat.1, get-entries real_time seat.1, get-entries fair seat.1)
 
   -- how many there are
@@ -233,45 +233,45 @@ module _ (stop deadline real_time fair : Members) where
 
   -- from a look-up by classes
   SetsTo-joined : (a b c d : Members) (seat : Seat) (value : Option ℕ) →
-      ((other : Seat) → pid_in a b c d other ≡ cond (eqb other.0 seat.0 && is_eq (place_cmp other.1 seat.1)) value (pid_in stop deadline real_time fair other)) →
+      ((other : Seat) → pid_in a b c d other ≡ cond (eqb other.0 seat.0 && is_eq (key_cmp other.1 seat.1)) value (pid_in stop deadline real_time fair other)) →
       SetsTo (map_of stop deadline real_time fair) (map_of a b c d) seat value
   SetsTo-joined a b c d seat value sets other =
       get-joined a b c d other ∙ sets other
       ∙ ap (λ t. cond t value (pid_in stop deadline real_time fair other)) (sym (is_eq-seat_cmp other seat))
       ∙ ap (cond (is_eq (seat_cmp other seat)) value) (sym (get-joined stop deadline real_time fair other))
 
-  module _ (place : Place) (value : Option ℕ) where
+  module _ (key : Key) (value : Option ℕ) where
     -- one class edited, before those that follow it
-    edited : (before after : Members) → SetsTo before after place value → (class : ℕ) (seat : Seat) (later : Option ℕ) →
-        cond (eqb seat.0 class) (get after seat.1) later ≡ cond (eqb seat.0 class && is_eq (place_cmp seat.1 place)) value (cond (eqb seat.0 class) (get before seat.1) later)
+    edited : (before after : Members) → SetsTo before after key value → (class : ℕ) (seat : Seat) (later : Option ℕ) →
+        cond (eqb seat.0 class) (get after seat.1) later ≡ cond (eqb seat.0 class && is_eq (key_cmp seat.1 key)) value (cond (eqb seat.0 class) (get before seat.1) later)
     edited before after sets class seat later =
         ap (λ o. cond (eqb seat.0 class) o later) (sets seat.1)
-        ∙ sym (picked (eqb seat.0 class) (is_eq (place_cmp seat.1 place)) value (get before seat.1) later)
+        ∙ sym (picked (eqb seat.0 class) (is_eq (key_cmp seat.1 key)) value (get before seat.1) later)
 
-    pub SetsTo-stop : (after : Members) → SetsTo stop after place value →
-        SetsTo (map_of stop deadline real_time fair) (map_of after deadline real_time fair) (0, place) value
-    SetsTo-stop after sets = SetsTo-joined after deadline real_time fair (0, place) value (λ seat. edited stop after sets 0 seat _)
+    pub SetsTo-stop : (after : Members) → SetsTo stop after key value →
+        SetsTo (map_of stop deadline real_time fair) (map_of after deadline real_time fair) (0, key) value
+    SetsTo-stop after sets = SetsTo-joined after deadline real_time fair (0, key) value (λ seat. edited stop after sets 0 seat _)
 
-    pub SetsTo-deadline : (after : Members) → SetsTo deadline after place value →
-        SetsTo (map_of stop deadline real_time fair) (map_of stop after real_time fair) (1, place) value
-    SetsTo-deadline after sets = SetsTo-joined stop after real_time fair (1, place) value (λ seat.
+    pub SetsTo-deadline : (after : Members) → SetsTo deadline after key value →
+        SetsTo (map_of stop deadline real_time fair) (map_of stop after real_time fair) (1, key) value
+    SetsTo-deadline after sets = SetsTo-joined stop after real_time fair (1, key) value (λ seat.
         ap (cond (eqb seat.0 0) (get stop seat.1)) (edited deadline after sets 1 seat _)
-        ∙ passed (eqb seat.0 0) (eqb seat.0 1) (is_eq (place_cmp seat.1 place)) (get stop seat.1) value _ (other_class seat.0 0 1 refl))
+        ∙ passed (eqb seat.0 0) (eqb seat.0 1) (is_eq (key_cmp seat.1 key)) (get stop seat.1) value _ (other_class seat.0 0 1 refl))
 
-    pub SetsTo-real_time : (after : Members) → SetsTo real_time after place value →
-        SetsTo (map_of stop deadline real_time fair) (map_of stop deadline after fair) (2, place) value
-    SetsTo-real_time after sets = SetsTo-joined stop deadline after fair (2, place) value (λ seat.
+    pub SetsTo-real_time : (after : Members) → SetsTo real_time after key value →
+        SetsTo (map_of stop deadline real_time fair) (map_of stop deadline after fair) (2, key) value
+    SetsTo-real_time after sets = SetsTo-joined stop deadline after fair (2, key) value (λ seat.
         ap (cond (eqb seat.0 0) (get stop seat.1))
         (ap (cond (eqb seat.0 1) (get deadline seat.1)) (edited real_time after sets 2 seat _)
-        ∙ passed (eqb seat.0 1) (eqb seat.0 2) (is_eq (place_cmp seat.1 place)) (get deadline seat.1) value _ (other_class seat.0 1 2 refl))
-        ∙ passed (eqb seat.0 0) (eqb seat.0 2) (is_eq (place_cmp seat.1 place)) (get stop seat.1) value _ (other_class seat.0 0 2 refl))
+        ∙ passed (eqb seat.0 1) (eqb seat.0 2) (is_eq (key_cmp seat.1 key)) (get deadline seat.1) value _ (other_class seat.0 1 2 refl))
+        ∙ passed (eqb seat.0 0) (eqb seat.0 2) (is_eq (key_cmp seat.1 key)) (get stop seat.1) value _ (other_class seat.0 0 2 refl))
 
-    pub SetsTo-fair : (after : Members) → SetsTo fair after place value →
-        SetsTo (map_of stop deadline real_time fair) (map_of stop deadline real_time after) (3, place) value
-    SetsTo-fair after sets = SetsTo-joined stop deadline real_time after (3, place) value (λ seat.
+    pub SetsTo-fair : (after : Members) → SetsTo fair after key value →
+        SetsTo (map_of stop deadline real_time fair) (map_of stop deadline real_time after) (3, key) value
+    SetsTo-fair after sets = SetsTo-joined stop deadline real_time after (3, key) value (λ seat.
         ap (cond (eqb seat.0 0) (get stop seat.1))
         (ap (cond (eqb seat.0 1) (get deadline seat.1))
         (ap (cond (eqb seat.0 2) (get real_time seat.1)) (edited fair after sets 3 seat _)
-        ∙ passed (eqb seat.0 2) (eqb seat.0 3) (is_eq (place_cmp seat.1 place)) (get real_time seat.1) value _ (other_class seat.0 2 3 refl))
-        ∙ passed (eqb seat.0 1) (eqb seat.0 3) (is_eq (place_cmp seat.1 place)) (get deadline seat.1) value _ (other_class seat.0 1 3 refl))
-        ∙ passed (eqb seat.0 0) (eqb seat.0 3) (is_eq (place_cmp seat.1 place)) (get stop seat.1) value _ (other_class seat.0 0 3 refl))
+        ∙ passed (eqb seat.0 2) (eqb seat.0 3) (is_eq (key_cmp seat.1 key)) (get real_time seat.1) value _ (other_class seat.0 2 3 refl))
+        ∙ passed (eqb seat.0 1) (eqb seat.0 3) (is_eq (key_cmp seat.1 key)) (get deadline seat.1) value _ (other_class seat.0 1 3 refl))
+        ∙ passed (eqb seat.0 0) (eqb seat.0 3) (is_eq (key_cmp seat.1 key)) (get stop seat.1) value _ (other_class seat.0 0 3 refl))

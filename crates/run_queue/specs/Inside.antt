@@ -4,7 +4,7 @@ use Rattle.std.specs.FinMap.{entries, from_sorted, len}
 use Rattle.cs_types.specs.Queue.{Members, Ranked, Seat, Seated}
 use Rattle.run_queue.specs.declared.queue.RunQueue.TheInside.{Inside}
 
--- the tasks of a class by rising place, each at its seat
+-- the tasks of a class by rising key, each at its seat
 abbrev pub seats_in : ℕ → Members → List (Seat × ℕ)
 seats_in class members = map (λ entry. ((class, entry.0), entry.1)) (entries members)
 

@@ -4,7 +4,7 @@ ghost use Rattle.std.specs.Prelude.{◌≡◌, ◌+◌, ◌<◌, ◌≤◌, max,
 ghost use Rattle.std.specs.FinMap as map;
 ghost use Rattle.std.specs.Option.{option_map};
 ghost use Rattle.cs_types.specs.declared.task.Task.{Task};
-ghost use Rattle.cs_types.specs.Order.{priority_of, first_of};
+ghost use Rattle.cs_types.specs.Order.{fair_class, priority_of, first_of};
 ghost use Rattle.cs_types.specs.Queue.{seat_of, queue_of, top_of};
 
 use cs_types::{ClassQueue, OutOfMemory, Pid, Queued, Steps};
@@ -79,7 +79,7 @@ impl RunQueue {
     /// Puts a task at a seat where none is.
     pub fn enqueue<L: Ledger>(&mut self, task: Queued, steps: &mut Steps<L>)
         requires spare { 0 < self.old.spare }
-        requires class { task.class ≤ Queued.FAIR }
+        requires class { task.class ≤ fair_class }
         requires free { map.get self.old.tasks (seat_of task) ≡ None }
         ensures tasks { self.new.tasks ≡ map.insert self.old.tasks (seat_of task) task.pid }
         ensures spare { self.new.spare + 1 ≡ self.old.spare }
@@ -95,7 +95,7 @@ impl RunQueue {
     /// Takes the task at the seat of this one out. `false` comes exactly where none is there, and then
     /// nothing changes.
     pub fn dequeue<L: Ledger>(&mut self, task: &Queued, steps: &mut Steps<L>) -> bool
-        requires class { task.now.class ≤ Queued.FAIR }
+        requires class { task.now.class ≤ fair_class }
         ensures found { result ≡ map.contains_key self.old.tasks (seat_of task.now) }
         ensures tasks { self.new.tasks ≡ map.remove self.old.tasks (seat_of task.now) }
         ensures spare { self.new.spare ≡ self.old.spare + (if result then 1 else 0) }

@@ -1,11 +1,11 @@
 use Rattle.std.proofs.Common.{◌≡◌, ℕ, ap, ◌∙◌, arith}
 use Rattle.std.specs.FinMap.{empty, len, len-empty, empty_of_len}
-use Rattle.cs_types.specs.Queue.{Members, place_cmp}
+use Rattle.cs_types.specs.Queue.{Members, key_cmp}
 use Rattle.run_queue.proofs.Seats.{len-joined}
 use Rattle.run_queue.proofs.queue.RunQueue.empty.Goals as goal
 
 none : (members : Members) → members ≡ empty → len members ≡ 0
-none members is = ap len is ∙ len-empty place_cmp ℕ
+none members is = ap len is ∙ len-empty key_cmp ℕ
 
 pub invariant_of-result : goal.invariant_of-result
 invariant_of-result c =
