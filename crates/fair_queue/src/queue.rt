@@ -1,66 +1,18 @@
-//! The queue of the fair tasks.
+//! The queue of the fair tasks, and the rank by which they stand in it.
 
-ghost use Rattle.std.specs.Prelude.{◌≡◌};
-ghost use Rattle.std.specs.FinMap.{empty};
+ghost use Rattle.std.specs.Prelude.{◌≡◌, ℕ};
+ghost use Rattle.cs_types.specs.declared.task.Policy.TheVariants.{Fair};
+ghost use Rattle.cs_types.specs.Queue.{rank_by};
 
-use cs_types::{ClassQueue, OutOfMemory, Pid, Steps};
 use rank_queue::RankQueue;
-use std::alloc::Global;
-use std::marker::Model;
-use std::sync::ledger::Ledger;
 
-/// The fair tasks of one sibling. The rank of a task is its virtual time, in ns, so that the smaller one
-/// goes first, and of equal ones the earlier enqueue.
-#[derive(Drop)]
-pub struct FairQueue {
-    tasks: RankQueue,
-}
+/// The fair tasks of one sibling.
+pub type FairQueue = RankQueue;
 
-impl Model for FairQueue {
-    ghost use Rattle.cs_types.specs.Queue.{Ranked};
-    ghost use Rattle.cs_types.proofs.Codes.{ranked_code};
-
-    ghost Value = { Ranked };
-
-    ghost coded = { ranked_code };
-
-    ghost view = { λ queue. queue.tasks };
-}
-
-impl FairQueue {
-    /// No task, and room for none. It takes no memory.
-    pub fn empty(alloc: Global) -> FairQueue
-        ensures members { result.members ≡ empty }
-        ensures spare { result.spare ≡ 0 }
-    {
-        FairQueue {
-            tasks: RankQueue::empty(alloc),
-        }
-    }
-}
-
-impl ClassQueue for FairQueue {
-    ghost members = { λ queue. queue.members };
-
-    ghost spare = { λ queue. queue.spare };
-
-    fn reserve(&mut self, n: u32) -> Result<(), OutOfMemory> {
-        self.tasks.reserve(n)
-    }
-
-    fn put<L: Ledger>(&mut self, rank: u128, stamp: u64, pid: Pid, steps: &mut Steps<L>) {
-        self.tasks.put(rank, stamp, pid, steps)
-    }
-
-    fn take<L: Ledger>(&mut self, rank: u128, stamp: u64, steps: &mut Steps<L>) -> bool {
-        self.tasks.take(rank, stamp, steps)
-    }
-
-    fn top<L: Ledger>(&self, steps: &mut Steps<L>) -> Option<Pid> {
-        self.tasks.top(steps)
-    }
-
-    fn len(&self) -> u32 {
-        self.tasks.len()
-    }
+/// The rank of a fair task: its virtual time, in ns. The smaller one goes first, and of equal ones the
+/// earlier enqueue.
+pub fn rank(vtime: u128) -> u128
+    ensures { (nice : _) → (deadline : ℕ) → result ≡ rank_by (Fair nice) deadline vtime }
+{
+    vtime
 }

@@ -1,6 +1,6 @@
-//! The real-time class (`rt_sched_class`): the queue of its tasks on one sibling.
+//! The real-time class (`rt_sched_class`): the queue of its tasks on one sibling, and their ranks.
 #![tactic(auto)]
 
 mod queue;
 
-pub use queue::RtQueue;
+pub use queue::{RtQueue, rank};
