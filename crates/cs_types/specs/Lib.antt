@@ -16,4 +16,5 @@ pub mod History
 pub mod Drain
 pub mod View
 pub mod Laws
+pub mod Lending
 pub mod Queue

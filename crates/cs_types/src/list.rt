@@ -20,6 +20,9 @@ impl<T> Model for List<T> {
 }
 
 impl<T> List<T> {
+    ghost use Rattle.std.specs.Borrow.{sem};
+    ghost use Rattle.cs_types.specs.Lending.{LendsItems};
+
     /// The items of a vector. It takes no memory.
     pub fn of(items: Vec<T>) -> Self
         ensures { result ≡ items.items }
@@ -40,5 +43,13 @@ impl<T> List<T> {
         ensures { result.now ≡ self.now }
     {
         &self.items
+    }
+
+    /// The items, lent to be changed.
+    pub fn items_mut(&mut self) -> &mut [T]
+        ensures* writes_back { sem 𝓛 (LendsItems T.row self.entry result) }
+        ensures value { result.now ≡ self.old }
+    {
+        self.items.as_mut_slice()
     }
 }

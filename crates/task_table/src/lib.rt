@@ -8,6 +8,7 @@ mod group;
 mod table;
 mod tasks;
 
+pub use cs_types::Task;
 pub use fault::AddFault;
 pub use group::Group;
 pub use table::TaskTable;
