@@ -49,14 +49,14 @@ module _ {X : Type 0} where
       cond-false _ (Some e.1) (find nat_cmp pid es) (is_eq_apart pid e.0 (λ same. apart (sym same)))
       ∙ find-absent es pid (λ k d lt. absent (suc k) d (omega arith))
 
-  pub find-at : (es : List (ℕ × X)) → is_sorted nat_cmp es ≡ true → (place : ℕ) (d : ℕ × X) → place < length es →
-      find nat_cmp (get_or es place d).0 es ≡ Some (get_or es place d).1
-  find-at [] rising place d lt = absurd (omega arith)
+  pub find-at : (es : List (ℕ × X)) → is_sorted nat_cmp es ≡ true → (index : ℕ) (d : ℕ × X) → index < length es →
+      find nat_cmp (get_or es index d).0 es ≡ Some (get_or es index d).1
+  find-at [] rising index d lt = absurd (omega arith)
   find-at (e ∷ es) rising zero d lt = cond-true _ (Some e.1) (find nat_cmp e.0 es) (ap is_eq (cmp_same e.0 e.0 refl))
-  find-at (e ∷ es) rising (suc place) d lt =
-      let up = below_at e.0 es (and_parts _ _ rising).0 place d (omega arith) in
-      cond-false _ (Some e.1) (find nat_cmp (get_or es place d).0 es) (ap is_eq (cmp_above (get_or es place d).0 e.0 up))
-      ∙ find-at es (and_parts _ _ rising).1 place d (omega arith)
+  find-at (e ∷ es) rising (suc index) d lt =
+      let up = below_at e.0 es (and_parts _ _ rising).0 index d (omega arith) in
+      cond-false _ (Some e.1) (find nat_cmp (get_or es index d).0 es) (ap is_eq (cmp_above (get_or es index d).0 e.0 up))
+      ∙ find-at es (and_parts _ _ rising).1 index d (omega arith)
 
   -- an entry whose pid is above all others goes to the end
   pub put-last : (es : List (ℕ × X)) (pid : ℕ) (total : X) → ((k : ℕ) (d : ℕ × X) → k < length es → (get_or es k d).0 < pid) →
@@ -67,16 +67,16 @@ module _ {X : Type 0} where
       ∙ ap (λ rest. e ∷ rest) (put-last es pid total (λ k d lt. above (suc k) d (omega arith)))
 
   -- one whose pid is there takes the place of the other
-  pub put-at : (es : List (ℕ × X)) → is_sorted nat_cmp es ≡ true → (place : ℕ) (d : ℕ × X) (total : X) → place < length es →
-      put nat_cmp (get_or es place d).0 total es ≡ set es place ((get_or es place d).0, total)
-  put-at [] rising place d total lt = absurd (omega arith)
+  pub put-at : (es : List (ℕ × X)) → is_sorted nat_cmp es ≡ true → (index : ℕ) (d : ℕ × X) (total : X) → index < length es →
+      put nat_cmp (get_or es index d).0 total es ≡ set es index ((get_or es index d).0, total)
+  put-at [] rising index d total lt = absurd (omega arith)
   put-at (e ∷ es) rising zero d total lt =
       ap (λ r. by_order r ((e.0, total) ∷ e ∷ es) ((e.0, total) ∷ es) (e ∷ put nat_cmp e.0 total es)) (cmp_same e.0 e.0 refl)
-  put-at (e ∷ es) rising (suc place) d total lt =
-      let pid = (get_or es place d).0 in
-      let up = below_at e.0 es (and_parts _ _ rising).0 place d (omega arith) in
+  put-at (e ∷ es) rising (suc index) d total lt =
+      let pid = (get_or es index d).0 in
+      let up = below_at e.0 es (and_parts _ _ rising).0 index d (omega arith) in
       ap (λ r. by_order r ((pid, total) ∷ e ∷ es) ((e.0, total) ∷ es) (e ∷ put nat_cmp pid total es)) (cmp_above pid e.0 up)
-      ∙ ap (λ rest. e ∷ rest) (put-at es (and_parts _ _ rising).1 place d total (omega arith))
+      ∙ ap (λ rest. e ∷ rest) (put-at es (and_parts _ _ rising).1 index d total (omega arith))
 
 -- ---- a binary search
 
@@ -85,24 +85,24 @@ module _ (es : List (ℕ × ℕ)) (rising : is_sorted nat_cmp es ≡ true) (pid 
   comparisons_rise : IsNonDecreasingBy (λ e. ordering_index (nat_cmp e.0 pid)) es
   comparisons_rise i j d le in_range = grind (arith, nat_tests, rising_pids es rising i j d)
 
-  -- it ends at the place of the task, or finds that it is not there
+  -- it ends at the index of the task, or finds that it is not there
   pub searched : (end : Result ℕ ℕ) → IsSearchInRange end (length es) → IsBinarySearchResult (λ e. nat_cmp e.0 pid) es end →
       record { found : IfSome (result_ok end) (IsAt es pid); none : IfNone (result_ok end) (find nat_cmp pid es ≡ None) }
-  searched (Ok place) in_range equal =
-      let there : (d : ℕ × ℕ) → (get_or es place d).0 ≡ pid = λ d. ranked _ pid _ (sym (equal d)) in
+  searched (Ok index) in_range equal =
+      let there : (d : ℕ × ℕ) → (get_or es index d).0 ≡ pid = λ d. ranked _ pid _ (sym (equal d)) in
       record {
         found = record {
           in_range = in_range;
           pid_there = there;
-          total_there = λ d. ap (λ key. find nat_cmp key es) (sym (there d)) ∙ find-at es rising place d in_range;
+          total_there = λ d. ap (λ key. find nat_cmp key es) (sym (there d)) ∙ find-at es rising index d in_range;
         };
         none = tt;
       }
-  searched (Err place) in_range parted = record {
+  searched (Err index) in_range parted = record {
     found = tt;
     none = find-absent es pid (λ k d lt same.
         let split = parted comparisons_rise in
-        elim (cases_lt k place) [
+        elim (cases_lt k index) [
           | inl before ↦ omega (arith, ranked _ pid _ (sym (split.0 k d (omega arith) before)), same)
           | inr after ↦ omega (arith, ranked _ pid _ (sym (split.1 k d after lt)), same)
         ]);

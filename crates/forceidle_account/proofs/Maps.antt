@@ -48,20 +48,20 @@ module _ {X : Type 0} (es : List (ℕ × X)) (rising : is_sorted nat_cmp es ≡ 
     pub from_sorted-push : from_sorted {R = nat_cmp} (es ++ (pid, total) ∷ []) ≡ insert (from_sorted es) pid total
     from_sorted-push = map_by_put pid total _ (put-last es pid total (above_entries pid above))
 
-  module _ (place : ℕ) (d : ℕ × X) (lt : place < length es) (pid : ℕ) (total : X) (there : (get_or es place d).0 ≡ pid) where
-    put_there : put nat_cmp pid total es ≡ set es place (pid, total)
-    put_there = subst (λ key. put nat_cmp key total es ≡ set es place (key, total)) there (put-at es rising place d total lt)
+  module _ (index : ℕ) (d : ℕ × X) (lt : index < length es) (pid : ℕ) (total : X) (there : (get_or es index d).0 ≡ pid) where
+    put_there : put nat_cmp pid total es ≡ set es index (pid, total)
+    put_there = subst (λ key. put nat_cmp key total es ≡ set es index (key, total)) there (put-at es rising index d total lt)
 
-    pub is_sorted-set : is_sorted nat_cmp (set es place (pid, total)) ≡ true
+    pub is_sorted-set : is_sorted nat_cmp (set es index (pid, total)) ≡ true
     is_sorted-set = sorted_by_put pid total _ put_there
 
-    pub from_sorted-set : from_sorted {R = nat_cmp} (set es place (pid, total)) ≡ insert (from_sorted es) pid total
+    pub from_sorted-set : from_sorted {R = nat_cmp} (set es index (pid, total)) ≡ insert (from_sorted es) pid total
     from_sorted-set = map_by_put pid total _ put_there
 
 -- the total of the task whose entry is this one
-pub total-at : (es : List (ℕ × ℕ)) → is_sorted nat_cmp es ≡ true → (pid place : ℕ) (entry : ℕ × ℕ) → IsAt es pid place → entry ≡ get_or es place entry →
+pub total-at : (es : List (ℕ × ℕ)) → is_sorted nat_cmp es ≡ true → (pid index : ℕ) (entry : ℕ × ℕ) → IsAt es pid index → entry ≡ get_or es index entry →
     unwrap_or (get (from_sorted {R = nat_cmp} es) pid) 0 ≡ entry.1
-total-at es rising pid place entry at is =
+total-at es rising pid index entry at is =
     ap (λ found. unwrap_or found 0) (get-sorted es rising pid ∙ at.total_there entry) ∙ ap (λ (e : ℕ × ℕ). e.1) (sym is)
 
 pub from_sorted-none : {X : Type 0} → from_sorted {X = X} {R = nat_cmp} [] ≡ empty

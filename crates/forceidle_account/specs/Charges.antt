@@ -23,8 +23,8 @@ has_total charges pid = contains_key charges.totals pid
 abbrev pub total_at : Charges → ℕ → ℕ
 total_at charges pid = unwrap_or (get charges.totals pid) 0
 
--- the place of the task's entry
-pub record IsAt (entries : List (ℕ × ℕ)) (pid place : ℕ) : Type 0 where
-  pub in_range : place < length entries
-  pub pid_there : (d : ℕ × ℕ) → (slice_index_or entries place d).0 ≡ pid
-  pub total_there : (d : ℕ × ℕ) → find nat_cmp pid entries ≡ Some (slice_index_or entries place d).1
+-- the index of the task's entry
+pub record IsAt (entries : List (ℕ × ℕ)) (pid index : ℕ) : Type 0 where
+  pub in_range : index < length entries
+  pub pid_there : (d : ℕ × ℕ) → (slice_index_or entries index d).0 ≡ pid
+  pub total_there : (d : ℕ × ℕ) → find nat_cmp pid entries ≡ Some (slice_index_or entries index d).1

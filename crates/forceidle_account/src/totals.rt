@@ -76,25 +76,25 @@ impl Totals {
             ≡ total_at self.old other + (if other == pid then share else 0) }
         ensures has { (other : ℕ) → has_total self.new other ≡ has_total self.old other }
     {
-        let Some(place) = place_of(&self.entries, pid) else {
+        let Some(index) = index_of(&self.entries, pid) else {
             unreachable!()
         };
-        self.entries[place].1 += share;
+        self.entries[index].1 += share;
     }
 
     /// What a task was charged, in ns: 0 where it is not there.
     pub fn of(&self, pid: Pid) -> u64
         ensures { result ≡ total_at self.now pid }
     {
-        match place_of(&self.entries, pid) {
-            Some(place) => self.entries[place].1,
+        match index_of(&self.entries, pid) {
+            Some(index) => self.entries[index].1,
             None => 0,
         }
     }
 }
 
-/// The place of a task among the entries. It halves what is left with each comparison.
-fn place_of(entries: &[(Pid, u64)], pid: Pid) -> Option<usize>
+/// The index of a task among the entries. It halves what is left with each comparison.
+fn index_of(entries: &[(Pid, u64)], pid: Pid) -> Option<usize>
     requires { IsTrue (map.is_sorted nat_cmp entries.now) }
     ensures found { IfSome result (IsAt entries.now pid) }
     ensures none { IfNone result (map.find nat_cmp pid entries.now ≡ None) }

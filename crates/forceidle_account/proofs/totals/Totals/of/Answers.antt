@@ -7,8 +7,8 @@ use Rattle.forceidle_account.proofs.totals.Totals.of.Goals as goal
 pub returns-in-Some : goal.returns-in-Some
 returns-in-Some c =
     let items = c.self.inside.entries.items in
-    let at : IsAt items c.args.pid c.in-Some.place = rw (← c.deref.ensures.value) c.in-Some.ensures.found in
-    rw (← c.self.view_is) (sym (total-at items c.self.invariant c.args.pid c.in-Some.place c.index.result.now at c.index.ensures))
+    let at : IsAt items c.args.pid c.in-Some.index = rw (← c.deref.ensures.value) c.in-Some.ensures.found in
+    rw (← c.self.view_is) (sym (total-at items c.self.invariant c.args.pid c.in-Some.index c.index.result.now at c.index.ensures))
 
 pub returns-in-None : goal.returns-in-None
 returns-in-None c =

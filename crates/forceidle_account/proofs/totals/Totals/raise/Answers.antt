@@ -16,28 +16,28 @@ unreachable-requires c =
 pub overflow_add-index_mut : goal.overflow_add-index_mut
 overflow_add-index_mut c =
     let items = c.self.inside.entries.items in
-    let at : IsAt items c.args.pid c.in-Some.place = rw (← c.deref.ensures.value) c.in-Some.ensures.found in
+    let at : IsAt items c.args.pid c.in-Some.index = rw (← c.deref.ensures.value) c.in-Some.ensures.found in
     let fits = rw (← c.self.view_is) at c.requires.fits in
-    let total = total-at items c.self.invariant c.args.pid c.in-Some.place c.index_mut.result.now at c.index_mut.ensures.value in
+    let total = total-at items c.self.invariant c.args.pid c.in-Some.index c.index_mut.result.now at c.index_mut.ensures.value in
     omega (arith, total, fits)
 
 pub invariant_of-self : goal.invariant_of-self
 invariant_of-self c =
     let items = c.self.inside.entries.items in
-    let at : IsAt items c.args.pid c.in-Some.place = rw (← c.deref.ensures.value) c.in-Some.ensures.found in
+    let at : IsAt items c.args.pid c.in-Some.index = rw (← c.deref.ensures.value) c.in-Some.ensures.found in
     let entry = c.index_mut.result.now in
     let same = ap (λ (e : ℕ × ℕ). e.0) (sym c.index_mut.ensures.value) in
-    is_sorted-set items c.self.invariant c.in-Some.place entry at.in_range entry.0 _ same
+    is_sorted-set items c.self.invariant c.in-Some.index entry at.in_range entry.0 _ same
 
 pub returns-clause-totals : goal.returns-clause-totals
 returns-clause-totals c =
     let items = c.self.inside.entries.items in
-    let at : IsAt items c.args.pid c.in-Some.place = rw (← c.deref.ensures.value) c.in-Some.ensures.found in
+    let at : IsAt items c.args.pid c.in-Some.index = rw (← c.deref.ensures.value) c.in-Some.ensures.found in
     let entry = c.index_mut.result.now in
     let same = ap (λ (e : ℕ × ℕ). e.0) (sym c.index_mut.ensures.value) in
-    let total = total-at items c.self.invariant c.args.pid c.in-Some.place entry at c.index_mut.ensures.value in
+    let total = total-at items c.self.invariant c.args.pid c.in-Some.index entry at c.index_mut.ensures.value in
     rw (← c.self.view_is)
-    (from_sorted-set items c.self.invariant c.in-Some.place entry at.in_range entry.0 _ same
+    (from_sorted-set items c.self.invariant c.in-Some.index entry at.in_range entry.0 _ same
     ∙ λ i. insert (from_sorted {R = nat_cmp} items) ((sym same ∙ at.pid_there entry) i) (sym total i + c.args.share))
 
 pub returns-clause-each : goal.returns-clause-each

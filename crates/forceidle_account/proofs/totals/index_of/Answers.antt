@@ -1,7 +1,7 @@
 use Rattle.std.proofs.Common.{rules}
 use Rattle.std.proofs.lemmas.List.Sorted.{answers_always}
 use Rattle.forceidle_account.proofs.Entries.{searched}
-use Rattle.forceidle_account.proofs.totals.place_of.Goals as goal
+use Rattle.forceidle_account.proofs.totals.index_of.Goals as goal
 
 -- the closure gives the pid of an entry
 pub returns : goal.returns
