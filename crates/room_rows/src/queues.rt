@@ -2,6 +2,7 @@
 
 ghost use Rattle.std.specs.Prelude.{◌≡◌, ◌<◌, ◌≤◌};
 ghost use Rattle.std.specs.FinMap.{empty};
+ghost use Rattle.cs_types.specs.Order.{fair_class};
 ghost use Rattle.cs_types.specs.Queue.{seat_of};
 
 use cs_types::{ClassQueue, Pid, Queued, Steps};
@@ -30,6 +31,15 @@ fn growths(rt: HostRuntime) {
     assert!(rt; grow(1000, 0) == 1000);
     assert!(rt; grow(1, -20) == 0);
     assert!(rt; grow(u64::MAX, 19) == 1_259_297_728_765_238_723_584);
+}
+
+// The greater priority, the earlier deadline and the smaller virtual time go first.
+#[test]
+fn ranks(rt: HostRuntime) {
+    assert!(rt; rt_queue::rank(99) == 0);
+    assert!(rt; rt_queue::rank(1) == 98);
+    assert!(rt; deadline_queue::rank(50) == 50);
+    assert!(rt; fair_queue::rank(3056) == 3056);
 }
 
 /// Expects that a queue without tasks takes two, has the one of the smaller rank before the earlier one,
@@ -71,7 +81,7 @@ fn expect_first<L: Ledger, R: Abort>(
     task: Queued,
     steps: &mut Steps<L>,
 )
-    requires { task.class ≤ Queued.FAIR }
+    requires { task.class ≤ fair_class }
 {
     assert!(rt; queue.first(steps) == Some(task.pid));
     assert!(rt; queue.dequeue(&task, steps));

@@ -1,7 +1,7 @@
 //! Texts of scenarios: one that is read, texts that are no scenario's, one for each rule of the
 //! grammar, and the limit of steps on both sides.
 
-use cs_types::Scenario;
+use cs_types::{Scenario, TaskSpec};
 use scenario_text::{BadKind, ReadFault, read};
 use std::alloc::{AllocError, Global};
 use std::process::Abort;
@@ -26,6 +26,14 @@ fn reads_a_scenario(rt: HostRuntime) {
     );
     assert!(rt; scenario.tasks.items().len() == 3);
     assert!(rt; scenario.steps.items().len() == 6);
+}
+
+// What is written to the items of a list stays in it.
+#[test]
+fn items_are_reversed(rt: HostRuntime) {
+    let mut scenario = read(rt.alloc(), TEXT).expect(&rt, "a scenario");
+    scenario.tasks.items_mut().reverse();
+    assert!(rt; matches!(scenario.tasks.items().first(), Some(TaskSpec { pid: 3, .. })));
 }
 
 /// A text of a head, one task and these lines.
