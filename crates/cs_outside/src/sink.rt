@@ -22,6 +22,7 @@ pub trait Sink {
         ensures within { IfOk result (λ n. n ≤ length piece.now) }
         ensures appended { IfOk result (λ n. written self.new ≡ appended (written self.old) (take n piece.now)) }
 
+        ensures faultless { OnOk result (faults self.new ≡ faults self.old) }
         ensures failed { OnErr result (Rose (faults self.old) (faults self.new)) }
         ensures unwritten { OnErr result (written self.new ≡ written self.old) }
         ensures counted { faults self.old ≤ faults self.new };
@@ -34,6 +35,7 @@ pub fn write_all<K: Sink>(sink: &mut K, piece: &[u8]) -> Result<(), Failed>
     ensures ok { OnOk result (K.written sink.new ≡ appended (K.written sink.old) piece.now) }
     ensures prefix { WritesPrefix (K.written sink.old) piece.now (K.written sink.new) }
 
+    ensures faultless { OnOk result (K.faults sink.new ≡ K.faults sink.old) }
     ensures failed { OnErr result (Rose (K.faults sink.old) (K.faults sink.new)) }
     ensures counted { K.faults sink.old ≤ K.faults sink.new }
 {

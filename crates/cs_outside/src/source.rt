@@ -1,6 +1,6 @@
 //! Where bytes come from.
 
-ghost use Rattle.std.specs.Prelude.{◌≡◌, ◌<◌, ◌≤◌, ℕ, List, [], Option, length, take, IfOk, OnErr, IfSome};
+ghost use Rattle.std.specs.Prelude.{◌≡◌, ◌<◌, ◌≤◌, ℕ, List, [], Option, length, take, IfOk, OnOk, OnErr, IfSome};
 ghost use Rattle.cs_outside.specs.Device.{prepended, Rose};
 
 use crate::fault::Failed;
@@ -23,6 +23,7 @@ pub trait Source {
         // Where the bytes are told, nothing comes only at their end.
         ensures end { IfOk result (λ n. n ≡ 0 → IfSome (left self.old) (λ bytes. bytes ≡ [])) }
 
+        ensures faultless { OnOk result (faults self.new ≡ faults self.old) }
         ensures failed { OnErr result (Rose (faults self.old) (faults self.new)) }
         ensures untaken { OnErr result (left self.new ≡ left self.old) }
         ensures counted { faults self.old ≤ faults self.new };

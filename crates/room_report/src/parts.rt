@@ -22,6 +22,7 @@ pub(crate) fn write_entries<R: Room, K: Sink>(room: &R, sink: &mut K) -> Result<
     ensures ok { OnOk result (K.written sink.new ≡ appended (K.written sink.old) (flat_map entry_text (R.history room.now))) }
     ensures prefix { WritesPrefix (K.written sink.old) (flat_map entry_text (R.history room.now)) (K.written sink.new) }
 
+    ensures faultless { OnOk result (K.faults sink.new ≡ K.faults sink.old) }
     ensures failed { OnErr result (Rose (K.faults sink.old) (K.faults sink.new)) }
     ensures counted { K.faults sink.old ≤ K.faults sink.new }
 {
@@ -37,6 +38,7 @@ pub(crate) fn write_core<R: Room, K: Sink>(room: &R, sink: &mut K) -> Result<(),
     ensures ok { OnOk result (K.written sink.new ≡ appended (K.written sink.old) (lines_text (core_lines (moment_of (R.scenario room.now) (R.history room.now))))) }
     ensures prefix { WritesPrefix (K.written sink.old) (lines_text (core_lines (moment_of (R.scenario room.now) (R.history room.now)))) (K.written sink.new) }
 
+    ensures faultless { OnOk result (K.faults sink.new ≡ K.faults sink.old) }
     ensures failed { OnErr result (Rose (K.faults sink.old) (K.faults sink.new)) }
     ensures counted { K.faults sink.old ≤ K.faults sink.new }
 {
@@ -54,6 +56,7 @@ pub(crate) fn write_siblings<R: Room, K: Sink>(room: &R, sink: &mut K) -> Result
     ensures ok { OnOk result (K.written sink.new ≡ appended (K.written sink.old) (lines_text (cpu_lines (moment_of (R.scenario room.now) (R.history room.now))))) }
     ensures prefix { WritesPrefix (K.written sink.old) (lines_text (cpu_lines (moment_of (R.scenario room.now) (R.history room.now)))) (K.written sink.new) }
 
+    ensures faultless { OnOk result (K.faults sink.new ≡ K.faults sink.old) }
     ensures failed { OnErr result (Rose (K.faults sink.old) (K.faults sink.new)) }
     ensures counted { K.faults sink.old ≤ K.faults sink.new }
 
@@ -74,6 +77,7 @@ pub(crate) fn write_tasks<R: Room, K: Sink>(room: &R, sink: &mut K) -> Result<()
     ensures ok { OnOk result (K.written sink.new ≡ appended (K.written sink.old) (lines_text (task_lines (moment_of (R.scenario room.now) (R.history room.now))))) }
     ensures prefix { WritesPrefix (K.written sink.old) (lines_text (task_lines (moment_of (R.scenario room.now) (R.history room.now)))) (K.written sink.new) }
 
+    ensures faultless { OnOk result (K.faults sink.new ≡ K.faults sink.old) }
     ensures failed { OnErr result (Rose (K.faults sink.old) (K.faults sink.new)) }
     ensures counted { K.faults sink.old ≤ K.faults sink.new }
 {
@@ -90,6 +94,7 @@ pub(crate) fn write_ended<R: Room, K: Sink>(room: &R, sink: &mut K) -> Result<()
     ensures ok { OnOk result (K.written sink.new ≡ appended (K.written sink.old) (lines_text (ended_lines (moment_of (R.scenario room.now) (R.history room.now))))) }
     ensures prefix { WritesPrefix (K.written sink.old) (lines_text (ended_lines (moment_of (R.scenario room.now) (R.history room.now)))) (K.written sink.new) }
 
+    ensures faultless { OnOk result (K.faults sink.new ≡ K.faults sink.old) }
     ensures failed { OnErr result (Rose (K.faults sink.old) (K.faults sink.new)) }
     ensures counted { K.faults sink.old ≤ K.faults sink.new }
 {

@@ -18,6 +18,7 @@ pub fn output<R: Room, K: Sink>(room: &R, sink: &mut K) -> Result<(), Failed>
     ensures ok { OnOk result (K.written sink.new ≡ appended (K.written sink.old) (output_text (R.scenario room.now) (R.history room.now))) }
     ensures prefix { WritesPrefix (K.written sink.old) (output_text (R.scenario room.now) (R.history room.now)) (K.written sink.new) }
 
+    ensures faultless { OnOk result (K.faults sink.new ≡ K.faults sink.old) }
     ensures failed { OnErr result (Rose (K.faults sink.old) (K.faults sink.new)) }
     ensures counted { K.faults sink.old ≤ K.faults sink.new }
 
@@ -35,6 +36,7 @@ pub fn report<R: Room, K: Sink>(room: &R, sink: &mut K) -> Result<(), Failed>
     ensures ok { OnOk result (K.written sink.new ≡ appended (K.written sink.old) (report_text (moment_of (R.scenario room.now) (R.history room.now)))) }
     ensures prefix { WritesPrefix (K.written sink.old) (report_text (moment_of (R.scenario room.now) (R.history room.now))) (K.written sink.new) }
 
+    ensures faultless { OnOk result (K.faults sink.new ≡ K.faults sink.old) }
     ensures failed { OnErr result (Rose (K.faults sink.old) (K.faults sink.new)) }
     ensures counted { K.faults sink.old ≤ K.faults sink.new }
 {

@@ -22,11 +22,17 @@ pub record Used (D : Type 0) : Type 0 where
 abbrev pub Failed : {D : Type 0} → Used D → Type 0
 Failed device = device.faults device.before < device.faults device.after
 
+-- that count stands as it stood at the call
+abbrev pub IsFaultless : {D : Type 0} → Used D → Type 0
+IsFaultless device = device.faults device.after ≡ device.faults device.before
+
 -- How the command `replay` ends, over a source and a sink. Out of memory alone is free.
 pub record EndsAsReplay {S K : Type 0} (words : List (String Global)) (source : Used S) (sink : Used K) (status : Status) : Type 0 where
   -- where it is done, what was read is the text of a scenario, and what was written is its history and its report
   pub done : status ≡ Done → (scenario : Scenario) ×
       Replays scenario (source.bytes source.before) (source.bytes source.after) (sink.bytes sink.before) (sink.bytes sink.after)
+  -- no fault of the source was counted, unless a read fault is the answer, and none of the sink, unless a write fault is
+  pub faultless : (status ≢ ReadFault → IsFaultless source) × (status ≢ WriteFault → IsFaultless sink)
   -- exactly where the words are not its own, and then nothing was read
   pub bad_words : (status ≡ BadWords) ↔ ¬ IsReplay words
   pub unread : status ≡ BadWords → source.after ≡ source.before
@@ -49,5 +55,5 @@ pub record EndsAsReplay {S K : Type 0} (words : List (String Global)) (source : 
   -- it gives up on no scenario that can be played, where nothing failed
   pub complete : (scenario : Scenario) → IsReplay words → IsBuilt scenario →
       source.bytes source.before ≡ Some (scenario_text scenario) → length (scenario_text scenario) ≤ input_limit →
-      source.faults source.after ≡ source.faults source.before → sink.faults sink.after ≡ sink.faults sink.before →
+      IsFaultless source → IsFaultless sink →
       (status ≡ Done) ⊎ (status ≡ OutOfMemory)

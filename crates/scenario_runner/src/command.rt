@@ -34,6 +34,7 @@ fn played<S: Source>(alloc: Global, source: &mut S) -> Result<PlainRoom, Stop>
         count_read (S.left source.old) (S.left source.new) ≤ input_limit + 1) }
     ensures bad { (line : _) (kind : _) → result ≡ Err (Stop.BadScenario line kind) →
         IsBad line kind (S.left source.old) (S.left source.new) }
+    ensures faultless { result ≢ Err Stop.ReadFault → S.faults source.new ≡ S.faults source.old }
     ensures failed { result ≡ Err Stop.ReadFault → Rose (S.faults source.old) (S.faults source.new) }
     ensures counted { S.faults source.old ≤ S.faults source.new }
 {

@@ -24,6 +24,7 @@ pub fn read_to_end<S: Source>(alloc: Global, source: &mut S) -> Result<Vec<u8>, 
         count_read (S.left source.old) (S.left source.new) ≤ input_limit + 1) }
     ensures bad { (line : _) (kind : _) → result ≢ Err (Stop.BadScenario line kind) }
 
+    ensures faultless { result ≢ Err Stop.ReadFault → S.faults source.new ≡ S.faults source.old }
     ensures failed { result ≡ Err Stop.ReadFault → Rose (S.faults source.old) (S.faults source.new) }
     ensures counted { S.faults source.old ≤ S.faults source.new }
 {

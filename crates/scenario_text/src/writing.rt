@@ -19,6 +19,7 @@ pub fn entry_text<K: Sink>(entry: &Entry, sink: &mut K) -> Result<(), Failed>
     ensures ok { OnOk result (K.written sink.new ≡ appended (K.written sink.old) (entry_text entry.now)) }
     ensures prefix { WritesPrefix (K.written sink.old) (entry_text entry.now) (K.written sink.new) }
 
+    ensures faultless { OnOk result (K.faults sink.new ≡ K.faults sink.old) }
     ensures failed { OnErr result (Rose (K.faults sink.old) (K.faults sink.new)) }
     ensures counted { K.faults sink.old ≤ K.faults sink.new }
 {

@@ -14,5 +14,5 @@ loop-given-preserved g c =
           c.in_ok-given.ensures.appended
           ∙ ap (λ before. appended before (take more (slice_range text given (length text)))) c.loop-given.invariant.written
           ∙ appended_rest (g.K.Sink.written c.args.sink.now) text given more;
-      counted = omega (arith, c.write.ensures.counted, c.loop-given.invariant.counted);
+      faultless = c.in_ok-given.ensures.faultless ∙ c.loop-given.invariant.faultless;
     }

@@ -15,7 +15,7 @@ loop-place-preserved g c = record {
   reached = reached_more _ _ _ _ _ _ _ _ c.loop-place.invariant.reached
       (ended_next (moment_of (g.R.Room.scenario c.args.room.now) (g.R.Room.history c.args.room.now)) c.loop-place.place c.in-Some.task c.in-Some.ensures)
       (c.as_bytes.ensures ∙ c.ended_line.ensures) c.in_ok-write_all-in-Some.ensures.ok;
-  counted = omega (arith, c.write_all.ensures.counted, c.loop-place.invariant.counted);
+  faultless = c.in_ok-write_all-in-Some.ensures.faultless ∙ c.loop-place.invariant.faultless;
 }
 
 pub returns-in-None-clause-ok : goal.returns-in-None-clause-ok

@@ -17,7 +17,7 @@ loop-place-preserved g c = record {
   reached = reached_more _ _ _ _ _ _ _ _ c.loop-place.invariant.reached
       (entries_next (g.R.Room.history c.args.room.now) c.loop-place.place c.unwrap-entry.result (sym c.entry.ensures ∙ c.unwrap-entry.ensures))
       refl c.in_ok-entry_text.ensures.ok;
-  counted = omega (arith, c.entry_text.ensures.counted, c.loop-place.invariant.counted);
+  faultless = c.in_ok-entry_text.ensures.faultless ∙ c.loop-place.invariant.faultless;
 }
 
 pub returns-clause-prefix : goal.returns-clause-prefix

@@ -1,4 +1,4 @@
-use Rattle.std.proofs.Common.{◌≤◌, drop}
+use Rattle.std.proofs.Common.{◌≡◌, drop}
 use Rattle.std.specs.List.{flat_map}
 use Rattle.scenario_text.specs.Text.{entry_text}
 use Rattle.room_report.proofs.Reached.{Reached}
@@ -10,5 +10,5 @@ invariant-loop-place g l =
     let faults = g.K.Sink.faults in
     record {
       reached : Reached (written l.fn.sink) (flat_map entry_text (g.R.Room.history l.room)) (flat_map entry_text (drop l.place (g.R.Room.history l.room))) (written l.sink);
-      counted : faults l.fn.sink ≤ faults l.sink;
+      faultless : faults l.sink ≡ faults l.fn.sink;
     }

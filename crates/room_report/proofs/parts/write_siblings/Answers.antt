@@ -20,7 +20,7 @@ loop-cpu-preserved g c = record {
   reached = reached_more _ _ _ _ _ _ _ _ c.loop-cpu.invariant.reached
       (cpu_next (moment_of (g.R.Room.scenario c.args.room.now) (g.R.Room.history c.args.room.now)) c.loop-cpu.cpu c.unwrap-view.result (omega (arith, length-fold_of (g.R.Room.scenario c.args.room.now) (g.R.Room.history c.args.room.now), c.siblings-cpu-end.ensures.siblings, c.loop-cpu-test.true)) (sym c.cpu.ensures.view ∙ c.unwrap-view.ensures))
       (c.as_bytes.ensures ∙ c.cpu_line.ensures) c.in_ok-write_all.ensures.ok;
-  counted = omega (arith, c.write_all.ensures.counted, c.loop-cpu.invariant.counted);
+  faultless = c.in_ok-write_all.ensures.faultless ∙ c.loop-cpu.invariant.faultless;
 }
 
 pub returns-clause-ok : goal.returns-clause-ok

@@ -1,4 +1,4 @@
-use Rattle.std.proofs.Common.{◌≤◌}
+use Rattle.std.proofs.Common.{◌≡◌}
 use Rattle.cs_types.specs.History.{moment_of}
 use Rattle.room_report.specs.Report.{cpu_lines, lines_text}
 use Rattle.room_report.proofs.Left.{cpu_lines_from}
@@ -11,5 +11,5 @@ invariant-loop-cpu g l =
     let faults = g.K.Sink.faults in
     record {
       reached : Reached (written l.fn.sink) (lines_text (cpu_lines (moment_of (g.R.Room.scenario l.room) (g.R.Room.history l.room)))) (lines_text (cpu_lines_from (moment_of (g.R.Room.scenario l.room) (g.R.Room.history l.room)) l.cpu)) (written l.sink);
-      counted : faults l.fn.sink ≤ faults l.sink;
+      faultless : faults l.sink ≡ faults l.fn.sink;
     }

@@ -1,4 +1,4 @@
-use Rattle.std.proofs.Common.{◌∙◌, ap, arith}
+use Rattle.std.proofs.Common.{refl, ◌∙◌, ap, arith}
 use Rattle.cs_types.specs.History.{moment_of}
 use Rattle.room_report.specs.Report.{lines_text}
 use Rattle.room_report.proofs.Reached.{reached_start, reached_more, reached_prefix, reached_end, whole_prefix}
@@ -8,7 +8,7 @@ use Rattle.room_report.proofs.parts.write_tasks.Goals as goal
 pub loop-task-init : goal.loop-task-init
 loop-task-init g c = record {
   reached = reached_start _ _ _ (ap lines_text (task_start (g.R.Room.scenario c.args.room.now) (g.R.Room.history c.args.room.now) c.requires));
-  counted = omega arith;
+  faultless = refl;
 }
 
 pub loop-task-smaller : goal.loop-task-smaller
@@ -25,7 +25,7 @@ loop-task-preserved g c = record {
   reached = reached_more _ _ _ _ _ _ _ _ c.loop-task.invariant.reached
       (task_next (g.R.Room.scenario c.args.room.now) (g.R.Room.history c.args.room.now) c.requires c.loop-task.pid c.in-Some.task c.in-Some.ensures.view)
       (c.as_bytes.ensures ∙ c.task_line.ensures) c.in_ok-write_all.ensures.ok;
-  counted = omega (arith, c.write_all.ensures.counted, c.loop-task.invariant.counted);
+  faultless = c.in_ok-write_all.ensures.faultless ∙ c.loop-task.invariant.faultless;
 }
 
 pub returns-clause-ok : goal.returns-clause-ok

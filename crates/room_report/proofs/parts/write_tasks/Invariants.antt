@@ -1,4 +1,4 @@
-use Rattle.std.proofs.Common.{◌≤◌, ◌-◌, ◌^◌}
+use Rattle.std.proofs.Common.{◌≡◌, ◌-◌, ◌^◌}
 use Rattle.cs_types.specs.History.{moment_of}
 use Rattle.room_report.specs.Report.{task_lines, lines_text}
 use Rattle.room_report.proofs.Left.{task_lines_above}
@@ -11,7 +11,7 @@ invariant-loop-task g l =
     let faults = g.K.Sink.faults in
     record {
       reached : Reached (written l.fn.sink) (lines_text (task_lines (moment_of (g.R.Room.scenario l.room) (g.R.Room.history l.room)))) (lines_text (task_lines_above (moment_of (g.R.Room.scenario l.room) (g.R.Room.history l.room)) l.pid)) (written l.sink);
-      counted : faults l.fn.sink ≤ faults l.sink;
+      faultless : faults l.sink ≡ faults l.fn.sink;
     }
 
 abbrev pub decreases-loop-task : goal.decreases-loop-task

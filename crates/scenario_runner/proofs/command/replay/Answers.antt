@@ -23,6 +23,7 @@ returns-in-Ok-output g c =
           writes = c.in-Ok-output.ensures.ok;
         },
       );
+      faultless = search rules;
       bad_words = search rules;
       unread = search rules;
       read_fault = search rules;
@@ -40,6 +41,7 @@ returns-in-Ok g c =
     let run = history_of scenario c.in-Ok.room.steps in
     record {
       done = search rules;
+      faultless = search rules;
       bad_words = search rules;
       unread = search rules;
       read_fault = search rules;
@@ -58,6 +60,7 @@ pub returns : goal.returns
 returns g c =
     record {
       done = search rules;
+      faultless = search rules;
       bad_words = search rules;
       unread = search rules;
       read_fault = search rules;

@@ -10,7 +10,7 @@ invariant-loop-count g l =
     record {
       taken : left l.fn.source ≡ prepended l.bytes.items (left l.source);
       few : length l.bytes.items ≤ input_limit;
-      counted : faults l.fn.source ≤ faults l.source;
+      faultless : faults l.source ≡ faults l.fn.source;
     }
 
 abbrev pub decreases-loop-count : goal.decreases-loop-count
