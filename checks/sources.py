@@ -1,9 +1,10 @@
 """What the crates declare, as it stands in their sources: the definitions and lemmas of specs/ and proofs/ (.antt),
-and the items of src/ (.rt). checks/reading_list stands on it; it is no program of its own.
+and the items of src/ (.rt). checks/reading_list and checks/documents stand on it; it is no program of its own.
 """
 
 import os
 import re
+from collections import defaultdict
 from dataclasses import dataclass
 from functools import cache
 
@@ -14,6 +15,8 @@ HEAD = {"pub", "abbrev", "unfoldable", "record", "data", "axiom", "pattern"}
 NO_DEFINITION = {"use", "mod", "mutual", "open", "infix", "infixl", "infixr", "package", "module"}
 ITEM = re.compile(r"(?:pub(?:\(\w+\))? |const (?=fn))*(fn|struct|enum|trait|type|const|impl|macro)\b[ <]*(\w+)?")
 RUST_USE = re.compile(r"^(?:pub )?use ([\w:]+)::(\w+|\{[^}]*\});$", re.M)
+TICKED = re.compile(r"`([^`]+)`")
+WORD = re.compile(r"[A-Za-z_][\w'-]*")
 
 
 @dataclass
@@ -92,3 +95,94 @@ def items(path):
         if is_open:
             found[-1].lines.append(line)
     return found
+
+
+def fields(record):
+    """The names of the fields of a record."""
+    return set(re.findall(r"^\s+(?:pub )?([\w'-]+) :", record.text(), re.M)) if record.kind == "record" else set()
+
+
+def members(item):
+    """The names that stand in an item of src/ and are no calls: fields, variants, constants and ghost members."""
+    if item.kind in ("struct", "enum"):
+        return set(re.findall(r"^\s+(?:pub(?:\(\w+\))? )?(\w+)(?=[:({,]| \{| =|$)", item.text(), re.M))
+    return set(re.findall(r"\b(?:ghost|const|type) (\w+)\b", item.text()))
+
+
+def calls(item):
+    """The functions of an item of src/, each with its head, which ends where the body begins."""
+    for part in re.split(r"^(?=\s*(?:pub(?:\(\w+\))? )?(?:const )?fn )", item.text(), flags=re.M):
+        name = re.search(r"\bfn (\w+)", part)
+        if name:
+            yield name[1], re.split(r"^\s*\{$", part, flags=re.M)[0]
+
+
+class Declared:
+    """The names that the crates declare: in `names` by crate, all of them in `every`, the definitions of specs/ in
+    `definitions`, and in `owned` by what they belong to, which is a crate, a module, a file, a record, a type, a trait,
+    or a call, OWNER::CALL or CRATE::CALL. To a call belong its clauses, and the fields of the laws that these are."""
+
+    def __init__(self):
+        self.names, self.owned, self.laws = defaultdict(set), defaultdict(set), defaultdict(list)
+        self.definitions, self.ticked, self.words = set(), set(), set()
+        for crate, below in crates().items():
+            self.names[crate] |= {crate, *below}
+        paths = [path for crate in crates() for path in files(f"crates/{crate}", (".antt", ".rt"))]
+        for path in paths:
+            if path.endswith(".antt"):
+                self.add_definitions(path)
+        for path in paths:
+            if path.endswith(".rt"):
+                self.add_items(path)
+        for trait, kind in [pair.split(" for ") for pair in self.owned if " for " in pair]:
+            for call in [key for key in self.owned if key.startswith(f"{trait}::")]:
+                self.owned[f"{kind}::{call.rpartition('::')[2]}"] |= self.owned[call]
+            self.owned[kind] |= self.owned.get(trait, set())
+        self.every = set().union(*self.names.values())
+
+    def add_definitions(self, path):
+        _, crate, folder, *_, file = path.split("/")
+        self.names[crate] |= {file.removesuffix(".antt")}
+        for item in definitions(path):
+            self.definitions |= {item.name} if folder == "specs" else set()
+            self.names[crate] |= {item.name} | fields(item)
+            self.owned[item.name] |= fields(item)
+            if re.match(r"pub record \S+ [({]", item.lines[0]):
+                self.laws[item.name].append(item)
+            for owner in (file, file.removesuffix(".antt")):
+                self.owned[owner].add(item.name)
+        if folder == "specs":
+            self.add_words(path)
+
+    def add_words(self, path):
+        """The words of the texts, which stand in quotes in specs/, and what comments have in backticks."""
+        if path.endswith(".antt"):
+            self.words |= set(re.findall(r'"([^"]*)"', read(path)))
+        self.ticked |= set(TICKED.findall(read(path)))
+
+    def add_items(self, path):
+        crate = path.split("/")[1]
+        self.add_words(path)
+        for _, names in RUST_USE.findall(read(path)):
+            self.names[crate] |= set(WORD.findall(names))
+        for item in items(path):
+            owner = crate if item.kind == "fn" else item.name.split()[-1]
+            self.names[crate] |= {item.name} | members(item)
+            self.owned[crate].add(item.name)
+            self.owned[owner] |= members(item)
+            self.owned[item.name] |= set()
+            for call, head in calls(item):
+                named = set(re.findall(r"\b(?:ensures|requires) (\w+) \{", head))
+                self.names[crate] |= {call} | named
+                self.owned[owner].add(call)
+                for key in (f"{owner}::{call}", f"{crate}::{call}"):
+                    self.owned[key] |= named | self.fields_below(head.partition("ensures")[2])
+
+    def fields_below(self, text):
+        """The fields of the laws that a text names, and of those that these name. A law is a record with arguments."""
+        found, left = {}, [text]
+        while left:
+            for name in set(WORD.findall(left.pop())) & self.laws.keys() - found.keys():
+                found[name] = set().union(*map(fields, self.laws[name]))
+                left += [item.text() for item in self.laws[name]]
+        return set().union(*found.values())
