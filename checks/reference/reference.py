@@ -1,10 +1,11 @@
 #!/usr/bin/env python3
 """The rules of coresched once more, in Python over plain lists. It shares no code with the program.
 
-Usage: reference.py [--stage r4|r5|r6|r7] [--guards N] [--faults kinds|unbuilt] [--no-done] < SCENARIO
+It writes what `coresched replay` writes, and ends as that does. Of a text that is no scenario it tells the first line
+that is wrong, and the kind of what is wrong there: Shape, Number, Twice, Leader, Full, After or Cut. While it plays, it
+asserts what is proved of the program.
 
-A stage says how much of the rules there is: r4 has forks and exits, r5 all classes and time, r6 the accounting
-of forced idle and the report, r7 stealing, hotplug, changes of policy and the drain.
+Usage: reference.py < SCENARIO
 """
 import sys
 from collections import Counter
@@ -24,7 +25,9 @@ NAMES = {STOP: 'stop', DEADLINE: 'dl', REAL: 'rt', FAIR: 'fair', IDLE: 'idle'}
 # ---------------------------------------------------------------- reading
 
 class Bad(Exception):
-    def __init__(self, line, kind):
+    """What is wrong with a text: its kind, and the line, from 1."""
+
+    def __init__(self, kind, line=None):
         self.line, self.kind = line, kind
 
 
@@ -56,10 +59,8 @@ def number(word, low, high):
 POLICY_RANGE = {'dl': (1, 1000000000), 'fifo': (1, 99), 'rr': (1, 99), 'fair': (-20, 19)}
 
 
-def policy_shape(word, stage):
+def policy_shape(word):
     """(name, rest) where the word has a policy's form, else None."""
-    if stage == 'r4':
-        return ('fifo', word[5:]) if word.startswith(b'fifo:') else None
     if word == b'stop':
         return ('stop', None)
     head, colon, rest = word.partition(b':')
@@ -89,7 +90,6 @@ CALLER_EVENTS = {
     b'offline': ['n'],
     b'online': ['n'],
 }
-SINCE_R7 = {b'setsched', b'offline', b'online'}
 
 
 class Scenario:
@@ -99,120 +99,141 @@ class Scenario:
         self.steps = []         # (actor text, event tuple, text of the step)
 
 
-def read(data, stage='r7'):
+class Reader:
+    """Takes a text line by line. `take` is what the next line is taken by."""
+
+    def __init__(self):
+        self.s = Scenario()
+        self.groups = {}            # of each pid its thread group and its process group
+        self.has_steps = False
+        self.take = self.take_version
+
+    def take_version(self, line):
+        if line != b'coresched 1':
+            raise Bad('Shape')
+        self.take = self.take_siblings
+
+    def take_siblings(self, line):
+        words = words_of(line)
+        if words[0] != b'siblings' or len(words) != 2:
+            raise Bad('Shape')
+        self.s.siblings = number(words[1], 1, 8)
+        if self.s.siblings is None:
+            raise Bad('Number')
+        self.take = self.take_limits
+
+    def take_limits(self, line):
+        words = words_of(line)
+        if words[0] != b'limits' or len(words) != 4:
+            raise Bad('Shape')
+        got = [number(words[1], 1, 256), number(words[2], 1, 256), number(words[3], 8192, 2**63 - 1)]
+        if None in got:
+            raise Bad('Number')
+        self.s.limit, self.s.cookies, self.s.top = got
+        self.take = self.take_rest
+
+    def take_rest(self, line):
+        words = words_of(line)
+        if words == [b'end']:
+            self.take = self.take_nothing
+        elif words[0] == b'task' and not self.has_steps:
+            self.add_task(words)
+        elif words[0] == b'step':
+            self.has_steps = True
+            step = self.step(words)
+            if len(self.s.steps) >= MAX_STEPS:
+                raise Bad('Full')
+            self.s.steps.append(step)
+        else:
+            raise Bad('Shape')
+
+    def take_nothing(self, line):
+        raise Bad('After')
+
+    def add_task(self, words):
+        if len(words) != 15:
+            raise Bad('Shape')
+        shape = policy_shape(words[5])
+        if shape is None:
+            raise Bad('Shape')
+        got = [number(w, 1, 9999) for w in words[1:4]]
+        got.append(number(words[4], 0, self.s.siblings - 1))
+        got.append(policy_value(shape))
+        got += [number(w, 0, 65535) for w in words[6:12]]
+        got += [number(w, 0, 1) for w in words[12:15]]
+        if None in got:
+            raise Bad('Number')
+        pid, tgid, pgid = got[:3]
+        if pid in self.groups:
+            raise Bad('Twice')
+        if tgid != pid and self.groups.get(tgid) != (tgid, pgid):
+            raise Bad('Leader')
+        if len(self.s.tasks) >= self.s.limit:
+            raise Bad('Full')
+        self.groups[pid] = (tgid, pgid)
+        self.s.tasks.append(tuple(got))
+
+    def step(self, words):
+        """The actor's text, the event, and the text of the step."""
+        if len(words) < 3 or words[1][:1] not in (b's', b'c'):
+            raise Bad('Shape')
+        kind, tail, name = words[1][:1], words[1][1:], words[2]
+        if kind == b's':
+            if name not in SIBLING_EVENTS or len(words) != 3:
+                raise Bad('Shape')
+            event = [number(tail, 0, self.s.siblings - 1)]
+        else:
+            form = CALLER_EVENTS.get(name)
+            if form is None or len(words) != 3 + len(form):
+                raise Bad('Shape')
+            event = [self.value(want, word) for want, word in zip(form, words[3:])]
+            if number(tail, 0, 7) is None:
+                raise Bad('Number')
+        if None in event:
+            raise Bad('Number')
+        return words[1].decode(), (name.decode(), *event), b' '.join(words[1:]).decode()
+
+    def value(self, want, word):
+        """What a word of an event says, None where it is out of its range."""
+        if want == 'how':
+            if word not in (b'thread', b'process'):
+                raise Bad('Shape')
+            return word.decode()
+        if want == 'policy':
+            shape = policy_shape(word)
+            if shape is None:
+                raise Bad('Shape')
+            return policy_value(shape)
+        if want == 'n':
+            return number(word, 0, self.s.siblings - 1)
+        return number(word, *want)
+
+
+def words_of(line):
+    words = line.split(b' ')
+    if b'' in words:
+        raise Bad('Shape')
+    return words
+
+
+def read(data):
     """A Scenario, or raises TooLong or Bad."""
     if len(data) > MAX_INPUT:
         raise TooLong()
     lines = data.split(b'\n')
     rest = lines.pop()
-    s = Scenario()
-    phase = 0                   # 0 first line, 1 siblings, 2 limits, 3 tasks, 4 steps, 5 after end
-    pids = {}                   # pid: (tgid, pgid)
-    n = 0
+    reader = Reader()
     for place, line in enumerate(lines, 1):
-        if phase == 5:
-            raise Bad(place, 'After')
-        if phase == 0:
-            if line != b'coresched 1':
-                raise Bad(place, 'Shape')
-            phase = 1
-            continue
-        words = line.split(b' ')
-        if b'' in words:
-            raise Bad(place, 'Shape')
-        head = words[0]
-        if phase == 1:
-            if head != b'siblings' or len(words) != 2:
-                raise Bad(place, 'Shape')
-            n = number(words[1], 1, 8)
-            if n is None:
-                raise Bad(place, 'Number')
-            s.siblings = n
-            phase = 2
-        elif phase == 2:
-            if head != b'limits' or len(words) != 4:
-                raise Bad(place, 'Shape')
-            got = [number(words[1], 1, 256), number(words[2], 1, 256), number(words[3], 8192, 2**63 - 1)]
-            if None in got:
-                raise Bad(place, 'Number')
-            s.limit, s.cookies, s.top = got
-            phase = 3
-        elif head == b'end' and len(words) == 1:
-            phase = 5
-        elif head == b'task' and phase == 3:
-            if len(words) != 15:
-                raise Bad(place, 'Shape')
-            shape = policy_shape(words[5], stage)
-            if shape is None:
-                raise Bad(place, 'Shape')
-            got = [number(w, 1, 9999) for w in words[1:4]]
-            got.append(number(words[4], 0, n - 1))
-            got.append(policy_value(shape))
-            got += [number(w, 0, 65535) for w in words[6:12]]
-            got += [number(w, 0, 1) for w in words[12:15]]
-            if None in got:
-                raise Bad(place, 'Number')
-            pid, tgid, pgid = got[:3]
-            if pid in pids:
-                raise Bad(place, 'Twice')
-            if tgid != pid:
-                leader = pids.get(tgid)
-                if leader is None or leader[0] != tgid or leader[1] != pgid:
-                    raise Bad(place, 'Leader')
-            if len(s.tasks) >= s.limit:
-                raise Bad(place, 'Full')
-            pids[pid] = (tgid, pgid)
-            s.tasks.append(tuple(got))
-        elif head == b'step':
-            phase = 4
-            if len(words) < 3 or words[1][:1] not in (b's', b'c'):
-                raise Bad(place, 'Shape')
-            kind, tail, name = words[1][:1], words[1][1:], words[2]
-            if kind == b's':
-                if name not in SIBLING_EVENTS or len(words) != 3 or (stage == 'r4' and name == b'tick'):
-                    raise Bad(place, 'Shape')
-                i = number(tail, 0, n - 1)
-                if i is None:
-                    raise Bad(place, 'Number')
-                event = (name.decode(), i)
-            else:
-                form = CALLER_EVENTS.get(name)
-                if form is None or (name in SINCE_R7 and stage != 'r7') or (stage == 'r4' and name == b'advance'):
-                    raise Bad(place, 'Shape')
-                if len(words) != 3 + len(form):
-                    raise Bad(place, 'Shape')
-                event = [name.decode()]
-                faulty = number(tail, 0, 7) is None
-                for want, word in zip(form, words[3:]):
-                    if want == 'how':
-                        if word not in (b'thread', b'process'):
-                            raise Bad(place, 'Shape')
-                        value = word.decode()
-                    elif want == 'policy':
-                        shape = policy_shape(word, stage)
-                        if shape is None:
-                            raise Bad(place, 'Shape')
-                        value = policy_value(shape)
-                    elif want == 'n':
-                        value = number(word, 0, n - 1)
-                    else:
-                        value = number(word, *want)
-                    faulty = faulty or value is None
-                    event.append(value)
-                if faulty:
-                    raise Bad(place, 'Number')
-                event = tuple(event)
-            if len(s.steps) >= MAX_STEPS:
-                raise Bad(place, 'Full')
-            s.steps.append((words[1].decode(), event, b' '.join(words[1:]).decode()))
-        else:
-            raise Bad(place, 'Shape')
-    if phase == 5:
-        if rest:
-            raise Bad(len(lines) + 1, 'After')
-    else:
-        raise Bad(len(lines) + 1, 'Cut')
-    return s
+        try:
+            reader.take(line)
+        except Bad as bad:
+            bad.line = place
+            raise
+    if reader.take != reader.take_nothing:
+        raise Bad('Cut', len(lines) + 1)
+    if rest:
+        raise Bad('After', len(lines) + 1)
+    return reader.s
 
 
 # ---------------------------------------------------------------- the machine
@@ -262,9 +283,10 @@ def first_of(tasks):
 
 
 class Room:
-    def __init__(self, s, stage='r7', guards=0, stats=None, check=True):
-        self.s, self.stage, self.guards, self.check = s, stage, guards, check
-        self.full = stage == 'r7'
+    """The core, its tasks, and what was played. Where `check` is set, each entry asserts what is proved."""
+
+    def __init__(self, s, stats=None, check=True):
+        self.s, self.check = s, check
         self.stats = Counter() if stats is None else stats
         self.n = s.siblings
         self.clock = 0
@@ -281,7 +303,7 @@ class Room:
         self.intervals = []         # (from, to, count, occupation, pids)
         self.sib = [Sibling(i) for i in range(self.n)]
         self.task_number = self.pick_number = 0     # kept, as the room has them
-        self.touches = []                           # by the table of D9, one per entry
+        self.touches = []                           # by the table of touches, one per entry
         self.last_selected = None                   # place of the last entry with a Selected pick
         self.entries = []
         self.note_touches = 0
@@ -385,7 +407,7 @@ class Room:
         x = self.sib[i]
         by_numbers = self.pick_number == self.task_number and x.number != self.pick_number and x.waiting is not NONE
         by_history = not self.dirty and x.waiting is not NONE and self.fresh()
-        assert by_numbers == by_history, 'L3'
+        assert by_numbers == by_history, 'the numbers tell whether a selection is fresh'
         return by_numbers
 
     def schedule(self, i):
@@ -411,7 +433,7 @@ class Room:
                 self.select(i, forced_before)
         x.pending = False
         x.ran = 0
-        if self.full and self.count != 0 and x.run is None and self.core != 0 and self.queued(i):
+        if self.count != 0 and x.run is None and self.core != 0 and self.queued(i):
             x.place = 1
         self.pick_kind = kind
         self.stats['pick ' + kind] += 1
@@ -420,9 +442,8 @@ class Room:
         run = 'idle' if x.run is None else str(x.run.pid)
         return '%s %s core %d forced %d' % (kind, run, self.core, self.count)
 
-    def select(self, i, forced_before):
-        order = [self.sib[(i + k) % self.n] for k in range(self.n)]
-        order = [x for x in order if x.online]
+    def lead_of(self, order):
+        """The earliest first of these siblings than which no other is higher."""
         firsts = [self.first(x.i) for x in order]
         lead = firsts[0]
         for t in firsts[1:]:
@@ -430,67 +451,73 @@ class Room:
                 lead = t
             elif t is not None and lead is not None and not self.higher(lead, t):
                 self.stats['lead: tie'] += 1
-        # L1, and D6's words: the earliest than which none is higher. They must come to the same where
-        # "higher" is a strict weak order on these.
+        # One pass finds the lead only where "higher" is a strict weak order on the firsts.
         by_words = [t for t in firsts if not any(self.higher(u, t) for u in firsts if u is not t)]
-        assert by_words and by_words[0] is lead, 'D6'
-        k = 0 if lead is None else lead.cookie
-        self.core = k
-        choices = {}
-        eligible = set()
-        for x in order:
-            head = self.first(x.i)
-            queue = self.queued(x.i)
-            if head is None or head.cookie == k:
-                choice = head
-            elif k != 0:
-                choice = first_of([t for t in queue if t.cookie == k])
-                if choice is not None:
-                    self.stats['choice: cookie search'] += 1
-            else:
-                choice = None
-                if any(t.cookie == 0 for t in queue):
-                    self.stats['choice: core 0 idles past a task without cookie'] += 1
-            choices[x.i] = choice
-            if k != 0 and any(t.cookie == k for t in queue):
-                eligible.add(x.i)
-            if k == 0 and head is not None and head.cookie == 0:
-                eligible.add(x.i)
+        assert by_words and by_words[0] is lead, 'the lead is the earliest than which none is higher'
+        return lead
+
+    def choice_of(self, x, k):
+        """What a sibling gets for core cookie k."""
+        head = self.first(x.i)
+        if head is None or head.cookie == k:
+            return head
+        queue = self.queued(x.i)
+        if k == 0:
+            if any(t.cookie == 0 for t in queue):
+                self.stats['choice: core 0 idles past a task without cookie'] += 1
+            return None
+        choice = first_of([t for t in queue if t.cookie == k])
+        if choice is not None:
+            self.stats['choice: cookie search'] += 1
+        return choice
+
+    def has_eligible(self, x, k):
+        if k != 0:
+            return any(t.cookie == k for t in self.queued(x.i))
+        head = self.first(x.i)
+        return head is not None and head.cookie == 0
+
+    def select(self, i, forced_before):
+        order = [self.sib[(i + k) % self.n] for k in range(self.n)]
+        order = [x for x in order if x.online]
+        lead = self.lead_of(order)
+        k = self.core = 0 if lead is None else lead.cookie
+        choices = {x.i: self.choice_of(x, k) for x in order}
         forced = [x.i for x in order if choices[x.i] is None and self.queued(x.i)]
-        assert not (set(forced) & eligible), 'L5'
+        assert all(not self.has_eligible(self.sib[j], k) for j in forced), 'idle is forced where none is eligible'
         assert all(c is None or c.cookie == k for c in choices.values())
         self.count = len(forced)
         self.occupation = sum(1 for c in choices.values() if c is not None)
-        assert self.count == 0 or self.occupation != 0, 'L5'
-        for x in order:
-            c = choices[x.i]
-            if c is None:
-                x.remembered = self.occupation
-            else:
-                c.remembered = self.occupation
+        assert self.count == 0 or self.occupation != 0, 'the occupation is not 0 while the count is not'
         if self.count != 0 and k != 0:
             self.start = self.clock
         self.pick_number = self.task_number
-        keep = forced_before and self.count != 0
         for x in order:
-            c = choices[x.i]
-            if c is not None and c.cls == FAIR:
-                if keep:
-                    if x.snapshot != x.least:
-                        self.stats['snapshot: kept old'] += 1
-                else:
-                    x.snapshot = x.least
-        for x in order:
-            c = choices[x.i]
-            if x.i == i:
-                x.run, x.waiting, x.number = c, NONE, self.pick_number
-            elif x.run is c:
-                x.waiting = NONE
-                if x.pending:
-                    self.stats['selected: other keeps a set flag'] += 1
-            else:
-                x.waiting = c
-                x.pending = True
+            self.remember(x, choices[x.i], forced_before and self.count != 0)
+            self.tell(x, choices[x.i], x.i == i)
+
+    def remember(self, x, c, keep):
+        """The occupation, and the snapshot of a sibling that gets a fair task, unless they are kept."""
+        if c is None:
+            x.remembered = self.occupation
+        else:
+            c.remembered = self.occupation
+        if c is not None and c.cls == FAIR:
+            if not keep:
+                x.snapshot = x.least
+            elif x.snapshot != x.least:
+                self.stats['snapshot: kept old'] += 1
+
+    def tell(self, x, c, selects):
+        if selects:
+            x.run, x.waiting, x.number = c, NONE, self.pick_number
+        elif x.run is c:
+            x.waiting = NONE
+            if x.pending:
+                self.stats['selected: other keeps a set flag'] += 1
+        else:
+            x.waiting = c
+            x.pending = True
 
     # ---- queueing
 
@@ -548,19 +575,20 @@ class Room:
         return True
 
     def prctl(self, p, cmd, target, scope, addr):
-        row, answer = self.prctl_row(p, cmd, target, scope, addr)
+        c = self.tasks.get(p)
+        t = c if target == 0 else self.tasks.get(target)
+        row, answer = self.row_before(c, t, cmd, target, scope, addr) or self.row_after(c, t, cmd, scope)
         self.stats['prctl row %d' % row] += 1
         return answer
 
-    def prctl_row(self, p, cmd, target, scope, addr):
-        c = self.tasks.get(p)
+    def row_before(self, c, t, cmd, target, scope, addr):
+        """The first row that applies before a cookie is made, and its answer; None where none does."""
         if c is None:
             return 1, 'NoCaller'
         if len(self.online()) < 2:
             return 2, 'ENODEV'
         if scope > 2 or cmd > 3 or target < 0 or (addr != 0 and cmd != 0):
             return 3, 'EINVAL'
-        t = c if target == 0 else self.tasks.get(target)
         if t is None:
             return 4, 'ESRCH'
         if not self.may_access(c, t):
@@ -571,11 +599,14 @@ class Room:
             if addr < 4096 or addr > self.s.top - 8:
                 return 7, 'EFAULT'
             return 8, '0 value %d' % t.cookie
-        new = None
+        if cmd == 1 and len({x.cookie for x in self.tasks.values() if x.cookie != 0}) == self.s.cookies:
+            return 9, 'ENOMEM'
+        return None
+
+    def row_after(self, c, t, cmd, scope):
+        """A cookie is made where one is asked for; then the first row that applies, and its answer."""
+        new = c.cookie
         if cmd == 1:
-            live = {x.cookie for x in self.tasks.values() if x.cookie != 0}
-            if len(live) == self.s.cookies:
-                return 9, 'ENOMEM'
             new = self.next_cookie
             self.next_cookie += 1
         if cmd == 3:
@@ -583,19 +614,13 @@ class Room:
                 return 10, 'EINVAL'
             self.set_cookie(c, t.cookie)
             return 11, '0'
-        if scope == 0:
-            members = [t]
-        elif scope == 1:
-            members = [x for x in self.tasks.values() if x.tgid == t.tgid]
-        else:
-            members = [x for x in self.tasks.values() if x.pgid == t.pgid]
+        members = [x for x in self.tasks.values()
+                   if (x is t, x.tgid == t.tgid, x.pgid == t.pgid)[scope]]
         members.sort(key=lambda x: x.pid)
         if scope != 0:
             for m in members:
                 if not self.may_access(c, m):
                     return 12, 'EPERM'
-        if cmd == 2:
-            new = c.cookie
         for m in members:
             self.set_cookie(m, new)
         return 13, '0'
@@ -832,23 +857,24 @@ class Room:
         for x in self.sib:
             q = self.queued(x.i)
             if x.online:
-                assert x.pending or x.run is None or x.run.cookie == self.core, 'L2'
+                assert x.pending or x.run is None or x.run.cookie == self.core, 'the trust rule'
             else:
-                assert not q and x.run is None and not x.pending and x.waiting is NONE and x.place == 0, 'L4 offline'
+                is_bare = not q and x.run is None and not x.pending and x.waiting is NONE and x.place == 0
+                assert is_bare, 'an offline sibling has nothing'
             if x.run is not None:
-                assert x.run in q, 'L4 run queued'
+                assert x.run in q, 'what runs is queued'
                 running.add(x.run.pid)
             if x.waiting is not NONE:
-                assert x.pending, 'L4 waiting pending'
-                assert x.waiting is None or x.waiting in q, 'L4 waiting queued'
-                assert x.waiting is None or x.waiting is not x.run, 'L4 waiting not running'
+                assert x.pending, 'where something waits, the sibling is pending'
+                assert x.waiting is None or x.waiting in q, 'what waits is queued'
+                assert x.waiting is None or x.waiting is not x.run, 'what waits does not run'
                 if fresh:
-                    assert x.waiting is None or x.waiting.cookie == self.core, 'L4 fresh'
+                    assert x.waiting is None or x.waiting.cookie == self.core, 'what waits and is fresh has the core cookie'
             assert x.snapshot < BOUND and x.least < BOUND
         for t in self.tasks.values():
             assert t.v < BOUND
             assert self.sib[t.home].online or not t.queued
-        assert self.count == 0 or self.occupation != 0, 'L5'
+        assert self.count == 0 or self.occupation != 0, 'the occupation is not 0 while the count is not'
         assert self.start is None or (self.count != 0 and self.core != 0)
         assert len(self.tasks) <= self.s.limit
         assert len({t.cookie for t in self.tasks.values() if t.cookie}) <= self.s.cookies
@@ -864,16 +890,16 @@ class Room:
             self.apply(('resched', i), 'end resched %d' % i)
             self.stats['drain entry'] += 1
             bound -= 1
-            assert bound >= 0, 'L7'
+            assert bound >= 0, 'as many entries as the square of the siblings end a run'
 
     # ---- output
 
     def check_end(self):
-        assert self.task_number == sum(self.touches), 'D11 task number'
+        assert self.task_number == sum(self.touches), 'the task number is the sum'
         if self.last_selected is None:
             assert self.pick_number == 0
         else:
-            assert self.pick_number == sum(self.touches[:self.last_selected + 1]), 'D11 pick number'
+            assert self.pick_number == sum(self.touches[:self.last_selected + 1]), 'the pick number is the sum'
         totals = Counter()
         for frm, to, count, occ, who in self.intervals:
             delta = to - frm
@@ -881,7 +907,7 @@ class Room:
             for pid in who:
                 totals[pid] += share
         for t in list(self.tasks.values()) + self.ended:
-            assert t.total == totals[t.pid], 'L6'
+            assert t.total == totals[t.pid], 'a total is the sum of the shares'
 
     def report(self):
         out = ['report', 'clock %d' % self.clock, 'numbers %d %d' % (self.task_number, self.pick_number),
@@ -896,8 +922,6 @@ class Room:
                 pid, t.home, 'queued' if t.queued else 'asleep', t.cookie, t.total, t.v))
         for t in self.ended:
             out.append('ended %d forced %d' % (t.pid, t.total))
-        for k in range(self.guards):
-            out.append('guard %d bench asked 0' % k)
         out.append('done')
         return out
 
@@ -913,44 +937,31 @@ def reply_kind(reply):
     return words[0]
 
 
-def output(s, stage='r7', guards=0, stats=None, check=True, done=True):
-    room = Room(s, stage, guards, stats, check)
+def output(s, stats=None, check=True):
+    room = Room(s, stats, check)
     for _, event, text in s.steps:
         room.apply(event, text)
-    if stage == 'r7':
-        room.drain()
-        assert not any(x.online and x.pending for x in room.sib)
+    room.drain()
+    assert not any(x.online and x.pending for x in room.sib), 'nobody is pending at the end'
     room.check_end()
-    out = list(room.entries)
-    if stage in ('r6', 'r7'):
-        out += room.report()
-    elif done:
-        out.append('done')
-    return ''.join(line + '\n' for line in out).encode()
+    return ''.join(line + '\n' for line in room.entries + room.report()).encode()
 
 
-def replay(data, stage='r7', guards=0, stats=None, check=True, done=True, faults='kinds'):
-    """(status, standard output, standard error) of `coresched replay`."""
+def replay(data, stats=None, check=True):
+    """(status, standard output, standard error) of `coresched replay`, with the line and the kind of a bad text."""
     try:
-        s = read(data, stage)
+        s = read(data)
     except TooLong:
         return 2, b'', b'coresched: input too long\n'
-    except Bad as e:
-        line, kind = (e.line, e.kind) if faults == 'kinds' else (0, 'Unbuilt')
-        return 2, b'', ('coresched: line %d: %s\n' % (line, kind)).encode()
-    return 0, output(s, stage, guards, stats, check, done), b''
+    except Bad as bad:
+        return 2, b'', ('coresched: line %d: %s\n' % (bad.line, bad.kind)).encode()
+    return 0, output(s, stats, check), b''
 
 
 def main():
-    import argparse
-    p = argparse.ArgumentParser()
-    p.add_argument('--stage', default='r7', choices=['r4', 'r5', 'r6', 'r7'])
-    p.add_argument('--guards', type=int, default=0)
-    p.add_argument('--faults', default='kinds', choices=['kinds', 'unbuilt'])
-    p.add_argument('--no-done', action='store_true', help='stage r5: no line `done` after the entries')
-    a = p.parse_args()
-    status, out, err = replay(sys.stdin.buffer.read(MAX_INPUT + 1), a.stage, a.guards, None, True,
-                              not a.no_done, a.faults)
+    if len(sys.argv) > 1:
+        sys.exit('reference.py takes no words; it reads a scenario from standard input')
+    status, out, err = replay(sys.stdin.buffer.read(MAX_INPUT + 1))
     sys.stdout.buffer.write(out)
     sys.stdout.buffer.flush()
     sys.stderr.buffer.write(err)
