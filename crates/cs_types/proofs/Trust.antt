@@ -1,6 +1,6 @@
 -- Trust: after every legal history each sibling has what it is to have, and the trust rule holds.
-use Rattle.std.proofs.Common.{◌≡◌, ℕ, zero, suc, ◌<◌, All, Bool, true, false, List, [], ◌∷◌, ◌++◌, map, length, get_or, refl, sym, ap, ◌∙◌, subst, inl, inr, arith, Option, Some, None}
-use Rattle.std.specs.Prelude.{◌⊎◌, ◌==◌, ◌&&◌, Contains, filter, fold, replicate}
+use Rattle.std.proofs.Common.{◌≡◌, ◌≢◌, ℕ, zero, suc, ◌<◌, Bool, true, false, List, [], ◌∷◌, ◌++◌, map, length, get_or, refl, sym, ap, ◌∙◌, subst, inl, inr, arith, Option, Some, None}
+use Rattle.std.specs.Prelude.{◌⊎◌, ◌==◌, ◌&&◌, IsSomeAnd, Contains, filter, fold, replicate}
 use Rattle.std.specs.List.{AllByRecursion}
 use Rattle.std.specs.Option.{IfSome, option_map, option_and_then}
 use Rattle.std.proofs.lemmas.Bool.{cases_Bool, cond_both, cond-false, and_from, and_left, and_right, eq-eqb, eqb-true, both_ways, false_from_ne_true}
@@ -16,12 +16,11 @@ use Rattle.cs_types.specs.declared.reply.Entry.{Entry}
 use Rattle.cs_types.specs.declared.scenario.Scenario.{Scenario}
 use Rattle.cs_types.specs.Scenario.{IsEvent, IsPlayable}
 use Rattle.cs_types.specs.Room.{RoomState, SiblingState, idle, absent, has_pid, asleep, inserted, asleep_tasks, start, queued_on, sibling_of, running_on, is_online, online, task_of}
-use Rattle.cs_types.specs.Selection.{cookie_of}
 use Rattle.cs_types.specs.Step.{Stepped, step, unless_offline}
 use Rattle.cs_types.specs.Touches.{is_fresh}
-use Rattle.cs_types.specs.History.{History, Moment, beginning, step_at, next, after, moment_of, fold_of, IsLegal}
+use Rattle.cs_types.specs.History.{History, Moment, beginning, step_at, next, after, moment_of, fold_of, AreEvents, IsLegal}
 use Rattle.cs_types.specs.Drain.{pending}
-use Rattle.cs_types.specs.Laws.{IsSettled, RunOneCookie, pids_on, IsOrdered}
+use Rattle.cs_types.specs.Laws.{RunsWithCookie, IsSettled, RunOneCookie, pids_on, IsOrdered}
 use Rattle.cs_types.proofs.Foremost.{find_passes, each_weaker}
 use Rattle.cs_types.proofs.Filtered.{each_found, Contains-filter}
 use Rattle.cs_types.proofs.Rising.{AreRising, rising-step, rising-fold_of}
@@ -124,7 +123,7 @@ holds_beginning scenario keeps =
             absurd (both_ways task.queued (each_found (λ t. t.queued ≡ false) (has_pid pid) (asleep_tasks scenario.tasks) task e (all_asleep [] scenario.tasks tt)) queued)
 
 -- It holds after every legal history.
-pub holds-moment_of : (scenario : Scenario) (history : History) → IsPlayable scenario → All (λ entry. IsEvent scenario.siblings entry.event) history → IsLegal scenario history →
+pub holds-moment_of : (scenario : Scenario) (history : History) → IsPlayable scenario → AreEvents scenario history → IsLegal scenario history →
     Holds (moment_of scenario history)
 holds-moment_of scenario history keeps limits legal =
     holds_after scenario.siblings (beginning scenario) history (length-replicate scenario.siblings idle)
@@ -186,40 +185,44 @@ ordered_at moment cpu holds =
       with_task (Some pid) same = of_found (task_of moment.room pid) same
 
 -- After every legal history each sibling has what it is to have.
-pub ordered-moment_of : (scenario : Scenario) (history : History) → IsPlayable scenario → All (λ entry. IsEvent scenario.siblings entry.event) history →
+pub ordered-moment_of : (scenario : Scenario) (history : History) → IsPlayable scenario → AreEvents scenario history →
     IsLegal scenario history → (cpu : ℕ) → cpu < scenario.siblings → IsOrdered (moment_of scenario history) cpu
 ordered-moment_of scenario history keeps limits legal cpu below = ordered_at (moment_of scenario history) cpu (holds-moment_of scenario history keeps limits legal)
 
 -- ---- the trust rule
 
+-- Where the task with a pid is queued on a sibling, it is living. So it is a living one that has this cookie.
+has_cookie : (room : RoomState) (cookie cpu pid : ℕ) → IsAt cpu (spot_at room pid) → cookie_at (spot_at room pid) ≡ cookie →
+    IsSomeAnd (task_of room pid) (λ task. task.cookie ≡ cookie)
+has_cookie room cookie cpu pid here same = go (task_of room pid) here same where
+  go : (found : Option Task) → IsAt cpu (option_map spot_of found) → cookie_at (option_map spot_of found) ≡ cookie → IsSomeAnd found (λ task. task.cookie ≡ cookie)
+  go None here same = absurd here
+  go (Some task) here same = same
+
 settled_at : (moment : Moment) → Holds moment → IsSettled moment.room
 settled_at moment holds cpu held calm =
-    go (sibling_of moment.room cpu).run ((holds.fits cpu).trusted (online_parts moment.room cpu held).1 calm) where
-      found : (one : Option Task) → cookie_at (option_map spot_of one) ≡ moment.room.core_cookie → (one ≡ None) ⊎ (cookie_of one ≡ moment.room.core_cookie)
-      found None same = inl refl
-      found (Some task) same = inr same
+    go (sibling_of moment.room cpu).run (holds.fits cpu).runs ((holds.fits cpu).trusted (online_parts moment.room cpu held).1 calm) where
+      go : (run : Option ℕ) → IfSome run (λ pid. IsAt cpu (spot_at moment.room pid)) → IfSome run (λ pid. cookie_at (spot_at moment.room pid) ≡ moment.room.core_cookie) →
+          (run ≡ None) ⊎ IsSomeAnd (option_and_then (task_of moment.room) run) (λ task. task.cookie ≡ moment.room.core_cookie)
+      go None here same = inl refl
+      go (Some pid) here same = inr (has_cookie moment.room moment.room.core_cookie cpu pid here same)
 
-      go : (run : Option ℕ) → IfSome run (λ pid. cookie_at (spot_at moment.room pid) ≡ moment.room.core_cookie) →
-          (option_and_then (task_of moment.room) run ≡ None) ⊎ (cookie_of (option_and_then (task_of moment.room) run) ≡ moment.room.core_cookie)
-      go None same = inl refl
-      go (Some pid) same = found (task_of moment.room pid) same
-
--- After every legal history each online sibling that is not pending runs idle or a task with the core cookie.
-pub settled-moment_of : (scenario : Scenario) (history : History) → IsPlayable scenario → All (λ entry. IsEvent scenario.siblings entry.event) history →
+-- After every legal history each online sibling that is not pending runs idle or a living task with the core cookie.
+pub settled-moment_of : (scenario : Scenario) (history : History) → IsPlayable scenario → AreEvents scenario history →
     IsLegal scenario history → IsSettled (fold_of scenario history)
 settled-moment_of scenario history keeps limits legal = settled_at (moment_of scenario history) (holds-moment_of scenario history keeps limits legal)
 
--- Where the rule holds and no online sibling is pending, all that run a task run tasks with one cookie.
+-- Where the rule holds and no online sibling is pending, all that do not run idle run living tasks with one cookie.
 pub one_cookie : (room : RoomState) → IsSettled room → pending room ≡ [] → RunOneCookie room
-one_cookie room settled calm a b first second held_a held_b runs_a runs_b = its a first held_a runs_a ∙ sym (its b second held_b runs_b) where
+one_cookie room settled calm a b held_a held_b runs_a runs_b = both (running_on room a) (its a held_a runs_a) where
   quiet : (cpu : ℕ) → Contains (online room) cpu → (sibling_of room cpu).pending ≡ false
   quiet cpu held =
       false_from_ne_true (sibling_of room cpu).pending (λ is.
       let one = subst (λ cpus. Contains cpus cpu) calm (Contains-filter (λ n. (sibling_of room n).pending) (online room) cpu held is) in omega (arith, one.1))
 
-  of_rule : (one : Option Task) (task : Task) → one ≡ Some task → (one ≡ None) ⊎ (cookie_of one ≡ room.core_cookie) → task.cookie ≡ room.core_cookie
-  of_rule one task runs (inl none) = let bad : Some task ≡ None = sym runs ∙ none in absurd cc
-  of_rule one task runs (inr same) = ap cookie_of (sym runs) ∙ same
+  its : (cpu : ℕ) → Contains (online room) cpu → (sibling_of room cpu).run ≢ None → RunsWithCookie room room.core_cookie cpu
+  its cpu held runs = elim (settled cpu held (quiet cpu held)) [ inl none ↦ absurd (runs none) | inr same ↦ same ]
 
-  its : (cpu : ℕ) (task : Task) → Contains (online room) cpu → running_on room cpu ≡ Some task → task.cookie ≡ room.core_cookie
-  its cpu task held runs = of_rule (running_on room cpu) task runs (settled cpu held (quiet cpu held))
+  both : (one : Option Task) → IsSomeAnd one (λ task. task.cookie ≡ room.core_cookie) → IsSomeAnd one (λ task. RunsWithCookie room task.cookie b)
+  both None is = absurd is
+  both (Some task) is = subst (λ cookie. RunsWithCookie room cookie b) (sym is) (its b held_b runs_b)

@@ -1,5 +1,5 @@
 -- Laws: what the rules come to, said without them.
-use Rattle.std.specs.Prelude.{◌≡◌, ◌↔◌, ℕ, ◌<◌, true, false, ◌⊎◌, List, [], map, length, count_by, All, Contains, IsTrue, Option, Some, None, IfSome, unwrap_or}
+use Rattle.std.specs.Prelude.{◌≡◌, ◌≢◌, ◌↔◌, ℕ, ◌<◌, true, false, ◌⊎◌, List, [], map, length, count_by, All, Contains, IsTrue, Option, Some, None, IfSome, IsSomeAnd, unwrap_or}
 use Rattle.std.specs.Option.{option_map_or, option_and_then}
 use Rattle.cs_types.specs.declared.task.Task.{Task}
 use Rattle.cs_types.specs.declared.event.Event.{Event}
@@ -53,17 +53,23 @@ pub record SelectsForTheCore (before : RoomState) (cpu : ℕ) (pick : Pick) (now
 
 -- ---- the trust rule
 
--- Each online sibling without a pending reschedule runs idle or a task with the core cookie.
+-- A sibling runs a living task with this cookie.
+abbrev pub RunsWithCookie : RoomState → ℕ → ℕ → Type 0
+RunsWithCookie room cookie cpu = IsSomeAnd (running_on room cpu) (λ task. task.cookie ≡ cookie)
+
+-- Each online sibling without a pending reschedule runs idle or a living task with the core cookie.
 abbrev pub IsSettled : RoomState → Type 0
 IsSettled room =
     (cpu : ℕ) → Contains (online room) cpu → (sibling_of room cpu).pending ≡ false →
-    (running_on room cpu ≡ None) ⊎ (cookie_of (running_on room cpu) ≡ room.core_cookie)
+    ((sibling_of room cpu).run ≡ None) ⊎ RunsWithCookie room room.core_cookie cpu
 
--- No two tasks that online siblings run differ in their cookies. So it is wherever the rule holds and none is pending.
+-- Any two online siblings that do not run idle run living tasks with one cookie. So it is wherever the rule holds and none
+-- is pending.
 abbrev pub RunOneCookie : RoomState → Type 0
 RunOneCookie room =
-    (a b : ℕ) (first second : Task) → Contains (online room) a → Contains (online room) b →
-    running_on room a ≡ Some first → running_on room b ≡ Some second → first.cookie ≡ second.cookie
+    (a b : ℕ) → Contains (online room) a → Contains (online room) b →
+    (sibling_of room a).run ≢ None → (sibling_of room b).run ≢ None →
+    IsSomeAnd (running_on room a) (λ task. RunsWithCookie room task.cookie b)
 
 -- ---- what a sibling has
 

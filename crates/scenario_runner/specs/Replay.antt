@@ -24,13 +24,13 @@ pub record IsPlayed (scenario : Scenario) (run : History) : Type 0 where
   -- it is legal, and each sibling and each caller made its script in it
   pub legal : IsLegal scenario run
   pub scripts : (actor : Actor) → actor ≢ End → events_by actor run ≡ script scenario actor
-  -- at each moment of it each online sibling without a pending reschedule runs idle or a task with the core cookie
+  -- at each moment of it each online sibling without a pending reschedule runs idle or a living task with the core cookie
   pub trust : (past rest : History) → run ≡ past ++ rest → IsSettled (fold_of scenario past)
   -- each selection for the core takes a highest task, and gives each sibling only a task with its cookie, or idle
   pub selections : (past : History) (entry : Entry) (rest : History) → run ≡ past ++ entry ∷ rest →
       IfSome (selection_of entry.reply) (λ pick.
       SelectsForTheCore (scheduling_room (fold_of scenario past) entry.event) (cpu_of entry.event) pick (fold_of scenario (past ++ entry ∷ [])))
-  -- at its end no sibling is pending, and no two running tasks differ in cookie
+  -- at its end no sibling is pending, and all that do not run idle run living tasks with one cookie
   pub nobody_pending : pending (fold_of scenario run) ≡ []
   pub one_cookie : RunOneCookie (fold_of scenario run)
 
