@@ -51,7 +51,7 @@ run_then : (run : Option ℕ) (P Q R : ℕ → Type 0) → ((pid : ℕ) → run 
 run_then None P Q R step ps qs = tt
 run_then (Some pid) P Q R step ps qs = step pid refl ps qs
 
-waiting_then : (waiting : Waiting) (P Q R : ℕ → Type 0) → ((pid : ℕ) → waiting ≡ Some (Some pid) → P pid → Q pid → R pid) →
+pub waiting_then : (waiting : Waiting) (P Q R : ℕ → Type 0) → ((pid : ℕ) → waiting ≡ Some (Some pid) → P pid → Q pid → R pid) →
     IfSome waiting (λ chosen. IfSome chosen P) → IfSome waiting (λ chosen. IfSome chosen Q) → IfSome waiting (λ chosen. IfSome chosen R)
 waiting_then None P Q R step ps qs = tt
 waiting_then (Some None) P Q R step ps qs = tt

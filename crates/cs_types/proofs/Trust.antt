@@ -1,4 +1,4 @@
--- Trust: after every legal history each sibling has what it is to have, and the trust rule holds.
+-- Trust: after every legal history each sibling is consistent, and the trust rule holds.
 use Rattle.std.proofs.Common.{◌≡◌, ◌≢◌, ℕ, zero, suc, ◌<◌, Bool, true, false, List, [], ◌∷◌, ◌++◌, map, length, get_or, refl, sym, ap, ◌∙◌, subst, inl, inr, arith, Option, Some, None}
 use Rattle.std.specs.Prelude.{◌⊎◌, ◌==◌, ◌&&◌, IsSomeAnd, Contains, filter, fold, replicate}
 use Rattle.std.specs.List.{AllByRecursion}
@@ -20,7 +20,7 @@ use Rattle.cs_types.specs.Step.{Stepped, step, unless_offline}
 use Rattle.cs_types.specs.Touches.{is_fresh}
 use Rattle.cs_types.specs.History.{History, Moment, beginning, step_at, next, after, moment_of, fold_of, AreEvents, IsLegal}
 use Rattle.cs_types.specs.Drain.{pending}
-use Rattle.cs_types.specs.Laws.{RunsWithCookie, IsSettled, RunOneCookie, pids_on, IsOrdered}
+use Rattle.cs_types.specs.Laws.{RunsWithCookie, IsSettled, RunOneCookie, pids_on, IsConsistentAt}
 use Rattle.cs_types.proofs.Foremost.{find_passes, each_weaker}
 use Rattle.cs_types.proofs.Filtered.{each_found, Contains-filter}
 use Rattle.cs_types.proofs.Rising.{AreRising, rising-step, rising-fold_of}
@@ -29,7 +29,7 @@ use Rattle.cs_types.proofs.Selections.{online_parts}
 use Rattle.cs_types.proofs.Inserted.{each-inserted}
 use Rattle.cs_types.proofs.Spots.{spot_of, spot_at, each_is_found}
 use Rattle.cs_types.proofs.Homes.{IsHome, IsHoused, housed-step}
-use Rattle.cs_types.proofs.Fits.{IsAt, cookie_at, SiblingFits, AllFit, fits_running, fits_absent}
+use Rattle.cs_types.proofs.Fits.{IsAt, cookie_at, SiblingFits, AllFit, fits_running, fits_absent, waiting_then}
 use Rattle.cs_types.proofs.Freshness.{fresh_after, is_fresh-ledger_entry}
 use Rattle.cs_types.proofs.Orders.{StepFits, resched-fits, turned-fits, blocked-fits, exited-fits, woken-fits, forked-fits, ticked-fits, advanced-fits, set_policy-fits, taken_offline-fits, brought_online-fits}
 use Rattle.cs_types.proofs.Cookies.{prctl-fits}
@@ -129,7 +129,7 @@ holds-moment_of scenario history keeps limits legal =
     holds_after scenario.siblings (beginning scenario) history (length-replicate scenario.siblings idle)
     (recursion_from_All (λ entry. IsEvent scenario.siblings entry.event) history limits) legal (holds_beginning scenario keeps)
 
--- ---- what a sibling has
+-- ---- consistent siblings
 
 Contains-map : {X Y : Type 0} (f : X → Y) (xs : List X) (x : X) → Contains xs x → Contains (map f xs) (f x)
 Contains-map f xs x held = (held.0, subst (λ n. held.0 < n) (sym (length-map xs f)) held.1, get_or-map_default f xs held.0 x ∙ ap f held.2)
@@ -162,35 +162,6 @@ no_queue room cpu rises housed off =
       | inr isnt ↦ and_left task.queued (task.home == cpu) isnt
     ]) (each_is_found 0 room.next_pid room.tasks rises))
 
-ordered_at : (moment : Moment) (cpu : ℕ) → Holds moment → IsOrdered moment cpu
-ordered_at moment cpu holds =
-    let room = moment.room in
-    let sibling = sibling_of room cpu in
-    let its = holds.fits cpu in
-    record {
-      runs = IfSome_then sibling.run its.runs (pid_is_on room cpu);
-      waits = IfSome_then sibling.waiting its.waits (λ run queued. IfSome_then run queued (pid_is_on room cpu));
-      flagged = its.flags;
-      other = its.other;
-      fresh = λ is. IfSome_then sibling.waiting (its.agrees is) with_task;
-      offline = λ off. let gone = its.away off in (no_queue room cpu holds.rises holds.housed off, gone.0, gone.1, gone.2, gone.3);
-    } where
-      of_found : (found : Option Task) → cookie_at (option_map spot_of found) ≡ moment.room.core_cookie → IfSome found (λ task. task.cookie ≡ moment.room.core_cookie)
-      of_found None same = tt
-      of_found (Some task) same = same
-
-      with_task : (run : Option ℕ) → IfSome run (λ pid. cookie_at (spot_at moment.room pid) ≡ moment.room.core_cookie) →
-          IfSome (option_and_then (task_of moment.room) run) (λ task. task.cookie ≡ moment.room.core_cookie)
-      with_task None same = tt
-      with_task (Some pid) same = of_found (task_of moment.room pid) same
-
--- After every legal history each sibling has what it is to have.
-pub ordered-moment_of : (scenario : Scenario) (history : History) → IsPlayable scenario → AreEvents scenario history →
-    IsLegal scenario history → (cpu : ℕ) → cpu < scenario.siblings → IsOrdered (moment_of scenario history) cpu
-ordered-moment_of scenario history keeps limits legal cpu below = ordered_at (moment_of scenario history) cpu (holds-moment_of scenario history keeps limits legal)
-
--- ---- the trust rule
-
 -- Where the task with a pid is queued on a sibling, it is living. So it is a living one that has this cookie.
 has_cookie : (room : RoomState) (cookie cpu pid : ℕ) → IsAt cpu (spot_at room pid) → cookie_at (spot_at room pid) ≡ cookie →
     IsSomeAnd (task_of room pid) (λ task. task.cookie ≡ cookie)
@@ -198,6 +169,29 @@ has_cookie room cookie cpu pid here same = go (task_of room pid) here same where
   go : (found : Option Task) → IsAt cpu (option_map spot_of found) → cookie_at (option_map spot_of found) ≡ cookie → IsSomeAnd found (λ task. task.cookie ≡ cookie)
   go None here same = absurd here
   go (Some task) here same = same
+
+consistent_at : (moment : Moment) (cpu : ℕ) → Holds moment → IsConsistentAt moment cpu
+consistent_at moment cpu holds =
+    let room = moment.room in
+    let sibling = sibling_of room cpu in
+    let its = holds.fits cpu in
+    record {
+      running_is_queued = IfSome_then sibling.run its.runs (pid_is_on room cpu);
+      waiting_is_queued = IfSome_then sibling.waiting its.waits (λ run queued. IfSome_then run queued (pid_is_on room cpu));
+      waiting_is_pending = its.flags;
+      waiting_is_not_running = its.other;
+      waiting_has_the_core_cookie = λ is. waiting_then sibling.waiting (λ pid. IsAt cpu (spot_at room pid)) (λ pid. cookie_at (spot_at room pid) ≡ room.core_cookie)
+          (λ pid. IsSomeAnd (task_of room pid) (λ task. task.cookie ≡ room.core_cookie))
+          (λ pid waits here same. has_cookie room room.core_cookie cpu pid here same) its.waits (its.agrees is);
+      offline_is_empty = λ off. let gone = its.away off in (no_queue room cpu holds.rises holds.housed off, gone.0, gone.1, gone.2, gone.3);
+    }
+
+-- After every legal history each sibling is consistent.
+pub consistent-moment_of : (scenario : Scenario) (history : History) → IsPlayable scenario → AreEvents scenario history →
+    IsLegal scenario history → (cpu : ℕ) → cpu < scenario.siblings → IsConsistentAt (moment_of scenario history) cpu
+consistent-moment_of scenario history keeps limits legal cpu below = consistent_at (moment_of scenario history) cpu (holds-moment_of scenario history keeps limits legal)
+
+-- ---- the trust rule
 
 settled_at : (moment : Moment) → Holds moment → IsSettled moment.room
 settled_at moment holds cpu held calm =

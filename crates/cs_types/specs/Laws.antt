@@ -1,6 +1,6 @@
 -- Laws: what the rules come to, said without them.
 use Rattle.std.specs.Prelude.{◌≡◌, ◌≢◌, ◌↔◌, ℕ, ◌<◌, true, false, ◌⊎◌, List, [], map, length, count_by, All, Contains, IsTrue, Option, Some, None, IfSome, IsSomeAnd, unwrap_or}
-use Rattle.std.specs.Option.{option_map_or, option_and_then}
+use Rattle.std.specs.Option.{option_map_or}
 use Rattle.cs_types.specs.declared.task.Task.{Task}
 use Rattle.cs_types.specs.declared.event.Event.{Event}
 use Rattle.cs_types.specs.declared.event.Event.TheVariants.{Block, Exit}
@@ -71,27 +71,27 @@ RunOneCookie room =
     (sibling_of room a).run ≢ None → (sibling_of room b).run ≢ None →
     IsSomeAnd (running_on room a) (λ task. RunsWithCookie room task.cookie b)
 
--- ---- what a sibling has
+-- ---- consistent siblings
 
 -- the pids of the tasks queued on a sibling
 abbrev pub pids_on : RoomState → ℕ → List ℕ
 pids_on room cpu = map (λ task. task.spec.pid) (queued_on room cpu)
 
--- what a sibling with this state has at a moment
-pub record HasItsOwn (moment : Moment) (cpu : ℕ) (sibling : SiblingState) : Type 0 where
+-- A sibling with this state is consistent at a moment.
+pub record IsConsistent (moment : Moment) (cpu : ℕ) (sibling : SiblingState) : Type 0 where
   -- What it runs is queued on it.
-  pub runs : IfSome sibling.run (Contains (pids_on moment.room cpu))
+  pub running_is_queued : IfSome sibling.run (Contains (pids_on moment.room cpu))
   -- What waits for it is idle or queued on it. It is pending then, and does not run that already.
-  pub waits : IfSome sibling.waiting (λ run. IfSome run (Contains (pids_on moment.room cpu)))
-  pub flagged : IfSome sibling.waiting (λ run. sibling.pending ≡ true)
-  pub other : IfSome sibling.waiting (λ run. is_run sibling.run run ≡ false)
-  -- While the selection is fresh, what waits is idle or has the core cookie.
-  pub fresh : is_fresh moment.ledger ≡ true →
-      IfSome sibling.waiting (λ run. IfSome (option_and_then (task_of moment.room) run) (λ task. task.cookie ≡ moment.room.core_cookie))
+  pub waiting_is_queued : IfSome sibling.waiting (λ run. IfSome run (Contains (pids_on moment.room cpu)))
+  pub waiting_is_pending : IfSome sibling.waiting (λ run. sibling.pending ≡ true)
+  pub waiting_is_not_running : IfSome sibling.waiting (λ run. is_run sibling.run run ≡ false)
+  -- While the selection is fresh, what waits is idle or a living task with the core cookie.
+  pub waiting_has_the_core_cookie : is_fresh moment.ledger ≡ true →
+      IfSome sibling.waiting (λ run. IfSome run (λ pid. IsSomeAnd (task_of moment.room pid) (λ task. task.cookie ≡ moment.room.core_cookie)))
   -- An offline sibling has no queue and runs idle; it is not pending, nothing waits, and it tries no steal.
-  pub offline : sibling.online ≡ false →
+  pub offline_is_empty : sibling.online ≡ false →
       (queued_on moment.room cpu ≡ []) × (sibling.run ≡ None) × (sibling.pending ≡ false) × (sibling.waiting ≡ None) × (sibling.place ≡ 0)
 
--- A sibling has at a moment what it is to have.
-abbrev pub IsOrdered : Moment → ℕ → Type 0
-IsOrdered moment cpu = HasItsOwn moment cpu (sibling_of moment.room cpu)
+-- A sibling is consistent at a moment.
+abbrev pub IsConsistentAt : Moment → ℕ → Type 0
+IsConsistentAt moment cpu = IsConsistent moment cpu (sibling_of moment.room cpu)

@@ -8,7 +8,7 @@ ghost use Rattle.cs_types.specs.Touches.{task_number, pick_number, selection_of}
 ghost use Rattle.cs_types.specs.History.{History, moment_of, fold_of, ledger_of, reply_to, AreEvents, IsLegal};
 ghost use Rattle.cs_types.specs.Drain.{pending, IsDrained};
 ghost use Rattle.cs_types.specs.View.{core_view, cpu_view, task_view_after, end_view, IsTrusted};
-ghost use Rattle.cs_types.specs.Laws.{SelectsForTheCore, scheduling_room, cpu_of, IsOrdered, RunOneCookie};
+ghost use Rattle.cs_types.specs.Laws.{SelectsForTheCore, scheduling_room, cpu_of, IsConsistentAt, IsSettled, RunOneCookie};
 
 use crate::event::{Actor, Event};
 use crate::reply::{Entry, Reply};
@@ -103,11 +103,7 @@ pub trait Room: Drop {
         // online and not pending runs idle or a task with the core cookie. A pending one may still run a
         // task that no longer matches, until it takes its reschedule.
         ensures trust { let moment = moment_of (scenario self.now) (history self.now) in
-            IfSome result (IsTrusted (core_view moment) (task_view_after moment)) }
-
-        // What the sibling runs and what waits for it is queued on it, and an offline one does nothing.
-        ensures order { cpu < (scenario self.now).siblings →
-            IsOrdered (moment_of (scenario self.now) (history self.now)) cpu };
+            IfSome result (IsTrusted (core_view moment) (task_view_after moment)) };
 
     /// The living task with the least pid above this one. `None` exactly where there is none.
     fn task_after(&self, pid: Pid) -> Option<TaskView>
@@ -124,4 +120,14 @@ pub trait Room: Drop {
 
     /// Each reply so far is the one that the rules give at its place.
     ghost legal: { (room : Self) → IsLegal (scenario room) (history room) };
+
+    /// Each sibling is consistent: what it runs and what waits for it is queued on it, and an offline
+    /// one does nothing. The premises are what `siblings` and `length` promise.
+    ghost consistent: { (room : Self) → IsPlayable (scenario room) → AreEvents (scenario room) (history room) →
+        (cpu : ℕ) → cpu < (scenario room).siblings → IsConsistentAt (moment_of (scenario room) (history room)) cpu };
+
+    /// The trust rule: an online sibling that is not pending runs idle or a living task with the core
+    /// cookie.
+    ghost settled: { (room : Self) → IsPlayable (scenario room) → AreEvents (scenario room) (history room) →
+        IsSettled (fold_of (scenario room) (history room)) };
 }

@@ -82,6 +82,7 @@ impl PlainRoom {
 impl Room for PlainRoom {
     ghost use Rattle.cs_types.specs.History.{history_of};
     ghost use Rattle.cs_types.proofs.Histories.{IsLegal-history_of};
+    ghost use Rattle.cs_types.proofs.Trust.{consistent-moment_of, settled-moment_of};
 
     ghost scenario = { λ room. room.scenario };
 
@@ -165,4 +166,10 @@ impl Room for PlainRoom {
     }
 
     ghost legal = { λ room. IsLegal-history_of room.scenario room.steps };
+
+    ghost consistent = { λ room playable events. consistent-moment_of room.scenario
+        (history_of room.scenario room.steps) playable events (IsLegal-history_of room.scenario room.steps) };
+
+    ghost settled = { λ room playable events. settled-moment_of room.scenario
+        (history_of room.scenario room.steps) playable events (IsLegal-history_of room.scenario room.steps) };
 }

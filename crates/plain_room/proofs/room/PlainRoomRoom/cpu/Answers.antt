@@ -8,7 +8,6 @@ use Rattle.plain_room.specs.declared.sibling.Sibling.{Sibling}
 use Rattle.plain_room.specs.State.{sibling_view}
 use Rattle.cs_types.proofs.Histories.{IsLegal-history_of}
 use Rattle.cs_types.proofs.Shown.{trusted-cpu_view}
-use Rattle.cs_types.proofs.Trust.{ordered-moment_of}
 use Rattle.plain_room.proofs.Playable.{playable_of, events_of}
 use Rattle.plain_room.proofs.Views.{sibling_shown}
 use Rattle.plain_room.proofs.room.PlainRoomRoom.cpu.Goals as goal
@@ -34,9 +33,3 @@ returns-clause-trust c =
     subst (λ shown. IfSome shown (IsTrusted (core_view moment) (task_view_after moment))) (sym (returns-clause-view c))
     (trusted-cpu_view m.scenario (history_of m.scenario m.steps) (playable_of c.self.inside c.self.invariant m c.self.view_is)
     (events_of c.self.inside c.self.invariant m c.self.view_is) (IsLegal-history_of m.scenario m.steps) c.args.cpu)
-
-pub returns-clause-order : goal.returns-clause-order
-returns-clause-order c below =
-    let m = c.args.self.now in
-    ordered-moment_of m.scenario (history_of m.scenario m.steps) (playable_of c.self.inside c.self.invariant m c.self.view_is)
-    (events_of c.self.inside c.self.invariant m c.self.view_is) (IsLegal-history_of m.scenario m.steps) c.args.cpu below
