@@ -29,3 +29,4 @@ pub mod Trust
 pub mod Shown
 pub mod BalancePlaces
 pub mod Codes
+pub mod Refusals

@@ -1,13 +1,16 @@
 -- Laws: what the rules come to, said without them.
-use Rattle.std.specs.Prelude.{◌≡◌, ◌≢◌, ◌↔◌, ℕ, ◌<◌, true, false, ◌⊎◌, List, [], map, length, count_by, All, Contains, IsTrue, Option, Some, None, IfSome, IsSomeAnd, unwrap_or}
+use Rattle.std.specs.Prelude.{◌≡◌, ◌≢◌, ◌↔◌, ℕ, ◌+◌, ◌<◌, Bool, true, false, ◌⊎◌, List, [], map, length, count_by, All, Contains, IsTrue, Option, Some, None, IfSome, IsSomeAnd, unwrap_or}
 use Rattle.std.specs.Option.{option_map_or}
 use Rattle.cs_types.specs.declared.task.Task.{Task}
 use Rattle.cs_types.specs.declared.event.Event.{Event}
-use Rattle.cs_types.specs.declared.event.Event.TheVariants.{Block, Exit}
+use Rattle.cs_types.specs.declared.event.Event.TheVariants.{Block, Exit, Prctl}
 use Rattle.cs_types.specs.declared.reply.Pick.{Pick}
+use Rattle.cs_types.specs.declared.reply.Reply.{Reply}
+use Rattle.cs_types.specs.declared.reply.Reply.TheVariants.{Offline, Idle, HasThreads, NoTask, Awake, NoCaller, Refused, Already}
 use Rattle.cs_types.specs.Room.{RoomState, SiblingState, queued_on, task_of, sibling_of, running_on, online, online_from}
 use Rattle.cs_types.specs.Order.{foremost, outranks, first_of}
 use Rattle.cs_types.specs.Selection.{is_run, to_run, first_on, cookie_of, pid_of, snapshot_of, choice, eligible, is_forced}
+use Rattle.cs_types.specs.Prctl.{is_create}
 use Rattle.cs_types.specs.Touches.{scheduler_of, is_fresh}
 use Rattle.cs_types.specs.History.{Moment}
 use Rattle.cs_types.specs.Step.{without, idled}
@@ -95,3 +98,29 @@ pub record IsConsistent (moment : Moment) (cpu : ℕ) (sibling : SiblingState) :
 -- A sibling is consistent at a moment.
 abbrev pub IsConsistentAt : Moment → ℕ → Type 0
 IsConsistentAt moment cpu = IsConsistent moment cpu (sibling_of moment.room cpu)
+
+-- ---- refused events
+
+-- whether a reply refuses its event
+abbrev pub is_refused : Reply → Bool
+is_refused Offline = true
+is_refused Idle = true
+is_refused HasThreads = true
+is_refused NoTask = true
+is_refused Awake = true
+is_refused NoCaller = true
+is_refused (Refused error) = true
+is_refused Already = true
+is_refused reply = false
+
+-- whether an event is a call of `prctl` that asks for a new cookie
+abbrev pub asks_for_cookie : Event → Bool
+asks_for_cookie (Prctl caller ask) = is_create ask
+asks_for_cookie event = false
+
+-- An event leaves the room as it was, but for the serial that a CREATE has used.
+pub record LeavesTheRoom (before : RoomState) (event : Event) (now : RoomState) : Type 0 where
+  pub same : now ≡ record before { next_cookie = now.next_cookie }
+  -- The next cookie stays, or it is one further after a CREATE.
+  pub serial : (now.next_cookie ≡ before.next_cookie)
+      ⊎ ((asks_for_cookie event ≡ true) × (now.next_cookie ≡ before.next_cookie + 1))

@@ -1,6 +1,6 @@
 //! The contract of a machine that plays the core.
 
-ghost use Rattle.std.specs.Prelude.{◌≡◌, ◌+◌, ◌*◌, ◌^◌, ◌<◌, ◌≤◌, ℕ, [], ◌∷◌, ◌++◌, length, slice_get, IfSome};
+ghost use Rattle.std.specs.Prelude.{◌≡◌, ◌+◌, ◌*◌, ◌^◌, ◌<◌, ◌≤◌, ℕ, true, [], ◌∷◌, ◌++◌, length, slice_get, IfSome};
 ghost use Rattle.std.specs.Option.{option_map};
 ghost use Rattle.cs_types.specs.declared.scenario.Scenario.{Scenario};
 ghost use Rattle.cs_types.specs.Scenario.{IsEvent, IsPlayable};
@@ -8,7 +8,7 @@ ghost use Rattle.cs_types.specs.Touches.{task_number, pick_number, selection_of}
 ghost use Rattle.cs_types.specs.History.{History, moment_of, fold_of, ledger_of, reply_to, AreEvents, IsLegal};
 ghost use Rattle.cs_types.specs.Drain.{pending, IsDrained};
 ghost use Rattle.cs_types.specs.View.{core_view, cpu_view, task_view_after, end_view, IsTrusted};
-ghost use Rattle.cs_types.specs.Laws.{SelectsForTheCore, scheduling_room, cpu_of, IsConsistentAt, IsSettled, RunOneCookie};
+ghost use Rattle.cs_types.specs.Laws.{SelectsForTheCore, scheduling_room, cpu_of, IsConsistentAt, IsSettled, RunOneCookie, is_refused, LeavesTheRoom};
 
 use crate::event::{Actor, Event};
 use crate::reply::{Entry, Reply};
@@ -44,7 +44,13 @@ pub trait Room: Drop {
         // online sibling only a task with the lead's cookie, or idle.
         ensures selection { IfSome (selection_of result) (λ pick. SelectsForTheCore
             (scheduling_room (fold_of (scenario self.old) (history self.old)) event) (cpu_of event) pick
-            (fold_of (scenario self.new) (history self.new))) };
+            (fold_of (scenario self.new) (history self.new))) }
+
+        // A refused event leaves the room as it was but for its entry, and but for the serial that a
+        // refused CREATE has used.
+        ensures refused { is_refused result ≡ true → LeavesTheRoom
+            (fold_of (scenario self.old) (history self.old)) event
+            (fold_of (scenario self.new) (history self.new)) };
 
     /// Makes the entries of the end of a run, and answers how many: while an online sibling is pending,
     /// one schedules. At most as many are made as the square of the siblings, and `spare` has to be at

@@ -1,4 +1,4 @@
-use Rattle.std.proofs.Common.{◌≡◌, ◌≤◌, ◌*◌, ◌++◌, ◌∷◌, [], length, ap, sym, subst, ◌∙◌, arith}
+use Rattle.std.proofs.Common.{◌≤◌, ◌*◌, ◌++◌, ◌∷◌, [], length, ap, sym, subst, ◌∙◌, arith}
 use Rattle.std.specs.Prelude.{IfSome, All, ◌+◌, ◌<◌, ◌^◌}
 use Rattle.std.proofs.lemmas.List.Elements.{All-push, All-weaker}
 use Rattle.cs_types.specs.declared.reply.Entry.{Entry}
@@ -6,10 +6,11 @@ use Rattle.cs_types.specs.Scenario.{IsEvent}
 use Rattle.cs_types.specs.Room.{RoomState, SiblingState}
 use Rattle.cs_types.specs.Touches.{selection_of}
 use Rattle.cs_types.specs.History.{fold_of, reply_to, history_of, moment_of}
-use Rattle.cs_types.specs.Laws.{SelectsForTheCore, scheduling_room, cpu_of}
+use Rattle.cs_types.specs.Laws.{SelectsForTheCore, scheduling_room, cpu_of, LeavesTheRoom}
 use Rattle.cs_types.proofs.Numbers.{task_number-ledger_of, next_stamp-fold_of, next_cookie-fold_of, next_pid-fold_of, ended-fold_of}
 use Rattle.cs_types.proofs.Tasks.{few-fold_of, task_limit-fold_of}
 use Rattle.cs_types.proofs.Selections.{selects}
+use Rattle.cs_types.proofs.Refusals.{refused_leaves}
 use Rattle.cs_types.proofs.BalancePlaces.{places-fold_of}
 use Rattle.cs_types.proofs.Times.{timely-fold_of, clock-step}
 use Rattle.cs_types.proofs.Accounts.{IsAccounted, charged_up_to, accounted-history_of, intervals-ledger_of}
@@ -199,12 +200,17 @@ returns-clause-entry c =
 
 pub returns-clause-selection : goal.returns-clause-selection
 returns-clause-selection c =
-    let a = c.self.inside in
     let m = c.args.self.now in
     let past = history_of m.scenario m.steps in
     let entry : Entry = record { actor = c.args.actor; event = c.args.event; reply = c.apply-reply.result } in
-    let now : fold_of m.scenario (past ++ entry ∷ []) ≡ fold_of a.scenario (history_of a.scenario (steps_of c.push_reserved.new.self.items)) =
-    ap (fold_of m.scenario) (sym (returns-clause-entry c))
-    ∙ ap (λ (other : Machine). fold_of other.scenario (history_of a.scenario (steps_of c.push_reserved.new.self.items))) (sym c.self.view_is) in
-    subst (λ (room : RoomState). IfSome (selection_of entry.reply) (λ pick. SelectsForTheCore (scheduling_room (fold_of m.scenario past) entry.event) (cpu_of entry.event) pick room)) now
+    subst (λ (room : RoomState). IfSome (selection_of entry.reply) (λ pick. SelectsForTheCore (scheduling_room (fold_of m.scenario past) entry.event) (cpu_of entry.event) pick room))
+    (λ i. fold_of (sym c.self.view_is i).scenario (sym (returns-clause-entry c) i))
     (selects m.scenario past entry c.requires.event (returns-clause-reply c))
+
+pub returns-clause-refused : goal.returns-clause-refused
+returns-clause-refused c refused =
+    let m = c.args.self.now in
+    let past = history_of m.scenario m.steps in
+    let entry : Entry = record { actor = c.args.actor; event = c.args.event; reply = c.apply-reply.result } in
+    subst (LeavesTheRoom (fold_of m.scenario past) entry.event) (λ i. fold_of (sym c.self.view_is i).scenario (sym (returns-clause-entry c) i))
+    (refused_leaves m.scenario past entry (returns-clause-reply c) refused)

@@ -1,0 +1,118 @@
+-- Refusals: a refused event leaves the room as it was, but for the serial that a CREATE has used.
+use Rattle.std.proofs.Common.{◌≡◌, ℕ, ◌+◌, Bool, true, [], ◌∷◌, ◌++◌, length, refl, sym, subst, inl, inr, Option, Some, None}
+use Rattle.std.specs.Prelude.{◌⊎◌, ◌==◌, not}
+use Rattle.std.specs.List.{list_any}
+use Rattle.std.proofs.lemmas.Bool.{cond_both, and_parts}
+use Rattle.cs_types.specs.declared.task.Task.{Task}
+use Rattle.cs_types.specs.declared.task.Policy.{Policy}
+use Rattle.cs_types.specs.declared.event.Ask.{Ask}
+use Rattle.cs_types.specs.declared.event.Event.{Event}
+use Rattle.cs_types.specs.declared.event.Event.TheVariants.{Turn, Resched, Block, Exit, Tick, Wake, Advance, Fork, Prctl, SetSched, Offline, Online}
+use Rattle.cs_types.specs.declared.reply.Reply.{Reply}
+use Rattle.cs_types.specs.declared.reply.Reply.TheVariants.{Zero}
+use Rattle.cs_types.specs.declared.reply.Entry.{Entry}
+use Rattle.cs_types.specs.declared.scenario.Scenario.{Scenario}
+use Rattle.cs_types.specs.Room.{RoomState, sibling_of, running_on, is_online, online, task_of}
+use Rattle.cs_types.specs.Prctl.{is_create, rows_before_making, makes_cookie, with_made, with_answer, setting_of, prctl_answer}
+use Rattle.cs_types.specs.Steal.{stolen}
+use Rattle.cs_types.specs.Step.{Stepped, step, woken, turned, try_steal, unless_offline, blocked, exited, has_threads, forked, may_not_fork, ticked, set_policy, taken_offline, brought_online}
+use Rattle.cs_types.specs.History.{History, step_at, moment_of, fold_of, reply_to}
+use Rattle.cs_types.specs.Laws.{is_refused, LeavesTheRoom}
+use Rattle.cs_types.proofs.Histories.{moment_of-push}
+
+-- A step whose reply refuses its event leaves the room.
+abbrev pub IsRefusal : RoomState → Event → Stepped → Type 0
+IsRefusal room event stepped = is_refused stepped.reply ≡ true → LeavesTheRoom room event stepped.room
+
+as_it_was : (room : RoomState) (event : Event) → LeavesTheRoom room event room
+as_it_was room event = record { same = refl; serial = inl refl }
+
+-- ---- each event
+
+unless_offline-refusal : (room : RoomState) (event : Event) (cpu : ℕ) (stepped : Stepped) → IsRefusal room event stepped → IsRefusal room event (unless_offline room cpu stepped)
+unless_offline-refusal room event cpu stepped its = cond_both (is_online room cpu) _ _ (IsRefusal room event) (λ _. its) (λ _ _. as_it_was room event)
+
+try_steal-refusal : (room : RoomState) (event : Event) (cpu : ℕ) (task : Option Task) → IsRefusal room event (try_steal room cpu task)
+try_steal-refusal room event cpu None refused = absurd cc
+try_steal-refusal room event cpu (Some task) refused = absurd cc
+
+turned-refusal : (room : RoomState) (may_adopt : Bool) (cpu : ℕ) → IsRefusal room (Turn cpu) (turned room may_adopt cpu)
+turned-refusal room may_adopt cpu =
+    cond_both (sibling_of room cpu).pending _ _ (IsRefusal room (Turn cpu)) (λ _ refused. absurd cc)
+    (λ _. cond_both ((sibling_of room cpu).place == 0) _ _ (IsRefusal room (Turn cpu)) (λ _ refused. absurd cc)
+    (λ _. try_steal-refusal room (Turn cpu) cpu (stolen room cpu)))
+
+blocked-refusal : (room : RoomState) (cpu : ℕ) (task : Option Task) → IsRefusal room (Block cpu) (blocked room cpu task)
+blocked-refusal room cpu None refused = as_it_was room (Block cpu)
+blocked-refusal room cpu (Some task) refused = absurd cc
+
+exited-refusal : (room : RoomState) (cpu : ℕ) (task : Option Task) → IsRefusal room (Exit cpu) (exited room cpu task)
+exited-refusal room cpu None = λ _. as_it_was room (Exit cpu)
+exited-refusal room cpu (Some task) =
+    cond_both (has_threads room task) _ _ (IsRefusal room (Exit cpu)) (λ _ _. as_it_was room (Exit cpu)) (λ _ refused. absurd cc)
+
+ticked-refusal : (room : RoomState) (cpu : ℕ) (task : Option Task) → IsRefusal room (Tick cpu) (ticked room cpu task)
+ticked-refusal room cpu None refused = absurd cc
+ticked-refusal room cpu (Some task) refused = absurd cc
+
+woken-refusal : (room : RoomState) (pid : ℕ) (task : Option Task) → IsRefusal room (Wake pid) (woken room task)
+woken-refusal room pid None = λ _. as_it_was room (Wake pid)
+woken-refusal room pid (Some task) =
+    cond_both task.queued _ _ (IsRefusal room (Wake pid)) (λ _ _. as_it_was room (Wake pid)) (λ _ refused. absurd cc)
+
+forked-refusal : (room : RoomState) (pid : ℕ) (thread : Bool) (caller : Option Task) → IsRefusal room (Fork pid thread) (forked room thread caller)
+forked-refusal room pid thread None = λ _. as_it_was room (Fork pid thread)
+forked-refusal room pid thread (Some caller) =
+    cond_both (may_not_fork room caller) _ _ (IsRefusal room (Fork pid thread)) (λ _ _. as_it_was room (Fork pid thread)) (λ _ refused. absurd cc)
+
+-- A refused CREATE may have made its cookie already.
+made_leaves : (room : RoomState) (caller : ℕ) (ask : Ask) → LeavesTheRoom room (Prctl caller ask) (with_made room (makes_cookie room caller ask))
+made_leaves room caller ask =
+    record {
+      same = refl;
+      serial = cond_both (makes_cookie room caller ask) (room.next_cookie + 1) room.next_cookie
+          (λ n. (n ≡ room.next_cookie) ⊎ ((is_create ask ≡ true) × (n ≡ room.next_cookie + 1)))
+          (λ makes. inr ((and_parts (is_create ask) (not (list_any (λ row. row.holds) (rows_before_making room caller ask))) makes).0, refl)) (λ _. inl refl);
+    }
+
+called-refusal : (room : RoomState) (caller : ℕ) (ask : Ask) (answer : Reply) →
+    IsRefusal room (Prctl caller ask) (record { reply = answer; room = with_answer (with_made room (makes_cookie room caller ask)) (setting_of room caller ask) answer })
+called-refusal room caller ask Zero refused = absurd cc
+called-refusal room caller ask answer refused = made_leaves room caller ask
+
+set_policy-refusal : (room : RoomState) (pid : ℕ) (policy : Policy) (task : Option Task) → IsRefusal room (SetSched pid policy) (set_policy room policy task)
+set_policy-refusal room pid policy None refused = as_it_was room (SetSched pid policy)
+set_policy-refusal room pid policy (Some task) refused = absurd cc
+
+taken_offline-refusal : (room : RoomState) (cpu : ℕ) → IsRefusal room (Offline cpu) (taken_offline room cpu)
+taken_offline-refusal room cpu =
+    cond_both (not (is_online room cpu)) _ _ (IsRefusal room (Offline cpu)) (λ _ _. as_it_was room (Offline cpu))
+    (λ _. cond_both (length (online room) == 1) _ _ (IsRefusal room (Offline cpu)) (λ _ _. as_it_was room (Offline cpu)) (λ _ refused. absurd cc))
+
+brought_online-refusal : (room : RoomState) (cpu : ℕ) → IsRefusal room (Online cpu) (brought_online room cpu)
+brought_online-refusal room cpu = cond_both (is_online room cpu) _ _ (IsRefusal room (Online cpu)) (λ _ _. as_it_was room (Online cpu)) (λ _ refused. absurd cc)
+
+-- ---- every event
+
+step-refusal : (room : RoomState) (may_adopt : Bool) (event : Event) → IsRefusal room event (step room may_adopt event)
+step-refusal room may_adopt (Turn cpu) = unless_offline-refusal room (Turn cpu) cpu _ (turned-refusal room may_adopt cpu)
+step-refusal room may_adopt (Resched cpu) = unless_offline-refusal room (Resched cpu) cpu _ (λ refused. absurd cc)
+step-refusal room may_adopt (Block cpu) = unless_offline-refusal room (Block cpu) cpu _ (blocked-refusal room cpu (running_on room cpu))
+step-refusal room may_adopt (Exit cpu) = unless_offline-refusal room (Exit cpu) cpu _ (exited-refusal room cpu (running_on room cpu))
+step-refusal room may_adopt (Tick cpu) = unless_offline-refusal room (Tick cpu) cpu _ (ticked-refusal room cpu (running_on room cpu))
+step-refusal room may_adopt (Wake pid) = woken-refusal room pid (task_of room pid)
+step-refusal room may_adopt (Advance delta) = λ refused. absurd cc
+step-refusal room may_adopt (Fork caller thread) = forked-refusal room caller thread (task_of room caller)
+step-refusal room may_adopt (Prctl caller ask) = called-refusal room caller ask (prctl_answer room caller ask)
+step-refusal room may_adopt (SetSched pid policy) = set_policy-refusal room pid policy (task_of room pid)
+step-refusal room may_adopt (Offline cpu) = taken_offline-refusal room cpu
+step-refusal room may_adopt (Online cpu) = brought_online-refusal room cpu
+
+-- An entry whose reply refuses its event leaves the room.
+pub refused_leaves : (scenario : Scenario) (history : History) (entry : Entry) → entry.reply ≡ reply_to scenario history entry.event →
+    is_refused entry.reply ≡ true → LeavesTheRoom (fold_of scenario history) entry.event (fold_of scenario (history ++ entry ∷ []))
+refused_leaves scenario history entry legal =
+    let made = step_at (moment_of scenario history) entry.event in
+    let same : made ≡ record { reply = entry.reply; room = fold_of scenario (history ++ entry ∷ []) } =
+    sym (λ i. record { reply = legal i; room = (moment_of-push scenario history entry i).room }) in
+    subst (IsRefusal (fold_of scenario history) entry.event) same (step-refusal (fold_of scenario history) _ entry.event)
