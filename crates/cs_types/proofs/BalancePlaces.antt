@@ -12,8 +12,8 @@ use Rattle.cs_types.specs.declared.reply.Reply.{Reply}
 use Rattle.cs_types.specs.declared.reply.Reply.TheVariants.{Zero}
 use Rattle.cs_types.specs.declared.reply.Entry.{Entry}
 use Rattle.cs_types.specs.declared.scenario.Scenario.{Scenario}
-use Rattle.cs_types.specs.Room.{RoomState, SiblingState, idle, absent, online, is_online, sibling_of, running_on, task_of, with_sibling, flagged}
-use Rattle.cs_types.specs.Selection.{is_run, told, handed, given, selected_room, selected, plain, is_plain, picked_anew, adopted_or_picked_anew, schedule, is_to_steal}
+use Rattle.cs_types.specs.Room.{RoomState, SiblingState, idle, online, is_online, sibling_of, running_on, task_of, with_sibling, flagged, absent}
+use Rattle.cs_types.specs.Selection.{selected_room, selected, plain, is_plain, picked_anew, adopted_or_picked_anew, schedule, is_to_steal, is_run}
 use Rattle.cs_types.specs.Time.{least_of, with_growth, advanced}
 use Rattle.cs_types.specs.Prctl.{Setting, setting_of, makes_cookie, with_made, with_answer, prctl_answer}
 use Rattle.cs_types.specs.Step.{Stepped, step, woken, turned, try_steal, idled, blocked, without, has_threads, exited, may_not_fork, forked, ticked, unless_offline, set_policy, taken_offline, brought_online}
@@ -54,18 +54,11 @@ low-idled most room cpu low = low-with_sibling most room cpu _ (low_at most room
 
 -- ---- a schedule
 
--- A sibling that is handed its choice keeps its place.
-handed_is_low : (most selector occupation : ℕ) (run : Option ℕ) (renews : Bool) (cpu : ℕ) (sibling : SiblingState) →
-    sibling.place ≤ most → (handed selector occupation run renews (cpu, sibling)).place ≤ most
-handed_is_low most selector occupation run renews cpu sibling is =
-    let told_is : (told selector cpu sibling run).place ≤ most =
-    cond_both (cpu == selector) _ _ (Low most) (λ _. is) (λ _. cond_both (is_run sibling.run run) _ _ (Low most) (λ _. is) (λ _. is)) in
-    cond_both sibling.online _ sibling (Low most) (λ _. told_is) (λ _. is)
-
+-- A selection leaves each balance place.
 low-selected_room : (most : ℕ) (room : RoomState) (cpu core : ℕ) → AreLow most room → AreLow most (selected_room room cpu core)
 unfolding selected_room
 low-selected_room most room cpu core low =
-    all_enumerated (Low most) (given room core cpu) (λ other sibling is. handed_is_low most cpu _ _ _ other sibling is) 0 room.siblings low
+    all_enumerated (Low most) _ (λ other sibling is. cond_both sibling.online _ sibling (Low most) (λ _. is) (λ _. is)) 0 room.siblings low
 
 low-picked_anew : (most : ℕ) (room : RoomState) (cpu : ℕ) → AreLow most room → AreLow most (picked_anew room cpu).room
 low-picked_anew most room cpu low =

@@ -2,7 +2,7 @@
 use Rattle.std.proofs.Common.{◌≡◌, ℕ, zero, suc, ◌+◌, ◌*◌, ◌<◌, ◌≤◌, Bool, true, false, cond, List, [], ◌∷◌, length, refl, sym, ap, ◌∙◌, subst, inl, inr, Option, Some, None, is_some, arith, le_refl}
 use Rattle.std.specs.Prelude.{◌==◌, ◌&&◌, ◌||◌, ◌⊎◌, not, filter, count_by, Contains, slice_index_or, slice_set}
 use Rattle.std.specs.List.{list_any, range_with_len}
-use Rattle.std.proofs.lemmas.Bool.{cases_eq, cond_both, cond-true, and_parts, and_from, and_right, both_ways, false_from_ne_true, eq-eqb}
+use Rattle.std.proofs.lemmas.Bool.{cases_eq, cond_both, cond-true, and_parts, and_from, and_right, both_ways, false_from_ne_true}
 use Rattle.std.proofs.lemmas.Nat.{mul-le}
 use Rattle.std.proofs.lemmas.List.{get_or-set_same, get_or-set_other}
 use Rattle.std.proofs.lemmas.List.Sums.{sum_by-cons, count_by-le-length}
@@ -12,13 +12,13 @@ use Rattle.cs_types.specs.declared.event.Event.TheVariants.{Resched}
 use Rattle.cs_types.specs.declared.reply.Reply.TheVariants.{Picked}
 use Rattle.cs_types.specs.Room.{RoomState, SiblingState, Waiting, absent, sibling_of, is_online, online}
 use Rattle.cs_types.specs.Touches.{is_selection, LedgerEntry, Ledger, ledger_entry, is_fresh}
-use Rattle.cs_types.specs.Selection.{cookie_of, pid_of, is_fair_task, lead_from, choice, occupation_of, renews_snapshots, running, is_run, told, handed, selected, Scheduled, adopted, is_plain, plain, picked_anew, adopted_or_picked_anew, balanced, schedule}
+use Rattle.cs_types.specs.Selection.{cookie_of, pid_of, lead_from, choice, is_run, sibling_after_selection, selected, Scheduled, adopted, is_plain, plain, picked_anew, adopted_or_picked_anew, balanced, schedule}
 use Rattle.cs_types.specs.Step.{Stepped, picked}
 use Rattle.cs_types.specs.History.{Moment, step_at, next}
 use Rattle.cs_types.specs.Drain.{pending, is_ready, next_to_schedule, entry_by_end}
 use Rattle.cs_types.proofs.Siblings.{length-step}
 use Rattle.cs_types.proofs.Filtered.{Contains-filter, Contains-filter_parts, Contains-range}
-use Rattle.cs_types.proofs.Selections.{online_parts, sibling_of-selected_room, get_or-set_alike}
+use Rattle.cs_types.proofs.Selections.{online_parts, sibling_of-selected_room, selected_keeps_law, get_or-set_alike}
 use Rattle.cs_types.proofs.Numbers.{untouched, untouched-cons}
 use Rattle.cs_types.proofs.Drains.{next_is_pending}
 
@@ -282,28 +282,21 @@ plain_falls moment cpu below due none same =
     (stuck_else (is_pending moment.room cpu) (is_ready moment cpu) due (none cpu below))
     (not_adopting (is_fresh now.ledger) (looks (sibling_of now.room cpu)) gone)
 
--- a sibling that was told its choice is stuck only where it was pending before and did not select
-stuck_told : (selector cpu : ℕ) (sibling : SiblingState) (run : Option ℕ) → stuck_by true (looks (told selector cpu sibling run)) ≡ true →
-    (sibling.online && sibling.pending) ≡ true
-stuck_told selector cpu sibling run =
-    cond_both (cpu == selector) _ _ (λ (s : SiblingState). stuck_by true (looks s) ≡ true → (sibling.online && sibling.pending) ≡ true)
-    (λ _ stuck. let bad : false ≡ true = (and_parts sibling.online false (and_parts (sibling.online && false) true stuck).0).1 in absurd cc)
-    (λ _. cond_both (is_run sibling.run run) _ _ (λ (s : SiblingState). stuck_by true (looks s) ≡ true → (sibling.online && sibling.pending) ≡ true)
-    (λ _ stuck. (and_parts (sibling.online && sibling.pending) true stuck).0)
-    (λ _ stuck. let bad : false ≡ true = (and_parts (sibling.online && true) false stuck).1 in absurd cc))
-
-stuck_handed : (selector occupation : ℕ) (run : Option ℕ) (renews : Bool) (cpu : ℕ) (sibling : SiblingState) →
-    stuck_by true (looks (handed selector occupation run renews (cpu, sibling))) ≡ true → (sibling.online && sibling.pending) ≡ true
-stuck_handed selector occupation run renews cpu sibling =
-    cond_both sibling.online _ _ (λ (s : SiblingState). stuck_by true (looks s) ≡ true → (sibling.online && sibling.pending) ≡ true)
-    (λ _. stuck_told selector cpu sibling run) (λ _ stuck. (and_parts (sibling.online && sibling.pending) _ stuck).0)
-
--- the one that selects is not pending after it
-pending-handed : (cpu occupation : ℕ) (run : Option ℕ) (renews : Bool) (sibling : SiblingState) → sibling.online ≡ true →
-    (handed cpu occupation run renews (cpu, sibling)).pending ≡ false
-pending-handed cpu occupation run renews sibling up =
-    ap (λ (s : SiblingState). s.pending) (cond-true sibling.online _ sibling up)
-    ∙ ap (λ (s : SiblingState). s.pending) (cond-true (cpu == cpu) (running sibling run) _ (eq-eqb cpu cpu refl))
+-- a sibling is stuck after a selection only where it was pending before
+stuck_after_selection : (room : RoomState) (core selector cpu : ℕ) (sibling : SiblingState) →
+    stuck_by true (looks (cond sibling.online (sibling_after_selection room core selector cpu sibling) sibling)) ≡ true → (sibling.online && sibling.pending) ≡ true
+stuck_after_selection room core selector cpu sibling =
+    cond_both sibling.online _ sibling (λ (s : SiblingState). stuck_by true (looks s) ≡ true → (sibling.online && sibling.pending) ≡ true)
+    (λ _. by_tests sibling.online sibling.pending (cpu == selector) (is_run sibling.run (pid_of (choice room core cpu))))
+    (λ _ stuck. (and_parts (sibling.online && sibling.pending) _ stuck).0) where
+      by_tests : (online pending selects runs_it : Bool) →
+          stuck_by true (online, not selects && (not runs_it || pending), is_some (cond (selects || runs_it) None (Some (pid_of (choice room core cpu))))) ≡ true →
+          (online && pending) ≡ true
+      by_tests true pending true runs_it stuck = absurd cc
+      by_tests true true false true stuck = refl
+      by_tests true false false true stuck = absurd cc
+      by_tests true pending false false stuck = absurd cc
+      by_tests false pending selects runs_it stuck = absurd cc
 
 selected_falls : (moment : Moment) (cpu : ℕ) → cpu < length moment.room.siblings → is_pending moment.room cpu ≡ true →
     ((other : ℕ) → other < length moment.room.siblings → would_adopt moment other ≡ false) →
@@ -314,18 +307,14 @@ selected_falls moment cpu below due none same =
     let core = cookie_of (lead_from moment.room cpu) in
     let now = moment_after moment cpu (picked Picked (balanced cpu made)) in
     let is_new = fresh_selected (ledger_entry moment.room (record { actor = End; event = Resched cpu; reply = Picked made.pick })) moment.ledger refl in
-    let run = λ (other : ℕ). pid_of (choice moment.room core other) in
-    let renews = λ (other : ℕ). is_fair_task (choice moment.room core other) && renews_snapshots moment.room core in
-    let handed_to = λ (other : ℕ) (high : other < length moment.room.siblings).
-    looks-balanced cpu made other ∙ ap looks (sibling_of-selected_room moment.room cpu core other high) in
+    let up = (and_parts (is_online moment.room cpu) _ due).0 in
     let gone : (looks (sibling_of now.room cpu)).1 ≡ false =
-    ap (λ (look : Bool × Bool × Bool). look.1) (handed_to cpu below)
-    ∙ pending-handed cpu (occupation_of moment.room core) (run cpu) (renews cpu) (sibling_of moment.room cpu) (and_parts (is_online moment.room cpu) _ due).0 in
+    ap (λ (look : Bool × Bool × Bool). look.1) (looks-balanced cpu made cpu) ∙ (selected_keeps_law moment.room cpu below up).selector.not_pending in
     falls_by_touching moment now cpu same below
     (λ other high passes.
     stuck_else (is_pending moment.room other) (is_ready moment other)
-    (stuck_handed cpu (occupation_of moment.room core) (run other) (renews other) other (sibling_of moment.room other)
-    (sym (λ i. stuck_by (is_new i) (handed_to other high i)) ∙ passes))
+    (stuck_after_selection moment.room core cpu other (sibling_of moment.room other)
+    (sym (λ i. stuck_by (is_new i) ((looks-balanced cpu made other ∙ ap looks (sibling_of-selected_room moment.room cpu core other high)) i)) ∙ passes))
     (none other high))
     (not_stuck (is_fresh now.ledger) (looks (sibling_of now.room cpu)) gone)
     (stuck_else (is_pending moment.room cpu) (is_ready moment cpu) due (none cpu below))

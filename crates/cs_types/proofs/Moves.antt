@@ -7,14 +7,14 @@ use Rattle.cs_types.specs.declared.task.Task.{Task}
 use Rattle.cs_types.specs.declared.task.Policy.{Policy}
 use Rattle.cs_types.specs.declared.task.Policy.TheVariants.{Stop, Deadline, Fifo, Rr, Fair}
 use Rattle.cs_types.specs.Room.{RoomState, has_pid, task_of, sibling_of, with_task}
-use Rattle.cs_types.specs.Selection.{remembered, selected_room, selected, plain, is_plain, picked_anew, adopted_or_picked_anew, schedule}
+use Rattle.cs_types.specs.Selection.{task_after_selection, selected_room, selected, plain, is_plain, picked_anew, adopted_or_picked_anew, schedule}
 use Rattle.cs_types.specs.Queueing.{refreshed_by, refreshed, dequeued, moved, moved_to, queued_at_home}
 use Rattle.cs_types.specs.Step.{without, with_child, child_of, with_policy, with_policy_set}
 use Rattle.cs_types.specs.Time.{is_running, grown, grown_by, advanced, ticked_room, has_used_slice, rotates}
 use Rattle.cs_types.specs.Hotplug.{lowest_other, moved_off, leave}
 use Rattle.cs_types.specs.Prctl.{Setting, is_set, with_cookies}
 use Rattle.cs_types.proofs.Foremost.{find_passes}
-use Rattle.cs_types.proofs.Rising.{pid-remembered, pid-grown_by}
+use Rattle.cs_types.proofs.Rising.{AreRising, below_high, pid-grown_by}
 use Rattle.cs_types.proofs.Spots.{Spot, spot_of, spot_at, find-map, spot_in-map, spot_in-replaced, find-replaced, spot_in-alike, spot_in-without, spot_in-inserted}
 
 -- ---- a schedule moves no task
@@ -22,9 +22,7 @@ use Rattle.cs_types.proofs.Spots.{Spot, spot_of, spot_at, find-map, spot_in-map,
 pub spots-selected_room : (room : RoomState) (cpu core pid : ℕ) → spot_at (selected_room room cpu core) pid ≡ spot_at room pid
 unfolding selected_room
 spots-selected_room room cpu core pid =
-    spot_in-map (remembered room core)
-    (pid-remembered room core)
-    (λ task. cond_both _ _ _ (λ (t : Task). spot_of t ≡ spot_of task) (λ _. refl) (λ _. refl)) room.tasks pid
+    spot_in-map (task_after_selection room core) (λ task. refl) (λ task. refl) room.tasks pid
 
 pub spots-picked_anew : (room : RoomState) (cpu pid : ℕ) → spot_at (picked_anew room cpu).room pid ≡ spot_at room pid
 spots-picked_anew room cpu pid =

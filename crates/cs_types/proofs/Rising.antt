@@ -17,7 +17,7 @@ use Rattle.cs_types.specs.declared.reply.Entry.{Entry}
 use Rattle.cs_types.specs.declared.scenario.Scenario.{Scenario}
 use Rattle.cs_types.specs.Scenario.{AreDistinct}
 use Rattle.cs_types.specs.Room.{RoomState, has_pid, sibling_of, running_on, is_online, online, task_of, asleep, inserted, first_pid, with_task}
-use Rattle.cs_types.specs.Selection.{remembered, selected_room, selected, plain, is_plain, picked_anew, adopted_or_picked_anew, schedule}
+use Rattle.cs_types.specs.Selection.{task_after_selection, selected_room, selected, plain, is_plain, picked_anew, adopted_or_picked_anew, schedule}
 use Rattle.cs_types.specs.Prctl.{Setting, setting_of, is_set, makes_cookie, with_made, with_answer, prctl_answer}
 use Rattle.cs_types.specs.Step.{Stepped, step, woken, blocked, exited, forked, turned, without, has_threads, child_of, child_at_home, may_not_fork, with_child, ticked, idled, try_steal, unless_offline, with_policy, set_policy, taken_offline, brought_online}
 use Rattle.cs_types.specs.Queueing.{refreshed, dequeued, moved_to, rehomed, queued_at_home}
@@ -171,14 +171,11 @@ rising-with_task room task rises =
     (λ other. cond_both (has_pid task.spec.pid other) task other (λ (t : Task). t.spec.pid ≡ other.spec.pid) (λ is. sym (eqb-true other.spec.pid task.spec.pid is)) (λ _. refl))
     0 room.next_pid room.tasks rises
 
-pub pid-remembered : (room : RoomState) (core : ℕ) (task : Task) → (remembered room core task).spec.pid ≡ task.spec.pid
-pid-remembered room core task = cond_both _ _ _ (λ (t : Task). t.spec.pid ≡ task.spec.pid) (λ _. refl) (λ _. refl)
-
 rising-picked_anew : (room : RoomState) (cpu : ℕ) → AreRising room → AreRising (picked_anew room cpu).room
 unfolding selected_room
 rising-picked_anew room cpu rises =
     cond_both (is_plain room cpu) (plain room cpu) (selected room cpu) (λ made. AreRising made.room) (λ _. rises)
-    (λ _. rises-map (remembered room _) (pid-remembered room _) 0 room.next_pid room.tasks rises)
+    (λ _. rises-map (task_after_selection room _) (λ task. refl) 0 room.next_pid room.tasks rises)
 
 rising-adopted_or_picked_anew : (room : RoomState) (fresh : Bool) (cpu : ℕ) (waiting : Option (Option ℕ)) → AreRising room → AreRising (adopted_or_picked_anew room fresh cpu waiting).room
 rising-adopted_or_picked_anew room fresh cpu None rises = rising-picked_anew room cpu rises

@@ -1,22 +1,22 @@
 -- Schedules: after a schedule every sibling has what fits it.
 use Rattle.std.proofs.Common.{◌≡◌, ◌≢◌, ℕ, ◌<◌, Bool, cond, true, false, length, refl, sym, ap, ◌∙◌, subst, inl, inr, arith, Option, Some, None, is_none}
-use Rattle.std.specs.Prelude.{◌⊎◌, ◌==◌, ◌&&◌, ◌||◌}
+use Rattle.std.specs.Prelude.{◌⊎◌, ◌==◌, ◌&&◌, ◌||◌, not}
 use Rattle.std.specs.Option.{IfSome, option_map}
 use Rattle.std.proofs.lemmas.Bool.{cond_both, and_parts, eqb-true, eqb-false, both_ways}
 use Rattle.cs_types.specs.declared.task.Task.{Task}
 use Rattle.cs_types.specs.Room.{RoomState, SiblingState, Waiting, queued_on, sibling_of, is_online, with_sibling}
 use Rattle.cs_types.specs.Order.{first_of}
-use Rattle.cs_types.specs.Selection.{first_on, queued_with, cookie_of, pid_of, choice, lead_from, is_run, running, is_fair_task, renews_snapshots, occupation_of, told, noted, handed, given, selected_room, selected, plain, is_plain, picked_anew, adopted_or_picked_anew, schedule, adopted}
+use Rattle.cs_types.specs.Selection.{first_on, queued_with, cookie_of, pid_of, choice, lead_from, is_run, running, sibling_after_selection, selected_room, selected, plain, is_plain, picked_anew, adopted_or_picked_anew, schedule, adopted}
 use Rattle.cs_types.specs.Touches.{is_selected}
 use Rattle.cs_types.proofs.Filtered.{each-filter, each_found}
 use Rattle.cs_types.proofs.Rising.{AreRising}
-use Rattle.cs_types.proofs.Selections.{choice_matches, is_run_same}
+use Rattle.cs_types.proofs.Selections.{choice_matches, is_run_same, numbered_after_selection}
 use Rattle.cs_types.proofs.Siblings.{kept-adopted_or_picked_anew, is_online-alike}
-use Rattle.cs_types.proofs.Spots.{Spot, spot_of, spot_at}
+use Rattle.cs_types.proofs.Spots.{spot_of, spot_at}
 use Rattle.cs_types.proofs.Moves.{spots-selected_room}
 use Rattle.cs_types.proofs.Places.{with_sibling_at, enumerated_at}
 use Rattle.cs_types.proofs.Homes.{IsQueuedOn, each_queued}
-use Rattle.cs_types.proofs.Fits.{IsAt, cookie_at, SiblingFits, AllFit, fits_same, fits_running, fits_waiting, fits_away, fits_absent, all_same, all_placed}
+use Rattle.cs_types.proofs.Fits.{Fits, IsAt, cookie_at, SiblingFits, AllFit, fits_same, fits_running, fits_waiting, fits_away, all_same, all_placed, fits_absent}
 use Rattle.cs_types.proofs.Freshness.{freshened}
 
 -- ---- what is chosen
@@ -60,7 +60,7 @@ plain_fits : (room : RoomState) (fresh later : Bool) (cpu : ℕ) → cpu < lengt
     (later ≡ true → ⊥) → OthersFit room fresh cpu → AllFit (plain room cpu).room later
 plain_fits room fresh later cpu below up rises is old fits =
     with_sibling_at (SiblingFits (spot_at room) room.core_cookie later) (record room { forced = 0; occupation = 0; started = None }) cpu
-    (noted (is_fair_task first) (running sibling (pid_of first))) below
+    _ below
     (fits_running (spot_at room) room.core_cookie later cpu sibling.online (pid_of first) false sibling.place up
     (pid_at room cpu first (first_queued room cpu rises)) (pid_cookie room cpu room.core_cookie first (first_queued room cpu rises) (inr same)))
     (λ other differ.
@@ -80,27 +80,33 @@ plain_fits room fresh later cpu below up rises is old fits =
 
 -- ---- selected
 
--- a sibling that is told its choice
-told_fits : (at : ℕ → Option Spot) (core old : ℕ) (fresh later : Bool) (selector cpu : ℕ) (sibling : SiblingState) (run : Option ℕ) → sibling.online ≡ true →
-    IfSome run (λ pid. IsAt cpu (at pid)) → IfSome run (λ pid. cookie_at (at pid) ≡ core) →
-    (cpu ≢ selector → SiblingFits at old fresh cpu sibling) → SiblingFits at core later cpu (told selector cpu sibling run)
-told_fits at core old fresh later selector cpu sibling run up here same fits =
-    cond_both (cpu == selector) (running sibling run) (cond (is_run sibling.run run) (record sibling { waiting = None }) (record sibling { pending = true; waiting = Some run }))
-    (SiblingFits at core later cpu) (λ _. fits_running at core later cpu sibling.online run false sibling.place up here same)
-    (λ other. let its = fits (eqb-false cpu selector other) in
-    cond_both (is_run sibling.run run) (record sibling { waiting = None }) (record sibling { pending = true; waiting = Some run }) (SiblingFits at core later cpu)
-    (λ runs. fits_running at core later cpu sibling.online sibling.run sibling.pending sibling.place up its.runs
-    (subst (λ r. IfSome r (λ pid. cookie_at (at pid) ≡ core)) (sym (is_run_same sibling.run run runs)) same))
-    (λ runs. fits_waiting at core later cpu sibling.online sibling.run run sibling.place up its.runs here same runs))
+-- an online sibling runs its choice, or has it waiting
+sibling_after_selection_fits : (room : RoomState) (core : ℕ) (fresh later : Bool) (selector cpu : ℕ) → is_online room cpu ≡ true → AreRising room →
+    (cpu ≢ selector → SiblingFits (spot_at room) room.core_cookie fresh cpu (sibling_of room cpu)) →
+    SiblingFits (spot_at room) core later cpu (sibling_after_selection room core selector cpu (sibling_of room cpu))
+sibling_after_selection_fits room core fresh later selector cpu up rises fits =
+    by_tests (cpu == selector) (is_run sibling.run run) refl refl where
+      sibling : SiblingState
+      sibling = sibling_of room cpu
 
-handed_fits : (at : ℕ → Option Spot) (core old : ℕ) (fresh later : Bool) (selector cpu occupation : ℕ) (run : Option ℕ) (renews : Bool) (sibling : SiblingState) →
-    (cpu ≡ selector → sibling.online ≡ true) → IfSome run (λ pid. IsAt cpu (at pid)) → IfSome run (λ pid. cookie_at (at pid) ≡ core) →
-    (cpu ≢ selector → SiblingFits at old fresh cpu sibling) → SiblingFits at core later cpu (handed selector occupation run renews (cpu, sibling))
-handed_fits at core old fresh later selector cpu occupation run renews sibling lives here same fits =
-    cond_both sibling.online (noted renews (record (told selector cpu sibling run) { occupation = cond (is_none run) occupation sibling.occupation })) sibling (SiblingFits at core later cpu)
-    (λ up. told_fits at core old fresh later selector cpu sibling run up here same fits)
-    (λ off. fits_away at core later cpu sibling.online sibling.run sibling.pending sibling.waiting sibling.place off
-    ((fits (λ e. both_ways sibling.online off (lives e))).away off))
+      run : Option ℕ
+      run = pid_of (choice room core cpu)
+
+      here : IfSome run (λ pid. IsAt cpu (spot_at room pid))
+      here = pid_at room cpu (choice room core cpu) (choice_queued room core cpu rises)
+
+      same : IfSome run (λ pid. cookie_at (spot_at room pid) ≡ core)
+      same = pid_cookie room cpu core (choice room core cpu) (choice_queued room core cpu rises) (choice_matches room core cpu)
+
+      by_tests : (selects runs_it : Bool) → (cpu == selector) ≡ selects → is_run sibling.run run ≡ runs_it →
+          Fits (spot_at room) core later cpu sibling.online (cond selects run sibling.run) (not selects && (not runs_it || sibling.pending))
+          (cond (selects || runs_it) None (Some run)) sibling.place
+      by_tests true runs_it selects runs = fits_running (spot_at room) core later cpu sibling.online run false sibling.place up here same
+      by_tests false true other runs =
+          fits_running (spot_at room) core later cpu sibling.online sibling.run sibling.pending sibling.place up (fits (eqb-false cpu selector other)).runs
+          (subst (λ r. IfSome r (λ pid. cookie_at (spot_at room pid) ≡ core)) (sym (is_run_same sibling.run run runs)) same)
+      by_tests false false other runs =
+          fits_waiting (spot_at room) core later cpu sibling.online sibling.run run sibling.place up (fits (eqb-false cpu selector other)).runs here same runs
 
 selected_fits : (room : RoomState) (fresh later : Bool) (cpu : ℕ) → is_online room cpu ≡ true → AreRising room → OthersFit room fresh cpu → AllFit (selected room cpu).room later
 unfolding selected_room
@@ -109,18 +115,18 @@ selected_fits room fresh later cpu up rises fits =
       core : ℕ
       core = cookie_of (lead_from room cpu)
 
-      one : (other : ℕ) → SiblingFits (spot_at room) core later other (given room core cpu (other, sibling_of room other))
+      one : (other : ℕ) → SiblingFits (spot_at room) core later other (numbered_after_selection room core cpu (other, sibling_of room other))
       one other =
-          let chosen = choice room core other in
-          let queued = choice_queued room core other rises in
-          handed_fits (spot_at room) core room.core_cookie fresh later cpu other (occupation_of room core) (pid_of chosen) (is_fair_task chosen && renews_snapshots room core)
-          (sibling_of room other) (λ same. subst (λ n. is_online room n ≡ true) (sym same) up)
-          (pid_at room other chosen queued) (pid_cookie room other core chosen queued (choice_matches room core other)) (fits other)
+          let sibling = sibling_of room other in
+          cond_both sibling.online _ sibling (SiblingFits (spot_at room) core later other)
+          (λ on. sibling_after_selection_fits room core fresh later cpu other on rises (fits other))
+          (λ off. fits_away (spot_at room) core later other sibling.online sibling.run sibling.pending sibling.waiting sibling.place off
+          ((fits other (λ e. both_ways sibling.online off (subst (λ n. is_online room n ≡ true) (sym e) up))).away off))
 
       each : (other : ℕ) → SiblingFits (spot_at room) core later other (sibling_of (selected_room room cpu core) other)
       each other =
-          enumerated_at (SiblingFits (spot_at room) core later other) (given room core cpu) 0 room.siblings other (λ _. fits_absent (spot_at room) core later other)
-          (subst (λ n. SiblingFits (spot_at room) core later other (given room core cpu (n, sibling_of room other))) (omega arith) (one other))
+          enumerated_at (SiblingFits (spot_at room) core later other) (numbered_after_selection room core cpu) 0 room.siblings other (λ _. fits_absent (spot_at room) core later other)
+          (subst (λ n. SiblingFits (spot_at room) core later other (numbered_after_selection room core cpu (n, sibling_of room other))) (omega arith) (one other))
 
 -- ---- every schedule
 

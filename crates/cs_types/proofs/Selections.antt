@@ -1,11 +1,11 @@
 -- Selections: a selection for the core keeps its law.
-use Rattle.std.proofs.Common.{◌≡◌, ℕ, zero, suc, Bool, ◌-◌, ◌<◌, true, false, cond, List, [], ◌∷◌, ◌++◌, map, length, get_or, set, refl, sym, ap, ◌∙◌, subst, inl, inr, Option, Some, None, arith}
-use Rattle.std.specs.Prelude.{◌==◌, ◌&&◌, ◌||◌, ◌⊎◌, ◌↔◌, filter, count_by, All, Contains, IsTrue, is_none, is_some, not}
+use Rattle.std.proofs.Common.{◌≡◌, ◌≢◌, ℕ, zero, suc, Bool, ◌-◌, ◌<◌, true, false, cond, List, [], ◌∷◌, ◌++◌, map, length, get_or, set, refl, sym, ap, ◌∙◌, subst, inl, inr, Option, Some, None, arith}
+use Rattle.std.specs.Prelude.{◌==◌, ◌&&◌, ◌||◌, ◌⊎◌, ◌↔◌, filter, count_by, All, Contains, IsTrue, is_none, is_some, not, unwrap_or}
 use Rattle.std.specs.List.{AllByRecursion, range_with_len, enumerate_from}
 use Rattle.std.specs.Option.{option_and_then, option_to_list, IfSome, option_map_or}
-use Rattle.std.proofs.lemmas.Bool.{cases_Bool, cond_both, cases_lt, and_parts, and_from, or_parts, cond-true, eqb-true, eq-eqb}
+use Rattle.std.proofs.lemmas.Bool.{both_ways, ne_eqb, cases_Bool, cond_both, cases_lt, and_parts, and_from, or_parts, cond-true, eqb-true, eq-eqb}
 use Rattle.std.proofs.lemmas.Bool.Decides.{nat_tests}
-use Rattle.std.proofs.lemmas.List.{length-map, get_or-map, get_or_default}
+use Rattle.std.proofs.lemmas.List.{length-map, get_or-map, get_or_default, get_or-set_other}
 use Rattle.std.proofs.lemmas.List.Sums.{length-filter}
 use Rattle.std.proofs.lemmas.List.Elements.{All-from_recursion, recursion_from_All, All-contains, Contains-append_left, Contains-append_right, Contains-append_cases, All-contains_itself, filter_passes}
 use Rattle.std.proofs.lemmas.List.FromFn.{length-enumerate_from, get_or-enumerate_from}
@@ -22,14 +22,14 @@ use Rattle.cs_types.specs.declared.scenario.Scenario.{Scenario}
 use Rattle.cs_types.specs.Scenario.{IsEvent}
 use Rattle.cs_types.specs.Room.{RoomState, SiblingState, absent, queued_on, sibling_of, is_online, online, online_from, running_on, task_of, with_sibling}
 use Rattle.cs_types.specs.Order.{foremost, is_higher_here, outranks, goes_before, first_of}
-use Rattle.cs_types.specs.Selection.{to_run, first_on, cookie_of, pid_of, is_fair_task, renews_snapshots, snapshot_of, lead_from, choice, eligible, is_forced, forced_count, is_run, told, handed, given, occupation_of, selected_room, selected, Scheduled, is_plain, plain, picked_anew, adopted_or_picked_anew, schedule}
+use Rattle.cs_types.specs.Selection.{to_run, first_on, cookie_of, pid_of, snapshot_of, lead_from, choice, eligible, is_forced, forced_count, is_run, sibling_after_selection, occupation_of, selected_room, selected, Scheduled, is_plain, plain, picked_anew, adopted_or_picked_anew, schedule}
 use Rattle.cs_types.specs.Prctl.{Row, first_answer, rows_before_making, rows_after_making, prctl_answer}
 use Rattle.cs_types.specs.Touches.{selection_of, is_fresh}
 use Rattle.cs_types.specs.Step.{Stepped, step, picked, turned, try_steal, unless_offline, blocked, woken, idled, exited, forked, may_not_fork, ticked, without, has_threads, set_policy, taken_offline, brought_online}
 use Rattle.cs_types.specs.Steal.{stolen}
 use Rattle.cs_types.specs.Queueing.{dequeued}
 use Rattle.cs_types.specs.History.{History, moment_of, fold_of, ledger_of, reply_to, step_at}
-use Rattle.cs_types.specs.Laws.{SelectsForTheCore, scheduling_room, cpu_of}
+use Rattle.cs_types.specs.Laws.{RunsItsChoice, AwaitsItsChoice, SelectsForTheCore, scheduling_room, cpu_of}
 use Rattle.cs_types.proofs.Foremost.{each_weaker, foremost_none, foremost_one}
 use Rattle.cs_types.proofs.First.{goes_before_is_order, outranks_is_order, higher_at_home}
 use Rattle.cs_types.proofs.Filtered.{each_of_map, each_found, foremost_least, foremost-filter, Contains-filter, Contains-filter_parts, Contains-range, Contains-range_within}
@@ -199,7 +199,7 @@ forced_iff room core cpu =
           (same ∙ (none_first (eligible room core cpu)).1 parts.1) ((some_first (queued_on room cpu)).1 parts.0),
     )
 
--- ---- what a sibling is handed
+-- ---- a sibling after a selection
 
 -- what a sibling runs that runs this
 pub is_run_same : (a b : Option ℕ) → is_run a b ≡ true → a ≡ b
@@ -208,24 +208,90 @@ is_run_same None (Some b) h = absurd cc
 is_run_same (Some a) None h = absurd cc
 is_run_same (Some a) (Some b) h = ap Some (eqb-true a b h)
 
--- A sibling that is told its choice is to run it.
-to_run-told : (selector cpu : ℕ) (sibling : SiblingState) (run : Option ℕ) → to_run (told selector cpu sibling run) ≡ run
-to_run-told selector cpu sibling run =
-    cond_both (cpu == selector) _ _ (λ (s : SiblingState). to_run s ≡ run) (λ _. refl)
-    (λ _. cond_both (is_run sibling.run run) _ _ (λ (s : SiblingState). to_run s ≡ run) (λ runs. is_run_same sibling.run run runs) (λ _. refl))
+is_run_itself : (a : Option ℕ) → is_run a a ≡ true
+is_run_itself None = refl
+is_run_itself (Some a) = eq-eqb a a refl
 
-to_run-handed : (selector occupation : ℕ) (run : Option ℕ) (renews : Bool) (cpu : ℕ) (sibling : SiblingState) → sibling.online ≡ true →
-    to_run (handed selector occupation run renews (cpu, sibling)) ≡ run
-to_run-handed selector occupation run renews cpu sibling up =
-    ap to_run (cond-true sibling.online _ sibling up) ∙ to_run-told selector cpu sibling run
+-- what a selection leaves of the sibling with its number, which stays as it is where it is offline
+abbrev pub numbered_after_selection : RoomState → ℕ → ℕ → ℕ × SiblingState → SiblingState
+numbered_after_selection room core selector numbered =
+    cond numbered.1.online (sibling_after_selection room core selector numbered.0 numbered.1) numbered.1
 
--- each sibling after a selection is the one before, handed its choice
+-- a sibling of the room after a selection
 pub sibling_of-selected_room : (room : RoomState) (cpu core other : ℕ) → other < length room.siblings →
-    sibling_of (selected_room room cpu core) other ≡ given room core cpu (other, sibling_of room other)
+    sibling_of (selected_room room cpu core) other
+    ≡ numbered_after_selection room core cpu (other, sibling_of room other)
 unfolding selected_room
 sibling_of-selected_room room cpu core other below =
-    get_or-map (given room core cpu) (enumerate_from 0 room.siblings) other (0, absent) absent (omega (arith, length-enumerate_from 0 room.siblings))
-    ∙ ap (given room core cpu) (get_or-enumerate_from 0 room.siblings other (0, absent) below ∙ ap (λ n. (n, sibling_of room other)) (omega arith))
+    let after = numbered_after_selection room core cpu in
+    get_or-map after (enumerate_from 0 room.siblings) other (0, absent) absent (omega (arith, length-enumerate_from 0 room.siblings))
+    ∙ ap after (get_or-enumerate_from 0 room.siblings other (0, absent) below ∙ ap (λ n. (n, sibling_of room other)) (omega arith))
+
+-- one that is online
+online_after_selection : (room : RoomState) (cpu core other : ℕ) → other < length room.siblings → is_online room other ≡ true →
+    sibling_of (selected_room room cpu core) other ≡ sibling_after_selection room core cpu other (sibling_of room other)
+online_after_selection room cpu core other below up =
+    sibling_of-selected_room room cpu core other below ∙ cond-true (is_online room other) _ (sibling_of room other) up
+
+-- An online sibling is to run its choice.
+to_run-sibling_after_selection : (room : RoomState) (core selector cpu : ℕ) (sibling : SiblingState) →
+    to_run (sibling_after_selection room core selector cpu sibling) ≡ pid_of (choice room core cpu)
+to_run-sibling_after_selection room core selector cpu sibling = by_tests (cpu == selector) (is_run sibling.run run) refl where
+  run : Option ℕ
+  run = pid_of (choice room core cpu)
+
+  by_tests : (selects runs_it : Bool) → is_run sibling.run run ≡ runs_it →
+      unwrap_or (cond (selects || runs_it) None (Some run)) (cond selects run sibling.run) ≡ run
+  by_tests true runs_it is = refl
+  by_tests false true is = is_run_same sibling.run run is
+  by_tests false false is = refl
+
+-- The one that selects runs it already.
+selector_runs_its_choice : (room : RoomState) (core cpu : ℕ) (sibling : SiblingState) →
+    RunsItsChoice (pid_of (choice room core cpu)) (sibling_after_selection room core cpu cpu sibling)
+selector_runs_its_choice room core cpu sibling =
+    let run = pid_of (choice room core cpu) in
+    let selects = eq-eqb cpu cpu refl in
+    record {
+      runs = ap (λ b. cond b run sibling.run) selects;
+      nothing_waits = ap (λ b. cond (b || is_run sibling.run run) None (Some run)) selects;
+      not_pending = ap (λ b. not b && (not (is_run sibling.run run) || sibling.pending)) selects;
+    }
+
+-- For every other it waits where that does not run it yet.
+others_await_their_choices : (room : RoomState) (core selector cpu : ℕ) (sibling : SiblingState) → cpu ≢ selector →
+    AwaitsItsChoice (pid_of (choice room core cpu)) sibling (sibling_after_selection room core selector cpu sibling)
+others_await_their_choices room core selector cpu sibling differ =
+    by_tests (cpu == selector) (is_run sibling.run run) sibling.pending _ _ _ (ne_eqb cpu selector differ) refl where
+      run : Option ℕ
+      run = pid_of (choice room core cpu)
+
+      by_tests : (selects runs_it pending : Bool) (ran occupation snapshot : ℕ) → selects ≡ false → is_run sibling.run run ≡ runs_it →
+          AwaitsItsChoice run (record sibling { pending = pending }) (record sibling {
+            run = cond selects run sibling.run;
+            waiting = cond (selects || runs_it) None (Some run);
+            pending = not selects && (not runs_it || pending);
+            ran = ran;
+            occupation = occupation;
+            snapshot = snapshot;
+          })
+      by_tests true runs_it pending ran occupation snapshot is runs = absurd cc
+      by_tests false true pending ran occupation snapshot is runs =
+          let same = is_run_same sibling.run run runs in
+          record {
+            runs = refl;
+            waits = (λ waits. absurd cc, λ other. absurd (other same));
+            nothing_waits = (λ _. same, λ _. refl);
+            pending = (λ is. inr is, λ either. elim either [ inl waits ↦ absurd cc | inr is ↦ is ]);
+          }
+      by_tests false false pending ran occupation snapshot is runs =
+          let other : sibling.run ≢ run = λ same. both_ways (is_run sibling.run run) runs (ap (λ r. is_run r run) same ∙ is_run_itself run) in
+          record {
+            runs = refl;
+            waits = (λ _. other, λ _. refl);
+            nothing_waits = (λ none. absurd cc, λ same. absurd (other same));
+            pending = (λ _. inl refl, λ _. refl);
+          }
 
 -- ---- while a sibling is forced idle, some sibling has a task
 
@@ -322,10 +388,13 @@ selected_keeps_law room cpu below up =
       cookie = refl;
       told = refl;
       choices = λ other held. let parts = online_parts room other held in
-          ap to_run (sibling_of-selected_room room cpu core other parts.0)
-          ∙ to_run-handed cpu (occupation_of room core) (pid_of (choice room core other))
-          (is_fair_task (choice room core other) && renews_snapshots room core) other (sibling_of room other) parts.1;
+          ap to_run (online_after_selection room cpu core other parts.0 parts.1) ∙ to_run-sibling_after_selection room core cpu other (sibling_of room other);
       first = λ other. choice_is_first room core other;
+      selector = subst (RunsItsChoice (pid_of (choice room core cpu))) (sym (online_after_selection room cpu core cpu below up))
+          (selector_runs_its_choice room core cpu (sibling_of room cpu));
+      others = λ other held differ. let parts = online_parts room other held in
+          subst (AwaitsItsChoice (pid_of (choice room core other)) (sibling_of room other)) (sym (online_after_selection room cpu core other parts.0 parts.1))
+          (others_await_their_choices room core cpu other (sibling_of room other) differ);
       took = refl;
       matches = λ other held. choice_matches room core other;
       forced = λ other. forced_iff room core other;
@@ -362,14 +431,25 @@ get_or-set_alike f (y ∷ xs) (suc i) x (suc j) d same = get_or-set_alike f xs i
 balanced_keeps_law : (room : RoomState) (cpu : ℕ) (pick : Pick) (now : RoomState) (place : ℕ) → SelectsForTheCore room cpu pick now →
     SelectsForTheCore room cpu pick (with_sibling now cpu (record (sibling_of now cpu) { place = place }))
 balanced_keeps_law room cpu pick now place law =
+    let parts = λ (other : ℕ).
+    get_or-set_alike {Y = Option ℕ × Option (Option ℕ) × Bool} (λ s. (s.run, s.waiting, s.pending)) now.siblings cpu (record (sibling_of now cpu) { place = place }) other absent refl in
     record {
       lead = law.lead;
       earliest = law.earliest;
       highest = law.highest;
       cookie = law.cookie;
       told = law.told;
-      choices = λ other there. get_or-set_alike to_run now.siblings cpu (record (sibling_of now cpu) { place = place }) other absent refl ∙ law.choices other there;
+      choices = λ other there. (λ i. unwrap_or (parts other i).1 (parts other i).0) ∙ law.choices other there;
       first = law.first;
+      selector = record {
+        runs = ap (λ part. part.0) (parts cpu) ∙ law.selector.runs;
+        nothing_waits = ap (λ part. part.1) (parts cpu) ∙ law.selector.nothing_waits;
+        not_pending = ap (λ part. part.2) (parts cpu) ∙ law.selector.not_pending;
+      };
+      others = λ other there differ.
+          let is = law.others other there differ in
+          let same = get_or-set_other now.siblings cpu other (record (sibling_of now cpu) { place = place }) absent differ in
+          subst (AwaitsItsChoice (pid_of (choice room now.core_cookie other)) (sibling_of room other)) (sym same) is;
       took = law.took;
       matches = law.matches;
       forced = law.forced;

@@ -15,8 +15,8 @@ use Rattle.cs_types.specs.declared.reply.Reply.{Reply}
 use Rattle.cs_types.specs.declared.reply.Reply.TheVariants.{Zero}
 use Rattle.cs_types.specs.declared.reply.Entry.{Entry}
 use Rattle.cs_types.specs.declared.scenario.Scenario.{Scenario}
-use Rattle.cs_types.specs.Room.{RoomState, SiblingState, idle, absent, sibling_of, running_on, is_online, online, task_of, with_sibling, flagged}
-use Rattle.cs_types.specs.Selection.{is_run, told, handed, given, selected_room, selected, plain, is_plain, picked_anew, adopted_or_picked_anew, schedule}
+use Rattle.cs_types.specs.Room.{RoomState, SiblingState, idle, sibling_of, running_on, is_online, online, task_of, with_sibling, flagged, absent}
+use Rattle.cs_types.specs.Selection.{selected_room, selected, plain, is_plain, picked_anew, adopted_or_picked_anew, schedule, is_run}
 use Rattle.cs_types.specs.Prctl.{Setting, setting_of, runs_one, makes_cookie, with_made, with_answer, prctl_answer, prctl_room}
 use Rattle.cs_types.specs.Step.{Stepped, step, woken, blocked, exited, forked, may_not_fork, child_at_home, ticked, turned, without, has_threads, child_of, with_child, idled, try_steal, unless_offline, with_policy, set_policy, taken_offline, brought_online}
 use Rattle.cs_types.specs.Queueing.{refreshed, dequeued, enqueued, moved, rehomed, queued_at_home}
@@ -34,8 +34,8 @@ map-set_alike f [] i x d same = refl
 map-set_alike f (y ∷ xs) zero x d same = ap (λ z. z ∷ map f xs) same
 map-set_alike f (y ∷ xs) (suc i) x d same = ap (λ zs. f y ∷ zs) (map-set_alike f xs i x d same)
 
--- so does a change of every element, made by its place
-pub map-enumerate_alike : {X Y : Type 0} (f : X → Y) (g : ℕ × X → X) → ((place : ℕ × X) → f (g place) ≡ f place.1) → (n : ℕ) (xs : List X) → map f (map g (enumerate_from n xs)) ≡ map f xs
+-- so does a change of every element, made by its number
+pub map-enumerate_alike : {X Y : Type 0} (f : X → Y) (g : ℕ × X → X) → ((numbered : ℕ × X) → f (g numbered) ≡ f numbered.1) → (n : ℕ) (xs : List X) → map f (map g (enumerate_from n xs)) ≡ map f xs
 map-enumerate_alike f g same n [] = refl
 map-enumerate_alike f g same n (x ∷ xs) = cc (same (n, x), map-enumerate_alike f g same (n + 1) xs)
 
@@ -58,21 +58,12 @@ kept room = map parts_of room.siblings
 pub kept-with_sibling : (room : RoomState) (cpu : ℕ) (sibling : SiblingState) → parts_of sibling ≡ parts_of (sibling_of room cpu) → kept (with_sibling room cpu sibling) ≡ kept room
 kept-with_sibling room cpu sibling same = map-set_alike parts_of room.siblings cpu sibling absent same
 
--- so where it is told its choice
-parts-told : (selector cpu : ℕ) (sibling : SiblingState) (run : Option ℕ) → parts_of (told selector cpu sibling run) ≡ parts_of sibling
-parts-told selector cpu sibling run =
-    cond_both (cpu == selector) _ _ (λ (s : SiblingState). parts_of s ≡ parts_of sibling) (λ _. refl)
-    (λ _. cond_both (is_run sibling.run run) _ _ (λ (s : SiblingState). parts_of s ≡ parts_of sibling) (λ _. refl) (λ _. refl))
-
-parts-handed : (selector occupation : ℕ) (run : Option ℕ) (renews : Bool) (place : ℕ × SiblingState) → parts_of (handed selector occupation run renews place) ≡ parts_of place.1
-parts-handed selector occupation run renews place =
-    cond_both place.1.online _ _ (λ (s : SiblingState). parts_of s ≡ parts_of place.1) (λ _. parts-told selector place.0 place.1 run) (λ _. refl)
-
+-- a selection leaves these parts of each
 pub kept-selected_room : (room : RoomState) (cpu core : ℕ) → kept (selected_room room cpu core) ≡ kept room
 unfolding selected_room
 kept-selected_room room cpu core =
-    map-enumerate_alike parts_of (given room core cpu)
-    (λ place. parts-handed cpu _ _ _ place) 0 room.siblings
+    map-enumerate_alike parts_of _
+    (λ numbered. cond_both numbered.1.online _ _ (λ (s : SiblingState). parts_of s ≡ parts_of numbered.1) (λ _. refl) (λ _. refl)) 0 room.siblings
 
 -- ---- what each step keeps
 

@@ -18,7 +18,7 @@ use Rattle.cs_types.specs.declared.reply.Errno.TheVariants.{Eagain}
 use Rattle.cs_types.specs.declared.reply.Entry.{Entry}
 use Rattle.cs_types.specs.declared.scenario.Scenario.{Scenario}
 use Rattle.cs_types.specs.Room.{RoomState, first_pid, has_pid, sibling_of, running_on, is_online, online, task_of, with_task, asleep, inserted, asleep_tasks}
-use Rattle.cs_types.specs.Selection.{remembered, selected_room, selected, plain, is_plain, picked_anew, adopted_or_picked_anew, schedule}
+use Rattle.cs_types.specs.Selection.{task_after_selection, selected_room, selected, plain, is_plain, picked_anew, adopted_or_picked_anew, schedule}
 use Rattle.cs_types.specs.Prctl.{Setting, setting_of, makes_cookie, with_made, with_answer, prctl_answer, prctl_room}
 use Rattle.cs_types.specs.Step.{Stepped, step, woken, blocked, exited, forked, turned, without, has_threads, child_of, child_at_home, may_not_fork, with_child, ticked, idled, try_steal, unless_offline, with_policy, set_policy, taken_offline, brought_online}
 use Rattle.cs_types.specs.Queueing.{dequeued, queued_at_home, rehomed}
@@ -71,7 +71,7 @@ unfolding selected_room
 few-picked_anew room cpu =
     cond_both (is_plain room cpu) (plain room cpu) (selected room cpu) (λ made. KeepsFew room made.room)
     (λ _. as_many room (plain room cpu).room refl refl)
-    (λ _. as_many room (selected room cpu).room refl (length-map room.tasks (remembered room _)))
+    (λ _. as_many room (selected room cpu).room refl (length-map room.tasks (task_after_selection room _)))
 
 few-adopted_or_picked_anew : (room : RoomState) (fresh : Bool) (cpu : ℕ) (waiting : Option (Option ℕ)) → KeepsFew room (adopted_or_picked_anew room fresh cpu waiting).room
 few-adopted_or_picked_anew room fresh cpu None = few-picked_anew room cpu

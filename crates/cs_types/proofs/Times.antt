@@ -1,8 +1,8 @@
 -- Times: how far the clock and the times come at each step, and so in a history.
-use Rattle.std.proofs.Common.{◌≡◌, ℕ, zero, suc, ◌+◌, ◌*◌, ◌^◌, ◌<◌, ◌≤◌, length, max, ℤ, Bool, true, false, cond, not, ltb, List, [], ◌∷◌, map, get_or, set, refl, sym, ap, ◌∙◌, subst, inl, inr, Option, Some, None, arith}
-use Rattle.std.specs.Prelude.{All, ◌⊎◌, ◌==◌, ◌&&◌, ◌||◌, is_some, filter, fold, replicate}
+use Rattle.std.proofs.Common.{◌≡◌, ℕ, zero, suc, ◌+◌, ◌*◌, ◌<◌, ◌≤◌, length, max, ℤ, Bool, true, false, cond, not, ltb, List, [], ◌∷◌, map, get_or, set, refl, sym, ap, ◌∙◌, subst, inl, inr, Option, Some, None, arith, ◌^◌}
+use Rattle.std.specs.Prelude.{◌⊎◌, ◌==◌, ◌&&◌, ◌||◌, is_some, filter, fold, replicate, All}
 use Rattle.std.specs.List.{AllByRecursion, enumerate_from, list_any}
-use Rattle.std.specs.Option.{IfSome, option_map, option_map_or}
+use Rattle.std.specs.Option.{IfSome, option_map_or, option_map}
 use Rattle.std.proofs.Math.Nat.{div-le_of_le-mul, max-le, le-max_left}
 use Rattle.std.proofs.lemmas.Bool.{cond_both, cases_lt}
 use Rattle.std.proofs.lemmas.Bool.Decides.{nat_tests}
@@ -21,7 +21,7 @@ use Rattle.cs_types.specs.declared.scenario.Scenario.{Scenario}
 use Rattle.cs_types.specs.Scenario.{IsEvent}
 use Rattle.cs_types.specs.Room.{RoomState, SiblingState, idle, absent, asleep, inserted, has_pid, start, online, is_online, lowest_online, queued_on, sibling_of, running_on, task_of, with_sibling, with_task, flagged}
 use Rattle.cs_types.specs.Order.{foremost, is_fair, first_of}
-use Rattle.cs_types.specs.Selection.{is_run, pid_of, choice, occupation_of, remembered, told, noted, handed, given, selected_room, selected, plain, is_plain, picked_anew, adopted_or_picked_anew, schedule}
+use Rattle.cs_types.specs.Selection.{sibling_after_selection, task_after_selection, selected_room, selected, plain, is_plain, picked_anew, adopted_or_picked_anew, schedule, is_run, pid_of, choice, occupation_of}
 use Rattle.cs_types.specs.Time.{weights, weight_of, weight_index, growth, grown_by, is_running, grown, with_growth, fair_times, least_of, with_leasts, advanced, has_used_slice, sliced}
 use Rattle.cs_types.proofs.Timely.{IsTimelyTask, IsTimelySibling, IsTimely}
 use Rattle.cs_types.specs.Prctl.{Setting, setting_of, is_set, makes_cookie, with_made, with_answer, prctl_answer}
@@ -123,38 +123,28 @@ kept_timely old new tasks clock same all =
 
 -- ---- a schedule
 
-noted_is_timely : (most clock : ℕ) (test : Bool) (sibling : SiblingState) → IsTimelySibling most clock sibling → IsTimelySibling most clock (noted test sibling)
-noted_is_timely most clock test sibling is =
-    record { least = is.least; snapshot = cond_both test sibling.least sibling.snapshot (λ n. n ≤ most) (λ _. is.least) (λ _. is.snapshot); ran = is.ran }
+-- a snapshot that becomes the least where the test says so
+snapshot-le : (most clock : ℕ) (renews : Bool) (sibling : SiblingState) → IsTimelySibling most clock sibling → cond renews sibling.least sibling.snapshot ≤ most
+snapshot-le most clock renews sibling is = cond_both renews sibling.least sibling.snapshot (λ n. n ≤ most) (λ _. is.least) (λ _. is.snapshot)
 
-told_is_timely : (most clock selector cpu : ℕ) (sibling : SiblingState) (run : Option ℕ) → IsTimelySibling most clock sibling → IsTimelySibling most clock (told selector cpu sibling run)
-told_is_timely most clock selector cpu sibling run is =
-    cond_both (cpu == selector) _ _ (IsTimelySibling most clock)
-    (λ _. record { least = is.least; snapshot = is.snapshot; ran = omega arith })
-    (λ _. cond_both (is_run sibling.run run) _ _ (IsTimelySibling most clock)
-    (λ _. record { least = is.least; snapshot = is.snapshot; ran = is.ran }) (λ _. record { least = is.least; snapshot = is.snapshot; ran = is.ran }))
-
-handed_is_timely : (most clock selector occupation : ℕ) (run : Option ℕ) (renews : Bool) (cpu : ℕ) (sibling : SiblingState) →
-    IsTimelySibling most clock sibling → IsTimelySibling most clock (handed selector occupation run renews (cpu, sibling))
-handed_is_timely most clock selector occupation run renews cpu sibling is =
-    let told_is = told_is_timely most clock selector cpu sibling run is in
-    cond_both sibling.online _ sibling (IsTimelySibling most clock)
-    (λ _. noted_is_timely most clock renews _ (record { least = told_is.least; snapshot = told_is.snapshot; ran = told_is.ran })) (λ _. is)
-
-remembered_is_timely : (room : RoomState) (core : ℕ) (task : Task) → IsTimelyTask room task → IsTimelyTask room (remembered room core task)
-remembered_is_timely room core task is =
-    cond_both (list_any (λ cpu. is_run (pid_of (choice room core cpu)) (Some task.spec.pid)) (online room))
-    (record task { occupation = occupation_of room core }) task (IsTimelyTask room)
-    (λ _. record { vtime = is.vtime; used = is.used }) (λ _. is)
+sibling_after_selection_is_timely : (most clock : ℕ) (room : RoomState) (core selector cpu : ℕ) (sibling : SiblingState) →
+    IsTimelySibling most clock sibling → IsTimelySibling most clock (sibling_after_selection room core selector cpu sibling)
+sibling_after_selection_is_timely most clock room core selector cpu sibling is = record {
+  least = is.least;
+  snapshot = snapshot-le most clock _ sibling is;
+  ran = cond_both (cpu == selector) 0 sibling.ran (λ n. n ≤ clock) (λ _. omega arith) (λ _. is.ran);
+}
 
 timely-selected_room : (most : ℕ) (room : RoomState) (cpu core : ℕ) → Timely most room → Timely most (selected_room room cpu core)
 unfolding selected_room
 timely-selected_room most room cpu core timely = record {
-  tasks = kept_timely room (selected_room room cpu core) (map (remembered room core) room.tasks) refl (kept-selected_room room cpu core)
-      (all_map (IsTimelyTask room) (remembered room core) room.tasks
-      (each_weaker (IsTimelyTask room) (λ task. IsTimelyTask room (remembered room core task)) room.tasks (remembered_is_timely room core) timely.tasks));
-  siblings = all_enumerated (IsTimelySibling most room.clock) (given room core cpu)
-      (λ other sibling is. handed_is_timely most room.clock cpu _ _ _ other sibling is) 0 room.siblings timely.siblings;
+  tasks = kept_timely room (selected_room room cpu core) (map (task_after_selection room core) room.tasks) refl (kept-selected_room room cpu core)
+      (all_map (IsTimelyTask room) (task_after_selection room core) room.tasks
+      (each_weaker (IsTimelyTask room) (λ task. IsTimelyTask room (task_after_selection room core task)) room.tasks
+      (λ task is. record { vtime = is.vtime; used = is.used }) timely.tasks));
+  siblings = all_enumerated (IsTimelySibling most room.clock) _
+      (λ other sibling is. cond_both sibling.online _ sibling (IsTimelySibling most room.clock)
+      (λ _. sibling_after_selection_is_timely most room.clock room core cpu other sibling is) (λ _. is)) 0 room.siblings timely.siblings;
 }
 
 -- a sibling with the same least, whose times are so
@@ -187,7 +177,7 @@ timely-plain most room cpu timely =
     let is = sibling_is_timely most room cpu timely in
     let closed : RoomState = record room { forced = 0; occupation = 0; started = None } in
     timely-with_sibling most closed cpu _ refl
-    (noted_is_timely most room.clock _ _ (record { least = is.least; snapshot = is.snapshot; ran = omega arith }))
+    (record { least = is.least; snapshot = snapshot-le most room.clock _ (sibling_of room cpu) is; ran = omega arith })
     (same_core most room closed refl refl refl timely)
 
 timely-picked_anew : (most : ℕ) (room : RoomState) (cpu : ℕ) → Timely most room → Timely most (picked_anew room cpu).room

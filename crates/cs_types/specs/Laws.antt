@@ -1,6 +1,6 @@
 -- Laws: what the rules come to, said without them.
-use Rattle.std.specs.Prelude.{◌≡◌, ◌≢◌, ◌↔◌, ℕ, ◌+◌, ◌<◌, Bool, true, false, ◌⊎◌, List, [], map, length, count_by, All, Contains, IsTrue, Option, Some, None, IfSome, IsSomeAnd, unwrap_or}
-use Rattle.std.specs.Option.{option_map_or}
+use Rattle.std.specs.Prelude.{◌≡◌, ◌≢◌, ◌↔◌, ℕ, ◌<◌, true, false, ◌⊎◌, List, [], map, length, count_by, All, Contains, IsTrue, Option, Some, None, IfSome, unwrap_or, ◌+◌, Bool, IsSomeAnd}
+use Rattle.std.specs.Option.{option_map_or, option_and_then}
 use Rattle.cs_types.specs.declared.task.Task.{Task}
 use Rattle.cs_types.specs.declared.event.Event.{Event}
 use Rattle.cs_types.specs.declared.event.Event.TheVariants.{Block, Exit, Prctl}
@@ -26,6 +26,23 @@ scheduling_room room (Block cpu) = option_map_or (λ task. idled (dequeued room 
 scheduling_room room (Exit cpu) = option_map_or (λ task. idled (without room task) cpu) (running_on room cpu) room
 scheduling_room room event = room
 
+-- what a sibling that made a selection has after it, where this is its choice
+pub record RunsItsChoice (chosen : Option ℕ) (now : SiblingState) : Type 0 where
+  -- It runs that. Nothing waits for it, and it has no pending reschedule.
+  pub runs : now.run ≡ chosen
+  pub nothing_waits : now.waiting ≡ None
+  pub not_pending : now.pending ≡ false
+
+-- what any other online sibling has after it, where this is its choice
+pub record AwaitsItsChoice (chosen : Option ℕ) (before now : SiblingState) : Type 0 where
+  -- It runs what it ran.
+  pub runs : now.run ≡ before.run
+  -- Its choice waits exactly where it does not run it yet. Else nothing waits.
+  pub waits : (now.waiting ≡ Some chosen) ↔ (now.run ≢ chosen)
+  pub nothing_waits : (now.waiting ≡ None) ↔ (now.run ≡ chosen)
+  -- It is pending exactly where its choice waits or it was pending before.
+  pub pending : IsTrue now.pending ↔ ((now.waiting ≡ Some chosen) ⊎ IsTrue before.pending)
+
 -- What a selection for the core that a sibling made in the one room leaves in the other.
 pub record SelectsForTheCore (before : RoomState) (cpu : ℕ) (pick : Pick) (now : RoomState) : Type 0 where
   -- The lead is the earliest first, from the sibling that selects on, than which no other first is higher.
@@ -42,6 +59,10 @@ pub record SelectsForTheCore (before : RoomState) (cpu : ℕ) (pick : Pick) (now
   pub choices : (other : ℕ) → Contains (online before) other →
       to_run (sibling_of now other) ≡ pid_of (choice before now.core_cookie other)
   pub first : (other : ℕ) → choice before now.core_cookie other ≡ first_of (eligible before now.core_cookie other)
+  -- The sibling that selects runs it already. Any other that does not run it yet has it waiting, and is pending.
+  pub selector : RunsItsChoice (pid_of (choice before now.core_cookie cpu)) (sibling_of now cpu)
+  pub others : (other : ℕ) → Contains (online before) other → other ≢ cpu →
+      AwaitsItsChoice (pid_of (choice before now.core_cookie other)) (sibling_of before other) (sibling_of now other)
   pub took : pick.run ≡ unwrap_or (pid_of (choice before now.core_cookie cpu)) 0
   pub matches : (other : ℕ) → Contains (online before) other →
       (choice before now.core_cookie other ≡ None) ⊎ (cookie_of (choice before now.core_cookie other) ≡ now.core_cookie)

@@ -24,6 +24,10 @@ cookie_of (Some task) = task.cookie
 abbrev pub pid_of : Option Task → Option ℕ
 pid_of task = option_map (λ (task : Task). task.spec.pid) task
 
+-- whether this is a fair task
+abbrev pub is_fair_task : Option Task → Bool
+is_fair_task task = option_map_or is_fair task false
+
 -- the tasks queued on a sibling that have this cookie (`core_tree`)
 abbrev pub queued_with : RoomState → ℕ → ℕ → List Task
 queued_with room cookie cpu = filter (λ task. task.cookie == cookie) (queued_on room cpu)
@@ -89,16 +93,6 @@ to_run sibling = unwrap_or sibling.waiting sibling.run
 abbrev pub running : SiblingState → Option ℕ → SiblingState
 running sibling run = record sibling { run = run; pending = false; waiting = None; ran = 0 }
 
--- ---- snapshots (`se_fi_update` and `task_vruntime_update`, kernel/sched/fair.c)
-
--- whether this is a fair task
-abbrev pub is_fair_task : Option Task → Bool
-is_fair_task task = option_map_or is_fair task false
-
--- the sibling's snapshot becomes its least virtual time where the test says so
-abbrev pub noted : Bool → SiblingState → SiblingState
-noted test sibling = record sibling { snapshot = if test then sibling.least else sibling.snapshot }
-
 -- ---- adopted
 
 -- The sibling runs what waits for it, which an earlier selection of another sibling chose.
@@ -115,65 +109,69 @@ adopted room cpu run =
 abbrev pub is_plain : RoomState → ℕ → Bool
 is_plain room cpu = (room.core_cookie == 0) && (room.forced == 0) && (cookie_of (first_on room cpu) == 0)
 
--- The sibling runs its first, and its snapshot is renewed where that is fair.
+-- The sibling runs its first, and its snapshot becomes its least where that is fair (`se_fi_update`,
+-- kernel/sched/fair.c).
 abbrev pub plain : RoomState → ℕ → Scheduled
 plain room cpu =
     let first = first_on room cpu in
+    let sibling = sibling_of room cpu in
     record {
       pick = record { kind = Plain; run = unwrap_or (pid_of first) 0; core = 0; forced = 0 };
       room = with_sibling (record room { forced = 0; occupation = 0; started = None }) cpu
-          (noted (is_fair_task first) (running (sibling_of room cpu) (pid_of first)));
+          (record (running sibling (pid_of first)) {
+            snapshot = if is_fair_task first then sibling.least else sibling.snapshot;
+          });
     }
 
 -- ---- selected
-
--- A chosen task remembers the occupation.
-abbrev pub remembered : RoomState → ℕ → Task → Task
-remembered room core task =
-    if list_any (λ cpu. is_run (pid_of (choice room core cpu)) (Some task.spec.pid)) (online room)
-    then record task { occupation = occupation_of room core }
-    else task
-
--- The sibling that selects runs its choice. One that runs its choice already has nothing waiting, and stays pending
--- where it was. For every other the choice waits, and it becomes pending.
-abbrev pub told : ℕ → ℕ → SiblingState → Option ℕ → SiblingState
-told selector cpu sibling run =
-    if cpu == selector
-    then running sibling run
-    else (
-    if is_run sibling.run run
-    then record sibling { waiting = None }
-    else record sibling { pending = true; waiting = Some run }
-    )
-
--- An online sibling is told its choice, its idle remembers the occupation where that is the choice, and its snapshot is
--- renewed where the test says so.
-abbrev pub handed : ℕ → ℕ → Option ℕ → Bool → ℕ × SiblingState → SiblingState
-handed selector occupation run renews place =
-    if place.1.online
-    then noted renews (record (told selector place.0 place.1 run) {
-      occupation = if is_none run then occupation else place.1.occupation;
-    })
-    else place.1
 
 -- A selection renews no snapshot where some sibling was forced idle before it and some is after it (`fi_before` in
 -- `pick_next_task`).
 abbrev pub renews_snapshots : RoomState → ℕ → Bool
 renews_snapshots room core = (room.forced == 0) || (forced_count room core == 0)
 
--- Each sibling is given its choice, and its snapshot is renewed where that is fair.
-abbrev pub given : RoomState → ℕ → ℕ → ℕ × SiblingState → SiblingState
-given room core selector place =
-    let chosen = choice room core place.0 in
-    handed selector (occupation_of room core) (pid_of chosen) (is_fair_task chosen && renews_snapshots room core) place
+-- An online sibling once it or another, the selector, has selected for a core cookie.
+abbrev pub sibling_after_selection : RoomState → ℕ → ℕ → ℕ → SiblingState → SiblingState
+sibling_after_selection room core selector cpu sibling =
+    let chosen = choice room core cpu in
+    let selects = cpu == selector in
+    let runs_it = is_run sibling.run (pid_of chosen) in
+    record sibling {
+      -- The selector runs its choice.
+      run = if selects then pid_of chosen else sibling.run;
+      -- For any other its choice waits, unless it runs that already (`rq->core_pick`).
+      waiting = if selects || runs_it then None else Some (pid_of chosen);
+      -- The selector is not pending. One that runs its choice already stays pending where it was, and every other
+      -- becomes pending (`resched_curr`).
+      pending = not selects && (not runs_it || sibling.pending);
+      -- The time since its schedule begins anew for the selector alone.
+      ran = if selects then 0 else sibling.ran;
+      -- Where idle is the choice, it remembers the occupation (`core_occupation` of `rq->idle`).
+      occupation = if is_none chosen then occupation_of room core else sibling.occupation;
+      -- Where a fair task is the choice, the snapshot becomes the least (`task_vruntime_update` and `se_fi_update`,
+      -- kernel/sched/fair.c).
+      snapshot = if is_fair_task chosen && renews_snapshots room core then sibling.least else sibling.snapshot;
+    }
+
+-- whether some online sibling's choice is the task with this pid
+abbrev pub is_chosen : RoomState → ℕ → ℕ → Bool
+is_chosen room core pid = list_any (λ cpu. is_run (pid_of (choice room core cpu)) (Some pid)) (online room)
+
+-- A task that is chosen remembers the occupation (`core_occupation`).
+abbrev pub task_after_selection : RoomState → ℕ → Task → Task
+task_after_selection room core task =
+    record task { occupation = if is_chosen room core task.spec.pid then occupation_of room core else task.occupation }
 
 -- the room once the online siblings have their choices for this core cookie. An interval of forced idle opens where some
 -- sibling is forced idle and the core has a cookie (that it needs one is this project's rule).
 unfoldable pub selected_room : RoomState → ℕ → ℕ → RoomState
 selected_room room cpu core =
     record room {
-      tasks = map (remembered room core) room.tasks;
-      siblings = map (given room core cpu) (enumerate_from 0 room.siblings);
+      tasks = map (task_after_selection room core) room.tasks;
+      siblings = map (λ numbered.
+          if numbered.1.online
+          then sibling_after_selection room core cpu numbered.0 numbered.1
+          else numbered.1) (enumerate_from 0 room.siblings);
       core_cookie = core;
       forced = forced_count room core;
       occupation = occupation_of room core;

@@ -1,7 +1,7 @@
 -- What the code chooses is the model's choice, and what it counts are the model's counts.
 use Rattle.std.proofs.Common.{◌≡◌, ℕ, suc, ◌+◌, ◌-◌, ◌<◌, ◌≤◌, Bool, true, false, cond, List, [], ◌∷◌, ◌++◌, map, length, get_or, refl, sym, ap, ◌∙◌, append_assoc, arith}
 use Rattle.std.specs.Prelude.{◌||◌, ◌&&◌, ◌==◌, filter, count_by, All, Option, Some, None, is_none, is_some, IfSome, not}
-use Rattle.std.specs.List.{list_any, list_all, range_with_len, enumerate_from}
+use Rattle.std.specs.List.{list_any, list_all, range_with_len}
 use Rattle.std.specs.Option.{option_and_then}
 use Rattle.std.proofs.lemmas.Bool.{cond-false, ne_eqb}
 use Rattle.std.proofs.lemmas.List.{map-append, length-map}
@@ -10,17 +10,13 @@ use Rattle.std.proofs.lemmas.List.Elements.{filter-append, All-map, All-filter}
 use Rattle.std.proofs.lemmas.List.FromFn.{get_or-map-range_with_len}
 use Rattle.cs_types.specs.Room.{RoomState, is_online, online, online_from, queued_on, sibling_of}
 use Rattle.cs_types.specs.Order.{first_of, goes_before, foremost, outranks}
-use Rattle.cs_types.specs.Selection.{first_on, cookie_of, pid_of, is_fair_task, renews_snapshots, snapshot_of, queued_with, choice, is_forced, forced_count, occupation_of, is_run, handed, given, remembered, lead_from, adopted, balanced, picked_anew, adopted_or_picked_anew, schedule}
+use Rattle.cs_types.specs.Selection.{first_on, cookie_of, pid_of, snapshot_of, queued_with, choice, is_forced, forced_count, occupation_of, is_run, task_after_selection, lead_from, adopted, balanced, picked_anew, adopted_or_picked_anew, schedule}
 use Rattle.plain_room.specs.declared.choice.Choice.{Choice}
 use Rattle.cs_types.specs.declared.task.Task.{Task}
 use Rattle.plain_room.specs.declared.state.State.{State}
 use Rattle.plain_room.specs.State.{sibling_state, room_of}
-use Rattle.plain_room.specs.Choice.{choice_at, handed_choice, remembered_task}
-use Rattle.plain_room.proofs.Lists.{count_at, any_at, map_places, range_more, All-find}
-
--- what a sibling with this first gets, where the search for the core cookie gives the other
-choice_by : Option Task → ℕ → Option Task → Option Task
-choice_by first core found = cond (is_none first || (cookie_of first == core)) first found
+use Rattle.plain_room.specs.Choice.{choice_at, choices_of, task_after_choices}
+use Rattle.plain_room.proofs.Lists.{count_at, any_at, range_more, All-find}
 
 -- a first with another cookie makes way for what the search gives
 pub choice_searched : (room : RoomState) (core cpu : ℕ) (task : Task) → Some task ≡ first_on room cpu → (task.cookie ≡ core → ⊥) →
@@ -31,17 +27,9 @@ choice_searched room core cpu task first other =
     sym (cond-false (task.cookie == core) (Some task) found (ne_eqb task.cookie core other))
     ∙ ap (λ (f : Option Task). cond (is_none f || (cookie_of f == core)) f found) first
 
-is_none-pid_of : (task : Option Task) → is_none (pid_of task) ≡ is_none task
-is_none-pid_of None = refl
-is_none-pid_of (Some task) = refl
-
 is_some-pid_of : (task : Option Task) → is_some (pid_of task) ≡ is_some task
 is_some-pid_of None = refl
 is_some-pid_of (Some task) = refl
-
--- what each sibling gets, in the order of their numbers
-abbrev pub choices_of : RoomState → ℕ → List Choice
-choices_of room core = map (choice_at room core) (range_with_len 0 (length room.siblings))
 
 -- the choices that the code makes, of as many siblings as the state has
 pub choices_are : (scenario : Scenario) (state : State) (core : ℕ) (choices : List Choice) →
@@ -65,17 +53,13 @@ pub any-choices : (room : RoomState) (core pid : ℕ) →
 any-choices room core pid =
     any_at (choice_at room core) (λ c. c.is_online && is_run c.run (Some pid)) (is_online room) (λ cpu. is_run (pid_of (choice room core cpu)) (Some pid)) (range_with_len 0 (length room.siblings)) (λ cpu. refl)
 
--- the choice at a place
+-- what a read past the last choice would give
+abbrev pub no_choice : Choice
+no_choice = record { run = None; is_online = false; is_forced = false; is_fair = false }
+
+-- the choice of the sibling with this number
 pub choice_in : (room : RoomState) (core cpu : ℕ) (d : Choice) → cpu < length room.siblings → get_or (choices_of room core) cpu d ≡ choice_at room core cpu
 choice_in room core cpu d lt = get_or-map-range_with_len (choice_at room core) 0 (length room.siblings) cpu cpu d lt (omega arith)
-
--- what is handed by places of the choices is given by the model
-pub handed-choices : (room : RoomState) (core selector occupation : ℕ) (renews : Bool) → occupation ≡ occupation_of room core → renews ≡ renews_snapshots room core →
-    map (handed_choice selector occupation renews (choices_of room core)) (enumerate_from 0 room.siblings) ≡ map (given room core selector) (enumerate_from 0 room.siblings)
-handed-choices room core selector occupation renews same noted =
-    map_places (handed_choice selector occupation renews (choices_of room core)) (given room core selector) 0 room.siblings (λ place lt.
-    ap (λ (choice : Choice). handed selector occupation choice.run (choice.is_fair && renews) place) (choice_in room core place.0 _ (omega arith))
-    ∙ (λ i. handed selector (same i) (pid_of (choice room core place.0)) (is_fair_task (choice room core place.0) && noted i) place))
 
 -- a sibling more among the firsts of those that are online
 pub firsts_more : (room : RoomState) (from cpu : ℕ) → from ≤ cpu →
@@ -148,19 +132,14 @@ pub lead_is : (room : RoomState) (cpu : ℕ) → option_and_then (λ (first : Op
 unfolding lead_from
 lead_is room cpu = refl
 
--- the tasks that remember an occupation, as the code finds them among the choices
-pub remembered-choices : (room : RoomState) (core occupation : ℕ) (tasks : List Task) → occupation ≡ occupation_of room core →
-    map (remembered_task (choices_of room core) occupation) tasks ≡ map (remembered room core) tasks
-remembered-choices room core occupation [] same = refl
-remembered-choices room core occupation (task ∷ tasks) same =
-    let chosen = list_any (λ cpu. is_run (pid_of (choice room core cpu)) (Some task.spec.pid)) (online room) in
-    let one : remembered_task (choices_of room core) occupation task ≡ remembered room core task =
-    ap (λ (b : Bool). record task { occupation = cond b occupation task.occupation }) (any-choices room core task.spec.pid) ∙ where_chosen chosen occupation same in
-    λ i. one i ∷ remembered-choices room core occupation tasks same i where
-      where_chosen : (b : Bool) (n : ℕ) → n ≡ occupation_of room core →
-          record task { occupation = cond b n task.occupation } ≡ cond b (record task { occupation = occupation_of room core }) task
-      where_chosen true n e = ap (λ (m : ℕ). record task { occupation = m }) e
-      where_chosen false n e = refl
+-- a task after a selection, as the code finds it among the choices
+pub map-task_after_choices : (room : RoomState) (core occupation : ℕ) (tasks : List Task) → occupation ≡ occupation_of room core →
+    map (task_after_choices (choices_of room core) occupation) tasks ≡ map (task_after_selection room core) tasks
+map-task_after_choices room core occupation [] same = refl
+map-task_after_choices room core occupation (task ∷ tasks) same =
+    let one : task_after_choices (choices_of room core) occupation task ≡ task_after_selection room core task =
+    λ i. record task { occupation = cond (any-choices room core task.spec.pid i) (same i) task.occupation } in
+    λ i. one i ∷ map-task_after_choices room core occupation tasks same i
 
 -- ---- which case a schedule is
 

@@ -123,14 +123,6 @@ placed_more {X} g xs ys i y d lt so_far is =
 
 -- ---- lists of places
 
--- two functions that agree at the places of a list agree over it
-pub map_places : {X Y : Type 0} (f g : ℕ × X → Y) (n : ℕ) (xs : List X) → ((place : ℕ × X) → place.0 < n + length xs → f place ≡ g place) →
-    map f (enumerate_from n xs) ≡ map g (enumerate_from n xs)
-map_places f g n [] same = refl
-map_places {Y = Y} f g n (x ∷ xs) same =
-    ap (λ (y : Y). y ∷ map f (enumerate_from (n + 1) xs)) (same (n, x) (omega arith))
-    ∙ ap (λ (ys : List Y). g (n, x) ∷ ys) (map_places f g (n + 1) xs (λ place lt. same place (omega arith)))
-
 -- two functions that agree at each place of a list, with what stands there, agree over it
 pub map_enumerated : {X Y : Type 0} (f g : ℕ × X → Y) (d : X) (n : ℕ) (xs : List X) →
     ((k m : ℕ) → k < length xs → m ≡ n + k → f (m, get_or xs k d) ≡ g (m, get_or xs k d)) → map f (enumerate_from n xs) ≡ map g (enumerate_from n xs)

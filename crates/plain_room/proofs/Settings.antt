@@ -31,7 +31,7 @@ use Rattle.prctl_core.specs.declared.decision.Planned.TheVariants.{Go}
 use Rattle.prctl_core.specs.Plan.{named, IsGranted, SetsIn}
 use Rattle.plain_room.specs.declared.choice.Choice.{Choice}
 use Rattle.plain_room.specs.declared.state.State.{State}
-use Rattle.plain_room.specs.Choice.{chosen_among, remembering, remembered_task}
+use Rattle.plain_room.specs.Choice.{chosen_task, task_after_choice, task_after_choices}
 use Rattle.plain_room.specs.Cookies.{setting, flagged_for, SetsCookies}
 use Rattle.plain_room.specs.State.{sibling_state, room_of, IsFit, Has, Numbers, numbers_of, touched, numbers_after, Makes}
 
@@ -44,7 +44,7 @@ found_there pid tasks None is = tt
 found_there pid tasks (Some task) is = found_again pid tasks task (sym is)
 
 -- it is found by its own pid
-pub chosen_there : (tasks : List Task) (choice : Choice) (found : Option Task) → Rises tasks → found ≡ chosen_among tasks choice →
+pub chosen_there : (tasks : List Task) (choice : Choice) (found : Option Task) → Rises tasks → found ≡ chosen_task tasks choice →
     IfSome found (λ task. find (has_pid task.spec.pid) tasks ≡ Some task)
 chosen_there tasks choice None rises is = tt
 chosen_there tasks choice (Some task) rises is = by_choice choice.is_online choice.run is where
@@ -66,11 +66,11 @@ pub run_test : (a b : ℕ) → eqb b a ≡ eqb a b
 run_test a b = grind (arith, nat_tests)
 
 -- where one is, it remembers, and no other does
-pub remembers : (tasks : List Task) (choice : Choice) (occupation : ℕ) (task : Task) → Rises tasks → Some task ≡ chosen_among tasks choice →
-    map (λ other. cond (has_pid task.spec.pid other) (record task { occupation = occupation }) other) tasks ≡ map (remembering choice occupation) tasks
-remembers tasks choice occupation task rises is =
+pub map-task_after_choice : (tasks : List Task) (choice : Choice) (occupation : ℕ) (task : Task) → Rises tasks → Some task ≡ chosen_task tasks choice →
+    map (λ other. cond (has_pid task.spec.pid other) (record task { occupation = occupation }) other) tasks ≡ map (task_after_choice choice occupation) tasks
+map-task_after_choice tasks choice occupation task rises is =
     changed_each (λ t. record t { occupation = occupation }) tasks task rises (chosen_there tasks choice (Some task) rises is)
-    ∙ map_alike (λ other. cond (has_pid task.spec.pid other) (record other { occupation = occupation }) other) (remembering choice occupation) tasks
+    ∙ map_alike (λ other. cond (has_pid task.spec.pid other) (record other { occupation = occupation }) other) (task_after_choice choice occupation) tasks
     (λ other. ap (λ b. cond b (record other { occupation = occupation }) other) (by_choice choice.is_online choice.run is other)) where
       by_choice : (online : Bool) (run : Option ℕ) → Some task ≡ cond online (option_and_then (λ pid. find (has_pid pid) tasks) run) None →
           (other : Task) → has_pid task.spec.pid other ≡ (online && is_run run (Some other.spec.pid))
@@ -80,10 +80,10 @@ remembers tasks choice occupation task rises is =
           ap (λ n. eqb other.spec.pid n) (pid_found pid tasks task (sym is)) ∙ run_test pid other.spec.pid
 
 -- where none is, none remembers
-pub remembers_none : (tasks : List Task) (choice : Choice) (occupation : ℕ) → None ≡ chosen_among tasks choice →
-    tasks ≡ map (remembering choice occupation) tasks
-remembers_none tasks choice occupation is = sym (kept tasks (by_choice choice.is_online choice.run is)) where
-  kept : (ts : List Task) → AllByRecursion (λ other. (choice.is_online && is_run choice.run (Some other.spec.pid)) ≡ false) ts → map (remembering choice occupation) ts ≡ ts
+pub map-task_after_choice_none : (tasks : List Task) (choice : Choice) (occupation : ℕ) → None ≡ chosen_task tasks choice →
+    tasks ≡ map (task_after_choice choice occupation) tasks
+map-task_after_choice_none tasks choice occupation is = sym (kept tasks (by_choice choice.is_online choice.run is)) where
+  kept : (ts : List Task) → AllByRecursion (λ other. (choice.is_online && is_run choice.run (Some other.spec.pid)) ≡ false) ts → map (task_after_choice choice occupation) ts ≡ ts
   kept [] none = refl
   kept (t ∷ ts) none = λ i. cond-false _ (record t { occupation = occupation }) t none.0 i ∷ kept ts none.1 i
 
@@ -107,9 +107,9 @@ remembers_none tasks choice occupation is = sym (kept tasks (by_choice choice.is
 
 -- ---- the tasks that remember, choice by choice
 
-pub remembered_none : (occupation : ℕ) (tasks : List Task) → map (remembered_task [] occupation) tasks ≡ tasks
-remembered_none occupation [] = refl
-remembered_none occupation (task ∷ tasks) = ap (λ (ts : List Task). task ∷ ts) (remembered_none occupation tasks)
+pub map-task_after_choices_none : (occupation : ℕ) (tasks : List Task) → map (task_after_choices [] occupation) tasks ≡ tasks
+map-task_after_choices_none occupation [] = refl
+map-task_after_choices_none occupation (task ∷ tasks) = ap (λ (ts : List Task). task ∷ ts) (map-task_after_choices_none occupation tasks)
 
 pub any-push : {X : Type 0} (test : X → Bool) (xs : List X) (x : X) → list_any test (xs ++ x ∷ []) ≡ (list_any test xs || test x)
 any-push test [] x = or_false (test x) where
@@ -122,14 +122,14 @@ any-push test (y ∷ ys) x = ap (λ b. test y || b) (any-push test ys x) ∙ or_
   or_or false b c = refl
 
 -- one choice more
-pub remembered-push : (choices : List Choice) (choice : Choice) (occupation : ℕ) (tasks : List Task) →
-    map (remembering choice occupation) (map (remembered_task choices occupation) tasks) ≡ map (remembered_task (choices ++ choice ∷ []) occupation) tasks
-remembered-push choices choice occupation [] = refl
-remembered-push choices choice occupation (task ∷ tasks) =
+pub map-task_after_choices_push : (choices : List Choice) (choice : Choice) (occupation : ℕ) (tasks : List Task) →
+    map (task_after_choice choice occupation) (map (task_after_choices choices occupation) tasks) ≡ map (task_after_choices (choices ++ choice ∷ []) occupation) tasks
+map-task_after_choices_push choices choice occupation [] = refl
+map-task_after_choices_push choices choice occupation (task ∷ tasks) =
     let test = λ (one : Choice). one.is_online && is_run one.run (Some task.spec.pid) in
-    let one : remembering choice occupation (remembered_task choices occupation task) ≡ remembered_task (choices ++ choice ∷ []) occupation task =
+    let one : task_after_choice choice occupation (task_after_choices choices occupation task) ≡ task_after_choices (choices ++ choice ∷ []) occupation task =
     by_tests (list_any test choices) (test choice) ∙ ap (λ b. record task { occupation = cond b occupation task.occupation }) (sym (any-push test choices choice)) in
-    λ i. one i ∷ remembered-push choices choice occupation tasks i where
+    λ i. one i ∷ map-task_after_choices_push choices choice occupation tasks i where
       by_tests : (a b : Bool) → cond b (record task { occupation = occupation }) (record task { occupation = cond a occupation task.occupation })
           ≡ record task { occupation = cond (a || b) occupation task.occupation }
       by_tests true true = refl

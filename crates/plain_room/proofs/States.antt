@@ -28,7 +28,7 @@ use Rattle.cookie_refs.specs.Refs.{Refs, references, AgreeBut}
 use Rattle.plain_room.specs.State.{sibling_state, IsFit, Knows, IsSound, room_of, Schedules, ChargesAndSchedules}
 use Rattle.plain_room.specs.declared.state.State.{State}
 use Rattle.plain_room.specs.declared.choice.Choice.{Choice}
-use Rattle.plain_room.specs.Choice.{remembered_task}
+use Rattle.plain_room.specs.Choice.{task_after_choices}
 use Rattle.cs_types.specs.declared.task.Task.{Task}
 use Rattle.plain_room.specs.declared.sibling.Sibling.{Sibling}
 use Rattle.plain_room.proofs.Lists.{All-find}
@@ -153,11 +153,11 @@ known-changed charges task tasks all =
     (λ same. subst (λ pid. IsTrue (has_total charges pid)) (eqb-true t.spec.pid task.spec.pid same) has) (λ _. has)) tasks all)
 
 -- tasks that remember an occupation fit as they did
-pub fit-remembered : (count next : ℕ) (choices : List Choice) (occupation : ℕ) (tasks : List Task) → All (IsFit count next) tasks →
-    All (IsFit count next) (map (remembered_task choices occupation) tasks)
-fit-remembered count next choices occupation tasks all =
-    All-map (IsFit count next) (remembered_task choices occupation) tasks
-    (All-weaker (IsFit count next) (λ (t : Task). IsFit count next (remembered_task choices occupation t)) (λ t fit. record { pid = fit.pid; below = fit.below; home = fit.home; policy = fit.policy }) tasks all)
+pub fit-task_after_choices : (count next : ℕ) (choices : List Choice) (occupation : ℕ) (tasks : List Task) → All (IsFit count next) tasks →
+    All (IsFit count next) (map (task_after_choices choices occupation) tasks)
+fit-task_after_choices count next choices occupation tasks all =
+    All-map (IsFit count next) (task_after_choices choices occupation) tasks
+    (All-weaker (IsFit count next) (λ (t : Task). IsFit count next (task_after_choices choices occupation t)) (λ t fit. record { pid = fit.pid; below = fit.below; home = fit.home; policy = fit.policy }) tasks all)
 
 -- ---- siblings
 

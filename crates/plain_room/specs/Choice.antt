@@ -1,9 +1,9 @@
 -- Choice: what the choices of a selection make of tasks and siblings.
-use Rattle.std.specs.Prelude.{ℕ, Bool, ◌&&◌, false, if◌then◌else◌, List, find, Option, Some, None, slice_index_or}
+use Rattle.std.specs.Prelude.{ℕ, Bool, ◌&&◌, if◌then◌else◌, List, length, map, find, Option, Some, None}
 use Rattle.std.specs.Option.{option_and_then}
-use Rattle.std.specs.List.{list_any}
-use Rattle.cs_types.specs.Room.{RoomState, SiblingState, has_pid, is_online}
-use Rattle.cs_types.specs.Selection.{is_run, handed, pid_of, is_fair_task, choice, is_forced}
+use Rattle.std.specs.List.{list_any, range_with_len}
+use Rattle.cs_types.specs.Room.{RoomState, has_pid, is_online}
+use Rattle.cs_types.specs.Selection.{is_run, pid_of, is_fair_task, choice, is_forced}
 use Rattle.plain_room.specs.declared.choice.Choice.{Choice}
 use Rattle.cs_types.specs.declared.task.Task.{Task}
 
@@ -17,28 +17,24 @@ choice_at room core cpu =
       is_fair = is_fair_task (choice room core cpu);
     }
 
+-- what each sibling gets, in the order of their numbers
+abbrev pub choices_of : RoomState → ℕ → List Choice
+choices_of room core = map (choice_at room core) (range_with_len 0 (length room.siblings))
+
 -- the task that is chosen for a sibling, none where that is offline or gets idle
-abbrev pub chosen_among : List Task → Choice → Option Task
-chosen_among tasks choice = if choice.is_online then option_and_then (λ pid. find (has_pid pid) tasks) choice.run else None
+abbrev pub chosen_task : List Task → Choice → Option Task
+chosen_task tasks choice = if choice.is_online then option_and_then (λ pid. find (has_pid pid) tasks) choice.run else None
 
--- a task that is this choice remembers the occupation
-abbrev pub remembering : Choice → ℕ → Task → Task
-remembering choice occupation task =
-    if choice.is_online && is_run choice.run (Some task.spec.pid) then record task { occupation = occupation } else task
+-- whether this is the choice of an online sibling for the task with this pid
+abbrev pub is_choice_of : ℕ → Choice → Bool
+is_choice_of pid choice = choice.is_online && is_run choice.run (Some pid)
 
--- a task that is among the choices remembers the occupation
-abbrev pub remembered_task : List Choice → ℕ → Task → Task
-remembered_task choices occupation task =
-    record task {
-      occupation = if list_any (λ choice. choice.is_online && is_run choice.run (Some task.spec.pid)) choices then occupation else task.occupation;
-    }
+-- a task remembers the occupation where it is this choice
+abbrev pub task_after_choice : Choice → ℕ → Task → Task
+task_after_choice choice occupation task =
+    if is_choice_of task.spec.pid choice then record task { occupation = occupation } else task
 
--- no choice
-abbrev pub no_choice : Choice
-no_choice = record { run = None; is_online = false; is_forced = false; is_fair = false }
-
--- the sibling at a place is handed what stands there among the choices, where the test says whether snapshots are renewed
-abbrev pub handed_choice : ℕ → ℕ → Bool → List Choice → ℕ × SiblingState → SiblingState
-handed_choice selector occupation renews choices place =
-    let chosen = slice_index_or choices place.0 no_choice in
-    handed selector occupation chosen.run (chosen.is_fair && renews) place
+-- and where it is among these
+abbrev pub task_after_choices : List Choice → ℕ → Task → Task
+task_after_choices choices occupation task =
+    record task { occupation = if list_any (is_choice_of task.spec.pid) choices then occupation else task.occupation }

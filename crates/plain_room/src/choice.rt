@@ -1,12 +1,12 @@
 //! What each sibling gets in a selection for the core. It is a file of its own since the selection
-//! counts the choices, and then hands them to siblings and tasks.
+//! counts the choices before it changes siblings and tasks by them.
 
-ghost use Rattle.std.specs.Prelude.{◌≡◌, ◌≤◌, ◌&&◌, count_by, is_some, length, map, find, Some, IfSome};
-ghost use Rattle.std.specs.List.{list_any, enumerate_from};
-ghost use Rattle.cs_types.specs.Room.{has_pid};
+ghost use Rattle.std.specs.Prelude.{◌≡◌, ℕ, ◌≤◌, ◌&&◌, count_by, is_some, length, map, find, Some, IfSome};
+ghost use Rattle.cs_types.specs.Room.{RoomState, has_pid};
+ghost use Rattle.cs_types.specs.Selection.{occupation_of, renews_snapshots, selected_room};
 ghost use Rattle.task_table.specs.Table.{IsSound as IsTable};
 ghost use Rattle.plain_room.specs.State.{sibling_state};
-ghost use Rattle.plain_room.specs.Choice.{chosen_among, remembering, remembered_task, handed_choice};
+ghost use Rattle.plain_room.specs.Choice.{choices_of, chosen_task, task_after_choice, task_after_choices};
 
 use crate::sibling::Sibling;
 use arrayvec::ArrayVec;
@@ -49,8 +49,8 @@ pub fn occupation(choices: &[Choice]) -> u8
 }
 
 /// The task that is chosen for the sibling, if one is.
-fn chosen(tasks: &TaskTable, choice: &Choice) -> Option<Task>
-    ensures chosen { result ≡ chosen_among tasks.now.tasks choice.now }
+fn chosen_task(tasks: &TaskTable, choice: &Choice) -> Option<Task>
+    ensures chosen { result ≡ chosen_task tasks.now.tasks choice.now }
     ensures there { IfSome result (λ task. find (has_pid task.spec.pid) tasks.now.tasks ≡ Some task) }
 {
     if !choice.is_online {
@@ -60,30 +60,31 @@ fn chosen(tasks: &TaskTable, choice: &Choice) -> Option<Task>
 }
 
 /// The task that is chosen for the sibling, if one is, remembers the occupation.
-fn remember_one(tasks: &mut TaskTable, choice: &Choice, occupation: u8)
+fn update_task(tasks: &mut TaskTable, choice: &Choice, occupation: u8)
     requires { IsTable tasks.old }
-    ensures remembered { tasks.new ≡ record tasks.old { tasks = map (remembering choice.now occupation) tasks.old.tasks } }
+    ensures tasks { tasks.new ≡ record tasks.old { tasks = map (task_after_choice choice.now occupation) tasks.old.tasks } }
     ensures sound { IsTable tasks.new }
 {
-    if let Some(task) = chosen(tasks, choice) {
+    if let Some(task) = chosen_task(tasks, choice) {
         tasks.change(Task { occupation, ..task });
     }
 }
 
-/// The chosen tasks remember the occupation.
-pub fn remember(tasks: &mut TaskTable, choices: &[Choice], occupation: u8)
+/// Makes each task what it is after a selection for the core: those that are chosen remember the
+/// occupation.
+pub fn update_tasks(tasks: &mut TaskTable, choices: &[Choice], occupation: u8)
     requires { IsTable tasks.old }
-    ensures remembered { tasks.new ≡ record tasks.old { tasks = map (remembered_task choices.now occupation) tasks.old.tasks } }
+    ensures tasks { tasks.new ≡ record tasks.old { tasks = map (task_after_choices choices.now occupation) tasks.old.tasks } }
     ensures sound { IsTable tasks.new }
 {
     for choice in choices {
-        remember_one(tasks, choice, occupation);
+        update_task(tasks, choice, occupation);
     }
 }
 
-/// Hands each sibling what it gets, in a selection that the one sibling makes for the core, and renews
-/// the snapshots of those that get a fair task where the test says so.
-pub fn hand(
+/// Makes each online sibling what it is after a selection for the core that the selector makes. The test
+/// says whether snapshots are renewed.
+pub fn update_siblings(
     siblings: &mut [Sibling],
     selector: Cpu,
     choices: &[Choice],
@@ -92,11 +93,20 @@ pub fn hand(
 )
     requires each { length choices.now ≡ length siblings.old }
     requires few { length siblings.old ≤ 16 }
-    ensures states { map sibling_state siblings.new ≡
-        map (handed_choice selector occupation renews choices.now) (enumerate_from 0 (map sibling_state siblings.old)) }
+    ensures states { (room : RoomState) (core : ℕ) → room.siblings ≡ map sibling_state siblings.old → choices.now ≡ choices_of room core →
+        occupation ≡ occupation_of room core → renews ≡ renews_snapshots room core →
+        map sibling_state siblings.new ≡ (selected_room room selector core).siblings }
     ensures numbers { map (λ sibling. sibling.number) siblings.new ≡ map (λ sibling. sibling.number) siblings.old }
 {
     for (cpu, sibling) in siblings.iter_mut().enumerate() {
-        *sibling = sibling.handed(selector, cpu as u8, choices[cpu], occupation, renews);
+        if sibling.online {
+            *sibling = sibling.after_selection(
+                selector,
+                cpu as u8,
+                choices[cpu],
+                occupation,
+                renews,
+            );
+        }
     }
 }

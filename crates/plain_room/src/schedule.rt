@@ -9,7 +9,7 @@ ghost use Rattle.task_table.specs.Table.{IsSound as IsTable};
 ghost use Rattle.plain_room.specs.Drain.{next_by};
 ghost use Rattle.plain_room.specs.State.{Schedules, ChargesAndSchedules, IsSound, IsOnTime, IsPaid, StaysSound, Becomes, room_of, numbers_of, is_fresh_by};
 
-use crate::choice::{forced_count, hand, occupation, remember};
+use crate::choice::{forced_count, occupation, update_siblings, update_tasks};
 use crate::selection::is_fair_task;
 use crate::sibling::Sibling;
 use crate::state::State;
@@ -59,9 +59,8 @@ impl State {
         let first = self.first_on(cpu);
         let run = first.map(|task| task.spec.pid);
         self.account.close();
-        self.siblings[cpu as usize] = self.siblings[cpu as usize]
-            .running(run)
-            .noted(is_fair_task(first));
+        let is_fair = is_fair_task(first);
+        self.siblings[cpu as usize] = self.siblings[cpu as usize].running_first(run, is_fair);
         self.touch();
         Pick {
             kind: Kind::Plain,
@@ -71,8 +70,8 @@ impl State {
         }
     }
 
-    /// Hands the siblings and the tasks what a selection for the core that the sibling makes chooses for
-    /// this core cookie, and gives what the sibling itself runs.
+    /// Gives each online sibling its choice for this core cookie, in a selection that the one sibling
+    /// makes, and answers what that one runs.
     fn select_for(&mut self, cpu: Cpu, core: Cookie) -> Option<Pid>
         requires cpu { cpu < length self.old.siblings.items }
         requires few { length self.old.siblings.items ≤ 16 }
@@ -92,8 +91,8 @@ impl State {
         let renews = renews_snapshots(self.account.count(), forced);
         self.core_cookie = core;
         self.account.begin(core, forced, occupation, self.clock);
-        remember(&mut self.tasks, &choices, occupation);
-        hand(&mut self.siblings, cpu, &choices, occupation, renews);
+        update_tasks(&mut self.tasks, &choices, occupation);
+        update_siblings(&mut self.siblings, cpu, &choices, occupation, renews);
         choices[cpu as usize].run
     }
 

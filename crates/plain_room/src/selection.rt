@@ -55,7 +55,7 @@ impl State {
 
     /// The task that a sibling with this first task gets for a core cookie, none for idle.
     #[tactic(auto, unfolding(cs_types::specs::Selection::choice))]
-    fn chosen(&self, first: Option<Task>, core: Cookie, cpu: Cpu) -> Option<Task>
+    fn choice(&self, first: Option<Task>, core: Cookie, cpu: Cpu) -> Option<Task>
         ensures { (scenario : Scenario) → first ≡ first_on (room_of scenario self.now) cpu →
             result ≡ choice (room_of scenario self.now) core cpu }
     {
@@ -66,12 +66,12 @@ impl State {
     }
 
     /// What a sibling gets for a core cookie.
-    fn choice(&self, core: Cookie, cpu: Cpu) -> Choice
+    fn choice_at(&self, core: Cookie, cpu: Cpu) -> Choice
         requires { cpu < length self.now.siblings.items }
         ensures { (scenario : Scenario) → result ≡ choice_at (room_of scenario self.now) core cpu }
     {
         let first = self.first_on(cpu);
-        let chosen = self.chosen(first, core, cpu);
+        let chosen = self.choice(first, core, cpu);
         let is_online = self.siblings[cpu as usize].online;
         Choice {
             run: chosen.map(|task| task.spec.pid),
@@ -90,7 +90,7 @@ impl State {
     {
         let mut choices = Choices::new();
         for cpu in 0..self.siblings.len() {
-            choices.push(self.choice(core, cpu as u8));
+            choices.push(self.choice_at(core, cpu as u8));
         }
         choices
     }

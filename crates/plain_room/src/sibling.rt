@@ -1,8 +1,10 @@
 //! A sibling as the machine keeps it, and what a schedule makes of it.
 
-ghost use Rattle.std.specs.Prelude.{◌≡◌, ◌+◌, ◌^◌, ◌<◌, ◌&&◌, Some, None, unwrap_or};
-ghost use Rattle.cs_types.specs.Selection.{is_run, running, noted, told, handed};
+ghost use Rattle.std.specs.Prelude.{◌≡◌, ℕ, ◌+◌, ◌^◌, ◌<◌, ◌&&◌, Some, None, unwrap_or, if◌then◌else◌};
+ghost use Rattle.cs_types.specs.Room.{RoomState};
+ghost use Rattle.cs_types.specs.Selection.{is_run, running, occupation_of, renews_snapshots, sibling_after_selection};
 ghost use Rattle.plain_room.specs.State.{sibling_state, sibling_view};
+ghost use Rattle.plain_room.specs.Choice.{choice_at};
 ghost use Rattle.plain_room.specs.Cookies.{flagged_for};
 ghost use Rattle.plain_room.specs.Time.{aged};
 ghost use Rattle.plain_room.specs.Account.{is_to_run};
@@ -67,14 +69,15 @@ impl Sibling {
         }
     }
 
-    /// Its snapshot becomes its least where the test says so.
-    pub fn noted(self, test: bool) -> Sibling
-        ensures state { sibling_state result ≡ noted test (sibling_state self) }
+    /// It runs its first task, which is fair where the test says so, or idle.
+    pub fn running_first(self, run: Option<Pid>, is_fair: bool) -> Sibling
+        ensures state { sibling_state result ≡
+            record (running (sibling_state self) run) { snapshot = if is_fair then self.least else self.snapshot } }
         ensures number { result.number ≡ self.number }
     {
         Sibling {
-            snapshot: if test { self.least } else { self.snapshot },
-            ..self
+            snapshot: if is_fair { self.least } else { self.snapshot },
+            ..self.running(run)
         }
     }
 
@@ -90,31 +93,9 @@ impl Sibling {
         }
     }
 
-    /// It is told its choice, in a selection that the one sibling makes for the core.
-    fn told(self, selector: Cpu, cpu: Cpu, run: Option<Pid>) -> Sibling
-        ensures state { sibling_state result ≡ told selector cpu (sibling_state self) run }
-        ensures number { result.number ≡ self.number }
-    {
-        if cpu == selector {
-            self.running(run)
-        } else if self.run == run {
-            Sibling {
-                waiting: None,
-                ..self
-            }
-        } else {
-            Sibling {
-                pending: true,
-                waiting: Some(run),
-                ..self
-            }
-        }
-    }
-
-    /// It is told its choice, its idle remembers the occupation where that is the choice, and its
-    /// snapshot is renewed where the choice is fair and the test says so. One that is offline stays as
-    /// it is.
-    pub fn handed(
+    /// What it is once the selector has made a selection for the core in which it gets this choice, where
+    /// it is online. The test says whether snapshots are renewed.
+    pub fn after_selection(
         self,
         selector: Cpu,
         cpu: Cpu,
@@ -122,28 +103,32 @@ impl Sibling {
         occupation: u8,
         renews: bool,
     ) -> Sibling
-        ensures state { sibling_state result ≡
-            handed selector occupation choice.run (choice.is_fair && renews) (cpu, sibling_state self) }
+        ensures state { (room : RoomState) (core : ℕ) → choice ≡ choice_at room core cpu → occupation ≡ occupation_of room core →
+            renews ≡ renews_snapshots room core → sibling_state result ≡ sibling_after_selection room core selector cpu (sibling_state self) }
         ensures number { result.number ≡ self.number }
     {
-        if !self.online {
-            return self;
-        }
-        let told = self.told(selector, cpu, choice.run);
-        let remembered = if choice.run.is_none() {
-            occupation
-        } else {
-            told.occupation
-        };
-        let snapshot = if choice.is_fair && renews {
-            told.least
-        } else {
-            told.snapshot
-        };
+        let selects = cpu == selector;
+        let runs_it = self.run == choice.run;
         Sibling {
-            occupation: remembered,
-            snapshot,
-            ..told
+            run: if selects { choice.run } else { self.run },
+            waiting: if selects || runs_it {
+                None
+            } else {
+                Some(choice.run)
+            },
+            pending: !selects && (!runs_it || self.pending),
+            ran: if selects { 0 } else { self.ran },
+            occupation: if choice.run.is_none() {
+                occupation
+            } else {
+                self.occupation
+            },
+            snapshot: if choice.is_fair && renews {
+                self.least
+            } else {
+                self.snapshot
+            },
+            ..self
         }
     }
 

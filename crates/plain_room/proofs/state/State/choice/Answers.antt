@@ -1,14 +1,9 @@
-use Rattle.std.proofs.Common.{◌≡◌, ◌∙◌, ap, refl, rules}
-use Rattle.std.specs.Option.{option_map}
-use Rattle.cs_types.specs.Selection.{pid_of}
-use Rattle.plain_room.proofs.States.{sibling_at}
+use Rattle.std.proofs.Common.{◌∙◌, sym}
+use Rattle.plain_room.specs.State.{room_of}
+use Rattle.plain_room.proofs.Choices.{choice_searched}
 use Rattle.plain_room.proofs.state.State.choice.Goals as goal
 
-pub returns : goal.returns
-returns c scenario =
-    let first = c.first_on-first.ensures scenario in
-    let chosen = c.chosen-chosen.ensures scenario first in
-    let mapped : c.map.result ≡ option_map (λ task. task.spec.pid) c.chosen-chosen.result = search rules in
-    let run = mapped ∙ ap pid_of chosen in
-    let at = sibling_at c.args.self.now.siblings.items c.args.cpu c.index.result.now c.requires c.index.ensures in
-    rw (at, run, c.is_forced.ensures, c.is_fair_task.ensures, chosen, first) refl
+pub returns-in-Some : goal.returns-in-Some
+returns-in-Some c scenario first =
+    c.first_with.ensures scenario
+    ∙ choice_searched (room_of scenario c.args.self.now) c.args.core c.args.cpu c.in-Some.task (sym c.in-Some.is ∙ first) c.if-task-core.true

@@ -1,15 +1,13 @@
 use Rattle.std.proofs.Common.{◌∙◌, ◌<◌, ap, sym, subst, refl, cond, map, arith, length, get_or}
 use Rattle.std.specs.Prelude.{Some, None, count_by, is_some, ◌&&◌, ◌||◌, ◌==◌, List}
-use Rattle.std.specs.List.{enumerate_from}
 use Rattle.std.proofs.lemmas.List.{length-map}
 use Rattle.cs_types.specs.Selection.{selected_room, forced_count, occupation_of, cookie_of, lead_from}
 use Rattle.cs_types.proofs.Selections.{occupied}
 use Rattle.plain_room.specs.declared.choice.Choice.{Choice}
-use Rattle.plain_room.specs.declared.sibling.Sibling.{Sibling}
 use Rattle.plain_room.specs.State.{sibling_state, room_of}
-use Rattle.plain_room.specs.Choice.{handed_choice, remembered_task}
-use Rattle.plain_room.proofs.States.{some_scenario, items-as_many, fit-remembered, known-map, agree-map}
-use Rattle.plain_room.proofs.Choices.{choices_of, choices_are, forced_count-choices, occupation-choices, choice_in, handed-choices, remembered-choices}
+use Rattle.plain_room.specs.Choice.{task_after_choices}
+use Rattle.plain_room.proofs.States.{some_scenario, items-as_many, fit-task_after_choices, known-map, agree-map}
+use Rattle.plain_room.proofs.Choices.{choices_are, forced_count-choices, occupation-choices, choice_in, map-task_after_choices}
 use Rattle.plain_room.proofs.state.State.select_for.Goals as goal
 
 pub begin-requires-clause-occupied : goal.begin-requires-clause-occupied
@@ -36,15 +34,13 @@ returns-clause-room c scenario =
     let begun = c.begin.ensures.count ∙ forced in
     let chosen = c.begin.ensures.occupation ∙ occupation in
     let started = c.begin.ensures.started ∙ ap (λ n. cond ((n == 0) || (c.args.core == 0)) None (Some c.args.self.now.clock)) forced in
-    let tasks = ap (λ (choices : List Choice). map (remembered_task choices c.occupation-occupation.result) c.args.self.now.tasks.tasks) (c.deref-3.ensures.0 ∙ are)
-    ∙ remembered-choices room c.args.core c.occupation-occupation.result c.args.self.now.tasks.tasks occupation in
-    let kept_siblings = items-as_many c.args.self.now.siblings c.hand.new.siblings (c.hand.auto.siblings ∙ ap length c.deref_mut.ensures.value) in
+    let tasks = ap (λ (choices : List Choice). map (task_after_choices choices c.occupation-occupation.result) c.args.self.now.tasks.tasks) (c.deref-3.ensures.0 ∙ are)
+    ∙ map-task_after_choices room c.args.core c.occupation-occupation.result c.args.self.now.tasks.tasks occupation in
+    let kept_siblings = items-as_many c.args.self.now.siblings c.update_siblings.new.siblings (c.update_siblings.auto.siblings ∙ ap length c.deref_mut.ensures.value) in
     let siblings = ap (map sibling_state) kept_siblings
-    ∙ c.hand.ensures.states
-    ∙ ap (λ (choices : List Choice). map (handed_choice c.args.cpu c.occupation-occupation.result renews choices) (enumerate_from 0 (map sibling_state c.deref_mut.result.now))) (c.deref-4.ensures.0 ∙ are)
-    ∙ ap (λ (siblings : List Sibling). map (handed_choice c.args.cpu c.occupation-occupation.result renews (choices_of room c.args.core)) (enumerate_from 0 (map sibling_state siblings))) c.deref_mut.ensures.value
-    ∙ handed-choices room c.args.core c.args.cpu c.occupation-occupation.result renews occupation renews_is in
-    rw c.remember.ensures.remembered (rw (tasks, siblings, begun, chosen, started) refl)
+    ∙ c.update_siblings.ensures.states room c.args.core (sym (ap (map sibling_state) c.deref_mut.ensures.value))
+    (c.deref-4.ensures.0 ∙ are) occupation renews_is in
+    rw c.update_tasks.ensures.tasks (rw (tasks, siblings, begun, chosen, started) refl)
 
 pub returns-clause-run : goal.returns-clause-run
 returns-clause-run c scenario =
@@ -60,13 +56,13 @@ returns-clause-forced c scenario =
 
 pub returns-clause-sound : goal.returns-clause-sound
 returns-clause-sound c count sound =
-    let kept_siblings = items-as_many c.args.self.now.siblings c.hand.new.siblings (c.hand.auto.siblings ∙ ap length c.deref_mut.ensures.value) in
-    let remembers = remembered_task c.deref-3.result.now c.occupation-occupation.result in
+    let kept_siblings = items-as_many c.args.self.now.siblings c.update_siblings.new.siblings (c.update_siblings.auto.siblings ∙ ap length c.deref_mut.ensures.value) in
+    let after = task_after_choices c.deref-3.result.now c.occupation-occupation.result in
     record {
-      siblings = ap length kept_siblings ∙ c.hand.auto.siblings ∙ ap length c.deref_mut.ensures.value ∙ sound.siblings;
-      table = c.remember.ensures.sound;
-      tasks = rw c.remember.ensures.remembered (fit-remembered count c.args.self.now.next_pid c.deref-3.result.now c.occupation-occupation.result c.args.self.now.tasks.tasks sound.tasks);
-      known = rw c.remember.ensures.remembered (known-map c.args.self.now.totals remembers (λ task. refl) c.args.self.now.tasks.tasks sound.known);
+      siblings = ap length kept_siblings ∙ c.update_siblings.auto.siblings ∙ ap length c.deref_mut.ensures.value ∙ sound.siblings;
+      table = c.update_tasks.ensures.sound;
+      tasks = rw c.update_tasks.ensures.tasks (fit-task_after_choices count c.args.self.now.next_pid c.deref-3.result.now c.occupation-occupation.result c.args.self.now.tasks.tasks sound.tasks);
+      known = rw c.update_tasks.ensures.tasks (known-map c.args.self.now.totals after (λ task. refl) c.args.self.now.tasks.tasks sound.known);
       low_pids = sound.low_pids;
-      refs = rw c.remember.ensures.remembered (agree-map c.args.self.now.refs 0 remembers (λ task. refl) c.args.self.now.tasks.tasks sound.refs);
+      refs = rw c.update_tasks.ensures.tasks (agree-map c.args.self.now.refs 0 after (λ task. refl) c.args.self.now.tasks.tasks sound.refs);
     }

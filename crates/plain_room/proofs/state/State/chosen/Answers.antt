@@ -1,9 +1,0 @@
-use Rattle.std.proofs.Common.{◌∙◌, sym}
-use Rattle.plain_room.specs.State.{room_of}
-use Rattle.plain_room.proofs.Choices.{choice_searched}
-use Rattle.plain_room.proofs.state.State.chosen.Goals as goal
-
-pub returns-in-Some : goal.returns-in-Some
-returns-in-Some c scenario first =
-    c.first_with.ensures scenario
-    ∙ choice_searched (room_of scenario c.args.self.now) c.args.core c.args.cpu c.in-Some.task (sym c.in-Some.is ∙ first) c.if-task-core.true
