@@ -31,7 +31,7 @@ pub struct Sibling {
     pub number: u64,
     /// The least virtual time of its queue, in ns. It never falls.
     pub least: u128,
-    /// What that was when it was last noted for a comparison with other siblings, in ns.
+    /// That, as it was last kept for comparisons with other siblings, in ns.
     pub snapshot: u128,
     /// The time since its last schedule, in ns.
     pub ran: u64,
