@@ -1,117 +1,238 @@
--- Accounts: how the recorded intervals and the totals go on by one entry, and how far they come in a history.
-use Rattle.std.proofs.Common.{◌≡◌, ℕ, ◌+◌, ◌-◌, ◌*◌, ◌/◌, ◌≤◌, Bool, true, false, cond, not, ltb, eqb, List, [], ◌∷◌, ◌++◌, length, refl, sym, ap, ◌∙◌, subst, Option, Some, None, arith}
-use Rattle.std.specs.Prelude.{◌==◌, ◌||◌, filter, sum_by, unwrap_or}
-use Rattle.std.specs.List.{filter_map, range_with_len}
-use Rattle.std.specs.Option.{option_map}
+-- Accounts: what each step makes of the open interval and of the recorded ones, and how far the totals come.
+use Rattle.std.proofs.Common.{◌≡◌, ◌≢◌, ℕ, ◌+◌, ◌-◌, ◌*◌, ◌/◌, ◌≤◌, ◌<◌, Bool, true, false, cond, not, ltb, eqb, List, [], ◌∷◌, ◌++◌, length, refl, sym, ap, ◌∙◌, subst, Option, Some, None, arith}
+use Rattle.std.specs.Prelude.{◌==◌, ◌||◌, filter, sum_by, unwrap_or, All, IfSome}
+use Rattle.std.specs.List.{range_with_len, AllByRecursion}
+use Rattle.std.specs.Option.{option_map, option_to_list}
 use Rattle.std.proofs.Math.Nat.{div-le_self}
-use Rattle.std.proofs.lemmas.Bool.{cond_both}
-use Rattle.std.proofs.lemmas.List.Sums.{sum_by-cons, count_by-le-length}
+use Rattle.std.proofs.lemmas.Bool.{cond_both, cond-true, eq-eqb, eqb-false}
+use Rattle.std.proofs.lemmas.List.Sums.{sum_by-append, count_by-le-length}
 use Rattle.std.proofs.lemmas.List.Filters.{length-filter_both}
-use Rattle.std.proofs.lemmas.List.{length-replicate}
+use Rattle.std.proofs.lemmas.List.Elements.{All-nil, All-cons, All-append, filter-append, recursion_from_All}
+use Rattle.std.proofs.lemmas.List.{length-replicate, length-append, append-nil}
 use Rattle.std.proofs.lemmas.List.FromFn.{length-range_with_len}
 use Rattle.cs_types.specs.declared.task.Task.{Task}
 use Rattle.cs_types.specs.declared.task.Policy.{Policy}
 use Rattle.cs_types.specs.declared.event.Event.{Event}
 use Rattle.cs_types.specs.declared.event.Event.TheVariants.{Turn, Resched, Block, Exit, Tick, Wake, Advance, Fork, Prctl, SetSched, Offline, Online}
-use Rattle.cs_types.specs.declared.event.Ask.{Ask}
 use Rattle.cs_types.specs.declared.reply.Reply.{Reply}
 use Rattle.cs_types.specs.declared.reply.Reply.TheVariants.{Zero}
 use Rattle.cs_types.specs.declared.reply.Entry.{Entry}
-use Rattle.cs_types.specs.declared.event.Step.{Step}
 use Rattle.cs_types.specs.declared.scenario.Scenario.{Scenario}
-use Rattle.cs_types.specs.Room.{RoomState, idle, is_online, online, sibling_of, running_on, task_of}
-use Rattle.cs_types.specs.Selection.{Scheduled, choice, is_forced, forced_count, lead_from, cookie_of, selected_room, selected, plain, is_plain, picked_anew, adopted_or_picked_anew, schedule}
-use Rattle.cs_types.specs.Accounting.{Interval, share, charges, total_of, charged, up_to_now, open_interval, closes, is_charging, interval_by, accounted}
+use Rattle.cs_types.specs.Scenario.{IsEvent}
+use Rattle.cs_types.specs.Room.{RoomState, Interval, idle, is_online, online, sibling_of, running_on, task_of}
+use Rattle.cs_types.specs.Selection.{Scheduled, is_forced, forced_count, occupation_of, lead_from, cookie_of, selected_room, selected, plain, is_plain, picked_anew, adopted_or_picked_anew, schedule}
+use Rattle.cs_types.specs.Accounting.{share, charges, total_of, charged, up_to_now, open_interval, charge}
 use Rattle.cs_types.specs.Time.{advanced}
-use Rattle.cs_types.specs.Prctl.{Row, first_answer, rows_before_making, rows_after_making, Setting, setting_of, makes_cookie, with_made, with_answer, prctl_answer}
+use Rattle.cs_types.specs.Prctl.{Setting, setting_of, makes_cookie, with_made, with_answer, prctl_answer}
 use Rattle.cs_types.specs.Step.{Stepped, step, woken, turned, blocked, exited, forked, may_not_fork, ticked, without, has_threads, idled, try_steal, unless_offline, set_policy, taken_offline, brought_online}
 use Rattle.cs_types.specs.Queueing.{dequeued}
 use Rattle.cs_types.specs.Steal.{stolen}
 use Rattle.cs_types.specs.Hotplug.{leave}
-use Rattle.cs_types.specs.Touches.{LedgerEntry, Ledger, ledger_entry, intervals_of, is_fresh}
-use Rattle.cs_types.specs.History.{History, Moment, beginning, next, after, moment_of, ledger_of, entry_of, made_from, history_of}
+use Rattle.cs_types.specs.Touches.{is_fresh}
+use Rattle.cs_types.specs.History.{History, Moment, beginning, next, after, fold_of}
 use Rattle.cs_types.proofs.Siblings.{length-step, kept-idled, kept-without, length-alike}
+use Rattle.cs_types.proofs.Selections.{occupied}
 
--- ---- one interval more
+-- ---- the account of a room
 
--- one more interval, if there is one
-abbrev pub with_one : Option Interval → List Interval → List Interval
-with_one None intervals = intervals
-with_one (Some interval) intervals = interval ∷ intervals
+-- what a room keeps of forced idle, and the clock
+pub record Account : Type 0 where
+  pub clock : ℕ
+  pub forced : ℕ
+  pub occupation : ℕ
+  pub started : Option ℕ
+  pub intervals : List Interval
 
-pub intervals_of-cons : (note : LedgerEntry) (ledger : Ledger) → intervals_of (note ∷ ledger) ≡ with_one note.interval (intervals_of ledger)
-intervals_of-cons note ledger =
-    elim note.interval as (λ one. filter_map (λ (n : LedgerEntry). n.interval) (record note { interval = one } ∷ ledger) ≡ with_one one (intervals_of ledger)) [
-      | None ↦ refl
-      | Some interval ↦ refl
-    ]
+abbrev pub account_of : RoomState → Account
+account_of room =
+    record {
+      clock = room.clock;
+      forced = room.forced;
+      occupation = room.occupation;
+      started = room.started;
+      intervals = room.intervals;
+    }
 
--- what an interval charges the task with the pid
+-- since when nothing of the time has been charged
+abbrev pub charged_up_to : Account → ℕ
+charged_up_to account = unwrap_or account.started account.clock
+
+-- The divisor of an interval's share is not 0.
+abbrev pub HasDivisor : Interval → Type 0
+HasDivisor interval = 0 < interval.occupation
+
+-- how far an account comes in as many entries, of a core with at most as many siblings
+pub record IsAccounted (most entries : ℕ) (account : Account) : Type 0 where
+  -- An open interval did not begin later than now.
+  pub started : charged_up_to account ≤ account.clock
+  -- No more siblings are forced idle than there are.
+  pub few : account.forced ≤ most
+  -- What each task was charged is at most the time that has been charged, times the siblings.
+  pub totals : (pid : ℕ) → total_of pid account.intervals ≤ most * charged_up_to account
+  -- Each entry records one interval at most.
+  pub intervals : length account.intervals ≤ entries
+  -- While an interval is open, some sibling is forced idle, and while one is, some sibling has a task.
+  pub opened : IfSome account.started (λ start. 0 < account.forced)
+  pub occupied : 0 < account.forced → 0 < account.occupation
+  -- So no share is divided by 0.
+  pub divisors : All HasDivisor account.intervals
+
+-- one more entry, which records nothing
+later : (most entries : ℕ) (account : Account) → IsAccounted most entries account → IsAccounted most (entries + 1) account
+later most entries account is =
+    record {
+      started = is.started;
+      few = is.few;
+      totals = is.totals;
+      intervals = omega (arith, is.intervals);
+      opened = is.opened;
+      occupied = is.occupied;
+      divisors = is.divisors;
+    }
+
+-- ---- what the open interval charges
+
+-- what an interval charges the task with the pid, and 0 where there is none
 abbrev pub owed : ℕ → Option Interval → ℕ
 owed pid None = 0
 owed pid (Some interval) = cond (charges pid interval) (share interval) 0
 
-total_of-cons : (pid : ℕ) (interval : Interval) (intervals : List Interval) → total_of pid (interval ∷ intervals) ≡ total_of pid intervals + owed pid (Some interval)
+-- a total with one more interval, or none
+pub total_of-more : (pid : ℕ) (intervals : List Interval) (one : Option Interval) →
+    total_of pid (intervals ++ option_to_list one) ≡ total_of pid intervals + owed pid one
 unfolding total_of
-total_of-cons pid interval intervals =
-    elim (charges pid interval) as (λ b. sum_by share (cond b (interval ∷ filter (charges pid) intervals) (filter (charges pid) intervals)) ≡ sum_by share (filter (charges pid) intervals) + cond b (share interval) 0) [
-      | true ↦ omega (arith, sum_by-cons share interval (filter (charges pid) intervals))
-      | false ↦ omega arith
-    ]
+total_of-more pid intervals None = ap (λ all. sum_by share (filter (charges pid) all)) (append-nil intervals) ∙ omega arith
+total_of-more pid intervals (Some interval) =
+    ap (sum_by share) (filter-append (charges pid) intervals (interval ∷ []))
+    ∙ sum_by-append share (filter (charges pid) intervals) (filter (charges pid) (interval ∷ []))
+    ∙ ap (λ n. sum_by share (filter (charges pid) intervals) + n) (alone (charges pid interval)) where
+      alone : (b : Bool) → sum_by share (cond b (interval ∷ []) []) ≡ cond b (share interval) 0
+      alone true = omega arith
+      alone false = refl
 
-pub total_of-ledger_entry : (pid : ℕ) (one : Option Interval) (intervals : List Interval) → total_of pid (with_one one intervals) ≡ total_of pid intervals + owed pid one
-total_of-ledger_entry pid None intervals = omega arith
-total_of-ledger_entry pid (Some interval) intervals = total_of-cons pid interval intervals
+-- a share is at most the time, times the count where that is above 1
+share-le : (most : ℕ) (interval : Interval) → 1 ≤ most → interval.count ≤ most → share interval ≤ most * (interval.to - interval.from)
+share-le most interval some few =
+    let delta = interval.to - interval.from in
+    let each : delta * interval.count ≤ most * delta = grind (arith) in
+    let one : delta ≤ most * delta = grind (arith) in
+    cond_both (ltb 1 interval.count || ltb 1 interval.occupation) (delta * interval.count / interval.occupation) delta (λ n. n ≤ most * delta)
+    (λ _. omega (arith, each, div-le_self (delta * interval.count) interval.occupation)) (λ _. one)
 
--- ---- how many intervals there are
+-- the open interval, where it began then
+abbrev open_since : RoomState → ℕ → Interval
+open_since room start = record { from = start; to = room.clock; count = room.forced; occupation = room.occupation; charged = charged room }
 
-length-with_one : (one : Option Interval) (intervals : List Interval) → length (with_one one intervals) ≤ length intervals + 1
-length-with_one None intervals = omega arith
-length-with_one (Some interval) intervals = omega arith
+-- So what the open interval charges a task is at most the time, times the siblings.
+owed-le : (most pid : ℕ) (room : RoomState) → 1 ≤ most → room.forced ≤ most →
+    owed pid (open_interval room) ≤ most * (room.clock - charged_up_to (account_of room))
+owed-le most pid room some few = go room.started where
+  by_share : (start : ℕ) → owed pid (up_to_now room (Some start)) ≤ most * (room.clock - start)
+  by_share start =
+      let interval = open_since room start in
+      cond_both (eqb room.clock start) None (Some interval) (λ one. owed pid one ≤ most * (room.clock - start)) (λ _. omega arith)
+      (λ _. cond_both (charges pid interval) (share interval) 0 (λ n. n ≤ most * (room.clock - start)) (λ _. share-le most interval some few) (λ _. omega arith))
 
-intervals_after : (moment : Moment) (entries : List Entry) → length (intervals_of (after moment entries).ledger) ≤ length (intervals_of moment.ledger) + length entries
-intervals_after moment [] = omega arith
-intervals_after moment (entry ∷ entries) =
-    let note = ledger_entry moment.room entry in
-    omega (arith, intervals_after (next moment entry) entries, ap length (intervals_of-cons note moment.ledger), length-with_one note.interval (intervals_of moment.ledger))
+  go : (started : Option ℕ) → owed pid (up_to_now room started) ≤ most * (room.clock - unwrap_or started room.clock)
+  go None = omega arith
+  go (Some start) = by_share start
 
--- Each entry records one interval at most.
-pub intervals-ledger_of : (scenario : Scenario) (history : History) → length (intervals_of (ledger_of scenario history)) ≤ length history
-intervals-ledger_of scenario history = omega (arith, intervals_after (beginning scenario) history)
+-- a share of the open interval is at most the time, times the siblings
+pub open_share-le : (most n : ℕ) (room : RoomState) → 1 ≤ most → room.forced ≤ most → Some n ≡ option_map share (open_interval room) →
+    n ≤ most * (room.clock - charged_up_to (account_of room))
+open_share-le most n room some few is = go room.started is where
+  by_test : (start : ℕ) (same : Bool) → Some n ≡ option_map share (cond same None (Some (open_since room start))) → n ≤ most * (room.clock - start)
+  by_test start true is = absurd cc
+  by_test start false is =
+      let same : n ≡ share (open_since room start) = ap (λ one. unwrap_or one n) is in omega (arith, same, share-le most (open_since room start) some few)
 
--- ---- what a step leaves of the open interval
+  go : (started : Option ℕ) → Some n ≡ option_map share (up_to_now room started) → n ≤ most * (room.clock - unwrap_or started room.clock)
+  go None is = absurd cc
+  go (Some start) is = by_test start (eqb room.clock start) is
 
--- since when nothing of the time has been charged
-abbrev pub charged_up_to : RoomState → ℕ
-charged_up_to room = unwrap_or room.started room.clock
+-- ---- the charge
 
--- an interval that is open did not begin later than now, and not too many siblings are forced idle
-pub record IsOpen (most : ℕ) (room : RoomState) : Type 0 where
-  pub started : charged_up_to room ≤ room.clock
-  pub few : room.forced ≤ most
+-- an interval that goes on from now has been charged up to now
+pub now-charge : (room : RoomState) → charged_up_to (account_of (charge room)) ≡ room.clock
+now-charge room = go room.started where
+  go : (started : Option ℕ) → unwrap_or (option_map (λ start. room.clock) started) room.clock ≡ room.clock
+  go None = refl
+  go (Some start) = refl
 
--- what an entry that charges or not, and the room after it, make of the open interval
-pub record Accounts (most : ℕ) (old : RoomState) (charges : Bool) (new : RoomState) : Type 0 where
-  pub opened : IsOpen most new
-  -- what charges has charged up to now
-  pub charging : charges ≡ true → charged_up_to new ≡ old.clock
-  -- what does not leaves it
-  pub other : charged_up_to old ≤ charged_up_to new
+-- So a charge at one moment again changes nothing.
+pub charge-again : (room : RoomState) → charged_up_to (account_of room) ≡ room.clock → charge room ≡ room
+charge-again room now =
+    let same : option_map (λ start. room.clock) room.started ≡ room.started = go room.started now in
+    let none : room.intervals ++ option_to_list (open_interval room) ≡ room.intervals = ap (λ one. room.intervals ++ option_to_list one) (no_time room.started now) ∙ append-nil room.intervals in
+    λ i. record room { intervals = none i; started = same i } where
+      go : (started : Option ℕ) → unwrap_or started room.clock ≡ room.clock → option_map (λ start. room.clock) started ≡ started
+      go None now = refl
+      go (Some start) now = ap Some (sym now)
 
--- the same of a step that was made
-abbrev pub StepAccounts : ℕ → RoomState → Event → Stepped → Type 0
-StepAccounts most room event made = Accounts most room (is_charging event made.reply) made.room
+      no_time : (started : Option ℕ) → unwrap_or started room.clock ≡ room.clock → up_to_now room started ≡ None
+      no_time None now = refl
+      no_time (Some start) now = cond-true (room.clock == start) None (Some (open_since room start)) (eq-eqb room.clock start (sym now))
 
--- a step that leaves the clock, the interval and the counts, and does not charge
-unchanged : (most : ℕ) (old : RoomState) (charges : Bool) (new : RoomState) → IsOpen most old → charges ≡ false →
-    new.started ≡ old.started → new.clock ≡ old.clock → new.forced ≡ old.forced → Accounts most old charges new
-unchanged most old charges new opened free started clock forced =
-    let same : charged_up_to new ≡ charged_up_to old = λ i. unwrap_or (started i) (clock i) in
+more_time : (most a b : ℕ) → a ≤ b → most * a + most * (b - a) ≡ most * b
+more_time most a b le = grind (arith)
+
+less_time : (most a b : ℕ) → a ≤ b → most * a ≤ most * b
+less_time most a b le = grind (arith)
+
+accounted-charge : (most entries : ℕ) (room : RoomState) → 1 ≤ most → IsAccounted most entries (account_of room) → IsAccounted most (entries + 1) (account_of (charge room))
+accounted-charge most entries room some is =
+    let now = now-charge room in
     record {
-      opened = record { started = omega (arith, same, clock, opened.started); few = omega (arith, forced, opened.few) };
-      charging = λ yes. let bad : false ≡ true = sym free ∙ yes in absurd cc;
-      other = omega (arith, same);
-    }
+      started = omega (arith, now);
+      few = is.few;
+      totals = λ pid. omega (
+        arith,
+        total_of-more pid room.intervals (open_interval room),
+        is.totals pid,
+        owed-le most pid room some is.few,
+        more_time most (charged_up_to (account_of room)) room.clock is.started,
+        ap (λ n. most * n) now,
+      );
+      intervals = omega (arith, length-append room.intervals (option_to_list (open_interval room)), at_most_one (open_interval room), is.intervals);
+      opened = goes_on room.started is.opened;
+      occupied = is.occupied;
+      divisors = All-append HasDivisor room.intervals _ is.divisors (has_divisor room.started is.opened);
+    } where
+      at_most_one : (one : Option Interval) → length (option_to_list one) ≤ 1
+      at_most_one None = omega arith
+      at_most_one (Some interval) = omega arith
+
+      goes_on : (started : Option ℕ) → IfSome started (λ start. 0 < room.forced) → IfSome (option_map (λ start. room.clock) started) (λ start. 0 < room.forced)
+      goes_on None opened = tt
+      goes_on (Some start) opened = opened
+
+      has_divisor : (started : Option ℕ) → IfSome started (λ start. 0 < room.forced) → All HasDivisor (option_to_list (up_to_now room started))
+      has_divisor None opened = All-nil HasDivisor
+      has_divisor (Some start) opened =
+          cond_both (room.clock == start) None (Some (open_since room start)) (λ one. All HasDivisor (option_to_list one)) (λ _. All-nil HasDivisor)
+          (λ _. All-cons HasDivisor (open_since room start) [] (is.occupied opened) (All-nil HasDivisor))
+
+-- ---- a pick that adopts nothing, once the open interval is charged
+
+-- an interval opens, or none, where all time has been charged
+accounted_anew : (most entries : ℕ) (account : Account) (forced occupation core : ℕ) → charged_up_to account ≡ account.clock → forced ≤ most → (0 < forced → 0 < occupation) →
+    IsAccounted most entries account →
+    IsAccounted most entries (record account { forced = forced; occupation = occupation; started = cond (eqb forced 0 || eqb core 0) None (Some account.clock) })
+accounted_anew most entries account forced occupation core now few occupied is =
+    let at_now = cond_both (eqb forced 0 || eqb core 0) None (Some account.clock) (λ started. unwrap_or started account.clock ≡ account.clock) (λ _. refl) (λ _. refl) in
+    record {
+      started = omega (arith, at_now);
+      few = few;
+      totals = λ pid. omega (arith, is.totals pid, ap (λ n. most * n) now, ap (λ n. most * n) at_now);
+      intervals = is.intervals;
+      opened = cond_both (eqb forced 0 || eqb core 0) None (Some account.clock) (λ started. IfSome started (λ start. 0 < forced)) (λ _. tt)
+          (λ some. let none : forced ≢ 0 = eqb-false forced 0 (left (eqb forced 0) (eqb core 0) some) in omega (arith, none));
+      occupied = occupied;
+      divisors = is.divisors;
+    } where
+      left : (a b : Bool) → (a || b) ≡ false → a ≡ false
+      left true b none = none
+      left false b none = refl
 
 -- no more siblings are forced idle than there are
 forced_count-le : (room : RoomState) (core : ℕ) → forced_count room core ≤ length room.siblings
@@ -124,321 +245,180 @@ forced_count-le room core =
       length-range_with_len 0 (length room.siblings),
     )
 
--- a selection has charged up to now
-now-selected : (room : RoomState) (cpu : ℕ) → charged_up_to (selected room cpu).room ≡ room.clock
+accounted-selected : (most entries : ℕ) (room : RoomState) (cpu : ℕ) → cpu < length room.siblings → length room.siblings ≤ most →
+    charged_up_to (account_of room) ≡ room.clock → IsAccounted most entries (account_of room) → IsAccounted most entries (account_of (selected room cpu).room)
 unfolding selected_room
-now-selected room cpu =
+accounted-selected most entries room cpu below few now is =
     let core = cookie_of (lead_from room cpu) in
-    cond_both (eqb (forced_count room core) 0 || eqb core 0) None (Some room.clock) (λ started. unwrap_or started room.clock ≡ room.clock) (λ _. refl) (λ _. refl)
+    accounted_anew most entries (account_of room) (forced_count room core) (occupation_of room core) core now
+    (omega (arith, forced_count-le room core, few)) (occupied room cpu below) is
 
-now-picked_anew : (room : RoomState) (cpu : ℕ) → charged_up_to (picked_anew room cpu).room ≡ room.clock
-now-picked_anew room cpu =
-    cond_both (is_plain room cpu) (plain room cpu) (selected room cpu) (λ (made : Scheduled). charged_up_to made.room ≡ room.clock) (λ _. refl)
-    (λ _. now-selected room cpu)
+accounted-picked_anew : (most entries : ℕ) (room : RoomState) (cpu : ℕ) → cpu < length room.siblings → length room.siblings ≤ most →
+    charged_up_to (account_of room) ≡ room.clock → IsAccounted most entries (account_of room) → IsAccounted most entries (account_of (picked_anew room cpu).room)
+accounted-picked_anew most entries room cpu below few now is =
+    cond_both (is_plain room cpu) (plain room cpu) (selected room cpu) (λ (made : Scheduled). IsAccounted most entries (account_of made.room))
+    (λ _. accounted_anew most entries (account_of room) 0 0 0 now (omega arith) (λ none. none) is)
+    (λ _. accounted-selected most entries room cpu below few now is)
 
-clock-selected : (room : RoomState) (cpu : ℕ) → (selected room cpu).room.clock ≡ room.clock
-unfolding selected_room
-clock-selected room cpu = refl
+-- after a charge the schedule records nothing more
+accounted-again : (most entries : ℕ) (old room : RoomState) (cpu : ℕ) → length room.siblings ≡ length old.siblings → cpu < length old.siblings → length old.siblings ≤ most →
+    charged_up_to (account_of room) ≡ room.clock → IsAccounted most entries (account_of room) → IsAccounted most entries (account_of (schedule room false cpu).room)
+accounted-again most entries old room cpu same below few now is = go (sibling_of room cpu).waiting where
+  anew : IsAccounted most entries (account_of (picked_anew (charge room) cpu).room)
+  anew =
+      subst (λ (paid : RoomState). IsAccounted most entries (account_of (picked_anew paid cpu).room)) (sym (charge-again room now))
+      (accounted-picked_anew most entries room cpu (omega (arith, same, below)) (omega (arith, same, few)) now is)
 
-forced-selected : (room : RoomState) (cpu : ℕ) → (selected room cpu).room.forced ≤ length room.siblings
-unfolding selected_room
-forced-selected room cpu = forced_count-le room (cookie_of (lead_from room cpu))
-
-accounts-selected : (most : ℕ) (room : RoomState) (cpu : ℕ) → length room.siblings ≤ most → IsOpen most room →
-    Accounts most room (closes (selected room cpu).pick.kind) (selected room cpu).room
-accounts-selected most room cpu few opened =
-    record {
-      opened = record { started = omega (arith, now-selected room cpu, clock-selected room cpu); few = omega (arith, forced-selected room cpu, few) };
-      charging = λ _. now-selected room cpu;
-      other = omega (arith, now-selected room cpu, opened.started);
-    }
-
-accounts-picked_anew : (most : ℕ) (room : RoomState) (cpu : ℕ) → length room.siblings ≤ most → IsOpen most room →
-    Accounts most room (closes (picked_anew room cpu).pick.kind) (picked_anew room cpu).room
-accounts-picked_anew most room cpu few opened =
-    cond_both (is_plain room cpu) (plain room cpu) (selected room cpu) (λ (made : Scheduled). Accounts most room (closes made.pick.kind) made.room)
-    (λ _. record { opened = record { started = omega arith; few = omega arith }; charging = λ _. refl; other = omega (arith, opened.started) })
-    (λ _. accounts-selected most room cpu few opened)
-
-accounts-adopted_or_picked_anew : (most : ℕ) (room : RoomState) (fresh : Bool) (cpu : ℕ) (waiting : Option (Option ℕ)) → length room.siblings ≤ most → IsOpen most room →
-    Accounts most room (closes (adopted_or_picked_anew room fresh cpu waiting).pick.kind) (adopted_or_picked_anew room fresh cpu waiting).room
-accounts-adopted_or_picked_anew most room fresh cpu None few opened = accounts-picked_anew most room cpu few opened
-accounts-adopted_or_picked_anew most room true cpu (Some run) few opened =
-    unchanged most room false (adopted_or_picked_anew room true cpu (Some run)).room opened refl refl refl refl
-accounts-adopted_or_picked_anew most room false cpu (Some run) few opened = accounts-picked_anew most room cpu few opened
-
-accounts-schedule : (most : ℕ) (room : RoomState) (fresh : Bool) (cpu : ℕ) → length room.siblings ≤ most → IsOpen most room →
-    Accounts most room (closes (schedule room fresh cpu).pick.kind) (schedule room fresh cpu).room
-accounts-schedule most room fresh cpu few opened =
-    let made = accounts-adopted_or_picked_anew most room fresh cpu (sibling_of room cpu).waiting few opened in
-    record { opened = record { started = made.opened.started; few = made.opened.few }; charging = made.charging; other = made.other }
-
--- a sibling whose task went schedules, and adopts nothing; the entry charges whatever the pick is
-accounts-after : (most : ℕ) (old room : RoomState) (charges : Bool) (cpu : ℕ) → room.clock ≡ old.clock → length room.siblings ≤ most →
-    IsOpen most old → IsOpen most room → Accounts most old charges (schedule room false cpu).room
-accounts-after most old room charges cpu clock few was opened =
-    let made = go (sibling_of room cpu).waiting in
-    record { opened = record { started = made.opened.started; few = made.opened.few }; charging = made.charging; other = made.other } where
-      by_schedule : Accounts most old charges (picked_anew room cpu).room
-      by_schedule =
-          let made = accounts-picked_anew most room cpu few opened in
-          let now = now-picked_anew room cpu ∙ clock in
-          record { opened = made.opened; charging = λ _. now; other = omega (arith, now, was.started) }
-
-      go : (waiting : Option (Option ℕ)) → Accounts most old charges (adopted_or_picked_anew room false cpu waiting).room
-      go None = by_schedule
-      go (Some run) = by_schedule
+  go : (waiting : Option (Option ℕ)) → IsAccounted most entries (account_of (adopted_or_picked_anew room false cpu waiting).room)
+  go None = anew
+  go (Some run) = anew
 
 -- ---- each event
 
-accounts-try_steal : (most : ℕ) (room : RoomState) (cpu : ℕ) (task : Option Task) → IsOpen most room → StepAccounts most room (Turn cpu) (try_steal room cpu task)
-accounts-try_steal most room cpu None opened = unchanged most room false _ opened refl refl refl refl
-accounts-try_steal most room cpu (Some task) opened = unchanged most room false _ opened refl refl refl refl
+module _ (most done : ℕ) (some : 1 ≤ most) (room : RoomState) (few : length room.siblings ≤ most) (is : IsAccounted most done (account_of room)) where
+  -- what is to be proved of each step
+  abbrev GoesOn : Stepped → Type 0
+  GoesOn made = IsAccounted most (done + 1) (account_of made.room)
 
-accounts-turned : (most : ℕ) (room : RoomState) (fresh : Bool) (cpu : ℕ) → length room.siblings ≤ most → IsOpen most room → StepAccounts most room (Turn cpu) (turned room fresh cpu)
-accounts-turned most room fresh cpu few opened =
-    cond_both (sibling_of room cpu).pending _ _ (StepAccounts most room (Turn cpu)) (λ _. accounts-schedule most room fresh cpu few opened)
-    (λ _. cond_both ((sibling_of room cpu).place == 0) _ _ (StepAccounts most room (Turn cpu)) (λ _. unchanged most room _ room opened refl refl refl refl)
-    (λ _. accounts-try_steal most room cpu (stolen room cpu) opened))
+  stays : IsAccounted most (done + 1) (account_of room)
+  stays = later most done (account_of room) is
 
-accounts-blocked : (most : ℕ) (room : RoomState) (cpu : ℕ) (task : Option Task) → length room.siblings ≤ most → IsOpen most room → StepAccounts most room (Block cpu) (blocked room cpu task)
-accounts-blocked most room cpu None few opened = unchanged most room _ room opened refl refl refl refl
-accounts-blocked most room cpu (Some task) few opened =
-    let mid = idled (dequeued room task) cpu in
-    accounts-after most room mid true cpu refl
-    (subst (λ n. n ≤ most) (sym (length-alike mid room (kept-idled room cpu task))) few) opened (record { started = opened.started; few = opened.few })
+  paid : IsAccounted most (done + 1) (account_of (charge room))
+  paid = accounted-charge most done room some is
 
-accounts-exited : (most : ℕ) (room : RoomState) (cpu : ℕ) (task : Option Task) → length room.siblings ≤ most → IsOpen most room → StepAccounts most room (Exit cpu) (exited room cpu task)
-accounts-exited most room cpu None few opened = unchanged most room _ room opened refl refl refl refl
-accounts-exited most room cpu (Some task) few opened =
-    let mid = idled (without room task) cpu in
-    cond_both (has_threads room task) _ _ (StepAccounts most room (Exit cpu)) (λ _. unchanged most room _ room opened refl refl refl refl)
-    (λ _. accounts-after most room mid true cpu refl
-    (subst (λ n. n ≤ most) (sym (length-alike mid room (kept-without room cpu task))) few) opened (record { started = opened.started; few = opened.few }))
+  accounted-schedule : (may_adopt : Bool) (cpu : ℕ) → cpu < length room.siblings → IsAccounted most (done + 1) (account_of (schedule room may_adopt cpu).room)
+  accounted-schedule may_adopt cpu below = go may_adopt (sibling_of room cpu).waiting where
+    anew : IsAccounted most (done + 1) (account_of (picked_anew (charge room) cpu).room)
+    anew = accounted-picked_anew most (done + 1) (charge room) cpu below few (now-charge room) paid
 
-accounts-woken : (most : ℕ) (room : RoomState) (pid : ℕ) (task : Option Task) → IsOpen most room → StepAccounts most room (Wake pid) (woken room task)
-accounts-woken most room pid None opened = unchanged most room _ room opened refl refl refl refl
-accounts-woken most room pid (Some task) opened =
-    cond_both task.queued _ _ (StepAccounts most room (Wake pid)) (λ _. unchanged most room _ room opened refl refl refl refl)
-    (λ _. unchanged most room _ _ opened refl refl refl refl)
+    go : (may_adopt : Bool) (waiting : Option (Option ℕ)) → IsAccounted most (done + 1) (account_of (adopted_or_picked_anew room may_adopt cpu waiting).room)
+    go may_adopt None = anew
+    go true (Some run) = stays
+    go false (Some run) = anew
 
-accounts-forked : (most : ℕ) (room : RoomState) (pid : ℕ) (thread : Bool) (caller : Option Task) → IsOpen most room → StepAccounts most room (Fork pid thread) (forked room thread caller)
-accounts-forked most room pid thread None opened = unchanged most room _ room opened refl refl refl refl
-accounts-forked most room pid thread (Some caller) opened =
-    cond_both (may_not_fork room caller) _ _ (StepAccounts most room (Fork pid thread)) (λ _. unchanged most room _ room opened refl refl refl refl)
-    (λ _. unchanged most room _ _ opened refl refl refl refl)
+  accounted-try_steal : (cpu : ℕ) (task : Option Task) → GoesOn (try_steal room cpu task)
+  accounted-try_steal cpu None = stays
+  accounted-try_steal cpu (Some task) = stays
 
--- an interval that goes on from now has been charged up to now
-now-accounted : (started : Option ℕ) (clock : ℕ) → unwrap_or (option_map (λ start. clock) started) clock ≡ clock
-now-accounted None clock = refl
-now-accounted (Some start) clock = refl
+  accounted-turned : (may_adopt : Bool) (cpu : ℕ) → cpu < length room.siblings → GoesOn (turned room may_adopt cpu)
+  accounted-turned may_adopt cpu below =
+      cond_both (sibling_of room cpu).pending _ _ GoesOn (λ _. accounted-schedule may_adopt cpu below)
+      (λ _. cond_both ((sibling_of room cpu).place == 0) _ _ GoesOn (λ _. stays) (λ _. accounted-try_steal cpu (stolen room cpu)))
 
-accounts-ticked : (most : ℕ) (room : RoomState) (cpu : ℕ) (task : Option Task) → IsOpen most room → StepAccounts most room (Tick cpu) (ticked room cpu task)
-accounts-ticked most room cpu None opened =
-    let now = now-accounted room.started room.clock in
-    record { opened = record { started = omega (arith, now); few = opened.few }; charging = λ _. now; other = omega (arith, now, opened.started) }
-accounts-ticked most room cpu (Some task) opened =
-    let now = now-accounted room.started room.clock in
-    record { opened = record { started = omega (arith, now); few = opened.few }; charging = λ _. now; other = omega (arith, now, opened.started) }
+  accounted-blocked : (cpu : ℕ) (task : Option Task) → cpu < length room.siblings → GoesOn (blocked room cpu task)
+  accounted-blocked cpu None below = stays
+  accounted-blocked cpu (Some task) below =
+      let gone = idled (dequeued (charge room) task) cpu in
+      accounted-again most (done + 1) room gone cpu (length-alike gone room (kept-idled (charge room) cpu task)) below few (now-charge room) paid
 
--- time that goes on lengthens the open interval
-accounts-advanced : (most : ℕ) (room : RoomState) (delta : ℕ) → IsOpen most room → Accounts most room false (advanced room delta)
-unfolding advanced
-accounts-advanced most room delta opened = by_start room.started refl where
-  longer : (started : Option ℕ) → unwrap_or started room.clock ≤ room.clock → unwrap_or started (room.clock + delta) ≤ room.clock + delta
-  longer None le = omega arith
-  longer (Some start) le = omega (arith, le)
+  accounted-exited : (cpu : ℕ) (task : Option Task) → cpu < length room.siblings → GoesOn (exited room cpu task)
+  accounted-exited cpu None below = stays
+  accounted-exited cpu (Some task) below =
+      let gone = idled (without (charge room) task) cpu in
+      cond_both (has_threads room task) _ _ GoesOn (λ _. stays)
+      (λ _. accounted-again most (done + 1) room gone cpu (length-alike gone room (kept-without (charge room) cpu task)) below few (now-charge room) paid)
 
-  later : (started : Option ℕ) → unwrap_or started room.clock ≤ unwrap_or started (room.clock + delta)
-  later None = omega arith
-  later (Some start) = omega arith
+  accounted-woken : (task : Option Task) → GoesOn (woken room task)
+  accounted-woken None = stays
+  accounted-woken (Some task) = cond_both task.queued _ _ GoesOn (λ _. stays) (λ _. stays)
 
-  by_start : (started : Option ℕ) → room.started ≡ started → Accounts most room false (advanced room delta)
-  by_start started is =
-      record { opened = record { started = longer room.started opened.started; few = opened.few }; charging = λ yes. absurd cc; other = later room.started }
+  accounted-forked : (thread : Bool) (caller : Option Task) → GoesOn (forked room thread caller)
+  accounted-forked thread None = stays
+  accounted-forked thread (Some caller) = cond_both (may_not_fork room caller) _ _ GoesOn (λ _. stays) (λ _. stays)
 
--- no answer of a call charges
-abbrev pub ChargeNothing : Event → List Row → Type 0
-ChargeNothing event [] = Unit {0}
-ChargeNothing event (row ∷ rows) = (is_charging event row.answer ≡ false) × ChargeNothing event rows
+  accounted-ticked : (cpu : ℕ) (task : Option Task) → GoesOn (ticked room cpu task)
+  accounted-ticked cpu None = paid
+  accounted-ticked cpu (Some task) = paid
 
-first_answer_charges_nothing : (event : Event) (rows : List Row) → ChargeNothing event rows → is_charging event (first_answer rows) ≡ false
-first_answer_charges_nothing event [] none = refl
-first_answer_charges_nothing event (row ∷ rows) none =
-    cond_both row.holds row.answer (first_answer rows) (λ answer. is_charging event answer ≡ false) (λ _. none.0) (λ _. first_answer_charges_nothing event rows none.1)
+  -- time that goes on lengthens the open interval
+  accounted-advanced : (delta : ℕ) → IsAccounted most (done + 1) (account_of (advanced room delta))
+  unfolding advanced
+  accounted-advanced delta =
+      let up_to = charged_up_to (account_of room) in
+      record {
+        started = longer room.started is.started;
+        few = is.few;
+        totals = λ pid. omega (arith, is.totals pid, less_time most up_to (unwrap_or room.started (room.clock + delta)) (no_earlier room.started));
+        intervals = stays.intervals;
+        opened = is.opened;
+        occupied = is.occupied;
+        divisors = is.divisors;
+      } where
+        longer : (started : Option ℕ) → unwrap_or started room.clock ≤ room.clock → unwrap_or started (room.clock + delta) ≤ room.clock + delta
+        longer None le = omega arith
+        longer (Some start) le = omega (arith, le)
 
-prctl_charges_nothing : (room : RoomState) (caller : ℕ) (ask : Ask) → is_charging (Prctl caller ask) (prctl_answer room caller ask) ≡ false
-unfolding rows_before_making rows_after_making
-prctl_charges_nothing room caller ask =
-    first_answer_charges_nothing (Prctl caller ask) (rows_before_making room caller ask ++ rows_after_making room caller ask)
-    (refl, (refl, (refl, (refl, (refl, (refl, (refl, (refl, (refl, (refl, (refl, (refl, (refl, tt)))))))))))))
+        no_earlier : (started : Option ℕ) → unwrap_or started room.clock ≤ unwrap_or started (room.clock + delta)
+        no_earlier None = omega arith
+        no_earlier (Some start) = omega arith
 
--- a call leaves the clock and the interval
-record LeavesOpen (old new : RoomState) : Type 0 where
-  started : new.started ≡ old.started
-  clock : new.clock ≡ old.clock
-  forced : new.forced ≡ old.forced
+  accounted-with_answer : (made : Bool) (set : Setting) (answer : Reply) → IsAccounted most (done + 1) (account_of (with_answer (with_made room made) set answer))
+  accounted-with_answer made set Zero = stays
+  accounted-with_answer made set answer = stays
 
-leaves-with_answer : (room : RoomState) (set : Setting) (answer : Reply) → LeavesOpen room (with_answer room set answer)
-leaves-with_answer room set Zero = record { started = refl; clock = refl; forced = refl }
-leaves-with_answer room set answer = record { started = refl; clock = refl; forced = refl }
+  accounted-set_policy : (policy : Policy) (task : Option Task) → GoesOn (set_policy room policy task)
+  accounted-set_policy policy None = stays
+  accounted-set_policy policy (Some task) =
+      cond_both task.queued _ _ (λ (new : RoomState). IsAccounted most (done + 1) (account_of new)) (λ _. stays) (λ _. stays)
 
-accounts-prctl : (most : ℕ) (room : RoomState) (caller : ℕ) (ask : Ask) → IsOpen most room → StepAccounts most room (Prctl caller ask) (step room false (Prctl caller ask))
-accounts-prctl most room caller ask opened =
-    let leaves = leaves-with_answer (with_made room (makes_cookie room caller ask)) (setting_of room caller ask) (prctl_answer room caller ask) in
-    unchanged most room _ _ opened (prctl_charges_nothing room caller ask) leaves.started leaves.clock leaves.forced
+  accounted-taken_offline : (cpu : ℕ) → GoesOn (taken_offline room cpu)
+  unfolding leave
+  accounted-taken_offline cpu =
+      cond_both (not (is_online room cpu)) _ _ GoesOn (λ _. stays)
+      (λ _. cond_both (length (online room) == 1) _ _ GoesOn (λ _. stays)
+      (λ _. accounted_anew most (done + 1) (account_of (charge room)) 0 0 0 (now-charge room) (omega arith) (λ none. none) paid))
 
-accounts-unless_offline : (most : ℕ) (room : RoomState) (event : Event) (cpu : ℕ) (stepped : Stepped) → IsOpen most room → StepAccounts most room event stepped →
-    StepAccounts most room event (unless_offline room cpu stepped)
-accounts-unless_offline most room event cpu stepped opened made =
-    cond_both (is_online room cpu) _ _ (StepAccounts most room event) (λ _. made) (λ _. unchanged most room false room opened refl refl refl refl)
+  accounted-brought_online : (cpu : ℕ) → GoesOn (brought_online room cpu)
+  accounted-brought_online cpu = cond_both (is_online room cpu) _ _ GoesOn (λ _. stays) (λ _. stays)
 
-accounts-set_policy : (most : ℕ) (room : RoomState) (pid : ℕ) (policy : Policy) (task : Option Task) → IsOpen most room → StepAccounts most room (SetSched pid policy) (set_policy room policy task)
-accounts-set_policy most room pid policy None opened = unchanged most room false room opened refl refl refl refl
-accounts-set_policy most room pid policy (Some task) opened =
-    cond_both task.queued _ _ (Accounts most room false) (λ _. unchanged most room false _ opened refl refl refl refl) (λ _. unchanged most room false _ opened refl refl refl refl)
+  accounted-unless_offline : (cpu : ℕ) (stepped : Stepped) → GoesOn stepped → GoesOn (unless_offline room cpu stepped)
+  accounted-unless_offline cpu stepped made = cond_both (is_online room cpu) _ _ GoesOn (λ _. made) (λ _. stays)
 
--- a sibling that leaves has charged up to now
-accounts-taken_offline : (most : ℕ) (room : RoomState) (cpu : ℕ) → IsOpen most room → StepAccounts most room (Offline cpu) (taken_offline room cpu)
-unfolding leave
-accounts-taken_offline most room cpu opened =
-    cond_both (not (is_online room cpu)) _ _ (StepAccounts most room (Offline cpu)) (λ _. unchanged most room false room opened refl refl refl refl)
-    (λ _. cond_both (length (online room) == 1) _ _ (StepAccounts most room (Offline cpu)) (λ _. unchanged most room false room opened refl refl refl refl)
-    (λ _. record { opened = record { started = omega arith; few = omega arith }; charging = λ _. refl; other = omega (arith, opened.started) }))
+  accounted-step : (may_adopt : Bool) (event : Event) → IsEvent (length room.siblings) event → GoesOn (step room may_adopt event)
+  accounted-step may_adopt (Turn cpu) below = accounted-unless_offline cpu _ (accounted-turned may_adopt cpu below)
+  accounted-step may_adopt (Resched cpu) below = accounted-unless_offline cpu _ (accounted-schedule may_adopt cpu below)
+  accounted-step may_adopt (Block cpu) below = accounted-unless_offline cpu _ (accounted-blocked cpu (running_on room cpu) below)
+  accounted-step may_adopt (Exit cpu) below = accounted-unless_offline cpu _ (accounted-exited cpu (running_on room cpu) below)
+  accounted-step may_adopt (Tick cpu) below = accounted-unless_offline cpu _ (accounted-ticked cpu (running_on room cpu))
+  accounted-step may_adopt (Wake pid) limits = accounted-woken (task_of room pid)
+  accounted-step may_adopt (Advance delta) limits = accounted-advanced delta
+  accounted-step may_adopt (Fork caller thread) limits = accounted-forked thread (task_of room caller)
+  accounted-step may_adopt (Prctl caller ask) limits =
+      accounted-with_answer (makes_cookie room caller ask) (setting_of room caller ask) (prctl_answer room caller ask)
+  accounted-step may_adopt (SetSched pid policy) limits = accounted-set_policy policy (task_of room pid)
+  accounted-step may_adopt (Offline cpu) below = accounted-taken_offline cpu
+  accounted-step may_adopt (Online cpu) below = accounted-brought_online cpu
 
-accounts-brought_online : (most : ℕ) (room : RoomState) (cpu : ℕ) → IsOpen most room → StepAccounts most room (Online cpu) (brought_online room cpu)
-accounts-brought_online most room cpu opened =
-    cond_both (is_online room cpu) _ _ (StepAccounts most room (Online cpu)) (λ _. unchanged most room false room opened refl refl refl refl)
-    (λ _. unchanged most room false _ opened refl refl refl refl)
+-- ---- after a history
 
-accounts_step : (most : ℕ) (room : RoomState) (fresh : Bool) (event : Event) → length room.siblings ≤ most → IsOpen most room → StepAccounts most room event (step room fresh event)
-accounts_step most room fresh (Turn cpu) few opened = accounts-unless_offline most room (Turn cpu) cpu _ opened (accounts-turned most room fresh cpu few opened)
-accounts_step most room fresh (Resched cpu) few opened = accounts-unless_offline most room (Resched cpu) cpu _ opened (accounts-schedule most room fresh cpu few opened)
-accounts_step most room fresh (Block cpu) few opened = accounts-unless_offline most room (Block cpu) cpu _ opened (accounts-blocked most room cpu (running_on room cpu) few opened)
-accounts_step most room fresh (Exit cpu) few opened = accounts-unless_offline most room (Exit cpu) cpu _ opened (accounts-exited most room cpu (running_on room cpu) few opened)
-accounts_step most room fresh (Tick cpu) few opened = accounts-unless_offline most room (Tick cpu) cpu _ opened (accounts-ticked most room cpu (running_on room cpu) opened)
-accounts_step most room fresh (Wake pid) few opened = accounts-woken most room pid (task_of room pid) opened
-accounts_step most room fresh (Advance delta) few opened = accounts-advanced most room delta opened
-accounts_step most room fresh (Fork caller thread) few opened = accounts-forked most room caller thread (task_of room caller) opened
-accounts_step most room fresh (Prctl caller ask) few opened = accounts-prctl most room caller ask opened
-accounts_step most room fresh (SetSched pid policy) few opened = accounts-set_policy most room pid policy (task_of room pid) opened
-accounts_step most room fresh (Offline cpu) few opened = accounts-taken_offline most room cpu opened
-accounts_step most room fresh (Online cpu) few opened = accounts-brought_online most room cpu opened
-
--- ---- how far the totals come
-
--- what each task was charged is at most so many times the time that has been charged
-pub record IsAccounted (most : ℕ) (moment : Moment) : Type 0 where
-  pub totals : (pid : ℕ) → total_of pid (intervals_of moment.ledger) ≤ most * charged_up_to moment.room
-  pub opened : IsOpen most moment.room
-
--- a share is at most the time, times the count where that is above 1
-share-le : (most : ℕ) (interval : Interval) → 1 ≤ most → interval.count ≤ most → share interval ≤ most * (interval.to - interval.from)
-share-le most interval some few =
-    let delta = interval.to - interval.from in
-    let each : delta * interval.count ≤ most * delta = grind (arith) in
-    let one : delta ≤ most * delta = grind (arith) in
-    cond_both (ltb 1 interval.count || ltb 1 interval.occupation) (delta * interval.count / interval.occupation) delta (λ n. n ≤ most * delta)
-    (λ _. omega (arith, each, div-le_self (delta * interval.count) interval.occupation)) (λ _. one)
-
--- So what the open interval charges a task is at most so many times its time.
-owed-le : (most pid : ℕ) (room : RoomState) → 1 ≤ most → IsOpen most room → owed pid (open_interval room) ≤ most * (room.clock - charged_up_to room)
-owed-le most pid room some opened = go room.started where
-  by_share : (start : ℕ) → owed pid (up_to_now room (Some start)) ≤ most * (room.clock - start)
-  by_share start =
-      let interval : Interval = record { from = start; to = room.clock; count = room.forced; occupation = room.occupation; charged = charged room } in
-      cond_both (eqb room.clock start) None (Some interval) (λ one. owed pid one ≤ most * (room.clock - start)) (λ _. omega arith)
-      (λ _. cond_both (charges pid interval) (share interval) 0 (λ n. n ≤ most * (room.clock - start)) (λ _. share-le most interval some opened.few) (λ _. omega arith))
-
-  go : (started : Option ℕ) → owed pid (up_to_now room started) ≤ most * (room.clock - unwrap_or started room.clock)
-  go None = omega arith
-  go (Some start) = by_share start
-
--- how a total goes on by one entry
-total-next : (pid : ℕ) (moment : Moment) (entry : Entry) →
-    total_of pid (intervals_of (next moment entry).ledger) ≡ total_of pid (intervals_of moment.ledger) + owed pid (interval_by moment.room entry.event entry.reply)
-total-next pid moment entry =
-    ap (total_of pid) (intervals_of-cons (ledger_entry moment.room entry) moment.ledger) ∙ total_of-ledger_entry pid (interval_by moment.room entry.event entry.reply) (intervals_of moment.ledger)
-
-more_time : (most a b : ℕ) → a ≤ b → most * a + most * (b - a) ≡ most * b
-more_time most a b le = grind (arith)
-
-less_time : (most a b : ℕ) → a ≤ b → most * a ≤ most * b
-less_time most a b le = grind (arith)
-
-accounted_next : (most : ℕ) (moment : Moment) (entry : Entry) → 1 ≤ most → length moment.room.siblings ≤ most →
-    entry.reply ≡ (step moment.room (is_fresh moment.ledger) entry.event).reply → IsAccounted most moment → IsAccounted most (next moment entry)
-accounted_next most moment entry some few legal accounted =
-    let room = moment.room in
-    let now = (next moment entry).room in
-    let made = accounts_step most room (is_fresh moment.ledger) entry.event few accounted.opened in
-    record {
-      totals = λ pid. subst (λ n. n ≤ most * charged_up_to now) (sym (total-next pid moment entry)) (by_reply pid made (is_charging entry.event entry.reply) refl);
-      opened = made.opened;
-    } where
-      by_reply : (pid : ℕ) → StepAccounts most moment.room entry.event (step moment.room (is_fresh moment.ledger) entry.event) → (b : Bool) → is_charging entry.event entry.reply ≡ b →
-          total_of pid (intervals_of moment.ledger) + owed pid (cond (is_charging entry.event entry.reply) (open_interval moment.room) None) ≤ most * charged_up_to (next moment entry).room
-      by_reply pid made true is =
-          let up_to = made.charging (sym (ap (is_charging entry.event) legal) ∙ is) in
-          let one = ap (λ b. owed pid (cond b (open_interval moment.room) None)) is in
-          omega (
-            arith,
-            one,
-            accounted.totals pid,
-            owed-le most pid moment.room some accounted.opened,
-            more_time most (charged_up_to moment.room) moment.room.clock accounted.opened.started,
-            ap (λ n. most * n) up_to,
-          )
-      by_reply pid made false is =
-          let one = ap (λ b. owed pid (cond b (open_interval moment.room) None)) is in
-          omega (arith, one, accounted.totals pid, less_time most (charged_up_to moment.room) (charged_up_to (next moment entry).room) made.other)
+accounted_after : (most done siblings : ℕ) (moment : Moment) (entries : List Entry) → 1 ≤ most → siblings ≤ most → length moment.room.siblings ≡ siblings →
+    AllByRecursion (λ entry. IsEvent siblings entry.event) entries → IsAccounted most done (account_of moment.room) →
+    IsAccounted most (done + length entries) (account_of (after moment entries).room)
+accounted_after most done siblings moment [] some few long limits is = subst (λ n. IsAccounted most n (account_of moment.room)) (omega arith) is
+accounted_after most done siblings moment (entry ∷ entries) some few long limits is =
+    subst (λ n. IsAccounted most n (account_of (after (next moment entry) entries).room)) (omega arith)
+    (accounted_after most (done + 1) siblings (next moment entry) entries some few (length-step moment.room (is_fresh moment.ledger) entry.event ∙ long) limits.1
+    (accounted-step most done some moment.room (omega (arith, long, few)) is (is_fresh moment.ledger) entry.event
+    (subst (λ n. IsEvent n entry.event) (sym long) limits.0)))
 
 -- nothing is charged before the first interval
 pub total_of-none : (pid : ℕ) → total_of pid [] ≡ 0
 unfolding total_of
 total_of-none pid = refl
 
-accounted_made : (most : ℕ) (moment : Moment) (steps : List Step) → 1 ≤ most → length moment.room.siblings ≤ most → IsAccounted most moment →
-    IsAccounted most (after moment (made_from moment steps))
-accounted_made most moment [] some few accounted = accounted
-accounted_made most moment (made ∷ steps) some few accounted =
-    let entry = entry_of moment made in
-    let same = length-step moment.room (is_fresh moment.ledger) made.event in
-    accounted_made most (next moment entry) steps some (subst (λ n. n ≤ most) (sym same) few) (accounted_next most moment entry some few refl accounted)
-
--- After every legal history no total is above so many times the time that has been charged, where the core has no more
--- siblings than that.
-pub accounted-history_of : (most : ℕ) (scenario : Scenario) (steps : List Step) → 1 ≤ most → scenario.siblings ≤ most →
-    IsAccounted most (moment_of scenario (history_of scenario steps))
-accounted-history_of most scenario steps some few =
-    accounted_made most (beginning scenario) steps some (subst (λ n. n ≤ most) (sym (length-replicate scenario.siblings idle)) few) (record {
-      totals = λ pid. subst (λ n. n ≤ most * 0) (sym (total_of-none pid)) (omega arith);
-      opened = record { started = omega arith; few = omega arith };
-    })
-
--- ---- what a machine asks
-
--- a share of the open interval is at most so many times its time
-pub open_share-le : (most n : ℕ) (room : RoomState) → 1 ≤ most → IsOpen most room → Some n ≡ option_map share (open_interval room) → n ≤ most * (room.clock - charged_up_to room)
-open_share-le most n room some opened is = go room.started is where
-  by_test : (start : ℕ) (same : Bool) → Some n ≡ option_map share (cond same None (Some (record { from = start; to = room.clock; count = room.forced; occupation = room.occupation; charged = charged room }))) →
-      n ≤ most * (room.clock - start)
-  by_test start true is = absurd cc
-  by_test start false is =
-      let interval : Interval = record { from = start; to = room.clock; count = room.forced; occupation = room.occupation; charged = charged room } in
-      let same : n ≡ share interval = ap (λ one. unwrap_or one n) is in
-      omega (arith, same, share-le most interval some opened.few)
-
-  go : (started : Option ℕ) → Some n ≡ option_map share (up_to_now room started) → n ≤ most * (room.clock - unwrap_or started room.clock)
-  go None is = absurd cc
-  go (Some start) is = by_test start (eqb room.clock start) is
-
--- what an interval goes on from makes no difference to a pick
-pub picked_anew-accounted : (room : RoomState) (cpu : ℕ) → picked_anew (accounted room) cpu ≡ picked_anew room cpu
-unfolding lead_from choice selected_room
-picked_anew-accounted room cpu = refl
-
--- a pick that adopts nothing closes the interval
-pub closes-picked_anew : (room : RoomState) (cpu : ℕ) → closes (picked_anew room cpu).pick.kind ≡ true
-closes-picked_anew room cpu =
-    cond_both (is_plain room cpu) (plain room cpu) (selected room cpu) (λ (made : Scheduled). closes made.pick.kind ≡ true) (λ _. refl) (λ _. refl)
+-- After every history whose events keep their limits the account comes no further than that.
+pub accounted-fold_of : (most : ℕ) (scenario : Scenario) (history : History) → 1 ≤ most → scenario.siblings ≤ most →
+    All (λ entry. IsEvent scenario.siblings entry.event) history → IsAccounted most (length history) (account_of (fold_of scenario history))
+accounted-fold_of most scenario history some few limits =
+    subst (λ n. IsAccounted most n (account_of (fold_of scenario history))) (omega arith)
+    (accounted_after most 0 scenario.siblings (beginning scenario) history some few (length-replicate scenario.siblings idle)
+    (recursion_from_All (λ entry. IsEvent scenario.siblings entry.event) history limits)
+    (record {
+      started = omega arith;
+      few = omega arith;
+      totals = λ pid. omega (arith, total_of-none pid);
+      intervals = omega arith;
+      opened = tt;
+      occupied = λ none. none;
+      divisors = All-nil HasDivisor;
+    }))

@@ -13,7 +13,8 @@ use Rattle.cs_types.specs.declared.reply.Reply.TheVariants.{Zero}
 use Rattle.cs_types.specs.declared.reply.Entry.{Entry}
 use Rattle.cs_types.specs.declared.scenario.Scenario.{Scenario}
 use Rattle.cs_types.specs.Room.{RoomState, SiblingState, idle, online, is_online, sibling_of, running_on, task_of, with_sibling, flagged, absent}
-use Rattle.cs_types.specs.Selection.{selected_room, selected, plain, is_plain, picked_anew, adopted_or_picked_anew, schedule, is_to_steal, is_run}
+use Rattle.cs_types.specs.Selection.{is_run, told, handed, given, selected_room, selected, plain, is_plain, picked_anew, adopted_or_picked_anew, schedule, is_to_steal}
+use Rattle.cs_types.specs.Accounting.{charge}
 use Rattle.cs_types.specs.Time.{least_of, with_growth, advanced}
 use Rattle.cs_types.specs.Prctl.{Setting, setting_of, makes_cookie, with_made, with_answer, prctl_answer}
 use Rattle.cs_types.specs.Step.{Stepped, step, woken, turned, try_steal, idled, blocked, without, has_threads, exited, may_not_fork, forked, ticked, unless_offline, set_policy, taken_offline, brought_online}
@@ -66,9 +67,9 @@ low-picked_anew most room cpu low =
     (λ _. all_set (Low most) room.siblings cpu _ (low_at most room cpu low) low) (λ _. low-selected_room most room cpu _ low)
 
 low-adopted_or_picked_anew : (most : ℕ) (room : RoomState) (fresh : Bool) (cpu : ℕ) (waiting : Option (Option ℕ)) → AreLow most room → AreLow most (adopted_or_picked_anew room fresh cpu waiting).room
-low-adopted_or_picked_anew most room fresh cpu None low = low-picked_anew most room cpu low
+low-adopted_or_picked_anew most room fresh cpu None low = low-picked_anew most (charge room) cpu low
 low-adopted_or_picked_anew most room true cpu (Some run) low = low-with_sibling most room cpu _ (low_at most room cpu low) low
-low-adopted_or_picked_anew most room false cpu (Some run) low = low-picked_anew most room cpu low
+low-adopted_or_picked_anew most room false cpu (Some run) low = low-picked_anew most (charge room) cpu low
 
 -- After a schedule the place is 1 at most.
 low-schedule : (most : ℕ) (room : RoomState) (fresh : Bool) (cpu : ℕ) → AreLow most room → AreLow (most + 1) (schedule room fresh cpu).room
@@ -101,13 +102,13 @@ low-turned most room fresh cpu low =
 
 low-blocked : (most : ℕ) (room : RoomState) (cpu : ℕ) (task : Option Task) → AreLow most room → AreLow (most + 1) (blocked room cpu task).room
 low-blocked most room cpu None low = higher most _ low
-low-blocked most room cpu (Some task) low = low-schedule most (idled (dequeued room task) cpu) false cpu (low-idled most (dequeued room task) cpu low)
+low-blocked most room cpu (Some task) low = low-schedule most (idled (dequeued (charge room) task) cpu) false cpu (low-idled most (dequeued (charge room) task) cpu low)
 
 low-exited : (most : ℕ) (room : RoomState) (cpu : ℕ) (task : Option Task) → AreLow most room → AreLow (most + 1) (exited room cpu task).room
 low-exited most room cpu None low = higher most _ low
 low-exited most room cpu (Some task) low =
     cond_both (has_threads room task) _ _ (λ (made : Stepped). AreLow (most + 1) made.room) (λ _. higher most _ low)
-    (λ _. low-schedule most (idled (without room task) cpu) false cpu (low-idled most (without room task) cpu low))
+    (λ _. low-schedule most (idled (without (charge room) task) cpu) false cpu (low-idled most (without (charge room) task) cpu low))
 
 low-ticked : (most : ℕ) (room : RoomState) (cpu : ℕ) (task : Option Task) → AreLow most room → AreLow most (ticked room cpu task).room
 low-ticked most room cpu None low = low

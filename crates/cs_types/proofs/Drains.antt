@@ -16,8 +16,9 @@ use Rattle.cs_types.specs.Scenario.{is_actor, IsEvent}
 use Rattle.cs_types.specs.Room.{RoomState, Waiting, sibling_of, is_online, online}
 use Rattle.cs_types.specs.Touches.{is_adopted, is_fresh}
 use Rattle.cs_types.specs.Selection.{selected, is_plain, plain, picked_anew, adopted_or_picked_anew, schedule}
-use Rattle.cs_types.specs.History.{History, Moment, beginning, step_at, next, after, moment_of, fold_of, IsLegal, AreEvents, events_by, entry_of, made_from, history_of}
-use Rattle.cs_types.specs.Drain.{pending, is_ready, lowest, next_to_schedule, entry_by_end, IsEndFrom, IsDrained}
+use Rattle.cs_types.specs.Accounting.{charge}
+use Rattle.cs_types.specs.History.{History, Moment, beginning, step_at, next, after, moment_of, IsLegal, events_by, entry_of, made_from, history_of, fold_of, AreEvents}
+use Rattle.cs_types.specs.Drain.{pending, is_ready, lowest, next_to_schedule, made_by_end, drained_from, drained, entry_by_end, IsEndFrom, IsDrained}
 use Rattle.cs_types.proofs.Histories.{IsLegal-history_of}
 use Rattle.cs_types.proofs.Siblings.{kept, kept-schedule, kept-unless_offline, length-alike, is_online-alike, length-fold_of}
 use Rattle.cs_types.proofs.Filtered.{each-filter, Contains-filter, Contains-filter_parts}
@@ -101,9 +102,9 @@ next_is_lowest moment cpu other found held alike =
 -- A sibling's schedule is an adoption exactly where it is ready.
 pub ready_adopts : (moment : Moment) (cpu : ℕ) → is_adopted (schedule moment.room (is_fresh moment.ledger) cpu).pick.kind ≡ is_ready moment cpu
 ready_adopts moment cpu = go (is_fresh moment.ledger) (sibling_of moment.room cpu).waiting where
-  none_adopted : is_adopted (picked_anew moment.room cpu).pick.kind ≡ false
+  none_adopted : is_adopted (picked_anew (charge moment.room) cpu).pick.kind ≡ false
   none_adopted =
-      cond_both (is_plain moment.room cpu) (plain moment.room cpu) (selected moment.room cpu) (λ made. is_adopted made.pick.kind ≡ false) (λ _. refl) (λ _. refl)
+      cond_both (is_plain moment.room cpu) (plain (charge moment.room) cpu) (selected (charge moment.room) cpu) (λ made. is_adopted made.pick.kind ≡ false) (λ _. refl) (λ _. refl)
 
   go : (fresh : Bool) (waiting : Waiting) → is_adopted (adopted_or_picked_anew moment.room fresh cpu waiting).pick.kind ≡ (fresh && is_some waiting)
   go fresh None = none_adopted ∙ sym (and_right fresh false refl)

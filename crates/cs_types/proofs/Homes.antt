@@ -22,7 +22,7 @@ use Rattle.cs_types.specs.Step.{Stepped, step, woken, blocked, exited, forked, t
 use Rattle.cs_types.specs.Queueing.{dequeued, moved_to, rehomed, queued_at_home}
 use Rattle.cs_types.specs.Steal.{source_of, stolen, may_steal}
 use Rattle.cs_types.specs.Hotplug.{away, back, lowest_other, leave, with_sibling_back}
-use Rattle.cs_types.specs.Accounting.{accounted}
+use Rattle.cs_types.specs.Accounting.{charge}
 use Rattle.cs_types.specs.Time.{with_growth, least_of, advanced}
 use Rattle.cs_types.proofs.Foremost.{find_passes}
 use Rattle.cs_types.proofs.Filtered.{each-filter, each_found}
@@ -143,16 +143,16 @@ running_is_found room cpu task runs = go (sibling_of room cpu).run runs where
 housed-blocked : (room : RoomState) (cpu : ℕ) (task : Option Task) → running_on room cpu ≡ task → IsHoused room → IsHoused (blocked room cpu task).room
 housed-blocked room cpu None runs housed = housed
 housed-blocked room cpu (Some task) runs housed =
-    housed-schedule (idled (dequeued room task) cpu) false cpu
-    (housed_by room (idled (dequeued room task) cpu) (kept-idled room cpu task)
+    housed-schedule (idled (dequeued (charge room) task) cpu) false cpu
+    (housed_by room (idled (dequeued (charge room) task) cpu) (kept-idled (charge room) cpu task)
     (λ pid. home_at room _ pid task.spec.pid _ (spots-dequeued room task (running_is_found room cpu task runs).1 pid) (λ queued. absurd cc) housed) housed)
 
 housed-exited : (room : RoomState) (cpu : ℕ) (task : Option Task) → IsHoused room → IsHoused (exited room cpu task).room
 housed-exited room cpu None housed = housed
 housed-exited room cpu (Some task) housed =
     cond_both (has_threads room task) _ _ (λ (made : Stepped). IsHoused made.room) (λ _. housed)
-    (λ _. housed-schedule (idled (without room task) cpu) false cpu
-    (housed_by room (idled (without room task) cpu) (kept-without room cpu task)
+    (λ _. housed-schedule (idled (without (charge room) task) cpu) false cpu
+    (housed_by room (idled (without (charge room) task) cpu) (kept-without (charge room) cpu task)
     (λ pid. home_at room _ pid task.spec.pid None (spots-without room task pid) tt housed) housed))
 
 housed-queued_at_home : (room : RoomState) (task old : Task) → find (has_pid task.spec.pid) room.tasks ≡ Some old → is_online room task.home ≡ true →
@@ -197,10 +197,10 @@ housed-forked room thread (Some caller) housed =
     (λ _. housed-queued_at_home born (child_at_home room child) child (child_is_found room caller thread) (child_at_home_is_online room child housed) held)
 
 housed-ticked : (room : RoomState) (cpu : ℕ) (task : Option Task) → running_on room cpu ≡ task → IsHoused room → IsHoused (ticked room cpu task).room
-housed-ticked room cpu None runs housed = housed_same room (accounted room) refl (λ pid. refl) housed
+housed-ticked room cpu None runs housed = housed_same room (charge room) refl (λ pid. refl) housed
 housed-ticked room cpu (Some task) runs housed =
     housed_same room (ticked room cpu (Some task)).room (kept-ticked room cpu (Some task))
-    (spots-ticked_room (accounted room) cpu task (running_is_found room cpu task runs).1) housed
+    (spots-ticked_room (charge room) cpu task (running_is_found room cpu task runs).1) housed
 
 -- what a sibling is after an advance
 pub sibling_of-advanced : (P : SiblingState → Type 0) (room : RoomState) (delta cpu : ℕ) → ((least ran : ℕ) → P (record absent { least = least; ran = ran })) →

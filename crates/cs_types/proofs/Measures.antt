@@ -12,7 +12,8 @@ use Rattle.cs_types.specs.declared.event.Event.TheVariants.{Resched}
 use Rattle.cs_types.specs.declared.reply.Reply.TheVariants.{Picked}
 use Rattle.cs_types.specs.Room.{RoomState, SiblingState, Waiting, absent, sibling_of, is_online, online}
 use Rattle.cs_types.specs.Touches.{is_selection, LedgerEntry, Ledger, ledger_entry, is_fresh}
-use Rattle.cs_types.specs.Selection.{cookie_of, pid_of, lead_from, choice, is_run, sibling_after_selection, selected, Scheduled, adopted, is_plain, plain, picked_anew, adopted_or_picked_anew, balanced, schedule}
+use Rattle.cs_types.specs.Selection.{cookie_of, pid_of, is_fair_task, lead_from, choice, occupation_of, renews_snapshots, running, is_run, told, handed, selected, Scheduled, adopted, is_plain, plain, picked_anew, adopted_or_picked_anew, balanced, schedule, sibling_after_selection}
+use Rattle.cs_types.specs.Accounting.{charge}
 use Rattle.cs_types.specs.Step.{Stepped, picked}
 use Rattle.cs_types.specs.History.{Moment, step_at, next}
 use Rattle.cs_types.specs.Drain.{pending, is_ready, next_to_schedule, entry_by_end}
@@ -324,13 +325,14 @@ selected_falls moment cpu below due none same =
 
 rescheduled_falls : (moment : Moment) (cpu : ℕ) → cpu < length moment.room.siblings → is_pending moment.room cpu ≡ true →
     ((other : ℕ) → other < length moment.room.siblings → would_adopt moment other ≡ false) →
-    let now = moment_after moment cpu (picked Picked (balanced cpu (picked_anew moment.room cpu))) in
+    let now = moment_after moment cpu (picked Picked (balanced cpu (picked_anew (charge moment.room) cpu))) in
     length now.room.siblings ≡ length moment.room.siblings → measure now < measure moment
 rescheduled_falls moment cpu below due none =
-    cond_both (is_plain moment.room cpu) (plain moment.room cpu) (selected moment.room cpu)
+    let paid : Moment = record moment { room = charge moment.room } in
+    cond_both (is_plain paid.room cpu) (plain paid.room cpu) (selected paid.room cpu)
     (λ made. length (balanced cpu made).room.siblings ≡ length moment.room.siblings →
     measure (moment_after moment cpu (picked Picked (balanced cpu made))) < measure moment)
-    (λ _. plain_falls moment cpu below due none) (λ _. selected_falls moment cpu below due none)
+    (λ _. plain_falls paid cpu below due none) (λ _. selected_falls paid cpu below due none)
 
 -- where no pending sibling is ready, none would adopt
 none_would_adopt : (moment : Moment) → filter (is_ready moment) (pending moment.room) ≡ [] → (other : ℕ) → other < length moment.room.siblings → would_adopt moment other ≡ false

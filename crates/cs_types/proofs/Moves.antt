@@ -7,7 +7,8 @@ use Rattle.cs_types.specs.declared.task.Task.{Task}
 use Rattle.cs_types.specs.declared.task.Policy.{Policy}
 use Rattle.cs_types.specs.declared.task.Policy.TheVariants.{Stop, Deadline, Fifo, Rr, Fair}
 use Rattle.cs_types.specs.Room.{RoomState, has_pid, task_of, sibling_of, with_task}
-use Rattle.cs_types.specs.Selection.{task_after_selection, selected_room, selected, plain, is_plain, picked_anew, adopted_or_picked_anew, schedule}
+use Rattle.cs_types.specs.Selection.{remembered, selected_room, selected, plain, is_plain, picked_anew, adopted_or_picked_anew, schedule, task_after_selection}
+use Rattle.cs_types.specs.Accounting.{charge}
 use Rattle.cs_types.specs.Queueing.{refreshed_by, refreshed, dequeued, moved, moved_to, queued_at_home}
 use Rattle.cs_types.specs.Step.{without, with_child, child_of, with_policy, with_policy_set}
 use Rattle.cs_types.specs.Time.{is_running, grown, grown_by, advanced, ticked_room, has_used_slice, rotates}
@@ -30,9 +31,9 @@ spots-picked_anew room cpu pid =
     (λ _. spots-selected_room room cpu _ pid)
 
 pub spots-adopted_or_picked_anew : (room : RoomState) (fresh : Bool) (cpu : ℕ) (waiting : Option (Option ℕ)) (pid : ℕ) → spot_at (adopted_or_picked_anew room fresh cpu waiting).room pid ≡ spot_at room pid
-spots-adopted_or_picked_anew room fresh cpu None pid = spots-picked_anew room cpu pid
+spots-adopted_or_picked_anew room fresh cpu None pid = spots-picked_anew (charge room) cpu pid
 spots-adopted_or_picked_anew room true cpu (Some run) pid = refl
-spots-adopted_or_picked_anew room false cpu (Some run) pid = spots-picked_anew room cpu pid
+spots-adopted_or_picked_anew room false cpu (Some run) pid = spots-picked_anew (charge room) cpu pid
 
 pub spots-schedule : (room : RoomState) (fresh : Bool) (cpu pid : ℕ) → spot_at (schedule room fresh cpu).room pid ≡ spot_at room pid
 spots-schedule room fresh cpu pid = spots-adopted_or_picked_anew room fresh cpu (sibling_of room cpu).waiting pid

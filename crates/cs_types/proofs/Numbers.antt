@@ -22,6 +22,7 @@ use Rattle.cs_types.specs.declared.reply.Entry.{Entry}
 use Rattle.cs_types.specs.declared.scenario.Scenario.{Scenario}
 use Rattle.cs_types.specs.Room.{RoomState, first_pid, queued_on, sibling_of, running_on, is_online, online, task_of}
 use Rattle.cs_types.specs.Selection.{selected_room, selected, plain, is_plain, picked_anew, adopted_or_picked_anew, schedule}
+use Rattle.cs_types.specs.Accounting.{charge}
 use Rattle.cs_types.specs.Prctl.{Setting, target_of, setting_by, setting_of, is_share_from, is_in_scope, makes_cookie, with_made, with_answer, prctl_answer, prctl_room}
 use Rattle.cs_types.specs.Step.{Stepped, step, woken, blocked, exited, forked, may_not_fork, ticked, turned, without, has_threads, idled, try_steal, unless_offline, set_policy, taken_offline, brought_online}
 use Rattle.cs_types.specs.Steal.{stolen}
@@ -236,9 +237,9 @@ draws-picked_anew room cpu =
     (λ _. draws-selected_room room cpu _)
 
 draws-adopted_or_picked_anew : (room : RoomState) (fresh : Bool) (cpu : ℕ) (waiting : Option (Option ℕ)) → draws (adopted_or_picked_anew room fresh cpu waiting).room ≡ draws room
-draws-adopted_or_picked_anew room fresh cpu None = draws-picked_anew room cpu
+draws-adopted_or_picked_anew room fresh cpu None = draws-picked_anew (charge room) cpu
 draws-adopted_or_picked_anew room true cpu (Some run) = refl
-draws-adopted_or_picked_anew room false cpu (Some run) = draws-picked_anew room cpu
+draws-adopted_or_picked_anew room false cpu (Some run) = draws-picked_anew (charge room) cpu
 
 -- A schedule draws nothing.
 draws-schedule : (room : RoomState) (fresh : Bool) (cpu : ℕ) → draws (schedule room fresh cpu).room ≡ draws room
@@ -272,7 +273,7 @@ draws-turned room fresh cpu =
 
 draws-blocked : (room : RoomState) (cpu : ℕ) (task : Option Task) → draws (blocked room cpu task).room ≡ draws room
 draws-blocked room cpu None = refl
-draws-blocked room cpu (Some task) = draws-schedule (idled (dequeued room task) cpu) false cpu
+draws-blocked room cpu (Some task) = draws-schedule (idled (dequeued (charge room) task) cpu) false cpu
 
 draws-woken : (room : RoomState) (task : Option Task) → DrawsOne (length room.tasks) (draws room) (draws (woken room task).room)
 draws-woken room None = draws_none _ _ _ refl
@@ -284,7 +285,7 @@ draws-exited : (room : RoomState) (cpu : ℕ) (task : Option Task) → DrawsOne 
 draws-exited room cpu None = draws_none _ _ _ refl
 draws-exited room cpu (Some task) =
     cond_both (has_threads room task) _ _ (λ (made : Stepped). DrawsOne (length room.tasks) (draws room) (draws made.room)) (λ _. draws_none _ _ _ refl)
-    (λ _. subst (DrawsOne (length room.tasks) (draws room)) (sym (draws-schedule (idled (without room task) cpu) false cpu)) (record {
+    (λ _. subst (DrawsOne (length room.tasks) (draws room)) (sym (draws-schedule (idled (without (charge room) task) cpu) false cpu)) (record {
       stamp = omega arith;
       cookie = omega arith;
       pid = omega arith;

@@ -14,7 +14,7 @@ use Rattle.cs_types.specs.Queueing.{dequeued, enqueued, refreshed, moved, rehome
 use Rattle.cs_types.specs.Step.{Stepped, picked, woken, blocked, exited, forked, turned, without, has_threads, child_of, child_at_home, may_not_fork, with_child, ticked, idled, try_steal, with_policy, set_policy, with_policy_set, taken_offline, brought_online}
 use Rattle.cs_types.specs.Steal.{source_of, may_steal, stolen, with_place, next_place}
 use Rattle.cs_types.specs.Hotplug.{back, lowest_other, leave}
-use Rattle.cs_types.specs.Accounting.{accounted}
+use Rattle.cs_types.specs.Accounting.{charge}
 use Rattle.cs_types.specs.Time.{sliced, asks_at_tick, advanced}
 use Rattle.cs_types.proofs.Foremost.{find_none, each_weaker}
 use Rattle.cs_types.proofs.Tasks.{found_again}
@@ -142,22 +142,22 @@ pub blocked-fits : (room : RoomState) (fresh : Bool) (cpu : ℕ) (task : Option 
     AllFit room fresh → StepFits room fresh (Block cpu) (blocked room cpu task)
 blocked-fits room fresh cpu None below up rises runs fits = fits
 blocked-fits room fresh cpu (Some task) below up rises runs fits =
-    let gone = idled (dequeued room task) cpu in
-    let same = kept-idled room cpu task in
+    let gone = idled (dequeued (charge room) task) cpu in
+    let same = kept-idled (charge room) cpu task in
     again_fits gone fresh _ cpu (subst (λ n. cpu < n) (sym (length-alike gone room same)) below) (is_online-alike gone room same cpu ∙ up)
     (rising-dequeued room task rises) (slept_fresh room fresh (Block cpu) task.spec.pid (schedule gone false cpu).pick)
-    (others_fit room (dequeued room task) fresh cpu task _ below runs refl refl (spots-dequeued room task (running_is_found room cpu task runs).1) fits)
+    (others_fit room (dequeued (charge room) task) fresh cpu task _ below runs refl refl (spots-dequeued room task (running_is_found room cpu task runs).1) fits)
 
 pub exited-fits : (room : RoomState) (fresh : Bool) (cpu : ℕ) (task : Option Task) → cpu < length room.siblings → is_online room cpu ≡ true → AreRising room → running_on room cpu ≡ task →
     AllFit room fresh → StepFits room fresh (Exit cpu) (exited room cpu task)
 exited-fits room fresh cpu None below up rises runs fits = fits
 exited-fits room fresh cpu (Some task) below up rises runs fits =
-    let gone = idled (without room task) cpu in
-    let same = kept-without room cpu task in
+    let gone = idled (without (charge room) task) cpu in
+    let same = kept-without (charge room) cpu task in
     cond_both (has_threads room task) _ _ (StepFits room fresh (Exit cpu)) (λ _. fits)
     (λ _. again_fits gone fresh _ cpu (subst (λ n. cpu < n) (sym (length-alike gone room same)) below) (is_online-alike gone room same cpu ∙ up)
     (rising-without room task rises) (ended_fresh room fresh (Exit cpu) task.spec.pid (schedule gone false cpu).pick)
-    (others_fit room (without room task) fresh cpu task None below runs refl refl (spots-without room task) fits))
+    (others_fit room (without (charge room) task) fresh cpu task None below runs refl refl (spots-without room task) fits))
 
 -- ---- wake and fork
 
@@ -200,7 +200,7 @@ pub ticked-fits : (room : RoomState) (fresh : Bool) (cpu : ℕ) (task : Option T
     StepFits room fresh (Tick cpu) (ticked room cpu task)
 ticked-fits room fresh cpu None up runs fits = fits
 ticked-fits room fresh cpu (Some task) up runs fits =
-    let then = accounted room in
+    let then = charge room in
     all_flagged (sliced then cpu task) fresh cpu (asks_at_tick then cpu task) up
     (all_same (spot_at room) (spot_at (sliced then cpu task)) room.core_cookie fresh (sibling_of room) (spots-ticked_room then cpu task (running_is_found room cpu task runs).1) fits)
 

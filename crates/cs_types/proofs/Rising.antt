@@ -23,7 +23,7 @@ use Rattle.cs_types.specs.Step.{Stepped, step, woken, blocked, exited, forked, t
 use Rattle.cs_types.specs.Queueing.{refreshed, dequeued, moved_to, rehomed, queued_at_home}
 use Rattle.cs_types.specs.Steal.{stolen}
 use Rattle.cs_types.specs.Hotplug.{moved_off, leave}
-use Rattle.cs_types.specs.Accounting.{accounted}
+use Rattle.cs_types.specs.Accounting.{charge}
 use Rattle.cs_types.specs.Time.{advanced, is_running, grown, grown_by}
 use Rattle.cs_types.specs.Touches.{is_fresh}
 use Rattle.cs_types.specs.History.{History, Moment, beginning, next, after, fold_of}
@@ -178,9 +178,9 @@ rising-picked_anew room cpu rises =
     (λ _. rises-map (task_after_selection room _) (λ task. refl) 0 room.next_pid room.tasks rises)
 
 rising-adopted_or_picked_anew : (room : RoomState) (fresh : Bool) (cpu : ℕ) (waiting : Option (Option ℕ)) → AreRising room → AreRising (adopted_or_picked_anew room fresh cpu waiting).room
-rising-adopted_or_picked_anew room fresh cpu None rises = rising-picked_anew room cpu rises
+rising-adopted_or_picked_anew room fresh cpu None rises = rising-picked_anew (charge room) cpu rises
 rising-adopted_or_picked_anew room true cpu (Some run) rises = rises
-rising-adopted_or_picked_anew room false cpu (Some run) rises = rising-picked_anew room cpu rises
+rising-adopted_or_picked_anew room false cpu (Some run) rises = rising-picked_anew (charge room) cpu rises
 
 rising-schedule : (room : RoomState) (fresh : Bool) (cpu : ℕ) → AreRising room → AreRising (schedule room fresh cpu).room
 rising-schedule room fresh cpu rises = rising-adopted_or_picked_anew room fresh cpu (sibling_of room cpu).waiting rises
@@ -205,13 +205,13 @@ rising-without room task rises = rises-filter (λ other. not (has_pid task.spec.
 rising-blocked : (room : RoomState) (cpu : ℕ) (task : Option Task) → AreRising room → AreRising (blocked room cpu task).room
 rising-blocked room cpu None rises = rises
 rising-blocked room cpu (Some task) rises =
-    rising-schedule (idled (dequeued room task) cpu) false cpu (rising-dequeued room task rises)
+    rising-schedule (idled (dequeued (charge room) task) cpu) false cpu (rising-dequeued room task rises)
 
 rising-exited : (room : RoomState) (cpu : ℕ) (task : Option Task) → AreRising room → AreRising (exited room cpu task).room
 rising-exited room cpu None rises = rises
 rising-exited room cpu (Some task) rises =
     cond_both (has_threads room task) _ _ (λ (made : Stepped). AreRising made.room) (λ _. rises)
-    (λ _. rising-schedule (idled (without room task) cpu) false cpu (rising-without room task rises))
+    (λ _. rising-schedule (idled (without (charge room) task) cpu) false cpu (rising-without room task rises))
 
 rising-queued_at_home : (room : RoomState) (task : Task) → AreRising room → AreRising (queued_at_home room task)
 rising-queued_at_home room task rises =
@@ -239,7 +239,7 @@ rising-forked room thread (Some caller) rises =
 
 rising-ticked : (room : RoomState) (cpu : ℕ) (task : Option Task) → AreRising room → AreRising (ticked room cpu task).room
 rising-ticked room cpu None rises = rises
-rising-ticked room cpu (Some task) rises = rising-with_task (accounted room) (record task { used = _; stamp = _ }) rises
+rising-ticked room cpu (Some task) rises = rising-with_task (charge room) (record task { used = _; stamp = _ }) rises
 
 pub pid-grown_by : (delta : ℕ) (policy : Policy) (task : Task) → (grown_by delta policy task).spec.pid ≡ task.spec.pid
 pid-grown_by delta Stop task = refl

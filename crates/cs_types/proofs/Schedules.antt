@@ -6,7 +6,8 @@ use Rattle.std.proofs.lemmas.Bool.{cond_both, and_parts, eqb-true, eqb-false, bo
 use Rattle.cs_types.specs.declared.task.Task.{Task}
 use Rattle.cs_types.specs.Room.{RoomState, SiblingState, Waiting, queued_on, sibling_of, is_online, with_sibling}
 use Rattle.cs_types.specs.Order.{first_of}
-use Rattle.cs_types.specs.Selection.{first_on, queued_with, cookie_of, pid_of, choice, lead_from, is_run, running, sibling_after_selection, selected_room, selected, plain, is_plain, picked_anew, adopted_or_picked_anew, schedule, adopted}
+use Rattle.cs_types.specs.Selection.{first_on, queued_with, cookie_of, pid_of, choice, lead_from, is_run, running, is_fair_task, renews_snapshots, occupation_of, told, noted, handed, given, selected_room, selected, plain, is_plain, picked_anew, adopted_or_picked_anew, schedule, adopted, sibling_after_selection}
+use Rattle.cs_types.specs.Accounting.{charge}
 use Rattle.cs_types.specs.Touches.{is_selected}
 use Rattle.cs_types.proofs.Filtered.{each-filter, each_found}
 use Rattle.cs_types.proofs.Rising.{AreRising}
@@ -160,10 +161,10 @@ scheduled_fits : (room : RoomState) (fresh later : Bool) (cpu : ℕ) (waiting : 
     (sibling_of room cpu).waiting ≡ waiting → (later ≡ true → freshened (adopted_or_picked_anew room fresh cpu waiting).pick.kind fresh ≡ true) → AllFit room fresh →
     AllFit (adopted_or_picked_anew room fresh cpu waiting).room later
 scheduled_fits room fresh later cpu None below up rises waits old fits =
-    rescheduled_fits room fresh later cpu below up rises (λ e. rescheduled_selects room fresh cpu (old e)) (λ other differ. fits other)
+    rescheduled_fits (charge room) fresh later cpu below up rises (λ e. rescheduled_selects (charge room) fresh cpu (old e)) (λ other differ. fits other)
 scheduled_fits room true later cpu (Some run) below up rises waits old fits = adopted_fits room later cpu run below up waits fits
 scheduled_fits room false later cpu (Some run) below up rises waits old fits =
-    rescheduled_fits room false later cpu below up rises (λ e. rescheduled_selects room false cpu (old e)) (λ other differ. fits other)
+    rescheduled_fits (charge room) false later cpu below up rises (λ e. rescheduled_selects (charge room) false cpu (old e)) (λ other differ. fits other)
 
 -- the sibling's next place of a steal try makes no difference
 balanced_fits : (room : RoomState) (fresh later : Bool) (cpu : ℕ) (waiting : Waiting) (place : ℕ) → is_online room cpu ≡ true →
@@ -186,5 +187,5 @@ pub again_fits : (room : RoomState) (fresh later : Bool) (cpu : ℕ) → cpu < l
 again_fits room fresh later cpu below up rises old fits =
     balanced_fits room false later cpu (sibling_of room cpu).waiting _ up (go (sibling_of room cpu).waiting old) where
       go : (waiting : Waiting) → (later ≡ true → freshened (adopted_or_picked_anew room false cpu waiting).pick.kind false ≡ true) → AllFit (adopted_or_picked_anew room false cpu waiting).room later
-      go None old = rescheduled_fits room fresh later cpu below up rises (λ e. rescheduled_selects room false cpu (old e)) fits
-      go (Some run) old = rescheduled_fits room fresh later cpu below up rises (λ e. rescheduled_selects room false cpu (old e)) fits
+      go None old = rescheduled_fits (charge room) fresh later cpu below up rises (λ e. rescheduled_selects (charge room) false cpu (old e)) fits
+      go (Some run) old = rescheduled_fits (charge room) fresh later cpu below up rises (λ e. rescheduled_selects (charge room) false cpu (old e)) fits

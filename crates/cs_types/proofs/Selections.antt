@@ -20,9 +20,10 @@ use Rattle.cs_types.specs.declared.reply.Reply.TheVariants.{Picked}
 use Rattle.cs_types.specs.declared.reply.Entry.{Entry}
 use Rattle.cs_types.specs.declared.scenario.Scenario.{Scenario}
 use Rattle.cs_types.specs.Scenario.{IsEvent}
-use Rattle.cs_types.specs.Room.{RoomState, SiblingState, absent, queued_on, sibling_of, is_online, online, online_from, running_on, task_of, with_sibling}
+use Rattle.cs_types.specs.Room.{RoomState, SiblingState, idle, queued_on, sibling_of, is_online, online, online_from, running_on, task_of, to_run, with_sibling, absent}
 use Rattle.cs_types.specs.Order.{foremost, is_higher_here, outranks, goes_before, first_of}
-use Rattle.cs_types.specs.Selection.{to_run, first_on, cookie_of, pid_of, snapshot_of, lead_from, choice, eligible, is_forced, forced_count, is_run, sibling_after_selection, occupation_of, selected_room, selected, Scheduled, is_plain, plain, picked_anew, adopted_or_picked_anew, schedule}
+use Rattle.cs_types.specs.Selection.{first_on, cookie_of, pid_of, is_fair_task, renews_snapshots, snapshot_of, lead_from, choice, eligible, is_forced, forced_count, is_run, told, handed, given, occupation_of, selected_room, selected, Scheduled, is_plain, plain, picked_anew, adopted_or_picked_anew, schedule, to_run, sibling_after_selection}
+use Rattle.cs_types.specs.Accounting.{charge}
 use Rattle.cs_types.specs.Prctl.{Row, first_answer, rows_before_making, rows_after_making, prctl_answer}
 use Rattle.cs_types.specs.Touches.{selection_of, is_fresh}
 use Rattle.cs_types.specs.Step.{Stepped, step, picked, turned, try_steal, unless_offline, blocked, woken, idled, exited, forked, may_not_fork, ticked, without, has_threads, set_policy, taken_offline, brought_online}
@@ -414,10 +415,10 @@ rescheduled_keeps_law room cpu below up =
     cond_both (is_plain room cpu) (plain room cpu) (selected room cpu) (KeepsLaw room cpu) (λ _. tt) (λ _. selected_keeps_law room cpu below up)
 
 scheduled_keeps_law : (room : RoomState) (fresh : Bool) (cpu : ℕ) (waiting : Option (Option ℕ)) →
-    cpu < length room.siblings → is_online room cpu ≡ true → KeepsLaw room cpu (adopted_or_picked_anew room fresh cpu waiting)
-scheduled_keeps_law room fresh cpu None below up = rescheduled_keeps_law room cpu below up
+    cpu < length room.siblings → is_online room cpu ≡ true → KeepsLaw (charge room) cpu (adopted_or_picked_anew room fresh cpu waiting)
+scheduled_keeps_law room fresh cpu None below up = rescheduled_keeps_law (charge room) cpu below up
 scheduled_keeps_law room true cpu (Some run) below up = tt
-scheduled_keeps_law room false cpu (Some run) below up = rescheduled_keeps_law room cpu below up
+scheduled_keeps_law room false cpu (Some run) below up = rescheduled_keeps_law (charge room) cpu below up
 
 -- what a function reads of an element, where a write does not change it
 pub get_or-set_alike : {X Y : Type 0} (f : X → Y) (xs : List X) (i : ℕ) (x : X) (j : ℕ) (d : X) → f x ≡ f (get_or xs i d) → f (get_or (set xs i x) j d) ≡ f (get_or xs j d)
@@ -427,9 +428,10 @@ get_or-set_alike f (y ∷ xs) zero x (suc j) d same = refl
 get_or-set_alike f (y ∷ xs) (suc i) x zero d same = refl
 get_or-set_alike f (y ∷ xs) (suc i) x (suc j) d same = get_or-set_alike f xs i x j d same
 
--- a sibling's next place of a steal try makes no difference to the law
-balanced_keeps_law : (room : RoomState) (cpu : ℕ) (pick : Pick) (now : RoomState) (place : ℕ) → SelectsForTheCore room cpu pick now →
+-- neither the charge nor a sibling's next place of a steal try makes a difference to the law
+balanced_keeps_law : (room : RoomState) (cpu : ℕ) (pick : Pick) (now : RoomState) (place : ℕ) → SelectsForTheCore (charge room) cpu pick now →
     SelectsForTheCore room cpu pick (with_sibling now cpu (record (sibling_of now cpu) { place = place }))
+unfolding choice
 balanced_keeps_law room cpu pick now place law =
     let parts = λ (other : ℕ).
     get_or-set_alike {Y = Option ℕ × Option (Option ℕ) × Bool} (λ s. (s.run, s.waiting, s.pending)) now.siblings cpu (record (sibling_of now cpu) { place = place }) other absent refl in
@@ -463,7 +465,7 @@ pub schedule_keeps_law : (room : RoomState) (fresh : Bool) (cpu : ℕ) → cpu <
 schedule_keeps_law room fresh cpu below up =
     let made = adopted_or_picked_anew room fresh cpu (sibling_of room cpu).waiting in
     go (selection_of (Picked made.pick)) made.room _ (scheduled_keeps_law room fresh cpu (sibling_of room cpu).waiting below up) where
-      go : (pick : Option Pick) (now : RoomState) (place : ℕ) → IfSome pick (λ pick. SelectsForTheCore room cpu pick now) →
+      go : (pick : Option Pick) (now : RoomState) (place : ℕ) → IfSome pick (λ pick. SelectsForTheCore (charge room) cpu pick now) →
           IfSome pick (λ pick. SelectsForTheCore room cpu pick (with_sibling now cpu (record (sibling_of now cpu) { place = place })))
       go None now place kept = tt
       go (Some pick) now place kept = balanced_keeps_law room cpu pick now place kept
@@ -485,21 +487,21 @@ turned_keeps_law room fresh cpu below up =
 -- a sibling that blocks schedules in the room without the task that went to sleep, where the same siblings are online
 blocked_keeps_law : (room : RoomState) (cpu : ℕ) (task : Option Task) → cpu < length room.siblings → is_online room cpu ≡ true →
     IfSome (selection_of (blocked room cpu task).reply)
-    (λ pick. SelectsForTheCore (option_map_or (λ task. idled (dequeued room task) cpu) task room) cpu pick (blocked room cpu task).room)
+    (λ pick. SelectsForTheCore (option_map_or (λ task. idled (dequeued (charge room) task) cpu) task room) cpu pick (blocked room cpu task).room)
 blocked_keeps_law room cpu None below up = tt
 blocked_keeps_law room cpu (Some task) below up =
-    let room_then = idled (dequeued room task) cpu in
-    let same = kept-idled room cpu task in
+    let room_then = idled (dequeued (charge room) task) cpu in
+    let same = kept-idled (charge room) cpu task in
     schedule_keeps_law room_then false cpu (subst (λ n. cpu < n) (sym (length-alike room_then room same)) below)
     (is_online-alike room_then room same cpu ∙ up)
 
 exited_keeps_law : (room : RoomState) (cpu : ℕ) (task : Option Task) → cpu < length room.siblings → is_online room cpu ≡ true →
     IfSome (selection_of (exited room cpu task).reply)
-    (λ pick. SelectsForTheCore (option_map_or (λ task. idled (without room task) cpu) task room) cpu pick (exited room cpu task).room)
+    (λ pick. SelectsForTheCore (option_map_or (λ task. idled (without (charge room) task) cpu) task room) cpu pick (exited room cpu task).room)
 exited_keeps_law room cpu None below up = tt
 exited_keeps_law room cpu (Some task) below up =
-    let room_then = idled (without room task) cpu in
-    let same = kept-without room cpu task in
+    let room_then = idled (without (charge room) task) cpu in
+    let same = kept-without (charge room) cpu task in
     cond_both (has_threads room task) _ _ (λ (made : Stepped). IfSome (selection_of made.reply) (λ pick. SelectsForTheCore room_then cpu pick made.room))
     (λ _. tt)
     (λ _. schedule_keeps_law room_then false cpu (subst (λ n. cpu < n) (sym (length-alike room_then room same)) below)

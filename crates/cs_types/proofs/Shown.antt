@@ -56,7 +56,7 @@ shown_with : (moment : Moment) (cpu pid : ℕ) (found : Option Task) → Rises 0
     IsSomeAnd (task_view_after moment (pid - 1)) (λ (task : TaskView). (task.pid ≡ pid) × (task.cookie ≡ moment.room.core_cookie))
 shown_with moment cpu pid None rises found here same = absurd here
 shown_with moment cpu pid (Some task) rises found here same =
-    subst (λ one. IsSomeAnd (option_map (task_view moment.ledger) one) (λ (t : TaskView). (t.pid ≡ pid) × (t.cookie ≡ moment.room.core_cookie)))
+    subst (λ one. IsSomeAnd (option_map (task_view moment.room) one) (λ (t : TaskView). (t.pid ≡ pid) × (t.cookie ≡ moment.room.core_cookie)))
     (sym (least_above 0 moment.room.next_pid pid moment.room.tasks task rises found))
     (eqb-true task.spec.pid pid (find_passes (has_pid pid) moment.room.tasks task found), same)
 

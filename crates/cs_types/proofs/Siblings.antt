@@ -16,7 +16,8 @@ use Rattle.cs_types.specs.declared.reply.Reply.TheVariants.{Zero}
 use Rattle.cs_types.specs.declared.reply.Entry.{Entry}
 use Rattle.cs_types.specs.declared.scenario.Scenario.{Scenario}
 use Rattle.cs_types.specs.Room.{RoomState, SiblingState, idle, sibling_of, running_on, is_online, online, task_of, with_sibling, flagged, absent}
-use Rattle.cs_types.specs.Selection.{selected_room, selected, plain, is_plain, picked_anew, adopted_or_picked_anew, schedule, is_run}
+use Rattle.cs_types.specs.Selection.{is_run, told, handed, given, selected_room, selected, plain, is_plain, picked_anew, adopted_or_picked_anew, schedule}
+use Rattle.cs_types.specs.Accounting.{charge}
 use Rattle.cs_types.specs.Prctl.{Setting, setting_of, runs_one, makes_cookie, with_made, with_answer, prctl_answer, prctl_room}
 use Rattle.cs_types.specs.Step.{Stepped, step, woken, blocked, exited, forked, may_not_fork, child_at_home, ticked, turned, without, has_threads, child_of, with_child, idled, try_steal, unless_offline, with_policy, set_policy, taken_offline, brought_online}
 use Rattle.cs_types.specs.Queueing.{refreshed, dequeued, enqueued, moved, rehomed, queued_at_home}
@@ -73,9 +74,9 @@ kept-picked_anew room cpu =
     (λ _. kept-with_sibling room cpu _ refl) (λ _. kept-selected_room room cpu _)
 
 pub kept-adopted_or_picked_anew : (room : RoomState) (fresh : Bool) (cpu : ℕ) (waiting : Option (Option ℕ)) → kept (adopted_or_picked_anew room fresh cpu waiting).room ≡ kept room
-kept-adopted_or_picked_anew room fresh cpu None = kept-picked_anew room cpu
+kept-adopted_or_picked_anew room fresh cpu None = kept-picked_anew (charge room) cpu
 kept-adopted_or_picked_anew room true cpu (Some run) = kept-with_sibling room cpu _ refl
-kept-adopted_or_picked_anew room false cpu (Some run) = kept-picked_anew room cpu
+kept-adopted_or_picked_anew room false cpu (Some run) = kept-picked_anew (charge room) cpu
 
 pub kept-schedule : (room : RoomState) (fresh : Bool) (cpu : ℕ) → kept (schedule room fresh cpu).room ≡ kept room
 kept-schedule room fresh cpu =
@@ -100,7 +101,7 @@ kept-idled room cpu task = kept-with_sibling (dequeued room task) cpu _ refl
 
 pub kept-blocked : (room : RoomState) (cpu : ℕ) (task : Option Task) → kept (blocked room cpu task).room ≡ kept room
 kept-blocked room cpu None = refl
-kept-blocked room cpu (Some task) = kept-schedule (idled (dequeued room task) cpu) false cpu ∙ kept-idled room cpu task
+kept-blocked room cpu (Some task) = kept-schedule (idled (dequeued (charge room) task) cpu) false cpu ∙ kept-idled (charge room) cpu task
 
 pub kept-queued_at_home : (room : RoomState) (task : Task) → kept (queued_at_home room task) ≡ kept room
 kept-queued_at_home room task = kept-with_sibling (enqueued room (refreshed room task)) task.home _ refl
@@ -123,7 +124,7 @@ pub kept-exited : (room : RoomState) (cpu : ℕ) (task : Option Task) → kept (
 kept-exited room cpu None = refl
 kept-exited room cpu (Some task) =
     cond_both (has_threads room task) _ _ (λ (made : Stepped). kept made.room ≡ kept room) (λ _. refl)
-    (λ _. kept-schedule (idled (without room task) cpu) false cpu ∙ kept-without room cpu task)
+    (λ _. kept-schedule (idled (without (charge room) task) cpu) false cpu ∙ kept-without (charge room) cpu task)
 
 pub kept-forked : (room : RoomState) (thread : Bool) (caller : Option Task) → kept (forked room thread caller).room ≡ kept room
 kept-forked room thread None = refl

@@ -24,7 +24,7 @@ use Rattle.cs_types.specs.Step.{Stepped, step, woken, blocked, exited, forked, t
 use Rattle.cs_types.specs.Queueing.{dequeued, queued_at_home, rehomed}
 use Rattle.cs_types.specs.Steal.{stolen}
 use Rattle.cs_types.specs.Hotplug.{moved_off, leave, with_sibling_back}
-use Rattle.cs_types.specs.Accounting.{accounted}
+use Rattle.cs_types.specs.Accounting.{charge}
 use Rattle.cs_types.specs.Time.{advanced, grown, ticked_room}
 use Rattle.cs_types.specs.Touches.{is_fresh}
 use Rattle.cs_types.specs.History.{History, Moment, beginning, next, after, fold_of}
@@ -74,9 +74,9 @@ few-picked_anew room cpu =
     (λ _. as_many room (selected room cpu).room refl (length-map room.tasks (task_after_selection room _)))
 
 few-adopted_or_picked_anew : (room : RoomState) (fresh : Bool) (cpu : ℕ) (waiting : Option (Option ℕ)) → KeepsFew room (adopted_or_picked_anew room fresh cpu waiting).room
-few-adopted_or_picked_anew room fresh cpu None = few-picked_anew room cpu
+few-adopted_or_picked_anew room fresh cpu None = let made = few-picked_anew (charge room) cpu in record { limit = made.limit; few = made.few }
 few-adopted_or_picked_anew room true cpu (Some run) = as_many room (adopted_or_picked_anew room true cpu (Some run)).room refl refl
-few-adopted_or_picked_anew room false cpu (Some run) = few-picked_anew room cpu
+few-adopted_or_picked_anew room false cpu (Some run) = let made = few-picked_anew (charge room) cpu in record { limit = made.limit; few = made.few }
 
 few-schedule : (room : RoomState) (fresh : Bool) (cpu : ℕ) → KeepsFew room (schedule room fresh cpu).room
 few-schedule room fresh cpu =
@@ -96,19 +96,19 @@ few-turned room fresh cpu =
 few-blocked : (room : RoomState) (cpu : ℕ) (task : Option Task) → KeepsFew room (blocked room cpu task).room
 few-blocked room cpu None = as_many room room refl refl
 few-blocked room cpu (Some task) =
-    few-trans room (idled (dequeued room task) cpu) (blocked room cpu (Some task)).room
-    (as_many room (idled (dequeued room task) cpu) refl (length-map room.tasks _)) (few-schedule (idled (dequeued room task) cpu) false cpu)
+    few-trans room (idled (dequeued (charge room) task) cpu) (blocked room cpu (Some task)).room
+    (as_many room (idled (dequeued (charge room) task) cpu) refl (length-map room.tasks _)) (few-schedule (idled (dequeued (charge room) task) cpu) false cpu)
 
 few-exited : (room : RoomState) (cpu : ℕ) (task : Option Task) → KeepsFew room (exited room cpu task).room
 few-exited room cpu None = as_many room room refl refl
 few-exited room cpu (Some task) =
     cond_both (has_threads room task) _ _ (λ (made : Stepped). KeepsFew room made.room) (λ _. as_many room room refl refl)
-    (λ _. few-trans room (idled (without room task) cpu) (schedule (idled (without room task) cpu) false cpu).room
+    (λ _. few-trans room (idled (without (charge room) task) cpu) (schedule (idled (without (charge room) task) cpu) false cpu).room
     (record {
       limit = refl;
       few = λ few. omega (arith, few, length-filter_both (λ other. not (has_pid task.spec.pid other)) (λ other. not (not (has_pid task.spec.pid other))) (λ other. refl) room.tasks);
     })
-    (few-schedule (idled (without room task) cpu) false cpu))
+    (few-schedule (idled (without (charge room) task) cpu) false cpu))
 
 few-woken : (room : RoomState) (task : Option Task) → KeepsFew room (woken room task).room
 few-woken room None = as_many room room refl refl
@@ -137,8 +137,8 @@ few-forked room thread (Some caller) =
           }
 
 few-ticked : (room : RoomState) (cpu : ℕ) (task : Option Task) → KeepsFew room (ticked room cpu task).room
-few-ticked room cpu None = as_many room (accounted room) refl refl
-few-ticked room cpu (Some task) = as_many room (ticked_room (accounted room) cpu task) refl (length-map room.tasks _)
+few-ticked room cpu None = as_many room (charge room) refl refl
+few-ticked room cpu (Some task) = as_many room (ticked_room (charge room) cpu task) refl (length-map room.tasks _)
 
 few-advanced : (room : RoomState) (delta : ℕ) → KeepsFew room (advanced room delta)
 unfolding advanced

@@ -29,7 +29,7 @@ use Rattle.cs_types.specs.Step.{Stepped, step, woken, turned, try_steal, idled, 
 use Rattle.cs_types.specs.Queueing.{refreshed_by, refreshed, enqueued, queued_at_home, dequeued, moved_to, moved, rehomed}
 use Rattle.cs_types.specs.Steal.{source_of, stolen, with_place}
 use Rattle.cs_types.specs.Hotplug.{lowest_other, moved_off, away, leave, with_sibling_back}
-use Rattle.cs_types.specs.Accounting.{accounted}
+use Rattle.cs_types.specs.Accounting.{charge}
 use Rattle.cs_types.specs.Touches.{is_fresh}
 use Rattle.cs_types.specs.History.{History, Moment, beginning, next, after, moment_of, fold_of, ledger_of}
 use Rattle.cs_types.specs.View.{task_after, task_view, task_view_after}
@@ -185,11 +185,14 @@ timely-picked_anew most room cpu timely =
     cond_both (is_plain room cpu) (plain room cpu) (selected room cpu) (λ made. Timely most made.room) (λ _. timely-plain most room cpu timely)
     (λ _. timely-selected_room most room cpu _ timely)
 
+timely-charge : (most : ℕ) (room : RoomState) → Timely most room → Timely most (charge room)
+timely-charge most room timely = same_core most room (charge room) refl refl refl timely
+
 timely-adopted_or_picked_anew : (most : ℕ) (room : RoomState) (fresh : Bool) (cpu : ℕ) (waiting : Option (Option ℕ)) → Timely most room → Timely most (adopted_or_picked_anew room fresh cpu waiting).room
-timely-adopted_or_picked_anew most room fresh cpu None timely = timely-picked_anew most room cpu timely
+timely-adopted_or_picked_anew most room fresh cpu None timely = timely-picked_anew most (charge room) cpu (timely-charge most room timely)
 timely-adopted_or_picked_anew most room true cpu (Some run) timely =
     timely-with_sibling most room cpu _ refl (like most room cpu _ refl refl (omega arith) timely) timely
-timely-adopted_or_picked_anew most room false cpu (Some run) timely = timely-picked_anew most room cpu timely
+timely-adopted_or_picked_anew most room false cpu (Some run) timely = timely-picked_anew most (charge room) cpu (timely-charge most room timely)
 
 timely-schedule : (most : ℕ) (room : RoomState) (fresh : Bool) (cpu : ℕ) → Timely most room → Timely most (schedule room fresh cpu).room
 timely-schedule most room fresh cpu timely =
@@ -233,13 +236,13 @@ timely-gone most room cpu task timely =
 timely-blocked : (most : ℕ) (room : RoomState) (cpu : ℕ) (task : Option Task) → IfSome task (IsTimelyTask room) → Timely most room → Timely most (blocked room cpu task).room
 timely-blocked most room cpu None is timely = timely
 timely-blocked most room cpu (Some task) is timely =
-    timely-schedule most (idled (dequeued room task) cpu) false cpu (timely-slept most room cpu task is timely)
+    timely-schedule most (idled (dequeued (charge room) task) cpu) false cpu (timely-slept most (charge room) cpu task (record { vtime = is.vtime; used = is.used }) (timely-charge most room timely))
 
 timely-exited : (most : ℕ) (room : RoomState) (cpu : ℕ) (task : Option Task) → Timely most room → Timely most (exited room cpu task).room
 timely-exited most room cpu None timely = timely
 timely-exited most room cpu (Some task) timely =
     cond_both (has_threads room task) _ _ (λ (made : Stepped). Timely most made.room) (λ _. timely)
-    (λ _. timely-schedule most (idled (without room task) cpu) false cpu (timely-gone most room cpu task timely))
+    (λ _. timely-schedule most (idled (without (charge room) task) cpu) false cpu (timely-gone most (charge room) cpu task (timely-charge most room timely)))
 
 -- ---- a task is queued or moves
 
@@ -517,17 +520,14 @@ timely-advanced : (most : ℕ) (room : RoomState) (delta : ℕ) → Timely most 
 unfolding advanced
 timely-advanced most room delta timely = timely-with_leasts most (with_growth room delta) (timely-with_growth most room delta timely)
 
-timely-accounted : (most : ℕ) (room : RoomState) → Timely most room → Timely most (accounted room)
-timely-accounted most room timely = same_core most room (accounted room) refl refl refl timely
-
 timely-ticked : (most : ℕ) (room : RoomState) (cpu : ℕ) (task : Option Task) → IfSome task (IsTimelyTask room) → Timely most room → Timely most (ticked room cpu task).room
-timely-ticked most room cpu None is timely = timely-accounted most room timely
+timely-ticked most room cpu None is timely = timely-charge most room timely
 timely-ticked most room cpu (Some task) is timely =
-    let paid = accounted room in
+    let paid = charge room in
     let used : cond (has_used_slice task) 0 task.used ≤ room.clock =
     cond_both (has_used_slice task) 0 task.used (λ n. n ≤ room.clock) (λ _. omega arith) (λ _. is.used) in
     let rested : Timely most (sliced paid cpu task) =
-    timely-stamped most (with_task paid _) _ (timely-with_task most paid _ (record { vtime = is.vtime; used = used }) (timely-accounted most room timely)) in
+    timely-stamped most (with_task paid _) _ (timely-with_task most paid _ (record { vtime = is.vtime; used = used }) (timely-charge most room timely)) in
     timely-flagged most (sliced paid cpu task) cpu _ rested
 
 -- ---- every step
@@ -573,9 +573,9 @@ clock-picked_anew room cpu =
     (λ _. clock-selected_room room cpu _)
 
 clock-adopted_or_picked_anew : (room : RoomState) (fresh : Bool) (cpu : ℕ) (waiting : Option (Option ℕ)) → (adopted_or_picked_anew room fresh cpu waiting).room.clock ≡ room.clock
-clock-adopted_or_picked_anew room fresh cpu None = clock-picked_anew room cpu
+clock-adopted_or_picked_anew room fresh cpu None = clock-picked_anew (charge room) cpu
 clock-adopted_or_picked_anew room true cpu (Some run) = refl
-clock-adopted_or_picked_anew room false cpu (Some run) = clock-picked_anew room cpu
+clock-adopted_or_picked_anew room false cpu (Some run) = clock-picked_anew (charge room) cpu
 
 clock-schedule : (room : RoomState) (fresh : Bool) (cpu : ℕ) → (schedule room fresh cpu).room.clock ≡ room.clock
 clock-schedule room fresh cpu = clock-adopted_or_picked_anew room fresh cpu (sibling_of room cpu).waiting
@@ -591,13 +591,13 @@ clock-turned room fresh cpu =
 
 clock-blocked : (room : RoomState) (cpu : ℕ) (task : Option Task) → (blocked room cpu task).room.clock ≡ room.clock
 clock-blocked room cpu None = refl
-clock-blocked room cpu (Some task) = clock-schedule (idled (dequeued room task) cpu) false cpu
+clock-blocked room cpu (Some task) = clock-schedule (idled (dequeued (charge room) task) cpu) false cpu
 
 clock-exited : (room : RoomState) (cpu : ℕ) (task : Option Task) → (exited room cpu task).room.clock ≡ room.clock
 clock-exited room cpu None = refl
 clock-exited room cpu (Some task) =
     cond_both (has_threads room task) _ _ (λ (made : Stepped). made.room.clock ≡ room.clock) (λ _. refl)
-    (λ _. clock-schedule (idled (without room task) cpu) false cpu)
+    (λ _. clock-schedule (idled (without (charge room) task) cpu) false cpu)
 
 clock-woken : (room : RoomState) (task : Option Task) → (woken room task).room.clock ≡ room.clock
 clock-woken room None = refl

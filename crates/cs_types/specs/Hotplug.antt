@@ -4,6 +4,7 @@ use Rattle.std.specs.Prelude.{ℕ, ◌+◌, true, false, ◌==◌, ◌&&◌, ◌
 use Rattle.std.specs.List.{enumerate_from, range_with_len}
 use Rattle.cs_types.specs.declared.task.Task.{Task}
 use Rattle.cs_types.specs.Room.{RoomState, SiblingState, queued_on, sibling_of, is_online, with_sibling}
+use Rattle.cs_types.specs.Accounting.{charge}
 use Rattle.cs_types.specs.Queueing.{moved_to}
 
 -- ---- leaving
@@ -26,10 +27,11 @@ moved_off room cpu task =
 abbrev pub away : SiblingState → SiblingState
 away sibling = record sibling { online = false; run = None; pending = false; waiting = None; place = 0 }
 
--- It is away, and every other online sibling is pending. No interval of forced idle is open.
+-- The open interval is charged (this project's rule). Then the tasks move, the sibling is away, and every other online
+-- sibling is pending. No interval of forced idle stays open.
 unfoldable pub leave : RoomState → ℕ → RoomState
 leave room cpu =
-    record room {
+    record (charge room) {
       tasks = map (moved_off room cpu) room.tasks;
       next_stamp = room.next_stamp + length (queued_on room cpu);
       siblings = map (λ (place : ℕ × SiblingState). if place.0 == cpu then away place.1 else record place.1 { pending = place.1.pending || place.1.online })

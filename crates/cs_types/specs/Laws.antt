@@ -5,25 +5,26 @@ use Rattle.cs_types.specs.declared.task.Task.{Task}
 use Rattle.cs_types.specs.declared.event.Event.{Event}
 use Rattle.cs_types.specs.declared.event.Event.TheVariants.{Block, Exit, Prctl}
 use Rattle.cs_types.specs.declared.reply.Pick.{Pick}
+use Rattle.cs_types.specs.Room.{RoomState, SiblingState, queued_on, task_of, sibling_of, running_on, online, online_from, to_run}
+use Rattle.cs_types.specs.Order.{foremost, outranks, first_of}
+use Rattle.cs_types.specs.Selection.{is_run, first_on, cookie_of, pid_of, snapshot_of, choice, eligible, is_forced, to_run}
 use Rattle.cs_types.specs.declared.reply.Reply.{Reply}
 use Rattle.cs_types.specs.declared.reply.Reply.TheVariants.{Offline, Idle, HasThreads, NoTask, Awake, NoCaller, Refused, Already}
-use Rattle.cs_types.specs.Room.{RoomState, SiblingState, queued_on, task_of, sibling_of, running_on, online, online_from}
-use Rattle.cs_types.specs.Order.{foremost, outranks, first_of}
-use Rattle.cs_types.specs.Selection.{is_run, to_run, first_on, cookie_of, pid_of, snapshot_of, choice, eligible, is_forced}
 use Rattle.cs_types.specs.Prctl.{is_create}
 use Rattle.cs_types.specs.Touches.{scheduler_of, is_fresh}
 use Rattle.cs_types.specs.History.{Moment}
 use Rattle.cs_types.specs.Step.{without, idled}
 use Rattle.cs_types.specs.Queueing.{dequeued}
+use Rattle.cs_types.specs.Accounting.{charge}
 
 -- the sibling that an event makes schedule
 abbrev pub cpu_of : Event → ℕ
 cpu_of event = unwrap_or (scheduler_of event) 0
 
--- the room in which a sibling schedules: at a block and at an exit it is the one without the task that went
+-- the room in which a sibling picks: at a block and at an exit it is the charged one without the task that went
 abbrev pub scheduling_room : RoomState → Event → RoomState
-scheduling_room room (Block cpu) = option_map_or (λ task. idled (dequeued room task) cpu) (running_on room cpu) room
-scheduling_room room (Exit cpu) = option_map_or (λ task. idled (without room task) cpu) (running_on room cpu) room
+scheduling_room room (Block cpu) = option_map_or (λ task. idled (dequeued (charge room) task) cpu) (running_on room cpu) room
+scheduling_room room (Exit cpu) = option_map_or (λ task. idled (without (charge room) task) cpu) (running_on room cpu) room
 scheduling_room room event = room
 
 -- what a sibling that made a selection has after it, where this is its choice

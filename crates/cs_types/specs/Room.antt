@@ -10,6 +10,15 @@ use Rattle.cs_types.specs.declared.scenario.Scenario.{Scenario}
 abbrev pub Waiting : Type 0
 Waiting = Option (Option ℕ)
 
+-- a recorded interval of the clock, in ns: its two moments, how many siblings were forced idle in it and for how many a
+-- task was chosen, and the pids of the tasks that it charges, by rising sibling
+pub record Interval : Type 0 where
+  pub from : ℕ
+  pub to : ℕ
+  pub count : ℕ
+  pub occupation : ℕ
+  pub charged : List ℕ
+
 -- an SMT sibling of the core (`struct rq`)
 pub record SiblingState : Type 0 where
   -- whether it is online
@@ -59,6 +68,8 @@ pub record RoomState : Type 0 where
   -- since when the open interval of forced idle has not been charged, none where none is open
   -- (`rq->core->core_forceidle_start`)
   pub started : Option ℕ
+  -- the recorded intervals of forced idle, the oldest first (this project's)
+  pub intervals : List Interval
 
 -- ---- the start
 
@@ -123,6 +134,7 @@ start scenario =
       forced = 0;
       occupation = 0;
       started = None;
+      intervals = [];
     }
 
 -- ---- parts of a room
@@ -150,6 +162,10 @@ sibling_of room cpu = slice_index_or room.siblings cpu absent
 -- the task that a sibling runs, none where it runs idle
 abbrev pub running_on : RoomState → ℕ → Option Task
 running_on room cpu = option_and_then (task_of room) (sibling_of room cpu).run
+
+-- what a sibling is to run: what waits for it, and what it runs where nothing waits
+abbrev pub to_run : SiblingState → Option ℕ
+to_run sibling = unwrap_or sibling.waiting sibling.run
 
 -- whether a sibling is online, and the numbers of those that are
 abbrev pub is_online : RoomState → ℕ → Bool

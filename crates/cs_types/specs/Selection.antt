@@ -8,6 +8,7 @@ use Rattle.cs_types.specs.declared.reply.Kind.TheVariants.{Selected, Adopted, Pl
 use Rattle.cs_types.specs.declared.reply.Pick.{Pick}
 use Rattle.cs_types.specs.Room.{RoomState, SiblingState, Waiting, queued_on, sibling_of, online, online_from, with_sibling}
 use Rattle.cs_types.specs.Order.{is_fair, foremost, outranks, first_of}
+use Rattle.cs_types.specs.Accounting.{charge}
 
 -- ---- what a sibling has for a core cookie
 
@@ -83,10 +84,6 @@ is_run None None = true
 is_run (Some a) (Some b) = a == b
 is_run None (Some b) = false
 is_run (Some a) None = false
-
--- what a sibling is to run: what waits for it, and what it runs where nothing waits
-abbrev pub to_run : SiblingState → Option ℕ
-to_run sibling = unwrap_or sibling.waiting sibling.run
 
 -- the sibling runs this from now on, nothing waits for it, and its reschedule is no longer pending
 -- (`clear_tsk_need_resched`)
@@ -199,10 +196,12 @@ abbrev pub picked_anew : RoomState → ℕ → Scheduled
 picked_anew room cpu = if is_plain room cpu then plain room cpu else selected room cpu
 
 -- A waiting pick is adopted where it may be: nothing was touched since the last selection for the core, and this event has
--- dequeued no task. Else the sibling picks anew.
+-- dequeued no task. Else the open interval is charged, and the sibling picks anew (`sched_core_account_forceidle` in
+-- `pick_next_task`).
 abbrev pub adopted_or_picked_anew : RoomState → Bool → ℕ → Waiting → Scheduled
-adopted_or_picked_anew room may_adopt cpu None = picked_anew room cpu
-adopted_or_picked_anew room may_adopt cpu (Some run) = if may_adopt then adopted room cpu run else picked_anew room cpu
+adopted_or_picked_anew room may_adopt cpu None = picked_anew (charge room) cpu
+adopted_or_picked_anew room may_adopt cpu (Some run) =
+    if may_adopt then adopted room cpu run else picked_anew (charge room) cpu
 
 -- A sibling is to try to steal where some sibling is forced idle, it runs idle itself, the core has a cookie, and a task
 -- is queued on it (`queue_core_balance`).

@@ -13,7 +13,7 @@ use Rattle.cs_types.specs.declared.reply.Errno.TheVariants.{Eagain, Ebusy}
 use Rattle.cs_types.specs.declared.reply.Pick.{Pick}
 use Rattle.cs_types.specs.Room.{RoomState, asleep, inserted, has_pid, task_of, sibling_of, running_on, is_online, online, with_sibling, with_task, flagged}
 use Rattle.cs_types.specs.Order.{deadline_class, class_of}
-use Rattle.cs_types.specs.Accounting.{accounted}
+use Rattle.cs_types.specs.Accounting.{charge}
 use Rattle.cs_types.specs.Time.{advanced, ticked_room, asks_at_tick}
 use Rattle.cs_types.specs.Selection.{Scheduled, schedule, is_run}
 use Rattle.cs_types.specs.Queueing.{dequeued, online_home, rehomed, queued_at_home}
@@ -71,11 +71,11 @@ turned room may_adopt cpu =
 abbrev pub idled : RoomState → ℕ → RoomState
 idled room cpu = with_sibling room cpu (record (sibling_of room cpu) { run = None })
 
--- The sibling runs idle already, or its running task goes to sleep and then it schedules. The dequeue touched, so
--- that schedule adopts nothing.
+-- The sibling runs idle already. Or the open interval is charged, its running task is dequeued, and then it schedules. The
+-- dequeue touched, so that schedule adopts nothing, and what it charges has no time left.
 abbrev pub blocked : RoomState → ℕ → Option Task → Stepped
 blocked room cpu None = record { reply = Idle; room = room }
-blocked room cpu (Some task) = picked (Slept task.spec.pid) (schedule (idled (dequeued room task) cpu) false cpu)
+blocked room cpu (Some task) = picked (Slept task.spec.pid) (schedule (idled (dequeued (charge room) task) cpu) false cpu)
 
 -- ---- exit (`do_exit`, kernel/exit.c, and `sched_core_free`, kernel/sched/core_sched.c)
 
@@ -93,14 +93,14 @@ without room task =
       ended = room.ended ++ task.spec.pid ∷ [];
     }
 
--- The sibling runs idle, or its running task leads others, or it ends and then the sibling schedules. The dequeue
--- touched, so that schedule adopts nothing.
+-- The sibling runs idle, or its running task leads others. Or the open interval is charged, the task ends, and then the
+-- sibling schedules. The dequeue touched, so that schedule adopts nothing, and what it charges has no time left.
 abbrev pub exited : RoomState → ℕ → Option Task → Stepped
 exited room cpu None = record { reply = Idle; room = room }
 exited room cpu (Some task) =
     if has_threads room task
     then record { reply = HasThreads; room = room }
-    else picked (Ended task.spec.pid) (schedule (idled (without room task) cpu) false cpu)
+    else picked (Ended task.spec.pid) (schedule (idled (without (charge room) task) cpu) false cpu)
 
 -- ---- fork (`copy_process`, kernel/fork.c, and `sched_core_fork`, kernel/sched/core_sched.c)
 
@@ -156,9 +156,9 @@ advancing room delta = record { reply = Now (room.clock + delta); room = advance
 -- The open interval is charged (`sched_core_tick`). Then the sibling runs idle, or its running task is asked to leave or
 -- not.
 abbrev pub ticked : RoomState → ℕ → Option Task → Stepped
-ticked room cpu None = record { reply = Ticked false; room = accounted room }
+ticked room cpu None = record { reply = Ticked false; room = charge room }
 ticked room cpu (Some task) =
-    record { reply = Ticked (asks_at_tick room cpu task); room = ticked_room (accounted room) cpu task }
+    record { reply = Ticked (asks_at_tick room cpu task); room = ticked_room (charge room) cpu task }
 
 -- ---- setsched (`sched_setscheduler`; this project's rule)
 

@@ -2,7 +2,7 @@
 -- (`core_task_seq` of `rq->core`) and notes the count of the last selection for the core (`core_pick_seq`) and of
 -- each sibling's last pick from one (`core_sched_seq`); here the three numbers are sums over the history.
 use Rattle.std.specs.Prelude.{ℕ, ◌+◌, ◌*◌, Bool, true, false, ◌==◌, ◌&&◌, ◌||◌, not, if◌then◌else◌, List, [], ◌∷◌, length, sum_by, take_while, Option, Some, None, is_some}
-use Rattle.std.specs.List.{list_any, list_all, filter_map}
+use Rattle.std.specs.List.{list_any, list_all}
 use Rattle.std.specs.Option.{option_map_or, option_and_then}
 use Rattle.cs_types.specs.declared.event.Event.{Event}
 use Rattle.cs_types.specs.declared.event.Event.TheVariants.{Turn, Resched, Block, Exit, Tick, Wake, Advance, Fork, Prctl, SetSched, Offline, Online}
@@ -15,7 +15,6 @@ use Rattle.cs_types.specs.declared.reply.Entry.{Entry}
 use Rattle.cs_types.specs.Room.{RoomState, task_of, queued_on}
 use Rattle.cs_types.specs.declared.task.Task.{Task}
 use Rattle.cs_types.specs.Prctl.{Setting, setting_of}
-use Rattle.cs_types.specs.Accounting.{Interval, interval_by}
 
 -- ---- the pick of an entry
 
@@ -114,24 +113,18 @@ touches_by room event Set = policy_set_touches room event
 touches_by room event Done = leaving_touches room event
 touches_by room event reply = 0
 
--- ---- the ledger: every entry so far with its touches and with the interval that it recorded, the latest first
+-- ---- the ledger: every entry so far with its touches, the latest first
 
 pub record LedgerEntry : Type 0 where
   pub entry : Entry
   pub touches : ℕ
-  pub interval : Option Interval
 
 abbrev pub Ledger : Type 0
 Ledger = List LedgerEntry
 
 -- an entry, made in this room, as it stands in the ledger
 abbrev pub ledger_entry : RoomState → Entry → LedgerEntry
-ledger_entry room entry =
-    record { entry = entry; touches = touches_by room entry.event entry.reply; interval = interval_by room entry.event entry.reply }
-
--- the recorded intervals, the latest first
-abbrev pub intervals_of : Ledger → List Interval
-intervals_of ledger = filter_map (λ note. note.interval) ledger
+ledger_entry room entry = record { entry = entry; touches = touches_by room entry.event entry.reply }
 
 -- the ledger up to the last entry that passes, which is its first now
 abbrev pub back_to : (Entry → Bool) → Ledger → Ledger

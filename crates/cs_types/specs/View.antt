@@ -8,7 +8,7 @@ use Rattle.cs_types.specs.declared.view.TaskView.{TaskView}
 use Rattle.cs_types.specs.declared.view.EndView.{EndView}
 use Rattle.cs_types.specs.Room.{RoomState, sibling_of}
 use Rattle.cs_types.specs.Accounting.{total_of}
-use Rattle.cs_types.specs.Touches.{Ledger, intervals_of, own_number}
+use Rattle.cs_types.specs.Touches.{own_number}
 use Rattle.cs_types.specs.History.{Moment}
 
 abbrev pub core_view : Moment → CoreView
@@ -17,7 +17,7 @@ core_view moment =
       cookie = moment.room.core_cookie;
       forced = moment.room.forced;
       occupation = moment.room.occupation;
-      intervals = length (intervals_of moment.ledger);
+      intervals = length moment.room.intervals;
     }
 
 -- none where there is no such sibling
@@ -36,28 +36,28 @@ cpu_view moment cpu =
 abbrev pub task_after : RoomState → ℕ → Option Task
 task_after room pid = find (λ task. nat_lt pid task.spec.pid) room.tasks
 
--- what a task was charged for forced idle in a history
-abbrev pub forced_of : Ledger → ℕ → ℕ
-forced_of ledger pid = total_of pid (intervals_of ledger)
+-- what a task was charged for forced idle
+abbrev pub forced_of : RoomState → ℕ → ℕ
+forced_of room pid = total_of pid room.intervals
 
-abbrev pub task_view : Ledger → Task → TaskView
-task_view ledger task =
+abbrev pub task_view : RoomState → Task → TaskView
+task_view room task =
     record {
       pid = task.spec.pid;
       cpu = task.home;
       queued = task.queued;
       cookie = task.cookie;
-      forced = forced_of ledger task.spec.pid;
+      forced = forced_of room task.spec.pid;
       vtime = task.vtime;
     }
 
 -- a task that ended, by its pid
-abbrev pub end_view : Ledger → ℕ → EndView
-end_view ledger pid = record { pid = pid; forced = forced_of ledger pid }
+abbrev pub end_view : RoomState → ℕ → EndView
+end_view room pid = record { pid = pid; forced = forced_of room pid }
 
 -- what a machine shows of the living task with the least pid above this one
 abbrev pub task_view_after : Moment → ℕ → Option TaskView
-task_view_after moment pid = option_map (task_view moment.ledger) (task_after moment.room pid)
+task_view_after moment pid = option_map (task_view moment.room) (task_after moment.room pid)
 
 -- ---- the trust rule, of what is shown
 

@@ -121,7 +121,7 @@ pub trait Room: Drop {
     /// A task that ended, by the place of its end, from 0 for the first. `None` exactly where no more
     /// ended.
     fn ended(&self, place: u64) -> Option<EndView>
-        ensures { result ≡ option_map (end_view (ledger_of (scenario self.now) (history self.now)))
+        ensures { result ≡ option_map (end_view (fold_of (scenario self.now) (history self.now)))
             (slice_get (fold_of (scenario self.now) (history self.now)).ended place) };
 
     /// Each reply so far is the one that the rules give at its place.

@@ -2,8 +2,8 @@
 
 ghost use Rattle.std.specs.Prelude.{◌≡◌, ◌+◌, ◌-◌, ◌^◌, ◌<◌, ◌≤◌, ◌↔◌, ◌==◌, ◌||◌, if◌then◌else◌, Some, None, IsNone, IfNone, unwrap_or, is_some};
 ghost use Rattle.std.specs.Option.{option_map};
-ghost use Rattle.cs_types.specs.Accounting.{Interval, share, open_interval};
-ghost use Rattle.cs_types.specs.Room.{RoomState};
+ghost use Rattle.cs_types.specs.Accounting.{share, open_interval};
+ghost use Rattle.cs_types.specs.Room.{RoomState, Interval};
 ghost use Rattle.forceidle_account.specs.Account.{IsAccountOf};
 
 use cs_types::Cookie;

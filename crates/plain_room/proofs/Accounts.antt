@@ -3,29 +3,21 @@ use Rattle.std.proofs.Common.{◌≡◌, ℕ, zero, suc, ◌+◌, ◌<◌, ◌�
 use Rattle.std.specs.Prelude.{◌&&◌, ◌||◌, ◌==◌, find}
 use Rattle.std.specs.List.{list_any, filter_map, range_with_len}
 use Rattle.std.specs.Option.{option_and_then, option_map_or}
-use Rattle.std.proofs.lemmas.List.Elements.{All-weaker}
 use Rattle.std.proofs.lemmas.Bool.{cases_Bool, cond-true, cond-false, eqb-true}
 use Rattle.std.proofs.Math.Bool.{and-false, and-true}
 use Rattle.cs_types.specs.declared.task.Task.{Task}
-use Rattle.cs_types.specs.declared.scenario.Scenario.{Scenario}
-use Rattle.cs_types.specs.Room.{RoomState, SiblingState, absent, has_pid, task_of, is_online, online}
+use Rattle.cs_types.specs.Room.{RoomState, Interval, SiblingState, idle, has_pid, task_of, to_run, is_online, online, absent}
 use Rattle.cs_types.specs.Selection.{is_run, to_run}
-use Rattle.cs_types.specs.Accounting.{Interval, with_cookie, charged_on, charged, up_to_now, open_interval, accounted}
+use Rattle.cs_types.specs.Accounting.{with_cookie, charged_on, charged, up_to_now, open_interval, Interval, accounted}
+use Rattle.cs_types.specs.declared.scenario.Scenario.{Scenario}
 use Rattle.cs_types.proofs.Timely.{IsTimely, IsTimelyTask}
 use Rattle.task_table.specs.Table.{Rises, RisesFrom}
 use Rattle.plain_room.specs.declared.state.State.{State}
-use Rattle.plain_room.specs.State.{sibling_state, room_of}
+use Rattle.plain_room.specs.State.{Beside, sibling_state, room_of}
 use Rattle.plain_room.specs.Account.{is_to_run, is_charged, is_charged_as}
 use Rattle.cs_types.proofs.Foremost.{find_passes}
 use Rattle.plain_room.proofs.OnlineCount.{places}
 use Rattle.plain_room.proofs.Lists.{any-map, any-filter}
-
--- what an interval goes on from does not matter to its times
-pub timely-accounted : (entries : ℕ) (room : RoomState) → IsTimely entries room → IsTimely entries (accounted room)
-timely-accounted entries room timely = record {
-  tasks = All-weaker (IsTimelyTask room) (IsTimelyTask (accounted room)) (λ task is. record { vtime = is.vtime; used = is.used }) room.tasks timely.tasks;
-  siblings = timely.siblings;
-}
 
 -- ---- any of a list
 
@@ -138,12 +130,12 @@ module _ (room : RoomState) (pid : ℕ) where
       ∙ any_and (is_to_run pid) (has_cookie (task_of room pid)) room.siblings
 
 -- So it is as the machine asks it of each task.
-pub charged_as : (scenario : Scenario) (state : State) (pid : ℕ) → Rises state.tasks.tasks →
-    list_any (is_charged_as state.siblings.items pid) state.tasks.tasks ≡ list_any (λ other. other == pid) (charged (room_of scenario state))
-charged_as scenario state pid rises =
+pub charged_as : (beside : Beside) (state : State) (pid : ℕ) → Rises state.tasks.tasks →
+    list_any (is_charged_as state.siblings.items pid) state.tasks.tasks ≡ list_any (λ other. other == pid) (charged (room_of beside state))
+charged_as beside state pid rises =
     any_by_pid (is_charged state.siblings.items) pid 0 state.tasks.tasks rises
     ∙ by_found (find (has_pid pid) state.tasks.tasks) refl
-    ∙ sym (charged_is (room_of scenario state) pid) where
+    ∙ sym (charged_is (room_of beside state) pid) where
       states : List SiblingState
       states = map sibling_state state.siblings.items
 

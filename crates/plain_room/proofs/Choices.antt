@@ -5,16 +5,16 @@ use Rattle.std.specs.List.{list_any, list_all, range_with_len}
 use Rattle.std.specs.Option.{option_and_then}
 use Rattle.std.proofs.lemmas.Bool.{cond-false, ne_eqb}
 use Rattle.std.proofs.lemmas.List.{map-append, length-map}
-use Rattle.cs_types.specs.declared.scenario.Scenario.{Scenario}
 use Rattle.std.proofs.lemmas.List.Elements.{filter-append, All-map, All-filter}
 use Rattle.std.proofs.lemmas.List.FromFn.{get_or-map-range_with_len}
 use Rattle.cs_types.specs.Room.{RoomState, is_online, online, online_from, queued_on, sibling_of}
 use Rattle.cs_types.specs.Order.{first_of, goes_before, foremost, outranks}
 use Rattle.cs_types.specs.Selection.{first_on, cookie_of, pid_of, snapshot_of, queued_with, choice, is_forced, forced_count, occupation_of, is_run, task_after_selection, lead_from, adopted, balanced, picked_anew, adopted_or_picked_anew, schedule}
+use Rattle.cs_types.specs.Accounting.{charge}
 use Rattle.plain_room.specs.declared.choice.Choice.{Choice}
 use Rattle.cs_types.specs.declared.task.Task.{Task}
 use Rattle.plain_room.specs.declared.state.State.{State}
-use Rattle.plain_room.specs.State.{sibling_state, room_of}
+use Rattle.plain_room.specs.State.{Beside, sibling_state, room_of}
 use Rattle.plain_room.specs.Choice.{choice_at, choices_of, task_after_choices}
 use Rattle.plain_room.proofs.Lists.{count_at, any_at, range_more, All-find}
 
@@ -32,10 +32,10 @@ is_some-pid_of None = refl
 is_some-pid_of (Some task) = refl
 
 -- the choices that the code makes, of as many siblings as the state has
-pub choices_are : (scenario : Scenario) (state : State) (core : ℕ) (choices : List Choice) →
-    choices ≡ map (choice_at (room_of scenario state) core) (range_with_len 0 (length state.siblings.items)) → choices ≡ choices_of (room_of scenario state) core
-choices_are scenario state core choices is =
-    is ∙ ap (λ n. map (choice_at (room_of scenario state) core) (range_with_len 0 n)) (sym (length-map state.siblings.items sibling_state))
+pub choices_are : (beside : Beside) (state : State) (core : ℕ) (choices : List Choice) →
+    choices ≡ map (choice_at (room_of beside state) core) (range_with_len 0 (length state.siblings.items)) → choices ≡ choices_of (room_of beside state) core
+choices_are beside state core choices is =
+    is ∙ ap (λ n. map (choice_at (room_of beside state) core) (range_with_len 0 n)) (sym (length-map state.siblings.items sibling_state))
 
 pub forced_count-choices : (room : RoomState) (core : ℕ) → count_by (λ (c : Choice). c.is_forced) (choices_of room core) ≡ forced_count room core
 forced_count-choices room core =
@@ -145,9 +145,9 @@ map-task_after_choices room core occupation (task ∷ tasks) same =
 
 -- nothing may be adopted, or this may
 pub schedule_not_adopted : (room : RoomState) (fresh : Bool) (cpu : ℕ) → None ≡ cond fresh (sibling_of room cpu).waiting None →
-    schedule room fresh cpu ≡ balanced cpu (picked_anew room cpu)
+    schedule room fresh cpu ≡ balanced cpu (picked_anew (charge room) cpu)
 schedule_not_adopted room fresh cpu none = ap (balanced cpu) (not_adopted fresh (sibling_of room cpu).waiting none) where
-  not_adopted : (b : Bool) (waiting : Option (Option ℕ)) → None ≡ cond b waiting None → adopted_or_picked_anew room b cpu waiting ≡ picked_anew room cpu
+  not_adopted : (b : Bool) (waiting : Option (Option ℕ)) → None ≡ cond b waiting None → adopted_or_picked_anew room b cpu waiting ≡ picked_anew (charge room) cpu
   not_adopted b None e = refl
   not_adopted false (Some run) e = refl
   not_adopted true (Some run) e = absurd cc

@@ -10,7 +10,8 @@ use Rattle.cs_types.specs.declared.task.Task.{Task}
 use Rattle.cs_types.specs.declared.task.Policy.{Policy}
 use Rattle.cs_types.specs.declared.task.Policy.TheVariants.{Stop, Deadline, Fifo, Rr, Fair}
 use Rattle.cs_types.specs.Room.{RoomState, has_pid, with_task}
-use Rattle.cs_types.specs.Time.{grown_by, rotates, has_used_slice, sliced}
+use Rattle.plain_room.specs.State.{Beside}
+use Rattle.cs_types.specs.Time.{IsTimely, IsTimelyTask, grown_by, rotates, has_used_slice, sliced}
 use Rattle.cs_types.proofs.Timely.{IsTimely, IsTimelyTask}
 use Rattle.task_table.specs.Table.{Rises, RisesFrom}
 use Rattle.task_table.proofs.Tables.{changed_each}
@@ -18,10 +19,11 @@ use Rattle.plain_room.specs.Time.{any_other, grown_among, is_run_by}
 use Rattle.plain_room.specs.declared.sibling.Sibling.{Sibling}
 use Rattle.plain_room.proofs.Lists.{filter-filter, any-filter}
 
--- the times of a room do not depend on the end of its callers' address space
-pub timely_under : (top entries : ℕ) (room : RoomState) → IsTimely entries room → IsTimely entries (record room { user_top = top })
-timely_under top entries room timely = record {
-  tasks = All-weaker (IsTimelyTask room) (IsTimelyTask (record room { user_top = top })) (λ task is. record { vtime = is.vtime; used = is.used }) room.tasks timely.tasks;
+-- the times of a room do not depend on what is beside its state
+pub timely_beside : (beside : Beside) (entries : ℕ) (room : RoomState) → IsTimely entries room →
+    IsTimely entries (record room { user_top = beside.user_top; intervals = beside.intervals })
+timely_beside beside entries room timely = record {
+  tasks = All-weaker (IsTimelyTask room) (IsTimelyTask (record room { user_top = beside.user_top; intervals = beside.intervals })) (λ task is. record { vtime = is.vtime; used = is.used }) room.tasks timely.tasks;
   siblings = timely.siblings;
 }
 

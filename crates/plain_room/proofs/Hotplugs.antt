@@ -5,16 +5,16 @@ use Rattle.std.specs.List.{range_with_len, enumerate_from}
 use Rattle.std.proofs.lemmas.Bool.{cond-true, cond-false}
 use Rattle.std.proofs.lemmas.List.Sums.{length-filter}
 use Rattle.std.proofs.lemmas.List.Elements.{All-weaker}
-use Rattle.cs_types.specs.declared.scenario.Scenario.{Scenario}
 use Rattle.cs_types.specs.declared.task.Task.{Task}
 use Rattle.cs_types.specs.declared.reply.Reply.TheVariants.{Already, Refused, Done}
 use Rattle.cs_types.specs.declared.reply.Errno.TheVariants.{Ebusy}
 use Rattle.cs_types.specs.Room.{RoomState, is_online, online}
 use Rattle.cs_types.specs.Hotplug.{leave, with_sibling_back}
+use Rattle.cs_types.specs.Accounting.{charge}
 use Rattle.cs_types.specs.Step.{taken_offline, brought_online}
 use Rattle.cs_types.proofs.Timely.{IsTimelyTask}
 use Rattle.cs_types.proofs.Foremost.{find-append_none}
-use Rattle.plain_room.specs.State.{Numbers, room_of, IsOnTime}
+use Rattle.plain_room.specs.State.{Beside, Numbers, room_of, IsOnTime}
 use Rattle.plain_room.specs.Time.{queued_among}
 use Rattle.plain_room.specs.Hotplug.{left, count_before, with_moves}
 use Rattle.plain_room.specs.declared.state.State.{State}
@@ -60,9 +60,9 @@ first_found p place n below none passes =
     ap (λ found. unwrap_or found 0) (first_from p 0 place n below none (ap p e ∙ passes)) ∙ e
 
 -- whether a sibling is online, as the code reads it
-pub online_is : (scenario : Scenario) (state : State) (cpu : ℕ) (x : Sibling) → cpu < length state.siblings.items → x ≡ get_or state.siblings.items cpu x →
-    is_online (room_of scenario state) cpu ≡ x.online
-online_is scenario state cpu x below is = ap (λ sibling. sibling.online) (sibling_at state.siblings.items cpu x below is)
+pub online_is : (beside : Beside) (state : State) (cpu : ℕ) (x : Sibling) → cpu < length state.siblings.items → x ≡ get_or state.siblings.items cpu x →
+    is_online (room_of beside state) cpu ≡ x.online
+online_is beside state cpu x below is = ap (λ sibling. sibling.online) (sibling_at state.siblings.items cpu x below is)
 
 -- ---- how many stamps are smaller
 
@@ -94,11 +94,11 @@ online_step room cpu is_there there_is =
 abbrev pub closed : RoomState → RoomState
 closed room = record room { forced = 0; occupation = 0; started = None }
 
--- The tasks move, the sibling leaves, and no interval is open: it is without the sibling.
-pub without_is : (room : RoomState) (cpu : ℕ) →
-    record (with_moves (closed room) cpu) { siblings = map (left cpu) (enumerate_from 0 room.siblings) } ≡ leave room cpu
+-- The interval is charged and closed, the tasks move, and the sibling is away: so it leaves.
+pub leave_is : (room : RoomState) (cpu : ℕ) →
+    record (with_moves (closed (charge room)) cpu) { siblings = map (left cpu) (enumerate_from 0 room.siblings) } ≡ leave room cpu
 unfolding leave
-without_is room cpu = refl
+leave_is room cpu = refl
 
 -- a step that touches nothing
 pub untouched : (numbers : Numbers) → numbers ≡ record numbers { task = numbers.task + 0 }
@@ -113,10 +113,10 @@ time_kept old now time rest =
     let kept : IsOnTime same = record {
       entries = time.entries;
       few = time.few;
-      timely = λ scenario. record {
-        tasks = All-weaker (IsTimelyTask (room_of scenario old)) (IsTimelyTask (room_of scenario same))
-            (λ task is. record { vtime = is.vtime; used = is.used }) old.tasks.tasks (time.timely scenario).tasks;
-        siblings = (time.timely scenario).siblings;
+      timely = λ beside. record {
+        tasks = All-weaker (IsTimelyTask (room_of beside old)) (IsTimelyTask (room_of beside same))
+            (λ task is. record { vtime = is.vtime; used = is.used }) old.tasks.tasks (time.timely beside).tasks;
+        siblings = (time.timely beside).siblings;
       };
       clock = time.clock;
     } in

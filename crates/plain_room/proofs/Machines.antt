@@ -1,5 +1,5 @@
 -- Machines: how the entries, the room and the numbers go on by one entry.
-use Rattle.std.proofs.Common.{◌≡◌, ℕ, zero, suc, ◌+◌, ◌<◌, Bool, true, false, cond, List, [], ◌∷◌, ◌++◌, map, length, set, eqb, refl, sym, ap, ◌∙◌, arith, Option, Some, None}
+use Rattle.std.proofs.Common.{◌≡◌, ℕ, zero, suc, ◌+◌, ◌<◌, Bool, true, false, cond, List, [], ◌∷◌, ◌++◌, map, set, eqb, refl, sym, ap, subst, ◌∙◌, arith, Option, Some, None}
 use Rattle.std.specs.Prelude.{◌&&◌, ◌||◌, IfSome, replicate}
 use Rattle.std.specs.List.{range_with_len}
 use Rattle.std.specs.Option.{option_map_or}
@@ -16,16 +16,14 @@ use Rattle.cs_types.specs.declared.scenario.Scenario.{Scenario}
 use Rattle.cs_types.specs.Scenario.{IsEvent}
 use Rattle.cs_types.specs.Room.{RoomState}
 use Rattle.cs_types.specs.Step.{Stepped, step}
-use Rattle.cs_types.specs.Accounting.{Interval, total_of}
-use Rattle.cs_types.specs.Touches.{intervals_of, is_selected, is_adopted, pick_of, is_selection, scheduler_of, is_fresh, LedgerEntry, Ledger, ledger_entry, task_number, pick_number, own_number}
-use Rattle.cs_types.specs.History.{History, Moment, moment_of, fold_of, ledger_of, reply_to, entry_of, history_of, step_at}
+use Rattle.cs_types.specs.Touches.{is_selected, is_adopted, pick_of, is_selection, scheduler_of, is_fresh, LedgerEntry, Ledger, ledger_entry, task_number, pick_number, own_number}
+use Rattle.cs_types.specs.History.{History, Moment, moment_of, fold_of, ledger_of, reply_to, entry_of, history_of, step_at, next}
 use Rattle.cs_types.specs.Drain.{next_to_schedule}
 use Rattle.plain_room.specs.Drain.{next_by}
 use Rattle.cs_types.proofs.Histories.{moment_of-push, history_of-push}
-use Rattle.cs_types.proofs.Accounts.{with_one, intervals_of-cons, total_of-ledger_entry}
 use Rattle.cs_types.proofs.Numbers.{task_number-cons, pick_number-cons, own_number-cons, fresh-ledger_of}
-use Rattle.plain_room.specs.State.{owed, booked, books_at, numbers_at, numbers_of, numbers_after, own_after, is_fresh_by, room_of, Makes}
-use Rattle.plain_room.specs.Inside.{steps_of}
+use Rattle.plain_room.specs.State.{booked, IsBooked, numbers_at, numbers_of, numbers_after, own_after, is_fresh_by, room_of, Makes}
+use Rattle.plain_room.specs.Inside.{steps_of, beside_at}
 use Rattle.plain_room.specs.declared.state.State.{State}
 
 -- ---- the entries
@@ -117,64 +115,57 @@ own_more n note ledger limits =
 
 -- ---- the numbers
 
--- the books of a ledger with one more entry
-books-ledger_entry : (scenario : Scenario) (most : ℕ) (note : LedgerEntry) (ledger : Ledger) → books_at scenario most (note ∷ ledger) ≡ booked note.interval (books_at scenario most ledger)
-books-ledger_entry scenario most note ledger = by_interval note.interval (intervals_of-cons note ledger) where
-  by_interval : (one : Option Interval) → intervals_of (note ∷ ledger) ≡ with_one one (intervals_of ledger) → books_at scenario most (note ∷ ledger) ≡ booked one (books_at scenario most ledger)
-  by_interval None same = λ i. record (books_at scenario most ledger) { intervals = length (same i); totals = λ pid. total_of pid (same i) }
-  by_interval (Some interval) same =
-      let intervals : length (intervals_of (note ∷ ledger)) ≡ length (intervals_of ledger) + 1 = omega (arith, ap length same) in
-      let totals : (pid : ℕ) → total_of pid (intervals_of (note ∷ ledger)) ≡ total_of pid (intervals_of ledger) + owed pid interval =
-      λ pid. ap (total_of pid) same ∙ total_of-ledger_entry pid (Some interval) (intervals_of ledger) in
-      λ i. record (books_at scenario most ledger) { intervals = intervals i; totals = λ pid. totals pid i }
-
--- the numbers of a ledger with one more entry
-numbers-ledger_entry : (scenario : Scenario) (most : ℕ) (room : RoomState) (entry : Entry) (ledger : Ledger) → IsEvent scenario.siblings entry.event →
-    numbers_at scenario most (ledger_entry room entry ∷ ledger) ≡ numbers_after room entry.event entry.reply (numbers_at scenario most ledger)
-numbers-ledger_entry scenario most room entry ledger limits =
-    let note = ledger_entry room entry in
+-- the numbers of a moment with one more entry
+numbers-next : (scenario : Scenario) (most : ℕ) (moment : Moment) (entry : Entry) → IsEvent scenario.siblings entry.event →
+    numbers_at scenario most (next moment entry) ≡ numbers_after moment.room entry.event entry.reply (booked (next moment entry).room (numbers_at scenario most moment))
+numbers-next scenario most moment entry limits =
+    let note = ledger_entry moment.room entry in
+    let ledger = moment.ledger in
     let task : task_number (note ∷ ledger) ≡ task_number ledger + note.touches = task_number-cons note ledger ∙ omega arith in
     let pick : pick_number (note ∷ ledger) ≡ cond (is_selection entry) (task_number ledger + note.touches) (pick_number ledger) =
     pick_number-cons note ledger ∙ ap (λ n. cond (is_selection entry) n (pick_number ledger)) task in
-    let own = own_more scenario.siblings note ledger limits ∙ ap (λ p. own_after entry.event entry.reply p (numbers_at scenario most ledger).own) pick in
-    let books = books-ledger_entry scenario most note ledger in
-    λ i. record { task = task i; pick = pick i; own = own i; books = books i }
+    let own = own_more scenario.siblings note ledger limits ∙ ap (λ p. own_after entry.event entry.reply p (numbers_at scenario most moment).own) pick in
+    λ i. record { task = task i; pick = pick i; own = own i; books = (numbers_at scenario most (next moment entry)).books }
 
 -- ---- one step of the machine
 
--- the state is the fold of the entries, and its numbers are those of their ledger
+-- the state is the fold of the entries, and its numbers are those of their moment
 pub record Folds (scenario : Scenario) (most : ℕ) (state : State) (entries : History) : Type 0 where
-  pub fold : room_of scenario state ≡ fold_of scenario entries
-  pub numbers : numbers_of state ≡ numbers_at scenario most (ledger_of scenario entries)
+  pub fold : room_of (beside_at scenario entries) state ≡ fold_of scenario entries
+  pub numbers : numbers_of state ≡ numbers_at scenario most (moment_of scenario entries)
 
 -- the state's step is that of the moment after the entries
 step_of_moment : {most : ℕ} (scenario : Scenario) (state : State) (entries : History) (event : Event) → Folds scenario most state entries →
-    step (room_of scenario state) (is_fresh_by (numbers_of state)) event ≡ step_at (moment_of scenario entries) event
+    step (room_of (beside_at scenario entries) state) (is_fresh_by (numbers_of state)) event ≡ step_at (moment_of scenario entries) event
 step_of_moment {most} scenario state entries event so_far =
     let fresh : is_fresh_by (numbers_of state) ≡ is_fresh (ledger_of scenario entries) =
     ap is_fresh_by so_far.numbers ∙ sym (fresh-ledger_of scenario entries) in
     λ i. step (so_far.fold i) (fresh i) event
 
 pub reply_more : {most : ℕ} (scenario : Scenario) (old new : State) (entries : History) (event : Event) (reply : Reply) →
-    Folds scenario most old entries → Makes scenario old new event reply → reply ≡ reply_to scenario entries event
+    Folds scenario most old entries → Makes (beside_at scenario entries) old new event reply → reply ≡ reply_to scenario entries event
 reply_more {most} scenario old new entries event reply so_far makes =
     makes.reply ∙ ap (λ (made : Stepped). made.reply) (step_of_moment scenario old entries event so_far)
 
 pub folds_more : {most : ℕ} (scenario : Scenario) (old new : State) (entries : History) (entry : Entry) → IsEvent scenario.siblings entry.event →
-    Folds scenario most old entries → Makes scenario old new entry.event entry.reply → Folds scenario most new (entries ++ entry ∷ [])
+    Folds scenario most old entries → Makes (beside_at scenario entries) old new entry.event entry.reply → Folds scenario most new (entries ++ entry ∷ [])
 folds_more {most} scenario old new entries entry limits so_far makes =
     let more = sym (moment_of-push scenario entries entry) in
+    let made = step_of_moment scenario old entries entry.event so_far in
+    let kept : IsBooked (fold_of scenario entries) old =
+    subst (λ numbers. numbers ≡ booked (fold_of scenario entries) numbers) (sym so_far.numbers) refl in
     record {
-      fold = makes.room ∙ ap (λ (made : Stepped). made.room) (step_of_moment scenario old entries entry.event so_far)
-          ∙ ap (λ (moment : Moment). moment.room) more;
-      numbers = makes.numbers ∙ (λ i. numbers_after (so_far.fold i) entry.event entry.reply (so_far.numbers i))
-          ∙ sym (numbers-ledger_entry scenario most (fold_of scenario entries) entry (ledger_of scenario entries) limits)
-          ∙ ap (λ (moment : Moment). numbers_at scenario most moment.ledger) more;
+      fold = subst (λ (room : RoomState). room_of (record { user_top = scenario.user_top; intervals = room.intervals }) new ≡ room)
+          (ap (λ (m : Stepped). m.room) made ∙ ap (λ (moment : Moment). moment.room) more) makes.room;
+      numbers = makes.numbers kept
+          ∙ (λ i. numbers_after (so_far.fold i) entry.event entry.reply (booked (made i).room (so_far.numbers i)))
+          ∙ sym (numbers-next scenario most (moment_of scenario entries) entry limits)
+          ∙ ap (numbers_at scenario most) more;
     }
 
 -- who schedules next at the end of a run is the same
 pub next_of : {most : ℕ} (scenario : Scenario) (state : State) (entries : History) → Folds scenario most state entries →
-    next_by (room_of scenario state) (is_fresh_by (numbers_of state)) ≡ next_to_schedule (moment_of scenario entries)
+    next_by (room_of (beside_at scenario entries) state) (is_fresh_by (numbers_of state)) ≡ next_to_schedule (moment_of scenario entries)
 next_of scenario state entries so_far =
     let fresh : is_fresh_by (numbers_of state) ≡ is_fresh (ledger_of scenario entries) =
     ap is_fresh_by so_far.numbers ∙ sym (fresh-ledger_of scenario entries) in

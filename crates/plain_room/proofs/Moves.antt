@@ -7,12 +7,11 @@ use Rattle.std.proofs.lemmas.Option.{slice_get-get_or}
 use Rattle.std.proofs.lemmas.Bool.{cond-true, cond-false}
 use Rattle.cs_types.specs.declared.task.Task.{Task}
 use Rattle.cs_types.specs.declared.task.TaskSpec.{TaskSpec}
-use Rattle.cs_types.specs.declared.scenario.Scenario.{Scenario}
 use Rattle.cs_types.specs.Room.{RoomState, has_pid}
 use Rattle.cs_types.specs.Queueing.{moved_to}
 use Rattle.cs_types.specs.Hotplug.{lowest_other, moved_off}
 use Rattle.task_table.specs.Table.{Rises}
-use Rattle.plain_room.specs.State.{sibling_state, room_of}
+use Rattle.plain_room.specs.State.{Beside, sibling_state, room_of}
 use Rattle.plain_room.specs.Hotplug.{new_stamp}
 use Rattle.plain_room.specs.declared.state.State.{State}
 use Rattle.plain_room.specs.declared.sibling.Sibling.{Sibling}
@@ -64,11 +63,11 @@ module _ (change : Task → Task) (all now : List Task) (place : ℕ) (task : Ta
 -- ---- the task that moves
 
 -- it is the model's
-pub moved_is : (scenario : Scenario) (old now : State) (cpu to stamp : ℕ) (task moved : Task) → now ≡ record old { tasks = now.tasks } →
-    to ≡ lowest_other (room_of scenario old) cpu → moved ≡ moved_to (room_of scenario now) to task → task.queued ≡ true → task.home ≡ cpu →
-    stamp ≡ new_stamp old.tasks.tasks cpu old.next_stamp task → record moved { stamp = stamp } ≡ moved_off (room_of scenario old) cpu task
-moved_is scenario old now cpu to stamp task moved rest to_is is queued home stamp_is =
-    let room = room_of scenario old in
+pub moved_is : (beside : Beside) (old now : State) (cpu to stamp : ℕ) (task moved : Task) → now ≡ record old { tasks = now.tasks } →
+    to ≡ lowest_other (room_of beside old) cpu → moved ≡ moved_to (room_of beside now) to task → task.queued ≡ true → task.home ≡ cpu →
+    stamp ≡ new_stamp old.tasks.tasks cpu old.next_stamp task → record moved { stamp = stamp } ≡ moved_off (room_of beside old) cpu task
+moved_is beside old now cpu to stamp task moved rest to_is is queued home stamp_is =
+    let room = room_of beside old in
     ap (λ (t : Task). let m : Task = record t { stamp = stamp } in m) is
     ∙ ap (λ (siblings : List Sibling). let m : Task = record (moved_to (record room { siblings = map sibling_state siblings }) to task) { stamp = stamp } in m)
     (ap (λ (state : State). state.siblings.items) rest)

@@ -3,9 +3,9 @@ use Rattle.std.proofs.Common.{◌≡◌, ℕ, zero, suc, ◌+◌, Bool, List, []
 use Rattle.std.specs.Prelude.{filter}
 use Rattle.std.specs.List.{range_with_len}
 use Rattle.std.proofs.lemmas.List.{length-map}
+use Rattle.cs_types.specs.Room.{SiblingState, idle, online, absent}
+use Rattle.plain_room.specs.State.{Beside, sibling_state, room_of}
 use Rattle.cs_types.specs.declared.scenario.Scenario.{Scenario}
-use Rattle.cs_types.specs.Room.{SiblingState, absent, online}
-use Rattle.plain_room.specs.State.{sibling_state, room_of}
 use Rattle.plain_room.specs.declared.state.State.{State}
 use Rattle.plain_room.proofs.Lists.{filter-map}
 
@@ -30,9 +30,9 @@ length-filter_places {X} p xs d =
     ∙ ap length (filter-map (λ i. get_or xs i d) p range)
     ∙ length-map (filter (λ i. p (get_or xs i d)) range) (λ i. get_or xs i d)
 
-pub length-online : (scenario : Scenario) (state : State) →
-    length (filter (λ sibling. sibling.online) state.siblings.items) ≡ length (online (room_of scenario state))
-length-online scenario state =
+pub length-online : (beside : Beside) (state : State) →
+    length (filter (λ sibling. sibling.online) state.siblings.items) ≡ length (online (room_of beside state))
+length-online beside state =
     let siblings = state.siblings.items in
     sym (length-map (filter (λ sibling. sibling.online) siblings) sibling_state)
     ∙ ap length (sym (filter-map sibling_state (λ (sibling : SiblingState). sibling.online) siblings))

@@ -11,7 +11,7 @@ use Rattle.plain_room.specs.declared.sibling.Sibling.{Sibling}
 use Rattle.plain_room.specs.declared.state.State.{State}
 use Rattle.plain_room.specs.State.{sibling_state, room_of, IsOnTime}
 use Rattle.plain_room.specs.Time.{snapshot_in}
-use Rattle.plain_room.proofs.States.{some_scenario}
+use Rattle.plain_room.proofs.States.{some_beside}
 
 -- each first of a prefix has a low virtual time
 pub low_times : (firsts : List (Option Task)) (n : ℕ) → All (λ (first : Option Task). IfSome first (λ task. task.vtime < 2 ^ 127)) firsts → All IsTimeInRange (take n firsts)
@@ -46,7 +46,7 @@ of_states P (sibling ∷ siblings) all (suc k) d lt = of_states P siblings (All-
 siblings_are_low : (state : State) → IsOnTime state → All (λ (sibling : Sibling). (sibling.least < 2 ^ 80) × (sibling.snapshot < 2 ^ 80)) state.siblings.items
 siblings_are_low state time =
     of_states (λ (sibling : SiblingState). (sibling.least < 2 ^ 80) × (sibling.snapshot < 2 ^ 80)) state.siblings.items
-    (siblings_bounded time.entries (room_of some_scenario state) (time.timely some_scenario) time.few (omega (arith, time.clock)))
+    (siblings_bounded time.entries (room_of some_beside state) (time.timely some_beside) time.few (omega (arith, time.clock)))
 
 pub leasts_are_low : (state : State) → IsOnTime state → All (λ (sibling : Sibling). sibling.least < 2 ^ 80) state.siblings.items
 leasts_are_low state time =
@@ -61,11 +61,11 @@ snapshots_are_low state time =
 -- the virtual times of its tasks are low
 pub vtimes_are_low : (state : State) → IsOnTime state → All (λ (task : Task). task.vtime < 2 ^ 80) state.tasks.tasks
 vtimes_are_low state time =
-    vtimes_bounded time.entries (room_of some_scenario state) (time.timely some_scenario) time.few (omega (arith, time.clock))
+    vtimes_bounded time.entries (room_of some_beside state) (time.timely some_beside) time.few (omega (arith, time.clock))
 
 -- no sibling has run so long that one more advance overflows
 pub runs_are_low : (state : State) (delta : ℕ) → IsOnTime state → delta ≤ 1000000000 → All (λ (sibling : Sibling). sibling.ran + delta < 2 ^ 64) state.siblings.items
 runs_are_low state delta time few =
     All-weaker (λ (sibling : Sibling). IsTimelySibling (time.entries * (69 * state.clock)) state.clock (sibling_state sibling)) (λ (sibling : Sibling). sibling.ran + delta < 2 ^ 64)
     (λ sibling is. omega (arith, is.ran, time.clock, few)) state.siblings.items
-    (of_states (IsTimelySibling (time.entries * (69 * state.clock)) state.clock) state.siblings.items (time.timely some_scenario).siblings)
+    (of_states (IsTimelySibling (time.entries * (69 * state.clock)) state.clock) state.siblings.items (time.timely some_beside).siblings)

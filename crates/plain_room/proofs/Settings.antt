@@ -10,8 +10,7 @@ use Rattle.cs_types.specs.declared.task.Task.{Task}
 use Rattle.cs_types.specs.declared.event.Ask.{Ask}
 use Rattle.cs_types.specs.declared.event.Event.TheVariants.{Prctl}
 use Rattle.cs_types.specs.declared.reply.Reply.{Reply}
-use Rattle.cs_types.specs.declared.reply.Reply.TheVariants.{Zero, Value}
-use Rattle.cs_types.specs.declared.scenario.Scenario.{Scenario}
+use Rattle.cs_types.specs.declared.reply.Reply.TheVariants.{Zero, Value, NoCaller, Refused}
 use Rattle.cs_types.specs.Room.{RoomState, SiblingState, has_pid}
 use Rattle.cs_types.specs.Selection.{is_run}
 use Rattle.cs_types.specs.Prctl.{Setting, is_set, runs_one, with_cookies, with_made, with_answer, makes_cookie, setting_of, prctl_answer}
@@ -28,12 +27,14 @@ use Rattle.task_table.proofs.Rising.{walked_on, find_again}
 use Rattle.task_table.proofs.Tables.{changed_each, set_each, filter_alike}
 use Rattle.prctl_core.specs.declared.decision.Decision.{Decision}
 use Rattle.prctl_core.specs.declared.decision.Planned.TheVariants.{Go}
-use Rattle.prctl_core.specs.Plan.{named, IsGranted, SetsIn}
+use Rattle.prctl_core.specs.Plan.{named, IsGranted, IsRefusal, SetsIn}
 use Rattle.plain_room.specs.declared.choice.Choice.{Choice}
 use Rattle.plain_room.specs.declared.state.State.{State}
 use Rattle.plain_room.specs.Choice.{chosen_task, task_after_choice, task_after_choices}
 use Rattle.plain_room.specs.Cookies.{setting, flagged_for, SetsCookies}
-use Rattle.plain_room.specs.State.{sibling_state, room_of, IsFit, Has, Numbers, numbers_of, touched, numbers_after, Makes}
+use Rattle.plain_room.proofs.Onlines.{untouched}
+use Rattle.plain_room.proofs.States.{uncharged}
+use Rattle.plain_room.specs.State.{Beside, sibling_state, room_of, IsFit, Has, Numbers, numbers_of, touched, numbers_after, Makes}
 
 -- ---- the task that is chosen for a sibling
 
@@ -174,21 +175,21 @@ flagged_alike task cookie (sibling ∷ siblings) =
     λ i. record sibling { pending = sibling.pending || flags_alike task cookie sibling.run i } ∷ flagged_alike task cookie siblings i
 
 -- what the code does with the tables, the counts and the siblings sets the cookie in the room
-pub sets_one : (scenario : Scenario) (old new : State) (task : Task) (cookie : ℕ) → Rises old.tasks.tasks → Has old task →
+pub sets_one : (beside : Beside) (old new : State) (task : Task) (cookie : ℕ) → Rises old.tasks.tasks → Has old task →
     new.tasks ≡ record old.tasks { tasks = map (λ other. cond (has_pid task.spec.pid other) (record task { cookie = cookie }) other) old.tasks.tasks } →
     new.refs.limit ≡ old.refs.limit → new.refs.next ≡ old.refs.next →
     map sibling_state new.siblings.items ≡ map (flagged_for task.spec.pid) (map sibling_state old.siblings.items) →
     new.clock ≡ old.clock → new.ended ≡ old.ended → new.next_pid ≡ old.next_pid →
     new.next_stamp ≡ old.next_stamp → new.core_cookie ≡ old.core_cookie → new.account ≡ old.account →
-    room_of scenario new ≡ with_cookies (room_of scenario old) (setting (task ∷ []) cookie)
-sets_one scenario old new task cookie rises there tasks limit next siblings clock ended pid stamp core account =
+    room_of beside new ≡ with_cookies (room_of beside old) (setting (task ∷ []) cookie)
+sets_one beside old new task cookie rises there tasks limit next siblings clock ended pid stamp core account =
     let each = ap (λ (table : Table). table.tasks) tasks ∙ set_each cookie old.tasks.tasks task rises there in
     let limits = ap (λ (table : Table). table.limit) tasks in
     let flags = siblings ∙ flagged_alike task cookie (map sibling_state old.siblings.items) in
     λ i. record {
       task_limit = limits i;
       cookie_limit = limit i;
-      user_top = scenario.user_top;
+      user_top = beside.user_top;
       clock = clock i;
       tasks = each i;
       ended = (ended i).items;
@@ -200,6 +201,7 @@ sets_one scenario old new task cookie rises there tasks limit next siblings cloc
       forced = (account i).count;
       occupation = (account i).occupation;
       started = (account i).started;
+      intervals = beside.intervals;
     }
 
 pub sets_numbers : (numbers : Numbers) (task : Task) (cookie touches : ℕ) (own : List ℕ) → own ≡ numbers.own → touches ≡ cookie_touches cookie task →
@@ -211,13 +213,13 @@ sets_numbers numbers task cookie touches own same is =
 -- ---- a group whose members get a cookie, one after the other
 
 module _ (old now : State) (cookie : ℕ) (left all : List Task)
-    (room : (scenario : Scenario) → with_cookies (room_of scenario now) (setting left cookie) ≡ with_cookies (room_of scenario old) (setting all cookie))
+    (room : (beside : Beside) → with_cookies (room_of beside now) (setting left cookie) ≡ with_cookies (room_of beside old) (setting all cookie))
     (numbers : touched (setting_touches (setting left cookie)) (numbers_of now) ≡ touched (setting_touches (setting all cookie)) (numbers_of old)) where
   -- none is left
   pub group_done : left ≡ [] → SetsCookies old now all cookie
   group_done none = record {
-    room = λ scenario. sym (with_cookies-none (room_of scenario now) cookie)
-        ∙ ap (λ (tasks : List Task). with_cookies (room_of scenario now) (setting tasks cookie)) (sym none) ∙ room scenario;
+    room = λ beside. sym (with_cookies-none (room_of beside now) cookie)
+        ∙ ap (λ (tasks : List Task). with_cookies (room_of beside now) (setting tasks cookie)) (sym none) ∙ room beside;
     numbers = sym (touched_none (numbers_of now))
         ∙ ap (λ (tasks : List Task). touched (setting_touches (setting tasks cookie)) (numbers_of now)) (sym none) ∙ numbers;
   } where
@@ -226,11 +228,11 @@ module _ (old now : State) (cookie : ℕ) (left all : List Task)
 
   -- one more gets it
   pub group_room : (next : State) (task : Task) (rest : List Task) → left ≡ task ∷ rest → SetsCookies now next (task ∷ []) cookie →
-      (scenario : Scenario) → with_cookies (room_of scenario next) (setting rest cookie) ≡ with_cookies (room_of scenario old) (setting all cookie)
-  group_room next task rest is sets scenario =
-      ap (λ (r : RoomState). with_cookies r (setting rest cookie)) (sets.room scenario)
-      ∙ with_cookies-cons (room_of scenario now) task rest cookie
-      ∙ ap (λ (tasks : List Task). with_cookies (room_of scenario now) (setting tasks cookie)) (sym is) ∙ room scenario
+      (beside : Beside) → with_cookies (room_of beside next) (setting rest cookie) ≡ with_cookies (room_of beside old) (setting all cookie)
+  group_room next task rest is sets beside =
+      ap (λ (r : RoomState). with_cookies r (setting rest cookie)) (sets.room beside)
+      ∙ with_cookies-cons (room_of beside now) task rest cookie
+      ∙ ap (λ (tasks : List Task). with_cookies (room_of beside now) (setting tasks cookie)) (sym is) ∙ room beside
 
   pub group_numbers : (next : State) (task : Task) (rest : List Task) → left ≡ task ∷ rest → SetsCookies now next (task ∷ []) cookie →
       touched (setting_touches (setting rest cookie)) (numbers_of next) ≡ touched (setting_touches (setting all cookie)) (numbers_of old)
@@ -266,7 +268,7 @@ named_process count next pgid tasks fit =
 -- no task gets a cookie
 pub sets_none : (state : State) (cookie : ℕ) → SetsCookies state state [] cookie
 sets_none state cookie =
-    group_done state state cookie [] [] (λ scenario. refl) refl refl
+    group_done state state cookie [] [] (λ beside. refl) refl refl
 
 -- the tasks of one list are those of another
 pub sets_alike : (old new : State) (tasks other : List Task) (cookie : ℕ) → tasks ≡ other → SetsCookies old new tasks cookie → SetsCookies old new other cookie
@@ -274,46 +276,66 @@ sets_alike old new tasks other cookie same sets = subst (λ (ts : List Task). Se
 
 -- ---- a call that succeeds
 
-module _ (scenario : Scenario) (old mid after new : State) (pid : ℕ) (ask : Ask) (decision : Decision)
-    (answer : prctl_answer (room_of scenario old) pid ask ≡ decision.reply)
-    (sets : SetsIn (room_of scenario old) pid ask (Go decision))
-    (mid_is : room_of scenario mid ≡ with_made (room_of scenario old) (makes_cookie (room_of scenario old) pid ask))
+module _ (beside : Beside) (old mid after new : State) (pid : ℕ) (ask : Ask) (decision : Decision)
+    (answer : prctl_answer (room_of beside old) pid ask ≡ decision.reply)
+    (sets : SetsIn (room_of beside old) pid ask (Go decision))
+    (mid_is : room_of beside mid ≡ with_made (room_of beside old) (makes_cookie (room_of beside old) pid ask))
     (mid_numbers : numbers_of mid ≡ numbers_of old)
     (made : SetsCookies mid after (named decision.to old.tasks.tasks) decision.cookie)
-    (new_is : room_of scenario new ≡ room_of scenario after)
+    (new_is : room_of beside new ≡ room_of beside after)
     (new_numbers : numbers_of new ≡ numbers_of after) where
   -- the room after it, whatever it sets
-  new_room : room_of scenario new ≡ with_cookies (with_made (room_of scenario old) (makes_cookie (room_of scenario old) pid ask)) (setting (named decision.to old.tasks.tasks) decision.cookie)
-  new_room = new_is ∙ made.room scenario ∙ ap (λ (r : RoomState). with_cookies r (setting (named decision.to old.tasks.tasks) decision.cookie)) mid_is
+  new_room : room_of beside new ≡ with_cookies (with_made (room_of beside old) (makes_cookie (room_of beside old) pid ask)) (setting (named decision.to old.tasks.tasks) decision.cookie)
+  new_room = new_is ∙ made.room beside ∙ ap (λ (r : RoomState). with_cookies r (setting (named decision.to old.tasks.tasks) decision.cookie)) mid_is
 
   all_numbers : numbers_of new ≡ touched (setting_touches (setting (named decision.to old.tasks.tasks) decision.cookie)) (numbers_of old)
   all_numbers = new_numbers ∙ made.numbers ∙ ap (touched (setting_touches (setting (named decision.to old.tasks.tasks) decision.cookie))) mid_numbers
 
-  pub makes_call : IsGranted decision.reply decision → Makes scenario old new (Prctl pid ask) decision.reply
+  pub makes_call : IsGranted decision.reply decision → Makes beside old new (Prctl pid ask) decision.reply
   makes_call granted = by_reply decision.reply refl granted where
-    by_reply : (reply : Reply) → decision.reply ≡ reply → IsGranted reply decision → Makes scenario old new (Prctl pid ask) decision.reply
+    by_reply : (reply : Reply) → decision.reply ≡ reply → IsGranted reply decision → Makes beside old new (Prctl pid ask) decision.reply
     by_reply Zero is granted =
         let set = sets is in
-        record {
+        uncharged (record {
           reply = sym answer;
           room = new_room
-              ∙ ap (with_cookies (with_made (room_of scenario old) (makes_cookie (room_of scenario old) pid ask))) set
-              ∙ ap (with_answer (with_made (room_of scenario old) (makes_cookie (room_of scenario old) pid ask)) (setting_of (room_of scenario old) pid ask)) (sym is ∙ sym answer);
+              ∙ ap (with_cookies (with_made (room_of beside old) (makes_cookie (room_of beside old) pid ask))) set
+              ∙ ap (with_answer (with_made (room_of beside old) (makes_cookie (room_of beside old) pid ask)) (setting_of (room_of beside old) pid ask)) (sym is ∙ sym answer);
           numbers = all_numbers
               ∙ ap (λ (s : Setting). touched (setting_touches s) (numbers_of old)) set
-              ∙ ap (λ r. numbers_after (room_of scenario old) (Prctl pid ask) r (numbers_of old)) (sym is);
-        }
+              ∙ ap (λ r. numbers_after (room_of beside old) (Prctl pid ask) r (numbers_of old)) (sym is);
+        })
     by_reply (Value cookie) is granted =
         let nobody : setting (named decision.to old.tasks.tasks) decision.cookie ≡ setting [] decision.cookie =
         ap (λ t. setting (named t old.tasks.tasks) decision.cookie) granted.0 in
-        record {
+        uncharged (record {
           reply = sym answer;
           room = new_room
-              ∙ ap (with_cookies (with_made (room_of scenario old) (makes_cookie (room_of scenario old) pid ask))) nobody
-              ∙ with_cookies-none (with_made (room_of scenario old) (makes_cookie (room_of scenario old) pid ask)) decision.cookie
-              ∙ ap (with_answer (with_made (room_of scenario old) (makes_cookie (room_of scenario old) pid ask)) (setting_of (room_of scenario old) pid ask)) (sym is ∙ sym answer);
+              ∙ ap (with_cookies (with_made (room_of beside old) (makes_cookie (room_of beside old) pid ask))) nobody
+              ∙ with_cookies-none (with_made (room_of beside old) (makes_cookie (room_of beside old) pid ask)) decision.cookie
+              ∙ ap (with_answer (with_made (room_of beside old) (makes_cookie (room_of beside old) pid ask)) (setting_of (room_of beside old) pid ask)) (sym is ∙ sym answer);
           numbers = all_numbers
               ∙ ap (λ (s : Setting). touched (setting_touches s) (numbers_of old)) nobody
-              ∙ ap (λ r. numbers_after (room_of scenario old) (Prctl pid ask) r (numbers_of old)) (sym is);
-        }
+              ∙ ap (λ r. numbers_after (room_of beside old) (Prctl pid ask) r (numbers_of old)) (sym is);
+        })
     by_reply reply is granted = absurd granted
+
+-- a call that is refused sets nothing
+pub makes_refusal : (beside : Beside) (old new : State) (pid : ℕ) (ask : Ask) (reply : Reply) → IsRefusal reply → prctl_answer (room_of beside old) pid ask ≡ reply →
+    room_of beside new ≡ with_made (room_of beside old) (makes_cookie (room_of beside old) pid ask) → numbers_of new ≡ numbers_of old → Makes beside old new (Prctl pid ask) reply
+makes_refusal beside old new pid ask reply refusal answer room numbers =
+    let made = with_made (room_of beside old) (makes_cookie (room_of beside old) pid ask) in
+    uncharged (record {
+      reply = sym answer;
+      room = room ∙ sets_nothing made reply refusal ∙ ap (with_answer made (setting_of (room_of beside old) pid ask)) (sym answer);
+      numbers = numbers ∙ touches_nothing reply refusal;
+    }) where
+      sets_nothing : (made : RoomState) (reply : Reply) → IsRefusal reply → made ≡ with_answer made (setting_of (room_of beside old) pid ask) reply
+      sets_nothing made NoCaller refusal = refl
+      sets_nothing made (Refused errno) refusal = refl
+      sets_nothing made reply refusal = absurd refusal
+
+      touches_nothing : (reply : Reply) → IsRefusal reply → numbers_of old ≡ numbers_after (room_of beside old) (Prctl pid ask) reply (numbers_of old)
+      touches_nothing NoCaller refusal = untouched (numbers_of old)
+      touches_nothing (Refused errno) refusal = untouched (numbers_of old)
+      touches_nothing reply refusal = absurd refusal

@@ -6,37 +6,36 @@ use Rattle.cs_types.specs.declared.reply.Kind.TheVariants.{Selected, Adopted, Pl
 use Rattle.cs_types.specs.declared.reply.Pick.{Pick}
 use Rattle.cs_types.specs.declared.reply.Reply.TheVariants.{Picked, Slept, Ended}
 use Rattle.cs_types.specs.Room.{RoomState}
-use Rattle.plain_room.specs.State.{Numbers, touched, charged_with, booked, took, numbers_after}
-use Rattle.cs_types.specs.Accounting.{open_interval, interval_by}
+use Rattle.plain_room.specs.State.{Numbers, touched, took, numbers_after}
 
 -- a dequeue touched once, and then a pick was taken
 pub took-touched : (room : RoomState) (cpu pid : ℕ) (pick : Pick) (numbers : Numbers) →
-    took cpu pick (touched 1 (charged_with (open_interval room) numbers)) ≡ numbers_after room (Block cpu) (Slept pid pick) numbers
+    took cpu pick (touched 1 numbers) ≡ numbers_after room (Block cpu) (Slept pid pick) numbers
 took-touched room cpu pid pick numbers = by_kind pick.kind pick.run pick.core pick.forced where
   by_kind : (kind : Kind) (run core forced : ℕ) →
-      took cpu (record { kind = kind; run = run; core = core; forced = forced }) (touched 1 (charged_with (open_interval room) numbers))
+      took cpu (record { kind = kind; run = run; core = core; forced = forced }) (touched 1 numbers)
       ≡ numbers_after room (Block cpu) (Slept pid (record { kind = kind; run = run; core = core; forced = forced })) numbers
-  by_kind Selected run core forced = ap (λ (n : ℕ). record { task = n; pick = n; own = set numbers.own cpu n; books = booked (open_interval room) numbers.books }) (omega arith)
-  by_kind Adopted run core forced = ap (λ (n : ℕ). record { task = n; pick = numbers.pick; own = set numbers.own cpu numbers.pick; books = booked (open_interval room) numbers.books }) (omega arith)
-  by_kind Plain run core forced = ap (λ (n : ℕ). record { task = n; pick = numbers.pick; own = numbers.own; books = booked (open_interval room) numbers.books }) (omega arith)
+  by_kind Selected run core forced = ap (λ (n : ℕ). record { task = n; pick = n; own = set numbers.own cpu n; books = numbers.books }) (omega arith)
+  by_kind Adopted run core forced = ap (λ (n : ℕ). record { task = n; pick = numbers.pick; own = set numbers.own cpu numbers.pick; books = numbers.books }) (omega arith)
+  by_kind Plain run core forced = ap (λ (n : ℕ). record { task = n; pick = numbers.pick; own = numbers.own; books = numbers.books }) (omega arith)
 
 -- and so where the task ended
 pub took-ended : (room : RoomState) (cpu pid : ℕ) (pick : Pick) (numbers : Numbers) →
-    took cpu pick (touched 1 (charged_with (open_interval room) numbers)) ≡ numbers_after room (Exit cpu) (Ended pid pick) numbers
+    took cpu pick (touched 1 numbers) ≡ numbers_after room (Exit cpu) (Ended pid pick) numbers
 took-ended room cpu pid pick numbers = took-touched room cpu pid pick numbers
 
 -- a sibling that schedules takes a pick
 pub took-resched : (room : RoomState) (cpu : ℕ) (pick : Pick) (numbers : Numbers) →
-    took cpu pick (charged_with (interval_by room (Resched cpu) (Picked pick)) numbers) ≡ numbers_after room (Resched cpu) (Picked pick) numbers
+    took cpu pick numbers ≡ numbers_after room (Resched cpu) (Picked pick) numbers
 took-resched room cpu pick numbers = by_kind pick.kind pick.run pick.core pick.forced where
   by_kind : (kind : Kind) (run core forced : ℕ) →
       let taken : Pick = record { kind = kind; run = run; core = core; forced = forced } in
-      took cpu taken (charged_with (interval_by room (Resched cpu) (Picked taken)) numbers) ≡ numbers_after room (Resched cpu) (Picked taken) numbers
+      took cpu taken numbers ≡ numbers_after room (Resched cpu) (Picked taken) numbers
   by_kind Selected run core forced = refl
   by_kind Adopted run core forced = refl
   by_kind Plain run core forced = refl
 
 -- and so at a turn
 pub took-turn : (room : RoomState) (cpu : ℕ) (pick : Pick) (numbers : Numbers) →
-    took cpu pick (charged_with (interval_by room (Resched cpu) (Picked pick)) numbers) ≡ numbers_after room (Turn cpu) (Picked pick) numbers
+    took cpu pick numbers ≡ numbers_after room (Turn cpu) (Picked pick) numbers
 took-turn room cpu pick numbers = took-resched room cpu pick numbers

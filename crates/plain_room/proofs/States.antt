@@ -4,7 +4,11 @@ use Rattle.std.specs.Prelude.{All, IsTrue, Option, Some, None, Result, Ok, IfSom
 use Rattle.std.specs.List.{AllByRecursion}
 use Rattle.std.specs.Result.{IsOk}
 use Rattle.std.specs.Option.{option_map_or}
+use Rattle.cs_types.specs.declared.event.Event.{Event}
 use Rattle.cs_types.specs.declared.reply.Pick.{Pick}
+use Rattle.cs_types.specs.declared.reply.Reply.{Reply}
+use Rattle.cs_types.specs.Accounting.{charge}
+use Rattle.cs_types.specs.Step.{Stepped}
 use Rattle.cs_types.specs.Selection.{cookie_of, Scheduled}
 use Rattle.std.specs.Global.{Vec}
 use Rattle.std.specs.Vec.{with_items}
@@ -15,7 +19,6 @@ use Rattle.std.proofs.Math.Seq.{map-set_same}
 use Rattle.std.proofs.lemmas.Bool.{cond_both, cond-false, ne_eqb, eqb-true}
 use Rattle.forceidle_account.specs.Charges.{Charges, has_total}
 use Rattle.cs_types.specs.declared.task.TaskSpec.{TaskSpec}
-use Rattle.cs_types.specs.declared.scenario.Scenario.{Scenario}
 use Rattle.cs_types.specs.Scenario.{IsTask, IsPolicy, AreDistinct}
 use Rattle.cs_types.specs.Room.{RoomState, first_pid, asleep, inserted, asleep_tasks, absent, has_pid}
 use Rattle.task_table.specs.Table.{Table, Rises, add_answer}
@@ -25,7 +28,7 @@ use Rattle.cs_types.proofs.Inserted.{All-inserted, each-inserted}
 use Rattle.cs_types.proofs.Tasks.{length-asleep_tasks, below_first_pid}
 use Rattle.task_table.proofs.Tables.{changed_each}
 use Rattle.cookie_refs.specs.Refs.{Refs, references, AgreeBut}
-use Rattle.plain_room.specs.State.{sibling_state, IsFit, Knows, IsSound, room_of, Schedules, ChargesAndSchedules}
+use Rattle.plain_room.specs.State.{Beside, beside_after, sibling_state, IsFit, Knows, IsSound, room_of, numbers_of, took, booked, IsBooked, numbers_after, Schedules, ChargesAndSchedules, MakesStep}
 use Rattle.plain_room.specs.declared.state.State.{State}
 use Rattle.plain_room.specs.declared.choice.Choice.{Choice}
 use Rattle.plain_room.specs.Choice.{task_after_choices}
@@ -234,9 +237,9 @@ added_ok table specs limit i d answer tasks same is distinct below few =
 
 -- ---- what holds of every room of a state
 
--- some scenario: what is said of a state under every scenario is said of it
-pub some_scenario : Scenario
-some_scenario = record { siblings = 0; task_limit = 0; cookie_limit = 0; user_top = 0; tasks = []; steps = [] }
+-- something beside a state: what is said of the state with anything beside it is said with this
+pub some_beside : Beside
+some_beside = record { user_top = 0; intervals = [] }
 
 -- the policies of a sound state keep their limits
 pub policies : (count : ℕ) (state : State) → IsSound count state → All (λ task. IsPolicy task.spec.policy) state.tasks.tasks
@@ -245,20 +248,58 @@ policies count state sound =
 
 -- a charging schedule by one change is one by another that does the same in the old room
 pub ChargesAndSchedules-same : (old new : State) (cpu : ℕ) (chosen : Pick) (change other : RoomState → Scheduled) →
-    ((scenario : Scenario) → other (room_of scenario old) ≡ change (room_of scenario old)) → ChargesAndSchedules old new cpu chosen change → ChargesAndSchedules old new cpu chosen other
+    ((beside : Beside) → other (room_of beside old) ≡ change (room_of beside old)) → ChargesAndSchedules old new cpu chosen change → ChargesAndSchedules old new cpu chosen other
 ChargesAndSchedules-same old new cpu chosen change other same schedules =
     record {
-      pick = λ scenario. schedules.pick scenario ∙ ap (λ (made : Scheduled). made.pick) (sym (same scenario));
-      room = λ scenario. schedules.room scenario ∙ ap (λ (made : Scheduled). made.room) (sym (same scenario));
-      numbers = schedules.numbers;
+      pick = λ beside. schedules.pick beside ∙ ap (λ (made : Scheduled). made.pick) (sym (same beside));
+      room = λ beside. subst (λ (made : Scheduled). room_of (beside_after beside made.room) new ≡ made.room) (sym (same beside)) (schedules.room beside);
+      numbers = λ beside kept. schedules.numbers beside kept
+          ∙ ap (λ (made : Scheduled). took cpu chosen (booked made.room (numbers_of old))) (sym (same beside));
+    }
+
+-- the state stands for a room of which it has all but what is beside it
+pub stands : (beside : Beside) (state : State) (room : RoomState) → room_of beside state ≡ room → room_of (beside_after beside room) state ≡ room
+stands beside state room is = subst (λ (r : RoomState). room_of (beside_after beside r) state ≡ r) is refl
+
+-- what a step makes that charges nothing
+pub record MakesUncharged (beside : Beside) (old new : State) (event : Event) (answer : Reply) (made : Stepped) : Type 0 where
+  pub reply : answer ≡ made.reply
+  pub room : room_of beside new ≡ made.room
+  pub numbers : numbers_of new ≡ numbers_after (room_of beside old) event answer (numbers_of old)
+
+pub uncharged : {beside : Beside} {old new : State} {event : Event} {answer : Reply} {made : Stepped} →
+    MakesUncharged beside old new event answer made → MakesStep beside old new event answer made
+uncharged {beside} {old} {new} {event} {answer} {made} is =
+    record {
+      reply = is.reply;
+      room = stands beside new made.room is.room;
+      numbers = λ kept. is.numbers
+          ∙ ap (numbers_after (room_of beside old) event answer) (kept ∙ ap (λ (room : RoomState). booked room (numbers_of old)) is.room);
+    }
+
+-- what a step makes that charges, and then leaves the intervals as they are
+pub record MakesOnceCharged (beside : Beside) (old new : State) (event : Event) (answer : Reply) (made : Stepped) : Type 0 where
+  pub reply : answer ≡ made.reply
+  pub room : room_of (beside_after beside (charge (room_of beside old))) new ≡ made.room
+  pub numbers : IsBooked (room_of beside old) old →
+      numbers_of new ≡ numbers_after (room_of beside old) event answer (booked (charge (room_of beside old)) (numbers_of old))
+
+pub once_charged : {beside : Beside} {old new : State} {event : Event} {answer : Reply} {made : Stepped} →
+    MakesOnceCharged beside old new event answer made → MakesStep beside old new event answer made
+once_charged {beside} {old} {new} {event} {answer} {made} is =
+    record {
+      reply = is.reply;
+      room = stands (beside_after beside (charge (room_of beside old))) new made.room is.room;
+      numbers = λ kept. is.numbers kept
+          ∙ ap (λ (room : RoomState). numbers_after (room_of beside old) event answer (booked room (numbers_of old))) is.room;
     }
 
 -- a schedule by one change is one by another that does the same in the old room
 pub Schedules-same : (old new : State) (cpu : ℕ) (chosen : Pick) (change other : RoomState → Scheduled) →
-    ((scenario : Scenario) → other (room_of scenario old) ≡ change (room_of scenario old)) → Schedules old new cpu chosen change → Schedules old new cpu chosen other
+    ((beside : Beside) → other (room_of beside old) ≡ change (room_of beside old)) → Schedules old new cpu chosen change → Schedules old new cpu chosen other
 Schedules-same old new cpu chosen change other same schedules =
     record {
-      pick = λ scenario. schedules.pick scenario ∙ ap (λ (made : Scheduled). made.pick) (sym (same scenario));
-      room = λ scenario. schedules.room scenario ∙ ap (λ (made : Scheduled). made.room) (sym (same scenario));
+      pick = λ beside. schedules.pick beside ∙ ap (λ (made : Scheduled). made.pick) (sym (same beside));
+      room = λ beside. schedules.room beside ∙ ap (λ (made : Scheduled). made.room) (sym (same beside));
       numbers = schedules.numbers;
     }

@@ -13,6 +13,7 @@ use Rattle.cs_types.specs.View.{cpu_view, task_after, task_view, forced_of}
 use Rattle.forceidle_account.specs.Charges.{total_at}
 use Rattle.cs_types.specs.History.{History, moment_of, fold_of, ledger_of}
 use Rattle.plain_room.specs.State.{sibling_state, sibling_view, room_of, Numbers, IsSound}
+use Rattle.plain_room.specs.Inside.{beside_at}
 use Rattle.plain_room.specs.declared.sibling.Sibling.{Sibling}
 use Rattle.plain_room.specs.declared.state.State.{State}
 use Rattle.cs_types.specs.declared.task.Task.{Task}
@@ -23,14 +24,14 @@ use Rattle.plain_room.proofs.Machines.{Folds}
 
 -- a task that is found in the state is shown as the fold shows it
 pub task_shown : {most : ℕ} (scenario : Scenario) (state : State) (entries : History) (pid : ℕ) (task : Option Task) → Folds scenario most state entries →
-    task ≡ task_after (room_of scenario state) pid →
-    option_map (task_view (ledger_of scenario entries)) task ≡ option_map (task_view (ledger_of scenario entries)) (task_after (fold_of scenario entries) pid)
+    task ≡ task_after (room_of (beside_at scenario entries) state) pid →
+    option_map (task_view (fold_of scenario entries)) task ≡ option_map (task_view (fold_of scenario entries)) (task_after (fold_of scenario entries) pid)
 task_shown scenario state entries pid task folds found =
-    ap (option_map (task_view (ledger_of scenario entries))) (found ∙ ap (λ (room : RoomState). task_after room pid) folds.fold)
+    ap (option_map (task_view (fold_of scenario entries))) (found ∙ ap (λ (room : RoomState). task_after room pid) folds.fold)
 
 -- what a task was charged is kept as the history has it
 pub total_kept : {most : ℕ} (scenario : Scenario) (state : State) (entries : History) (pid : ℕ) → Folds scenario most state entries →
-    total_at state.totals pid ≡ forced_of (ledger_of scenario entries) pid
+    total_at state.totals pid ≡ forced_of (fold_of scenario entries) pid
 total_kept scenario state entries pid folds = ap (λ (numbers : Numbers). numbers.books.totals pid) folds.numbers
 
 -- ---- a sibling

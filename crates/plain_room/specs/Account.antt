@@ -2,8 +2,8 @@
 use Rattle.std.specs.Prelude.{ℕ, Bool, ◌==◌, ◌&&◌, not, List, Some, map}
 use Rattle.std.specs.List.{list_any}
 use Rattle.cs_types.specs.declared.task.Task.{Task}
-use Rattle.cs_types.specs.Room.{SiblingState}
-use Rattle.cs_types.specs.Selection.{is_run, to_run}
+use Rattle.cs_types.specs.Room.{SiblingState, to_run}
+use Rattle.cs_types.specs.Selection.{is_run}
 use Rattle.plain_room.specs.declared.sibling.Sibling.{Sibling}
 use Rattle.plain_room.specs.State.{sibling_state}
 

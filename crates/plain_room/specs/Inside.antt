@@ -4,8 +4,8 @@ use Rattle.cs_types.specs.declared.event.Step.{Step}
 use Rattle.cs_types.specs.declared.reply.Entry.{Entry}
 use Rattle.cs_types.specs.declared.scenario.Scenario.{Scenario}
 use Rattle.cs_types.specs.Scenario.{IsPlayable}
-use Rattle.cs_types.specs.History.{AreEvents, fold_of, ledger_of, history_of}
-use Rattle.plain_room.specs.State.{room_of, IsSound, numbers_of, numbers_at}
+use Rattle.cs_types.specs.History.{AreEvents, moment_of, fold_of, history_of}
+use Rattle.plain_room.specs.State.{Beside, room_of, IsSound, numbers_of, numbers_at}
 use Rattle.plain_room.specs.Machine.{Machine}
 use Rattle.plain_room.specs.declared.room.PlainRoom.TheInside.{Inside}
 
@@ -25,13 +25,17 @@ machine_of room =
 abbrev pub most_entries : Scenario → ℕ
 most_entries scenario = length scenario.steps + scenario.siblings * scenario.siblings
 
+-- what is beside the state after a history
+abbrev pub beside_at : Scenario → List Entry → Beside
+beside_at scenario history = record { user_top = scenario.user_top; intervals = (fold_of scenario history).intervals }
+
 -- the entries are the history of their steps, and the state is its fold
 pub record IsFold (room : Inside) : Type 0 where
   pub playable : IsPlayable room.scenario
   pub events : AreEvents room.scenario room.entries.items
   pub history : room.entries.items ≡ history_of room.scenario (steps_of room.entries.items)
-  pub fold : room_of room.scenario room.state ≡ fold_of room.scenario room.entries.items
-  pub numbers : numbers_of room.state ≡ numbers_at room.scenario (most_entries room.scenario) (ledger_of room.scenario room.entries.items)
+  pub fold : room_of (beside_at room.scenario room.entries.items) room.state ≡ fold_of room.scenario room.entries.items
+  pub numbers : numbers_of room.state ≡ numbers_at room.scenario (most_entries room.scenario) (moment_of room.scenario room.entries.items)
   pub sound : IsSound room.scenario.siblings room.state
   -- so no task that ends takes memory
   pub room_for_ended : vec_capacity room.entries ≤ vec_capacity room.state.ended

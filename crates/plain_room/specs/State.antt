@@ -1,24 +1,26 @@
 -- What the lists of the state stand for.
-use Rattle.std.specs.Prelude.{◌≡◌, ℕ, ◌+◌, ◌^◌, ◌*◌, ◌≤◌, ◌<◌, ◌&&◌, ◌||◌, ◌==◌, nat_lt, Bool, if◌then◌else◌, List, length, map, find, Option, Some, None, All, IsTrue, slice_set, is_some, unwrap_or}
+use Rattle.std.specs.Prelude.{◌≡◌, ℕ, ◌+◌, ◌^◌, ◌*◌, ◌≤◌, ◌<◌, ◌&&◌, ◌||◌, ◌==◌, nat_lt, Bool, if◌then◌else◌, List, length, map, find, Some, All, IsTrue, slice_set, is_some, unwrap_or}
 use Rattle.std.specs.List.{range_with_len}
 use Rattle.std.specs.Option.{option_map_or}
 use Rattle.cs_types.specs.declared.event.Event.{Event}
-use Rattle.cs_types.specs.declared.event.Event.TheVariants.{Turn, Resched}
+use Rattle.cs_types.specs.declared.event.Event.TheVariants.{Turn}
 use Rattle.cs_types.specs.declared.reply.Pick.{Pick}
 use Rattle.cs_types.specs.declared.reply.Reply.{Reply}
 use Rattle.cs_types.specs.declared.task.Task.{Task}
 use Rattle.cs_types.specs.declared.scenario.Scenario.{Scenario}
 use Rattle.cs_types.specs.declared.view.CpuView.{CpuView}
 use Rattle.cs_types.specs.Scenario.{IsPolicy}
-use Rattle.cs_types.specs.Room.{SiblingState, RoomState, first_pid, has_pid}
+use Rattle.cs_types.specs.Room.{SiblingState, RoomState, Interval, first_pid, has_pid}
 use Rattle.task_table.specs.Table.{IsSound as IsTable}
 use Rattle.cookie_refs.specs.Refs.{AgreeBut}
 use Rattle.cs_types.specs.Selection.{Scheduled}
-use Rattle.cs_types.specs.Touches.{Ledger, intervals_of, task_number, pick_number, own_number, is_selected, is_adopted, pick_touches, pick_of, selection_of, scheduler_of, touches_by}
+use Rattle.cs_types.specs.Touches.{task_number, pick_number, own_number, is_selected, is_adopted, pick_touches, pick_of, selection_of, scheduler_of, touches_by}
 use Rattle.cs_types.specs.Steal.{stolen}
-use Rattle.cs_types.specs.Step.{try_steal, step}
+use Rattle.cs_types.specs.Step.{Stepped, try_steal, step}
+use Rattle.cs_types.specs.Time.{IsTimely}
+use Rattle.cs_types.specs.Accounting.{total_of, Interval, share, charges, interval_by}
+use Rattle.cs_types.specs.History.{Moment}
 use Rattle.cs_types.proofs.Timely.{IsTimely}
-use Rattle.cs_types.specs.Accounting.{Interval, share, charges, total_of, interval_by}
 use Rattle.cs_types.specs.declared.reply.Reply.TheVariants.{Picked}
 use Rattle.forceidle_account.specs.Charges.{has_total, total_at}
 use Rattle.plain_room.specs.declared.sibling.Sibling.{Sibling}
@@ -45,13 +47,22 @@ abbrev pub sibling_view : Sibling → CpuView
 sibling_view sibling =
     record { online = sibling.online; run = unwrap_or sibling.run 0; number = sibling.number; pending = sibling.pending }
 
--- the room that the state stands for, of a scenario
-abbrev pub room_of : Scenario → State → RoomState
-room_of scenario state =
+-- what a room has and its state does not keep: the limit of user addresses, and the recorded intervals
+pub record Beside : Type 0 where
+  pub user_top : ℕ
+  pub intervals : List Interval
+
+-- the same with the intervals of this room
+abbrev pub beside_after : Beside → RoomState → Beside
+beside_after beside room = record beside { intervals = room.intervals }
+
+-- the room that the state stands for, with what is beside it
+abbrev pub room_of : Beside → State → RoomState
+room_of beside state =
     record {
       task_limit = state.tasks.limit;
       cookie_limit = state.refs.limit;
-      user_top = scenario.user_top;
+      user_top = beside.user_top;
       clock = state.clock;
       tasks = state.tasks.tasks;
       ended = state.ended.items;
@@ -63,6 +74,7 @@ room_of scenario state =
       forced = state.account.count;
       occupation = state.account.occupation;
       started = state.account.started;
+      intervals = beside.intervals;
     }
 
 -- the task has a pid below the next, is at home on one of this number of siblings, and its policy keeps its limits
@@ -81,7 +93,7 @@ Has state task = find (has_pid task.spec.pid) state.tasks.tasks ≡ Some task
 pub record IsOnTime (state : State) : Type 0 where
   pub entries : ℕ
   pub few : entries < 2 ^ 17
-  pub timely : (scenario : Scenario) → IsTimely entries (room_of scenario state)
+  pub timely : (beside : Beside) → IsTimely entries (room_of beside state)
   pub clock : state.clock + 1000000000 < 2 ^ 56
 
 -- the open interval did not begin later than now, and no number of the books overflows where it is charged
@@ -119,7 +131,12 @@ StaysSound old new = (count : ℕ) → IsSound count old → IsSound count new
 
 -- the room of the new state is that of the old one after this change
 abbrev pub Becomes : State → State → (RoomState → RoomState) → Type 0
-Becomes old new change = (scenario : Scenario) → room_of scenario new ≡ change (room_of scenario old)
+Becomes old new change = (beside : Beside) → room_of beside new ≡ change (room_of beside old)
+
+-- the same where the change charges
+abbrev pub BecomesCharged : State → State → (RoomState → RoomState) → Type 0
+BecomesCharged old new change =
+    (beside : Beside) → let now = change (room_of beside old) in room_of (beside_after beside now) new ≡ now
 
 -- ---- the numbers
 
@@ -138,16 +155,6 @@ books_of state =
       places = state.totals.spare + state.next_pid;
     }
 
--- what an interval charges the task with the pid
-abbrev pub owed : ℕ → Interval → ℕ
-owed pid interval = if charges pid interval then share interval else 0
-
--- the books once an interval was recorded, or none
-abbrev pub booked : Option Interval → Books → Books
-booked None books = books
-booked (Some interval) books =
-    record books { intervals = books.intervals + 1; totals = λ pid. books.totals pid + owed pid interval }
-
 -- the task number, the pick number, each sibling's own number, and the books
 pub record Numbers : Type 0 where
   pub task : ℕ
@@ -164,27 +171,29 @@ numbers_of state =
       books = books_of state;
     }
 
--- the numbers once an interval was recorded, or none
-abbrev pub charged_with : Option Interval → Numbers → Numbers
-charged_with interval numbers = record numbers { books = booked interval numbers.books }
-
--- the books of a ledger: at most this number of entries is made, so no more pids may come
-abbrev pub books_at : Scenario → ℕ → Ledger → Books
-books_at scenario most ledger =
-    record {
-      intervals = length (intervals_of ledger);
-      totals = λ pid. total_of pid (intervals_of ledger);
-      places = most + first_pid scenario.tasks;
+-- the numbers whose books are those of the room's recorded intervals
+abbrev pub booked : RoomState → Numbers → Numbers
+booked room numbers =
+    record numbers {
+      books = record numbers.books { intervals = length room.intervals; totals = λ pid. total_of pid room.intervals };
     }
 
--- the numbers of a ledger
-abbrev pub numbers_at : Scenario → ℕ → Ledger → Numbers
-numbers_at scenario most ledger =
+-- the books of the state are those of the room's recorded intervals
+abbrev pub IsBooked : RoomState → State → Type 0
+IsBooked room state = numbers_of state ≡ booked room (numbers_of state)
+
+-- the numbers of a moment: at most this number of entries is made, so no more pids may come
+abbrev pub numbers_at : Scenario → ℕ → Moment → Numbers
+numbers_at scenario most moment =
     record {
-      task = task_number ledger;
-      pick = pick_number ledger;
-      own = map (λ cpu. own_number cpu ledger) (range_with_len 0 scenario.siblings);
-      books = books_at scenario most ledger;
+      task = task_number moment.ledger;
+      pick = pick_number moment.ledger;
+      own = map (λ cpu. own_number cpu moment.ledger) (range_with_len 0 scenario.siblings);
+      books = record {
+        intervals = length moment.room.intervals;
+        totals = λ pid. total_of pid moment.room.intervals;
+        places = most + first_pid scenario.tasks;
+      };
     }
 
 -- the numbers once the queues were touched so often
@@ -211,16 +220,16 @@ is_fresh_by numbers = nat_lt 0 numbers.pick && (numbers.pick == numbers.task)
 
 -- the new state and the pick are those of a schedule of the sibling, which a change of the room is
 pub record Schedules (old new : State) (cpu : ℕ) (chosen : Pick) (change : RoomState → Scheduled) : Type 0 where
-  pub pick : (scenario : Scenario) → chosen ≡ (change (room_of scenario old)).pick
-  pub room : (scenario : Scenario) → room_of scenario new ≡ (change (room_of scenario old)).room
+  pub pick : (beside : Beside) → chosen ≡ (change (room_of beside old)).pick
+  pub room : (beside : Beside) → room_of beside new ≡ (change (room_of beside old)).room
   pub numbers : numbers_of new ≡ took cpu chosen (numbers_of old)
 
--- the same of a schedule that first charges the open interval, unless it adopts
+-- the same of a schedule that charges the open interval, unless it adopts
 pub record ChargesAndSchedules (old new : State) (cpu : ℕ) (chosen : Pick) (change : RoomState → Scheduled) : Type 0 where
-  pub pick : (scenario : Scenario) → chosen ≡ (change (room_of scenario old)).pick
-  pub room : (scenario : Scenario) → room_of scenario new ≡ (change (room_of scenario old)).room
-  pub numbers : (scenario : Scenario) →
-      numbers_of new ≡ took cpu chosen (charged_with (interval_by (room_of scenario old) (Resched cpu) (Picked chosen)) (numbers_of old))
+  pub pick : (beside : Beside) → chosen ≡ (change (room_of beside old)).pick
+  pub room : BecomesCharged old new (λ room. (change room).room)
+  pub numbers : (beside : Beside) → IsBooked (room_of beside old) old →
+      numbers_of new ≡ took cpu chosen (booked (change (room_of beside old)).room (numbers_of old))
 
 -- each sibling's own number: that of the one whose pick of a selection for the core this is becomes the pick number
 abbrev pub own_after : Event → Reply → ℕ → List ℕ → List ℕ
@@ -238,17 +247,23 @@ numbers_after room event answer numbers =
       task = task;
       pick = pick;
       own = own_after event answer pick numbers.own;
-      books = booked (interval_by room event answer) numbers.books;
+      books = numbers.books;
     }
 
--- the new state and the reply are those of the event's step from the old one
-pub record Makes (scenario : Scenario) (old new : State) (event : Event) (answer : Reply) : Type 0 where
-  pub reply : answer ≡ (step (room_of scenario old) (is_fresh_by (numbers_of old)) event).reply
-  pub room : room_of scenario new ≡ (step (room_of scenario old) (is_fresh_by (numbers_of old)) event).room
-  pub numbers : numbers_of new ≡ numbers_after (room_of scenario old) event answer (numbers_of old)
+-- the new state and the reply are those that this was made of the old one by an event
+pub record MakesStep (beside : Beside) (old new : State) (event : Event) (answer : Reply) (made : Stepped) : Type 0 where
+  pub reply : answer ≡ made.reply
+  pub room : room_of (beside_after beside made.room) new ≡ made.room
+  pub numbers : IsBooked (room_of beside old) old →
+      numbers_of new ≡ numbers_after (room_of beside old) event answer (booked made.room (numbers_of old))
+
+-- those of the event's step from the old one
+abbrev pub Makes : Beside → State → State → Event → Reply → Type 0
+Makes beside old new event answer =
+    MakesStep beside old new event answer (step (room_of beside old) (is_fresh_by (numbers_of old)) event)
 
 -- the new state and the reply are those of a steal try of the sibling
 pub record TriesToSteal (old new : State) (thief : ℕ) (answer : Reply) : Type 0 where
-  pub reply : (scenario : Scenario) → answer ≡ (try_steal (room_of scenario old) thief (stolen (room_of scenario old) thief)).reply
-  pub room : (scenario : Scenario) → room_of scenario new ≡ (try_steal (room_of scenario old) thief (stolen (room_of scenario old) thief)).room
-  pub numbers : (scenario : Scenario) → numbers_of new ≡ numbers_after (room_of scenario old) (Turn thief) answer (numbers_of old)
+  pub reply : (beside : Beside) → answer ≡ (try_steal (room_of beside old) thief (stolen (room_of beside old) thief)).reply
+  pub room : (beside : Beside) → room_of beside new ≡ (try_steal (room_of beside old) thief (stolen (room_of beside old) thief)).room
+  pub numbers : (beside : Beside) → numbers_of new ≡ numbers_after (room_of beside old) (Turn thief) answer (numbers_of old)

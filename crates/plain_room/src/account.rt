@@ -3,11 +3,10 @@
 
 ghost use Rattle.std.specs.Prelude.{ℕ, true, length, IfOk, ◌≡◌, ◌+◌, ◌^◌, ◌<◌, ◌&&◌, ◌==◌, not, if◌then◌else◌, All, IsTrue};
 ghost use Rattle.std.specs.List.{list_any};
-ghost use Rattle.cs_types.specs.declared.scenario.Scenario.{Scenario};
-ghost use Rattle.cs_types.specs.Accounting.{open_interval, accounted};
+ghost use Rattle.cs_types.specs.Accounting.{charge};
 ghost use Rattle.cs_types.specs.Room.{has_pid};
 ghost use Rattle.forceidle_account.specs.Charges.{has_total, total_at};
-ghost use Rattle.plain_room.specs.State.{room_of, IsSound, IsPaid, StaysSound, Becomes, numbers_of, charged_with};
+ghost use Rattle.plain_room.specs.State.{Beside, room_of, IsSound, IsPaid, StaysSound, BecomesCharged, IsBooked, numbers_of, booked};
 ghost use Rattle.plain_room.specs.Account.{is_charged, is_charged_as};
 
 use crate::sibling::Sibling;
@@ -76,10 +75,11 @@ impl State {
     pub fn charge(&mut self)
         requires sound { IsSound (length self.old.siblings.items) self.old }
         requires paid { IsPaid self.old }
-        ensures room { Becomes self.old self.new accounted }
+        ensures room { BecomesCharged self.old self.new charge }
         ensures sound { StaysSound self.old self.new }
         ensures siblings { self.new.siblings ≡ self.old.siblings }
-        ensures numbers { (scenario : Scenario) → numbers_of self.new ≡ charged_with (open_interval (room_of scenario self.old)) (numbers_of self.old) }
+        ensures numbers { (beside : Beside) → IsBooked (room_of beside self.old) self.old →
+            numbers_of self.new ≡ booked (charge (room_of beside self.old)) (numbers_of self.old) }
         ensures ended { self.new.ended ≡ self.old.ended }
         ensures rest { self.new ≡ record self.old { account = self.new.account; totals = self.new.totals } }
     {

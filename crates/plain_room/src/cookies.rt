@@ -1,14 +1,13 @@
 //! Cookies: what a plan of `prctl` sets.
 
 ghost use Rattle.std.specs.Prelude.{◌≡◌, ◌+◌, ◌*◌, ◌^◌, ◌<◌, ◌≤◌, ◌∷◌, [], length, map, IfSome, IfNone};
-ghost use Rattle.cs_types.specs.declared.scenario.Scenario.{Scenario};
 ghost use Rattle.cs_types.specs.declared.event.Event.TheVariants.{Prctl};
 ghost use Rattle.cs_types.specs.Scenario.{IsWithin};
 ghost use Rattle.cs_types.specs.Room.{online as siblings_online};
 ghost use Rattle.cs_types.specs.Touches.{cookie_touches};
 ghost use Rattle.task_table.specs.Group.{group_above};
 ghost use Rattle.prctl_core.specs.Plan.{named};
-ghost use Rattle.plain_room.specs.State.{sibling_state, room_of, Has, IsSound, IsSoundBut, StaysSound, numbers_of, Makes};
+ghost use Rattle.plain_room.specs.State.{Beside, sibling_state, room_of, Has, IsSound, IsSoundBut, StaysSound, numbers_of, Makes};
 ghost use Rattle.plain_room.specs.Cookies.{flagged_for, SetsCookies};
 
 use crate::sibling::Sibling;
@@ -42,7 +41,7 @@ impl State {
     /// How many siblings are online.
     pub fn online_count(&self) -> u8
         requires { length self.now.siblings.items ≤ 16 }
-        ensures { (scenario : Scenario) → result ≡ length (siblings_online (room_of scenario self.now)) }
+        ensures { (beside : Beside) → result ≡ length (siblings_online (room_of beside self.now)) }
     {
         self.siblings
             .iter()
@@ -122,8 +121,8 @@ impl State {
         requires sound { IsSound (length self.old.siblings.items) self.old }
         requires touches { self.old.task_number + 2 * length self.old.tasks.tasks + 2 < 2 ^ 64 }
         requires serial { self.old.refs.next < 2 ^ 63 }
-        ensures makes { (scenario : Scenario) → scenario.user_top ≡ user_top →
-            Makes scenario self.old self.new (Prctl pid ask) result }
+        ensures makes { (beside : Beside) → beside.user_top ≡ user_top →
+            Makes beside self.old self.new (Prctl pid ask) result }
         ensures sound { StaysSound self.old self.new }
         ensures ended { self.new.ended ≡ self.old.ended }
     {

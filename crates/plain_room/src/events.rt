@@ -1,12 +1,11 @@
 //! What each event does to the state.
 
 ghost use Rattle.std.specs.Prelude.{◌≡◌, ◌+◌, ◌*◌, ◌^◌, ◌<◌, ◌≤◌, Some, All, length, vec_len, vec_capacity};
-ghost use Rattle.cs_types.specs.declared.scenario.Scenario.{Scenario};
 ghost use Rattle.cs_types.specs.Scenario.{IsWithin, IsPolicy, IsEvent};
 ghost use Rattle.cs_types.specs.Room.{sibling_of, flagged};
 ghost use Rattle.cs_types.specs.Selection.{is_run};
 ghost use Rattle.cs_types.specs.Queueing.{dequeued, queued_at_home};
-ghost use Rattle.plain_room.specs.State.{room_of, Knows, IsSound, IsOnTime, IsPaid, StaysSound, Becomes, numbers_of, touched, Makes};
+ghost use Rattle.plain_room.specs.State.{Beside, room_of, Knows, IsSound, IsOnTime, IsPaid, StaysSound, Becomes, numbers_of, touched, Makes};
 ghost use Rattle.cs_types.specs.Step.{child_at_home};
 
 use crate::state::State;
@@ -25,7 +24,7 @@ impl State {
         requires places { All (λ sibling. sibling.place + 1 < 2 ^ 32) self.old.siblings.items }
         requires stamp { self.old.next_stamp + 1 < 2 ^ 64 }
         requires touches { self.old.task_number + 2 < 2 ^ 64 }
-        ensures makes { (scenario : Scenario) → Makes scenario self.old self.new (Event.Turn cpu) result }
+        ensures makes { (beside : Beside) → Makes beside self.old self.new (Event.Turn cpu) result }
         ensures sound { StaysSound self.old self.new }
         ensures ended { self.new.ended ≡ self.old.ended }
     {
@@ -49,7 +48,7 @@ impl State {
         requires time { IsOnTime self.old }
         requires paid { IsPaid self.old }
         requires touches { self.old.task_number + 1 < 2 ^ 64 }
-        ensures makes { (scenario : Scenario) → Makes scenario self.old self.new (Event.Resched cpu) result }
+        ensures makes { (beside : Beside) → Makes beside self.old self.new (Event.Resched cpu) result }
         ensures sound { StaysSound self.old self.new }
         ensures ended { self.new.ended ≡ self.old.ended }
     {
@@ -68,7 +67,7 @@ impl State {
         requires cpu { cpu < length self.old.siblings.items }
         requires few { length self.old.siblings.items ≤ 16 }
         requires touches { self.old.task_number + 2 < 2 ^ 64 }
-        ensures makes { (scenario : Scenario) → Makes scenario self.old self.new (Event.Block cpu) result }
+        ensures makes { (beside : Beside) → Makes beside self.old self.new (Event.Block cpu) result }
         ensures sound { StaysSound self.old self.new }
         ensures ended { self.new.ended ≡ self.old.ended }
     {
@@ -94,7 +93,7 @@ impl State {
         requires time { IsOnTime self.old }
         requires stamp { self.old.next_stamp + 1 < 2 ^ 64 }
         requires touches { self.old.task_number + 1 < 2 ^ 64 }
-        ensures makes { (scenario : Scenario) → Makes scenario self.old self.new (Event.Wake pid) result }
+        ensures makes { (beside : Beside) → Makes beside self.old self.new (Event.Wake pid) result }
         ensures sound { StaysSound self.old self.new }
         ensures ended { self.new.ended ≡ self.old.ended }
     {
@@ -118,7 +117,7 @@ impl State {
         requires few { length self.old.siblings.items ≤ 16 }
         requires touches { self.old.task_number + 2 < 2 ^ 64 }
         requires spare { vec_len self.old.ended < vec_capacity self.old.ended }
-        ensures makes { (scenario : Scenario) → Makes scenario self.old self.new (Event.Exit cpu) result }
+        ensures makes { (beside : Beside) → Makes beside self.old self.new (Event.Exit cpu) result }
         ensures sound { StaysSound self.old self.new }
         ensures ended { vec_capacity self.new.ended ≡ vec_capacity self.old.ended }
     {
@@ -145,7 +144,7 @@ impl State {
     fn child_at_home(&self, child: Task) -> Task
         requires home { child.home < length self.now.siblings.items }
         requires few { length self.now.siblings.items ≤ 16 }
-        ensures child_at_home { (scenario : Scenario) → result ≡ child_at_home (room_of scenario self.now) child }
+        ensures child_at_home { (beside : Beside) → result ≡ child_at_home (room_of beside self.now) child }
         ensures within { result.home < length self.now.siblings.items }
     {
         let home = self.online_home(child.home);
@@ -166,7 +165,7 @@ impl State {
         requires places { 0 < self.old.totals.spare }
         requires pid { self.old.next_pid + 1 < 2 ^ 32 }
         requires touches { self.old.task_number + 1 < 2 ^ 64 }
-        ensures makes { (scenario : Scenario) → Makes scenario self.old self.new (Event.Fork caller thread) result }
+        ensures makes { (beside : Beside) → Makes beside self.old self.new (Event.Fork caller thread) result }
         ensures sound { StaysSound self.old self.new }
         ensures ended { self.new.ended ≡ self.old.ended }
     {
@@ -208,7 +207,7 @@ impl State {
         requires clock { self.old.clock + 1000000000 < 2 ^ 56 }
         requires stamp { self.old.next_stamp + 1 < 2 ^ 64 }
         requires touches { self.old.task_number + 2 < 2 ^ 64 }
-        ensures makes { (scenario : Scenario) → Makes scenario self.old self.new (Event.SetSched pid policy) result }
+        ensures makes { (beside : Beside) → Makes beside self.old self.new (Event.SetSched pid policy) result }
         ensures sound { StaysSound self.old self.new }
         ensures ended { self.new.ended ≡ self.old.ended }
     {
@@ -241,7 +240,8 @@ impl State {
         requires spare { vec_len self.old.ended < vec_capacity self.old.ended }
         requires touches { self.old.task_number + 2 * length self.old.tasks.tasks + 2 < 2 ^ 64 }
         requires user_top { IsWithin 8192 9223372036854775807 scenario.now.user_top }
-        ensures makes { Makes scenario.now self.old self.new event result }
+        ensures makes { (beside : Beside) → beside.user_top ≡ scenario.now.user_top →
+            Makes beside self.old self.new event result }
         ensures sound { StaysSound self.old self.new }
         ensures ended { vec_capacity self.new.ended ≡ vec_capacity self.old.ended }
     {

@@ -2,11 +2,10 @@
 
 ghost use Rattle.std.specs.Prelude.{◌≡◌, ◌+◌, ◌*◌, ◌^◌, ◌<◌, ◌≤◌, length, map};
 ghost use Rattle.std.specs.List.{enumerate_from};
-ghost use Rattle.cs_types.specs.declared.scenario.Scenario.{Scenario};
 ghost use Rattle.cs_types.specs.declared.event.Event.TheVariants.{Offline, Online};
 ghost use Rattle.cs_types.specs.Room.{queued_on};
-ghost use Rattle.cs_types.specs.Hotplug.{lowest_other, moved_off, away, back};
-ghost use Rattle.plain_room.specs.State.{sibling_state, room_of, IsSound, IsOnTime, IsPaid, StaysSound, Becomes, numbers_of, touched, Makes};
+ghost use Rattle.cs_types.specs.Hotplug.{lowest_other, moved_off, away, leave, back};
+ghost use Rattle.plain_room.specs.State.{Beside, sibling_state, room_of, IsSound, IsOnTime, IsPaid, StaysSound, Becomes, BecomesCharged, IsBooked, numbers_of, booked, touched, Makes};
 ghost use Rattle.plain_room.specs.Hotplug.{left, count_before, new_stamp, with_moves};
 
 use crate::sibling::Sibling;
@@ -41,7 +40,7 @@ impl State {
     fn lowest_other(&self, cpu: Cpu) -> Cpu
         requires few { length self.now.siblings.items ≤ 16 }
         requires some { 0 < length self.now.siblings.items }
-        ensures lowest { (scenario : Scenario) → result ≡ lowest_other (room_of scenario self.now) cpu }
+        ensures lowest { (beside : Beside) → result ≡ lowest_other (room_of beside self.now) cpu }
         ensures within { result < length self.now.siblings.items }
     {
         for other in 0..self.siblings.len() {
@@ -54,7 +53,7 @@ impl State {
 
     /// How many tasks are queued on the sibling.
     fn queued_count(&self, cpu: Cpu) -> u64
-        ensures count { (scenario : Scenario) → result ≡ length (queued_on (room_of scenario self.now) cpu) }
+        ensures count { (beside : Beside) → result ≡ length (queued_on (room_of beside self.now) cpu) }
         ensures few { result ≤ length self.now.tasks.tasks }
     {
         self.tasks
@@ -91,13 +90,13 @@ impl State {
 
     /// The tasks of the sibling move to the other, with these stamps.
     fn move_tasks(&mut self, cpu: Cpu, to: Cpu, stamps: &[u64])
-        requires to { (scenario : Scenario) → to ≡ lowest_other (room_of scenario self.old) cpu }
+        requires to { (beside : Beside) → to ≡ lowest_other (room_of beside self.old) cpu }
         requires within { to < length self.old.siblings.items }
         requires stamps { stamps.now ≡ map (new_stamp self.old.tasks.tasks cpu self.old.next_stamp) self.old.tasks.tasks }
         requires sound { IsSound (length self.old.siblings.items) self.old }
         requires time { IsOnTime self.old }
-        ensures tasks { (scenario : Scenario) → self.new.tasks ≡ record self.old.tasks {
-          tasks = map (moved_off (room_of scenario self.old) cpu) self.old.tasks.tasks;
+        ensures tasks { (beside : Beside) → self.new.tasks ≡ record self.old.tasks {
+          tasks = map (moved_off (room_of beside self.old) cpu) self.old.tasks.tasks;
         } }
         ensures rest { self.new ≡ record self.old { tasks = self.new.tasks } }
         ensures sound { StaysSound self.old self.new }
@@ -126,8 +125,8 @@ impl State {
         ensures room { Becomes self.old self.new (λ room. with_moves room cpu) }
         ensures sound { StaysSound self.old self.new }
         ensures siblings { self.new.siblings ≡ self.old.siblings }
-        ensures numbers { (scenario : Scenario) → numbers_of self.new ≡
-            touched (2 * length (queued_on (room_of scenario self.old) cpu)) (numbers_of self.old) }
+        ensures numbers { (beside : Beside) → numbers_of self.new ≡
+            touched (2 * length (queued_on (room_of beside self.old) cpu)) (numbers_of self.old) }
         ensures ended { self.new.ended ≡ self.old.ended }
     {
         let count = self.queued_count(cpu);
@@ -138,8 +137,31 @@ impl State {
         self.task_number += 2 * count;
     }
 
-    /// The sibling leaves the core, unless it is offline already or the last. The open interval is charged
-    /// first.
+    /// The sibling leaves the core. The open interval is charged, and none stays open. The tasks move, and
+    /// each other online sibling is pending.
+    fn leave(&mut self, cpu: Cpu)
+        requires cpu { cpu < length self.old.siblings.items }
+        requires few { length self.old.siblings.items ≤ 16 }
+        requires sound { IsSound (length self.old.siblings.items) self.old }
+        requires time { IsOnTime self.old }
+        requires paid { IsPaid self.old }
+        requires tasks { length self.old.tasks.tasks ≤ 256 }
+        requires stamp { self.old.next_stamp + length self.old.tasks.tasks < 2 ^ 64 }
+        requires touches { self.old.task_number + 2 * length self.old.tasks.tasks < 2 ^ 64 }
+        ensures room { BecomesCharged self.old self.new (λ room. leave room cpu) }
+        ensures sound { StaysSound self.old self.new }
+        ensures numbers { (beside : Beside) → IsBooked (room_of beside self.old) self.old → numbers_of self.new ≡
+            touched (2 * length (queued_on (room_of beside self.old) cpu))
+            (booked (leave (room_of beside self.old) cpu) (numbers_of self.old)) }
+        ensures ended { self.new.ended ≡ self.old.ended }
+    {
+        self.charge();
+        self.account.close();
+        self.move_off(cpu);
+        set_away(&mut self.siblings, cpu);
+    }
+
+    /// The sibling leaves the core, unless it is offline already or the last.
     pub fn offline(&mut self, cpu: Cpu) -> Reply
         requires cpu { cpu < length self.old.siblings.items }
         requires few { length self.old.siblings.items ≤ 16 }
@@ -149,7 +171,7 @@ impl State {
         requires tasks { length self.old.tasks.tasks ≤ 256 }
         requires stamp { self.old.next_stamp + length self.old.tasks.tasks < 2 ^ 64 }
         requires touches { self.old.task_number + 2 * length self.old.tasks.tasks < 2 ^ 64 }
-        ensures makes { (scenario : Scenario) → Makes scenario self.old self.new (Offline cpu) result }
+        ensures makes { (beside : Beside) → Makes beside self.old self.new (Offline cpu) result }
         ensures sound { StaysSound self.old self.new }
         ensures ended { self.new.ended ≡ self.old.ended }
     {
@@ -159,17 +181,14 @@ impl State {
         if self.online_count() == 1 {
             return Reply::Refused(Errno::Ebusy);
         }
-        self.charge();
-        self.account.close();
-        self.move_off(cpu);
-        set_away(&mut self.siblings, cpu);
+        self.leave(cpu);
         Reply::Done
     }
 
     /// The sibling comes back, unless it is online already.
     pub fn online(&mut self, cpu: Cpu) -> Reply
         requires cpu { cpu < length self.old.siblings.items }
-        ensures makes { (scenario : Scenario) → Makes scenario self.old self.new (Online cpu) result }
+        ensures makes { (beside : Beside) → Makes beside self.old self.new (Online cpu) result }
         ensures sound { StaysSound self.old self.new }
         ensures ended { self.new.ended ≡ self.old.ended }
     {

@@ -1,9 +1,8 @@
 //! How a task comes and goes.
 
 ghost use Rattle.std.specs.Prelude.{◌≡◌, ◌+◌, ◌^◌, ◌<◌, false, length, vec_len, vec_capacity, IfOk};
-ghost use Rattle.cs_types.specs.declared.scenario.Scenario.{Scenario};
 ghost use Rattle.cs_types.specs.Step.{has_threads, without};
-ghost use Rattle.plain_room.specs.State.{room_of, Has, IsSound, StaysSound, Becomes, numbers_of, touched};
+ghost use Rattle.plain_room.specs.State.{Beside, room_of, Has, IsSound, StaysSound, Becomes, numbers_of, touched};
 ghost use Rattle.plain_room.specs.Life.{MakesChild};
 
 use crate::state::State;
@@ -15,7 +14,7 @@ impl State {
     pub fn end(&mut self, task: Task)
         requires there { Has self.old task }
         requires sound { IsSound (length self.old.siblings.items) self.old }
-        requires alone { (scenario : Scenario) → has_threads (room_of scenario self.old) task ≡ false }
+        requires alone { (beside : Beside) → has_threads (room_of beside self.old) task ≡ false }
         requires touches { self.old.task_number + 1 < 2 ^ 64 }
         requires spare { vec_len self.old.ended < vec_capacity self.old.ended }
         ensures room { Becomes self.old self.new (λ room. without room task) }

@@ -1,11 +1,10 @@
 //! How a task comes to a sibling's queue, leaves it, and moves to another.
 
 ghost use Rattle.std.specs.Prelude.{◌≡◌, ◌+◌, ◌^◌, ◌<◌, ◌≤◌, length, All};
-ghost use Rattle.cs_types.specs.declared.scenario.Scenario.{Scenario};
 ghost use Rattle.cs_types.specs.Scenario.{IsPolicy};
 ghost use Rattle.cs_types.specs.Room.{is_online, lowest_online};
 ghost use Rattle.cs_types.specs.Queueing.{enqueued, dequeued, moved_to, online_home, rehomed, preempts, refreshed, queued_at_home};
-ghost use Rattle.plain_room.specs.State.{room_of, Knows, StaysSound, Becomes, numbers_of, touched};
+ghost use Rattle.plain_room.specs.State.{Beside, room_of, Knows, StaysSound, Becomes, numbers_of, touched};
 
 use crate::state::State;
 use crate::task::is_higher;
@@ -52,7 +51,7 @@ impl State {
     /// Whether the sibling is online.
     pub fn is_online(&self, cpu: Cpu) -> bool
         requires { cpu < length self.now.siblings.items }
-        ensures { (scenario : Scenario) → result ≡ is_online (room_of scenario self.now) cpu }
+        ensures { (beside : Beside) → result ≡ is_online (room_of beside self.now) cpu }
     {
         self.siblings[cpu as usize].online
     }
@@ -61,7 +60,7 @@ impl State {
     fn lowest_online(&self) -> Cpu
         requires few { length self.now.siblings.items ≤ 16 }
         requires some { 0 < length self.now.siblings.items }
-        ensures lowest { (scenario : Scenario) → result ≡ lowest_online (room_of scenario self.now) }
+        ensures lowest { (beside : Beside) → result ≡ lowest_online (room_of beside self.now) }
         ensures within { result < length self.now.siblings.items }
     {
         for cpu in 0..self.siblings.len() {
@@ -76,7 +75,7 @@ impl State {
     pub fn online_home(&self, cpu: Cpu) -> Cpu
         requires cpu { cpu < length self.now.siblings.items }
         requires few { length self.now.siblings.items ≤ 16 }
-        ensures home { (scenario : Scenario) → result ≡ online_home (room_of scenario self.now) cpu }
+        ensures home { (beside : Beside) → result ≡ online_home (room_of beside self.now) cpu }
         ensures within { result < length self.now.siblings.items }
     {
         if self.is_online(cpu) {
@@ -93,7 +92,7 @@ impl State {
         requires home { task.home < length self.now.siblings.items }
         requires vtime { task.vtime < 2 ^ 126 }
         requires leasts { All (λ sibling. sibling.least < 2 ^ 126) self.now.siblings.items }
-        ensures { (scenario : Scenario) → result ≡ moved_to (room_of scenario self.now) cpu task }
+        ensures { (beside : Beside) → result ≡ moved_to (room_of beside self.now) cpu task }
     {
         let ahead = task
             .vtime
@@ -111,7 +110,7 @@ impl State {
         requires home { task.home < length self.now.siblings.items }
         requires vtime { task.vtime < 2 ^ 126 }
         requires leasts { All (λ sibling. sibling.least < 2 ^ 126) self.now.siblings.items }
-        ensures rehomed { (scenario : Scenario) → result ≡ rehomed (room_of scenario self.now) task }
+        ensures rehomed { (beside : Beside) → result ≡ rehomed (room_of beside self.now) task }
         ensures within { result.home < length self.now.siblings.items }
     {
         if self.is_online(task.home) {
@@ -124,7 +123,7 @@ impl State {
     /// Whether the task, once it is queued, asks its sibling to reschedule: that runs idle or a lower one.
     fn preempts(&self, task: &Task) -> bool
         requires { task.now.home < length self.now.siblings.items }
-        ensures { (scenario : Scenario) → result ≡ preempts (room_of scenario self.now) task.now }
+        ensures { (beside : Beside) → result ≡ preempts (room_of beside self.now) task.now }
     {
         match self.running_on(task.home) {
             None => true,
@@ -138,7 +137,7 @@ impl State {
         requires home { task.home < length self.now.siblings.items }
         requires policy { IsPolicy task.spec.policy }
         requires clock { self.now.clock + 1000000000 < 2 ^ 56 }
-        ensures refreshed { (scenario : Scenario) → result ≡ refreshed (room_of scenario self.now) task }
+        ensures refreshed { (beside : Beside) → result ≡ refreshed (room_of beside self.now) task }
         ensures spec { result.spec ≡ task.spec }
         ensures cookie { result.cookie ≡ task.cookie }
         ensures home { result.home ≡ task.home }

@@ -1,13 +1,13 @@
 //! A schedule, in its three cases.
 
 ghost use Rattle.std.specs.Prelude.{◌≡◌, ◌+◌, ◌^◌, ◌<◌, ◌≤◌, length, filter, ◌==◌, ◌&&◌, ◌||◌, not, is_some, None, if◌then◌else◌};
-ghost use Rattle.cs_types.specs.declared.scenario.Scenario.{Scenario};
 ghost use Rattle.cs_types.specs.Room.{sibling_of};
 ghost use Rattle.cs_types.specs.Selection.{cookie_of, lead_from, pid_of, choice, forced_count, is_plain, adopted, plain, selected_room, selected, picked_anew, balanced, schedule};
+ghost use Rattle.cs_types.specs.Accounting.{charge};
 ghost use Rattle.cs_types.specs.Drain.{lowest, pending};
 ghost use Rattle.task_table.specs.Table.{IsSound as IsTable};
 ghost use Rattle.plain_room.specs.Drain.{next_by};
-ghost use Rattle.plain_room.specs.State.{Schedules, ChargesAndSchedules, IsSound, IsOnTime, IsPaid, StaysSound, Becomes, room_of, numbers_of, is_fresh_by};
+ghost use Rattle.plain_room.specs.State.{Beside, Schedules, ChargesAndSchedules, IsSound, IsOnTime, IsPaid, StaysSound, Becomes, room_of, numbers_of, is_fresh_by};
 
 use crate::choice::{forced_count, occupation, update_siblings, update_tasks};
 use crate::selection::is_fair_task;
@@ -76,11 +76,11 @@ impl State {
         requires cpu { cpu < length self.old.siblings.items }
         requires few { length self.old.siblings.items ≤ 16 }
         requires table { IsTable self.old.tasks }
-        requires lead { (scenario : Scenario) → core ≡ cookie_of (lead_from (room_of scenario self.old) cpu) }
+        requires lead { (beside : Beside) → core ≡ cookie_of (lead_from (room_of beside self.old) cpu) }
         requires clock { self.old.clock < 2 ^ 56 }
         ensures room { Becomes self.old self.new (λ room. selected_room room cpu core) }
-        ensures run { (scenario : Scenario) → result ≡ pid_of (choice (room_of scenario self.old) core cpu) }
-        ensures forced { (scenario : Scenario) → self.new.account.count ≡ forced_count (room_of scenario self.old) core }
+        ensures run { (beside : Beside) → result ≡ pid_of (choice (room_of beside self.old) core cpu) }
+        ensures forced { (beside : Beside) → self.new.account.count ≡ forced_count (room_of beside self.old) core }
         ensures numbers { numbers_of self.new ≡ numbers_of self.old }
         ensures sound { StaysSound self.old self.new }
         ensures ended { self.new.ended ≡ self.old.ended }
@@ -122,7 +122,7 @@ impl State {
 
     /// Whether no cookie takes part in a schedule of the sibling.
     fn is_plain(&self, cpu: Cpu) -> bool
-        ensures { (scenario : Scenario) → result ≡ is_plain (room_of scenario self.now) cpu }
+        ensures { (beside : Beside) → result ≡ is_plain (room_of beside self.now) cpu }
     {
         let cookie = self.first_on(cpu).map_or(0, |task| task.cookie);
         is_cookieless(self.core_cookie, self.account.count(), cookie)
@@ -146,7 +146,7 @@ impl State {
         }
     }
 
-    /// The sibling picks anew, once the open interval is charged.
+    /// The sibling picks anew.
     pub fn pick_and_balance(&mut self, cpu: Cpu) -> Pick
         requires cpu { cpu < length self.old.siblings.items }
         requires few { length self.old.siblings.items ≤ 16 }
@@ -170,7 +170,7 @@ impl State {
         requires time { IsOnTime self.old }
         requires paid { IsPaid self.old }
         requires touches { self.old.task_number + 1 < 2 ^ 64 }
-        ensures schedules { ChargesAndSchedules self.old self.new cpu result (λ room. balanced cpu (picked_anew room cpu)) }
+        ensures schedules { ChargesAndSchedules self.old self.new cpu result (λ room. balanced cpu (picked_anew (charge room) cpu)) }
         ensures sound { StaysSound self.old self.new }
         ensures ended { self.new.ended ≡ self.old.ended }
     {
@@ -181,8 +181,8 @@ impl State {
     /// What waits for the sibling and may be adopted: nothing was touched since it was chosen.
     fn adoptable(&self, cpu: Cpu) -> Option<Option<Pid>>
         requires { cpu < length self.now.siblings.items }
-        ensures { (scenario : Scenario) → result ≡
-            (if is_fresh_by (numbers_of self.now) then (sibling_of (room_of scenario self.now) cpu).waiting else None) }
+        ensures { (beside : Beside) → result ≡
+            (if is_fresh_by (numbers_of self.now) then (sibling_of (room_of beside self.now) cpu).waiting else None) }
     {
         if self.is_fresh() {
             self.siblings[cpu as usize].waiting
@@ -215,8 +215,8 @@ impl State {
     /// The lowest pending sibling that passes: where the test says so, only one for which something waits.
     fn lowest_pending(&self, has_waiting: bool) -> Option<Cpu>
         requires { length self.now.siblings.items ≤ 16 }
-        ensures { (scenario : Scenario) → result ≡ lowest (filter
-            (λ cpu. not has_waiting || is_some (sibling_of (room_of scenario self.now) cpu).waiting) (pending (room_of scenario self.now))) }
+        ensures { (beside : Beside) → result ≡ lowest (filter
+            (λ cpu. not has_waiting || is_some (sibling_of (room_of beside self.now) cpu).waiting) (pending (room_of beside self.now))) }
     {
         for cpu in 0..self.siblings.len() {
             if self.siblings[cpu].is_due(has_waiting) {
@@ -230,7 +230,7 @@ impl State {
     /// adoption, and where there is none, the lowest pending one.
     pub fn next_to_schedule(&self) -> Option<Cpu>
         requires { length self.now.siblings.items ≤ 16 }
-        ensures { (scenario : Scenario) → result ≡ next_by (room_of scenario self.now) (is_fresh_by (numbers_of self.now)) }
+        ensures { (beside : Beside) → result ≡ next_by (room_of beside self.now) (is_fresh_by (numbers_of self.now)) }
     {
         if self.is_fresh() {
             self.lowest_pending(true).or(self.lowest_pending(false))

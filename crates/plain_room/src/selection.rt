@@ -5,11 +5,10 @@ ghost use Rattle.std.specs.Prelude.{◌≡◌, ◌+◌, ◌-◌, ◌<◌, ◌≤
 ghost use Rattle.std.specs.List.{range_with_len};
 ghost use Rattle.std.specs.Option.{option_map};
 ghost use Rattle.arrayvec.specs.ArrayVec.{array_vec_len};
-ghost use Rattle.cs_types.specs.declared.scenario.Scenario.{Scenario};
 ghost use Rattle.cs_types.specs.Room.{is_online};
 ghost use Rattle.cs_types.specs.Order.{first_of};
 ghost use Rattle.cs_types.specs.Selection.{first_on, queued_with, is_fair_task, choice, lead_from};
-ghost use Rattle.plain_room.specs.State.{room_of, IsSound, IsOnTime};
+ghost use Rattle.plain_room.specs.State.{Beside, room_of, IsSound, IsOnTime};
 ghost use Rattle.plain_room.specs.Choice.{choice_at};
 
 use crate::choice::{Choice, Choices};
@@ -21,7 +20,7 @@ use cs_types::{Cookie, Cpu, Task};
 impl State {
     /// The first task queued on a sibling, none for idle.
     pub fn first_on(&self, cpu: Cpu) -> Option<Task>
-        ensures { (scenario : Scenario) → result ≡ first_on (room_of scenario self.now) cpu }
+        ensures { (beside : Beside) → result ≡ first_on (room_of beside self.now) cpu }
     {
         self.tasks
             .iter()
@@ -36,8 +35,8 @@ impl State {
 
     /// The first task queued on a sibling that has the cookie. None has cookie 0 here.
     fn first_with(&self, cookie: Cookie, cpu: Cpu) -> Option<Task>
-        ensures { (scenario : Scenario) → result ≡
-            (if cookie == 0 then None else first_of (queued_with (room_of scenario self.now) cookie cpu)) }
+        ensures { (beside : Beside) → result ≡
+            (if cookie == 0 then None else first_of (queued_with (room_of beside self.now) cookie cpu)) }
     {
         if cookie == 0 {
             return None;
@@ -56,8 +55,8 @@ impl State {
     /// The task that a sibling with this first task gets for a core cookie, none for idle.
     #[tactic(auto, unfolding(cs_types::specs::Selection::choice))]
     fn choice(&self, first: Option<Task>, core: Cookie, cpu: Cpu) -> Option<Task>
-        ensures { (scenario : Scenario) → first ≡ first_on (room_of scenario self.now) cpu →
-            result ≡ choice (room_of scenario self.now) core cpu }
+        ensures { (beside : Beside) → first ≡ first_on (room_of beside self.now) cpu →
+            result ≡ choice (room_of beside self.now) core cpu }
     {
         match first {
             Some(task) if task.cookie != core => self.first_with(core, cpu),
@@ -68,7 +67,7 @@ impl State {
     /// What a sibling gets for a core cookie.
     fn choice_at(&self, core: Cookie, cpu: Cpu) -> Choice
         requires { cpu < length self.now.siblings.items }
-        ensures { (scenario : Scenario) → result ≡ choice_at (room_of scenario self.now) core cpu }
+        ensures { (beside : Beside) → result ≡ choice_at (room_of beside self.now) core cpu }
     {
         let first = self.first_on(cpu);
         let chosen = self.choice(first, core, cpu);
@@ -84,8 +83,8 @@ impl State {
     /// What each sibling gets for a core cookie.
     pub fn choices(&self, core: Cookie) -> Choices
         requires { length self.now.siblings.items ≤ 16 }
-        ensures each { (scenario : Scenario) → result.items ≡
-            map (choice_at (room_of scenario self.now) core) (range_with_len 0 (length self.now.siblings.items)) }
+        ensures each { (beside : Beside) → result.items ≡
+            map (choice_at (room_of beside self.now) core) (range_with_len 0 (length self.now.siblings.items)) }
         ensures length { length result.items ≡ length self.now.siblings.items }
     {
         let mut choices = Choices::new();
@@ -101,8 +100,8 @@ impl State {
         requires within { to ≤ length self.now.siblings.items }
         requires few { length self.now.siblings.items ≤ 16 }
         requires spare { array_vec_len firsts.old + (to - from) ≤ 16 }
-        ensures pushed { (scenario : Scenario) → firsts.new.items ≡ firsts.old.items
-            ++ map (first_on (room_of scenario self.now)) (filter (is_online (room_of scenario self.now)) (range_with_len from (to - from))) }
+        ensures pushed { (beside : Beside) → firsts.new.items ≡ firsts.old.items
+            ++ map (first_on (room_of beside self.now)) (filter (is_online (room_of beside self.now)) (range_with_len from (to - from))) }
         ensures length { array_vec_len firsts.new ≤ array_vec_len firsts.old + (to - from) }
     {
         for cpu in from..to {
@@ -118,7 +117,7 @@ impl State {
         requires few { length self.now.siblings.items ≤ 16 }
         requires sound { IsSound (length self.now.siblings.items) self.now }
         requires time { IsOnTime self.now }
-        ensures { (scenario : Scenario) → result ≡ lead_from (room_of scenario self.now) cpu }
+        ensures { (beside : Beside) → result ≡ lead_from (room_of beside self.now) cpu }
     {
         let mut firsts = Firsts::new();
         self.push_firsts(&mut firsts, cpu as usize, self.siblings.len());

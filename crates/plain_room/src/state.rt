@@ -3,10 +3,10 @@
 //! keeps beside.
 
 ghost use Rattle.std.specs.Prelude.{◌≡◌, ◌+◌, ◌^◌, ◌<◌, ◌≤◌, length, find, [], Option, IfOk, IfSome, ◌==◌, if◌then◌else◌, map, replicate, All, vec_capacity};
-ghost use Rattle.cs_types.specs.declared.scenario.Scenario.{Scenario};
 ghost use Rattle.cs_types.specs.Scenario.{IsPlayable, IsPolicy, AreDistinct};
 ghost use Rattle.cs_types.specs.Room.{start, first_pid, asleep_tasks, has_pid, running_on, with_task, flagged};
 ghost use Rattle.cs_types.specs.Step.{idled};
+ghost use Rattle.cs_types.specs.History.{beginning};
 ghost use Rattle.cs_types.specs.View.{task_after};
 ghost use Rattle.task_table.specs.Table.{IsSound as IsTable};
 
@@ -46,7 +46,7 @@ pub struct State {
 }
 
 impl State {
-    ghost use Rattle.plain_room.specs.State.{room_of, IsFit, Has, Knows, IsSound, StaysSound, Becomes, numbers_of, numbers_at, touched, is_fresh_by};
+    ghost use Rattle.plain_room.specs.State.{Beside, room_of, IsFit, Has, Knows, IsSound, StaysSound, Becomes, numbers_of, numbers_at, touched, is_fresh_by};
 
     /// The start of a scenario: all tasks asleep at home, all siblings idle. It can take `most` entries.
     pub fn start(
@@ -57,10 +57,10 @@ impl State {
     ) -> Result<State, OutOfMemory>
         requires playable { IsPlayable scenario.now }
         requires most { most < 2 ^ 32 }
-        ensures room { IfOk result (λ state. room_of scenario.now state ≡ start scenario.now) }
+        ensures room { IfOk result (λ state. room_of (record { user_top = scenario.now.user_top; intervals = [] }) state ≡ start scenario.now) }
         ensures sound { IfOk result (IsSound scenario.now.siblings) }
         ensures room_for_ended { IfOk result (λ state. most ≤ vec_capacity state.ended) }
-        ensures numbers { IfOk result (λ state. numbers_of state ≡ numbers_at scenario.now most []) }
+        ensures numbers { IfOk result (λ state. numbers_of state ≡ numbers_at scenario.now most (beginning scenario.now)) }
     {
         let tasks = asleep_tasks(alloc, scenario.task_limit, scenario.tasks.items())?;
         let refs = CookieRefs::with_limit(alloc, scenario.cookie_limit)?;
@@ -96,7 +96,7 @@ impl State {
     /// The task that a sibling runs, none where it runs idle.
     pub fn running_on(&self, cpu: Cpu) -> Option<Task>
         requires { cpu < length self.now.siblings.items }
-        ensures task { (scenario : Scenario) → result ≡ running_on (room_of scenario self.now) cpu }
+        ensures task { (beside : Beside) → result ≡ running_on (room_of beside self.now) cpu }
         ensures there { IfSome result (Has self.now) }
         ensures fit { (count : _) → IsSound count self.now → IfSome result (IsFit count self.now.next_pid) }
     {
@@ -105,7 +105,7 @@ impl State {
 
     /// The living task with the least pid above this one.
     pub fn task_after(&self, pid: Pid) -> Option<Task>
-        ensures { (scenario : Scenario) → result ≡ task_after (room_of scenario self.now) pid }
+        ensures { (beside : Beside) → result ≡ task_after (room_of beside self.now) pid }
     {
         let next = self.tasks.next_in(Group::All, pid)?;
         self.tasks.find(next).copied()

@@ -2,13 +2,12 @@
 //! cookie on another.
 
 ghost use Rattle.std.specs.Prelude.{◌≡◌, ◌+◌, ◌^◌, ◌<◌, ◌≤◌, ◌&&◌, ◌==◌, length, filter, not, is_none, IfSome, All, if◌then◌else◌};
-ghost use Rattle.cs_types.specs.declared.scenario.Scenario.{Scenario};
 ghost use Rattle.cs_types.specs.Room.{sibling_of};
 ghost use Rattle.cs_types.specs.Order.{first_of};
 ghost use Rattle.cs_types.specs.Selection.{first_on, queued_with, is_to_steal};
 ghost use Rattle.cs_types.specs.Steal.{source_of, may_steal, stolen, with_place, with_stolen, next_place};
 ghost use Rattle.cs_types.specs.Step.{Stepped, try_steal};
-ghost use Rattle.plain_room.specs.State.{sibling_state, room_of, Has, IsFit, IsSound, IsOnTime, StaysSound, Becomes, numbers_of, touched, TriesToSteal};
+ghost use Rattle.plain_room.specs.State.{Beside, sibling_state, room_of, Has, IsFit, IsSound, IsOnTime, StaysSound, Becomes, numbers_of, touched, TriesToSteal};
 
 use crate::sibling::Sibling;
 use crate::state::State;
@@ -33,7 +32,7 @@ impl State {
     /// a cookie, and a task is queued on it.
     fn is_to_steal(&self, cpu: Cpu) -> bool
         requires { cpu < length self.now.siblings.items }
-        ensures { (scenario : Scenario) → result ≡ is_to_steal (room_of scenario self.now) cpu }
+        ensures { (beside : Beside) → result ≡ is_to_steal (room_of beside self.now) cpu }
     {
         self.account.count() != 0
             && self.siblings[cpu as usize].run.is_none()
@@ -59,7 +58,7 @@ impl State {
     fn source_of(&self, cpu: Cpu) -> Cpu
         requires cpu { cpu < length self.now.siblings.items }
         requires few { length self.now.siblings.items ≤ 16 }
-        ensures source { (scenario : Scenario) → result ≡ source_of (room_of scenario self.now) cpu }
+        ensures source { (beside : Beside) → result ≡ source_of (room_of beside self.now) cpu }
         ensures within { result < length self.now.siblings.items }
     {
         let place = self.siblings[cpu as usize].place as usize;
@@ -70,7 +69,7 @@ impl State {
     fn first_to_steal(&self, thief: Cpu, source: Cpu) -> Option<Task>
         requires thief { thief < length self.now.siblings.items }
         requires source { source < length self.now.siblings.items }
-        ensures { (scenario : Scenario) → let room = room_of scenario self.now in
+        ensures { (beside : Beside) → let room = room_of beside self.now in
             result ≡ first_of (filter (may_steal (sibling_of room thief) (sibling_of room source)) (queued_with room room.core_cookie source)) }
     {
         let idle = &self.siblings[thief as usize];
@@ -94,8 +93,8 @@ impl State {
     fn stolen(&self, thief: Cpu, source: Cpu) -> Option<Task>
         requires thief { thief < length self.now.siblings.items }
         requires within { source < length self.now.siblings.items }
-        requires source { (scenario : Scenario) → source ≡ source_of (room_of scenario self.now) thief }
-        ensures stolen { (scenario : Scenario) → result ≡ stolen (room_of scenario self.now) thief }
+        requires source { (beside : Beside) → source ≡ source_of (room_of beside self.now) thief }
+        ensures stolen { (beside : Beside) → result ≡ stolen (room_of beside self.now) thief }
     {
         if self.core_cookie == 0 || self.siblings[thief as usize].run.is_some() {
             return None;
@@ -106,7 +105,7 @@ impl State {
     /// Whether a sibling idles with no task queued on it while some sibling is forced idle.
     fn is_left_idle(&self, cpu: Cpu) -> bool
         requires { cpu < length self.now.siblings.items }
-        ensures { (scenario : Scenario) → let room = room_of scenario self.now in
+        ensures { (beside : Beside) → let room = room_of beside self.now in
             result ≡ (is_none (first_on room cpu) && is_none (sibling_of room cpu).run && not (room.forced == 0)) }
     {
         self.first_on(cpu).is_none()
@@ -118,7 +117,7 @@ impl State {
     fn steal(&mut self, thief: Cpu, source: Cpu, task: Task)
         requires thief { thief < length self.old.siblings.items }
         requires within { source < length self.old.siblings.items }
-        requires source { (scenario : Scenario) → source ≡ source_of (room_of scenario self.old) thief }
+        requires source { (beside : Beside) → source ≡ source_of (room_of beside self.old) thief }
         requires there { Has self.old task }
         requires sound { IsSound (length self.old.siblings.items) self.old }
         requires time { IsOnTime self.old }
@@ -143,7 +142,7 @@ impl State {
         requires cpu { cpu < length self.now.siblings.items }
         requires few { length self.now.siblings.items ≤ 16 }
         requires place { All (λ sibling. sibling.place + 1 < 2 ^ 32) self.now.siblings.items }
-        ensures { (scenario : Scenario) → result ≡ next_place (room_of scenario self.now) cpu }
+        ensures { (beside : Beside) → result ≡ next_place (room_of beside self.now) cpu }
     {
         let next = self.siblings[cpu as usize].place + 1;
         if next as usize == self.siblings.len() {

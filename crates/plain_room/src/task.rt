@@ -4,7 +4,7 @@ ghost use Rattle.std.specs.Prelude.{◌≡◌};
 ghost use Rattle.cs_types.specs.Order.{class_of, priority_of, is_fair, goes_before, is_higher_here};
 ghost use Rattle.cs_types.specs.Step.{with_policy};
 ghost use Rattle.cs_types.specs.View.{task_view, forced_of};
-ghost use Rattle.cs_types.specs.Touches.{Ledger};
+ghost use Rattle.cs_types.specs.Room.{RoomState};
 
 use cs_types::{Policy, Task, TaskSpec, TaskView};
 use sibling_priority::{DEADLINE, FAIR, REAL_TIME, STOP};
@@ -79,7 +79,7 @@ pub fn goes_before(task: &Task, other: &Task) -> bool
 
 /// What a machine shows of the task, which was charged this for forced idle, in ns.
 pub fn view(task: &Task, forced: u64) -> TaskView
-    ensures { (ledger : Ledger) → forced ≡ forced_of ledger task.now.spec.pid → result ≡ task_view ledger task.now }
+    ensures { (room : RoomState) → forced ≡ forced_of room task.now.spec.pid → result ≡ task_view room task.now }
 {
     TaskView {
         pid: task.spec.pid,

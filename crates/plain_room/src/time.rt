@@ -3,14 +3,13 @@
 
 ghost use Rattle.std.specs.Prelude.{◌≡◌, ◌+◌, ◌*◌, ◌^◌, ◌<◌, ◌≤◌, ◌==◌, ◌&&◌, ◌||◌, not, length, map, All};
 ghost use Rattle.std.specs.List.{list_any, enumerate_from};
-ghost use Rattle.cs_types.specs.declared.scenario.Scenario.{Scenario};
 ghost use Rattle.cs_types.specs.declared.event.Event.TheVariants.{Tick, Advance};
 ghost use Rattle.cs_types.specs.Scenario.{IsPolicy, IsWithin};
 ghost use Rattle.cs_types.specs.Order.{is_fair};
 ghost use Rattle.cs_types.specs.Time as time;
 ghost use Rattle.cs_types.specs.Time.{grown_by, with_growth, with_leasts, has_used_slice, is_peer, rotates, is_overtaken, is_to_yield, asks_at_tick, sliced};
 ghost use Rattle.task_table.specs.Table.{Rises};
-ghost use Rattle.plain_room.specs.State.{sibling_state, room_of, Has, IsSound, IsOnTime, IsPaid, StaysSound, Becomes, numbers_of, Makes};
+ghost use Rattle.plain_room.specs.State.{Beside, sibling_state, room_of, Has, IsSound, IsOnTime, IsPaid, StaysSound, Becomes, numbers_of, Makes};
 ghost use Rattle.plain_room.specs.Time.{is_run_by, grown_among, aged, smallest_among, least_among, renewed, any_other};
 
 use crate::sibling::Sibling;
@@ -166,7 +165,7 @@ impl State {
         requires few { length self.old.siblings.items ≤ 16 }
         requires time { IsOnTime self.old }
         requires delta { delta ≤ 1000000000 }
-        ensures makes { (scenario : Scenario) → Makes scenario self.old self.new (Advance delta) result }
+        ensures makes { (beside : Beside) → Makes beside self.old self.new (Advance delta) result }
         ensures sound { StaysSound self.old self.new }
         ensures ended { self.new.ended ≡ self.old.ended }
     {
@@ -179,7 +178,7 @@ impl State {
 
     /// Whether the running task goes behind the others of its priority.
     fn rotates(&self, cpu: Cpu, task: &Task) -> bool
-        ensures { (scenario : Scenario) → result ≡ rotates (room_of scenario self.now) cpu task.now }
+        ensures { (beside : Beside) → result ≡ rotates (room_of beside self.now) cpu task.now }
     {
         has_used_slice(task)
             && self.tasks.iter().any(|other| is_other_on(task, other, cpu) && is_peer(task, other))
@@ -187,7 +186,7 @@ impl State {
 
     /// Whether another fair task on the sibling has a smaller virtual time than the running fair one.
     fn is_overtaken(&self, cpu: Cpu, task: &Task) -> bool
-        ensures { (scenario : Scenario) → result ≡ is_overtaken (room_of scenario self.now) cpu task.now }
+        ensures { (beside : Beside) → result ≡ is_overtaken (room_of beside self.now) cpu task.now }
     {
         is_fair(task)
             && self.tasks.iter().any(|other| is_other_on(task, other, cpu)
@@ -208,7 +207,7 @@ impl State {
     /// run for so long while a sibling is forced idle.
     fn is_to_yield(&self, cpu: Cpu, task: &Task) -> bool
         requires { cpu < length self.now.siblings.items }
-        ensures { (scenario : Scenario) → result ≡ is_to_yield (room_of scenario self.now) cpu task.now }
+        ensures { (beside : Beside) → result ≡ is_to_yield (room_of beside self.now) cpu task.now }
     {
         is_fair(task)
             && !self.has_fair_beside(cpu, task)
@@ -219,7 +218,7 @@ impl State {
     /// Whether the running task is asked to leave as a fair one: it is overtaken, or is to yield.
     fn is_asked(&self, cpu: Cpu, task: &Task) -> bool
         requires { cpu < length self.now.siblings.items }
-        ensures { (scenario : Scenario) → let room = room_of scenario self.now in
+        ensures { (beside : Beside) → let room = room_of beside self.now in
             result ≡ (is_overtaken room cpu task.now || is_to_yield room cpu task.now) }
     {
         self.is_overtaken(cpu, task) || self.is_to_yield(cpu, task)
@@ -229,8 +228,8 @@ impl State {
     /// others of its priority.
     fn asks_at_tick(&self, cpu: Cpu, task: &Task, rotates: bool) -> bool
         requires cpu { cpu < length self.now.siblings.items }
-        requires rotates { (scenario : Scenario) → rotates ≡ time.rotates (room_of scenario self.now) cpu task.now }
-        ensures { (scenario : Scenario) → result ≡ asks_at_tick (room_of scenario self.now) cpu task.now }
+        requires rotates { (beside : Beside) → rotates ≡ time.rotates (room_of beside self.now) cpu task.now }
+        ensures { (beside : Beside) → result ≡ asks_at_tick (room_of beside self.now) cpu task.now }
     {
         rotates || self.is_asked(cpu, task)
     }
@@ -240,7 +239,7 @@ impl State {
     fn begin_slice(&mut self, cpu: Cpu, task: Task, rotates: bool)
         requires there { Has self.old task }
         requires rising { Rises self.old.tasks.tasks }
-        requires rotates { (scenario : Scenario) → rotates ≡ time.rotates (room_of scenario self.old) cpu task }
+        requires rotates { (beside : Beside) → rotates ≡ time.rotates (room_of beside self.old) cpu task }
         requires stamp { self.old.next_stamp + 1 < 2 ^ 64 }
         ensures room { Becomes self.old self.new (λ room. sliced room cpu task) }
         ensures sound { StaysSound self.old self.new }
@@ -267,7 +266,7 @@ impl State {
         requires sound { IsSound (length self.old.siblings.items) self.old }
         requires paid { IsPaid self.old }
         requires stamp { self.old.next_stamp + 1 < 2 ^ 64 }
-        ensures makes { (scenario : Scenario) → Makes scenario self.old self.new (Tick cpu) result }
+        ensures makes { (beside : Beside) → Makes beside self.old self.new (Tick cpu) result }
         ensures sound { StaysSound self.old self.new }
         ensures ended { self.new.ended ≡ self.old.ended }
     {

@@ -99,14 +99,14 @@ has_cpu moment cpu few =
 -- ---- living tasks
 
 abbrev task_row : Moment → Task → List Word
-task_row moment task = task_words (task_view moment.ledger task)
+task_row moment task = task_words (task_view moment.room task)
 
 -- the lines of the tasks above a pid
 abbrev pub task_lines_above : Moment → ℕ → List (List Word)
 task_lines_above moment pid = map (task_row moment) (filter (is_above pid) moment.room.tasks)
 
 abbrev pub shown_after : Moment → ℕ → Option TaskView
-shown_after moment pid = option_map (task_view moment.ledger) (task_after moment.room pid)
+shown_after moment pid = option_map (task_view moment.room) (task_after moment.room pid)
 
 rises : (scenario : Scenario) (history : History) → IsPlayable scenario → Rises 0 (fold_of scenario history).next_pid (fold_of scenario history).tasks
 rises scenario history playable = rising-fold_of scenario history (λ k d few. (playable.tasks k d few).pid.0) playable.distinct
@@ -123,19 +123,19 @@ pub task_next : (scenario : Scenario) (history : History) → IsPlayable scenari
     ≡ line (task_words view) ++ lines_text (task_lines_above (moment_of scenario history) view.pid)
 task_next scenario history playable pid view shown =
     let last = moment_of scenario history in
-    let found = mapped_some (task_view last.ledger) (task_after last.room pid) view shown in
+    let found = mapped_some (task_view last.room) (task_after last.room pid) view shown in
     ap (λ (tasks : List Task). lines_text (map (task_row last) tasks)) (above_next pid 0 last.room.next_pid last.room.tasks found.0 (rises scenario history playable) found.1)
     ∙ ap (λ (v : TaskView). line (task_words v) ++ lines_text (task_lines_above last v.pid)) (sym found.2)
 
 pub task_end : (moment : Moment) (pid : ℕ) → None ≡ shown_after moment pid → lines_text (task_lines_above moment pid) ≡ []
 task_end moment pid shown =
     ap (λ (tasks : List Task). lines_text (map (task_row moment) tasks))
-    (above_none pid moment.room.tasks (mapped_none (task_view moment.ledger) (task_after moment.room pid) shown))
+    (above_none pid moment.room.tasks (mapped_none (task_view moment.room) (task_after moment.room pid) shown))
 
 -- the next task has a pid above
 pub task_above : (moment : Moment) (pid : ℕ) (view : TaskView) → Some view ≡ shown_after moment pid → pid < view.pid
 task_above moment pid view shown =
-    let found = mapped_some (task_view moment.ledger) (task_after moment.room pid) view shown in
+    let found = mapped_some (task_view moment.room) (task_after moment.room pid) view shown in
     subst (λ (v : TaskView). pid < v.pid) (sym found.2)
     (ltb-true pid found.0.spec.pid (find_passes (is_above pid) moment.room.tasks found.0 found.1))
 
@@ -152,26 +152,26 @@ pub few_ended : (scenario : Scenario) (history : History) → length (moment_of 
 few_ended scenario history = omega (arith, ended_after (beginning scenario) history)
 
 abbrev ended_row : Moment → ℕ → List Word
-ended_row moment pid = ended_words (end_view moment.ledger pid)
+ended_row moment pid = ended_words (end_view moment.room pid)
 
 -- the lines of those from a place on
 abbrev pub ended_lines_from : Moment → ℕ → List (List Word)
 ended_lines_from moment place = map (ended_row moment) (drop place moment.room.ended)
 
 abbrev pub shown_ended : Moment → ℕ → Option EndView
-shown_ended moment place = option_map (end_view moment.ledger) (slice_get moment.room.ended place)
+shown_ended moment place = option_map (end_view moment.room) (slice_get moment.room.ended place)
 
 pub ended_next : (moment : Moment) (place : ℕ) (view : EndView) → Some view ≡ shown_ended moment place →
     lines_text (ended_lines_from moment place) ≡ line (ended_words view) ++ lines_text (ended_lines_from moment (place + 1))
 ended_next moment place view shown =
-    let found = mapped_some (end_view moment.ledger) (slice_get moment.room.ended place) view shown in
+    let found = mapped_some (end_view moment.room) (slice_get moment.room.ended place) view shown in
     ap (λ (pids : List ℕ). lines_text (map (ended_row moment) pids)) (drop_next moment.room.ended place found.0 found.1)
     ∙ ap (λ (v : EndView). line (ended_words v) ++ lines_text (ended_lines_from moment (place + 1))) (sym found.2)
 
 pub ended_none : (moment : Moment) (place : ℕ) → None ≡ shown_ended moment place → lines_text (ended_lines_from moment place) ≡ []
 ended_none moment place shown =
     ap (λ (pids : List ℕ). lines_text (map (ended_row moment) pids))
-    (drop_none moment.room.ended place (mapped_none (end_view moment.ledger) (slice_get moment.room.ended place) shown))
+    (drop_none moment.room.ended place (mapped_none (end_view moment.room) (slice_get moment.room.ended place) shown))
 
 pub ended_past : (moment : Moment) (place : ℕ) → length moment.room.ended ≤ place → lines_text (ended_lines_from moment place) ≡ []
 ended_past moment place past =

@@ -77,11 +77,11 @@ cpu_lines moment =
 
 -- each living task, by rising pid
 abbrev pub task_lines : Moment → List (List Word)
-task_lines moment = map (λ task. task_words (task_view moment.ledger task)) moment.room.tasks
+task_lines moment = map (λ task. task_words (task_view moment.room task)) moment.room.tasks
 
 -- each task that ended, in the order of the ends
 abbrev pub ended_lines : Moment → List (List Word)
-ended_lines moment = map (λ pid. ended_words (end_view moment.ledger pid)) moment.room.ended
+ended_lines moment = map (λ pid. ended_words (end_view moment.room pid)) moment.room.ended
 
 abbrev pub report_lines : Moment → List (List Word)
 report_lines moment =

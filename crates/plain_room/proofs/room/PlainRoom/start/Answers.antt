@@ -1,7 +1,8 @@
-use Rattle.std.proofs.Common.{[], ap, subst, sym, refl, ◌≡◌, ◌+◌, ◌*◌, ◌∙◌, arith, length}
+use Rattle.std.proofs.Common.{ap, subst, sym, refl, ◌≡◌, ◌+◌, ◌*◌, ◌∙◌, arith, length}
 use Rattle.cs_types.specs.Scenario.{IsPlayable}
 use Rattle.cs_types.specs.Room.{RoomState, first_pid}
-use Rattle.plain_room.specs.State.{books_at, numbers_at}
+use Rattle.cs_types.specs.History.{beginning}
+use Rattle.plain_room.specs.State.{numbers_at}
 use Rattle.plain_room.proofs.room.PlainRoom.start.Goals as goal
 
 pub invariant_of-result : goal.invariant_of-result
@@ -11,8 +12,9 @@ invariant_of-result c =
     let scenario = c.args.scenario.now in
     let most : c.most_entries-most.result ≡ length c.of-steps.result + scenario.siblings * scenario.siblings =
     c.most_entries-most.ensures ∙ ap (λ s. length s + scenario.siblings * scenario.siblings) (sym steps) in
-    let books : numbers_at scenario c.most_entries-most.result [] ≡ record (numbers_at scenario c.most_entries-most.result []) { books = record (books_at scenario c.most_entries-most.result []) { places = (length c.of-steps.result + scenario.siblings * scenario.siblings) + first_pid c.of-tasks.result } } =
-    λ i. record (numbers_at scenario c.most_entries-most.result []) { books = record (books_at scenario c.most_entries-most.result []) { places = most i + first_pid (sym tasks i) } } in
+    let first = numbers_at scenario c.most_entries-most.result (beginning scenario) in
+    let books : first ≡ record first { books = record first.books { places = (length c.of-steps.result + scenario.siblings * scenario.siblings) + first_pid c.of-tasks.result } } =
+    λ i. record first { books = record first.books { places = most i + first_pid (sym tasks i) } } in
     let same : c.args.scenario.now ≡ record c.args.scenario.now { tasks = c.of-tasks.result; steps = c.of-steps.result } =
     λ i. record c.args.scenario.now { tasks = sym tasks i; steps = sym steps i } in
     record {

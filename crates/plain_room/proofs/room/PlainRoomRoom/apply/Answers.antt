@@ -1,4 +1,4 @@
-use Rattle.std.proofs.Common.{◌≤◌, ◌*◌, ◌++◌, ◌∷◌, [], length, ap, sym, subst, ◌∙◌, arith}
+use Rattle.std.proofs.Common.{◌≡◌, ◌≤◌, ◌*◌, ◌++◌, ◌∷◌, [], length, refl, ap, sym, subst, ◌∙◌, arith}
 use Rattle.std.specs.Prelude.{IfSome, All, ◌+◌, ◌<◌, ◌^◌}
 use Rattle.std.proofs.lemmas.List.Elements.{All-push, All-weaker}
 use Rattle.cs_types.specs.declared.reply.Entry.{Entry}
@@ -13,16 +13,17 @@ use Rattle.cs_types.proofs.Selections.{selects}
 use Rattle.cs_types.proofs.Refusals.{refused_leaves}
 use Rattle.cs_types.proofs.BalancePlaces.{places-fold_of}
 use Rattle.cs_types.proofs.Times.{timely-fold_of, clock-step}
-use Rattle.cs_types.proofs.Accounts.{IsAccounted, charged_up_to, accounted-history_of, intervals-ledger_of}
+use Rattle.cs_types.proofs.Accounts.{IsAccounted, account_of, charged_up_to, accounted-fold_of}
 use Rattle.forceidle_account.specs.Charges.{total_at}
 use Rattle.plain_room.proofs.Views.{total_kept}
+use Rattle.cs_types.specs.Time.{IsTimely}
+use Rattle.plain_room.proofs.Clocks.{timely_beside, timely_under}
 use Rattle.cs_types.proofs.Timely.{IsTimely}
-use Rattle.plain_room.proofs.Clocks.{timely_under}
 use Rattle.plain_room.proofs.Ranges.{of_states}
 use Rattle.plain_room.specs.declared.sibling.Sibling.{Sibling}
 use Rattle.plain_room.specs.State.{Numbers, room_of, numbers_of, is_fresh_by}
 use Rattle.plain_room.specs.Machine.{Machine}
-use Rattle.plain_room.specs.Inside.{steps_of, most_entries}
+use Rattle.plain_room.specs.Inside.{steps_of, beside_at, most_entries}
 use Rattle.plain_room.proofs.Playable.{most_entries-le, first_pid-low}
 use Rattle.plain_room.proofs.Machines.{Folds, history_more, reply_more, folds_more}
 use Rattle.plain_room.proofs.room.PlainRoomRoom.apply.Goals as goal
@@ -86,9 +87,9 @@ apply-reply-requires-clause-time c =
     record {
       entries = length a.entries.items;
       few = omega (arith, a.entries.ok.0, c.self.invariant.few_entries, most_entries-le a.scenario c.self.invariant.playable);
-      timely = λ scenario. subst (λ (room : RoomState). IsTimely (length a.entries.items) room)
-          (sym (ap (λ (room : RoomState). let other : RoomState = record room { user_top = scenario.user_top } in other) c.self.invariant.fold))
-          (timely_under scenario.user_top (length a.entries.items) (fold_of a.scenario a.entries.items) (timely-fold_of a.scenario a.entries.items));
+      timely = λ beside. subst (λ (room : RoomState). IsTimely (length a.entries.items) room)
+          (sym (ap (λ (room : RoomState). let other : RoomState = record room { user_top = beside.user_top; intervals = beside.intervals } in other) c.self.invariant.fold))
+          (timely_beside beside (length a.entries.items) (fold_of a.scenario a.entries.items) (timely-fold_of a.scenario a.entries.items));
       clock = omega (arith, c.self.invariant.slow, a.entries.ok.0, c.self.invariant.few_entries, most_entries-le a.scenario c.self.invariant.playable);
     }
 
@@ -103,26 +104,25 @@ apply-reply-requires-clause-places_to_steal c =
 pub apply-reply-requires-clause-paid : goal.apply-reply-requires-clause-paid
 apply-reply-requires-clause-paid c =
     let a = c.self.inside in
-    let room = room_of a.scenario a.state in
-    let accounted : IsAccounted 255 (moment_of a.scenario a.entries.items) =
-    subst (λ h. IsAccounted 255 (moment_of a.scenario h)) (sym c.self.invariant.history)
-    (accounted-history_of 255 a.scenario (steps_of a.entries.items) (omega arith) (omega (arith, c.self.invariant.playable.siblings.1))) in
+    let last = fold_of a.scenario a.entries.items in
+    let accounted : IsAccounted 255 (length a.entries.items) (account_of last) =
+    accounted-fold_of 255 a.scenario a.entries.items (omega arith) (omega (arith, c.self.invariant.playable.siblings.1)) c.self.invariant.events in
     let fold = c.self.invariant.fold in
     let folds : Folds a.scenario (most_entries a.scenario) a.state a.entries.items = record { fold = fold; numbers = c.self.invariant.numbers } in
     record {
       clock = omega (arith, c.self.invariant.slow, a.entries.ok.0, c.self.invariant.few_entries, most_entries-le a.scenario c.self.invariant.playable);
-      started = subst (λ (r : RoomState). charged_up_to r ≤ r.clock) (sym fold) accounted.opened.started;
-      few = subst (λ (r : RoomState). r.forced ≤ 255) (sym fold) accounted.opened.few;
+      started = subst (λ (r : RoomState). charged_up_to (account_of r) ≤ r.clock) (sym fold) accounted.started;
+      few = subst (λ (r : RoomState). r.forced ≤ 255) (sym fold) accounted.few;
       intervals = omega (
         arith,
-        intervals-ledger_of a.scenario a.entries.items,
+        accounted.intervals,
         ap (λ (numbers : Numbers). numbers.books.intervals) c.self.invariant.numbers,
         a.entries.ok.0,
         c.self.invariant.few_entries,
         most_entries-le a.scenario c.self.invariant.playable,
       );
-      totals = λ pid. subst (λ (r : RoomState). total_at a.state.totals pid ≤ 255 * charged_up_to r) (sym fold)
-          (subst (λ n. n ≤ 255 * charged_up_to (fold_of a.scenario a.entries.items)) (sym (total_kept a.scenario a.state a.entries.items pid folds)) (accounted.totals pid));
+      totals = λ pid. subst (λ (r : RoomState). total_at a.state.totals pid ≤ 255 * charged_up_to (account_of r)) (sym fold)
+          (subst (λ n. n ≤ 255 * charged_up_to (account_of last)) (sym (total_kept a.scenario a.state a.entries.items pid folds)) (accounted.totals pid));
     }
 
 pub apply-reply-requires-clause-places : goal.apply-reply-requires-clause-places
@@ -160,8 +160,8 @@ invariant_of-self c =
     let entry : Entry = record { actor = c.args.actor; event = c.args.event; reply = c.apply-reply.result } in
     let so_far : Folds a.scenario (most_entries a.scenario) a.state a.entries.items = record { fold = c.self.invariant.fold; numbers = c.self.invariant.numbers } in
     let limits = subst (λ (m : Machine). IsEvent m.scenario.siblings c.args.event) (sym c.self.view_is) c.requires.event in
-    let reply = reply_more a.scenario a.state c.apply-reply.new.self a.entries.items c.args.event c.apply-reply.result so_far c.apply-reply.ensures.makes in
-    let folds = folds_more a.scenario a.state c.apply-reply.new.self a.entries.items entry limits so_far c.apply-reply.ensures.makes in
+    let reply = reply_more a.scenario a.state c.apply-reply.new.self a.entries.items c.args.event c.apply-reply.result so_far (c.apply-reply.ensures.makes (beside_at a.scenario a.entries.items) refl) in
+    let folds = folds_more a.scenario a.state c.apply-reply.new.self a.entries.items entry limits so_far (c.apply-reply.ensures.makes (beside_at a.scenario a.entries.items) refl) in
     record {
       playable = c.self.invariant.playable;
       events = rw c.push_reserved.ensures.items (All-push (λ (e : Entry). IsEvent a.scenario.siblings e.event) a.entries.items entry c.self.invariant.events limits);
@@ -174,8 +174,8 @@ invariant_of-self c =
         arith,
         c.push_reserved.ensures.len,
         c.self.invariant.slow,
-        ap (λ (room : RoomState). room.clock) (c.apply-reply.ensures.makes.room),
-        clock-step (room_of a.scenario a.state) (is_fresh_by (numbers_of a.state)) c.args.event a.scenario.siblings limits,
+        ap (λ (room : RoomState). room.clock) (c.apply-reply.ensures.makes (beside_at a.scenario a.entries.items) refl).room,
+        clock-step (room_of (beside_at a.scenario a.entries.items) a.state) (is_fresh_by (numbers_of a.state)) c.args.event a.scenario.siblings limits,
       );
       few_entries = omega (arith, c.push_reserved.ensures.capacity, c.self.invariant.few_entries);
     }
@@ -184,7 +184,7 @@ pub returns-clause-reply : goal.returns-clause-reply
 returns-clause-reply c =
     let a = c.self.inside in
     let so_far : Folds a.scenario (most_entries a.scenario) a.state a.entries.items = record { fold = c.self.invariant.fold; numbers = c.self.invariant.numbers } in
-    reply_more a.scenario a.state c.apply-reply.new.self a.entries.items c.args.event c.apply-reply.result so_far c.apply-reply.ensures.makes
+    reply_more a.scenario a.state c.apply-reply.new.self a.entries.items c.args.event c.apply-reply.result so_far (c.apply-reply.ensures.makes (beside_at a.scenario a.entries.items) refl)
     ∙ ap (λ h. reply_to a.scenario h c.args.event) c.self.invariant.history
     ∙ ap (λ (m : Machine). reply_to m.scenario (history_of m.scenario m.steps) c.args.event) c.self.view_is
 
@@ -193,7 +193,7 @@ returns-clause-entry c =
     let a = c.self.inside in
     let entry : Entry = record { actor = c.args.actor; event = c.args.event; reply = c.apply-reply.result } in
     let so_far : Folds a.scenario (most_entries a.scenario) a.state a.entries.items = record { fold = c.self.invariant.fold; numbers = c.self.invariant.numbers } in
-    let reply = reply_more a.scenario a.state c.apply-reply.new.self a.entries.items c.args.event c.apply-reply.result so_far c.apply-reply.ensures.makes in
+    let reply = reply_more a.scenario a.state c.apply-reply.new.self a.entries.items c.args.event c.apply-reply.result so_far (c.apply-reply.ensures.makes (beside_at a.scenario a.entries.items) refl) in
     rw c.push_reserved.ensures.items
     (sym (history_more a.scenario a.entries.items entry c.self.invariant.history reply)
     ∙ ap (λ h. h ++ entry ∷ []) (c.self.invariant.history ∙ ap (λ (m : Machine). history_of m.scenario m.steps) c.self.view_is))

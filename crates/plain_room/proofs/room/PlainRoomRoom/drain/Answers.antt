@@ -8,9 +8,9 @@ use Rattle.cs_types.specs.History.{History, history_of, moment_of, reply_to}
 use Rattle.cs_types.specs.Drain.{next_to_schedule, IsDrained}
 use Rattle.cs_types.proofs.Histories.{IsLegal-history_of}
 use Rattle.plain_room.specs.Machine.{Machine}
-use Rattle.plain_room.specs.Inside.{machine_of, most_entries, IsFold}
+use Rattle.plain_room.specs.Inside.{machine_of, beside_at, most_entries, IsFold}
 use Rattle.plain_room.specs.Drain.{next_by}
-use Rattle.plain_room.specs.State.{room_of, numbers_of, is_fresh_by}
+use Rattle.plain_room.specs.State.{Beside, room_of, numbers_of, is_fresh_by}
 use Rattle.plain_room.specs.declared.room.PlainRoom.TheInside.{Inside}
 use Rattle.plain_room.proofs.Machines.{Folds, next_of}
 use Rattle.plain_room.proofs.Playable.{playable_of, events_of}
@@ -19,11 +19,11 @@ use Rattle.plain_room.proofs.room.PlainRoomRoom.drain.Goals as goal
 
 -- who schedules next is who the model says, after the history so far
 next_is : (a : Inside) (invariant : IsFold a) (m : Machine) (scenario : Scenario) (found : Option ℕ) → machine_of a ≡ m → m.scenario ≡ scenario →
-    ((other : Scenario) → found ≡ next_by (room_of other a.state) (is_fresh_by (numbers_of a.state))) →
+    ((beside : Beside) → found ≡ next_by (room_of beside a.state) (is_fresh_by (numbers_of a.state))) →
     found ≡ next_to_schedule (moment_of scenario (history_of scenario m.steps))
 next_is a invariant m scenario found view_is same is =
     let folds : Folds a.scenario (most_entries a.scenario) a.state a.entries.items = record { fold = invariant.fold; numbers = invariant.numbers } in
-    is a.scenario ∙ next_of a.scenario a.state a.entries.items folds
+    is (beside_at a.scenario a.entries.items) ∙ next_of a.scenario a.state a.entries.items folds
     ∙ ap (λ h. next_to_schedule (moment_of a.scenario h)) invariant.history
     ∙ ap (λ (other : Machine). next_to_schedule (moment_of other.scenario (history_of other.scenario other.steps))) view_is
     ∙ ap (λ s. next_to_schedule (moment_of s (history_of s m.steps))) same

@@ -6,7 +6,7 @@ use Rattle.std.specs.Option.{option_map}
 use Rattle.cs_types.specs.declared.view.EndView.{EndView}
 use Rattle.cs_types.specs.Room.{RoomState}
 use Rattle.cs_types.specs.View.{end_view}
-use Rattle.cs_types.specs.History.{fold_of, ledger_of, history_of}
+use Rattle.cs_types.specs.History.{fold_of, history_of}
 use Rattle.plain_room.specs.Machine.{Machine}
 use Rattle.plain_room.specs.Inside.{most_entries}
 use Rattle.plain_room.proofs.Machines.{Folds}
@@ -17,7 +17,7 @@ pub returns : goal.returns
 returns c =
     let a = c.self.inside in
     let place = c.args.place in
-    let ledger = ledger_of a.scenario a.entries.items in
+    let last = fold_of a.scenario a.entries.items in
     let folds : Folds a.scenario (most_entries a.scenario) a.state a.entries.items = record { fold = c.self.invariant.fold; numbers = c.self.invariant.numbers } in
     let found : c.get.result ≡ Some c.in_ok-pid.field-0 = search rules in
     let within : place < length a.state.ended.items =
@@ -29,7 +29,7 @@ returns c =
     ap Some there ∙ sym (slice_get-get_or a.state.ended.items place c.in_ok-pid.field-0.now within) in
     let total = c.of.ensures ∙ total_kept a.scenario a.state a.entries.items c.in_ok-pid.field-0.now folds in
     ap (λ n. let view : EndView = record { pid = c.in_ok-pid.field-0.now; forced = n } in Some view) total
-    ∙ ap (option_map (end_view ledger)) some
-    ∙ ap (λ (room : RoomState). option_map (end_view ledger) (slice_get room.ended place)) c.self.invariant.fold
-    ∙ ap (λ h. option_map (end_view (ledger_of a.scenario h)) (slice_get (fold_of a.scenario h).ended place)) c.self.invariant.history
-    ∙ ap (λ (m : Machine). option_map (end_view (ledger_of m.scenario (history_of m.scenario m.steps))) (slice_get (fold_of m.scenario (history_of m.scenario m.steps)).ended place)) c.self.view_is
+    ∙ ap (option_map (end_view last)) some
+    ∙ ap (λ (room : RoomState). option_map (end_view last) (slice_get room.ended place)) c.self.invariant.fold
+    ∙ ap (λ h. option_map (end_view (fold_of a.scenario h)) (slice_get (fold_of a.scenario h).ended place)) c.self.invariant.history
+    ∙ ap (λ (m : Machine). option_map (end_view (fold_of m.scenario (history_of m.scenario m.steps))) (slice_get (fold_of m.scenario (history_of m.scenario m.steps)).ended place)) c.self.view_is

@@ -1,14 +1,14 @@
 use Rattle.std.proofs.Common.{◌≡◌, ◌^◌, ◌<◌, ap, ◌∙◌, sym, subst, rules, arith, Option, Some, None}
 use Rattle.std.specs.Prelude.{IfSome}
 use Rattle.std.specs.Option.{option_map}
+use Rattle.cs_types.specs.View.{task_after, task_view, task_view_after}
+use Rattle.cs_types.specs.History.{fold_of, history_of, moment_of, ledger_of}
 use Rattle.cs_types.specs.declared.view.TaskView.{TaskView}
 use Rattle.cs_types.specs.Room.{RoomState}
-use Rattle.cs_types.specs.View.{task_after, task_view, task_view_after}
-use Rattle.cs_types.specs.History.{moment_of, fold_of, ledger_of, history_of}
 use Rattle.cs_types.proofs.Times.{shown_bounded}
 use Rattle.plain_room.proofs.Playable.{most_entries-le}
 use Rattle.plain_room.specs.Machine.{Machine}
-use Rattle.plain_room.specs.Inside.{most_entries}
+use Rattle.plain_room.specs.Inside.{beside_at, most_entries}
 use Rattle.plain_room.proofs.Machines.{Folds}
 use Rattle.plain_room.proofs.Views.{task_shown, total_kept}
 use Rattle.plain_room.proofs.room.PlainRoomRoom.task_after.Goals as goal
@@ -21,30 +21,30 @@ returns-in_err-task-clause-view c =
     let out : c.from_residual.result ≡ None = search rules in
     let folds : Folds a.scenario (most_entries a.scenario) a.state a.entries.items = record { fold = c.self.invariant.fold; numbers = c.self.invariant.numbers } in
     out
-    ∙ ap (option_map (task_view (ledger_of a.scenario a.entries.items))) (sym none)
-    ∙ task_shown a.scenario a.state a.entries.items pid c.task_after.result folds (c.task_after.ensures a.scenario)
-    ∙ ap (λ h. option_map (task_view (ledger_of a.scenario h)) (task_after (fold_of a.scenario h) pid)) c.self.invariant.history
-    ∙ ap (λ (m : Machine). option_map (task_view (ledger_of m.scenario (history_of m.scenario m.steps))) (task_after (fold_of m.scenario (history_of m.scenario m.steps)) pid)) c.self.view_is
+    ∙ ap (option_map (task_view (fold_of a.scenario a.entries.items))) (sym none)
+    ∙ task_shown a.scenario a.state a.entries.items pid c.task_after.result folds (c.task_after.ensures (beside_at a.scenario a.entries.items))
+    ∙ ap (λ h. option_map (task_view (fold_of a.scenario h)) (task_after (fold_of a.scenario h) pid)) c.self.invariant.history
+    ∙ ap (λ (m : Machine). option_map (task_view (fold_of m.scenario (history_of m.scenario m.steps))) (task_after (fold_of m.scenario (history_of m.scenario m.steps)) pid)) c.self.view_is
 
 -- what is shown is the task's view after the entries so far
 shown : (c : goal.After-view) → Some c.view.result ≡ task_view_after (moment_of c.self.inside.scenario c.self.inside.entries.items) c.args.pid
 shown c =
     let a = c.self.inside in
-    let ledger = ledger_of a.scenario a.entries.items in
+    let last = fold_of a.scenario a.entries.items in
     let some : c.task_after.result ≡ Some c.in_ok-task.task = search rules in
     let folds : Folds a.scenario (most_entries a.scenario) a.state a.entries.items = record { fold = c.self.invariant.fold; numbers = c.self.invariant.numbers } in
     let total = c.of.ensures ∙ total_kept a.scenario a.state a.entries.items c.in_ok-task.task.spec.pid folds in
-    ap Some (c.view.ensures ledger total)
-    ∙ ap (option_map (task_view ledger)) (sym some)
-    ∙ task_shown a.scenario a.state a.entries.items c.args.pid c.task_after.result folds (c.task_after.ensures a.scenario)
+    ap Some (c.view.ensures last total)
+    ∙ ap (option_map (task_view last)) (sym some)
+    ∙ task_shown a.scenario a.state a.entries.items c.args.pid c.task_after.result folds (c.task_after.ensures (beside_at a.scenario a.entries.items))
 
 pub returns-clause-view : goal.returns-clause-view
 returns-clause-view c =
     let a = c.self.inside in
     let pid = c.args.pid in
     shown c
-    ∙ ap (λ h. option_map (task_view (ledger_of a.scenario h)) (task_after (fold_of a.scenario h) pid)) c.self.invariant.history
-    ∙ ap (λ (m : Machine). option_map (task_view (ledger_of m.scenario (history_of m.scenario m.steps))) (task_after (fold_of m.scenario (history_of m.scenario m.steps)) pid)) c.self.view_is
+    ∙ ap (λ h. option_map (task_view (fold_of a.scenario h)) (task_after (fold_of a.scenario h) pid)) c.self.invariant.history
+    ∙ ap (λ (m : Machine). option_map (task_view (fold_of m.scenario (history_of m.scenario m.steps))) (task_after (fold_of m.scenario (history_of m.scenario m.steps)) pid)) c.self.view_is
 
 pub returns-clause-bounded : goal.returns-clause-bounded
 returns-clause-bounded c =

@@ -15,7 +15,7 @@ use Rattle.plain_room.specs.declared.state.State.{State}
 use Rattle.plain_room.specs.declared.sibling.Sibling.{Sibling}
 use Rattle.plain_room.proofs.Lists.{map_enumerated}
 use Rattle.plain_room.proofs.Ranges.{runs_are_low}
-use Rattle.plain_room.proofs.States.{items-as_many, number_of}
+use Rattle.plain_room.proofs.States.{uncharged, items-as_many, number_of}
 use Rattle.plain_room.proofs.state.State.advance.Goals as goal
 
 pub age-requires : goal.age-requires
@@ -60,23 +60,23 @@ leasts_are room tasks same =
 
 pub returns-clause-makes : goal.returns-clause-makes
 unfolding advanced
-returns-clause-makes c scenario =
+returns-clause-makes c beside =
     let old = c.args.self.now in
-    let room = room_of scenario old in
+    let room = room_of beside old in
     let clock = ap (λ (state : State). state.clock) c.grow_tasks.ensures.rest in
     let tasks = ap (λ (table : Table). table.tasks) c.grow_tasks.ensures.tasks in
     let limit = ap (λ (table : Table). table.limit) c.grow_tasks.ensures.tasks in
     let siblings = siblings_are c ∙ leasts_are (with_growth room c.args.delta) c.grow_tasks.new.self.tasks.tasks tasks in
     let rest : (f : State → RoomState) → f c.grow_tasks.new.self ≡ f (record old { tasks = c.grow_tasks.new.self.tasks }) = λ f. ap f c.grow_tasks.ensures.rest in
-    record {
+    uncharged (record {
       reply = ap (λ n. Now (n + c.args.delta)) clock;
-      room = rest (λ state. record (room_of scenario state) {
+      room = rest (λ state. record (room_of beside state) {
         clock = state.clock + c.args.delta;
         siblings = map sibling_state (with_items (with_items c.grow_tasks.new.self.siblings c.age.new.siblings) c.renew_leasts.new.siblings).items;
       })
           ∙ (λ i. record (with_growth room c.args.delta) { task_limit = limit i; tasks = tasks i; siblings = siblings i });
       numbers = rest_numbers c.grow_tasks.new.self old (numbers_are c) c.grow_tasks.ensures.rest;
-    } where
+    }) where
       rest_numbers : (mid start : State) {own : List ℕ} → own ≡ map number_of start.siblings.items → mid ≡ record start { tasks = mid.tasks } →
           record { task = mid.task_number; pick = mid.pick_number; own = own; books = books_of mid } ≡ record (numbers_of start) { task = start.task_number + 0 }
       rest_numbers mid start own same = λ i. record { task = (ap (λ (s : State). s.task_number) same ∙ sym (add-zero start.task_number)) i; pick = ap (λ (s : State). s.pick_number) same i; own = own i; books = ap books_of same i }

@@ -5,13 +5,13 @@ use Rattle.plain_room.specs.State.{room_of}
 use Rattle.plain_room.proofs.state.State.asks_at_tick.Goals as goal
 
 pub returns-then-rotates : goal.returns-then-rotates
-returns-then-rotates c scenario =
-    let room = room_of scenario c.args.self.now in
-    let behind = sym (c.requires.rotates scenario) ∙ c.if-rotates.true in
+returns-then-rotates c beside =
+    let room = room_of beside c.args.self.now in
+    let behind = sym (c.requires.rotates beside) ∙ c.if-rotates.true in
     c.if-rotates.true ∙ sym (λ i. behind i || is_overtaken room c.args.cpu c.args.task.now || is_to_yield room c.args.cpu c.args.task.now)
 
 pub returns-else-rotates : goal.returns-else-rotates
-returns-else-rotates c scenario =
-    let room = room_of scenario c.args.self.now in
-    let behind = sym (c.requires.rotates scenario) ∙ c.if-rotates.false in
-    c.is_asked.ensures scenario ∙ sym (λ i. behind i || is_overtaken room c.args.cpu c.args.task.now || is_to_yield room c.args.cpu c.args.task.now)
+returns-else-rotates c beside =
+    let room = room_of beside c.args.self.now in
+    let behind = sym (c.requires.rotates beside) ∙ c.if-rotates.false in
+    c.is_asked.ensures beside ∙ sym (λ i. behind i || is_overtaken room c.args.cpu c.args.task.now || is_to_yield room c.args.cpu c.args.task.now)

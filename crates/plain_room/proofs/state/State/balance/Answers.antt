@@ -7,9 +7,9 @@ use Rattle.plain_room.specs.declared.state.State.{State}
 use Rattle.plain_room.proofs.state.State.balance.Goals as goal
 
 pub returns-clause-room : goal.returns-clause-room
-returns-clause-room c scenario =
-    c.set_place.ensures.room scenario
-    ∙ ap (with_place (room_of scenario c.args.self.now) c.args.cpu) (c.from-place.ensures ∙ as_number (c.is_to_steal.result) (is_to_steal (room_of scenario c.args.self.now) c.args.cpu) (c.is_to_steal.ensures scenario))
+returns-clause-room c beside =
+    c.set_place.ensures.room beside
+    ∙ ap (with_place (room_of beside c.args.self.now) c.args.cpu) (c.from-place.ensures ∙ as_number (c.is_to_steal.result) (is_to_steal (room_of beside c.args.self.now) c.args.cpu) (c.is_to_steal.ensures beside))
   where
     as_number : (b d : Bool) → b ≡ d → bool_byte b ≡ (if d then 1 else 0)
     as_number true true same = refl

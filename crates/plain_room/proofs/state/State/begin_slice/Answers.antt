@@ -10,26 +10,26 @@ use Rattle.plain_room.proofs.States.{knows-alike}
 use Rattle.plain_room.proofs.state.State.begin_slice.Goals as goal
 
 pub returns-then-rotates-clause-room : goal.returns-then-rotates-clause-room
-returns-then-rotates-clause-room c scenario =
-    let room = room_of scenario c.args.self.now in
-    let behind = sym (c.requires.rotates scenario) ∙ c.if-rotates.true in
+returns-then-rotates-clause-room c beside =
+    let room = room_of beside c.args.self.now in
+    let behind = sym (c.requires.rotates beside) ∙ c.if-rotates.true in
     let used : has_used_slice c.args.task ≡ true = (and_parts (has_used_slice c.args.task) _ behind).0 in
     let task : Task = record c.args.task { used = 0; stamp = c.args.self.now.next_stamp } in
     let stamped : RoomState → ℕ → RoomState = λ now stamp. record now { next_stamp = stamp + 1 } in
-    ap (λ (now : RoomState). stamped now c.change.new.self.next_stamp) (c.change.ensures.room scenario)
+    ap (λ (now : RoomState). stamped now c.change.new.self.next_stamp) (c.change.ensures.room beside)
     ∙ ap (λ (state : State). stamped (with_task room task) state.next_stamp) c.change.ensures.rest
     ∙ sliced_behind room c.args.cpu c.args.task used behind
 
 pub returns-then-has_used_slice-clause-room : goal.returns-then-has_used_slice-clause-room
-returns-then-has_used_slice-clause-room c scenario =
-    c.change-then-has_used_slice.ensures.room scenario
-    ∙ sliced_in_place (room_of scenario c.args.self.now) c.args.cpu c.args.task (sym c.has_used_slice.ensures ∙ c.if-has_used_slice.true)
-    (sym (c.requires.rotates scenario) ∙ c.if-rotates.false)
+returns-then-has_used_slice-clause-room c beside =
+    c.change-then-has_used_slice.ensures.room beside
+    ∙ sliced_in_place (room_of beside c.args.self.now) c.args.cpu c.args.task (sym c.has_used_slice.ensures ∙ c.if-has_used_slice.true)
+    (sym (c.requires.rotates beside) ∙ c.if-rotates.false)
 
 pub returns-else-has_used_slice-clause-room : goal.returns-else-has_used_slice-clause-room
-returns-else-has_used_slice-clause-room c scenario =
-    sliced_not (room_of scenario c.args.self.now) c.args.cpu c.args.task c.requires.rising c.requires.there
-    (sym c.has_used_slice.ensures ∙ c.if-has_used_slice.false) (sym (c.requires.rotates scenario) ∙ c.if-rotates.false)
+returns-else-has_used_slice-clause-room c beside =
+    sliced_not (room_of beside c.args.self.now) c.args.cpu c.args.task c.requires.rising c.requires.there
+    (sym c.has_used_slice.ensures ∙ c.if-has_used_slice.false) (sym (c.requires.rotates beside) ∙ c.if-rotates.false)
 
 pub change-requires : goal.change-requires
 change-requires c = record {

@@ -5,9 +5,9 @@ use Rattle.plain_room.proofs.States.{sibling_at}
 use Rattle.plain_room.proofs.state.State.choice_at.Goals as goal
 
 pub returns : goal.returns
-returns c scenario =
-    let first = c.first_on-first.ensures scenario in
-    let chosen = c.choice-chosen.ensures scenario first in
+returns c beside =
+    let first = c.first_on-first.ensures beside in
+    let chosen = c.choice-chosen.ensures beside first in
     let mapped : c.map.result ≡ option_map (λ task. task.spec.pid) c.choice-chosen.result = search rules in
     let run = mapped ∙ ap pid_of chosen in
     let at = sibling_at c.args.self.now.siblings.items c.args.cpu c.index.result.now c.requires c.index.ensures in

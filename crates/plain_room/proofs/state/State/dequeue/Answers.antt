@@ -6,4 +6,4 @@ returns-clause-sound c count sound =
     rw c.touch.ensures (record { siblings = changed.siblings; table = changed.table; tasks = changed.tasks; known = changed.known; low_pids = changed.low_pids; refs = changed.refs })
 
 pub returns-clause-room : goal.returns-clause-room
-returns-clause-room c scenario = rw c.touch.ensures (c.change.ensures.room scenario)
+returns-clause-room c beside = rw c.touch.ensures (c.change.ensures.room beside)

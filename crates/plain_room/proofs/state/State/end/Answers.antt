@@ -9,7 +9,7 @@ use Rattle.cs_types.specs.Step.{has_threads}
 use Rattle.forceidle_account.specs.Charges.{has_total}
 use Rattle.plain_room.specs.State.{room_of, IsFit, Has, Becomes}
 use Rattle.plain_room.specs.declared.state.State.{State}
-use Rattle.plain_room.proofs.States.{some_scenario, knows-alike}
+use Rattle.plain_room.proofs.States.{some_beside, knows-alike}
 use Rattle.plain_room.proofs.Lives.{filter-changed, find-changed, any-changed}
 use Rattle.plain_room.proofs.state.State.end.Goals as goal
 
@@ -17,14 +17,14 @@ use Rattle.plain_room.proofs.state.State.end.Goals as goal
 found : (old new : State) (task : Task) → Becomes old new (λ room. dequeued room task) → Has old task →
     find (has_pid task.spec.pid) new.tasks.tasks ≡ Some (record task { queued = false })
 found old new task becomes there =
-    ap (λ (room : RoomState). find (has_pid task.spec.pid) room.tasks) (becomes some_scenario)
+    ap (λ (room : RoomState). find (has_pid task.spec.pid) room.tasks) (becomes some_beside)
     ∙ find-changed (record task { queued = false }) task old.tasks.tasks there
 
 -- and leads nobody where it led nobody
-alone : (old new : State) (task : Task) → Becomes old new (λ room. dequeued room task) → has_threads (room_of some_scenario old) task ≡ false →
-    has_threads (room_of some_scenario new) (record task { queued = false }) ≡ false
+alone : (old new : State) (task : Task) → Becomes old new (λ room. dequeued room task) → has_threads (room_of some_beside old) task ≡ false →
+    has_threads (room_of some_beside new) (record task { queued = false }) ≡ false
 alone old new task becomes nobody =
-    ap (λ (room : RoomState). has_threads room (record task { queued = false })) (becomes some_scenario)
+    ap (λ (room : RoomState). has_threads room (record task { queued = false })) (becomes some_beside)
     ∙ ap (λ b. (task.spec.tgid == task.spec.pid) && b) (any-changed (record task { queued = false }) (λ other. other.spec.tgid == task.spec.pid) old.tasks.tasks)
     ∙ nobody
 
@@ -40,18 +40,18 @@ unwrap-requires c =
     let old = c.args.self.now in
     let mid = c.dequeue.new.self in
     let task = c.args.task in
-    subst IsOk (sym (c.end.ensures.answer (room_of some_scenario mid) (record task { queued = false }) refl (found old mid task c.dequeue.ensures.room c.requires.there)))
-    (rw (alone old mid task c.dequeue.ensures.room (c.requires.alone some_scenario)) refl)
+    subst IsOk (sym (c.end.ensures.answer (room_of some_beside mid) (record task { queued = false }) refl (found old mid task c.dequeue.ensures.room c.requires.there)))
+    (rw (alone old mid task c.dequeue.ensures.room (c.requires.alone some_beside)) refl)
 
 pub returns-clause-room : goal.returns-clause-room
-returns-clause-room c scenario =
+returns-clause-room c beside =
     let task = c.args.task in
     let mid = c.dequeue.new.self in
     let gone : List Task → List Task = filter (λ other. not (has_pid task.spec.pid other)) in
     let ended = rw c.unwrap.ensures at c.end.ensures.ended in
     rw (ended, c.end.ensures.next, c.end.ensures.limit, c.push_reserved.ensures.items)
-    (ap (λ (room : RoomState). let left : RoomState = record room { tasks = gone room.tasks; ended = room.ended ++ task.spec.pid ∷ [] } in left) (c.dequeue.ensures.room scenario)
-    ∙ ap (λ (tasks : List Task). let left : RoomState = record (room_of scenario c.args.self.now) { tasks = tasks; ended = c.args.self.now.ended.items ++ task.spec.pid ∷ [] } in left)
+    (ap (λ (room : RoomState). let left : RoomState = record room { tasks = gone room.tasks; ended = room.ended ++ task.spec.pid ∷ [] } in left) (c.dequeue.ensures.room beside)
+    ∙ ap (λ (tasks : List Task). let left : RoomState = record (room_of beside c.args.self.now) { tasks = tasks; ended = c.args.self.now.ended.items ++ task.spec.pid ∷ [] } in left)
     (filter-changed (record task { queued = false }) c.args.self.now.tasks.tasks))
 
 pub returns-clause-sound : goal.returns-clause-sound

@@ -11,9 +11,9 @@ returns-clause-sound c count sound =
     rw c.touch.ensures (record { siblings = changed.siblings; table = changed.table; tasks = changed.tasks; known = changed.known; low_pids = changed.low_pids; refs = changed.refs })
 
 pub returns-clause-room : goal.returns-clause-room
-returns-clause-room c scenario =
+returns-clause-room c beside =
     let queued : Task = record c.args.task { queued = true; stamp = c.args.self.now.next_stamp } in
     let stamped : RoomState → ℕ → RoomState = λ room stamp. record room { next_stamp = stamp + 1 } in
     rw c.touch.ensures
-    (ap (λ (room : RoomState). stamped room c.change.new.self.next_stamp) (c.change.ensures.room scenario)
-    ∙ ap (λ (state : State). stamped (with_task (room_of scenario c.args.self.now) queued) state.next_stamp) c.change.ensures.rest)
+    (ap (λ (room : RoomState). stamped room c.change.new.self.next_stamp) (c.change.ensures.room beside)
+    ∙ ap (λ (state : State). stamped (with_task (room_of beside c.args.self.now) queued) state.next_stamp) c.change.ensures.rest)

@@ -6,7 +6,7 @@ use Rattle.cs_types.proofs.First.{first_of_reduce}
 use Rattle.plain_room.proofs.state.State.first_on.Goals as goal
 
 pub returns : goal.returns
-returns c scenario =
+returns c beside =
     let queued = filter (λ task. task.queued && (task.home == c.args.cpu)) c.args.self.now.tasks.tasks in
     let scanned : c.reduce.result ≡ reduce (λ first task. cond (goes_before task first) task first) queued = search rules in
     scanned ∙ sym (first_of_reduce queued)

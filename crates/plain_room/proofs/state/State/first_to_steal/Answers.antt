@@ -11,9 +11,9 @@ use Rattle.plain_room.proofs.States.{sibling_at}
 use Rattle.plain_room.proofs.state.State.first_to_steal.Goals as goal
 
 pub returns : goal.returns
-returns c scenario =
+returns c beside =
     let state = c.args.self.now in
-    let room = room_of scenario state in
+    let room = room_of beside state in
     let thief = sibling_at state.siblings.items c.args.thief c.index-idle.result.now c.requires.thief c.index-idle.ensures in
     let source = sibling_at state.siblings.items c.args.source c.index-sibling.result.now c.requires.source c.index-sibling.ensures in
     let may = may_steal (sibling_state c.index-idle.result.now) (sibling_state c.index-sibling.result.now) in

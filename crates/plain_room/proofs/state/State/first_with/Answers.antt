@@ -8,7 +8,7 @@ use Rattle.plain_room.proofs.Lists.{filter-filter}
 use Rattle.plain_room.proofs.state.State.first_with.Goals as goal
 
 pub returns : goal.returns
-returns c scenario =
+returns c beside =
     let queued = filter (λ task. task.queued && (task.home == c.args.cpu) && (task.cookie == c.args.cookie)) c.args.self.now.tasks.tasks in
     let scanned : c.reduce.result ≡ reduce (λ first task. cond (goes_before task first) task first) queued = search rules in
     rw (ne_eqb _ _ c.if-cookie-eq0.false) (

@@ -11,7 +11,7 @@ use Rattle.cs_types.specs.Step.{Stepped, forked, child_at_home, child_of, with_c
 use Rattle.plain_room.specs.State.{room_of, IsSound, Numbers, touched}
 use Rattle.plain_room.specs.Life.{MakesChild}
 use Rattle.plain_room.specs.declared.state.State.{State}
-use Rattle.plain_room.proofs.States.{found_fits, knows-inserted, some_scenario}
+use Rattle.plain_room.proofs.States.{uncharged, found_fits, knows-inserted, some_beside}
 use Rattle.plain_room.proofs.state.State.fork.Goals as goal
 
 -- a child is at home on one of the siblings
@@ -32,8 +32,8 @@ child_at_home-requires c =
     }
 
 -- the settled child is the child but for its home and its virtual time
-child_at_home_is : (c : goal.After-child_at_home) → c.child_at_home.result ≡ child_at_home (room_of some_scenario c.make_child.new.self) c.in-Ok.child
-child_at_home_is c = c.child_at_home.ensures.child_at_home some_scenario
+child_at_home_is : (c : goal.After-child_at_home) → c.child_at_home.result ≡ child_at_home (room_of some_beside c.make_child.new.self) c.in-Ok.child
+child_at_home_is c = c.child_at_home.ensures.child_at_home some_beside
 
 pub queue_at_home-requires-clause-known : goal.queue_at_home-requires-clause-known
 queue_at_home-requires-clause-known c =
@@ -57,23 +57,23 @@ pub queue_at_home-requires-clause-clock : goal.queue_at_home-requires-clause-clo
 queue_at_home-requires-clause-clock c = omega (arith, c.in-Ok.ensures.makes.2.clock, c.requires.time.clock)
 
 pub returns-in-Ok-clause-makes : goal.returns-in-Ok-clause-makes
-returns-in-Ok-clause-makes c scenario =
+returns-in-Ok-clause-makes c beside =
     let makes = c.in-Ok.ensures.makes in
     let born = makes.2 in
-    let room = room_of scenario c.args.self.now in
+    let room = room_of beside c.args.self.now in
     let child = c.in-Ok.child in
     let made : Task → Stepped = λ task. record { reply = Child task.spec.pid; room = queued_at_home (with_child room task) (child_at_home room task) } in
     let is : made child ≡ forked room c.args.thread (Some makes.0) =
     ap made born.is ∙ sym (cond-false _ _ (made (child_of makes.0 c.args.thread room.next_pid)) born.allowed) in
     let whole = is ∙ ap (forked room c.args.thread) (sym makes.1) in
-    record {
+    uncharged (record {
       reply = ap (λ (m : Stepped). m.reply) whole;
-      room = c.queue_at_home.ensures.room scenario
-          ∙ ap (λ (now : RoomState). queued_at_home now c.child_at_home.result) (born.room scenario)
-          ∙ ap (queued_at_home (with_child room child)) (c.child_at_home.ensures.child_at_home scenario ∙ ap (λ (now : RoomState). child_at_home now child) (born.room scenario))
+      room = c.queue_at_home.ensures.room beside
+          ∙ ap (λ (now : RoomState). queued_at_home now c.child_at_home.result) (born.room beside)
+          ∙ ap (queued_at_home (with_child room child)) (c.child_at_home.ensures.child_at_home beside ∙ ap (λ (now : RoomState). child_at_home now child) (born.room beside))
           ∙ ap (λ (m : Stepped). m.room) whole;
       numbers = c.queue_at_home.ensures.numbers ∙ ap (λ (numbers : Numbers). touched 1 numbers) born.numbers;
-    }
+    })
 
 pub returns-in-Ok-clause-sound : goal.returns-in-Ok-clause-sound
 returns-in-Ok-clause-sound c count sound = c.queue_at_home.ensures.sound count (c.in-Ok.ensures.makes.2.sound count sound)

@@ -5,7 +5,7 @@ use Rattle.cs_types.specs.Room.{RoomState}
 use Rattle.plain_room.specs.Time.{grown_among}
 use Rattle.plain_room.specs.declared.state.State.{State}
 use Rattle.plain_room.specs.declared.sibling.Sibling.{Sibling}
-use Rattle.plain_room.proofs.States.{some_scenario, knows-alike}
+use Rattle.plain_room.proofs.States.{some_beside, knows-alike}
 use Rattle.plain_room.proofs.Ranges.{vtimes_are_low}
 use Rattle.plain_room.proofs.Growth.{task_was, kept, there, grown_more}
 use Rattle.plain_room.proofs.state.State.grow_tasks.Goals as goal
@@ -18,7 +18,7 @@ grown_among-task-requires-clause-used c =
     let within : place < length old.tasks.tasks = omega (arith, c.loop-place-test.true, c.len-place-end.ensures.len) in
     let at = sym c.at.ensures.task ∙ ap option_copied c.unwrap-task.ensures in
     let was = task_was old.siblings.items c.args.delta old.tasks.tasks c.loop-place.self.tasks.tasks place task within c.loop-place.invariant.tasks at in
-    omega (arith, ap (λ (t : Task). t.used) was, ((c.requires.time.timely some_scenario).tasks place task within).used, c.requires.time.clock, c.requires.delta)
+    omega (arith, ap (λ (t : Task). t.used) was, ((c.requires.time.timely some_beside).tasks place task within).used, c.requires.time.clock, c.requires.delta)
 
 pub grown_among-task-requires-clause-vtime : goal.grown_among-task-requires-clause-vtime
 grown_among-task-requires-clause-vtime c =
@@ -55,7 +55,7 @@ loop-place-preserved c =
     let at = sym c.at.ensures.task ∙ ap option_copied c.unwrap-task.ensures in
     let siblings = c.deref.ensures.value ∙ ap (λ (state : State). state.siblings.items) c.loop-place.invariant.rest in
     let is = c.grown_among-task.ensures ∙ ap (λ (ss : List Sibling). grown_among ss c.args.delta task) siblings in
-    let changed = c.change.ensures.room some_scenario in
+    let changed = c.change.ensures.room some_beside in
     record {
       tasks = ap (λ (room : RoomState). room.tasks) changed
           ∙ grown_more old.siblings.items c.args.delta old.tasks.tasks c.loop-place.self.tasks.tasks place task within c.loop-place.invariant.tasks at c.at.ensures.sound.rising c.grown_among-task.result is;

@@ -7,7 +7,7 @@ use Rattle.plain_room.proofs.States.{sibling_at, numbers_kept}
 use Rattle.plain_room.proofs.state.State.idle.Goals as goal
 
 pub returns-clause-room : goal.returns-clause-room
-returns-clause-room c scenario =
+returns-clause-room c beside =
     let at = sibling_at c.args.self.now.siblings.items c.args.cpu c.index_mut.result.now c.requires c.index_mut.ensures.value in
     rw (map-set sibling_state, at) refl
 

@@ -5,11 +5,11 @@ use Rattle.plain_room.specs.State.{room_of}
 use Rattle.plain_room.proofs.state.State.is_asked.Goals as goal
 
 pub returns-then-is_overtaken : goal.returns-then-is_overtaken
-returns-then-is_overtaken c scenario =
-    let overtaken = sym (c.is_overtaken.ensures scenario) ∙ c.if-is_overtaken.true in
-    c.if-is_overtaken.true ∙ sym (λ i. overtaken i || is_to_yield (room_of scenario c.args.self.now) c.args.cpu c.args.task.now)
+returns-then-is_overtaken c beside =
+    let overtaken = sym (c.is_overtaken.ensures beside) ∙ c.if-is_overtaken.true in
+    c.if-is_overtaken.true ∙ sym (λ i. overtaken i || is_to_yield (room_of beside c.args.self.now) c.args.cpu c.args.task.now)
 
 pub returns-else-is_overtaken : goal.returns-else-is_overtaken
-returns-else-is_overtaken c scenario =
-    let overtaken = sym (c.is_overtaken.ensures scenario) ∙ c.if-is_overtaken.false in
-    c.is_to_yield.ensures scenario ∙ sym (λ i. overtaken i || is_to_yield (room_of scenario c.args.self.now) c.args.cpu c.args.task.now)
+returns-else-is_overtaken c beside =
+    let overtaken = sym (c.is_overtaken.ensures beside) ∙ c.if-is_overtaken.false in
+    c.is_to_yield.ensures beside ∙ sym (λ i. overtaken i || is_to_yield (room_of beside c.args.self.now) c.args.cpu c.args.task.now)

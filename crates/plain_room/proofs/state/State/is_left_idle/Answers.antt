@@ -8,10 +8,10 @@ use Rattle.plain_room.proofs.state.State.is_left_idle.Goals as goal
 use Rattle.plain_room.proofs.state.State.is_left_idle.Goals.{then-is_none, else-is_none}
 
 pub returns-then-is_none-2 : goal.returns-then-is_none-2
-returns-then-is_none-2 c scenario =
-    let room = room_of scenario c.args.self.now in
+returns-then-is_none-2 c beside =
+    let room = room_of beside c.args.self.now in
     let empty : is_none (first_on room c.args.cpu) ≡ c.is_none.result =
-    ap is_none (sym (c.first_on.ensures scenario)) ∙ ap not c.is_none.ensures ∙ twice c.is_none.result in
+    ap is_none (sym (c.first_on.ensures beside)) ∙ ap not c.is_none.ensures ∙ twice c.is_none.result in
     elim c.if-is_none.branch [
       | then-is_none w ↦
           let at = sibling_at c.args.self.now.siblings.items c.args.cpu w.index.result.now c.requires w.index.ensures in
@@ -26,10 +26,10 @@ returns-then-is_none-2 c scenario =
       twice false = refl
 
 pub returns-else-is_none-2 : goal.returns-else-is_none-2
-returns-else-is_none-2 c scenario =
-    let room = room_of scenario c.args.self.now in
+returns-else-is_none-2 c beside =
+    let room = room_of beside c.args.self.now in
     let empty : is_none (first_on room c.args.cpu) ≡ c.is_none.result =
-    ap is_none (sym (c.first_on.ensures scenario)) ∙ ap not c.is_none.ensures ∙ twice c.is_none.result in
+    ap is_none (sym (c.first_on.ensures beside)) ∙ ap not c.is_none.ensures ∙ twice c.is_none.result in
     elim c.if-is_none.branch [
       | then-is_none w ↦
           let at = sibling_at c.args.self.now.siblings.items c.args.cpu w.index.result.now c.requires w.index.ensures in

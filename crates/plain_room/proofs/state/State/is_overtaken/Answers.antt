@@ -9,7 +9,7 @@ use Rattle.plain_room.proofs.Clocks.{others_pass}
 use Rattle.plain_room.proofs.state.State.is_overtaken.Goals as goal
 
 pub returns-then-is_fair : goal.returns-then-is_fair
-returns-then-is_fair c scenario =
+returns-then-is_fair c beside =
     let task = c.args.task.now in
     let tasks = c.args.self.now.tasks.tasks in
     let test : Task → Bool = λ other. is_fair other && ltb other.vtime task.vtime in

@@ -9,8 +9,8 @@ use Rattle.plain_room.proofs.state.State.is_to_steal.Goals as goal
 use Rattle.plain_room.proofs.state.State.is_to_steal.Goals.{then-count-ne0, else-count-ne0, then-is_none, else-is_none}
 
 pub returns-then-self-ne0 : goal.returns-then-self-ne0
-returns-then-self-ne0 c scenario =
-    let room = room_of scenario c.args.self.now in
+returns-then-self-ne0 c beside =
+    let room = room_of beside c.args.self.now in
     let last = is_some (first_on room c.args.cpu) in
     elim c.if-is_none.branch [
       | then-is_none w ↦ (elim c.if-count-ne0.branch [
@@ -20,7 +20,7 @@ returns-then-self-ne0 c scenario =
             let idles : is_none (sibling_of room c.args.cpu).run ≡ true =
             ap (λ (s : SiblingState). is_none s.run) at ∙ ap not v.is_none.ensures ∙ ap (λ b. not (not b)) (sym v.value-is ∙ w.if-is_none.true) in
             let has : not (room.core_cookie == 0) ≡ true = sym w.value-is ∙ c.if-self-ne0.true in
-            c.is_some.ensures ∙ ap is_some (c.first_on.ensures scenario) ∙ sym (λ i. some i && idles i && has i && last)
+            c.is_some.ensures ∙ ap is_some (c.first_on.ensures beside) ∙ sym (λ i. some i && idles i && has i && last)
         | else-count-ne0 v ↦
             let none = sym (v.value-is ∙ ap (λ n. not (n == 0)) v.if-count-ne0.false) ∙ w.if-is_none.true in absurd cc
       ])

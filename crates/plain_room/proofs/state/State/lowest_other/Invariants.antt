@@ -1,12 +1,11 @@
 use Rattle.std.proofs.Common.{◌≡◌, None}
 use Rattle.std.specs.Prelude.{find, ◌&&◌, not, ◌==◌}
 use Rattle.std.specs.List.{range_with_len}
-use Rattle.cs_types.specs.declared.scenario.Scenario.{Scenario}
 use Rattle.cs_types.specs.Room.{is_online}
-use Rattle.plain_room.specs.State.{room_of}
+use Rattle.plain_room.specs.State.{Beside, room_of}
 use Rattle.plain_room.proofs.state.State.lowest_other.Given as goal
 
 abbrev pub invariant-loop-other : goal.invariant-loop-other
 invariant-loop-other l = record {
-  none : (scenario : Scenario) → find (λ other. is_online (room_of scenario l.self) other && not (other == l.cpu)) (range_with_len 0 l.other) ≡ None;
+  none : (beside : Beside) → find (λ other. is_online (room_of beside l.self) other && not (other == l.cpu)) (range_with_len 0 l.other) ≡ None;
 }

@@ -12,31 +12,31 @@ use Rattle.plain_room.proofs.state.State.lowest_pending.Goals as goal
 
 pub loop-cpu-init : goal.loop-cpu-init
 loop-cpu-init c = record {
-  from_here = λ scenario. let room = room_of scenario c.args.self.now in
+  from_here = λ beside. let room = room_of beside c.args.self.now in
       let count : length room.siblings ≡ c.len-cpu-end.result - 0 =
       omega (arith, length-map c.args.self.now.siblings.items sibling_state, c.args.self.now.siblings.ok.0, c.len-cpu-end.ensures) in
       lowest_due room c.args.has_waiting ∙ ap (λ n. lowest (filter (due room c.args.has_waiting) (range_with_len 0 n))) count;
 }
 
 pub returns-then-is_due : goal.returns-then-is_due
-returns-then-is_due c scenario =
-    let room = room_of scenario c.args.self.now in
+returns-then-is_due c beside =
+    let room = room_of beside c.args.self.now in
     let within : c.loop-cpu.cpu < length c.args.self.now.siblings.items = omega (arith, c.loop-cpu-test.true, c.len-cpu-end.ensures, c.args.self.now.siblings.ok.0) in
     let at = sibling_at c.args.self.now.siblings.items c.loop-cpu.cpu c.index.result.now within c.index.ensures in
     let passes = ap (λ (s : SiblingState). is_due c.args.has_waiting s) at ∙ sym c.is_due.ensures ∙ c.if-is_due.true in
-    sym (c.loop-cpu.invariant.from_here scenario ∙ lowest_here (due room c.args.has_waiting) c.loop-cpu.cpu c.len-cpu-end.result c.loop-cpu-test.true passes)
+    sym (c.loop-cpu.invariant.from_here beside ∙ lowest_here (due room c.args.has_waiting) c.loop-cpu.cpu c.len-cpu-end.result c.loop-cpu-test.true passes)
 
 pub loop-cpu-preserved : goal.loop-cpu-preserved
 loop-cpu-preserved c = record {
-  from_here = λ scenario.
-      let room = room_of scenario c.args.self.now in
+  from_here = λ beside.
+      let room = room_of beside c.args.self.now in
       let within : c.loop-cpu.cpu < length c.args.self.now.siblings.items = omega (arith, c.loop-cpu-test.true, c.len-cpu-end.ensures, c.args.self.now.siblings.ok.0) in
       let at = sibling_at c.args.self.now.siblings.items c.loop-cpu.cpu c.index.result.now within c.index.ensures in
       let fails = ap (λ (s : SiblingState). is_due c.args.has_waiting s) at ∙ sym c.is_due.ensures ∙ c.if-is_due.false in
-      c.loop-cpu.invariant.from_here scenario ∙ lowest_later (due room c.args.has_waiting) c.loop-cpu.cpu c.len-cpu-end.result c.loop-cpu-test.true fails;
+      c.loop-cpu.invariant.from_here beside ∙ lowest_later (due room c.args.has_waiting) c.loop-cpu.cpu c.len-cpu-end.result c.loop-cpu-test.true fails;
 }
 
 pub returns : goal.returns
-returns c scenario =
-    let room = room_of scenario c.args.self.now in
-    sym (c.loop-cpu.invariant.from_here scenario ∙ lowest_none (due room c.args.has_waiting) c.loop-cpu.cpu c.len-cpu-end.result (omega (arith, c.loop-cpu-test.false)))
+returns c beside =
+    let room = room_of beside c.args.self.now in
+    sym (c.loop-cpu.invariant.from_here beside ∙ lowest_none (due room c.args.has_waiting) c.loop-cpu.cpu c.len-cpu-end.result (omega (arith, c.loop-cpu-test.false)))

@@ -84,7 +84,7 @@ returns c =
         record {
           allowed = by.2;
           is = is;
-          room = λ scenario. rw (inserted, c.fork.ensures.next, c.fork.ensures.limit) (ap (with_child (room_of scenario old)) (sym is));
+          room = λ beside. rw (inserted, c.fork.ensures.next, c.fork.ensures.limit) (ap (with_child (room_of beside old)) (sym is));
           there = subst (λ (task : Task). find (has_pid task.spec.pid) c.fork.new.table.tasks ≡ Some task) (sym is) there;
           sound = λ count sound.
               let fit = found_fits count next c.args.caller old.tasks.tasks by.0 sound.tasks by.1 in

@@ -7,16 +7,16 @@ use Rattle.cs_types.specs.Room.{RoomState}
 use Rattle.plain_room.proofs.state.State.move_off.Goals as goal
 
 pub returns-clause-room : goal.returns-clause-room
-returns-clause-room c scenario =
-    let room = room_of scenario c.args.self.now in
+returns-clause-room c beside =
+    let room = room_of beside c.args.self.now in
     let count = c.queued_count-count.result in
-    let moved = c.move_tasks.ensures.rest ∙ ap (λ (tasks : Table). let next : State = record c.args.self.now { tasks = tasks } in next) (c.move_tasks.ensures.tasks scenario) in
-    ap (λ (state : State). let next : RoomState = record (room_of scenario state) { next_stamp = state.next_stamp + count } in next) moved
-    ∙ ap (λ n. let next : RoomState = record (with_moves room c.args.cpu) { next_stamp = room.next_stamp + n } in next) (c.queued_count-count.ensures.count scenario)
+    let moved = c.move_tasks.ensures.rest ∙ ap (λ (tasks : Table). let next : State = record c.args.self.now { tasks = tasks } in next) (c.move_tasks.ensures.tasks beside) in
+    ap (λ (state : State). let next : RoomState = record (room_of beside state) { next_stamp = state.next_stamp + count } in next) moved
+    ∙ ap (λ n. let next : RoomState = record (with_moves room c.args.cpu) { next_stamp = room.next_stamp + n } in next) (c.queued_count-count.ensures.count beside)
 
 pub returns-clause-numbers : goal.returns-clause-numbers
-returns-clause-numbers c scenario =
+returns-clause-numbers c beside =
     let count = c.queued_count-count.result in
-    let moved = c.move_tasks.ensures.rest ∙ ap (λ (tasks : Table). let next : State = record c.args.self.now { tasks = tasks } in next) (c.move_tasks.ensures.tasks scenario) in
+    let moved = c.move_tasks.ensures.rest ∙ ap (λ (tasks : Table). let next : State = record c.args.self.now { tasks = tasks } in next) (c.move_tasks.ensures.tasks beside) in
     ap (λ (state : State). let next : Numbers = record (numbers_of state) { task = state.task_number + 2 * count } in next) moved
-    ∙ ap (λ n. touched (2 * n) (numbers_of c.args.self.now)) (c.queued_count-count.ensures.count scenario)
+    ∙ ap (λ n. touched (2 * n) (numbers_of c.args.self.now)) (c.queued_count-count.ensures.count beside)

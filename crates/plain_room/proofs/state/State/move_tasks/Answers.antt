@@ -11,7 +11,7 @@ use Rattle.cs_types.specs.Hotplug.{moved_off}
 use Rattle.plain_room.specs.State.{room_of, StaysSound}
 use Rattle.plain_room.specs.declared.state.State.{State}
 use Rattle.plain_room.specs.declared.sibling.Sibling.{Sibling}
-use Rattle.plain_room.proofs.States.{some_scenario, policies, knows-inserted}
+use Rattle.plain_room.proofs.States.{some_beside, policies, knows-inserted}
 use Rattle.plain_room.proofs.Ranges.{leasts_are_low, vtimes_are_low}
 use Rattle.plain_room.proofs.Moves.{mapped_all, task_is, task_was, same_more, there, changed_more, moved_is, stays, stamp_at}
 use Rattle.plain_room.proofs.state.State.move_tasks.Goals as goal
@@ -29,11 +29,11 @@ moved_to-moved-requires-clause-home c =
     let now = c.loop-place.self in
     let place = c.loop-place.place in
     let task = c.unwrap-task.result.now in
-    let change = moved_off (room_of some_scenario old) c.args.cpu in
+    let change = moved_off (room_of some_beside old) c.args.cpu in
     let within : place < length old.tasks.tasks = omega (arith, c.loop-place-test.true, c.len-place-end.ensures.len) in
     let at : slice_get now.tasks.tasks place ≡ Some task = sym c.at.ensures.task ∙ ap option_copied c.unwrap-task.ensures in
     let sound = c.loop-place.invariant.sound (length old.siblings.items) c.requires.sound in
-    let is = task_is change old.tasks.tasks now.tasks.tasks place task within (c.loop-place.invariant.tasks some_scenario) at in
+    let is = task_is change old.tasks.tasks now.tasks.tasks place task within (c.loop-place.invariant.tasks some_beside) at in
     omega (arith, (sound.tasks place task (omega (arith, within, c.loop-place.invariant.as_many))).home, sound.siblings, ap (λ (t : Task). t.home) is)
 
 pub moved_to-moved-requires-clause-vtime : goal.moved_to-moved-requires-clause-vtime
@@ -42,10 +42,10 @@ moved_to-moved-requires-clause-vtime c =
     let now = c.loop-place.self in
     let place = c.loop-place.place in
     let task = c.unwrap-task.result.now in
-    let change = moved_off (room_of some_scenario old) c.args.cpu in
+    let change = moved_off (room_of some_beside old) c.args.cpu in
     let within : place < length old.tasks.tasks = omega (arith, c.loop-place-test.true, c.len-place-end.ensures.len) in
     let at : slice_get now.tasks.tasks place ≡ Some task = sym c.at.ensures.task ∙ ap option_copied c.unwrap-task.ensures in
-    let was = task_was change old.tasks.tasks now.tasks.tasks place task within (c.loop-place.invariant.tasks some_scenario) at in
+    let was = task_was change old.tasks.tasks now.tasks.tasks place task within (c.loop-place.invariant.tasks some_beside) at in
     omega (arith, vtimes_are_low old c.requires.time place task within, ap (λ (t : Task). t.vtime) was)
 
 pub moved_to-moved-requires-clause-leasts : goal.moved_to-moved-requires-clause-leasts
@@ -60,19 +60,19 @@ change-requires c =
     let now = c.loop-place.self in
     let place = c.loop-place.place in
     let task = c.unwrap-task.result.now in
-    let change = moved_off (room_of some_scenario old) c.args.cpu in
+    let change = moved_off (room_of some_beside old) c.args.cpu in
     let within : place < length old.tasks.tasks = omega (arith, c.loop-place-test.true, c.len-place-end.ensures.len) in
     let at : slice_get now.tasks.tasks place ≡ Some task = sym c.at.ensures.task ∙ ap option_copied c.unwrap-task.ensures in
     let sound = c.loop-place.invariant.sound (length old.siblings.items) c.requires.sound in
-    let is = task_is change old.tasks.tasks now.tasks.tasks place task within (c.loop-place.invariant.tasks some_scenario) at in
-    let moved = c.moved_to-moved.ensures some_scenario in
+    let is = task_is change old.tasks.tasks now.tasks.tasks place task within (c.loop-place.invariant.tasks some_beside) at in
+    let moved = c.moved_to-moved.ensures some_beside in
     let done : Task = record c.moved_to-moved.result { stamp = get_or c.args.stamps.now place 0 } in
     let spec : done.spec ≡ task.spec = ap (λ (t : Task). t.spec) moved in
     let policy : IsPolicy task.spec.policy =
     subst (λ (t : Task). IsPolicy t.spec.policy) (sym is) (policies (length old.siblings.items) now sound place task (omega (arith, within, c.loop-place.invariant.as_many))) in
     record {
       known = knows-inserted now done task
-          (there change old.tasks.tasks now.tasks.tasks place task within (c.loop-place.invariant.tasks some_scenario) at c.at.ensures.sound.rising done spec)
+          (there change old.tasks.tasks now.tasks.tasks place task within (c.loop-place.invariant.tasks some_beside) at c.at.ensures.sound.rising done spec)
           (ap (λ (t : Task). t.cookie) moved)
           (omega (arith, ap (λ (t : Task). t.home) moved, c.requires.within, ap (λ (state : State). length state.siblings.items) c.loop-place.invariant.rest))
           (subst (λ (s : TaskSpec). IsPolicy s.policy) (sym spec) policy);
@@ -84,41 +84,41 @@ loop-place-preserved c =
     let now = c.loop-place.self in
     let place = c.loop-place.place in
     let task = c.unwrap-task.result.now in
-    let change = moved_off (room_of some_scenario old) c.args.cpu in
+    let change = moved_off (room_of some_beside old) c.args.cpu in
     let within : place < length old.tasks.tasks = omega (arith, c.loop-place-test.true, c.len-place-end.ensures.len) in
     let at : slice_get now.tasks.tasks place ≡ Some task = sym c.at.ensures.task ∙ ap option_copied c.unwrap-task.ensures in
-    let was = task_was change old.tasks.tasks now.tasks.tasks place task within (c.loop-place.invariant.tasks some_scenario) at in
+    let was = task_was change old.tasks.tasks now.tasks.tasks place task within (c.loop-place.invariant.tasks some_beside) at in
     record {
       as_many = elim c.if-task.branch [
         | then-task+then-task-cpu w ↦
             ap (λ (state : State). length state.tasks.tasks) w.self-is
-            ∙ ap (λ (room : RoomState). length room.tasks) (w.change.ensures.room some_scenario)
+            ∙ ap (λ (room : RoomState). length room.tasks) (w.change.ensures.room some_beside)
             ∙ length-map now.tasks.tasks _ ∙ c.loop-place.invariant.as_many
         | else-task w ↦ ap (λ (state : State). length state.tasks.tasks) w.self-is ∙ c.loop-place.invariant.as_many
       ];
-      tasks = λ scenario.
-          let room = room_of scenario old in
+      tasks = λ beside.
+          let room = room_of beside old in
           elim c.if-task.branch [
             | then-task+then-task-cpu w ↦
                 let done : Task = record w.moved_to-moved.result { stamp = get_or c.args.stamps.now place 0 } in
                 let stamp = stamp_at old.tasks.tasks c.args.cpu old.next_stamp place task c.args.stamps.now within c.requires.stamps was in
-                let is = moved_is scenario old now c.args.cpu c.args.to (get_or c.args.stamps.now place 0) task w.moved_to-moved.result c.loop-place.invariant.rest
-                (c.requires.to scenario) (w.moved_to-moved.ensures scenario) w.if-task.true w.if-task-cpu.true stamp in
+                let is = moved_is beside old now c.args.cpu c.args.to (get_or c.args.stamps.now place 0) task w.moved_to-moved.result c.loop-place.invariant.rest
+                (c.requires.to beside) (w.moved_to-moved.ensures beside) w.if-task.true w.if-task-cpu.true stamp in
                 ap (λ (state : State). state.tasks.tasks) w.self-is
-                ∙ ap (λ (room : RoomState). room.tasks) (w.change.ensures.room some_scenario)
-                ∙ changed_more (moved_off room c.args.cpu) old.tasks.tasks now.tasks.tasks place task within (c.loop-place.invariant.tasks scenario) at c.at.ensures.sound.rising done
-                (ap (λ (t : Task). t.spec) (w.moved_to-moved.ensures scenario)) is
+                ∙ ap (λ (room : RoomState). room.tasks) (w.change.ensures.room some_beside)
+                ∙ changed_more (moved_off room c.args.cpu) old.tasks.tasks now.tasks.tasks place task within (c.loop-place.invariant.tasks beside) at c.at.ensures.sound.rising done
+                (ap (λ (t : Task). t.spec) (w.moved_to-moved.ensures beside)) is
             | else-task w ↦
                 let stays_there : (task.queued && (task.home == c.args.cpu)) ≡ false = elim w.else-task.branch [
                   | else-task-via-then-task+else-task-cpu w' ↦ ap (λ b. task.queued && b) (ne_eqb task.home c.args.cpu w'.if-task-cpu.false) ∙ and-false task.queued
                   | else-task-via-else-task w' ↦ ap (λ b. b && (task.home == c.args.cpu)) w'.if-task.false
                 ] in
                 ap (λ (state : State). state.tasks.tasks) w.self-is
-                ∙ same_more (moved_off room c.args.cpu) old.tasks.tasks now.tasks.tasks place task within (c.loop-place.invariant.tasks scenario) at (stays room c.args.cpu task stays_there)
+                ∙ same_more (moved_off room c.args.cpu) old.tasks.tasks now.tasks.tasks place task within (c.loop-place.invariant.tasks beside) at (stays room c.args.cpu task stays_there)
           ];
       limit = elim c.if-task.branch [
         | then-task+then-task-cpu w ↦
-            ap (λ (state : State). state.tasks.limit) w.self-is ∙ ap (λ (room : RoomState). room.task_limit) (w.change.ensures.room some_scenario) ∙ c.loop-place.invariant.limit
+            ap (λ (state : State). state.tasks.limit) w.self-is ∙ ap (λ (room : RoomState). room.task_limit) (w.change.ensures.room some_beside) ∙ c.loop-place.invariant.limit
         | else-task w ↦ ap (λ (state : State). state.tasks.limit) w.self-is ∙ c.loop-place.invariant.limit
       ];
       rest = elim c.if-task.branch [
@@ -137,8 +137,8 @@ loop-place-preserved c =
 -- ---- all tasks
 
 pub returns-clause-tasks : goal.returns-clause-tasks
-returns-clause-tasks c scenario =
+returns-clause-tasks c beside =
     let old = c.args.self.now in
     let all : c.loop-place.place ≡ length old.tasks.tasks = omega (arith, c.loop-place-test.false, c.loop-place.auto.place-end, c.len-place-end.ensures.len) in
-    let tasks = c.loop-place.invariant.tasks scenario ∙ mapped_all (moved_off (room_of scenario old) c.args.cpu) old.tasks.tasks c.loop-place.place all in
+    let tasks = c.loop-place.invariant.tasks beside ∙ mapped_all (moved_off (room_of beside old) c.args.cpu) old.tasks.tasks c.loop-place.place all in
     λ i. record old.tasks { tasks = tasks i; limit = c.loop-place.invariant.limit i }

@@ -6,12 +6,12 @@ use Rattle.plain_room.proofs.Pending.{next_any, next_fresh}
 use Rattle.plain_room.proofs.state.State.next_to_schedule.Goals as goal
 
 pub returns-else-is_fresh : goal.returns-else-is_fresh
-returns-else-is_fresh c scenario =
-    let room = room_of scenario c.args.self.now in
-    c.lowest_pending-else-is_fresh.ensures scenario ∙ next_any room ∙ ap (next_by room) (sym c.if-is_fresh.false ∙ c.is_fresh.ensures)
+returns-else-is_fresh c beside =
+    let room = room_of beside c.args.self.now in
+    c.lowest_pending-else-is_fresh.ensures beside ∙ next_any room ∙ ap (next_by room) (sym c.if-is_fresh.false ∙ c.is_fresh.ensures)
 
 pub returns-then-is_fresh : goal.returns-then-is_fresh
-returns-then-is_fresh c scenario =
-    let room = room_of scenario c.args.self.now in
-    c.or.ensures ∙ (λ i. option_or (c.lowest_pending.ensures scenario i) (c.lowest_pending-then-is_fresh.ensures scenario i)) ∙ next_fresh room
+returns-then-is_fresh c beside =
+    let room = room_of beside c.args.self.now in
+    c.or.ensures ∙ (λ i. option_or (c.lowest_pending.ensures beside i) (c.lowest_pending-then-is_fresh.ensures beside i)) ∙ next_fresh room
     ∙ ap (next_by room) (sym c.if-is_fresh.true ∙ c.is_fresh.ensures)

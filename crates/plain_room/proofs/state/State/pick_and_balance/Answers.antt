@@ -8,7 +8,7 @@ use Rattle.plain_room.proofs.state.State.pick_and_balance.Goals as goal
 pub returns-clause-schedules : goal.returns-clause-schedules
 returns-clause-schedules c = record {
   pick = c.pick_anew-pick.ensures.schedules.pick;
-  room = λ scenario. c.balance.ensures.room scenario
-      ∙ ap (λ (room : RoomState). with_place room c.args.cpu (if is_to_steal room c.args.cpu then 1 else 0)) (c.pick_anew-pick.ensures.schedules.room scenario);
+  room = λ beside. c.balance.ensures.room beside
+      ∙ ap (λ (room : RoomState). with_place room c.args.cpu (if is_to_steal room c.args.cpu then 1 else 0)) (c.pick_anew-pick.ensures.schedules.room beside);
   numbers = c.balance.ensures.numbers ∙ c.pick_anew-pick.ensures.schedules.numbers;
 }

@@ -7,13 +7,13 @@ use Rattle.plain_room.proofs.state.State.pick_anew.Goals as goal
 pub returns-then-is_plain-clause-schedules : goal.returns-then-is_plain-clause-schedules
 returns-then-is_plain-clause-schedules c =
     Schedules-same c.args.self.now c.run_first.new.self c.args.cpu c.run_first.result (λ room. plain room c.args.cpu) (λ room. picked_anew room c.args.cpu)
-    (λ scenario. let room = room_of scenario c.args.self.now in
-    ap (λ b. cond b (plain room c.args.cpu) (selected room c.args.cpu)) (sym (c.is_plain.ensures scenario) ∙ c.if-is_plain.true))
+    (λ beside. let room = room_of beside c.args.self.now in
+    ap (λ b. cond b (plain room c.args.cpu) (selected room c.args.cpu)) (sym (c.is_plain.ensures beside) ∙ c.if-is_plain.true))
     c.run_first.ensures.schedules
 
 pub returns-else-is_plain-clause-schedules : goal.returns-else-is_plain-clause-schedules
 returns-else-is_plain-clause-schedules c =
     Schedules-same c.args.self.now c.select.new.self c.args.cpu c.select.result (λ room. selected room c.args.cpu) (λ room. picked_anew room c.args.cpu)
-    (λ scenario. let room = room_of scenario c.args.self.now in
-    ap (λ b. cond b (plain room c.args.cpu) (selected room c.args.cpu)) (sym (c.is_plain.ensures scenario) ∙ c.if-is_plain.false))
+    (λ beside. let room = room_of beside c.args.self.now in
+    ap (λ b. cond b (plain room c.args.cpu) (selected room c.args.cpu)) (sym (c.is_plain.ensures beside) ∙ c.if-is_plain.false))
     c.select.ensures.schedules

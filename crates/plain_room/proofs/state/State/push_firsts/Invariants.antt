@@ -2,15 +2,14 @@ use Rattle.std.proofs.Common.{◌≡◌, ◌+◌, ◌-◌, ◌≤◌, ◌++◌, 
 use Rattle.std.specs.Prelude.{filter}
 use Rattle.std.specs.List.{range_with_len}
 use Rattle.arrayvec.specs.ArrayVec.{array_vec_len}
-use Rattle.cs_types.specs.declared.scenario.Scenario.{Scenario}
 use Rattle.cs_types.specs.Room.{is_online}
 use Rattle.cs_types.specs.Selection.{first_on}
-use Rattle.plain_room.specs.State.{room_of}
+use Rattle.plain_room.specs.State.{Beside, room_of}
 use Rattle.plain_room.proofs.state.State.push_firsts.Given as goal
 
 abbrev pub invariant-loop-cpu : goal.invariant-loop-cpu
 invariant-loop-cpu l = record {
   few : array_vec_len l.firsts ≤ array_vec_len l.initial.firsts + (l.cpu - l.from);
-  pushed : (scenario : Scenario) → l.firsts.items ≡ l.initial.firsts.items
-      ++ map (first_on (room_of scenario l.self)) (filter (is_online (room_of scenario l.self)) (range_with_len l.from (l.cpu - l.from)));
+  pushed : (beside : Beside) → l.firsts.items ≡ l.initial.firsts.items
+      ++ map (first_on (room_of beside l.self)) (filter (is_online (room_of beside l.self)) (range_with_len l.from (l.cpu - l.from)));
 }

@@ -5,7 +5,7 @@ use Rattle.cs_types.specs.declared.task.Task.{Task}
 use Rattle.plain_room.proofs.state.State.queued_count.Goals as goal
 
 pub returns-clause-count : goal.returns-clause-count
-returns-clause-count c scenario =
+returns-clause-count c beside =
     let walk = YieldsList-from_first (λ (x : Bor Task). x.now) (λ (left : List Task). left) {s = c.filter.result.iter} c.args.self.now.tasks.tasks (c.filter.ensures.source ∙ c.iter.ensures.tasks) in
     count_from_yields_List c.filter.result c.count.result c.count.ensures.ran
     (YieldsList-from_filter {s = c.filter.result} _ (λ (task : Task). task.queued && (task.home == c.args.cpu)) walk c.filter.ensures.closure (λ x b q k. search (rules, tests)))

@@ -9,7 +9,7 @@ use Rattle.plain_room.proofs.Clocks.{others_pass}
 use Rattle.plain_room.proofs.state.State.rotates.Goals as goal
 
 pub returns-then-has_used_slice : goal.returns-then-has_used_slice
-returns-then-has_used_slice c scenario =
+returns-then-has_used_slice c beside =
     let task = c.args.task.now in
     let tasks = c.args.self.now.tasks.tasks in
     let test : Task → Bool = is_peer task in

@@ -8,7 +8,7 @@ pub returns-clause-schedules : goal.returns-clause-schedules
 returns-clause-schedules c =
     let at = sibling_at c.args.self.now.siblings.items c.args.cpu c.index.result.now c.requires c.index.ensures in
     record {
-      pick = λ scenario. rw (c.unwrap_or.ensures, c.count.ensures.count) refl;
-      room = λ scenario. rw (map-set sibling_state, at) (rw c.running.ensures.state refl);
+      pick = λ beside. rw (c.unwrap_or.ensures, c.count.ensures.count) refl;
+      room = λ beside. rw (map-set sibling_state, at) (rw c.running.ensures.state refl);
       numbers = rw (map-set number_of, add-zero) refl;
     }

@@ -1,8 +1,7 @@
-use Rattle.std.proofs.Common.{◌≡◌, ◌∙◌, ap, sym, cond, false, None}
-use Rattle.cs_types.specs.declared.reply.Pick.{Pick}
+use Rattle.std.proofs.Common.{◌∙◌, ap}
 use Rattle.cs_types.specs.Selection.{adopted, balanced, picked_anew, schedule}
-use Rattle.cs_types.specs.Accounting.{closes, open_interval}
-use Rattle.plain_room.specs.State.{room_of, numbers_of, took, charged_with, is_fresh_by}
+use Rattle.cs_types.specs.Accounting.{charge}
+use Rattle.plain_room.specs.State.{room_of, numbers_of, Numbers, took, is_fresh_by}
 use Rattle.plain_room.proofs.States.{ChargesAndSchedules-same}
 use Rattle.plain_room.proofs.Choices.{schedule_adopted, schedule_not_adopted}
 use Rattle.plain_room.proofs.state.State.schedule.Goals as goal
@@ -12,19 +11,16 @@ returns-in-Some-clause-schedules c =
     let old = c.args.self.now in
     let fresh = is_fresh_by (numbers_of old) in
     ChargesAndSchedules-same old c.adopt.new.self c.args.cpu c.adopt.result (λ room. balanced c.args.cpu (adopted room c.args.cpu c.in-Some.run')) (λ room. schedule room fresh c.args.cpu)
-    (λ scenario. schedule_adopted (room_of scenario old) fresh c.args.cpu c.in-Some.run' (c.in-Some.ensures scenario))
+    (λ beside. schedule_adopted (room_of beside old) fresh c.args.cpu c.in-Some.run' (c.in-Some.ensures beside))
     (record {
       pick = c.adopt.ensures.schedules.pick;
       room = c.adopt.ensures.schedules.room;
-      numbers = λ scenario.
-          let goes_on : closes c.adopt.result.kind ≡ false = ap (λ (pick : Pick). closes pick.kind) (c.adopt.ensures.schedules.pick scenario) in
-          c.adopt.ensures.schedules.numbers
-          ∙ ap (λ b. took c.args.cpu c.adopt.result (charged_with (cond b (open_interval (room_of scenario old)) None) (numbers_of old))) (sym goes_on);
+      numbers = λ beside kept. c.adopt.ensures.schedules.numbers ∙ ap (λ (numbers : Numbers). took c.args.cpu c.adopt.result numbers) kept;
     })
 
 pub returns-in-None-clause-schedules : goal.returns-in-None-clause-schedules
 returns-in-None-clause-schedules c =
     let fresh = is_fresh_by (numbers_of c.args.self.now) in
-    ChargesAndSchedules-same c.args.self.now c.charge_and_pick.new.self c.args.cpu c.charge_and_pick.result (λ room. balanced c.args.cpu (picked_anew room c.args.cpu)) (λ room. schedule room fresh c.args.cpu)
-    (λ scenario. schedule_not_adopted (room_of scenario c.args.self.now) fresh c.args.cpu (c.in-None.ensures scenario))
+    ChargesAndSchedules-same c.args.self.now c.charge_and_pick.new.self c.args.cpu c.charge_and_pick.result (λ room. balanced c.args.cpu (picked_anew (charge room) c.args.cpu)) (λ room. schedule room fresh c.args.cpu)
+    (λ beside. schedule_not_adopted (room_of beside c.args.self.now) fresh c.args.cpu (c.in-None.ensures beside))
     c.charge_and_pick.ensures.schedules

@@ -5,27 +5,27 @@ use Rattle.cs_types.specs.Selection.{selected_room, forced_count, occupation_of,
 use Rattle.cs_types.proofs.Selections.{occupied}
 use Rattle.plain_room.specs.declared.choice.Choice.{Choice}
 use Rattle.plain_room.specs.State.{sibling_state, room_of}
-use Rattle.plain_room.specs.Choice.{task_after_choices}
-use Rattle.plain_room.proofs.States.{some_scenario, items-as_many, fit-task_after_choices, known-map, agree-map}
-use Rattle.plain_room.proofs.Choices.{choices_are, forced_count-choices, occupation-choices, choice_in, map-task_after_choices}
+use Rattle.plain_room.specs.Choice.{handed_choice, remembered_task, task_after_choices}
+use Rattle.plain_room.proofs.States.{some_beside, items-as_many, fit-remembered, known-map, agree-map, some_scenario, fit-task_after_choices}
+use Rattle.plain_room.proofs.Choices.{choices_of, choices_are, forced_count-choices, occupation-choices, choice_in, handed-choices, remembered-choices, map-task_after_choices}
 use Rattle.plain_room.proofs.state.State.select_for.Goals as goal
 
 pub begin-requires-clause-occupied : goal.begin-requires-clause-occupied
 begin-requires-clause-occupied c some =
-    let room = room_of some_scenario c.args.self.now in
-    let are = choices_are some_scenario c.args.self.now c.args.core c.choices-choices.result.items (c.choices-choices.ensures.each some_scenario) in
+    let room = room_of some_beside c.args.self.now in
+    let are = choices_are some_beside c.args.self.now c.args.core c.choices-choices.result.items (c.choices-choices.ensures.each some_beside) in
     let forced = c.forced_count-forced.ensures ∙ ap (count_by (λ (choice : Choice). choice.is_forced)) (c.deref.ensures.0 ∙ are) ∙ forced_count-choices room c.args.core in
     let chosen = c.occupation-occupation.ensures ∙ ap (count_by (λ (choice : Choice). choice.is_online && is_some choice.run)) (c.deref-2.ensures.0 ∙ are) ∙ occupation-choices room c.args.core in
-    let lead = c.requires.lead some_scenario in
+    let lead = c.requires.lead some_beside in
     let below : c.args.cpu < length room.siblings = omega (arith, length-map c.args.self.now.siblings.items sibling_state, c.requires.cpu) in
     let has : 0 < forced_count room (cookie_of (lead_from room c.args.cpu)) = subst (λ n. 0 < n) (forced ∙ ap (forced_count room) lead) some in
     subst (λ n. 0 < n) (sym (chosen ∙ ap (occupation_of room) lead)) (occupied room c.args.cpu below has)
 
 pub returns-clause-room : goal.returns-clause-room
 unfolding selected_room
-returns-clause-room c scenario =
-    let room = room_of scenario c.args.self.now in
-    let are = choices_are scenario c.args.self.now c.args.core c.choices-choices.result.items (c.choices-choices.ensures.each scenario) in
+returns-clause-room c beside =
+    let room = room_of beside c.args.self.now in
+    let are = choices_are beside c.args.self.now c.args.core c.choices-choices.result.items (c.choices-choices.ensures.each beside) in
     let forced = c.forced_count-forced.ensures ∙ ap (count_by (λ (choice : Choice). choice.is_forced)) (c.deref.ensures.0 ∙ are) ∙ forced_count-choices room c.args.core in
     let occupation = c.occupation-occupation.ensures ∙ ap (count_by (λ (choice : Choice). choice.is_online && is_some choice.run)) (c.deref-2.ensures.0 ∙ are) ∙ occupation-choices room c.args.core in
     let renews = c.renews_snapshots-renews.result in
@@ -43,16 +43,16 @@ returns-clause-room c scenario =
     rw c.update_tasks.ensures.tasks (rw (tasks, siblings, begun, chosen, started) refl)
 
 pub returns-clause-run : goal.returns-clause-run
-returns-clause-run c scenario =
-    let room = room_of scenario c.args.self.now in
-    let are = choices_are scenario c.args.self.now c.args.core c.choices-choices.result.items (c.choices-choices.ensures.each scenario) in
+returns-clause-run c beside =
+    let room = room_of beside c.args.self.now in
+    let are = choices_are beside c.args.self.now c.args.core c.choices-choices.result.items (c.choices-choices.ensures.each beside) in
     ap (λ (choices : List Choice). (get_or choices c.args.cpu _).run) (c.deref-5.ensures.0 ∙ are)
     ∙ ap (λ (choice : Choice). choice.run) (choice_in room c.args.core c.args.cpu _ (omega (arith, length-map c.args.self.now.siblings.items sibling_state, c.requires.cpu)))
 
 pub returns-clause-forced : goal.returns-clause-forced
-returns-clause-forced c scenario =
-    let are = choices_are scenario c.args.self.now c.args.core c.choices-choices.result.items (c.choices-choices.ensures.each scenario) in
-    c.begin.ensures.count ∙ c.forced_count-forced.ensures ∙ ap (count_by (λ (choice : Choice). choice.is_forced)) (c.deref.ensures.0 ∙ are) ∙ forced_count-choices (room_of scenario c.args.self.now) c.args.core
+returns-clause-forced c beside =
+    let are = choices_are beside c.args.self.now c.args.core c.choices-choices.result.items (c.choices-choices.ensures.each beside) in
+    c.begin.ensures.count ∙ c.forced_count-forced.ensures ∙ ap (count_by (λ (choice : Choice). choice.is_forced)) (c.deref.ensures.0 ∙ are) ∙ forced_count-choices (room_of beside c.args.self.now) c.args.core
 
 pub returns-clause-sound : goal.returns-clause-sound
 returns-clause-sound c count sound =

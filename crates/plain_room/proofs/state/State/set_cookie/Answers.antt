@@ -43,8 +43,8 @@ returns-clause-sets c =
       pick_number = old.pick_number;
     } in
     record {
-      room = λ scenario.
-          sets_one scenario old new c.args.task c.args.cookie c.requires.sound.table.rising c.requires.there c.change.ensures.changed
+      room = λ beside.
+          sets_one beside old new c.args.task c.args.cookie c.requires.sound.table.rising c.requires.there c.change.ensures.changed
           (c.put.ensures.limit ∙ c.get.ensures.limit) (c.put.ensures.next ∙ c.get.ensures.next)
           (ap (map sibling_state) kept ∙ c.flag_runners.ensures.states ∙ ap (λ siblings. map (flagged_for c.args.task.spec.pid) (map sibling_state siblings)) c.deref_mut.ensures.value) refl refl refl refl refl refl;
       numbers =

@@ -6,7 +6,7 @@ use Rattle.cs_types.specs.Room.{RoomState}
 use Rattle.task_table.specs.Group.{is_in_group, group_above}
 use Rattle.task_table.proofs.Tables.{above_kept}
 use Rattle.plain_room.specs.State.{IsSoundBut}
-use Rattle.plain_room.proofs.States.{some_scenario}
+use Rattle.plain_room.proofs.States.{some_beside}
 use Rattle.plain_room.proofs.Settings.{group_done, group_room, group_numbers, group_touches}
 use Rattle.plain_room.proofs.state.State.set_group.Goals as goal
 
@@ -22,7 +22,7 @@ pub loop-init : goal.loop-init
 loop-init c = record {
   siblings = refl;
   sound = c.requires.sound;
-  room = λ scenario. refl;
+  room = λ beside. refl;
   numbers = refl;
   ended = refl;
   left = omega (arith, few_members c.args.group c.args.self.now.tasks.tasks, c.len-end.ensures.len);
@@ -51,7 +51,7 @@ loop-preserved c =
     let all = group_above c.args.group 0 c.args.self.now.tasks.tasks in
     let rest = group_above c.args.group task.spec.pid c.set_cookie.new.self.tasks.tasks in
     let kept : rest ≡ group_above c.args.group task.spec.pid tasks =
-    ap (λ (room : RoomState). group_above c.args.group task.spec.pid room.tasks) (c.set_cookie.ensures.sets.room some_scenario)
+    ap (λ (room : RoomState). group_above c.args.group task.spec.pid room.tasks) (c.set_cookie.ensures.sets.room some_beside)
     ∙ above_kept c.args.group c.args.cookie task tasks in
     let is : left ≡ task ∷ rest = c.in-Some.ensures.some ∙ ap (λ (ts : List Task). task ∷ ts) (sym kept) in
     record {

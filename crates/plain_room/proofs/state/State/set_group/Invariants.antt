@@ -1,9 +1,8 @@
 use Rattle.std.proofs.Common.{◌≡◌, ◌+◌, ◌≤◌, length}
-use Rattle.cs_types.specs.declared.scenario.Scenario.{Scenario}
 use Rattle.cs_types.specs.Prctl.{with_cookies}
 use Rattle.cs_types.specs.Touches.{setting_touches}
 use Rattle.task_table.specs.Group.{group_above}
-use Rattle.plain_room.specs.State.{room_of, IsSoundBut, numbers_of, touched}
+use Rattle.plain_room.specs.State.{Beside, room_of, IsSoundBut, numbers_of, touched}
 use Rattle.plain_room.specs.Cookies.{setting}
 use Rattle.plain_room.proofs.state.State.set_group.Given as goal
 
@@ -14,7 +13,7 @@ invariant-loop l =
     record {
       siblings : length l.self.siblings.items ≡ length l.initial.self.siblings.items;
       sound : IsSoundBut (length l.self.siblings.items) l.self l.cookie;
-      room : (scenario : Scenario) → with_cookies (room_of scenario l.self) (setting left l.cookie) ≡ with_cookies (room_of scenario l.initial.self) (setting all l.cookie);
+      room : (beside : Beside) → with_cookies (room_of beside l.self) (setting left l.cookie) ≡ with_cookies (room_of beside l.initial.self) (setting all l.cookie);
       numbers : touched (setting_touches (setting left l.cookie)) (numbers_of l.self) ≡ touched (setting_touches (setting all l.cookie)) (numbers_of l.initial.self);
       ended : l.self.ended ≡ l.initial.self.ended;
       left : length left + l.counter ≤ l.end;

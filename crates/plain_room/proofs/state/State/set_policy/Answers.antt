@@ -7,7 +7,7 @@ use Rattle.cs_types.specs.Queueing.{dequeued, queued_at_home}
 use Rattle.cs_types.specs.Step.{with_policy, set_policy}
 use Rattle.cs_types.specs.Touches.{policy_touches}
 use Rattle.plain_room.specs.State.{room_of, numbers_of, Numbers, Knows}
-use Rattle.plain_room.proofs.States.{knows-inserted}
+use Rattle.plain_room.proofs.States.{uncharged, knows-inserted}
 use Rattle.plain_room.proofs.Onlines.{untouched}
 use Rattle.plain_room.proofs.state.State.set_policy.Goals as goal
 
@@ -35,31 +35,31 @@ change-requires c =
     }
 
 pub returns-else-task-clause-makes : goal.returns-else-task-clause-makes
-returns-else-task-clause-makes c scenario =
-    let room = room_of scenario c.args.self.now in
+returns-else-task-clause-makes c beside =
+    let room = room_of beside c.args.self.now in
     let task = c.in-Some.task in
     let changed = with_policy c.args.policy task in
     let queued : RoomState = flagged (queued_at_home (dequeued room changed) changed) task.home (is_run (sibling_of room task.home).run (Some task.spec.pid)) in
-    record {
+    uncharged (record {
       reply = ap (λ found. (set_policy room c.args.policy found).reply) c.in-Some.ensures.task;
-      room = c.change.ensures.room scenario ∙ ap (with_task room) c.with_policy-changed.ensures
+      room = c.change.ensures.room beside ∙ ap (with_task room) c.with_policy-changed.ensures
           ∙ ap (λ b. cond b queued (with_task room changed)) (sym c.if-task.false)
           ∙ ap (λ found. (set_policy room c.args.policy found).room) c.in-Some.ensures.task;
       numbers = c.change.ensures.numbers ∙ untouched (numbers_of c.args.self.now)
           ∙ found_numbers (numbers_of c.args.self.now) task _ false c.in-Some.ensures.task c.if-task.false;
-    }
+    })
 
 pub returns-then-task-clause-makes : goal.returns-then-task-clause-makes
-returns-then-task-clause-makes c scenario =
-    let room = room_of scenario c.args.self.now in
+returns-then-task-clause-makes c beside =
+    let room = room_of beside c.args.self.now in
     let task = c.in-Some.task in
     let changed = with_policy c.args.policy task in
     let requeued : Task → RoomState = λ other. flagged (queued_at_home (dequeued room other) other) other.home (is_run (sibling_of room other.home).run (Some other.spec.pid)) in
-    record {
+    uncharged (record {
       reply = ap (λ found. (set_policy room c.args.policy found).reply) c.in-Some.ensures.task;
-      room = c.requeue.ensures.room scenario ∙ ap requeued c.with_policy-changed.ensures
+      room = c.requeue.ensures.room beside ∙ ap requeued c.with_policy-changed.ensures
           ∙ ap (λ b. cond b (requeued changed) (with_task room changed)) (sym c.if-task.true)
           ∙ ap (λ found. (set_policy room c.args.policy found).room) c.in-Some.ensures.task;
       numbers = c.requeue.ensures.numbers
           ∙ found_numbers (numbers_of c.args.self.now) task _ true c.in-Some.ensures.task c.if-task.true;
-    }
+    })

@@ -10,7 +10,7 @@ use Rattle.plain_room.specs.declared.state.State.{State}
 use Rattle.plain_room.specs.declared.sibling.Sibling.{Sibling}
 use Rattle.plain_room.proofs.Lists.{All-find}
 use Rattle.plain_room.proofs.Ranges.{leasts_are_low, vtimes_are_low}
-use Rattle.plain_room.proofs.States.{found_fits, knows-inserted, some_scenario}
+use Rattle.plain_room.proofs.States.{found_fits, knows-inserted, some_beside}
 use Rattle.plain_room.proofs.Steals.{is_left}
 use Rattle.plain_room.proofs.state.State.steal.Goals as goal
 
@@ -36,26 +36,26 @@ enqueue-requires-clause-known c =
     let old = c.args.self.now in
     let fit = found_fits (length old.siblings.items) old.next_pid c.args.task.spec.pid old.tasks.tasks c.args.task c.requires.sound.tasks c.requires.there in
     let after : State = record old { task_number = old.task_number + 1 } in
-    let knows : Knows after (moved_to (room_of some_scenario old) c.args.thief c.args.task) =
-    knows-inserted after (moved_to (room_of some_scenario old) c.args.thief c.args.task) c.args.task c.requires.there refl c.requires.thief fit.policy in
-    rw (c.touch.ensures, c.moved_to-moved.ensures some_scenario) knows
+    let knows : Knows after (moved_to (room_of some_beside old) c.args.thief c.args.task) =
+    knows-inserted after (moved_to (room_of some_beside old) c.args.thief c.args.task) c.args.task c.requires.there refl c.requires.thief fit.policy in
+    rw (c.touch.ensures, c.moved_to-moved.ensures some_beside) knows
 
 pub returns-clause-room : goal.returns-clause-room
-returns-clause-room c scenario =
-    let room = room_of scenario c.args.self.now in
+returns-clause-room c beside =
+    let room = room_of beside c.args.self.now in
     let thief = c.args.thief in
     let at : RoomState → RoomState = λ now. flagged (with_place now thief 0) thief true in
     let after = at (moved room thief c.args.task) in
-    let mid : room_of scenario c.flag.new.self ≡ after =
-    c.flag.ensures.room scenario
-    ∙ ap (λ (now : RoomState). flagged now thief true) (c.set_place.ensures.room scenario)
-    ∙ ap at (c.enqueue.ensures.room scenario)
-    ∙ ap (λ (state : State). at (enqueued (room_of scenario state) c.moved_to-moved.result)) c.touch.ensures
-    ∙ ap (λ (task : Task). at (enqueued room task)) (c.moved_to-moved.ensures scenario) in
-    c.flag-2.ensures.room scenario
-    ∙ ap (flagged (room_of scenario c.flag.new.self) c.args.source) (c.is_left_idle-idles.ensures scenario)
+    let mid : room_of beside c.flag.new.self ≡ after =
+    c.flag.ensures.room beside
+    ∙ ap (λ (now : RoomState). flagged now thief true) (c.set_place.ensures.room beside)
+    ∙ ap at (c.enqueue.ensures.room beside)
+    ∙ ap (λ (state : State). at (enqueued (room_of beside state) c.moved_to-moved.result)) c.touch.ensures
+    ∙ ap (λ (task : Task). at (enqueued room task)) (c.moved_to-moved.ensures beside) in
+    c.flag-2.ensures.room beside
+    ∙ ap (flagged (room_of beside c.flag.new.self) c.args.source) (c.is_left_idle-idles.ensures beside)
     ∙ ap (λ (now : RoomState). flagged now c.args.source (is_left now c.args.source)) mid
-    ∙ ap (λ (source : ℕ). flagged after source (is_left after source)) (c.requires.source scenario)
+    ∙ ap (λ (source : ℕ). flagged after source (is_left after source)) (c.requires.source beside)
 
 pub returns-clause-sound : goal.returns-clause-sound
 returns-clause-sound c count sound =

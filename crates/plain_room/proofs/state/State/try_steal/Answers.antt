@@ -5,37 +5,37 @@ use Rattle.cs_types.specs.declared.reply.Reply.TheVariants.{Stole, Missed}
 use Rattle.cs_types.specs.Steal.{with_place}
 use Rattle.cs_types.specs.Step.{try_steal}
 use Rattle.plain_room.specs.State.{room_of, Numbers, numbers_of}
-use Rattle.plain_room.proofs.States.{some_scenario}
+use Rattle.plain_room.proofs.States.{some_beside}
 use Rattle.plain_room.proofs.Steals.{stolen_there}
 use Rattle.plain_room.proofs.state.State.try_steal.Goals as goal
 
 pub steal-requires-clause-there : goal.steal-requires-clause-there
 steal-requires-clause-there c =
-    stolen_there (room_of some_scenario c.args.self.now) c.args.thief c.in-Some.task c.requires.sound.table.rising (sym (c.in-Some.ensures.stolen some_scenario))
+    stolen_there (room_of some_beside c.args.self.now) c.args.thief c.in-Some.task c.requires.sound.table.rising (sym (c.in-Some.ensures.stolen some_beside))
 
 pub returns-in-Some-clause-tries : goal.returns-in-Some-clause-tries
 returns-in-Some-clause-tries c = record {
-  reply = λ scenario.
-      let room = room_of scenario c.args.self.now in
-      ap (Stole c.in-Some.task.spec.pid) (c.source_of-source.ensures.source scenario)
-      ∙ ap (λ (found : Option Task). (try_steal room c.args.thief found).reply) (c.in-Some.ensures.stolen scenario);
-  room = λ scenario.
-      let room = room_of scenario c.args.self.now in
-      c.steal.ensures.room scenario ∙ ap (λ (found : Option Task). (try_steal room c.args.thief found).room) (c.in-Some.ensures.stolen scenario);
-  numbers = λ scenario. c.steal.ensures.numbers;
+  reply = λ beside.
+      let room = room_of beside c.args.self.now in
+      ap (Stole c.in-Some.task.spec.pid) (c.source_of-source.ensures.source beside)
+      ∙ ap (λ (found : Option Task). (try_steal room c.args.thief found).reply) (c.in-Some.ensures.stolen beside);
+  room = λ beside.
+      let room = room_of beside c.args.self.now in
+      c.steal.ensures.room beside ∙ ap (λ (found : Option Task). (try_steal room c.args.thief found).room) (c.in-Some.ensures.stolen beside);
+  numbers = λ beside. c.steal.ensures.numbers;
 }
 
 pub returns-in-None-clause-tries : goal.returns-in-None-clause-tries
 returns-in-None-clause-tries c = record {
-  reply = λ scenario.
-      let room = room_of scenario c.args.self.now in
-      ap Missed (c.source_of-source.ensures.source scenario)
-      ∙ ap (λ (found : Option Task). (try_steal room c.args.thief found).reply) (c.in-None.ensures.stolen scenario);
-  room = λ scenario.
-      let room = room_of scenario c.args.self.now in
-      c.set_place.ensures.room scenario ∙ ap (with_place room c.args.thief) (c.next_place-place.ensures scenario)
-      ∙ ap (λ (found : Option Task). (try_steal room c.args.thief found).room) (c.in-None.ensures.stolen scenario);
-  numbers = λ scenario.
+  reply = λ beside.
+      let room = room_of beside c.args.self.now in
+      ap Missed (c.source_of-source.ensures.source beside)
+      ∙ ap (λ (found : Option Task). (try_steal room c.args.thief found).reply) (c.in-None.ensures.stolen beside);
+  room = λ beside.
+      let room = room_of beside c.args.self.now in
+      c.set_place.ensures.room beside ∙ ap (with_place room c.args.thief) (c.next_place-place.ensures beside)
+      ∙ ap (λ (found : Option Task). (try_steal room c.args.thief found).room) (c.in-None.ensures.stolen beside);
+  numbers = λ beside.
       c.set_place.ensures.numbers
       ∙ ap (λ (n : ℕ). let numbers : Numbers = record (numbers_of c.args.self.now) { task = n } in numbers) (sym (add-zero c.args.self.now.task_number));
 }

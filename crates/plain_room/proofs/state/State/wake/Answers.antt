@@ -13,7 +13,7 @@ use Rattle.plain_room.specs.State.{room_of}
 use Rattle.plain_room.specs.declared.sibling.Sibling.{Sibling}
 use Rattle.plain_room.proofs.Lists.{All-find}
 use Rattle.plain_room.proofs.Ranges.{vtimes_are_low, leasts_are_low}
-use Rattle.plain_room.proofs.States.{some_scenario, knows-inserted}
+use Rattle.plain_room.proofs.States.{uncharged, some_beside, knows-inserted}
 use Rattle.plain_room.proofs.state.State.wake.Goals as goal
 
 pub rehomed-task-requires-clause-home : goal.rehomed-task-requires-clause-home
@@ -41,8 +41,8 @@ kept room task =
 pub queue_at_home-requires-clause-known : goal.queue_at_home-requires-clause-known
 queue_at_home-requires-clause-known c =
     let state = c.args.self.now in
-    let is = c.rehomed-task.ensures.rehomed some_scenario in
-    let same = kept (room_of some_scenario state) c.in-Some.task in
+    let is = c.rehomed-task.ensures.rehomed some_beside in
+    let same = kept (room_of some_beside state) c.in-Some.task in
     let spec = ap (λ (t : Task). t.spec) is ∙ same.0 in
     let fit = c.in-Some.ensures.fit (length state.siblings.items) c.requires.sound in
     knows-inserted state c.rehomed-task.result c.in-Some.task
@@ -55,17 +55,17 @@ queue_at_home-requires-clause-policy c =
     let state = c.args.self.now in
     let fit = c.in-Some.ensures.fit (length state.siblings.items) c.requires.sound in
     subst (λ (s : TaskSpec). IsPolicy s.policy)
-    (sym (ap (λ (t : Task). t.spec) (c.rehomed-task.ensures.rehomed some_scenario) ∙ (kept (room_of some_scenario state) c.in-Some.task).0)) fit.policy
+    (sym (ap (λ (t : Task). t.spec) (c.rehomed-task.ensures.rehomed some_beside) ∙ (kept (room_of some_beside state) c.in-Some.task).0)) fit.policy
 
 pub returns-clause-makes : goal.returns-clause-makes
-returns-clause-makes c scenario =
-    let room = room_of scenario c.args.self.now in
+returns-clause-makes c beside =
+    let room = room_of beside c.args.self.now in
     let task = c.in-Some.task in
     let made : Task → Stepped = λ moved. record { reply = Woken moved.home; room = queued_at_home room moved } in
     let is : made c.rehomed-task.result ≡ woken room (Some task) =
-    ap made (c.rehomed-task.ensures.rehomed scenario) ∙ sym (cond-false task.queued _ (made (rehomed room task)) c.if-task.false) in
-    record {
+    ap made (c.rehomed-task.ensures.rehomed beside) ∙ sym (cond-false task.queued _ (made (rehomed room task)) c.if-task.false) in
+    uncharged (record {
       reply = ap (λ (m : Stepped). m.reply) is ∙ ap (λ found. (woken room found).reply) c.in-Some.ensures.task;
-      room = c.queue_at_home.ensures.room scenario ∙ ap (λ (m : Stepped). m.room) is ∙ ap (λ found. (woken room found).room) c.in-Some.ensures.task;
+      room = c.queue_at_home.ensures.room beside ∙ ap (λ (m : Stepped). m.room) is ∙ ap (λ found. (woken room found).room) c.in-Some.ensures.task;
       numbers = c.queue_at_home.ensures.numbers;
-    }
+    })
