@@ -1,6 +1,6 @@
 //! The contract of a machine that plays the core.
 
-ghost use Rattle.std.specs.Prelude.{◌≡◌, ◌+◌, ◌*◌, ◌^◌, ◌<◌, ◌≤◌, ℕ, true, [], ◌∷◌, ◌++◌, length, slice_get, IfSome};
+ghost use Rattle.std.specs.Prelude.{◌≡◌, ◌+◌, ◌*◌, ◌<◌, ◌≤◌, ℕ, [], ◌∷◌, ◌++◌, length, slice_get, All, IfSome, ◌^◌, true};
 ghost use Rattle.std.specs.Option.{option_map};
 ghost use Rattle.cs_types.specs.declared.scenario.Scenario.{Scenario};
 ghost use Rattle.cs_types.specs.Scenario.{IsEvent, IsPlayable};
@@ -99,7 +99,12 @@ pub trait Room: Drop {
 
     /// What the siblings share.
     fn core(&self) -> CoreView
-        ensures { result ≡ core_view (moment_of (scenario self.now) (history self.now)) };
+        ensures view { result ≡ core_view (moment_of (scenario self.now) (history self.now)) }
+
+        // While some sibling is forced idle, some sibling has a task. So the divisor of a share is not 0.
+        ensures occupied { 0 < result.forced → 0 < result.occupation }
+        ensures divisors { All (λ interval. 0 < interval.occupation)
+            (fold_of (scenario self.now) (history self.now)).intervals };
 
     /// A sibling. `None` exactly where the core has no such sibling.
     fn cpu(&self, cpu: Cpu) -> Option<CpuView>
