@@ -18,7 +18,7 @@ use Rattle.cs_types.specs.Touches.{is_adopted, is_fresh}
 use Rattle.cs_types.specs.Selection.{selected, is_plain, plain, picked_anew, adopted_or_picked_anew, schedule}
 use Rattle.cs_types.specs.Accounting.{charge}
 use Rattle.cs_types.specs.History.{History, Moment, beginning, step_at, next, after, moment_of, IsLegal, events_by, entry_of, made_from, history_of, fold_of, AreEvents}
-use Rattle.cs_types.specs.Drain.{pending, is_ready, lowest, next_to_schedule, made_by_end, drained_from, drained, entry_by_end, IsEndFrom, IsDrained}
+use Rattle.cs_types.specs.Drain.{pending, is_ready, lowest, next_to_schedule, entry_by_end, IsEndFrom, IsDrained}
 use Rattle.cs_types.proofs.Histories.{IsLegal-history_of}
 use Rattle.cs_types.proofs.Siblings.{kept, kept-schedule, kept-unless_offline, length-alike, is_online-alike, length-fold_of}
 use Rattle.cs_types.proofs.Filtered.{each-filter, Contains-filter, Contains-filter_parts}

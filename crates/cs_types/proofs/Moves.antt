@@ -7,7 +7,7 @@ use Rattle.cs_types.specs.declared.task.Task.{Task}
 use Rattle.cs_types.specs.declared.task.Policy.{Policy}
 use Rattle.cs_types.specs.declared.task.Policy.TheVariants.{Stop, Deadline, Fifo, Rr, Fair}
 use Rattle.cs_types.specs.Room.{RoomState, has_pid, task_of, sibling_of, with_task}
-use Rattle.cs_types.specs.Selection.{remembered, selected_room, selected, plain, is_plain, picked_anew, adopted_or_picked_anew, schedule, task_after_selection}
+use Rattle.cs_types.specs.Selection.{selected_room, selected, plain, is_plain, picked_anew, adopted_or_picked_anew, schedule, task_after_selection}
 use Rattle.cs_types.specs.Accounting.{charge}
 use Rattle.cs_types.specs.Queueing.{refreshed_by, refreshed, dequeued, moved, moved_to, queued_at_home}
 use Rattle.cs_types.specs.Step.{without, with_child, child_of, with_policy, with_policy_set}

@@ -769,7 +769,7 @@ shown_bounded scenario history pid few low = go (task_after room pid) refl where
   room : RoomState
   room = fold_of scenario history
 
-  go : (found : Option Task) → task_after room pid ≡ found → IfSome (option_map (task_view (ledger_of scenario history)) found) (λ task. task.vtime < 2 ^ 80)
+  go : (found : Option Task) → task_after room pid ≡ found → IfSome (option_map (task_view room) found) (λ task. task.vtime < 2 ^ 80)
   go None none = tt
   go (Some task) found =
       each_found (λ (t : Task). t.vtime < 2 ^ 80) (λ t. ltb pid t.spec.pid) room.tasks task found

@@ -7,7 +7,7 @@ use Rattle.cs_types.specs.declared.event.Event.TheVariants.{Block, Exit, Prctl}
 use Rattle.cs_types.specs.declared.reply.Pick.{Pick}
 use Rattle.cs_types.specs.Room.{RoomState, SiblingState, queued_on, task_of, sibling_of, running_on, online, online_from, to_run}
 use Rattle.cs_types.specs.Order.{foremost, outranks, first_of}
-use Rattle.cs_types.specs.Selection.{is_run, first_on, cookie_of, pid_of, snapshot_of, choice, eligible, is_forced, to_run}
+use Rattle.cs_types.specs.Selection.{is_run, first_on, cookie_of, pid_of, snapshot_of, choice, eligible, is_forced}
 use Rattle.cs_types.specs.declared.reply.Reply.{Reply}
 use Rattle.cs_types.specs.declared.reply.Reply.TheVariants.{Offline, Idle, HasThreads, NoTask, Awake, NoCaller, Refused, Already}
 use Rattle.cs_types.specs.Prctl.{is_create}
