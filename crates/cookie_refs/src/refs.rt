@@ -66,7 +66,8 @@ impl CookieRefs {
     }
 
     /// A new cookie with one reference, the caller's, under the next serial
-    /// (`sched_core_alloc_cookie`). It is refused exactly where as many are live as may be.
+    /// (`sched_core_alloc_cookie`; the serial and the limit are this project's). It is refused exactly
+    /// where as many are live as may be.
     pub fn make(&mut self) -> Result<Cookie, CookieFull>
         requires { self.old.next < 2 ^ 63 }
         ensures full { IsErr result ↔ (live_count self.old ≡ self.old.limit) }

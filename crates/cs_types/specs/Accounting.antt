@@ -33,7 +33,8 @@ abbrev pub with_cookie : Option Task → Option ℕ
 with_cookie None = None
 with_cookie (Some task) = if task.cookie == 0 then None else Some task.spec.pid
 
--- who is charged for a sibling: what it is to run, where that is a task with a cookie (`core_pick`, `rq->curr`)
+-- who is charged for a sibling: what it is to run, where that is a task with a cookie (`core_pick`, `rq->curr`; that it needs
+-- a cookie is 5.19's rule, and no longer 6.0's)
 abbrev pub charged_on : RoomState → ℕ → Option ℕ
 charged_on room cpu = with_cookie (option_and_then (task_of room) (to_run (sibling_of room cpu)))
 

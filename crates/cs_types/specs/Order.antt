@@ -1,5 +1,5 @@
 -- Order: which task goes before which, and the first of a list (`__task_prio`, `prio_less` and `cfs_prio_less` of
--- kernel/sched; ties by the queue stamp are this project's rule).
+-- kernel/sched; ties by the queue stamp, and that equal deadlines tie, are this project's rules).
 use Rattle.std.specs.Prelude.{ℕ, ◌+◌, Bool, true, false, ◌==◌, ◌&&◌, ◌||◌, not, nat_lt, List, find, Option, Some, None}
 use Rattle.std.specs.List.{list_all}
 use Rattle.cs_types.specs.declared.task.Task.{Task}

@@ -1,4 +1,5 @@
--- The room: the state of the core and its tasks, and how it starts. Each part names the kernel's field.
+-- The room: the state of the core and its tasks, and how it starts. Each part names the kernel's field, or says that it
+-- is this project's.
 use Rattle.std.specs.Prelude.{ℕ, ◌+◌, max, Bool, true, false, ◌==◌, ◌&&◌, ◌||◌, ◌-◌, nat_lt, if◌then◌else◌, List, [], ◌∷◌, ◌++◌, length, map, filter, find, fold, replicate, slice_index_or, slice_set, Option, None, unwrap_or}
 use Rattle.std.specs.List.{range_with_len}
 use Rattle.std.specs.Option.{option_and_then}
@@ -21,7 +22,7 @@ pub record Interval : Type 0 where
 
 -- an SMT sibling of the core (`struct rq`)
 pub record SiblingState : Type 0 where
-  -- whether it is online
+  -- whether it is online (`cpu_online_mask`)
   pub online : Bool
   -- the pid of its running task, which stays queued; none where it runs idle (`rq->curr`)
   pub run : Option ℕ
@@ -35,10 +36,10 @@ pub record SiblingState : Type 0 where
   pub least : ℕ
   -- its snapshot: the least as it was last kept for comparisons with other siblings (`cfs_rq->min_vruntime_fi`)
   pub snapshot : ℕ
-  -- the time since its last schedule, in ns (this project's)
+  -- the time since its last schedule, in ns (of a fair task `se.sum_exec_runtime` less `se.prev_sum_exec_runtime`)
   pub ran : ℕ
   -- its balance place: how far on the sibling is from which it tries to steal next, 0 where it tries none
-  -- (`rq->core_balance_head`, and the loop of `sched_core_balance`)
+  -- (`core_balance_head` of each CPU, and the loop of `steal_cookie_task`)
   pub place : ℕ
 
 -- the room: the core and its tasks (`rq->core`)
@@ -47,13 +48,13 @@ pub record RoomState : Type 0 where
   pub task_limit : ℕ
   pub cookie_limit : ℕ
   pub user_top : ℕ
-  -- the clock, in ns (`rq_clock`)
+  -- the clock, in ns (`rq->clock`; that there is one for all siblings is this project's rule)
   pub clock : ℕ
-  -- the living tasks, by rising pid
+  -- the living tasks (`struct task_struct`), by rising pid
   pub tasks : List Task
   -- the pids of the tasks that ended, in the order of their ends (this project's)
   pub ended : List ℕ
-  -- the siblings, by rising number
+  -- the siblings (the CPUs of `cpu_smt_mask`), by rising number
   pub siblings : List SiblingState
   -- the next pid, the next stamp and the next cookie (this project's)
   pub next_pid : ℕ

@@ -38,13 +38,15 @@ abbrev pub snapshot_of : RoomState → ℕ → ℕ
 snapshot_of room cpu = (sibling_of room cpu).snapshot
 
 -- The lead of a selection that a sibling makes: the earliest first of the online siblings, in the order that begins
--- at it, than which no other first is higher (`max` in `pick_next_task`).
+-- at it, than which no other first is higher (`max` in `pick_next_task`; that it is the earliest of equal deadlines is this
+-- project's rule).
 unfoldable pub lead_from : RoomState → ℕ → Option Task
 lead_from room cpu =
     option_and_then (λ first. first) (foremost (outranks (snapshot_of room)) (map (first_on room) (online_from room cpu)))
 
 -- What a sibling gets for a core cookie: its first, where that is idle or has the cookie; else the first task queued
--- there with the cookie (`sched_core_find`), which is searched for no cookie 0; else idle.
+-- there with the cookie (`sched_core_find`; by the present virtual times, which is this project's rule), which is searched
+-- for no cookie 0; else idle.
 unfoldable pub choice : RoomState → ℕ → ℕ → Option Task
 choice room core cpu =
     if is_none (first_on room cpu) || (cookie_of (first_on room cpu) == core)
@@ -160,7 +162,7 @@ task_after_selection room core task =
     record task { occupation = if is_chosen room core task.spec.pid then occupation_of room core else task.occupation }
 
 -- the room once the online siblings have their choices for this core cookie. An interval of forced idle opens where some
--- sibling is forced idle and the core has a cookie (that it needs one is this project's rule).
+-- sibling is forced idle and the core has a cookie (that it needs one is 5.19's rule, and no longer 6.0's).
 unfoldable pub selected_room : RoomState → ℕ → ℕ → RoomState
 selected_room room cpu core =
     record room {
@@ -204,7 +206,7 @@ adopted_or_picked_anew room may_adopt cpu (Some run) =
     if may_adopt then adopted room cpu run else picked_anew (charge room) cpu
 
 -- A sibling is to try to steal where some sibling is forced idle, it runs idle itself, the core has a cookie, and a task
--- is queued on it (`queue_core_balance`).
+-- is queued on it (the end of `pick_next_task`, and `queue_core_balance`).
 abbrev pub is_to_steal : RoomState → ℕ → Bool
 is_to_steal room cpu =
     not (room.forced == 0) && is_none (sibling_of room cpu).run && not (room.core_cookie == 0) && is_some (first_on room cpu)

@@ -20,7 +20,7 @@ may_steal thief source task =
     && not (nat_lt thief.occupation task.occupation)
 
 -- What is stolen: the first of the source's tasks with the core's cookie that is not passed over, where the core has a
--- cookie and the thief runs idle.
+-- cookie and the thief runs idle (the first by the present virtual times, which is this project's rule).
 unfoldable pub stolen : RoomState → ℕ → Option Task
 stolen room thief =
     if (room.core_cookie == 0) || is_some (sibling_of room thief).run
@@ -33,7 +33,7 @@ abbrev pub with_place : RoomState → ℕ → ℕ → RoomState
 with_place room cpu place = with_sibling room cpu (record (sibling_of room cpu) { place = place })
 
 -- The thief is pending, and makes no more tries. The source is pending too where this was its last task, it runs idle, and
--- some sibling is forced idle.
+-- some sibling is forced idle (`resched_curr` in `sched_core_dequeue`).
 abbrev pub with_stolen : RoomState → ℕ → Task → RoomState
 with_stolen room thief task =
     let source = source_of room thief in

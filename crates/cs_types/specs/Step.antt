@@ -43,7 +43,7 @@ woken room (Some task) =
 abbrev pub picked : (Pick → Reply) → Scheduled → Stepped
 picked answer scheduled = record { reply = answer scheduled.pick; room = scheduled.room }
 
--- A steal try: a task is stolen, or none is found (`steal_cookie_task`).
+-- A steal try: a task is stolen, or none is found (`try_steal_cookie`).
 abbrev pub try_steal : RoomState → ℕ → Option Task → Stepped
 try_steal room cpu None = record { reply = Missed (source_of room cpu); room = with_place room cpu (next_place room cpu) }
 try_steal room cpu (Some task) =
@@ -71,8 +71,9 @@ turned room may_adopt cpu =
 abbrev pub idled : RoomState → ℕ → RoomState
 idled room cpu = with_sibling room cpu (record (sibling_of room cpu) { run = None })
 
--- The sibling runs idle already. Or the open interval is charged, its running task is dequeued, and then it schedules. The
--- dequeue touched, so that schedule adopts nothing, and what it charges has no time left.
+-- The sibling runs idle already. Or the open interval is charged, its running task is dequeued, and then it schedules (that
+-- the charge comes before the dequeue is this project's rule). The dequeue touched, so that schedule adopts nothing, and what
+-- it charges has no time left.
 abbrev pub blocked : RoomState → ℕ → Option Task → Stepped
 blocked room cpu None = record { reply = Idle; room = room }
 blocked room cpu (Some task) = picked (Slept task.spec.pid) (schedule (idled (dequeued (charge room) task) cpu) false cpu)
@@ -117,7 +118,8 @@ child_spec caller thread pid =
       creds = caller.spec.creds;
     }
 
--- A child has its caller's cookie (`sched_core_fork`). It is asleep until it is queued, and its numbers are 0.
+-- A child has its caller's cookie (`sched_core_fork`). It is asleep until it is queued, and its numbers are 0 (that the
+-- occupation is, is this project's rule).
 abbrev pub child_of : Task → Bool → ℕ → Task
 child_of caller thread pid = record (asleep (child_spec caller thread pid)) { cookie = caller.cookie }
 
@@ -153,14 +155,14 @@ forked room thread (Some caller) =
 abbrev pub advancing : RoomState → ℕ → Stepped
 advancing room delta = record { reply = Now (room.clock + delta); room = advanced room delta }
 
--- The open interval is charged (`sched_core_tick`). Then the sibling runs idle, or its running task is asked to leave or
--- not.
+-- The open interval is charged (`sched_core_tick`; that it comes first is this project's rule). Then the sibling runs idle, or
+-- its running task is asked to leave or not.
 abbrev pub ticked : RoomState → ℕ → Option Task → Stepped
 ticked room cpu None = record { reply = Ticked false; room = charge room }
 ticked room cpu (Some task) =
     record { reply = Ticked (asks_at_tick room cpu task); room = ticked_room (charge room) cpu task }
 
--- ---- setsched (`sched_setscheduler`; this project's rule)
+-- ---- setsched (`__sched_setscheduler`; this project's rule)
 
 -- a task with this policy, which has used nothing of its slice
 abbrev pub with_policy : Policy → Task → Task

@@ -80,8 +80,8 @@ advanced room delta = with_leasts (with_growth room delta)
 
 -- ---- a tick
 
--- the slice of an RR task, in ns (`sched_rr_timeslice`), and how long forced idle may wait for a fair task (6 ms, this
--- project's rule)
+-- the slice of an RR task, in ns (`RR_TIMESLICE`, which the kernel counts in ticks), and how long forced idle may wait for a
+-- fair task (6 ms, this project's rule)
 abbrev pub slice : ℕ
 slice = 100000000
 
@@ -111,13 +111,14 @@ is_peer task other =
 abbrev pub rotates : RoomState → ℕ → Task → Bool
 rotates room cpu task = has_used_slice task && list_any (is_peer task) (others_on room cpu task)
 
--- A running fair task has been overtaken where another fair one has a smaller virtual time (`check_preempt_tick`).
+-- A running fair task has been overtaken where another fair one has a smaller virtual time (after `check_preempt_tick`; that
+-- any difference is enough is this project's rule).
 abbrev pub is_overtaken : RoomState → ℕ → Task → Bool
 is_overtaken room cpu task =
     is_fair task && list_any (λ other. is_fair other && nat_lt other.vtime task.vtime) (others_on room cpu task)
 
 -- A running fair task with no other fair one beside it is to yield where it has run so long and a sibling is forced idle
--- (`task_tick_core`).
+-- (`task_tick_core`, `__entity_slice_used`).
 abbrev pub is_to_yield : RoomState → ℕ → Task → Bool
 is_to_yield room cpu task =
     is_fair task && not (list_any is_fair (others_on room cpu task)) && not (room.forced == 0)

@@ -71,7 +71,7 @@ abbrev pub pick_touches : Pick → ℕ
 pick_touches pick = if is_adopted pick.kind then 0 else 1
 
 -- the cookie of a queued task leaves the order of cookies where it is not 0, and enters it where it is not 0
--- (`sched_core_dequeue` and `sched_core_enqueue`; that each touches is this project's rule)
+-- (`sched_core_dequeue` and `sched_core_enqueue` in `sched_core_update_cookie`, as of 6.1)
 abbrev pub cookie_touches : ℕ → Task → ℕ
 cookie_touches cookie task =
     if task.queued

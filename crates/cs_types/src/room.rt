@@ -25,19 +25,20 @@ pub trait Room: Drop {
     ghost history: { Self → History };
 
     /// How many more entries it can take.
-    ghost free: { Self → ℕ };
+    ghost spare: { Self → ℕ };
 
     /// Makes one step, and answers what the rules answer. It takes no memory.
     ///
-    /// `spare` has to be above 0, and what the event names keeps its limits: a sibling that the core has, a pid from 1 to 999999, and an advance of 1 to 1000000000 ns.
+    /// `spare` has to be above 0, and what the event names keeps its limits: a sibling that the core
+    /// has, a pid from 1 to 999999, and an advance of 1 to 1000000000 ns.
     fn apply(&mut self, actor: Actor, event: Event) -> Reply
-        requires spare { 0 < free self.old }
+        requires spare { 0 < spare self.old }
         requires event { IsEvent (scenario self.old).siblings event }
 
         ensures reply { result ≡ reply_to (scenario self.old) (history self.old) event }
         ensures entry { history self.new ≡ history self.old
             ++ record { actor = actor; event = event; reply = result } ∷ [] }
-        ensures free { free self.new + 1 ≡ free self.old }
+        ensures spare { spare self.new + 1 ≡ spare self.old }
         ensures scenario { scenario self.new ≡ scenario self.old }
 
         // A selection for the core takes a lead than which no queued task is higher, and gives each
@@ -56,12 +57,12 @@ pub trait Room: Drop {
     /// one schedules. At most as many are made as the square of the siblings, and `spare` has to be at
     /// least that. It takes no memory, and makes no steal try.
     fn drain(&mut self) -> u64
-        requires spare { (scenario self.old).siblings * (scenario self.old).siblings ≤ free self.old }
+        requires spare { (scenario self.old).siblings * (scenario self.old).siblings ≤ spare self.old }
 
         ensures entries { IsDrained (scenario self.old) (history self.old) (history self.new) }
         ensures count { length (history self.new) ≡ length (history self.old) + result }
         ensures few { result ≤ (scenario self.old).siblings * (scenario self.old).siblings }
-        ensures free { free self.new + result ≡ free self.old }
+        ensures spare { spare self.new + result ≡ spare self.old }
         ensures scenario { scenario self.new ≡ scenario self.old }
 
         // Nobody is pending after it. So no two running tasks differ in cookie.
@@ -70,7 +71,7 @@ pub trait Room: Drop {
 
     /// How many more entries it can take, a count.
     fn spare(&self) -> u64
-        ensures { result ≡ free self.now };
+        ensures { result ≡ spare self.now };
 
     /// The length of the history, a count. What each entry's event names keeps its limits.
     fn length(&self) -> u64

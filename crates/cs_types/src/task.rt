@@ -69,7 +69,7 @@ pub struct Task {
     pub spec: TaskSpec,
     /// Its cookie, 0 for none (`core_cookie`).
     pub cookie: Cookie,
-    /// The sibling on which it queues.
+    /// The sibling on which it queues (`task_cpu`).
     pub home: Cpu,
     /// Whether it is queued, as a running task is too, or asleep (`on_rq`).
     pub queued: bool,
@@ -77,9 +77,10 @@ pub struct Task {
     pub vtime: u128,
     /// Its absolute deadline, in ns of the clock, of a deadline task (`dl.deadline`).
     pub deadline: u64,
-    /// The stamp of its last enqueue.
+    /// The stamp of its last enqueue (this project's).
     pub stamp: u64,
-    /// How much of its slice it has used, in ns, of an RR task (`rt.time_slice` counts the rest).
+    /// How much of its slice it has used, in ns, of an RR task (`rt.time_slice` counts the rest, in
+    /// ticks).
     pub used: u64,
     /// The occupation of the last selection for the core that chose it, a count (`core_occupation`).
     pub occupation: u8,

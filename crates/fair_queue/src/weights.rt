@@ -35,7 +35,8 @@ pub fn weight(nice: i8) -> u32
 }
 
 /// How far the virtual time of a running fair task of this nice value, from -20 to 19, grows in so
-/// many ns of the clock, rounded down, in ns (`calc_delta_fair`, kernel/sched/fair.c).
+/// many ns of the clock, rounded down, in ns (`calc_delta_fair`, kernel/sched/fair.c; that it is
+/// exact is this project's rule).
 #[tactic(auto, unfolding(cs_types::specs::Time::growth))]
 pub fn grow(delta: u64, nice: i8) -> u128
     requires { IsNice nice }

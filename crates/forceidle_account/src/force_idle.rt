@@ -50,7 +50,8 @@ impl ForceIdle {
     /// A selection for the core at `now`, in ns from the start and below 2^56, has forced `count`
     /// siblings idle, and chosen a task for `occupation`, 0 to 255 each. The interval begins where a
     /// sibling is forced idle under a core cookie, 0 for none, and else none is open
-    /// (`pick_next_task`, kernel/sched/core.c). One that was open before is not charged here.
+    /// (`pick_next_task`, kernel/sched/core.c; that it asks for a cookie is 5.19's rule, and no longer
+    /// 6.0's). One that was open before is not charged here.
     pub fn begin(&mut self, core: Cookie, count: u8, occupation: u8, now: u64)
         requires occupied { 0 < count → 0 < occupation }
         requires now { now < 2 ^ 56 }

@@ -62,8 +62,8 @@ impl Totals {
         self.entries.push_reserved((pid, 0));
     }
 
-    /// Charges a task that is there a share, in ns (`__account_forceidle_time`). Its total stays
-    /// below 2^64.
+    /// Charges a task that is there a share, in ns (`__sched_core_account_forceidle`). Its total
+    /// stays below 2^64.
     pub fn raise(&mut self, pid: Pid, share: u64)
         requires there { IsTrue (has_total self.old pid) }
         requires fits { total_at self.old pid + share < 2 ^ 64 }

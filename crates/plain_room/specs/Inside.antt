@@ -18,7 +18,7 @@ machine_of room =
     record {
       scenario = room.scenario;
       steps = steps_of room.entries.items;
-      free = vec_capacity room.entries - vec_len room.entries;
+      spare = vec_capacity room.entries - vec_len room.entries;
     }
 
 -- how many entries a machine may make: the steps of the scenario, and those of the end

@@ -7,4 +7,4 @@ use Rattle.cs_types.specs.declared.scenario.Scenario.{Scenario}
 pub record Machine : Type 0 where
   pub scenario : Scenario
   pub steps : List Step
-  pub free : ℕ
+  pub spare : ℕ

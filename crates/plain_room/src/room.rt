@@ -55,7 +55,7 @@ impl PlainRoom {
         requires { IsPlayable scenario.now }
         ensures scenario { IfOk result (λ room. room.scenario ≡ scenario.now) }
         ensures empty { IfOk result (λ room. room.steps ≡ []) }
-        ensures free { IfOk result (λ room. room.free ≡
+        ensures spare { IfOk result (λ room. room.spare ≡
             length scenario.now.steps + scenario.now.siblings * scenario.now.siblings) }
     {
         let most = most_entries(scenario);
@@ -88,7 +88,7 @@ impl Room for PlainRoom {
 
     ghost history = { λ room. history_of room.scenario room.steps };
 
-    ghost free = { λ room. room.free };
+    ghost spare = { λ room. room.spare };
 
     fn apply(&mut self, actor: Actor, event: Event) -> Reply {
         let reply = self.state.apply(&self.scenario, event);

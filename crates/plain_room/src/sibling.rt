@@ -18,25 +18,27 @@ use cs_types::{Cpu, CpuView, Pid};
 /// A sibling of the core.
 #[derive(Clone, Copy)]
 pub struct Sibling {
+    /// Whether it is online (`cpu_online_mask`).
     pub online: bool,
-    /// The running task, none where the sibling runs idle.
+    /// The running task, none where the sibling runs idle (`rq->curr`).
     pub run: Option<Pid>,
-    /// Whether it has a pending reschedule.
+    /// Whether it has a pending reschedule (`TIF_NEED_RESCHED` of `rq->curr`).
     pub pending: bool,
-    /// What waits for it: nothing, idle or a task.
+    /// What waits for it: nothing, idle or a task (`rq->core_pick`).
     pub waiting: Option<Option<Pid>>,
-    /// The occupation that its idle remembers, a count.
+    /// The occupation that its idle remembers, a count (`core_occupation` of `rq->idle`).
     pub occupation: u8,
-    /// Its own number: the pick number at its last pick that was selected or adopted.
+    /// Its own number: the pick number at its last pick that was selected or adopted
+    /// (`rq->core_sched_seq`).
     pub number: u64,
-    /// The least virtual time of its queue, in ns. It never falls.
+    /// The least virtual time of its queue, in ns (`cfs_rq->min_vruntime`). It never falls.
     pub least: u128,
-    /// That, as it was last kept for comparisons with other siblings, in ns.
+    /// That, as it was last kept for comparisons with other siblings, in ns (`cfs_rq->min_vruntime_fi`).
     pub snapshot: u128,
-    /// The time since its last schedule, in ns.
+    /// The time since its last schedule, in ns (this project's).
     pub ran: u64,
-    /// How many siblings on from it the next one is from which it tries to steal, a count. 0 where it tries
-    /// none.
+    /// Its balance place: how many siblings on from it the next one is from which it tries to steal, a
+    /// count. 0 where it tries none (`core_balance_head`, and the loop of `steal_cookie_task`).
     pub place: u32,
 }
 

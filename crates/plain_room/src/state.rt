@@ -28,20 +28,23 @@ pub struct State {
     /// The tasks that ended, in the order of their ends.
     pub ended: Vec<Pid>,
     pub siblings: Vec<Sibling>,
-    /// The pid of the next child. None is given twice.
+    /// The pid of the next child (this project's). None is given twice.
     pub next_pid: Pid,
+    /// The stamp of the next enqueue (this project's).
     pub next_stamp: u64,
-    /// The time since the start, in ns.
+    /// The time since the start, in ns (`rq->clock`).
     pub clock: u64,
-    /// The cookie that the core runs under, 0 for none.
+    /// The cookie that the core runs under, 0 for none (`rq->core->core_cookie`).
     pub core_cookie: Cookie,
-    /// How siblings are forced idle since the last selection for the core.
+    /// How siblings are forced idle since the last selection for the core (`core_forceidle_count`,
+    /// `core_forceidle_occupation` and `core_forceidle_start` of `rq->core`).
     pub account: ForceIdle,
-    /// What each task was charged for forced idle, also one that ended.
+    /// What each task was charged for forced idle, also one that ended (`core_forceidle_sum`).
     pub totals: Totals,
-    /// How often the queues were touched, a count.
+    /// The task number: how often the queues were touched, a count (`rq->core->core_task_seq`).
     pub task_number: u64,
-    /// How often they were touched up to the last selection for the core and with it, a count.
+    /// The pick number: how often they were touched up to the last selection for the core and with it, a
+    /// count (`rq->core->core_pick_seq`).
     pub pick_number: u64,
 }
 

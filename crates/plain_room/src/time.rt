@@ -20,7 +20,7 @@ use fair_queue::grow;
 use sibling_priority::REAL_TIME;
 use task_table::TaskTable;
 
-/// The slice of an RR task, in ns (`sched_rr_timeslice`).
+/// The slice of an RR task, in ns (`RR_TIMESLICE`, which the kernel counts in ticks).
 const SLICE: u64 = 100_000_000;
 
 /// How long a fair task that is alone may run while a sibling is forced idle, in ns.

@@ -1,4 +1,5 @@
-//! The rules of access, in their order (`__ptrace_may_access`, kernel/ptrace.c).
+//! The rules of access, in their order (`__ptrace_may_access`, kernel/ptrace.c, and
+//! `cap_ptrace_access_check`, security/commoncap.c).
 
 ghost use Rattle.std.specs.Prelude.{◌≡◌};
 ghost use Rattle.cs_types.specs.Access.{is_same_user, is_undumpable, may_access};

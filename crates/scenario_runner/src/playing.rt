@@ -10,11 +10,11 @@ use cs_types::{Room, Step};
 /// Makes the steps, in their order, in a room that has made none.
 pub fn play<R: Room>(room: &mut R, steps: &[Step])
     requires empty { R.history room.old ≡ [] }
-    requires spare { length steps.now ≤ R.free room.old }
+    requires spare { length steps.now ≤ R.spare room.old }
     requires events { All (λ step. IsEvent (R.scenario room.old).siblings step.event) steps.now }
 
     ensures history { R.history room.new ≡ history_of (R.scenario room.old) steps.now }
-    ensures free { R.free room.new + length steps.now ≡ R.free room.old }
+    ensures spare { R.spare room.new + length steps.now ≡ R.spare room.old }
     ensures scenario { R.scenario room.new ≡ R.scenario room.old }
 {
     for step in steps {

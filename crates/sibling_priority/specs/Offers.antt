@@ -17,7 +17,7 @@ are_both class a b = (a.class == class) && (b.class == class)
 
 -- An offer is higher where its class is; or both are deadline, or both real-time, and its rank is smaller; or both
 -- are fair and its virtual time is smaller, each taken from its own sibling's snapshot (`cfs_prio_less`). Every other
--- pair is a tie.
+-- pair is a tie (that equal deadlines are one is this project's rule).
 abbrev pub is_higher_offer : Offer → Offer → Bool
 is_higher_offer a b =
     nat_lt a.class b.class

@@ -10,7 +10,8 @@ use crate::offer::{DEADLINE, FAIR, Offer, REAL_TIME};
 
 /// Whether one offer is higher than another, where every pair that this leaves open is a tie
 /// (`prio_less` in kernel/sched/core.c with its sides swapped, and `cfs_prio_less` in
-/// kernel/sched/fair.c for two fair tasks).
+/// kernel/sched/fair.c for two fair tasks). Two equal deadlines tie here, where `prio_less` answers
+/// of each that it is lower.
 pub fn higher(a: &Offer, b: &Offer) -> bool
     requires a_in_range { IsInRange a.now }
     requires b_in_range { IsInRange b.now }
@@ -32,7 +33,7 @@ pub fn higher(a: &Offer, b: &Offer) -> bool
 }
 
 /// The place of the lead: the first offer than which no other is higher (`max` in
-/// `pick_next_task`, kernel/sched/core.c).
+/// `pick_next_task`, kernel/sched/core.c, where the last of equal deadlines leads).
 pub fn lead(offers: &[Offer]) -> usize
     requires some { 0 < length offers.now }
     requires in_range { All IsInRange offers.now }

@@ -48,10 +48,13 @@ returns-in-Ok g c =
       too_long = search rules;
       most = search rules;
       bad_scenario = search rules;
-      write_fault = λ _. (omega (arith, c.in-Err-output.ensures.failed, c.requires.sink), (
-        scenario,
-        record { reads = c.in-Ok.ensures.reads; run = run; is_run = run_alone scenario run c.in-Ok.ensures.played; writes = c.output.ensures.prefix },
-      ));
+      write_fault = λ _. (
+        omega (arith, c.in-Err-output.ensures.failed, c.requires.sink),
+        (
+          scenario,
+          record { reads = c.in-Ok.ensures.reads; run = run; is_run = run_alone scenario run c.in-Ok.ensures.played; writes = c.output.ensures.prefix },
+        ),
+      );
       unwritten = search rules;
       complete = search rules;
     }

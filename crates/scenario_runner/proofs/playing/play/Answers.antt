@@ -6,5 +6,5 @@ pub loop-step-preserved : goal.loop-step-preserved
 loop-step-preserved g c = record {
   history = history_more (g.R.Room.scenario c.args.room.now) (g.R.Room.scenario c.loop-step.room) c.args.steps.now c.loop-step.step-index _ (g.R.Room.history c.loop-step.room) _ c.apply.result c.loop-step-test.true c.loop-step.invariant.history c.loop-step.invariant.scenario c.apply.ensures.entry c.apply.ensures.reply;
   scenario = c.apply.ensures.scenario ∙ c.loop-step.invariant.scenario;
-  free = omega (arith, c.apply.ensures.free, c.loop-step.invariant.free);
+  spare = omega (arith, c.apply.ensures.spare, c.loop-step.invariant.spare);
 }

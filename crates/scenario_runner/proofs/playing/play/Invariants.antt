@@ -8,5 +8,5 @@ invariant-loop-step g l =
     record {
       history : room.history l.room ≡ history_of (room.scenario l.fn.room) (take l.step-index l.steps);
       scenario : room.scenario l.room ≡ room.scenario l.fn.room;
-      free : room.free l.room + l.step-index ≡ room.free l.fn.room;
+      spare : room.spare l.room + l.step-index ≡ room.spare l.fn.room;
     }

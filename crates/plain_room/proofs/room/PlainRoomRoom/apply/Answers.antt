@@ -77,7 +77,7 @@ apply-reply-requires-clause-spare c =
       ap (λ (room : RoomState). length room.ended) c.self.invariant.fold,
       a.entries.ok.0,
       c.requires.spare,
-      ap (λ (m : Machine). m.free) c.self.view_is,
+      ap (λ (m : Machine). m.spare) c.self.view_is,
       c.self.invariant.room_for_ended,
     )
 
@@ -135,7 +135,7 @@ apply-reply-requires-clause-places c =
       ap (λ (room : RoomState). room.next_pid) c.self.invariant.fold,
       a.entries.ok.0,
       c.requires.spare,
-      ap (λ (m : Machine). m.free) c.self.view_is,
+      ap (λ (m : Machine). m.spare) c.self.view_is,
       c.self.invariant.few_entries,
     )
 

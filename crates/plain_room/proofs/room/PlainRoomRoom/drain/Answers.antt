@@ -65,7 +65,7 @@ loop-entries-init c =
     let count : c.from-siblings.result ≡ scenario.siblings = c.from-siblings.ensures ∙ ap (λ (m : Machine). m.scenario.siblings) c.self.view_is in
     record {
       scenario = refl;
-      free = omega arith;
+      spare = omega arith;
       made = omega arith;
       ahead = subst (IsAhead scenario past past) (ap (λ n. n * n) (sym count) ∙ omega arith) (ahead_first scenario past);
     }
@@ -89,7 +89,7 @@ loop-entries-preserved c =
     ap (λ s. history_of s after.steps) (sym same) ∙ c.apply.ensures.entry ∙ ap (λ s. history_of s before.steps ++ entry ∷ []) c.loop-entries.invariant.scenario in
     record {
       scenario = same;
-      free = omega (arith, c.apply.ensures.free, c.loop-entries.invariant.free);
+      spare = omega (arith, c.apply.ensures.spare, c.loop-entries.invariant.spare);
       made = omega (arith, ap length more, length-append past (entry ∷ []), c.loop-entries.invariant.made);
       ahead = subst (λ (h : History). IsAhead scenario first h (most - (c.loop-entries.entries + 1))) (sym more)
           (subst (IsAhead scenario first (past ++ entry ∷ [])) (omega (arith, c.loop-entries-test.true))

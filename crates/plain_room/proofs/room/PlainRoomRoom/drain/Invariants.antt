@@ -9,7 +9,7 @@ invariant-loop-entries l =
     let now = history_of l.fn.self.scenario l.self.steps in
     record {
       scenario : l.self.scenario ≡ l.fn.self.scenario;
-      free : l.self.free + l.entries ≡ l.fn.self.free;
+      spare : l.self.spare + l.entries ≡ l.fn.self.spare;
       made : length now ≡ length past + l.entries;
       ahead : IsAhead l.fn.self.scenario past now (l.most - l.entries);
     }
