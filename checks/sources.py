@@ -41,7 +41,7 @@ def crates():
 
 def files(folder, ending):
     """The files below a folder of the project with this ending, as paths from the top."""
-    for at, folders, names in sorted(os.walk(f"{TOP}/{folder}")):
+    for at, folders, names in os.walk(f"{TOP}/{folder}"):
         folders[:] = sorted(set(folders) - {"out", ".git", "__pycache__"})
         yield from (os.path.relpath(f"{at}/{name}", TOP) for name in sorted(names) if name.endswith(ending))
 
