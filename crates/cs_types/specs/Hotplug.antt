@@ -34,7 +34,7 @@ leave room cpu =
     record (charge room) {
       tasks = map (moved_off room cpu) room.tasks;
       next_stamp = room.next_stamp + length (queued_on room cpu);
-      siblings = map (λ (place : ℕ × SiblingState). if place.0 == cpu then away place.1 else record place.1 { pending = place.1.pending || place.1.online })
+      siblings = map (λ (numbered : ℕ × SiblingState). if numbered.0 == cpu then away numbered.1 else record numbered.1 { pending = numbered.1.pending || numbered.1.online })
           (enumerate_from 0 room.siblings);
       forced = 0;
       occupation = 0;

@@ -71,7 +71,7 @@ least_of room cpu =
 abbrev pub with_leasts : RoomState → RoomState
 with_leasts room =
     record room {
-      siblings = map (λ (place : ℕ × SiblingState). record place.1 { least = least_of room place.0 }) (enumerate_from 0 room.siblings);
+      siblings = map (λ (numbered : ℕ × SiblingState). record numbered.1 { least = least_of room numbered.0 }) (enumerate_from 0 room.siblings);
     }
 
 -- the room after an advance

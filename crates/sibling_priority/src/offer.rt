@@ -28,11 +28,11 @@ pub struct Offer {
     pub pid: Pid,
     /// Its class, 0 to 4, the smaller the higher.
     pub class: u8,
-    /// Its place within the class, the smaller the higher: the absolute deadline in nanoseconds
+    /// Its rank within the class, the smaller the higher: the absolute deadline in nanoseconds
     /// (`dl.deadline`), for a real-time task 99 minus the priority, for a fair one the virtual time
     /// in nanoseconds (`se.vruntime`). Nothing reads it for the stop task and for idle.
     pub rank: u128,
-    /// The least virtual time of the sibling in nanoseconds, as last noted (`min_vruntime_fi`).
-    /// Fair tasks are compared against it.
+    /// The least virtual time of the sibling in nanoseconds, as it was last kept for comparisons
+    /// (`min_vruntime_fi`). Fair tasks are compared against it.
     pub snapshot: u128,
 }
