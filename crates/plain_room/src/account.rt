@@ -25,8 +25,8 @@ pub fn totals_of(alloc: Global, tasks: &TaskTable, more: usize) -> Result<Totals
     ensures spare { IfOk result (λ totals. totals.spare ≡ more) }
 {
     let mut totals = Totals::with_capacity(alloc, tasks.len() as usize + more)?;
-    for place in 0..tasks.len() as usize {
-        totals.add(tasks.at(place).unwrap().spec.pid);
+    for position in 0..tasks.len() as usize {
+        totals.add(tasks.at(position).unwrap().spec.pid);
     }
     Ok(totals)
 }
@@ -64,8 +64,8 @@ fn charge_tasks(totals: &mut Totals, tasks: &TaskTable, siblings: &[Sibling], sh
     ensures known { (pid : ℕ) → has_total totals.new pid ≡ has_total totals.old pid }
     ensures spare { totals.new.spare ≡ totals.old.spare }
 {
-    for place in 0..tasks.len() as usize {
-        let task = *tasks.at(place).unwrap();
+    for position in 0..tasks.len() as usize {
+        let task = *tasks.at(position).unwrap();
         charge_one(totals, siblings, &task, share);
     }
 }

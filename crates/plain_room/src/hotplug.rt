@@ -81,8 +81,8 @@ impl State {
         ensures { result.items ≡ map (new_stamp self.now.tasks.tasks cpu self.now.next_stamp) self.now.tasks.tasks }
     {
         let mut stamps = Stamps::new();
-        for place in 0..self.tasks.len() as usize {
-            let task = *self.tasks.at(place).unwrap();
+        for position in 0..self.tasks.len() as usize {
+            let task = *self.tasks.at(position).unwrap();
             stamps.push(self.next_stamp + self.count_before(cpu, task.stamp));
         }
         stamps
@@ -101,12 +101,12 @@ impl State {
         ensures rest { self.new ≡ record self.old { tasks = self.new.tasks } }
         ensures sound { StaysSound self.old self.new }
     {
-        for place in 0..self.tasks.len() as usize {
-            let task = *self.tasks.at(place).unwrap();
+        for position in 0..self.tasks.len() as usize {
+            let task = *self.tasks.at(position).unwrap();
             if task.queued && task.home == cpu {
                 let moved = self.moved_to(to, task);
                 self.change(Task {
-                    stamp: stamps[place],
+                    stamp: stamps[position],
                     ..moved
                 });
             }

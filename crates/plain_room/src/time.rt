@@ -152,8 +152,8 @@ impl State {
         ensures rest { self.new ≡ record self.old { tasks = self.new.tasks } }
         ensures sound { StaysSound self.old self.new }
     {
-        for place in 0..self.tasks.len() as usize {
-            let task = *self.tasks.at(place).unwrap();
+        for position in 0..self.tasks.len() as usize {
+            let task = *self.tasks.at(position).unwrap();
             let task = grown_among(&self.siblings, task, delta);
             self.change(task);
         }

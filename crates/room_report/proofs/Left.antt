@@ -1,4 +1,4 @@
--- Left: which lines of each part are left at a place of its loop.
+-- Left: which lines of each part are left at a index of its loop.
 use Rattle.std.proofs.Common.{◌≡◌, ℕ, suc, ◌+◌, ◌-◌, ◌<◌, ◌≤◌, Bool, List, [], ◌∷◌, ◌++◌, map, length, drop, refl, sym, ap, ◌∙◌, append_assoc, subst, arith, Option, Some, None}
 use Rattle.std.specs.Prelude.{filter, slice_get, unwrap_or, if◌then◌else◌, codes}
 use Rattle.std.specs.List.{flat_map, filter_map, cons_option, range_with_len}
@@ -29,7 +29,7 @@ use Rattle.room_report.proofs.Reached.{AreLeft, all_left}
 
 -- ---- lists
 
--- from a place on stand its element and what comes after
+-- from a index on stand its element and what comes after
 drop_next : {X : Type 0} (xs : List X) (n : ℕ) (x : X) → slice_get xs n ≡ Some x → drop n xs ≡ x ∷ drop (n + 1) xs
 drop_next {X = X} xs n x at =
     let within = slice_get_within xs n x at in
@@ -53,9 +53,9 @@ mapped_none f (Some x) is = absurd cc
 
 -- ---- entries
 
-pub entries_next : (history : History) (place : ℕ) (entry : Entry) → slice_get history place ≡ Some entry →
-    flat_map entry_text (drop place history) ≡ entry_text entry ++ flat_map entry_text (drop (place + 1) history)
-entries_next history place entry at = ap (flat_map entry_text) (drop_next history place entry at)
+pub entries_next : (history : History) (index : ℕ) (entry : Entry) → slice_get history index ≡ Some entry →
+    flat_map entry_text (drop index history) ≡ entry_text entry ++ flat_map entry_text (drop (index + 1) history)
+entries_next history index entry at = ap (flat_map entry_text) (drop_next history index entry at)
 
 -- ---- siblings
 
@@ -154,28 +154,28 @@ few_ended scenario history = omega (arith, ended_after (beginning scenario) hist
 abbrev ended_row : Moment → ℕ → List Word
 ended_row moment pid = ended_words (end_view moment.room pid)
 
--- the lines of those from a place on
+-- the lines of those from a index on
 abbrev pub ended_lines_from : Moment → ℕ → List (List Word)
-ended_lines_from moment place = map (ended_row moment) (drop place moment.room.ended)
+ended_lines_from moment index = map (ended_row moment) (drop index moment.room.ended)
 
 abbrev pub shown_ended : Moment → ℕ → Option EndView
-shown_ended moment place = option_map (end_view moment.room) (slice_get moment.room.ended place)
+shown_ended moment index = option_map (end_view moment.room) (slice_get moment.room.ended index)
 
-pub ended_next : (moment : Moment) (place : ℕ) (view : EndView) → Some view ≡ shown_ended moment place →
-    lines_text (ended_lines_from moment place) ≡ line (ended_words view) ++ lines_text (ended_lines_from moment (place + 1))
-ended_next moment place view shown =
-    let found = mapped_some (end_view moment.room) (slice_get moment.room.ended place) view shown in
-    ap (λ (pids : List ℕ). lines_text (map (ended_row moment) pids)) (drop_next moment.room.ended place found.0 found.1)
-    ∙ ap (λ (v : EndView). line (ended_words v) ++ lines_text (ended_lines_from moment (place + 1))) (sym found.2)
+pub ended_next : (moment : Moment) (index : ℕ) (view : EndView) → Some view ≡ shown_ended moment index →
+    lines_text (ended_lines_from moment index) ≡ line (ended_words view) ++ lines_text (ended_lines_from moment (index + 1))
+ended_next moment index view shown =
+    let found = mapped_some (end_view moment.room) (slice_get moment.room.ended index) view shown in
+    ap (λ (pids : List ℕ). lines_text (map (ended_row moment) pids)) (drop_next moment.room.ended index found.0 found.1)
+    ∙ ap (λ (v : EndView). line (ended_words v) ++ lines_text (ended_lines_from moment (index + 1))) (sym found.2)
 
-pub ended_none : (moment : Moment) (place : ℕ) → None ≡ shown_ended moment place → lines_text (ended_lines_from moment place) ≡ []
-ended_none moment place shown =
+pub ended_none : (moment : Moment) (index : ℕ) → None ≡ shown_ended moment index → lines_text (ended_lines_from moment index) ≡ []
+ended_none moment index shown =
     ap (λ (pids : List ℕ). lines_text (map (ended_row moment) pids))
-    (drop_none moment.room.ended place (mapped_none (end_view moment.room) (slice_get moment.room.ended place) shown))
+    (drop_none moment.room.ended index (mapped_none (end_view moment.room) (slice_get moment.room.ended index) shown))
 
-pub ended_past : (moment : Moment) (place : ℕ) → length moment.room.ended ≤ place → lines_text (ended_lines_from moment place) ≡ []
-ended_past moment place past =
-    ap (λ (pids : List ℕ). lines_text (map (ended_row moment) pids)) (drop_all place moment.room.ended past)
+pub ended_past : (moment : Moment) (index : ℕ) → length moment.room.ended ≤ index → lines_text (ended_lines_from moment index) ≡ []
+ended_past moment index past =
+    ap (λ (pids : List ℕ). lines_text (map (ended_row moment) pids)) (drop_all index moment.room.ended past)
 
 -- ---- parts
 

@@ -26,8 +26,8 @@ pub(crate) fn write_entries<R: Room, K: Sink>(room: &R, sink: &mut K) -> Result<
     ensures failed { OnErr result (Rose (K.faults sink.old) (K.faults sink.new)) }
     ensures counted { K.faults sink.old ≤ K.faults sink.new }
 {
-    for place in 0..room.length() {
-        let entry = room.entry(place).unwrap();
+    for index in 0..room.length() {
+        let entry = room.entry(index).unwrap();
         entry_text(&entry, sink)?;
     }
     Ok(())
@@ -98,8 +98,8 @@ pub(crate) fn write_ended<R: Room, K: Sink>(room: &R, sink: &mut K) -> Result<()
     ensures failed { OnErr result (Rose (K.faults sink.old) (K.faults sink.new)) }
     ensures counted { K.faults sink.old ≤ K.faults sink.new }
 {
-    for place in 0..room.length() {
-        match room.ended(place) {
+    for index in 0..room.length() {
+        match room.ended(index) {
             Some(task) => write_all(sink, ended_line(task).as_bytes())?,
             None => return Ok(()),
         }

@@ -103,7 +103,7 @@ module _ (snapshot : ℕ → ℕ) (firsts : List (Option Task)) (offers : List O
         λ k d l. order_at n k d within (omega arith) ∙ best.2 k (offer_of snapshot 0 d) l,
       )
 
-  -- The lead of the offers is at the place of the lead of the first tasks.
+  -- The lead of the offers is at the index of the lead of the first tasks.
   pub foremost-offers : (n : ℕ) → IsFirstBest is_higher_offer offers (length offers) n →
       foremost (outranks snapshot) firsts ≡ Some (get_or firsts n None)
   foremost-offers n best = foremost-first_best (outranks snapshot) firsts n None (best_first n best)

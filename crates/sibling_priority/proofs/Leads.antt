@@ -1,4 +1,4 @@
--- What a scan that keeps the first best of a list has found, as the place and as the foremost.
+-- What a scan that keeps the first best of a list has found, as the index and as the foremost.
 use Rattle.std.proofs.Common.{ltb, ◌≡◌, ℕ, zero, suc, ◌+◌, ◌<◌, Bool, true, false, not, List, [], ◌∷◌, length, get_or, refl, ap, ◌∙◌, arith, Some, None}
 use Rattle.std.specs.Prelude.{position}
 use Rattle.std.specs.Cmp.{IsStrictWeakOrder}
@@ -11,7 +11,7 @@ use Rattle.std.proofs.lemmas.List.Sums.{list_all-from_AllPass}
 use Rattle.std.proofs.lemmas.Option.{slice_get-get_or}
 use Rattle.cs_types.specs.Order.{foremost}
 
--- the first place that passes
+-- the first index that passes
 position_or_len_at : {X : Type 0} (p : X → Bool) (xs : List X) (n : ℕ) (d : X) → n < length xs → p (get_or xs n d) ≡ true →
     ((k : ℕ) → k < n → p (get_or xs k d) ≡ false) → position_or_len p xs ≡ n
 position_or_len_at p [] n d l h before = absurd (omega arith)
@@ -25,7 +25,7 @@ module _ {X : Type 0} {lt : X → X → Bool} (order : IsStrictWeakOrder lt) (xs
   same : (k : ℕ) → k < length xs → get_or xs k d ≡ get_or xs k (get_or xs k d)
   same k l = get_or_default xs k d (get_or xs k d) l
 
-  -- a later element that goes before the best so far takes its place
+  -- a later element that goes before the best so far takes its index
   pub first_best_takes : IsFirstBest lt xs i b → i < length xs → lt (get_or xs i d) (get_or xs b d) ≡ true → IsFirstBest lt xs (i + 1) i
   first_best_takes h l test =
       IsFirstBest-takes order xs i b (get_or xs i d) (get_or xs b d) h l (same i l) (same b (omega (arith, h.0))) test
@@ -48,13 +48,13 @@ module _ {X : Type 0} (lt : X → X → Bool) (xs : List X) (n : ℕ) (d : X) (b
   earlier k l =
       list_all_at (λ other. not (lt other (get_or xs k d))) xs n d best.0 (not_from_true _ (best.2 k d l))
 
-  place : position_or_len (λ x. list_all (λ other. not (lt other x)) xs) xs ≡ n
-  place = position_or_len_at (λ x. list_all (λ other. not (lt other x)) xs) xs n d best.0 leads earlier
+  index : position_or_len (λ x. list_all (λ other. not (lt other x)) xs) xs ≡ n
+  index = position_or_len_at (λ x. list_all (λ other. not (lt other x)) xs) xs n d best.0 leads earlier
 
   pub position-first_best : position (λ x. list_all (λ other. not (lt other x)) xs) xs ≡ Some n
   position-first_best =
-      rw place (cond-true (ltb n (length xs)) (Some n) None (lt-ltb n (length xs) best.0))
+      rw index (cond-true (ltb n (length xs)) (Some n) None (lt-ltb n (length xs) best.0))
 
   pub foremost-first_best : foremost lt xs ≡ Some (get_or xs n d)
   foremost-first_best =
-      find_at (λ x. list_all (λ other. not (lt other x)) xs) xs ∙ ap (slice_get xs) place ∙ slice_get-get_or xs n d best.0
+      find_at (λ x. list_all (λ other. not (lt other x)) xs) xs ∙ ap (slice_get xs) index ∙ slice_get-get_or xs n d best.0

@@ -32,22 +32,22 @@ pub fn higher(a: &Offer, b: &Offer) -> bool
     }
 }
 
-/// The place of the lead: the first offer than which no other is higher (`max` in
+/// The index of the lead: the first offer than which no other is higher (`max` in
 /// `pick_next_task`, kernel/sched/core.c, where the last of equal deadlines leads).
 pub fn lead(offers: &[Offer]) -> usize
     requires some { 0 < length offers.now }
     requires in_range { All IsInRange offers.now }
-    ensures place { result < length offers.now }
+    ensures index { result < length offers.now }
     ensures first { position (is_highest offers.now) offers.now ≡ Some result }
 
-    // The lead of the siblings' offers is at the place of the lead of their first tasks.
+    // The lead of the siblings' offers is at the index of the lead of their first tasks.
     ensures model { (snapshot : ℕ → ℕ) (firsts : List (Option Task)) → AreOffersOf snapshot firsts offers.now →
         foremost (outranks snapshot) firsts ≡ Some (slice_index_or firsts result None) }
 {
     let mut best = 0;
-    for place in 1..offers.len() {
-        if higher(&offers[place], &offers[best]) {
-            best = place;
+    for index in 1..offers.len() {
+        if higher(&offers[index], &offers[best]) {
+            best = index;
         }
     }
     best

@@ -12,17 +12,17 @@ use Rattle.cs_types.specs.Room.{has_pid, inserted}
 use Rattle.task_table.specs.declared.entry.Entry.{Entry}
 use Rattle.task_table.specs.Table.{pid_of, Table, IsSound, Rises, add_answer}
 use Rattle.task_table.specs.declared.fault.AddFault.TheVariants.{Full}
-use Rattle.task_table.specs.Places.{IsAt, IsGap}
+use Rattle.task_table.specs.Positions.{IsAt, IsGap}
 use Rattle.task_table.specs.Inside.{tasks_at, IsKept}
-use Rattle.task_table.proofs.Rising.{find_at, find_none, none_gap, without_at, with_at, placed_gap, rises_insert, rises_remove, rises_set, pids_set, at_within, split_within}
+use Rattle.task_table.proofs.Rising.{find_at, find_none, none_gap, without_at, with_at, inserted_gap, rises_insert, rises_remove, rises_set, pids_set, at_within, split_within}
 use Rattle.task_table.proofs.Slots.{insert_both, remove_both, length_both, listed, slot_at, others_elsewhere, holds_insert, holds_remove, holds_set}
 
--- the task at the place of a pid has it
-pub at_some : (pid place : ℕ) (tasks : List Task) → IsAt pid place tasks →
-    (task : Task) × (slice_get tasks place ≡ Some task) × (task.spec.pid ≡ pid)
-at_some pid place [] at = absurd at
+-- the task at the position of a pid has it
+pub at_some : (pid position : ℕ) (tasks : List Task) → IsAt pid position tasks →
+    (task : Task) × (slice_get tasks position ≡ Some task) × (task.spec.pid ≡ pid)
+at_some pid position [] at = absurd at
 at_some pid zero (task ∷ rest) at = (task, refl, at.0)
-at_some pid (suc place) (task ∷ rest) at = at_some pid place rest at.1
+at_some pid (suc position) (task ∷ rest) at = at_some pid position rest at.1
 
 module _ {slots : Slab Task} {entries : List Entry} {room limit : ℕ} {tasks : List Task} (kept : IsKept slots entries room limit tasks) where
   -- what is kept is what the slots hold
@@ -38,41 +38,41 @@ module _ {slots : Slab Task} {entries : List Entry} {room limit : ℕ} {tasks : 
   pub kept_sound : IsSound (record { tasks = tasks; limit = limit })
   kept_sound = record { rising = kept.rising; few = omega (arith, kept_length, kept.few); limit = kept.limit_fits }
 
-  pub place_within : (pid place : ℕ) → IsAt pid place tasks → place < length entries
-  place_within pid place at = omega (arith, kept_length, at_within pid place tasks at)
+  pub position_within : (pid position : ℕ) → IsAt pid position tasks → position < length entries
+  position_within pid position at = omega (arith, kept_length, at_within pid position tasks at)
 
-  pub gap_in_entries : (pid place : ℕ) → IsGap pid place tasks → place ≤ length entries
-  gap_in_entries pid place gap = omega (arith, kept_length, split_within pid (pid + 1) place tasks gap)
+  pub gap_in_entries : (pid position : ℕ) → IsGap pid position tasks → position ≤ length entries
+  gap_in_entries pid position gap = omega (arith, kept_length, split_within pid (pid + 1) position tasks gap)
 
-  -- the slot of the entry at the place of a pid has the task with the pid
-  pub found : (pid place : ℕ) (entry : Entry) → IsAt pid place tasks → entry ≡ get_or entries place entry →
+  -- the slot of the entry at the position of a pid has the task with the pid
+  pub found : (pid position : ℕ) (entry : Entry) → IsAt pid position tasks → entry ≡ get_or entries position entry →
       get slots entry.key ≡ find (has_pid pid) tasks
-  found pid place entry at is =
-      ap (λ (e : Entry). get slots e.key) is ∙ slot_at slots entries tasks kept.holds place entry (place_within pid place at)
-      ∙ sym (find_at pid place tasks at)
+  found pid position entry at is =
+      ap (λ (e : Entry). get slots e.key) is ∙ slot_at slots entries tasks kept.holds position entry (position_within pid position at)
+      ∙ sym (find_at pid position tasks at)
 
-  pub found_some : (pid place : ℕ) (entry : Entry) → IsAt pid place tasks → entry ≡ get_or entries place entry →
+  pub found_some : (pid position : ℕ) (entry : Entry) → IsAt pid position tasks → entry ≡ get_or entries position entry →
       (task : Task) × (get slots entry.key ≡ Some task) × (task.spec.pid ≡ pid)
-  found_some pid place entry at is =
-      let there = at_some pid place tasks at in
-      (there.0, found pid place entry at is ∙ find_at pid place tasks at ∙ there.1, there.2)
+  found_some pid position entry at is =
+      let there = at_some pid position tasks at in
+      (there.0, found pid position entry at is ∙ find_at pid position tasks at ∙ there.1, there.2)
 
   -- a task goes into an empty slot, and an entry for it into its gap
-  pub kept_insert : (new : Slab Task) (after : List Entry) (more key place : ℕ) (task : Task) → IsGap task.spec.pid place tasks →
+  pub kept_insert : (new : Slab Task) (after : List Entry) (more key position : ℕ) (task : Task) → IsGap task.spec.pid position tasks →
       get slots key ≡ None → Updates slots new key (Some task) → slab_len new ≡ slab_len slots + 1 → new.capacity ≡ slots.capacity →
-      room ≤ more → length entries ≢ limit → after ≡ insert entries place (record { pid = task.spec.pid; key = key }) →
+      room ≤ more → length entries ≢ limit → after ≡ insert entries position (record { pid = task.spec.pid; key = key }) →
       IsKept new after more limit (inserted task tasks)
-  kept_insert new after more key place task gap empty updates longer same_room more_room free is =
+  kept_insert new after more key position task gap empty updates longer same_room more_room free is =
       let entry : Entry = record { pid = task.spec.pid; key = key } in
-      let inside = gap_in_entries task.spec.pid place gap in
-      let long : length after ≡ length entries + 1 = ap length is ∙ length-insert entries place entry inside in
-      let there = sym (placed_gap task place tasks gap) in
+      let inside = gap_in_entries task.spec.pid position gap in
+      let long : length after ≡ length entries + 1 = ap length is ∙ length-insert entries position entry inside in
+      let there = sym (inserted_gap task position tasks gap) in
       record {
         holds = subst (λ es. map (λ (e : Entry). get new e.key) es ≡ map Some (inserted task tasks)) (sym is)
-            (holds_insert slots new key task empty updates entries tasks place entry refl kept.holds ∙ ap (map Some) there);
-        index = ap (map (λ (e : Entry). e.pid)) is ∙ insert_both (λ (e : Entry). e.pid) pid_of entries tasks place entry task kept.index refl
+            (holds_insert slots new key task empty updates entries tasks position entry refl kept.holds ∙ ap (map Some) there);
+        index = ap (map (λ (e : Entry). e.pid)) is ∙ insert_both (λ (e : Entry). e.pid) pid_of entries tasks position entry task kept.index refl
             ∙ ap (map pid_of) there;
-        rising = subst Rises there (rises_insert task 0 place tasks kept.rising (omega arith) gap);
+        rising = subst Rises there (rises_insert task 0 position tasks kept.rising (omega arith) gap);
         counted = longer ∙ ap (λ n. n + 1) kept.counted ∙ sym long;
         few = omega (arith, long, kept.few, free);
         limit_fits = kept.limit_fits;
@@ -81,22 +81,22 @@ module _ {slots : Slab Task} {entries : List Entry} {room limit : ℕ} {tasks : 
       }
 
   -- the entry of a pid goes, and its slot becomes empty
-  pub kept_remove : (new : Slab Task) (after : List Entry) (less pid place : ℕ) (entry : Entry) → IsAt pid place tasks →
-      entry ≡ get_or entries place entry → Updates slots new entry.key None → slab_len new + 1 ≡ slab_len slots →
-      new.capacity ≡ slots.capacity → less ≡ room → after ≡ remove entries place →
+  pub kept_remove : (new : Slab Task) (after : List Entry) (less pid position : ℕ) (entry : Entry) → IsAt pid position tasks →
+      entry ≡ get_or entries position entry → Updates slots new entry.key None → slab_len new + 1 ≡ slab_len slots →
+      new.capacity ≡ slots.capacity → less ≡ room → after ≡ remove entries position →
       IsKept new after less limit (filter (λ task. not (has_pid pid task)) tasks)
-  kept_remove new after less pid place entry at here updates shorter same_room room_stays is =
-      let there = found_some pid place entry at here in
-      let inside = place_within pid place at in
-      let long : length after + 1 ≡ length entries = ap (λ (es : List Entry). length es + 1) is ∙ length-remove entries place inside in
-      let without = sym (without_at pid place tasks at) in
+  kept_remove new after less pid position entry at here updates shorter same_room room_stays is =
+      let there = found_some pid position entry at here in
+      let inside = position_within pid position at in
+      let long : length after + 1 ≡ length entries = ap (λ (es : List Entry). length es + 1) is ∙ length-remove entries position inside in
+      let without = sym (without_at pid position tasks at) in
       record {
         holds = ap (map (λ (e : Entry). get new e.key)) is
-            ∙ holds_remove slots new entry.key there.0 there.1 updates entries tasks place (subst (λ p. IsAt p place tasks) (sym there.2) at) kept.holds
+            ∙ holds_remove slots new entry.key there.0 there.1 updates entries tasks position (subst (λ p. IsAt p position tasks) (sym there.2) at) kept.holds
             ∙ ap (map Some) without;
-        index = ap (map (λ (e : Entry). e.pid)) is ∙ remove_both (λ (e : Entry). e.pid) pid_of entries tasks place kept.index
+        index = ap (map (λ (e : Entry). e.pid)) is ∙ remove_both (λ (e : Entry). e.pid) pid_of entries tasks position kept.index
             ∙ ap (map pid_of) without;
-        rising = subst Rises without (rises_remove pid 0 place tasks kept.rising at);
+        rising = subst Rises without (rises_remove pid 0 position tasks kept.rising at);
         counted = omega (arith, long, shorter, kept.counted);
         few = omega (arith, long, kept.few);
         limit_fits = kept.limit_fits;
@@ -105,20 +105,20 @@ module _ {slots : Slab Task} {entries : List Entry} {room limit : ℕ} {tasks : 
       }
 
   -- the slot of a pid gets another task with the pid
-  pub kept_set : (new : Slab Task) (place : ℕ) (entry : Entry) (task : Task) → IsAt task.spec.pid place tasks →
-      entry ≡ get_or entries place entry → Updates slots new entry.key (Some task) → slab_len new ≡ slab_len slots →
+  pub kept_set : (new : Slab Task) (position : ℕ) (entry : Entry) (task : Task) → IsAt task.spec.pid position tasks →
+      entry ≡ get_or entries position entry → Updates slots new entry.key (Some task) → slab_len new ≡ slab_len slots →
       new.capacity ≡ slots.capacity →
       IsKept new entries room limit (map (λ other. cond (has_pid task.spec.pid other) task other) tasks)
-  kept_set new place entry task at here updates same_length same_room =
-      let there = found_some task.spec.pid place entry at here in
-      let inside = place_within task.spec.pid place at in
-      let with = sym (with_at task place tasks at) in
+  kept_set new position entry task at here updates same_length same_room =
+      let there = found_some task.spec.pid position entry at here in
+      let inside = position_within task.spec.pid position at in
+      let with = sym (with_at task position tasks at) in
       record {
-        holds = holds_set slots new entry.key task updates entries tasks place entry inside (ap (λ (e : Entry). e.key) (sym here))
-            (others_elsewhere slots entry.key there.0 there.1 place entries tasks kept.holds (subst (λ p. IsAt p place tasks) (sym there.2) at)) kept.holds
+        holds = holds_set slots new entry.key task updates entries tasks position entry inside (ap (λ (e : Entry). e.key) (sym here))
+            (others_elsewhere slots entry.key there.0 there.1 position entries tasks kept.holds (subst (λ p. IsAt p position tasks) (sym there.2) at)) kept.holds
             ∙ ap (map Some) with;
-        index = kept.index ∙ sym (pids_set task place tasks at) ∙ ap (map pid_of) with;
-        rising = subst Rises with (rises_set task 0 place tasks kept.rising at);
+        index = kept.index ∙ sym (pids_set task position tasks at) ∙ ap (map pid_of) with;
+        rising = subst Rises with (rises_set task 0 position tasks kept.rising at);
         counted = same_length ∙ kept.counted;
         few = kept.few;
         limit_fits = kept.limit_fits;
@@ -149,13 +149,13 @@ seen_as slots entries room limit tasks old kept same =
 -- ---- what an addition answers
 
 -- with no task of the pid, a table that has as many tasks as its limit is full
-pub full_answer : (table : Table) (spec : TaskSpec) (place limit : ℕ) → IsGap spec.pid place table.tasks → limit ≡ table.limit →
+pub full_answer : (table : Table) (spec : TaskSpec) (position limit : ℕ) → IsGap spec.pid position table.tasks → limit ≡ table.limit →
     length table.tasks ≡ limit → Err (Full limit) ≡ add_answer table spec
-full_answer table spec place limit gap same full =
-    rw (find_none spec.pid table.tasks (none_gap spec.pid place table.tasks gap), eq-eqb (length table.tasks) table.limit (full ∙ same)) (ap (λ n. Err (Full n)) same)
+full_answer table spec position limit gap same full =
+    rw (find_none spec.pid table.tasks (none_gap spec.pid position table.tasks gap), eq-eqb (length table.tasks) table.limit (full ∙ same)) (ap (λ n. Err (Full n)) same)
 
 -- and one that has not takes it
-pub free_answer : (table : Table) (spec : TaskSpec) (place limit : ℕ) → IsGap spec.pid place table.tasks → limit ≡ table.limit →
+pub free_answer : (table : Table) (spec : TaskSpec) (position limit : ℕ) → IsGap spec.pid position table.tasks → limit ≡ table.limit →
     length table.tasks ≢ limit → Ok tt ≡ add_answer table spec
-free_answer table spec place limit gap same free =
-    rw (find_none spec.pid table.tasks (none_gap spec.pid place table.tasks gap), ne_eqb (length table.tasks) table.limit (λ full. free (full ∙ sym same))) refl
+free_answer table spec position limit gap same free =
+    rw (find_none spec.pid table.tasks (none_gap spec.pid position table.tasks gap), ne_eqb (length table.tasks) table.limit (λ full. free (full ∙ sym same))) refl

@@ -1,4 +1,4 @@
--- Tasks that rise by pid: what a search, a filter and an edit at a place give.
+-- Tasks that rise by pid: what a search, a filter and an edit at a position give.
 use Rattle.std.proofs.Common.{◌≡◌, ℕ, zero, suc, ◌+◌, ◌<◌, ◌≤◌, Bool, true, false, not, cond, eqb, ltb, leb, List, [], ◌∷◌, map, length, get_or, set, drop, Option, Some, None, Result, Ok, Err, MatchResult, MatchOption, inl, inr, refl, sym, ap, ◌∙◌, subst, arith, eq-eqb}
 use Rattle.std.specs.Prelude.{◌&&◌, find, filter, insert, remove, slice_get}
 use Rattle.std.specs.List.{AllByRecursion}
@@ -13,7 +13,7 @@ use Rattle.cs_types.specs.Room.{has_pid, inserted}
 use Rattle.task_table.specs.declared.entry.Entry.{Entry}
 use Rattle.cs_types.proofs.Inserted.{inserted-first, inserted-past}
 use Rattle.task_table.specs.Table.{pid_of, RisesFrom, Rises}
-use Rattle.task_table.specs.Places.{IsIndexOf, IsAt, IsSplit, IsGap, IsAbove}
+use Rattle.task_table.specs.Positions.{IsIndexOf, IsAt, IsSplit, IsGap, IsAbove}
 
 -- ---- tests
 
@@ -44,11 +44,11 @@ lower_start : (high low : ℕ) (tasks : List Task) → low ≤ high → RisesFro
 lower_start high low [] le rises = tt
 lower_start high low (task ∷ rest) le rises = (omega (arith, rises.0), rises.1)
 
--- the task at a place has no lower pid than the start
-at_start : (low pid place : ℕ) (tasks : List Task) → RisesFrom low tasks → IsAt pid place tasks → low ≤ pid
-at_start low pid place [] rises at = absurd at
+-- the task at a position has no lower pid than the start
+at_start : (low pid position : ℕ) (tasks : List Task) → RisesFrom low tasks → IsAt pid position tasks → low ≤ pid
+at_start low pid position [] rises at = absurd at
 at_start low pid zero (task ∷ rest) rises at = omega (arith, rises.0, at.0)
-at_start low pid (suc place) (task ∷ rest) rises at = omega (arith, rises.0, at.0)
+at_start low pid (suc position) (task ∷ rest) rises at = omega (arith, rises.0, at.0)
 
 -- ---- a binary search in the index
 
@@ -74,43 +74,43 @@ rising_entries low (entry ∷ entries) (task ∷ tasks) index rises (suc i) (suc
     rising_entries (task.spec.pid + 1) entries tasks (cc) rises.1 i j d (omega arith) (omega arith)
 
 at_from : (low pid : ℕ) (entries : List Entry) (tasks : List Task) → IsIndexOf entries tasks → RisesFrom low tasks →
-    (place : ℕ) → place < length entries → ((d : Entry) → (get_or entries place d).pid ≡ pid) → IsAt pid place tasks
-at_from low pid [] tasks index rises place within here = absurd (omega arith)
-at_from low pid (entry ∷ entries) [] index rises place within here = absurd cc
+    (position : ℕ) → position < length entries → ((d : Entry) → (get_or entries position d).pid ≡ pid) → IsAt pid position tasks
+at_from low pid [] tasks index rises position within here = absurd (omega arith)
+at_from low pid (entry ∷ entries) [] index rises position within here = absurd cc
 at_from low pid (entry ∷ entries) (task ∷ tasks) index rises zero within here =
     let same : task.spec.pid ≡ pid = (let e : task.spec.pid ≡ entry.pid = cc in e ∙ here entry) in
     (same, subst (λ p. RisesFrom (p + 1) tasks) same rises.1)
-at_from low pid (entry ∷ entries) (task ∷ tasks) index rises (suc place) within here =
-    let later = at_from (task.spec.pid + 1) pid entries tasks (cc) rises.1 place (omega arith) here in
-    (omega (arith, at_start (task.spec.pid + 1) pid place tasks rises.1 later), later)
+at_from low pid (entry ∷ entries) (task ∷ tasks) index rises (suc position) within here =
+    let later = at_from (task.spec.pid + 1) pid entries tasks (cc) rises.1 position (omega arith) here in
+    (omega (arith, at_start (task.spec.pid + 1) pid position tasks rises.1 later), later)
 
 split_from : (low below from : ℕ) (entries : List Entry) (tasks : List Task) → IsIndexOf entries tasks → RisesFrom low tasks →
-    (place : ℕ) → place ≤ length entries → ((k : ℕ) (d : Entry) → k < place → (get_or entries k d).pid < below) →
-    ((k : ℕ) (d : Entry) → place ≤ k → k < length entries → from ≤ (get_or entries k d).pid) → IsSplit below from place tasks
+    (position : ℕ) → position ≤ length entries → ((k : ℕ) (d : Entry) → k < position → (get_or entries k d).pid < below) →
+    ((k : ℕ) (d : Entry) → position ≤ k → k < length entries → from ≤ (get_or entries k d).pid) → IsSplit below from position tasks
 split_from low below from [] [] index rises zero within before behind = tt
-split_from low below from [] [] index rises (suc place) within before behind = absurd (omega arith)
-split_from low below from [] (task ∷ tasks) index rises place within before behind = absurd cc
-split_from low below from (entry ∷ entries) [] index rises place within before behind = absurd cc
+split_from low below from [] [] index rises (suc position) within before behind = absurd (omega arith)
+split_from low below from [] (task ∷ tasks) index rises position within before behind = absurd cc
+split_from low below from (entry ∷ entries) [] index rises position within before behind = absurd cc
 split_from low below from (entry ∷ entries) (task ∷ tasks) index rises zero within before behind =
     let same : entry.pid ≡ task.spec.pid = cc in
     (omega (arith, behind 0 entry (omega arith) (omega arith)), rises.1)
-split_from low below from (entry ∷ entries) (task ∷ tasks) index rises (suc place) within before behind =
+split_from low below from (entry ∷ entries) (task ∷ tasks) index rises (suc position) within before behind =
     let same : entry.pid ≡ task.spec.pid = cc in (
       omega (arith, before 0 entry (omega arith)),
-      split_from (task.spec.pid + 1) below from entries tasks (cc) rises.1 place (omega arith) (λ k d lt. before (suc k) d (omega arith))
+      split_from (task.spec.pid + 1) below from entries tasks (cc) rises.1 position (omega arith) (λ k d lt. before (suc k) d (omega arith))
           (λ k d le lt. behind (suc k) d (omega arith) (omega arith)),
     )
 
--- a binary search by pid ends at the place of the pid, or at the gap for it
+-- a binary search by pid ends at the position of the pid, or at the gap for it
 pub searched : (entries : List Entry) (tasks : List Task) (pid : ℕ) → IsIndexOf entries tasks → Rises tasks → (r : Result ℕ ℕ) →
     IsSearchInRange r (length entries) → IsBinarySearchResult (λ entry. nat_cmp entry.pid pid) entries r →
-    MatchResult r (λ place. IsAt pid place tasks) (λ place. IsGap pid place tasks)
-searched entries tasks pid index rises (Ok place) within equal =
-    at_from 0 pid entries tasks index rises place within (λ d. ranked _ pid _ (sym (equal d)))
-searched entries tasks pid index rises (Err place) within parted =
+    MatchResult r (λ position. IsAt pid position tasks) (λ position. IsGap pid position tasks)
+searched entries tasks pid index rises (Ok position) within equal =
+    at_from 0 pid entries tasks index rises position within (λ d. ranked _ pid _ (sym (equal d)))
+searched entries tasks pid index rises (Err position) within parted =
     let order : IsNonDecreasingBy (λ (entry : Entry). ordering_index (nat_cmp entry.pid pid)) entries =
     λ i j d le lt. by_number (get_or entries i d).pid (get_or entries j d).pid pid (rising_entries 0 entries tasks index rises i j d le lt) in
-    split_from 0 pid (pid + 1) entries tasks index rises place within (λ k d lt. ranked _ pid _ (sym ((parted order).0 k d (omega arith) lt)))
+    split_from 0 pid (pid + 1) entries tasks index rises position within (λ k d lt. ranked _ pid _ (sym ((parted order).0 k d (omega arith) lt)))
     (λ k d le lt. let higher : pid < (get_or entries k d).pid = ranked _ pid _ (sym ((parted order).1 k d le lt)) in omega arith)
   where
     by_number : (m n pid : ℕ) → m ≤ n → ordering_index (nat_cmp m pid) ≤ ordering_index (nat_cmp n pid)
@@ -123,11 +123,11 @@ no_greater_first entries tasks pid index rises =
     IsPartitionedBy-leb (λ (entry : Entry). entry.pid) entries pid (rising_entries 0 entries tasks index rises)
 
 -- a search for the first greater pid ends behind those that are no greater
-pub parted : (entries : List Entry) (tasks : List Task) (pid place : ℕ) → IsIndexOf entries tasks → Rises tasks → place ≤ length entries →
-    IsPartitionPoint (λ (entry : Entry). leb entry.pid pid ≡ true) (λ (entry : Entry). leb entry.pid pid ≡ false) entries place →
-    IsAbove pid place tasks
-parted entries tasks pid place index rises within parts =
-    split_from 0 (pid + 1) (pid + 1) entries tasks index rises place within (λ k d lt. no_greater (get_or entries k d).pid pid (parts.0 k d (omega arith) lt))
+pub parted : (entries : List Entry) (tasks : List Task) (pid position : ℕ) → IsIndexOf entries tasks → Rises tasks → position ≤ length entries →
+    IsPartitionPoint (λ (entry : Entry). leb entry.pid pid ≡ true) (λ (entry : Entry). leb entry.pid pid ≡ false) entries position →
+    IsAbove pid position tasks
+parted entries tasks pid position index rises within parts =
+    split_from 0 (pid + 1) (pid + 1) entries tasks index rises position within (λ k d lt. no_greater (get_or entries k d).pid pid (parts.0 k d (omega arith) lt))
     (λ k d le lt. greater (get_or entries k d).pid pid (parts.1 k d le lt))
   where
     no_greater : (m n : ℕ) → leb m n ≡ true → m < n + 1
@@ -147,10 +147,10 @@ none_above pid low [] lt rises = tt
 none_above pid low (task ∷ rest) lt rises =
     (ne_eqb task.spec.pid pid (λ same. omega (arith, rises.0)), none_above pid (task.spec.pid + 1) rest (omega (arith, rises.0)) rises.1)
 
-pub none_gap : (pid place : ℕ) (tasks : List Task) → IsGap pid place tasks → NoneHas pid tasks
+pub none_gap : (pid position : ℕ) (tasks : List Task) → IsGap pid position tasks → NoneHas pid tasks
 none_gap pid zero tasks gap = none_above pid (pid + 1) tasks (omega arith) gap
-none_gap pid (suc place) [] gap = absurd gap
-none_gap pid (suc place) (task ∷ rest) gap = (ne_eqb task.spec.pid pid (λ same. omega (arith, gap.0)), none_gap pid place rest gap.1)
+none_gap pid (suc position) [] gap = absurd gap
+none_gap pid (suc position) (task ∷ rest) gap = (ne_eqb task.spec.pid pid (λ same. omega (arith, gap.0)), none_gap pid position rest gap.1)
 
 pub find_none : (pid : ℕ) (tasks : List Task) → NoneHas pid tasks → find (has_pid pid) tasks ≡ None
 find_none pid [] none = refl
@@ -179,86 +179,86 @@ filter_above p pid low (task ∷ rest) lt rises =
     (and_true (p task) (ltb pid task.spec.pid) (lt-ltb pid task.spec.pid (omega (arith, rises.0))))
     ∙ ap (λ (ts : List Task). cond (p task) (task ∷ ts) ts) later
 
--- ---- at the place of a pid
+-- ---- at the position of a pid
 
-pub find_at : (pid place : ℕ) (tasks : List Task) → IsAt pid place tasks → find (has_pid pid) tasks ≡ slice_get tasks place
-find_at pid place [] at = absurd at
+pub find_at : (pid position : ℕ) (tasks : List Task) → IsAt pid position tasks → find (has_pid pid) tasks ≡ slice_get tasks position
+find_at pid position [] at = absurd at
 find_at pid zero (task ∷ rest) at = cond-true (eqb task.spec.pid pid) _ _ (eq-eqb task.spec.pid pid at.0)
-find_at pid (suc place) (task ∷ rest) at =
-    cond-false (eqb task.spec.pid pid) _ _ (ne_eqb task.spec.pid pid (λ same. omega (arith, at.0))) ∙ find_at pid place rest at.1
+find_at pid (suc position) (task ∷ rest) at =
+    cond-false (eqb task.spec.pid pid) _ _ (ne_eqb task.spec.pid pid (λ same. omega (arith, at.0))) ∙ find_at pid position rest at.1
 
-pub without_at : (pid place : ℕ) (tasks : List Task) → IsAt pid place tasks → filter (λ task. not (has_pid pid task)) tasks ≡ remove tasks place
-without_at pid place [] at = absurd at
+pub without_at : (pid position : ℕ) (tasks : List Task) → IsAt pid position tasks → filter (λ task. not (has_pid pid task)) tasks ≡ remove tasks position
+without_at pid position [] at = absurd at
 without_at pid zero (task ∷ rest) at =
     cond-false (not (eqb task.spec.pid pid)) _ _ (ap not (eq-eqb task.spec.pid pid at.0)) ∙ without_none pid rest (none_above pid (pid + 1) rest (omega arith) at.1)
-without_at pid (suc place) (task ∷ rest) at =
+without_at pid (suc position) (task ∷ rest) at =
     cond-true (not (eqb task.spec.pid pid)) _ _ (ap not (ne_eqb task.spec.pid pid (λ same. omega (arith, at.0))))
-    ∙ ap (λ (ts : List Task). task ∷ ts) (without_at pid place rest at.1)
+    ∙ ap (λ (ts : List Task). task ∷ ts) (without_at pid position rest at.1)
 
-pub with_at : (new : Task) (place : ℕ) (tasks : List Task) → IsAt new.spec.pid place tasks →
-    map (λ other. cond (has_pid new.spec.pid other) new other) tasks ≡ set tasks place new
-with_at new place [] at = absurd at
+pub with_at : (new : Task) (position : ℕ) (tasks : List Task) → IsAt new.spec.pid position tasks →
+    map (λ other. cond (has_pid new.spec.pid other) new other) tasks ≡ set tasks position new
+with_at new position [] at = absurd at
 with_at new zero (task ∷ rest) at =
     ap (λ (t : Task). t ∷ map (λ other. cond (has_pid new.spec.pid other) new other) rest)
     (cond-true (eqb task.spec.pid new.spec.pid) new task (eq-eqb task.spec.pid new.spec.pid at.0))
     ∙ ap (λ (ts : List Task). new ∷ ts) (with_none new rest (none_above new.spec.pid (new.spec.pid + 1) rest (omega arith) at.1))
-with_at new (suc place) (task ∷ rest) at =
+with_at new (suc position) (task ∷ rest) at =
     ap (λ (t : Task). t ∷ map (λ other. cond (has_pid new.spec.pid other) new other) rest)
     (cond-false (eqb task.spec.pid new.spec.pid) new task (ne_eqb task.spec.pid new.spec.pid (λ same. omega (arith, at.0))))
-    ∙ ap (λ (ts : List Task). task ∷ ts) (with_at new place rest at.1)
+    ∙ ap (λ (ts : List Task). task ∷ ts) (with_at new position rest at.1)
 
-pub rises_set : (new : Task) (low place : ℕ) (tasks : List Task) → RisesFrom low tasks → IsAt new.spec.pid place tasks → RisesFrom low (set tasks place new)
-rises_set new low place [] rises at = absurd at
+pub rises_set : (new : Task) (low position : ℕ) (tasks : List Task) → RisesFrom low tasks → IsAt new.spec.pid position tasks → RisesFrom low (set tasks position new)
+rises_set new low position [] rises at = absurd at
 rises_set new low zero (task ∷ rest) rises at = (omega (arith, rises.0, at.0), at.1)
-rises_set new low (suc place) (task ∷ rest) rises at = (rises.0, rises_set new (task.spec.pid + 1) place rest rises.1 at.1)
+rises_set new low (suc position) (task ∷ rest) rises at = (rises.0, rises_set new (task.spec.pid + 1) position rest rises.1 at.1)
 
-pub rises_remove : (pid low place : ℕ) (tasks : List Task) → RisesFrom low tasks → IsAt pid place tasks → RisesFrom low (remove tasks place)
-rises_remove pid low place [] rises at = absurd at
+pub rises_remove : (pid low position : ℕ) (tasks : List Task) → RisesFrom low tasks → IsAt pid position tasks → RisesFrom low (remove tasks position)
+rises_remove pid low position [] rises at = absurd at
 rises_remove pid low zero (task ∷ rest) rises at = lower_start (task.spec.pid + 1) low rest (omega (arith, rises.0)) rises.1
-rises_remove pid low (suc place) (task ∷ rest) rises at = (rises.0, rises_remove pid (task.spec.pid + 1) place rest rises.1 at.1)
+rises_remove pid low (suc position) (task ∷ rest) rises at = (rises.0, rises_remove pid (task.spec.pid + 1) position rest rises.1 at.1)
 
--- a task in the place of the one with its pid leaves the pids
-pub pids_set : (new : Task) (place : ℕ) (tasks : List Task) → IsAt new.spec.pid place tasks → map pid_of (set tasks place new) ≡ map pid_of tasks
-pids_set new place [] at = absurd at
+-- a task in the position of the one with its pid leaves the pids
+pub pids_set : (new : Task) (position : ℕ) (tasks : List Task) → IsAt new.spec.pid position tasks → map pid_of (set tasks position new) ≡ map pid_of tasks
+pids_set new position [] at = absurd at
 pids_set new zero (task ∷ rest) at = ap (λ n. n ∷ map pid_of rest) (sym at.0)
-pids_set new (suc place) (task ∷ rest) at = ap (λ (ns : List ℕ). task.spec.pid ∷ ns) (pids_set new place rest at.1)
+pids_set new (suc position) (task ∷ rest) at = ap (λ (ns : List ℕ). task.spec.pid ∷ ns) (pids_set new position rest at.1)
 
-pub at_within : (pid place : ℕ) (tasks : List Task) → IsAt pid place tasks → place < length tasks
-at_within pid place [] at = absurd at
+pub at_within : (pid position : ℕ) (tasks : List Task) → IsAt pid position tasks → position < length tasks
+at_within pid position [] at = absurd at
 at_within pid zero (task ∷ rest) at = omega arith
-at_within pid (suc place) (task ∷ rest) at = omega (arith, at_within pid place rest at.1)
+at_within pid (suc position) (task ∷ rest) at = omega (arith, at_within pid position rest at.1)
 
 -- ---- at the gap for a pid
 
 -- the members above a pid are the members from the first task above it on
-pub filter_split : (p : Task → Bool) (pid place : ℕ) (tasks : List Task) → IsAbove pid place tasks →
-    filter (λ task. p task && ltb pid task.spec.pid) tasks ≡ filter p (drop place tasks)
+pub filter_split : (p : Task → Bool) (pid position : ℕ) (tasks : List Task) → IsAbove pid position tasks →
+    filter (λ task. p task && ltb pid task.spec.pid) tasks ≡ filter p (drop position tasks)
 filter_split p pid zero tasks above = filter_above p pid (pid + 1) tasks (omega arith) above
-filter_split p pid (suc place) [] above = absurd above
-filter_split p pid (suc place) (task ∷ rest) above =
+filter_split p pid (suc position) [] above = absurd above
+filter_split p pid (suc position) (task ∷ rest) above =
     cond-false (p task && ltb pid task.spec.pid) _ _ (and_false (p task) _ (le-ltb pid task.spec.pid (omega (arith, above.0))))
-    ∙ filter_split p pid place rest above.1
+    ∙ filter_split p pid position rest above.1
 
-pub placed_gap : (new : Task) (place : ℕ) (tasks : List Task) → IsGap new.spec.pid place tasks → inserted new tasks ≡ insert tasks place new
-placed_gap new zero tasks gap =
+pub inserted_gap : (new : Task) (position : ℕ) (tasks : List Task) → IsGap new.spec.pid position tasks → inserted new tasks ≡ insert tasks position new
+inserted_gap new zero tasks gap =
     inserted-first new tasks
     (weaker (λ other. new.spec.pid + 1 ≤ other.spec.pid) (λ other. new.spec.pid < other.spec.pid) (λ other above. omega (arith, above)) tasks
     (above_all (new.spec.pid + 1) tasks gap))
-placed_gap new (suc place) [] gap = absurd gap
-placed_gap new (suc place) (task ∷ rest) gap =
-    inserted-past new task rest (omega (arith, gap.0)) ∙ ap (λ (ts : List Task). task ∷ ts) (placed_gap new place rest gap.1)
+inserted_gap new (suc position) [] gap = absurd gap
+inserted_gap new (suc position) (task ∷ rest) gap =
+    inserted-past new task rest (omega (arith, gap.0)) ∙ ap (λ (ts : List Task). task ∷ ts) (inserted_gap new position rest gap.1)
 
-pub rises_insert : (new : Task) (low place : ℕ) (tasks : List Task) → RisesFrom low tasks → low ≤ new.spec.pid → IsGap new.spec.pid place tasks →
-    RisesFrom low (insert tasks place new)
+pub rises_insert : (new : Task) (low position : ℕ) (tasks : List Task) → RisesFrom low tasks → low ≤ new.spec.pid → IsGap new.spec.pid position tasks →
+    RisesFrom low (insert tasks position new)
 rises_insert new low zero tasks rises le gap = (le, gap)
-rises_insert new low (suc place) [] rises le gap = absurd gap
-rises_insert new low (suc place) (task ∷ rest) rises le gap =
-    (rises.0, rises_insert new (task.spec.pid + 1) place rest rises.1 (omega (arith, gap.0)) gap.1)
+rises_insert new low (suc position) [] rises le gap = absurd gap
+rises_insert new low (suc position) (task ∷ rest) rises le gap =
+    (rises.0, rises_insert new (task.spec.pid + 1) position rest rises.1 (omega (arith, gap.0)) gap.1)
 
-pub split_within : (below from place : ℕ) (tasks : List Task) → IsSplit below from place tasks → place ≤ length tasks
+pub split_within : (below from position : ℕ) (tasks : List Task) → IsSplit below from position tasks → position ≤ length tasks
 split_within below from zero tasks split = omega arith
-split_within below from (suc place) [] split = absurd split
-split_within below from (suc place) (task ∷ rest) split = omega (arith, split_within below from place rest split.1)
+split_within below from (suc position) [] split = absurd split
+split_within below from (suc position) (task ∷ rest) split = omega (arith, split_within below from position rest split.1)
 
 -- ---- a walk by pid
 
@@ -318,11 +318,11 @@ find_first q (task ∷ rest) =
       | false ↦ find_first q rest
     ]
 
--- the first member above a pid is the first from the place above it
-pub walked : (p : Task → Bool) (pid place : ℕ) (tasks : List Task) → IsAbove pid place tasks →
-    find p (drop place tasks) ≡ find (λ task. p task && ltb pid task.spec.pid) tasks
-walked p pid place tasks above =
-    find_first p (drop place tasks) ∙ ap (λ (ts : List Task). slice_get ts 0) (sym (filter_split p pid place tasks above))
+-- the first member above a pid is the first from the position above it
+pub walked : (p : Task → Bool) (pid position : ℕ) (tasks : List Task) → IsAbove pid position tasks →
+    find p (drop position tasks) ≡ find (λ task. p task && ltb pid task.spec.pid) tasks
+walked p pid position tasks above =
+    find_first p (drop position tasks) ∙ ap (λ (ts : List Task). slice_get ts 0) (sym (filter_split p pid position tasks above))
     ∙ sym (find_first (λ task. p task && ltb pid task.spec.pid) tasks)
 
 -- the members above a pid are the first of them and those above its pid

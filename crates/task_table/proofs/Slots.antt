@@ -8,10 +8,10 @@ use Rattle.slab.specs.Slab.{Slab, get, Updates}
 use Rattle.cs_types.specs.declared.task.Task.{Task}
 use Rattle.task_table.specs.declared.entry.Entry.{Entry}
 use Rattle.task_table.specs.Table.{pid_of, RisesFrom}
-use Rattle.task_table.specs.Places.{IsAt}
+use Rattle.task_table.specs.Positions.{IsAt}
 use Rattle.task_table.specs.Inside.{slot_of, tasks_at, Holds, EachFilled}
 
--- ---- lists that are alike place by place
+-- ---- lists that are alike position by position
 
 pub insert_both : {X Y Z : Type 0} (f : X → Z) (g : Y → Z) (xs : List X) (ys : List Y) (i : ℕ) (x : X) (y : Y) →
     map f xs ≡ map g ys → f x ≡ g y → map f (insert xs i x) ≡ map g (insert ys i y)
@@ -58,11 +58,11 @@ listed slots (entry ∷ entries) (task ∷ tasks) holds =
 pub filled : (slots : Slab Task) (entries : List Entry) (tasks : List Task) → Holds slots entries tasks → EachFilled slots entries
 filled slots entries tasks holds = subst (Holds slots entries) (sym (listed slots entries tasks holds)) holds
 
--- the entries from a place on hold the tasks from there on
-pub holds_drop : (slots : Slab Task) (entries : List Entry) (tasks : List Task) (place : ℕ) → Holds slots entries tasks →
-    Holds slots (drop place entries) (drop place tasks)
-holds_drop slots entries tasks place holds =
-    sym (drop-map (slot_of slots) place entries) ∙ ap (drop place) holds ∙ drop-map Some place tasks
+-- the entries from a position on hold the tasks from there on
+pub holds_drop : (slots : Slab Task) (entries : List Entry) (tasks : List Task) (position : ℕ) → Holds slots entries tasks →
+    Holds slots (drop position entries) (drop position tasks)
+holds_drop slots entries tasks position holds =
+    sym (drop-map (slot_of slots) position entries) ∙ ap (drop position) holds ∙ drop-map Some position tasks
 
 -- the first entry has the first task, and the others have the others
 pub holds_first : (slots : Slab Task) (first : Entry) (others : List Entry) (tasks : List Task) → Holds slots (first ∷ others) tasks →
@@ -78,7 +78,7 @@ pub steps_from : (left : List Task) (found : Option (Bor Task)) (rest : List Tas
 steps_from left None rest task is lefts = absurd cc
 steps_from left (Some at) rest task is lefts = let same : at.now ≡ task = cc in lefts ∙ ap (λ (t : Task). t ∷ rest) (sym same)
 
--- the task at a place is in the slot of the entry there
+-- the task at a position is in the slot of the entry there
 pub slot_at : (slots : Slab Task) (entries : List Entry) (tasks : List Task) → Holds slots entries tasks → (i : ℕ) (d : Entry) →
     i < length entries → slot_of slots (get_or entries i d) ≡ slice_get tasks i
 slot_at slots [] tasks holds i d within = absurd (omega arith)
@@ -121,50 +121,50 @@ above_elsewhere slots key at here low lt (entry ∷ entries) (task ∷ tasks) ho
       above_elsewhere slots key at here (task.spec.pid + 1) (omega (arith, rises.0)) entries tasks (cc) rises.1,
     )
 
--- the slot of a place is no other entry's
-pub others_elsewhere : (slots : Slab Task) (key : ℕ) (at : Task) → get slots key ≡ Some at → (place : ℕ) (entries : List Entry)
-    (tasks : List Task) → Holds slots entries tasks → IsAt at.spec.pid place tasks → Elsewhere key (remove entries place)
-others_elsewhere slots key at here place entries [] holds is_at = absurd is_at
-others_elsewhere slots key at here place [] (task ∷ tasks) holds is_at = absurd cc
+-- the slot of a position is no other entry's
+pub others_elsewhere : (slots : Slab Task) (key : ℕ) (at : Task) → get slots key ≡ Some at → (position : ℕ) (entries : List Entry)
+    (tasks : List Task) → Holds slots entries tasks → IsAt at.spec.pid position tasks → Elsewhere key (remove entries position)
+others_elsewhere slots key at here position entries [] holds is_at = absurd is_at
+others_elsewhere slots key at here position [] (task ∷ tasks) holds is_at = absurd cc
 others_elsewhere slots key at here zero (entry ∷ entries) (task ∷ tasks) holds is_at =
     above_elsewhere slots key at here (at.spec.pid + 1) (omega arith) entries tasks (cc) is_at.1
-others_elsewhere slots key at here (suc place) (entry ∷ entries) (task ∷ tasks) holds is_at =
+others_elsewhere slots key at here (suc position) (entry ∷ entries) (task ∷ tasks) holds is_at =
     let head : get slots entry.key ≡ Some task = cc in (
       λ same. let found : at ≡ task = (let both = sym here ∙ ap (get slots) (sym same) ∙ head in cc) in
           absurd (omega (arith, ap pid_of found, is_at.0)),
-      others_elsewhere slots key at here place entries tasks (cc) is_at.1,
+      others_elsewhere slots key at here position entries tasks (cc) is_at.1,
     )
 
 -- ---- edits
 
 -- a task goes into an empty slot
 pub holds_insert : (old new : Slab Task) (key : ℕ) (task : Task) → get old key ≡ None → Updates old new key (Some task) →
-    (entries : List Entry) (tasks : List Task) (place : ℕ) (entry : Entry) → entry.key ≡ key → Holds old entries tasks →
-    Holds new (insert entries place entry) (insert tasks place task)
-holds_insert old new key task empty updates entries tasks place entry at holds =
-    insert_both (slot_of new) Some entries tasks place entry task
+    (entries : List Entry) (tasks : List Task) (position : ℕ) (entry : Entry) → entry.key ≡ key → Holds old entries tasks →
+    Holds new (insert entries position entry) (insert tasks position task)
+holds_insert old new key task empty updates entries tasks position entry at holds =
+    insert_both (slot_of new) Some entries tasks position entry task
     (same_elsewhere old new key (Some task) updates entries (empty_elsewhere old key empty entries tasks holds) ∙ holds)
     (ap (get new) at ∙ updates.changed)
 
--- the task at a place leaves its slot
+-- the task at a position leaves its slot
 pub holds_remove : (old new : Slab Task) (key : ℕ) (at : Task) → get old key ≡ Some at → Updates old new key None →
-    (entries : List Entry) (tasks : List Task) (place : ℕ) → IsAt at.spec.pid place tasks → Holds old entries tasks →
-    Holds new (remove entries place) (remove tasks place)
-holds_remove old new key at here updates entries tasks place is_at holds =
-    same_elsewhere old new key None updates (remove entries place) (others_elsewhere old key at here place entries tasks holds is_at)
-    ∙ remove_both (slot_of old) Some entries tasks place holds
+    (entries : List Entry) (tasks : List Task) (position : ℕ) → IsAt at.spec.pid position tasks → Holds old entries tasks →
+    Holds new (remove entries position) (remove tasks position)
+holds_remove old new key at here updates entries tasks position is_at holds =
+    same_elsewhere old new key None updates (remove entries position) (others_elsewhere old key at here position entries tasks holds is_at)
+    ∙ remove_both (slot_of old) Some entries tasks position holds
 
--- the slot of a place gets another task
+-- the slot of a position gets another task
 pub holds_set : (old new : Slab Task) (key : ℕ) (task : Task) → Updates old new key (Some task) →
-    (entries : List Entry) (tasks : List Task) (place : ℕ) (d : Entry) → place < length entries → (get_or entries place d).key ≡ key →
-    Elsewhere key (remove entries place) → Holds old entries tasks → Holds new entries (set tasks place task)
-holds_set old new key task updates [] tasks place d within at apart holds = absurd (omega arith)
-holds_set old new key task updates (entry ∷ entries) [] place d within at apart holds = absurd cc
+    (entries : List Entry) (tasks : List Task) (position : ℕ) (d : Entry) → position < length entries → (get_or entries position d).key ≡ key →
+    Elsewhere key (remove entries position) → Holds old entries tasks → Holds new entries (set tasks position task)
+holds_set old new key task updates [] tasks position d within at apart holds = absurd (omega arith)
+holds_set old new key task updates (entry ∷ entries) [] position d within at apart holds = absurd cc
 holds_set old new key task updates (entry ∷ entries) (other ∷ tasks) zero d within at apart holds =
     let head = ap (get new) at ∙ updates.changed in
     let rest = same_elsewhere old new key (Some task) updates entries apart in
     cc
-holds_set old new key task updates (entry ∷ entries) (other ∷ tasks) (suc place) d within at apart holds =
+holds_set old new key task updates (entry ∷ entries) (other ∷ tasks) (suc position) d within at apart holds =
     let head = updates.others entry.key apart.0 in
-    let rest = holds_set old new key task updates entries tasks place d (omega arith) at apart.1 cc in
+    let rest = holds_set old new key task updates entries tasks position d (omega arith) at apart.1 cc in
     cc

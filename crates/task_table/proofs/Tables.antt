@@ -121,7 +121,7 @@ found_none pid (first ∷ rest) none =
           ∙ found_none pid rest (sym (cond-false _ (Some first) (find (has_pid pid) rest) past) ∙ none)
     ]
 
--- ---- a task that is put in its place
+-- ---- a task that is put in its position
 
 -- none has a pid that a search did not find
 pub none_found : (pid : ℕ) (tasks : List Task) → find (has_pid pid) tasks ≡ None → NoneHas pid tasks
@@ -132,10 +132,10 @@ none_found pid (first ∷ rest) none =
       | inr past ↦ (past, none_found pid rest (sym (cond-false _ (Some first) (find (has_pid pid) rest) past) ∙ none))
     ]
 
--- To put a task asleep in its place and then change it puts the changed one there.
-pub placed_changed : (task : Task) (tasks : List Task) → find (has_pid task.spec.pid) tasks ≡ None →
+-- To put a task asleep in its position and then change it puts the changed one there.
+pub inserted_changed : (task : Task) (tasks : List Task) → find (has_pid task.spec.pid) tasks ≡ None →
     map (λ other. cond (has_pid task.spec.pid other) task other) (inserted (asleep task.spec) tasks) ≡ inserted task tasks
-placed_changed task tasks none =
+inserted_changed task tasks none =
     map-append (λ other. cond (has_pid task.spec.pid other) task other) (filter (is_below task.spec.pid) tasks)
     (asleep task.spec ∷ filter (is_above task.spec.pid) tasks)
     ∙ (λ i. kept (is_below task.spec.pid) i ++ cond (its_own i) task (asleep task.spec) ∷ kept (is_above task.spec.pid) i) where

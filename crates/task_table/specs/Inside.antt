@@ -5,7 +5,7 @@ use Rattle.slab.specs.Slab.{Slab, get, slab_len}
 use Rattle.cs_types.specs.declared.task.Task.{Task}
 use Rattle.task_table.specs.declared.entry.Entry.{Entry}
 use Rattle.task_table.specs.Table.{Rises}
-use Rattle.task_table.specs.Places.{IsIndexOf}
+use Rattle.task_table.specs.Positions.{IsIndexOf}
 
 -- the task in the slot of an entry
 abbrev pub slot_of : Slab Task → Entry → Option Task

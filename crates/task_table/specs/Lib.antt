@@ -1,5 +1,5 @@
 pub mod Table
 pub mod Group
-pub mod Places
+pub mod Positions
 pub mod Inside
 pub mod Walk

@@ -3,7 +3,7 @@
 ghost use Rattle.std.specs.Prelude.{◌≡◌, MatchResult, List};
 ghost use Rattle.cs_types.specs.declared.task.Task.{Task as SomeTask};
 ghost use Rattle.task_table.specs.Table.{Rises};
-ghost use Rattle.task_table.specs.Places.{IsIndexOf, IsAt, IsGap, IsAbove};
+ghost use Rattle.task_table.specs.Positions.{IsIndexOf, IsAt, IsGap, IsAbove};
 
 use cs_types::Pid;
 
@@ -15,16 +15,16 @@ pub(crate) struct Entry {
     pub key: usize,
 }
 
-/// The place of the entry with the pid, or the place where it would go. The entries rise by pid.
-pub(crate) fn place_of(entries: &[Entry], pid: Pid) -> Result<usize, usize>
+/// The position of the entry with the pid, or the position where it would go. The entries rise by pid.
+pub(crate) fn position_of(entries: &[Entry], pid: Pid) -> Result<usize, usize>
     ensures { (tasks : List SomeTask) → IsIndexOf entries.now tasks → Rises tasks →
-        MatchResult result (λ place. IsAt pid place tasks) (λ place. IsGap pid place tasks) }
+        MatchResult result (λ position. IsAt pid position tasks) (λ position. IsGap pid position tasks) }
 {
     entries.binary_search_by_key(&pid, |entry| entry.pid)
 }
 
-/// The place of the first entry with a greater pid, or their number. The entries rise by pid.
-pub(crate) fn place_above(entries: &[Entry], pid: Pid) -> usize
+/// The position of the first entry with a greater pid, or their number. The entries rise by pid.
+pub(crate) fn position_above(entries: &[Entry], pid: Pid) -> usize
     ensures { (tasks : List SomeTask) → IsIndexOf entries.now tasks → Rises tasks → IsAbove pid result tasks }
 {
     entries.partition_point(|entry| entry.pid <= pid)

@@ -6,9 +6,9 @@ ghost use Rattle.cs_types.specs.Room.{asleep, inserted, has_pid};
 ghost use Rattle.task_table.specs.Table.{Table, pid_of, IsSound, add_answer};
 ghost use Rattle.task_table.specs.Group.{is_in_group, group_above};
 ghost use Rattle.task_table.specs.Walk.{WalksInOrder};
-ghost use Rattle.task_table.specs.Places.{IsAt, IsGap};
+ghost use Rattle.task_table.specs.Positions.{IsAt, IsGap};
 
-use crate::entry::{Entry, place_above, place_of};
+use crate::entry::{Entry, position_above, position_of};
 use crate::fault::AddFault;
 use crate::group::Group;
 use crate::tasks::Tasks;
@@ -70,12 +70,12 @@ impl TaskTable {
         })
     }
 
-    /// The place of the task with the pid, or the place where it would go.
-    fn place_of(&self, pid: Pid) -> Result<usize, usize>
-        ensures place { MatchResult result (λ place. IsAt pid place self.now.tasks) (λ place. IsGap pid place self.now.tasks) }
+    /// The position of the task with the pid, or the position where it would go.
+    fn position_of(&self, pid: Pid) -> Result<usize, usize>
+        ensures position { MatchResult result (λ position. IsAt pid position self.now.tasks) (λ position. IsGap pid position self.now.tasks) }
         ensures sound { IsSound self.now }
     {
-        place_of(&self.entries, pid)
+        position_of(&self.entries, pid)
     }
 
     /// Puts a task asleep into the table. `Twice` comes exactly where a task has its pid, and else
@@ -86,15 +86,15 @@ impl TaskTable {
         ensures unchanged { OnErr result (self.new ≡ self.old) }
         ensures sound { IsSound self.new }
     {
-        match self.place_of(spec.pid) {
+        match self.position_of(spec.pid) {
             Ok(_) => Err(AddFault::Twice(spec.pid)),
-            Err(place) => self.insert(place, spec),
+            Err(position) => self.insert(position, spec),
         }
     }
 
-    /// Puts a task asleep at the place of its pid, unless the table is full.
-    fn insert(&mut self, place: usize, spec: TaskSpec) -> Result<(), AddFault>
-        requires { IsGap spec.pid place self.old.tasks }
+    /// Puts a task asleep at the position of its pid, unless the table is full.
+    fn insert(&mut self, position: usize, spec: TaskSpec) -> Result<(), AddFault>
+        requires { IsGap spec.pid position self.old.tasks }
         ensures answer { result ≡ add_answer self.old spec }
         ensures added { OnOk result (self.new ≡ record self.old { tasks = inserted (asleep spec) self.old.tasks }) }
         ensures unchanged { OnErr result (self.new ≡ self.old) }
@@ -105,7 +105,7 @@ impl TaskTable {
         }
         let key = self.slots.insert_reserved(asleep(spec));
         let entry = Entry { pid: spec.pid, key };
-        self.entries.insert(place, entry).unwrap();
+        self.entries.insert(position, entry).unwrap();
         Ok(())
     }
 
@@ -114,23 +114,23 @@ impl TaskTable {
         ensures task { option_copied result ≡ find (has_pid pid) self.now.tasks }
         ensures sound { IsSound self.now }
     {
-        match self.place_of(pid) {
-            Ok(place) => self.at(place),
+        match self.position_of(pid) {
+            Ok(position) => self.at(position),
             Err(_) => None,
         }
     }
 
-    /// The task at a place, counted from 0 by rising pid. `None` exactly where the place is not below
+    /// The task at a position, counted from 0 by rising pid. `None` exactly where the position is not below
     /// the number of tasks.
-    pub fn at(&self, place: usize) -> Option<&Task>
-        ensures task { option_copied result ≡ slice_get self.now.tasks place }
+    pub fn at(&self, position: usize) -> Option<&Task>
+        ensures task { option_copied result ≡ slice_get self.now.tasks position }
         ensures sound { IsSound self.now }
     {
-        let entry = self.entries.get(place)?;
+        let entry = self.entries.get(position)?;
         self.slots.get(entry.key)
     }
 
-    /// Puts the task in the place of the one with its pid, which it gives back. `None` exactly where
+    /// Puts the task in the position of the one with its pid, which it gives back. `None` exactly where
     /// there is none, and then nothing changes.
     pub fn change(&mut self, task: Task) -> Option<Task>
         ensures old { result ≡ find (has_pid task.spec.pid) self.old.tasks }
@@ -138,10 +138,10 @@ impl TaskTable {
         ensures absent { IfNone result (self.new ≡ self.old) }
         ensures sound { IsSound self.new }
     {
-        let Ok(place) = self.place_of(task.spec.pid) else {
+        let Ok(position) = self.position_of(task.spec.pid) else {
             return None;
         };
-        let slot = &mut self.slots[self.entries[place].key];
+        let slot = &mut self.slots[self.entries[position].key];
         let old = *slot;
         *slot = task;
         Some(old)
@@ -154,10 +154,10 @@ impl TaskTable {
         ensures absent { IfNone result (self.new ≡ self.old) }
         ensures sound { IsSound self.new }
     {
-        let Ok(place) = self.place_of(pid) else {
+        let Ok(position) = self.position_of(pid) else {
             return None;
         };
-        let entry = self.entries.remove(place);
+        let entry = self.entries.remove(position);
         self.slots.try_remove(entry.key)
     }
 
@@ -179,7 +179,7 @@ impl TaskTable {
         ensures member { option_copied result ≡ find (λ task. is_in_group group task && nat_lt after task.spec.pid) self.now.tasks }
         ensures sound { IsSound self.now }
     {
-        self.tasks_from(place_above(&self.entries, after))
+        self.tasks_from(position_above(&self.entries, after))
             .find(|task| group.has(task))
     }
 
@@ -200,14 +200,14 @@ impl TaskTable {
         self.tasks_from(0)
     }
 
-    /// The tasks from a place on, by rising pid.
-    fn tasks_from(&self, place: usize) -> Tasks<'_>
-        requires { place ≤ length self.now.tasks }
-        ensures tasks { result ≡ drop place self.now.tasks }
+    /// The tasks from a position on, by rising pid.
+    fn tasks_from(&self, position: usize) -> Tasks<'_>
+        requires { position ≤ length self.now.tasks }
+        ensures tasks { result ≡ drop position self.now.tasks }
         ensures sound { IsSound self.now }
     {
         Tasks {
-            entries: &self.entries[place..],
+            entries: &self.entries[position..],
             slots: &self.slots,
         }
     }

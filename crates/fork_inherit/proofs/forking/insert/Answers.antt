@@ -1,7 +1,7 @@
 use Rattle.std.proofs.Common.{◌∙◌, ap, cond, map}
 use Rattle.cs_types.specs.Room.{has_pid}
 use Rattle.task_table.specs.Table.{Table}
-use Rattle.task_table.proofs.Tables.{placed_changed}
+use Rattle.task_table.proofs.Tables.{inserted_changed}
 use Rattle.fork_inherit.proofs.forking.insert.Goals as goal
 
 pub returns-clause-inserted : goal.returns-clause-inserted
@@ -10,4 +10,4 @@ returns-clause-inserted c =
     let added = rw c.unwrap.ensures at c.add.ensures.added in
     let changed : Table → Table = λ (table : Table). record table { tasks = map (λ other. cond (has_pid task.spec.pid other) task other) table.tasks } in
     c.change.ensures.changed ∙ ap changed added
-    ∙ ap (λ tasks. let table : Table = record c.args.table.now { tasks = tasks } in table) (placed_changed task c.args.table.now.tasks c.requires.free)
+    ∙ ap (λ tasks. let table : Table = record c.args.table.now { tasks = tasks } in table) (inserted_changed task c.args.table.now.tasks c.requires.free)

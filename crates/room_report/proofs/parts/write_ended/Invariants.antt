@@ -5,11 +5,11 @@ use Rattle.room_report.proofs.Left.{ended_lines_from}
 use Rattle.room_report.proofs.Reached.{Reached}
 use Rattle.room_report.proofs.parts.write_ended.Given as goal
 
-abbrev pub invariant-loop-place : goal.invariant-loop-place
-invariant-loop-place g l =
+abbrev pub invariant-loop-index : goal.invariant-loop-index
+invariant-loop-index g l =
     let written = g.K.Sink.written in
     let faults = g.K.Sink.faults in
     record {
-      reached : Reached (written l.fn.sink) (lines_text (ended_lines (moment_of (g.R.Room.scenario l.room) (g.R.Room.history l.room)))) (lines_text (ended_lines_from (moment_of (g.R.Room.scenario l.room) (g.R.Room.history l.room)) l.place)) (written l.sink);
+      reached : Reached (written l.fn.sink) (lines_text (ended_lines (moment_of (g.R.Room.scenario l.room) (g.R.Room.history l.room)))) (lines_text (ended_lines_from (moment_of (g.R.Room.scenario l.room) (g.R.Room.history l.room)) l.index)) (written l.sink);
       faultless : faults l.sink ≡ faults l.fn.sink;
     }

@@ -8,19 +8,19 @@ use Rattle.room_report.proofs.parts.write_entries.Goals as goal
 
 pub returns-in_err-entry_text-clause-prefix : goal.returns-in_err-entry_text-clause-prefix
 returns-in_err-entry_text-clause-prefix g c =
-    reached_prefix _ _ _ _ _ _ _ _ c.loop-place.invariant.reached
-    (entries_next (g.R.Room.history c.args.room.now) c.loop-place.place c.unwrap-entry.result (sym c.entry.ensures ∙ c.unwrap-entry.ensures))
+    reached_prefix _ _ _ _ _ _ _ _ c.loop-index.invariant.reached
+    (entries_next (g.R.Room.history c.args.room.now) c.loop-index.index c.unwrap-entry.result (sym c.entry.ensures ∙ c.unwrap-entry.ensures))
     refl c.entry_text.ensures.prefix
 
-pub loop-place-preserved : goal.loop-place-preserved
-loop-place-preserved g c = record {
-  reached = reached_more _ _ _ _ _ _ _ _ c.loop-place.invariant.reached
-      (entries_next (g.R.Room.history c.args.room.now) c.loop-place.place c.unwrap-entry.result (sym c.entry.ensures ∙ c.unwrap-entry.ensures))
+pub loop-index-preserved : goal.loop-index-preserved
+loop-index-preserved g c = record {
+  reached = reached_more _ _ _ _ _ _ _ _ c.loop-index.invariant.reached
+      (entries_next (g.R.Room.history c.args.room.now) c.loop-index.index c.unwrap-entry.result (sym c.entry.ensures ∙ c.unwrap-entry.ensures))
       refl c.in_ok-entry_text.ensures.ok;
-  faultless = c.in_ok-entry_text.ensures.faultless ∙ c.loop-place.invariant.faultless;
+  faultless = c.in_ok-entry_text.ensures.faultless ∙ c.loop-index.invariant.faultless;
 }
 
 pub returns-clause-prefix : goal.returns-clause-prefix
 returns-clause-prefix g c =
-    whole_prefix _ _ _ (reached_end _ _ _ _ c.loop-place.invariant.reached
-    (ap (flat_map entry_text) (drop_all c.loop-place.place (g.R.Room.history c.args.room.now) (omega (arith, c.length-place-end.ensures.length, c.loop-place-test.false)))))
+    whole_prefix _ _ _ (reached_end _ _ _ _ c.loop-index.invariant.reached
+    (ap (flat_map entry_text) (drop_all c.loop-index.index (g.R.Room.history c.args.room.now) (omega (arith, c.length-index-end.ensures.length, c.loop-index-test.false)))))

@@ -4,11 +4,11 @@ use Rattle.scenario_text.specs.Text.{entry_text}
 use Rattle.room_report.proofs.Reached.{Reached}
 use Rattle.room_report.proofs.parts.write_entries.Given as goal
 
-abbrev pub invariant-loop-place : goal.invariant-loop-place
-invariant-loop-place g l =
+abbrev pub invariant-loop-index : goal.invariant-loop-index
+invariant-loop-index g l =
     let written = g.K.Sink.written in
     let faults = g.K.Sink.faults in
     record {
-      reached : Reached (written l.fn.sink) (flat_map entry_text (g.R.Room.history l.room)) (flat_map entry_text (drop l.place (g.R.Room.history l.room))) (written l.sink);
+      reached : Reached (written l.fn.sink) (flat_map entry_text (g.R.Room.history l.room)) (flat_map entry_text (drop l.index (g.R.Room.history l.room))) (written l.sink);
       faultless : faults l.sink ≡ faults l.fn.sink;
     }

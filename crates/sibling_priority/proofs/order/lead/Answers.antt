@@ -12,25 +12,25 @@ use Rattle.sibling_priority.proofs.order.lead.Goals.{then-higher, else-higher}
 abbrev blank : Offer
 blank = record { cpu = 0; pid = 0; class = 0; rank = 0; snapshot = 0 }
 
-pub loop-place-preserved : goal.loop-place-preserved
-loop-place-preserved c =
-    let so_far = c.loop-place.invariant in
-    let within = c.loop-place-test.true in
+pub loop-index-preserved : goal.loop-index-preserved
+loop-index-preserved c =
+    let so_far = c.loop-index.invariant in
+    let within = c.loop-index-test.true in
     elim c.if-higher.branch [
-      | then-higher w ↦ rw w.best-is (first_best_takes is_higher_offer_is_order c.args.offers.now blank c.loop-place.place c.loop-place.best
+      | then-higher w ↦ rw w.best-is (first_best_takes is_higher_offer_is_order c.args.offers.now blank c.loop-index.index c.loop-index.best
           so_far within (sym c.higher.ensures.order ∙ w.if-higher.true))
-      | else-higher w ↦ rw w.best-is (first_best_keeps is_higher_offer_is_order c.args.offers.now blank c.loop-place.place c.loop-place.best
+      | else-higher w ↦ rw w.best-is (first_best_keeps is_higher_offer_is_order c.args.offers.now blank c.loop-index.index c.loop-index.best
           so_far within (sym c.higher.ensures.order ∙ w.if-higher.false))
     ]
 
 -- at the end the scan has seen every offer
-seen : (c : goal.After-loop-place) → IsFirstBest is_higher_offer c.args.offers.now (length c.args.offers.now) c.loop-place.best
+seen : (c : goal.After-loop-index) → IsFirstBest is_higher_offer c.args.offers.now (length c.args.offers.now) c.loop-index.best
 seen c =
-    let same : c.loop-place.place ≡ length c.args.offers.now = omega arith in
-    subst (λ (n : ℕ). IsFirstBest is_higher_offer c.args.offers.now n c.loop-place.best) same c.loop-place.invariant
+    let same : c.loop-index.index ≡ length c.args.offers.now = omega arith in
+    subst (λ (n : ℕ). IsFirstBest is_higher_offer c.args.offers.now n c.loop-index.best) same c.loop-index.invariant
 
 pub returns-clause-first : goal.returns-clause-first
-returns-clause-first c = position-first_best is_higher_offer c.args.offers.now c.loop-place.best blank (seen c)
+returns-clause-first c = position-first_best is_higher_offer c.args.offers.now c.loop-index.best blank (seen c)
 
 pub returns-clause-model : goal.returns-clause-model
-returns-clause-model c snapshot firsts are = foremost-offers snapshot firsts c.args.offers.now are c.loop-place.best (seen c)
+returns-clause-model c snapshot firsts are = foremost-offers snapshot firsts c.args.offers.now are c.loop-index.best (seen c)

@@ -13,53 +13,53 @@ use Rattle.plain_room.proofs.state.State.grow_tasks.Goals as goal
 pub grown_among-task-requires-clause-used : goal.grown_among-task-requires-clause-used
 grown_among-task-requires-clause-used c =
     let old = c.args.self.now in
-    let place = c.loop-place.place in
+    let position = c.loop-position.position in
     let task = c.unwrap-task.result.now in
-    let within : place < length old.tasks.tasks = omega (arith, c.loop-place-test.true, c.len-place-end.ensures.len) in
+    let within : position < length old.tasks.tasks = omega (arith, c.loop-position-test.true, c.len-position-end.ensures.len) in
     let at = sym c.at.ensures.task ∙ ap option_copied c.unwrap-task.ensures in
-    let was = task_was old.siblings.items c.args.delta old.tasks.tasks c.loop-place.self.tasks.tasks place task within c.loop-place.invariant.tasks at in
-    omega (arith, ap (λ (t : Task). t.used) was, ((c.requires.time.timely some_beside).tasks place task within).used, c.requires.time.clock, c.requires.delta)
+    let was = task_was old.siblings.items c.args.delta old.tasks.tasks c.loop-position.self.tasks.tasks position task within c.loop-position.invariant.tasks at in
+    omega (arith, ap (λ (t : Task). t.used) was, ((c.requires.time.timely some_beside).tasks position task within).used, c.requires.time.clock, c.requires.delta)
 
 pub grown_among-task-requires-clause-vtime : goal.grown_among-task-requires-clause-vtime
 grown_among-task-requires-clause-vtime c =
     let old = c.args.self.now in
-    let place = c.loop-place.place in
+    let position = c.loop-position.position in
     let task = c.unwrap-task.result.now in
-    let within : place < length old.tasks.tasks = omega (arith, c.loop-place-test.true, c.len-place-end.ensures.len) in
+    let within : position < length old.tasks.tasks = omega (arith, c.loop-position-test.true, c.len-position-end.ensures.len) in
     let at = sym c.at.ensures.task ∙ ap option_copied c.unwrap-task.ensures in
-    let was = task_was old.siblings.items c.args.delta old.tasks.tasks c.loop-place.self.tasks.tasks place task within c.loop-place.invariant.tasks at in
-    omega (arith, ap (λ (t : Task). t.vtime) was, vtimes_are_low old c.requires.time place task within, c.requires.delta)
+    let was = task_was old.siblings.items c.args.delta old.tasks.tasks c.loop-position.self.tasks.tasks position task within c.loop-position.invariant.tasks at in
+    omega (arith, ap (λ (t : Task). t.vtime) was, vtimes_are_low old c.requires.time position task within, c.requires.delta)
 
 pub change-requires : goal.change-requires
 change-requires c =
     let old = c.args.self.now in
-    let place = c.loop-place.place in
+    let position = c.loop-position.position in
     let task = c.unwrap-task.result.now in
-    let within : place < length old.tasks.tasks = omega (arith, c.loop-place-test.true, c.len-place-end.ensures.len) in
+    let within : position < length old.tasks.tasks = omega (arith, c.loop-position-test.true, c.len-position-end.ensures.len) in
     let at = sym c.at.ensures.task ∙ ap option_copied c.unwrap-task.ensures in
-    let siblings = c.deref.ensures.value ∙ ap (λ (state : State). state.siblings.items) c.loop-place.invariant.rest in
+    let siblings = c.deref.ensures.value ∙ ap (λ (state : State). state.siblings.items) c.loop-position.invariant.rest in
     let is = c.grown_among-task.ensures ∙ ap (λ (ss : List Sibling). grown_among ss c.args.delta task) siblings in
-    let keeps = kept old.siblings.items c.args.delta old.tasks.tasks c.loop-place.self.tasks.tasks place task within c.loop-place.invariant.tasks at c.at.ensures.sound.rising c.grown_among-task.result is in
+    let keeps = kept old.siblings.items c.args.delta old.tasks.tasks c.loop-position.self.tasks.tasks position task within c.loop-position.invariant.tasks at c.at.ensures.sound.rising c.grown_among-task.result is in
     record {
-      known = knows-alike c.loop-place.self c.grown_among-task.result task
-          (there old.siblings.items c.args.delta old.tasks.tasks c.loop-place.self.tasks.tasks place task within c.loop-place.invariant.tasks at c.at.ensures.sound.rising c.grown_among-task.result is)
+      known = knows-alike c.loop-position.self c.grown_among-task.result task
+          (there old.siblings.items c.args.delta old.tasks.tasks c.loop-position.self.tasks.tasks position task within c.loop-position.invariant.tasks at c.at.ensures.sound.rising c.grown_among-task.result is)
           keeps.spec keeps.cookie keeps.home;
     }
 
-pub loop-place-preserved : goal.loop-place-preserved
-loop-place-preserved c =
+pub loop-position-preserved : goal.loop-position-preserved
+loop-position-preserved c =
     let old = c.args.self.now in
-    let place = c.loop-place.place in
+    let position = c.loop-position.position in
     let task = c.unwrap-task.result.now in
-    let within : place < length old.tasks.tasks = omega (arith, c.loop-place-test.true, c.len-place-end.ensures.len) in
+    let within : position < length old.tasks.tasks = omega (arith, c.loop-position-test.true, c.len-position-end.ensures.len) in
     let at = sym c.at.ensures.task ∙ ap option_copied c.unwrap-task.ensures in
-    let siblings = c.deref.ensures.value ∙ ap (λ (state : State). state.siblings.items) c.loop-place.invariant.rest in
+    let siblings = c.deref.ensures.value ∙ ap (λ (state : State). state.siblings.items) c.loop-position.invariant.rest in
     let is = c.grown_among-task.ensures ∙ ap (λ (ss : List Sibling). grown_among ss c.args.delta task) siblings in
     let changed = c.change.ensures.room some_beside in
     record {
       tasks = ap (λ (room : RoomState). room.tasks) changed
-          ∙ grown_more old.siblings.items c.args.delta old.tasks.tasks c.loop-place.self.tasks.tasks place task within c.loop-place.invariant.tasks at c.at.ensures.sound.rising c.grown_among-task.result is;
-      limit = ap (λ (room : RoomState). room.task_limit) changed ∙ c.loop-place.invariant.limit;
-      rest = c.change.ensures.rest ∙ ap (λ (state : State). let next : State = record state { tasks = c.change.new.self.tasks } in next) c.loop-place.invariant.rest;
-      sound = λ count sound. c.change.ensures.sound count (c.loop-place.invariant.sound count sound);
+          ∙ grown_more old.siblings.items c.args.delta old.tasks.tasks c.loop-position.self.tasks.tasks position task within c.loop-position.invariant.tasks at c.at.ensures.sound.rising c.grown_among-task.result is;
+      limit = ap (λ (room : RoomState). room.task_limit) changed ∙ c.loop-position.invariant.limit;
+      rest = c.change.ensures.rest ∙ ap (λ (state : State). let next : State = record state { tasks = c.change.new.self.tasks } in next) c.loop-position.invariant.rest;
+      sound = λ count sound. c.change.ensures.sound count (c.loop-position.invariant.sound count sound);
     }

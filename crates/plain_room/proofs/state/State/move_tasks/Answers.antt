@@ -21,92 +21,92 @@ use Rattle.plain_room.proofs.state.State.move_tasks.Goals.{then-task+then-task-c
 
 pub moved_to-moved-requires-clause-cpu : goal.moved_to-moved-requires-clause-cpu
 moved_to-moved-requires-clause-cpu c =
-    omega (arith, c.requires.within, ap (λ (state : State). length state.siblings.items) c.loop-place.invariant.rest)
+    omega (arith, c.requires.within, ap (λ (state : State). length state.siblings.items) c.loop-position.invariant.rest)
 
 pub moved_to-moved-requires-clause-home : goal.moved_to-moved-requires-clause-home
 moved_to-moved-requires-clause-home c =
     let old = c.args.self.now in
-    let now = c.loop-place.self in
-    let place = c.loop-place.place in
+    let now = c.loop-position.self in
+    let position = c.loop-position.position in
     let task = c.unwrap-task.result.now in
     let change = moved_off (room_of some_beside old) c.args.cpu in
-    let within : place < length old.tasks.tasks = omega (arith, c.loop-place-test.true, c.len-place-end.ensures.len) in
-    let at : slice_get now.tasks.tasks place ≡ Some task = sym c.at.ensures.task ∙ ap option_copied c.unwrap-task.ensures in
-    let sound = c.loop-place.invariant.sound (length old.siblings.items) c.requires.sound in
-    let is = task_is change old.tasks.tasks now.tasks.tasks place task within (c.loop-place.invariant.tasks some_beside) at in
-    omega (arith, (sound.tasks place task (omega (arith, within, c.loop-place.invariant.as_many))).home, sound.siblings, ap (λ (t : Task). t.home) is)
+    let within : position < length old.tasks.tasks = omega (arith, c.loop-position-test.true, c.len-position-end.ensures.len) in
+    let at : slice_get now.tasks.tasks position ≡ Some task = sym c.at.ensures.task ∙ ap option_copied c.unwrap-task.ensures in
+    let sound = c.loop-position.invariant.sound (length old.siblings.items) c.requires.sound in
+    let is = task_is change old.tasks.tasks now.tasks.tasks position task within (c.loop-position.invariant.tasks some_beside) at in
+    omega (arith, (sound.tasks position task (omega (arith, within, c.loop-position.invariant.as_many))).home, sound.siblings, ap (λ (t : Task). t.home) is)
 
 pub moved_to-moved-requires-clause-vtime : goal.moved_to-moved-requires-clause-vtime
 moved_to-moved-requires-clause-vtime c =
     let old = c.args.self.now in
-    let now = c.loop-place.self in
-    let place = c.loop-place.place in
+    let now = c.loop-position.self in
+    let position = c.loop-position.position in
     let task = c.unwrap-task.result.now in
     let change = moved_off (room_of some_beside old) c.args.cpu in
-    let within : place < length old.tasks.tasks = omega (arith, c.loop-place-test.true, c.len-place-end.ensures.len) in
-    let at : slice_get now.tasks.tasks place ≡ Some task = sym c.at.ensures.task ∙ ap option_copied c.unwrap-task.ensures in
-    let was = task_was change old.tasks.tasks now.tasks.tasks place task within (c.loop-place.invariant.tasks some_beside) at in
-    omega (arith, vtimes_are_low old c.requires.time place task within, ap (λ (t : Task). t.vtime) was)
+    let within : position < length old.tasks.tasks = omega (arith, c.loop-position-test.true, c.len-position-end.ensures.len) in
+    let at : slice_get now.tasks.tasks position ≡ Some task = sym c.at.ensures.task ∙ ap option_copied c.unwrap-task.ensures in
+    let was = task_was change old.tasks.tasks now.tasks.tasks position task within (c.loop-position.invariant.tasks some_beside) at in
+    omega (arith, vtimes_are_low old c.requires.time position task within, ap (λ (t : Task). t.vtime) was)
 
 pub moved_to-moved-requires-clause-leasts : goal.moved_to-moved-requires-clause-leasts
 moved_to-moved-requires-clause-leasts c =
-    subst (λ (siblings : List Sibling). All (λ (sibling : Sibling). sibling.least < 2 ^ 126) siblings) (sym (ap (λ (state : State). state.siblings.items) c.loop-place.invariant.rest))
+    subst (λ (siblings : List Sibling). All (λ (sibling : Sibling). sibling.least < 2 ^ 126) siblings) (sym (ap (λ (state : State). state.siblings.items) c.loop-position.invariant.rest))
     (All-weaker (λ (sibling : Sibling). sibling.least < 2 ^ 80) (λ (sibling : Sibling). sibling.least < 2 ^ 126) (λ sibling low. omega (arith, low))
     c.args.self.now.siblings.items (leasts_are_low c.args.self.now c.requires.time))
 
 pub change-requires : goal.change-requires
 change-requires c =
     let old = c.args.self.now in
-    let now = c.loop-place.self in
-    let place = c.loop-place.place in
+    let now = c.loop-position.self in
+    let position = c.loop-position.position in
     let task = c.unwrap-task.result.now in
     let change = moved_off (room_of some_beside old) c.args.cpu in
-    let within : place < length old.tasks.tasks = omega (arith, c.loop-place-test.true, c.len-place-end.ensures.len) in
-    let at : slice_get now.tasks.tasks place ≡ Some task = sym c.at.ensures.task ∙ ap option_copied c.unwrap-task.ensures in
-    let sound = c.loop-place.invariant.sound (length old.siblings.items) c.requires.sound in
-    let is = task_is change old.tasks.tasks now.tasks.tasks place task within (c.loop-place.invariant.tasks some_beside) at in
+    let within : position < length old.tasks.tasks = omega (arith, c.loop-position-test.true, c.len-position-end.ensures.len) in
+    let at : slice_get now.tasks.tasks position ≡ Some task = sym c.at.ensures.task ∙ ap option_copied c.unwrap-task.ensures in
+    let sound = c.loop-position.invariant.sound (length old.siblings.items) c.requires.sound in
+    let is = task_is change old.tasks.tasks now.tasks.tasks position task within (c.loop-position.invariant.tasks some_beside) at in
     let moved = c.moved_to-moved.ensures some_beside in
-    let done : Task = record c.moved_to-moved.result { stamp = get_or c.args.stamps.now place 0 } in
+    let done : Task = record c.moved_to-moved.result { stamp = get_or c.args.stamps.now position 0 } in
     let spec : done.spec ≡ task.spec = ap (λ (t : Task). t.spec) moved in
     let policy : IsPolicy task.spec.policy =
-    subst (λ (t : Task). IsPolicy t.spec.policy) (sym is) (policies (length old.siblings.items) now sound place task (omega (arith, within, c.loop-place.invariant.as_many))) in
+    subst (λ (t : Task). IsPolicy t.spec.policy) (sym is) (policies (length old.siblings.items) now sound position task (omega (arith, within, c.loop-position.invariant.as_many))) in
     record {
       known = knows-inserted now done task
-          (there change old.tasks.tasks now.tasks.tasks place task within (c.loop-place.invariant.tasks some_beside) at c.at.ensures.sound.rising done spec)
+          (there change old.tasks.tasks now.tasks.tasks position task within (c.loop-position.invariant.tasks some_beside) at c.at.ensures.sound.rising done spec)
           (ap (λ (t : Task). t.cookie) moved)
-          (omega (arith, ap (λ (t : Task). t.home) moved, c.requires.within, ap (λ (state : State). length state.siblings.items) c.loop-place.invariant.rest))
+          (omega (arith, ap (λ (t : Task). t.home) moved, c.requires.within, ap (λ (state : State). length state.siblings.items) c.loop-position.invariant.rest))
           (subst (λ (s : TaskSpec). IsPolicy s.policy) (sym spec) policy);
     }
 
-pub loop-place-preserved : goal.loop-place-preserved
-loop-place-preserved c =
+pub loop-position-preserved : goal.loop-position-preserved
+loop-position-preserved c =
     let old = c.args.self.now in
-    let now = c.loop-place.self in
-    let place = c.loop-place.place in
+    let now = c.loop-position.self in
+    let position = c.loop-position.position in
     let task = c.unwrap-task.result.now in
     let change = moved_off (room_of some_beside old) c.args.cpu in
-    let within : place < length old.tasks.tasks = omega (arith, c.loop-place-test.true, c.len-place-end.ensures.len) in
-    let at : slice_get now.tasks.tasks place ≡ Some task = sym c.at.ensures.task ∙ ap option_copied c.unwrap-task.ensures in
-    let was = task_was change old.tasks.tasks now.tasks.tasks place task within (c.loop-place.invariant.tasks some_beside) at in
+    let within : position < length old.tasks.tasks = omega (arith, c.loop-position-test.true, c.len-position-end.ensures.len) in
+    let at : slice_get now.tasks.tasks position ≡ Some task = sym c.at.ensures.task ∙ ap option_copied c.unwrap-task.ensures in
+    let was = task_was change old.tasks.tasks now.tasks.tasks position task within (c.loop-position.invariant.tasks some_beside) at in
     record {
       as_many = elim c.if-task.branch [
         | then-task+then-task-cpu w ↦
             ap (λ (state : State). length state.tasks.tasks) w.self-is
             ∙ ap (λ (room : RoomState). length room.tasks) (w.change.ensures.room some_beside)
-            ∙ length-map now.tasks.tasks _ ∙ c.loop-place.invariant.as_many
-        | else-task w ↦ ap (λ (state : State). length state.tasks.tasks) w.self-is ∙ c.loop-place.invariant.as_many
+            ∙ length-map now.tasks.tasks _ ∙ c.loop-position.invariant.as_many
+        | else-task w ↦ ap (λ (state : State). length state.tasks.tasks) w.self-is ∙ c.loop-position.invariant.as_many
       ];
       tasks = λ beside.
           let room = room_of beside old in
           elim c.if-task.branch [
             | then-task+then-task-cpu w ↦
-                let done : Task = record w.moved_to-moved.result { stamp = get_or c.args.stamps.now place 0 } in
-                let stamp = stamp_at old.tasks.tasks c.args.cpu old.next_stamp place task c.args.stamps.now within c.requires.stamps was in
-                let is = moved_is beside old now c.args.cpu c.args.to (get_or c.args.stamps.now place 0) task w.moved_to-moved.result c.loop-place.invariant.rest
+                let done : Task = record w.moved_to-moved.result { stamp = get_or c.args.stamps.now position 0 } in
+                let stamp = stamp_at old.tasks.tasks c.args.cpu old.next_stamp position task c.args.stamps.now within c.requires.stamps was in
+                let is = moved_is beside old now c.args.cpu c.args.to (get_or c.args.stamps.now position 0) task w.moved_to-moved.result c.loop-position.invariant.rest
                 (c.requires.to beside) (w.moved_to-moved.ensures beside) w.if-task.true w.if-task-cpu.true stamp in
                 ap (λ (state : State). state.tasks.tasks) w.self-is
                 ∙ ap (λ (room : RoomState). room.tasks) (w.change.ensures.room some_beside)
-                ∙ changed_more (moved_off room c.args.cpu) old.tasks.tasks now.tasks.tasks place task within (c.loop-place.invariant.tasks beside) at c.at.ensures.sound.rising done
+                ∙ changed_more (moved_off room c.args.cpu) old.tasks.tasks now.tasks.tasks position task within (c.loop-position.invariant.tasks beside) at c.at.ensures.sound.rising done
                 (ap (λ (t : Task). t.spec) (w.moved_to-moved.ensures beside)) is
             | else-task w ↦
                 let stays_there : (task.queued && (task.home == c.args.cpu)) ≡ false = elim w.else-task.branch [
@@ -114,23 +114,23 @@ loop-place-preserved c =
                   | else-task-via-else-task w' ↦ ap (λ b. b && (task.home == c.args.cpu)) w'.if-task.false
                 ] in
                 ap (λ (state : State). state.tasks.tasks) w.self-is
-                ∙ same_more (moved_off room c.args.cpu) old.tasks.tasks now.tasks.tasks place task within (c.loop-place.invariant.tasks beside) at (stays room c.args.cpu task stays_there)
+                ∙ same_more (moved_off room c.args.cpu) old.tasks.tasks now.tasks.tasks position task within (c.loop-position.invariant.tasks beside) at (stays room c.args.cpu task stays_there)
           ];
       limit = elim c.if-task.branch [
         | then-task+then-task-cpu w ↦
-            ap (λ (state : State). state.tasks.limit) w.self-is ∙ ap (λ (room : RoomState). room.task_limit) (w.change.ensures.room some_beside) ∙ c.loop-place.invariant.limit
-        | else-task w ↦ ap (λ (state : State). state.tasks.limit) w.self-is ∙ c.loop-place.invariant.limit
+            ap (λ (state : State). state.tasks.limit) w.self-is ∙ ap (λ (room : RoomState). room.task_limit) (w.change.ensures.room some_beside) ∙ c.loop-position.invariant.limit
+        | else-task w ↦ ap (λ (state : State). state.tasks.limit) w.self-is ∙ c.loop-position.invariant.limit
       ];
       rest = elim c.if-task.branch [
         | then-task+then-task-cpu w ↦
             subst (λ (state : State). state ≡ record old { tasks = state.tasks }) (sym w.self-is)
-            (w.change.ensures.rest ∙ ap (λ (state : State). let next : State = record state { tasks = w.change.new.self.tasks } in next) c.loop-place.invariant.rest)
-        | else-task w ↦ subst (λ (state : State). state ≡ record old { tasks = state.tasks }) (sym w.self-is) c.loop-place.invariant.rest
+            (w.change.ensures.rest ∙ ap (λ (state : State). let next : State = record state { tasks = w.change.new.self.tasks } in next) c.loop-position.invariant.rest)
+        | else-task w ↦ subst (λ (state : State). state ≡ record old { tasks = state.tasks }) (sym w.self-is) c.loop-position.invariant.rest
       ];
       sound = elim c.if-task.branch [
         | then-task+then-task-cpu w ↦
-            subst (λ (state : State). StaysSound old state) (sym w.self-is) (λ count sound. w.change.ensures.sound count (c.loop-place.invariant.sound count sound))
-        | else-task w ↦ subst (λ (state : State). StaysSound old state) (sym w.self-is) c.loop-place.invariant.sound
+            subst (λ (state : State). StaysSound old state) (sym w.self-is) (λ count sound. w.change.ensures.sound count (c.loop-position.invariant.sound count sound))
+        | else-task w ↦ subst (λ (state : State). StaysSound old state) (sym w.self-is) c.loop-position.invariant.sound
       ];
     }
 
@@ -139,6 +139,6 @@ loop-place-preserved c =
 pub returns-clause-tasks : goal.returns-clause-tasks
 returns-clause-tasks c beside =
     let old = c.args.self.now in
-    let all : c.loop-place.place ≡ length old.tasks.tasks = omega (arith, c.loop-place-test.false, c.loop-place.auto.place-end, c.len-place-end.ensures.len) in
-    let tasks = c.loop-place.invariant.tasks beside ∙ mapped_all (moved_off (room_of beside old) c.args.cpu) old.tasks.tasks c.loop-place.place all in
-    λ i. record old.tasks { tasks = tasks i; limit = c.loop-place.invariant.limit i }
+    let all : c.loop-position.position ≡ length old.tasks.tasks = omega (arith, c.loop-position-test.false, c.loop-position.auto.position-end, c.len-position-end.ensures.len) in
+    let tasks = c.loop-position.invariant.tasks beside ∙ mapped_all (moved_off (room_of beside old) c.args.cpu) old.tasks.tasks c.loop-position.position all in
+    λ i. record old.tasks { tasks = tasks i; limit = c.loop-position.invariant.limit i }

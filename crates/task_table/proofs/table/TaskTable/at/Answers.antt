@@ -11,5 +11,5 @@ returns-clause-task c =
     let entries = c.self.inside.entries.items in
     let there = rw c.deref.ensures.value at c.in_ok-entry.ensures.lookup in
     c.get-2.ensures ∙ ap (slot_of c.self.inside.slots) there.1
-    ∙ slot_at c.self.inside.slots entries c.args.self.now.tasks kept.holds c.args.place c.in_ok-entry.entry.now
-    (ltb-true c.args.place (length entries) (sym there.0))
+    ∙ slot_at c.self.inside.slots entries c.args.self.now.tasks kept.holds c.args.position c.in_ok-entry.entry.now
+    (ltb-true c.args.position (length entries) (sym there.0))

@@ -6,25 +6,25 @@ use Rattle.cs_types.specs.Room.{has_pid}
 use Rattle.task_table.specs.Table.{Table}
 use Rattle.task_table.specs.Inside.{IsKept}
 use Rattle.task_table.proofs.Rising.{none_gap, find_none, with_none}
-use Rattle.task_table.proofs.Kept.{kept_of, kept_again, kept_sound, seen_as, place_within, found, found_some, kept_set, slab_len-with_value}
+use Rattle.task_table.proofs.Kept.{kept_of, kept_again, kept_sound, seen_as, position_within, found, found_some, kept_set, slab_len-with_value}
 use Rattle.task_table.proofs.table.TaskTable.change.Goals as goal
 
 pub returns-in_default-clause-old : goal.returns-in_default-clause-old
-returns-in_default-clause-old c = sym (find_none c.args.task.spec.pid c.args.self.now.tasks (none_gap c.args.task.spec.pid _ c.args.self.now.tasks c.in_default.ensures.place))
+returns-in_default-clause-old c = sym (find_none c.args.task.spec.pid c.args.self.now.tasks (none_gap c.args.task.spec.pid _ c.args.self.now.tasks c.in_default.ensures.position))
 
 pub returns-in_default-clause-changed : goal.returns-in_default-clause-changed
 returns-in_default-clause-changed c =
     ap (λ ts. let table : Table = record c.args.self.now { tasks = ts } in table)
-    (sym (with_none c.args.task c.args.self.now.tasks (none_gap c.args.task.spec.pid _ c.args.self.now.tasks c.in_default.ensures.place)))
+    (sym (with_none c.args.task c.args.self.now.tasks (none_gap c.args.task.spec.pid _ c.args.self.now.tasks c.in_default.ensures.position)))
 
 pub index-requires : goal.index-requires
 index-requires c =
-    omega (arith, c.self.inside.entries.ok.0, place_within (kept_of _ _ _ _ _ c.self.view_is c.self.invariant) c.args.task.spec.pid c.in-Ok.place c.in-Ok.ensures.place)
+    omega (arith, c.self.inside.entries.ok.0, position_within (kept_of _ _ _ _ _ c.self.view_is c.self.invariant) c.args.task.spec.pid c.in-Ok.position c.in-Ok.ensures.position)
 
 pub index_mut-slot-requires : goal.index_mut-slot-requires
 index_mut-slot-requires c =
     let kept = kept_of _ _ _ _ _ c.self.view_is c.self.invariant in
-    let there = found_some kept c.args.task.spec.pid c.in-Ok.place _ c.in-Ok.ensures.place c.index.ensures in
+    let there = found_some kept c.args.task.spec.pid c.in-Ok.position _ c.in-Ok.ensures.position c.index.ensures in
     rw there.1 refl
 
 after : (c : goal.After-self-1) → IsKept (with_value c.self.inside.slots c.index.result.now.key c.args.task) c.self.inside.entries.items
@@ -32,8 +32,8 @@ after : (c : goal.After-self-1) → IsKept (with_value c.self.inside.slots c.ind
     (map (λ other. if has_pid c.args.task.spec.pid other then c.args.task else other) c.args.self.now.tasks)
 after c =
     let kept = kept_of _ _ _ _ _ c.self.view_is c.self.invariant in
-    let there = found_some kept c.args.task.spec.pid c.in-Ok.place _ c.in-Ok.ensures.place c.index.ensures in
-    kept_set kept _ c.in-Ok.place c.index.result.now c.args.task c.in-Ok.ensures.place c.index.ensures
+    let there = found_some kept c.args.task.spec.pid c.in-Ok.position _ c.in-Ok.ensures.position c.index.ensures in
+    kept_set kept _ c.in-Ok.position c.index.result.now c.args.task c.in-Ok.ensures.position c.index.ensures
     (Updates-with_value c.self.inside.slots c.index.result.now.key c.args.task (rw there.1 refl))
     (slab_len-with_value c.self.inside.slots c.index.result.now.key there.0 c.args.task there.1) refl
 
@@ -43,7 +43,7 @@ invariant_of-self c = kept_again (after c)
 pub returns-clause-old : goal.returns-clause-old
 returns-clause-old c =
     sym c.index_mut-slot.ensures.value
-    ∙ found (kept_of _ _ _ _ _ c.self.view_is c.self.invariant) c.args.task.spec.pid c.in-Ok.place _ c.in-Ok.ensures.place c.index.ensures
+    ∙ found (kept_of _ _ _ _ _ c.self.view_is c.self.invariant) c.args.task.spec.pid c.in-Ok.position _ c.in-Ok.ensures.position c.index.ensures
 
 pub returns-clause-changed : goal.returns-clause-changed
 returns-clause-changed c = seen_as _ _ _ _ _ _ (after c) (ap (λ (t : Table). t.limit) c.self.view_is)

@@ -8,22 +8,22 @@ use Rattle.task_table.specs.Table.{pid_of, RisesFrom}
 abbrev pub IsIndexOf : List Entry → List Task → Type 0
 IsIndexOf entries tasks = map (λ entry. entry.pid) entries ≡ map pid_of tasks
 
--- the task at the place has the pid, those before it have a lower one, and those behind it rise from above it
+-- the task at the position has the pid, those before it have a lower one, and those behind it rise from above it
 abbrev pub IsAt : ℕ → ℕ → List Task → Type 0
-IsAt pid place [] = ⊥
+IsAt pid position [] = ⊥
 IsAt pid zero (task ∷ rest) = (task.spec.pid ≡ pid) × RisesFrom (pid + 1) rest
-IsAt pid (suc place) (task ∷ rest) = (task.spec.pid < pid) × IsAt pid place rest
+IsAt pid (suc position) (task ∷ rest) = (task.spec.pid < pid) × IsAt pid position rest
 
--- the tasks before the place have a pid below the one number, and those from it on rise from the other
+-- the tasks before the position have a pid below the one number, and those from it on rise from the other
 abbrev pub IsSplit : ℕ → ℕ → ℕ → List Task → Type 0
 IsSplit below from zero tasks = RisesFrom from tasks
-IsSplit below from (suc place) [] = ⊥
-IsSplit below from (suc place) (task ∷ rest) = (task.spec.pid < below) × IsSplit below from place rest
+IsSplit below from (suc position) [] = ⊥
+IsSplit below from (suc position) (task ∷ rest) = (task.spec.pid < below) × IsSplit below from position rest
 
--- the tasks before the place have a lower pid, and those from it on a higher one
+-- the tasks before the position have a lower pid, and those from it on a higher one
 abbrev pub IsGap : ℕ → ℕ → List Task → Type 0
-IsGap pid place tasks = IsSplit pid (pid + 1) place tasks
+IsGap pid position tasks = IsSplit pid (pid + 1) position tasks
 
--- the tasks before the place have no higher pid, and those from it on have a higher one
+-- the tasks before the position have no higher pid, and those from it on have a higher one
 abbrev pub IsAbove : ℕ → ℕ → List Task → Type 0
-IsAbove pid place tasks = IsSplit (pid + 1) (pid + 1) place tasks
+IsAbove pid position tasks = IsSplit (pid + 1) (pid + 1) position tasks

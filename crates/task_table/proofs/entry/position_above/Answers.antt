@@ -1,7 +1,7 @@
 use Rattle.std.proofs.Common.{leb, rules, tests}
 use Rattle.std.proofs.lemmas.List.Sorted.{IsPartitionPoint-from_clause}
 use Rattle.task_table.proofs.Rising.{no_greater_first, parted}
-use Rattle.task_table.proofs.entry.place_above.Goals as goal
+use Rattle.task_table.proofs.entry.position_above.Goals as goal
 
 -- the closure tests an entry's pid
 pub returns : goal.returns

@@ -1,7 +1,7 @@
 use Rattle.std.proofs.Common.{rules}
 use Rattle.std.proofs.lemmas.List.Sorted.{answers_always}
 use Rattle.task_table.proofs.Rising.{searched}
-use Rattle.task_table.proofs.entry.place_of.Goals as goal
+use Rattle.task_table.proofs.entry.position_of.Goals as goal
 
 -- the closure gives an entry's pid
 pub returns : goal.returns
