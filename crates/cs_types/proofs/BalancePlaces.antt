@@ -13,7 +13,7 @@ use Rattle.cs_types.specs.declared.reply.Reply.TheVariants.{Zero}
 use Rattle.cs_types.specs.declared.reply.Entry.{Entry}
 use Rattle.cs_types.specs.declared.scenario.Scenario.{Scenario}
 use Rattle.cs_types.specs.Room.{RoomState, SiblingState, idle, online, is_online, sibling_of, running_on, task_of, with_sibling, flagged, absent}
-use Rattle.cs_types.specs.Selection.{is_run, selected_room, selected, plain, is_plain, picked_anew, adopted_or_picked_anew, schedule, is_to_steal}
+use Rattle.cs_types.specs.Selection.{selected_room, selected, plain, is_plain, picked_anew, adopted_or_picked_anew, schedule, is_to_steal}
 use Rattle.cs_types.specs.Accounting.{charge}
 use Rattle.cs_types.specs.Time.{least_of, with_growth, advanced}
 use Rattle.cs_types.specs.Prctl.{Setting, setting_of, makes_cookie, with_made, with_answer, prctl_answer}

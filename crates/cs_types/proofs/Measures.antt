@@ -12,7 +12,7 @@ use Rattle.cs_types.specs.declared.event.Event.TheVariants.{Resched}
 use Rattle.cs_types.specs.declared.reply.Reply.TheVariants.{Picked}
 use Rattle.cs_types.specs.Room.{RoomState, SiblingState, Waiting, absent, sibling_of, is_online, online}
 use Rattle.cs_types.specs.Touches.{is_selection, LedgerEntry, Ledger, ledger_entry, is_fresh}
-use Rattle.cs_types.specs.Selection.{cookie_of, pid_of, is_fair_task, lead_from, choice, occupation_of, renews_snapshots, running, is_run, selected, Scheduled, adopted, is_plain, plain, picked_anew, adopted_or_picked_anew, balanced, schedule, sibling_after_selection}
+use Rattle.cs_types.specs.Selection.{cookie_of, pid_of, lead_from, choice, is_run, selected, Scheduled, adopted, is_plain, plain, picked_anew, adopted_or_picked_anew, balanced, schedule, sibling_after_selection}
 use Rattle.cs_types.specs.Accounting.{charge}
 use Rattle.cs_types.specs.Step.{Stepped, picked}
 use Rattle.cs_types.specs.History.{Moment, step_at, next}

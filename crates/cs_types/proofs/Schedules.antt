@@ -6,7 +6,7 @@ use Rattle.std.proofs.lemmas.Bool.{cond_both, and_parts, eqb-true, eqb-false, bo
 use Rattle.cs_types.specs.declared.task.Task.{Task}
 use Rattle.cs_types.specs.Room.{RoomState, SiblingState, Waiting, queued_on, sibling_of, is_online, with_sibling}
 use Rattle.cs_types.specs.Order.{first_of}
-use Rattle.cs_types.specs.Selection.{first_on, queued_with, cookie_of, pid_of, choice, lead_from, is_run, running, is_fair_task, renews_snapshots, occupation_of, selected_room, selected, plain, is_plain, picked_anew, adopted_or_picked_anew, schedule, adopted, sibling_after_selection}
+use Rattle.cs_types.specs.Selection.{first_on, queued_with, cookie_of, pid_of, choice, lead_from, is_run, running, selected_room, selected, plain, is_plain, picked_anew, adopted_or_picked_anew, schedule, adopted, sibling_after_selection}
 use Rattle.cs_types.specs.Accounting.{charge}
 use Rattle.cs_types.specs.Touches.{is_selected}
 use Rattle.cs_types.proofs.Filtered.{each-filter, each_found}

@@ -22,7 +22,7 @@ use Rattle.cs_types.specs.declared.scenario.Scenario.{Scenario}
 use Rattle.cs_types.specs.Scenario.{IsEvent}
 use Rattle.cs_types.specs.Room.{RoomState, SiblingState, idle, queued_on, sibling_of, is_online, online, online_from, running_on, task_of, to_run, with_sibling, absent}
 use Rattle.cs_types.specs.Order.{foremost, is_higher_here, outranks, goes_before, first_of}
-use Rattle.cs_types.specs.Selection.{first_on, cookie_of, pid_of, is_fair_task, renews_snapshots, snapshot_of, lead_from, choice, eligible, is_forced, forced_count, is_run, occupation_of, selected_room, selected, Scheduled, is_plain, plain, picked_anew, adopted_or_picked_anew, schedule, sibling_after_selection}
+use Rattle.cs_types.specs.Selection.{first_on, cookie_of, pid_of, snapshot_of, lead_from, choice, eligible, is_forced, forced_count, is_run, occupation_of, selected_room, selected, Scheduled, is_plain, plain, picked_anew, adopted_or_picked_anew, schedule, sibling_after_selection}
 use Rattle.cs_types.specs.Accounting.{charge}
 use Rattle.cs_types.specs.Prctl.{Row, first_answer, rows_before_making, rows_after_making, prctl_answer}
 use Rattle.cs_types.specs.Touches.{selection_of, is_fresh}

@@ -1,7 +1,7 @@
 -- Times: how far the clock and the times come at each step, and so in a history.
 use Rattle.std.proofs.Common.{◌≡◌, ℕ, zero, suc, ◌+◌, ◌*◌, ◌<◌, ◌≤◌, length, max, ℤ, Bool, true, false, cond, not, ltb, List, [], ◌∷◌, map, get_or, set, refl, sym, ap, ◌∙◌, subst, inl, inr, Option, Some, None, arith, ◌^◌}
 use Rattle.std.specs.Prelude.{◌⊎◌, ◌==◌, ◌&&◌, ◌||◌, is_some, filter, fold, replicate, All}
-use Rattle.std.specs.List.{AllByRecursion, enumerate_from, list_any}
+use Rattle.std.specs.List.{AllByRecursion, enumerate_from}
 use Rattle.std.specs.Option.{IfSome, option_map_or, option_map}
 use Rattle.std.proofs.Math.Nat.{div-le_of_le-mul, max-le, le-max_left}
 use Rattle.std.proofs.lemmas.Bool.{cond_both, cases_lt}
@@ -21,7 +21,7 @@ use Rattle.cs_types.specs.declared.scenario.Scenario.{Scenario}
 use Rattle.cs_types.specs.Scenario.{IsEvent}
 use Rattle.cs_types.specs.Room.{RoomState, SiblingState, idle, absent, asleep, inserted, has_pid, start, online, is_online, lowest_online, queued_on, sibling_of, running_on, task_of, with_sibling, with_task, flagged}
 use Rattle.cs_types.specs.Order.{foremost, is_fair, first_of}
-use Rattle.cs_types.specs.Selection.{sibling_after_selection, task_after_selection, selected_room, selected, plain, is_plain, picked_anew, adopted_or_picked_anew, schedule, is_run, pid_of, choice, occupation_of}
+use Rattle.cs_types.specs.Selection.{sibling_after_selection, task_after_selection, selected_room, selected, plain, is_plain, picked_anew, adopted_or_picked_anew, schedule}
 use Rattle.cs_types.specs.Time.{weights, weight_of, weight_index, growth, grown_by, is_running, grown, with_growth, fair_times, least_of, with_leasts, advanced, has_used_slice, sliced}
 use Rattle.cs_types.proofs.Timely.{IsTimelyTask, IsTimelySibling, IsTimely}
 use Rattle.cs_types.specs.Prctl.{Setting, setting_of, is_set, makes_cookie, with_made, with_answer, prctl_answer}
@@ -31,7 +31,7 @@ use Rattle.cs_types.specs.Steal.{source_of, stolen, with_place}
 use Rattle.cs_types.specs.Hotplug.{lowest_other, moved_off, away, leave, with_sibling_back}
 use Rattle.cs_types.specs.Accounting.{charge}
 use Rattle.cs_types.specs.Touches.{is_fresh}
-use Rattle.cs_types.specs.History.{History, Moment, beginning, next, after, moment_of, fold_of, ledger_of}
+use Rattle.cs_types.specs.History.{History, Moment, beginning, next, after, moment_of, fold_of}
 use Rattle.cs_types.specs.View.{task_after, task_view, task_view_after}
 use Rattle.cs_types.proofs.Foremost.{each_of_all, each_weaker}
 use Rattle.cs_types.proofs.Filtered.{each-filter, each_found}

@@ -71,9 +71,9 @@ turned room may_adopt cpu =
 abbrev pub idled : RoomState → ℕ → RoomState
 idled room cpu = with_sibling room cpu (record (sibling_of room cpu) { run = None })
 
--- The sibling runs idle already. Or the open interval is charged, its running task is dequeued, and then it schedules (that
--- the charge comes before the dequeue is this project's rule). The dequeue touched, so that schedule adopts nothing, and what
--- it charges has no time left.
+-- The sibling runs idle already. Or the open interval is charged, its running task is dequeued, and then it schedules (the
+-- charge before the dequeue is this project's rule). The dequeue touched, so that schedule adopts nothing. It charges at
+-- the same moment again, which records nothing.
 abbrev pub blocked : RoomState → ℕ → Option Task → Stepped
 blocked room cpu None = record { reply = Idle; room = room }
 blocked room cpu (Some task) = picked (Slept task.spec.pid) (schedule (idled (dequeued (charge room) task) cpu) false cpu)
@@ -95,7 +95,8 @@ without room task =
     }
 
 -- The sibling runs idle, or its running task leads others. Or the open interval is charged, the task ends, and then the
--- sibling schedules. The dequeue touched, so that schedule adopts nothing, and what it charges has no time left.
+-- sibling schedules (the charge before the dequeue is this project's rule). The dequeue touched, so that schedule adopts
+-- nothing. It charges at the same moment again, which records nothing.
 abbrev pub exited : RoomState → ℕ → Option Task → Stepped
 exited room cpu None = record { reply = Idle; room = room }
 exited room cpu (Some task) =

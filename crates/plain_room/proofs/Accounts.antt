@@ -6,11 +6,9 @@ use Rattle.std.specs.Option.{option_and_then, option_map_or}
 use Rattle.std.proofs.lemmas.Bool.{cases_Bool, cond-true, cond-false, eqb-true}
 use Rattle.std.proofs.Math.Bool.{and-false, and-true}
 use Rattle.cs_types.specs.declared.task.Task.{Task}
-use Rattle.cs_types.specs.Room.{RoomState, Interval, SiblingState, idle, has_pid, task_of, to_run, is_online, online, absent}
-use Rattle.cs_types.specs.Selection.{is_run, to_run}
-use Rattle.cs_types.specs.Accounting.{with_cookie, charged_on, charged, up_to_now, open_interval, Interval, accounted}
-use Rattle.cs_types.specs.declared.scenario.Scenario.{Scenario}
-use Rattle.cs_types.proofs.Timely.{IsTimely, IsTimelyTask}
+use Rattle.cs_types.specs.Room.{RoomState, Interval, SiblingState, has_pid, task_of, to_run, is_online, online, absent}
+use Rattle.cs_types.specs.Selection.{is_run}
+use Rattle.cs_types.specs.Accounting.{with_cookie, charged_on, charged, up_to_now, open_interval}
 use Rattle.task_table.specs.Table.{Rises, RisesFrom}
 use Rattle.plain_room.specs.declared.state.State.{State}
 use Rattle.plain_room.specs.State.{Beside, sibling_state, room_of}

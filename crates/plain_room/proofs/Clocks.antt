@@ -11,7 +11,7 @@ use Rattle.cs_types.specs.declared.task.Policy.{Policy}
 use Rattle.cs_types.specs.declared.task.Policy.TheVariants.{Stop, Deadline, Fifo, Rr, Fair}
 use Rattle.cs_types.specs.Room.{RoomState, has_pid, with_task}
 use Rattle.plain_room.specs.State.{Beside}
-use Rattle.cs_types.specs.Time.{IsTimely, IsTimelyTask, grown_by, rotates, has_used_slice, sliced}
+use Rattle.cs_types.specs.Time.{grown_by, rotates, has_used_slice, sliced}
 use Rattle.cs_types.proofs.Timely.{IsTimely, IsTimelyTask}
 use Rattle.task_table.specs.Table.{Rises, RisesFrom}
 use Rattle.task_table.proofs.Tables.{changed_each}

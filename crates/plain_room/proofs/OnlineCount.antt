@@ -3,9 +3,8 @@ use Rattle.std.proofs.Common.{◌≡◌, ℕ, zero, suc, ◌+◌, Bool, List, []
 use Rattle.std.specs.Prelude.{filter}
 use Rattle.std.specs.List.{range_with_len}
 use Rattle.std.proofs.lemmas.List.{length-map}
-use Rattle.cs_types.specs.Room.{SiblingState, idle, online, absent}
+use Rattle.cs_types.specs.Room.{SiblingState, online, absent}
 use Rattle.plain_room.specs.State.{Beside, sibling_state, room_of}
-use Rattle.cs_types.specs.declared.scenario.Scenario.{Scenario}
 use Rattle.plain_room.specs.declared.state.State.{State}
 use Rattle.plain_room.proofs.Lists.{filter-map}
 

@@ -17,11 +17,9 @@ use Rattle.cs_types.specs.Selection.{Scheduled}
 use Rattle.cs_types.specs.Touches.{task_number, pick_number, own_number, is_selected, is_adopted, pick_touches, pick_of, selection_of, scheduler_of, touches_by}
 use Rattle.cs_types.specs.Steal.{stolen}
 use Rattle.cs_types.specs.Step.{Stepped, try_steal, step}
-use Rattle.cs_types.specs.Time.{IsTimely}
-use Rattle.cs_types.specs.Accounting.{total_of, Interval, share, charges, interval_by}
+use Rattle.cs_types.specs.Accounting.{total_of}
 use Rattle.cs_types.specs.History.{Moment}
 use Rattle.cs_types.proofs.Timely.{IsTimely}
-use Rattle.cs_types.specs.declared.reply.Reply.TheVariants.{Picked}
 use Rattle.forceidle_account.specs.Charges.{has_total, total_at}
 use Rattle.plain_room.specs.declared.sibling.Sibling.{Sibling}
 use Rattle.plain_room.specs.declared.state.State.{State}

@@ -33,7 +33,12 @@ fn reads_a_scenario(rt: HostRuntime) {
 fn items_are_reversed(rt: HostRuntime) {
     let mut scenario = read(rt.alloc(), TEXT).expect(&rt, "a scenario");
     scenario.tasks.items_mut().reverse();
-    assert!(rt; matches!(scenario.tasks.items().first(), Some(TaskSpec { pid: 3, .. })));
+    assert!(rt;
+        matches!(
+            scenario.tasks.items().first(),
+            Some(TaskSpec { pid: 3, .. })
+        )
+    );
 }
 
 /// A text of a head, one task and these lines.

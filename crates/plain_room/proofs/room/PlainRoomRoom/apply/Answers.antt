@@ -1,11 +1,11 @@
-use Rattle.std.proofs.Common.{◌≡◌, ◌≤◌, ◌*◌, ◌++◌, ◌∷◌, [], length, refl, ap, sym, subst, ◌∙◌, arith}
+use Rattle.std.proofs.Common.{◌≤◌, ◌*◌, ◌++◌, ◌∷◌, [], length, refl, ap, sym, subst, ◌∙◌, arith}
 use Rattle.std.specs.Prelude.{IfSome, All, ◌+◌, ◌<◌, ◌^◌}
 use Rattle.std.proofs.lemmas.List.Elements.{All-push, All-weaker}
 use Rattle.cs_types.specs.declared.reply.Entry.{Entry}
 use Rattle.cs_types.specs.Scenario.{IsEvent}
 use Rattle.cs_types.specs.Room.{RoomState, SiblingState}
 use Rattle.cs_types.specs.Touches.{selection_of}
-use Rattle.cs_types.specs.History.{fold_of, reply_to, history_of, moment_of}
+use Rattle.cs_types.specs.History.{fold_of, reply_to, history_of}
 use Rattle.cs_types.specs.Laws.{SelectsForTheCore, scheduling_room, cpu_of, LeavesTheRoom}
 use Rattle.cs_types.proofs.Numbers.{task_number-ledger_of, next_stamp-fold_of, next_cookie-fold_of, next_pid-fold_of, ended-fold_of}
 use Rattle.cs_types.proofs.Tasks.{few-fold_of, task_limit-fold_of}
@@ -16,14 +16,13 @@ use Rattle.cs_types.proofs.Times.{timely-fold_of, clock-step}
 use Rattle.cs_types.proofs.Accounts.{IsAccounted, account_of, charged_up_to, accounted-fold_of}
 use Rattle.forceidle_account.specs.Charges.{total_at}
 use Rattle.plain_room.proofs.Views.{total_kept}
-use Rattle.cs_types.specs.Time.{IsTimely}
-use Rattle.plain_room.proofs.Clocks.{timely_beside, timely_under}
+use Rattle.plain_room.proofs.Clocks.{timely_beside}
 use Rattle.cs_types.proofs.Timely.{IsTimely}
 use Rattle.plain_room.proofs.Ranges.{of_states}
 use Rattle.plain_room.specs.declared.sibling.Sibling.{Sibling}
 use Rattle.plain_room.specs.State.{Numbers, room_of, numbers_of, is_fresh_by}
 use Rattle.plain_room.specs.Machine.{Machine}
-use Rattle.plain_room.specs.Inside.{steps_of, beside_at, most_entries}
+use Rattle.plain_room.specs.Inside.{beside_at, most_entries}
 use Rattle.plain_room.proofs.Playable.{most_entries-le, first_pid-low}
 use Rattle.plain_room.proofs.Machines.{Folds, history_more, reply_more, folds_more}
 use Rattle.plain_room.proofs.room.PlainRoomRoom.apply.Goals as goal

@@ -2,7 +2,7 @@ use Rattle.std.proofs.Common.{◌≡◌, ◌^◌, ◌<◌, ap, ◌∙◌, sym, s
 use Rattle.std.specs.Prelude.{IfSome}
 use Rattle.std.specs.Option.{option_map}
 use Rattle.cs_types.specs.View.{task_after, task_view, task_view_after}
-use Rattle.cs_types.specs.History.{fold_of, history_of, moment_of, ledger_of}
+use Rattle.cs_types.specs.History.{fold_of, history_of, moment_of}
 use Rattle.cs_types.specs.declared.view.TaskView.{TaskView}
 use Rattle.cs_types.specs.Room.{RoomState}
 use Rattle.cs_types.proofs.Times.{shown_bounded}

@@ -1,14 +1,10 @@
 use Rattle.std.proofs.Common.{◌≡◌, ◌∙◌, ap}
 use Rattle.cs_types.specs.Room.{RoomState}
-use Rattle.cs_types.specs.Selection.{balanced, picked_anew, Scheduled}
-use Rattle.cs_types.specs.Accounting.{charge, closes, open_interval}
-use Rattle.plain_room.specs.State.{Beside, beside_after, room_of, numbers_of, booked, Numbers, took, charged_with}
+use Rattle.cs_types.specs.Selection.{balanced, picked_anew}
+use Rattle.cs_types.specs.Accounting.{charge}
+use Rattle.plain_room.specs.State.{Beside, beside_after, room_of, numbers_of, booked, Numbers, took}
 use Rattle.plain_room.proofs.Hotplugs.{time_kept}
 use Rattle.plain_room.proofs.States.{stands}
-use Rattle.cs_types.proofs.Timely.{IsTimely}
-use Rattle.cs_types.proofs.Accounts.{picked_anew-accounted, closes-picked_anew}
-use Rattle.plain_room.specs.declared.state.State.{State}
-use Rattle.plain_room.proofs.Accounts.{timely-accounted}
 use Rattle.plain_room.proofs.state.State.charge_and_pick.Goals as goal
 
 pub pick_and_balance-requires-clause-time : goal.pick_and_balance-requires-clause-time

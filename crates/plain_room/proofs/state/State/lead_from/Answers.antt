@@ -17,7 +17,7 @@ use Rattle.plain_room.proofs.States.{some_beside, policies}
 use Rattle.plain_room.proofs.Choices.{firsts_pushed, All-firsts, lead_is}
 use Rattle.plain_room.proofs.state.State.lead_from.Goals as goal
 
--- the firsts that the code gathers, under one scenario
+-- the firsts that the code gathers, whatever is beside the state
 gathered : (c : goal.After-deref-2) → c.deref.result.now ≡ map (first_on (room_of some_beside c.args.self.now)) (online_from (room_of some_beside c.args.self.now) c.args.cpu)
 gathered c =
     let room = room_of some_beside c.args.self.now in

@@ -1,9 +1,8 @@
 use Rattle.std.proofs.Common.{◌≡◌, ◌∙◌, cond, ap, refl, rules}
 use Rattle.std.specs.Option.{option_map}
 use Rattle.std.proofs.lemmas.List.{map-set}
-use Rattle.cs_types.specs.Selection.{pid_of, first_on, is_fair_task, noted, running}
+use Rattle.cs_types.specs.Selection.{pid_of, first_on, is_fair_task, running}
 use Rattle.plain_room.specs.State.{Beside, sibling_state, room_of}
-use Rattle.cs_types.specs.declared.scenario.Scenario.{Scenario}
 use Rattle.plain_room.proofs.States.{sibling_at, numbers_kept}
 use Rattle.plain_room.proofs.state.State.run_first.Goals as goal
 

@@ -5,9 +5,9 @@ use Rattle.cs_types.specs.Selection.{selected_room, forced_count, occupation_of,
 use Rattle.cs_types.proofs.Selections.{occupied}
 use Rattle.plain_room.specs.declared.choice.Choice.{Choice}
 use Rattle.plain_room.specs.State.{sibling_state, room_of}
-use Rattle.plain_room.specs.Choice.{handed_choice, remembered_task, task_after_choices}
-use Rattle.plain_room.proofs.States.{some_beside, items-as_many, fit-remembered, known-map, agree-map, some_scenario, fit-task_after_choices}
-use Rattle.plain_room.proofs.Choices.{choices_of, choices_are, forced_count-choices, occupation-choices, choice_in, handed-choices, remembered-choices, map-task_after_choices}
+use Rattle.plain_room.specs.Choice.{task_after_choices}
+use Rattle.plain_room.proofs.States.{some_beside, items-as_many, known-map, agree-map, fit-task_after_choices}
+use Rattle.plain_room.proofs.Choices.{choices_are, forced_count-choices, occupation-choices, choice_in, map-task_after_choices}
 use Rattle.plain_room.proofs.state.State.select_for.Goals as goal
 
 pub begin-requires-clause-occupied : goal.begin-requires-clause-occupied
