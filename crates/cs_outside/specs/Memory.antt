@@ -10,11 +10,11 @@ pub record SourceState : Type 0 where
   pub calls : ℕ
   pub faults : ℕ
 
--- the bytes that were written, for how many more there is room, the most bytes of one call, the numbers of the
+-- the bytes that were written, how many more it can take, the most bytes of one call, the numbers of the
 -- calls that fail, and the counts of the calls and of the faults so far
 pub record SinkState : Type 0 where
   pub written : List ℕ
-  pub room : ℕ
+  pub spare : ℕ
   pub most : ℕ
   pub fails : List ℕ
   pub calls : ℕ

@@ -1,7 +1,7 @@
 -- Standard input and output, and what waits for the latter.
 use Rattle.std.specs.Prelude.{◌≡◌, ℕ, List, take, drop}
 
--- for how many bytes a sink over standard output has room before it needs the device
+-- how many bytes a sink over standard output can gather before it needs the device
 abbrev pub buffer_bytes : ℕ
 buffer_bytes = 8192
 

@@ -9,7 +9,7 @@ use crate::retried::write_some;
 use std::io::Write;
 use std::marker::Model;
 
-/// For how many bytes a sink over standard output has room before it needs the device.
+/// How many bytes a sink over standard output can gather before it needs the device.
 pub(crate) const BUFFER_BYTES: usize = 8192;
 
 /// Bytes in the order in which they came.
@@ -41,8 +41,8 @@ impl Gathered {
         }
     }
 
-    /// For how many more bytes there is room.
-    pub fn room(&self) -> usize
+    /// How many more bytes it can take.
+    pub fn spare(&self) -> usize
         ensures { result + length self.now ≡ buffer_bytes }
     {
         BUFFER_BYTES - self.len

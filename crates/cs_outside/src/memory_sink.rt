@@ -9,12 +9,12 @@ use cs_types::OutOfMemory;
 use std::alloc::Global;
 use std::marker::Model;
 
-/// Bytes that are written in pieces of a length of their own, up to the room that was taken at the
+/// Bytes that are written in pieces of a length of their own, as many as there is memory for from the
 /// start. Its calls are counted from 1, and those with the numbers that it was given fail.
 #[derive(Drop)]
 pub struct MemSink {
     bytes: Vec<u8>,
-    room: usize,
+    spare: usize,
     most: usize,
     fails: Vec<u64>,
     calls: u64,
@@ -29,40 +29,40 @@ impl Model for MemSink {
 
     ghost view = { λ s. record {
       written = s.bytes.items;
-      room = s.room;
+      spare = s.spare;
       most = s.most;
       fails = s.fails.items;
       calls = s.calls;
       faults = s.faults;
     } };
 
-    ghost invariant = { λ s. (vec_len s.bytes + s.room ≤ vec_capacity s.bytes) × (0 < s.most) };
+    ghost invariant = { λ s. (vec_len s.bytes + s.spare ≤ vec_capacity s.bytes) × (0 < s.most) };
 }
 
 impl MemSink {
-    /// A sink that has room for `room` bytes, and has taken memory for them. A call takes at most
+    /// A sink that can take `spare` bytes, and has taken memory for them. A call takes at most
     /// `most` of them, and fails where its number, counted from 1, is one of `fails`.
     pub fn of(
         alloc: Global,
-        room: usize,
+        spare: usize,
         most: usize,
         fails: Vec<u64>,
     ) -> Result<MemSink, OutOfMemory>
         requires { 0 < most }
         ensures ok { IfOk result (λ sink. sink ≡ record {
           written = [];
-          room = room;
+          spare = spare;
           most = most;
           fails = fails.items;
           calls = 0;
           faults = 0;
         }) }
-        ensures empty { room ≡ 0 → IsOk result }
+        ensures empty { spare ≡ 0 → IsOk result }
     {
-        let bytes = Vec::with_capacity(alloc, room)?;
+        let bytes = Vec::with_capacity(alloc, spare)?;
         Ok(MemSink {
             bytes,
-            room,
+            spare,
             most,
             fails,
             calls: 0,
@@ -90,8 +90,8 @@ impl Sink for MemSink {
 
     ghost faults = { λ sink. sink.faults };
 
-    /// Takes the least of the most bytes of a call, the piece's length and the room that is left. It
-    /// fails exactly where it was told to and where no room is left, and then takes nothing. It
+    /// Takes the least of the most bytes of a call, the piece's length and the bytes that it can still
+    /// take. It fails exactly where it was told to and where it can take none, and then takes nothing. It
     /// takes no memory.
     fn write(&mut self, piece: &[u8]) -> Result<usize, Failed>
         requires { 0 < length piece.now }
@@ -103,11 +103,11 @@ impl Sink for MemSink {
         ensures unwritten { OnErr result (self.new.written ≡ self.old.written) }
         ensures counted { self.old.faults ≤ self.new.faults }
 
-        ensures fails { IsErr result ↔ (Contains self.old.fails (raised self.old.calls) ⊎ (self.old.room ≡ 0)) }
-        ensures count { IfOk result (λ n. n ≡ min (min (length piece.now) self.old.room) self.old.most) }
+        ensures fails { IsErr result ↔ (Contains self.old.fails (raised self.old.calls) ⊎ (self.old.spare ≡ 0)) }
+        ensures count { IfOk result (λ n. n ≡ min (min (length piece.now) self.old.spare) self.old.most) }
         ensures ok { IfOk result (λ n. self.new ≡ record self.old {
           written = self.old.written ++ take n piece.now;
-          room = self.old.room - n;
+          spare = self.old.spare - n;
           calls = raised self.old.calls;
         }) }
         ensures err { OnErr result (self.new ≡ record self.old {
@@ -116,13 +116,13 @@ impl Sink for MemSink {
         }) }
     {
         self.calls = self.calls.saturating_add(1);
-        if self.room == 0 || self.fails.contains(&self.calls) {
+        if self.spare == 0 || self.fails.contains(&self.calls) {
             self.faults = self.faults.saturating_add(1);
             return Err(Failed);
         }
-        let count = piece.len().min(self.room).min(self.most);
+        let count = piece.len().min(self.spare).min(self.most);
         self.bytes.extend_from_slice(&piece[..count]).unwrap();
-        self.room -= count;
+        self.spare -= count;
         Ok(count)
     }
 }

@@ -86,7 +86,7 @@ impl Sink for StdSink {
         ensures kept { OnErr result (IsRest self.old.gathered self.new.gathered) }
         ensures err { OnErr result (self.new.faults ≡ raised self.old.faults) }
     {
-        if self.gathered.room() < piece.len() {
+        if self.gathered.spare() < piece.len() {
             self.flush()?;
         }
         if piece.len() <= BUFFER_BYTES {

@@ -27,7 +27,7 @@ key_cmp a b = ordering_then (nat_cmp a.0 b.0) (nat_cmp a.1 b.1)
 abbrev pub Members : Type 0
 Members = FinMap key_cmp ℕ
 
--- a class's queue: its tasks, and for how many more there is room
+-- a class's queue: its tasks, and how many more it can take
 pub record Ranked : Type 0 where
   pub members : Members
   pub spare : ℕ
@@ -45,7 +45,7 @@ seat_cmp a b = ordering_then (nat_cmp a.0 b.0) (key_cmp a.1 b.1)
 abbrev pub Seats : Type 0
 Seats = FinMap seat_cmp ℕ
 
--- a sibling's run queue: its tasks, and for how many more there is room
+-- a sibling's run queue: its tasks, and how many more it can take
 pub record Seated : Type 0 where
   pub tasks : Seats
   pub spare : ℕ

@@ -47,16 +47,16 @@ pub struct Creds {
     pub dumpable: bool,
 }
 
-/// A task as its line in the scenario gives it.
+/// A task as its line in the scenario gives it, or a child as its caller's fork does.
 #[derive(Clone, Copy)]
 pub struct TaskSpec {
-    /// Its number, 1 to 9999 in a scenario.
+    /// Its number, 1 to 9999 in a scenario. A child's is the next one, above all of these.
     pub pid: Pid,
     /// Its thread group: the pid of the group's leader.
     pub tgid: Pid,
     /// Its process group, 1 to 9999 in a scenario.
     pub pgid: u32,
-    /// The sibling on which it begins, its first home.
+    /// The sibling on which it begins, its first home. A child's is its caller's home.
     pub cpu: Cpu,
     pub policy: Policy,
     pub creds: Creds,
@@ -65,7 +65,7 @@ pub struct TaskSpec {
 /// A living task.
 #[derive(Clone, Copy)]
 pub struct Task {
-    /// Its line in the scenario.
+    /// What its line in the scenario gives, or its caller's fork.
     pub spec: TaskSpec,
     /// Its cookie, 0 for none (`core_cookie`).
     pub cookie: Cookie,

@@ -7,9 +7,11 @@ use crate::task::{Cookie, Cpu, Pid};
 pub struct CoreView {
     /// The cookie that the core runs under, 0 for none.
     pub cookie: Cookie,
-    /// How many siblings the last schedule for the core forced idle, a count.
+    /// How many siblings are forced idle, a count: as the last selection for the core left it, and 0
+    /// after a plain pick and after a sibling left.
     pub forced: u8,
-    /// For how many siblings that schedule chose a task, a count.
+    /// For how many siblings that selection chose a task, a count. 0 after a plain pick and after a
+    /// sibling left.
     pub occupation: u8,
     /// How many intervals of forced idle were recorded, a count. One that is open is none of them.
     pub intervals: u64,

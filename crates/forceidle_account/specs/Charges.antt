@@ -4,7 +4,7 @@ use Rattle.std.specs.Ordering.{nat_cmp}
 use Rattle.std.specs.FinMap.{FinMap, code, contains_key, find, get}
 use Rattle.std.specs.Coded.{Coded, code_by, coded×, coded_ℕ}
 
--- the total of each task by its pid, in ns, and for how many more tasks there is room
+-- the total of each task by its pid, in ns, and how many more tasks it can take
 pub record Charges : Type 0 where
   pub totals : FinMap nat_cmp ℕ
   pub spare : ℕ

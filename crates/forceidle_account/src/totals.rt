@@ -32,7 +32,7 @@ impl Model for Totals {
 }
 
 impl Totals {
-    /// No task, and room for `tasks`, a count. This call alone takes memory.
+    /// No task, and capacity for `tasks`, a count. This call alone takes memory.
     pub fn with_capacity(alloc: Global, tasks: usize) -> Result<Totals, OutOfMemory>
         ensures totals { IfOk result (λ made. made.totals ≡ map.empty) }
         ensures spare { IfOk result (λ made. made.spare ≡ tasks) }
@@ -46,7 +46,7 @@ impl Totals {
         })
     }
 
-    /// A task more, charged nothing yet. There has to be room for it, and its pid is above all that
+    /// A task more, charged nothing yet. `spare` has to be above 0, and its pid is above all that
     /// are there.
     pub fn add(&mut self, pid: Pid)
         requires spare { 0 < self.old.spare }

@@ -14,7 +14,7 @@ use std::alloc::Global;
 use std::marker::Model;
 
 /// A machine that keeps plain lists. Contracts see what it stands for: its scenario, the steps that
-/// were made, and for how many more entries there is room.
+/// were made, and how many more entries it can take.
 #[derive(Drop)]
 pub struct PlainRoom {
     scenario: Scenario,

@@ -8,7 +8,7 @@ use Rattle.rank_queue.specs.declared.queue.RankQueue.TheInside.{Inside}
 abbrev pub ranked_of : Inside → Ranked
 ranked_of queue = record { members = from_sorted queue.entries.items; spare = queue.limit - length queue.entries.items }
 
--- The keys rise, and there are as many as the limit at most, for which the vector has room.
+-- The keys rise, and there are as many as the limit at most, for which the vector has the capacity.
 pub record IsSound (queue : Inside) : Type 0 where
   pub rising : IsTrue (is_sorted key_cmp queue.entries.items)
   pub few : length queue.entries.items ≤ queue.limit

@@ -14,7 +14,7 @@ use std::sync::ledger::Ledger;
 #[derive(Drop)]
 pub struct RankQueue {
     entries: Vec<(Key, Pid)>,
-    /// How many tasks there is room for in all.
+    /// How many tasks it can take in all.
     limit: u32,
 }
 
@@ -34,7 +34,7 @@ impl Model for RankQueue {
 }
 
 impl RankQueue {
-    /// No task, and room for none. It takes no memory.
+    /// No task, and nothing reserved. It takes no memory.
     pub fn empty(alloc: Global) -> RankQueue
         ensures members { result.members ≡ empty }
         ensures spare { result.spare ≡ 0 }

@@ -28,7 +28,7 @@ seated_of queue =
 abbrev pub Holds : ℕ → Ranked → Type 0
 Holds limit queue = limit ≤ len queue.members + queue.spare
 
--- There are as many tasks as the limit at most, for which each class has room.
+-- There are as many tasks as the limit at most, each of which every class can take.
 pub record IsSound (queue : Inside) : Type 0 where
   pub few : count queue ≤ queue.limit
   pub limit_fits : queue.limit < 2 ^ 32

@@ -24,7 +24,7 @@ pub struct RunQueue {
     deadline: DeadlineQueue,
     real_time: RtQueue,
     fair: FairQueue,
-    /// How many tasks there is room for in all, whatever their classes are.
+    /// How many tasks it can take in all, whatever their classes are.
     limit: u32,
 }
 
@@ -44,7 +44,7 @@ impl Model for RunQueue {
 }
 
 impl RunQueue {
-    /// No task, and room for none. It takes no memory.
+    /// No task, and nothing reserved. It takes no memory.
     pub fn empty(alloc: Global) -> RunQueue
         ensures tasks { result.tasks ≡ map.empty }
         ensures spare { result.spare ≡ 0 }
@@ -58,7 +58,7 @@ impl RunQueue {
         }
     }
 
-    /// Makes room for `n` more tasks of any class where there is less. This call alone takes memory.
+    /// Raises `spare` to `n` tasks of any class where it is below. This call alone takes memory.
     /// An `Err`, for want of it or where there would be more than 4294967295 tasks, changes nothing.
     pub fn reserve(&mut self, n: u32) -> Result<(), OutOfMemory>
         ensures tasks { self.new.tasks ≡ self.old.tasks }

@@ -15,7 +15,7 @@ spaced words = join_with_byte 32 words
 abbrev pub line : List Word → List ℕ
 line words = spaced words ++ 10 ∷ []
 
--- how many bytes a line has room for that is put together: as many as the longest entry has, with its line feed
+-- how many bytes a line can take that is put together: as many as the longest entry has, with its line feed
 abbrev pub line_room : ℕ
 line_room = 152
 

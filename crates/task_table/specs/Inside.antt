@@ -23,7 +23,7 @@ Holds slots entries tasks = map (slot_of slots) entries ≡ map Some tasks
 abbrev pub EachFilled : Slab Task → List Entry → Type 0
 EachFilled slots entries = Holds slots entries (tasks_at slots entries)
 
--- the entries name all slots that have a task, these tasks by rising pid, and there is room for the limit
+-- the entries name all slots that have a task, these tasks by rising pid, and the slots can take the limit
 pub record IsKept (slots : Slab Task) (entries : List Entry) (room limit : ℕ) (tasks : List Task) : Type 0 where
   pub holds : Holds slots entries tasks
   pub index : IsIndexOf entries tasks

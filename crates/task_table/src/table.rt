@@ -57,7 +57,7 @@ fn asleep(spec: TaskSpec) -> Task
 }
 
 impl TaskTable {
-    /// An empty table with room for `limit` tasks. This call alone takes memory.
+    /// An empty table that can take `limit` tasks. This call alone takes memory.
     pub fn with_limit(alloc: Global, limit: u16) -> Result<TaskTable, OutOfMemory>
         ensures empty { IfOk result (λ table. table.tasks ≡ []) }
         ensures limit { IfOk result (λ table. table.limit ≡ limit) }

@@ -1,4 +1,4 @@
-//! A line while it is put together. It lies on the stack and has room for the longest entry, so it
+//! A line while it is put together. It lies on the stack and can take the longest entry, so it
 //! takes no memory and cannot fail, and a sink is given it whole.
 
 ghost use Rattle.std.specs.Prelude.{◌≡◌, ◌+◌, ◌≤◌, [], ◌∷◌, ◌++◌, length, decimal};
@@ -10,10 +10,10 @@ use cs_types::{Actor, Ask, Cpu, Entry, Errno, Event, Kind, Pick, Pid, Policy, Re
 use itoa::{Buffer, Integer};
 use std::marker::Model;
 
-/// How many bytes a line has room for: as many as the longest entry has, with its line feed.
+/// How many bytes a line can take: as many as the longest entry has, with its line feed.
 const ROOM: usize = 152;
 
-/// What is on a line so far. It lies on the stack, and has room for 152 bytes.
+/// What is on a line so far. It lies on the stack, and can take 152 bytes.
 #[derive(Drop)]
 pub struct Line {
     text: ArrayString<ROOM>,
