@@ -1,0 +1,73 @@
+"""Reads what the load writes on the console: its rounds, and in each the lines of the kernel's trace."""
+
+import re
+from dataclasses import dataclass, field
+
+LINE = re.compile(r"\s*.+-(\d+)\s+\[\d+\]\s+\S+\s+(\d+): \w+: (.*)")
+KEPT = "entries-in-buffer/entries-written:"
+
+
+@dataclass
+class Line:
+    """A line of the trace: its place in the order of the lock, who ran as it was written, and its words."""
+    at: int
+    writer: int
+    words: list
+
+    @property
+    def kind(self):
+        return self.words[0]
+
+    def number(self, at):
+        return int(self.words[at])
+
+    def named(self, at):
+        """The words from a place on, which are names and values in turn."""
+        return dict(zip(self.words[at::2], self.words[at + 1::2]))
+
+
+@dataclass
+class Round:
+    """A round of the load: its title, its tasks with sibling and priority, and the lines of its trace."""
+    title: str
+    tasks: dict = field(default_factory=dict)
+    lines: list = field(default_factory=list)
+    is_whole: bool = True
+
+    @property
+    def siblings(self):
+        return int(self.title.split()[5])
+
+    @property
+    def shape(self):
+        return " ".join(self.title.split()[5:])
+
+    def add(self, text):
+        """Takes a line of the trace. One that says that others were lost, or that is cut, makes the round not whole."""
+        match = LINE.match(text)
+        if match and not text.startswith("#"):
+            self.lines.append(Line(int(match[2]), int(match[1]), match[3].split()))
+        elif KEPT in text:
+            kept, written = text.split(KEPT)[1].split()[0].split("/")
+            self.is_whole = self.is_whole and kept == written
+        elif text and not text.startswith("#"):
+            self.is_whole = False
+
+
+def rounds(path):
+    """The rounds of a boot, each after the other."""
+    current, is_tracing = None, False
+    with open(path, encoding="ascii", errors="replace") as console:
+        for text in map(str.rstrip, console):
+            if text.startswith("ROUND "):
+                current = Round(text)
+            elif text.startswith("LOADTASK "):
+                pid, sibling, priority = map(int, text.split()[1:])
+                current.tasks[pid] = (sibling, priority)
+            elif text in ("TRACE", "TRACEEND"):
+                is_tracing = text == "TRACE"
+                if not is_tracing:
+                    current.lines.sort(key=lambda line: line.at)
+                    yield current
+            elif is_tracing:
+                current.add(text)
