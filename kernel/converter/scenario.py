@@ -133,8 +133,8 @@ class Scenario:
         need(priority == STOP or all(queued.priority < FAIR for queued in self.queues[sibling].values()),
              "two fair tasks on one sibling")
         if (pid, sibling) not in self.numbers:
+            need(len(self.lines) < MOST_TASKS, f"more than {MOST_TASKS} tasks")
             self.numbers[pid, sibling] = self.add_task(sibling, "stop" if priority == STOP else "fair:0")
-            need(len(self.lines) <= MOST_TASKS, f"more than {MOST_TASKS} tasks")
         self.counts["wakes of the kernel's threads"] += 1
 
     def set_cookie(self, event):
