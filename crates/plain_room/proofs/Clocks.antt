@@ -21,9 +21,9 @@ use Rattle.plain_room.proofs.Lists.{filter-filter, any-filter}
 
 -- the times of a room do not depend on what is beside its state
 pub timely_beside : (beside : Beside) (entries : ℕ) (room : RoomState) → IsTimely entries room →
-    IsTimely entries (record room { user_top = beside.user_top; intervals = beside.intervals })
+    IsTimely entries (record room { intervals = beside.intervals })
 timely_beside beside entries room timely = record {
-  tasks = All-weaker (IsTimelyTask room) (IsTimelyTask (record room { user_top = beside.user_top; intervals = beside.intervals })) (λ task is. record { vtime = is.vtime; used = is.used }) room.tasks timely.tasks;
+  tasks = All-weaker (IsTimelyTask room) (IsTimelyTask (record room { intervals = beside.intervals })) (λ task is. record { vtime = is.vtime; used = is.used }) room.tasks timely.tasks;
   siblings = timely.siblings;
 }
 

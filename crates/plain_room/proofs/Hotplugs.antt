@@ -1,5 +1,5 @@
 -- Hotplugs: what the leaving of a sibling reads of the lists and makes of them.
-use Rattle.std.proofs.Common.{◌≡◌, ℕ, zero, suc, ◌+◌, ◌<◌, Bool, true, false, cond, not, ltb, List, [], ◌∷◌, ◌++◌, map, refl, subst, sym, ap, ◌∙◌, length, get_or, arith, Some, None}
+use Rattle.std.proofs.Common.{◌≡◌, ℕ, zero, suc, ◌+◌, ◌<◌, ◌^◌, Bool, true, false, cond, not, ltb, List, [], ◌∷◌, ◌++◌, map, refl, subst, sym, ap, ◌∙◌, length, get_or, arith, Some, None}
 use Rattle.std.specs.Prelude.{find, unwrap_or, filter, ◌&&◌, ◌==◌}
 use Rattle.std.specs.List.{range_with_len, enumerate_from}
 use Rattle.std.proofs.lemmas.Bool.{cond-true, cond-false}
@@ -12,9 +12,9 @@ use Rattle.cs_types.specs.Room.{RoomState, is_online, online}
 use Rattle.cs_types.specs.Hotplug.{leave, with_sibling_back}
 use Rattle.cs_types.specs.Accounting.{charge}
 use Rattle.cs_types.specs.Step.{taken_offline, brought_online}
-use Rattle.cs_types.proofs.Timely.{IsTimelyTask}
+use Rattle.cs_types.proofs.Timely.{IsTimely, IsTimelyTask}
 use Rattle.cs_types.proofs.Foremost.{find-append_none}
-use Rattle.plain_room.specs.State.{Beside, Numbers, room_of, IsOnTime}
+use Rattle.plain_room.specs.State.{Beside, sibling_state, room_of, IsOnTime}
 use Rattle.plain_room.specs.Time.{queued_among}
 use Rattle.plain_room.specs.Hotplug.{left, count_before, with_moves}
 use Rattle.plain_room.specs.declared.state.State.{State}
@@ -100,10 +100,6 @@ pub leave_is : (room : RoomState) (cpu : ℕ) →
 unfolding leave
 leave_is room cpu = refl
 
--- a step that touches nothing
-pub untouched : (numbers : Numbers) → numbers ≡ record numbers { task = numbers.task + 0 }
-untouched numbers = ap (λ n. let other : Numbers = record numbers { task = n } in other) (omega arith)
-
 -- ---- the times
 
 -- the times do not depend on the account
@@ -121,3 +117,19 @@ time_kept old now time rest =
       clock = time.clock;
     } in
     subst IsOnTime (sym rest) kept
+
+-- nor on anything but the tasks, the siblings and the clock
+pub time_alike : (old now : State) → now.tasks ≡ old.tasks → now.siblings ≡ old.siblings → now.clock ≡ old.clock → IsOnTime old → IsOnTime now
+time_alike old now tasks siblings clock time = record {
+  entries = time.entries;
+  few = time.few;
+  timely = λ beside.
+      let room : RoomState = record (room_of beside now) { tasks = old.tasks.tasks; siblings = map sibling_state old.siblings.items; clock = old.clock } in
+      let timely : IsTimely time.entries room = record {
+        tasks = All-weaker (IsTimelyTask (room_of beside old)) (IsTimelyTask room) (λ task is. record { vtime = is.vtime; used = is.used }) old.tasks.tasks (time.timely beside).tasks;
+        siblings = (time.timely beside).siblings;
+      } in
+      subst (IsTimely time.entries)
+      (λ i. record (room_of beside now) { tasks = (sym tasks i).tasks; siblings = map sibling_state (sym siblings i).items; clock = sym clock i }) timely;
+  clock = subst (λ n. n + 1000000000 < 2 ^ 56) (sym clock) time.clock;
+}

@@ -22,7 +22,7 @@ use Rattle.cs_types.specs.Drain.{next_to_schedule}
 use Rattle.plain_room.specs.Drain.{next_by}
 use Rattle.cs_types.proofs.Histories.{moment_of-push, history_of-push}
 use Rattle.cs_types.proofs.Numbers.{task_number-cons, pick_number-cons, own_number-cons, fresh-ledger_of}
-use Rattle.plain_room.specs.State.{booked, IsBooked, numbers_at, numbers_of, numbers_after, own_after, is_fresh_by, room_of, Makes}
+use Rattle.plain_room.specs.State.{booked, IsBooked, numbers_at, numbers_of, numbers_after, own_after, is_fresh_by, room_of, MakesBeside}
 use Rattle.plain_room.specs.Inside.{steps_of, beside_at}
 use Rattle.plain_room.specs.declared.state.State.{State}
 
@@ -143,19 +143,19 @@ step_of_moment {most} scenario state entries event so_far =
     λ i. step (so_far.fold i) (fresh i) event
 
 pub reply_more : {most : ℕ} (scenario : Scenario) (old new : State) (entries : History) (event : Event) (reply : Reply) →
-    Folds scenario most old entries → Makes (beside_at scenario entries) old new event reply → reply ≡ reply_to scenario entries event
+    Folds scenario most old entries → MakesBeside (beside_at scenario entries) old new event reply → reply ≡ reply_to scenario entries event
 reply_more {most} scenario old new entries event reply so_far makes =
     makes.reply ∙ ap (λ (made : Stepped). made.reply) (step_of_moment scenario old entries event so_far)
 
 pub folds_more : {most : ℕ} (scenario : Scenario) (old new : State) (entries : History) (entry : Entry) → IsEvent scenario.siblings entry.event →
-    Folds scenario most old entries → Makes (beside_at scenario entries) old new entry.event entry.reply → Folds scenario most new (entries ++ entry ∷ [])
+    Folds scenario most old entries → MakesBeside (beside_at scenario entries) old new entry.event entry.reply → Folds scenario most new (entries ++ entry ∷ [])
 folds_more {most} scenario old new entries entry limits so_far makes =
     let more = sym (moment_of-push scenario entries entry) in
     let made = step_of_moment scenario old entries entry.event so_far in
     let kept : IsBooked (fold_of scenario entries) old =
     subst (λ numbers. numbers ≡ booked (fold_of scenario entries) numbers) (sym so_far.numbers) refl in
     record {
-      fold = subst (λ (room : RoomState). room_of (record { user_top = scenario.user_top; intervals = room.intervals }) new ≡ room)
+      fold = subst (λ (room : RoomState). room_of (record { intervals = room.intervals }) new ≡ room)
           (ap (λ (m : Stepped). m.room) made ∙ ap (λ (moment : Moment). moment.room) more) makes.room;
       numbers = makes.numbers kept
           ∙ (λ i. numbers_after (so_far.fold i) entry.event entry.reply (booked (made i).room (so_far.numbers i)))

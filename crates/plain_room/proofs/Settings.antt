@@ -33,8 +33,8 @@ use Rattle.plain_room.specs.declared.state.State.{State}
 use Rattle.plain_room.specs.Choice.{chosen_task, task_after_choice, task_after_choices}
 use Rattle.plain_room.specs.Cookies.{setting, flagged_for, SetsCookies}
 use Rattle.plain_room.proofs.Onlines.{untouched}
-use Rattle.plain_room.proofs.States.{uncharged}
-use Rattle.plain_room.specs.State.{Beside, sibling_state, room_of, IsFit, Has, Numbers, numbers_of, touched, numbers_after, Makes}
+use Rattle.plain_room.proofs.States.{uncharged, same_stays}
+use Rattle.plain_room.specs.State.{Beside, sibling_state, room_of, IsFit, Has, Numbers, numbers_of, touched, numbers_after, StaysBut, MakesBeside}
 
 -- ---- the task that is chosen for a sibling
 
@@ -179,17 +179,17 @@ pub sets_one : (beside : Beside) (old new : State) (task : Task) (cookie : ℕ) 
     new.tasks ≡ record old.tasks { tasks = map (λ other. cond (has_pid task.spec.pid other) (record task { cookie = cookie }) other) old.tasks.tasks } →
     new.refs.limit ≡ old.refs.limit → new.refs.next ≡ old.refs.next →
     map sibling_state new.siblings.items ≡ map (flagged_for task.spec.pid) (map sibling_state old.siblings.items) →
-    new.clock ≡ old.clock → new.ended ≡ old.ended → new.next_pid ≡ old.next_pid →
+    new.user_top ≡ old.user_top → new.clock ≡ old.clock → new.ended ≡ old.ended → new.next_pid ≡ old.next_pid →
     new.next_stamp ≡ old.next_stamp → new.core_cookie ≡ old.core_cookie → new.account ≡ old.account →
     room_of beside new ≡ with_cookies (room_of beside old) (setting (task ∷ []) cookie)
-sets_one beside old new task cookie rises there tasks limit next siblings clock ended pid stamp core account =
+sets_one beside old new task cookie rises there tasks limit next siblings top clock ended pid stamp core account =
     let each = ap (λ (table : Table). table.tasks) tasks ∙ set_each cookie old.tasks.tasks task rises there in
     let limits = ap (λ (table : Table). table.limit) tasks in
     let flags = siblings ∙ flagged_alike task cookie (map sibling_state old.siblings.items) in
     λ i. record {
       task_limit = limits i;
       cookie_limit = limit i;
-      user_top = beside.user_top;
+      user_top = top i;
       clock = clock i;
       tasks = each i;
       ended = (ended i).items;
@@ -216,12 +216,13 @@ module _ (old now : State) (cookie : ℕ) (left all : List Task)
     (room : (beside : Beside) → with_cookies (room_of beside now) (setting left cookie) ≡ with_cookies (room_of beside old) (setting all cookie))
     (numbers : touched (setting_touches (setting left cookie)) (numbers_of now) ≡ touched (setting_touches (setting all cookie)) (numbers_of old)) where
   -- none is left
-  pub group_done : left ≡ [] → SetsCookies old now all cookie
-  group_done none = record {
+  pub group_done : left ≡ [] → StaysBut cookie old now → SetsCookies old now all cookie
+  group_done none stays = record {
     room = λ beside. sym (with_cookies-none (room_of beside now) cookie)
         ∙ ap (λ (tasks : List Task). with_cookies (room_of beside now) (setting tasks cookie)) (sym none) ∙ room beside;
     numbers = sym (touched_none (numbers_of now))
         ∙ ap (λ (tasks : List Task). touched (setting_touches (setting tasks cookie)) (numbers_of now)) (sym none) ∙ numbers;
+    stays = stays;
   } where
     touched_none : (n : Numbers) → touched 0 n ≡ n
     touched_none n = ap (λ m. record n { task = m }) (add-zero n.task)
@@ -268,7 +269,7 @@ named_process count next pgid tasks fit =
 -- no task gets a cookie
 pub sets_none : (state : State) (cookie : ℕ) → SetsCookies state state [] cookie
 sets_none state cookie =
-    group_done state state cookie [] [] (λ beside. refl) refl refl
+    group_done state state cookie [] [] (λ beside. refl) refl refl same_stays
 
 -- the tasks of one list are those of another
 pub sets_alike : (old new : State) (tasks other : List Task) (cookie : ℕ) → tasks ≡ other → SetsCookies old new tasks cookie → SetsCookies old new other cookie
@@ -291,9 +292,9 @@ module _ (beside : Beside) (old mid after new : State) (pid : ℕ) (ask : Ask) (
   all_numbers : numbers_of new ≡ touched (setting_touches (setting (named decision.to old.tasks.tasks) decision.cookie)) (numbers_of old)
   all_numbers = new_numbers ∙ made.numbers ∙ ap (touched (setting_touches (setting (named decision.to old.tasks.tasks) decision.cookie))) mid_numbers
 
-  pub makes_call : IsGranted decision.reply decision → Makes beside old new (Prctl pid ask) decision.reply
+  pub makes_call : IsGranted decision.reply decision → MakesBeside beside old new (Prctl pid ask) decision.reply
   makes_call granted = by_reply decision.reply refl granted where
-    by_reply : (reply : Reply) → decision.reply ≡ reply → IsGranted reply decision → Makes beside old new (Prctl pid ask) decision.reply
+    by_reply : (reply : Reply) → decision.reply ≡ reply → IsGranted reply decision → MakesBeside beside old new (Prctl pid ask) decision.reply
     by_reply Zero is granted =
         let set = sets is in
         uncharged (record {
@@ -322,7 +323,7 @@ module _ (beside : Beside) (old mid after new : State) (pid : ℕ) (ask : Ask) (
 
 -- a call that is refused sets nothing
 pub makes_refusal : (beside : Beside) (old new : State) (pid : ℕ) (ask : Ask) (reply : Reply) → IsRefusal reply → prctl_answer (room_of beside old) pid ask ≡ reply →
-    room_of beside new ≡ with_made (room_of beside old) (makes_cookie (room_of beside old) pid ask) → numbers_of new ≡ numbers_of old → Makes beside old new (Prctl pid ask) reply
+    room_of beside new ≡ with_made (room_of beside old) (makes_cookie (room_of beside old) pid ask) → numbers_of new ≡ numbers_of old → MakesBeside beside old new (Prctl pid ask) reply
 makes_refusal beside old new pid ask reply refusal answer room numbers =
     let made = with_made (room_of beside old) (makes_cookie (room_of beside old) pid ask) in
     uncharged (record {

@@ -8,7 +8,7 @@ use Rattle.cs_types.specs.declared.event.Event.{Event}
 use Rattle.cs_types.specs.declared.reply.Pick.{Pick}
 use Rattle.cs_types.specs.declared.reply.Reply.{Reply}
 use Rattle.cs_types.specs.Accounting.{charge}
-use Rattle.cs_types.specs.Step.{Stepped}
+use Rattle.cs_types.specs.Step.{Stepped, step}
 use Rattle.cs_types.specs.Selection.{cookie_of, Scheduled}
 use Rattle.std.specs.Global.{Vec}
 use Rattle.std.specs.Vec.{with_items}
@@ -19,16 +19,16 @@ use Rattle.std.proofs.Math.Seq.{map-set_same}
 use Rattle.std.proofs.lemmas.Bool.{cond_both, cond-false, ne_eqb, eqb-true}
 use Rattle.forceidle_account.specs.Charges.{Charges, has_total}
 use Rattle.cs_types.specs.declared.task.TaskSpec.{TaskSpec}
-use Rattle.cs_types.specs.Scenario.{IsTask, IsPolicy, AreDistinct}
+use Rattle.cs_types.specs.Scenario.{IsTask, IsPolicy, AreDistinct, IsWithin}
 use Rattle.cs_types.specs.Room.{RoomState, first_pid, asleep, inserted, asleep_tasks, absent, has_pid}
-use Rattle.task_table.specs.Table.{Table, Rises, add_answer}
+use Rattle.task_table.specs.Table.{Table, Rises, add_answer, IsSound as IsTable}
 use Rattle.task_table.specs.declared.fault.AddFault.{AddFault}
 use Rattle.cs_types.proofs.Foremost.{find_passes}
 use Rattle.cs_types.proofs.Inserted.{All-inserted, each-inserted}
 use Rattle.cs_types.proofs.Tasks.{length-asleep_tasks, below_first_pid}
 use Rattle.task_table.proofs.Tables.{changed_each}
 use Rattle.cookie_refs.specs.Refs.{Refs, references, AgreeBut}
-use Rattle.plain_room.specs.State.{Beside, beside_after, sibling_state, IsFit, Knows, IsSound, room_of, numbers_of, took, booked, IsBooked, numbers_after, Schedules, ChargesAndSchedules, MakesStep}
+use Rattle.plain_room.specs.State.{Beside, beside_after, sibling_state, IsFit, Knows, IsSound, StaysBut, room_of, numbers_of, took, booked, IsBooked, numbers_after, Schedules, ChargesAndSchedules, MakesStep, Makes, is_fresh_by}
 use Rattle.plain_room.specs.declared.state.State.{State}
 use Rattle.plain_room.specs.declared.choice.Choice.{Choice}
 use Rattle.plain_room.specs.Choice.{task_after_choices}
@@ -98,7 +98,8 @@ knows-alike state task old found spec cookie home = record {
   old = old;
   there = found;
   cookie = cookie;
-  fits = λ count sound.
+  fits = λ sound.
+      let count = length state.siblings.items in
       let fit = found_fits count state.next_pid task.spec.pid state.tasks.tasks old sound.tasks found in
       record {
         pid = subst (λ (s : TaskSpec). 0 < s.pid) (sym spec) fit.pid;
@@ -115,13 +116,13 @@ knows-inserted state task old found cookie home policy = record {
   old = old;
   there = found;
   cookie = cookie;
-  fits = λ count sound.
-      let fit = found_fits count state.next_pid task.spec.pid state.tasks.tasks old sound.tasks found in
+  fits = λ sound.
+      let fit = found_fits (length state.siblings.items) state.next_pid task.spec.pid state.tasks.tasks old sound.tasks found in
       let pid = found_pid task.spec.pid state.tasks.tasks old found in
       record {
         pid = subst (λ n. 0 < n) pid fit.pid;
         below = subst (λ n. n < state.next_pid) pid fit.below;
-        home = subst (λ n. task.home < n) sound.siblings home;
+        home = home;
         policy = policy;
       };
 }
@@ -239,12 +240,45 @@ added_ok table specs limit i d answer tasks same is distinct below few =
 
 -- something beside a state: what is said of the state with anything beside it is said with this
 pub some_beside : Beside
-some_beside = record { user_top = 0; intervals = [] }
+some_beside = record { intervals = [] }
+
+-- what stays through two changes stays through both
+pub both_stay : {held : ℕ} {old mid new : State} → StaysBut held old mid → StaysBut held mid new → StaysBut held old new
+both_stay first second = record { sound = λ sound. second.sound (first.sound sound); siblings = second.siblings ∙ first.siblings }
+
+-- and where nothing changes
+pub same_stays : {held : ℕ} {state : State} → StaysBut held state state
+same_stays = record { sound = λ sound. sound; siblings = refl }
+
+-- tasks that fit so many siblings fit as many others
+pub fit-as_many : (next : ℕ) (tasks : List Task) {old new : ℕ} → new ≡ old → All (IsFit old next) tasks → All (IsFit new next) tasks
+fit-as_many next tasks same fit = subst (λ count. All (IsFit count next) tasks) (sym same) fit
+
+-- So a state stays sound where it has as many siblings, and the same tasks, limits, totals and references.
+pub alike_stays : {held : ℕ} (old new : State) → length new.siblings.items ≡ length old.siblings.items → new.tasks ≡ old.tasks →
+    new.task_limit ≡ old.task_limit → new.user_top ≡ old.user_top → new.next_pid ≡ old.next_pid → new.totals ≡ old.totals → new.refs ≡ old.refs →
+    StaysBut held old new
+alike_stays {held} old new as_many tasks limit top pid totals refs = record {
+  sound = λ sound. record {
+    table = subst IsTable (sym tasks) sound.table;
+    limit = ap (λ (t : Table). t.limit) tasks ∙ sound.limit ∙ sym limit;
+    few_tasks = subst (λ n. n ≤ 256) (sym limit) sound.few_tasks;
+    user_top = subst (λ n. IsWithin 8192 9223372036854775807 n) (sym top) sound.user_top;
+    tasks = fit-as_many new.next_pid new.tasks.tasks as_many
+        (subst (λ n. All (IsFit (length old.siblings.items) n) new.tasks.tasks) (sym pid)
+        (subst (λ (t : Table). All (IsFit (length old.siblings.items) old.next_pid) t.tasks) (sym tasks) sound.tasks));
+    known = subst (λ (t : Table). All (λ (task : Task). IsTrue (has_total new.totals task.spec.pid)) t.tasks) (sym tasks)
+        (subst (λ (charges : Charges). All (λ (task : Task). IsTrue (has_total charges task.spec.pid)) old.tasks.tasks) (sym totals) sound.known);
+    low_pids = λ n has. subst (λ high. n < high) (sym pid) (sound.low_pids n (subst (λ (charges : Charges). IsTrue (has_total charges n)) totals has));
+    refs = subst (λ (t : Table). AgreeBut new.refs t.tasks held) (sym tasks) (subst (λ (r : Refs). AgreeBut r old.tasks.tasks held) (sym refs) sound.refs);
+  };
+  siblings = as_many;
+}
 
 -- the policies of a sound state keep their limits
-pub policies : (count : ℕ) (state : State) → IsSound count state → All (λ task. IsPolicy task.spec.policy) state.tasks.tasks
-policies count state sound =
-    All-weaker (IsFit count state.next_pid) (λ (task : Task). IsPolicy task.spec.policy) (λ task fit. fit.policy) state.tasks.tasks sound.tasks
+pub policies : (state : State) → IsSound state → All (λ task. IsPolicy task.spec.policy) state.tasks.tasks
+policies state sound =
+    All-weaker (IsFit (length state.siblings.items) state.next_pid) (λ (task : Task). IsPolicy task.spec.policy) (λ task fit. fit.policy) state.tasks.tasks sound.tasks
 
 -- a charging schedule by one change is one by another that does the same in the old room
 pub ChargesAndSchedules-same : (old new : State) (cpu : ℕ) (chosen : Pick) (change other : RoomState → Scheduled) →
@@ -255,6 +289,7 @@ ChargesAndSchedules-same old new cpu chosen change other same schedules =
       room = λ beside. subst (λ (made : Scheduled). room_of (beside_after beside made.room) new ≡ made.room) (sym (same beside)) (schedules.room beside);
       numbers = λ beside kept. schedules.numbers beside kept
           ∙ ap (λ (made : Scheduled). took cpu chosen (booked made.room (numbers_of old))) (sym (same beside));
+      stays = schedules.stays;
     }
 
 -- the state stands for a room of which it has all but what is beside it
@@ -302,4 +337,19 @@ Schedules-same old new cpu chosen change other same schedules =
       pick = λ beside. schedules.pick beside ∙ ap (λ (made : Scheduled). made.pick) (sym (same beside));
       room = λ beside. schedules.room beside ∙ ap (λ (made : Scheduled). made.room) (sym (same beside));
       numbers = schedules.numbers;
+      stays = schedules.stays;
     }
+
+-- An event that changes nothing, and is to change nothing, makes its step.
+pub leaves_all : (state : State) (event : Event) (answer : Reply) →
+    ((beside : Beside) → numbers_of state ≡ numbers_after (room_of beside state) event answer (numbers_of state)) →
+    ((beside : Beside) → record { reply = answer; room = room_of beside state } ≡ step (room_of beside state) (is_fresh_by (numbers_of state)) event) →
+    Makes state state event answer
+leaves_all state event answer numbers made = record {
+  step = λ beside. uncharged (record {
+    reply = ap (λ (m : Stepped). m.reply) (made beside);
+    room = ap (λ (m : Stepped). m.room) (made beside);
+    numbers = numbers beside;
+  });
+  stays = same_stays;
+}

@@ -6,7 +6,7 @@ use Rattle.cs_types.specs.Selection.{is_run}
 use Rattle.cs_types.specs.Prctl.{Setting, with_cookies}
 use Rattle.cs_types.specs.Touches.{setting_touches}
 use Rattle.plain_room.specs.declared.state.State.{State}
-use Rattle.plain_room.specs.State.{numbers_of, touched, Becomes}
+use Rattle.plain_room.specs.State.{numbers_of, touched, Becomes, StaysBut}
 
 -- these tasks get the cookie
 abbrev pub setting : List Task → ℕ → Setting
@@ -20,3 +20,4 @@ flagged_for pid sibling = record sibling { pending = sibling.pending || is_run s
 pub record SetsCookies (old new : State) (tasks : List Task) (cookie : ℕ) : Type 0 where
   pub room : Becomes old new (λ room. with_cookies room (setting tasks cookie))
   pub numbers : numbers_of new ≡ touched (setting_touches (setting tasks cookie)) (numbers_of old)
+  pub stays : StaysBut cookie old new

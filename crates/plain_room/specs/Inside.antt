@@ -27,7 +27,7 @@ most_entries scenario = length scenario.steps + scenario.siblings * scenario.sib
 
 -- what is beside the state after a history
 abbrev pub beside_at : Scenario → List Entry → Beside
-beside_at scenario history = record { user_top = scenario.user_top; intervals = (fold_of scenario history).intervals }
+beside_at scenario history = record { intervals = (fold_of scenario history).intervals }
 
 -- the entries are the history of their steps, and the state is its fold
 pub record IsFold (room : Inside) : Type 0 where
@@ -36,10 +36,9 @@ pub record IsFold (room : Inside) : Type 0 where
   pub history : room.entries.items ≡ history_of room.scenario (steps_of room.entries.items)
   pub fold : room_of (beside_at room.scenario room.entries.items) room.state ≡ fold_of room.scenario room.entries.items
   pub numbers : numbers_of room.state ≡ numbers_at room.scenario (most_entries room.scenario) (moment_of room.scenario room.entries.items)
-  pub sound : IsSound room.scenario.siblings room.state
-  -- so no task that ends takes memory
-  pub room_for_ended : vec_capacity room.entries ≤ vec_capacity room.state.ended
+  pub sound : IsSound room.state
+  pub siblings : length room.state.siblings.items ≡ room.scenario.siblings
   -- no advance is above one second
   pub slow : room.state.clock ≤ 1000000000 * vec_len room.entries
-  -- so no stamp, cookie, number or time overflows, and each child has a place for its total
+  -- so no stamp, cookie, number or time overflows, each child has a place for its total, and no task that ends takes memory
   pub few_entries : vec_capacity room.entries ≤ most_entries room.scenario

@@ -7,7 +7,7 @@ use Rattle.cs_types.specs.Step.{child_of, with_child}
 use Rattle.fork_inherit.specs.declared.forking.ForkFault.{ForkFault}
 use Rattle.fork_inherit.specs.declared.forking.ForkFault.TheVariants.{NoCaller, Eagain}
 use Rattle.plain_room.specs.declared.state.State.{State}
-use Rattle.plain_room.specs.State.{Has, StaysSound, Becomes, numbers_of}
+use Rattle.plain_room.specs.State.{Has, Changes}
 
 -- whether a fork by the task is refused
 abbrev pub is_refused : State → Task → Bool
@@ -17,15 +17,8 @@ is_refused state by = (length state.tasks.tasks == state.tasks.limit) || (class_
 pub record IsBorn (old new : State) (by : Task) (thread : Bool) (child : Task) : Type 0 where
   pub allowed : is_refused old by ≡ false
   pub is : child ≡ child_of by thread old.next_pid
-  pub room : Becomes old new (λ room. with_child room child)
   pub there : Has new child
-  pub sound : StaysSound old new
-  pub numbers : numbers_of new ≡ numbers_of old
-  pub siblings : new.siblings ≡ old.siblings
-  pub ended : new.ended ≡ old.ended
-  pub stamp : new.next_stamp ≡ old.next_stamp
-  pub touches : new.task_number ≡ old.task_number
-  pub clock : new.clock ≡ old.clock
+  pub changes : Changes old new (λ room. with_child room child)
 
 -- a child of the task with the pid was made, or none, and then nothing changed
 abbrev pub MakesChild : State → State → ℕ → Bool → Result Task ForkFault → Type 0

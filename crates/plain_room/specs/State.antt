@@ -1,5 +1,5 @@
 -- What the lists of the state stand for.
-use Rattle.std.specs.Prelude.{◌≡◌, ℕ, ◌+◌, ◌^◌, ◌*◌, ◌≤◌, ◌<◌, ◌&&◌, ◌||◌, ◌==◌, nat_lt, Bool, if◌then◌else◌, List, length, map, find, Some, All, IsTrue, slice_set, is_some, unwrap_or}
+use Rattle.std.specs.Prelude.{◌≡◌, ℕ, ◌+◌, ◌^◌, ◌*◌, ◌≤◌, ◌<◌, ◌&&◌, ◌||◌, ◌==◌, nat_lt, Bool, if◌then◌else◌, List, length, map, find, Some, All, IsTrue, slice_set, is_some, unwrap_or, vec_len, vec_capacity}
 use Rattle.std.specs.List.{range_with_len}
 use Rattle.std.specs.Option.{option_map_or}
 use Rattle.cs_types.specs.declared.event.Event.{Event}
@@ -9,7 +9,7 @@ use Rattle.cs_types.specs.declared.reply.Reply.{Reply}
 use Rattle.cs_types.specs.declared.task.Task.{Task}
 use Rattle.cs_types.specs.declared.scenario.Scenario.{Scenario}
 use Rattle.cs_types.specs.declared.view.CpuView.{CpuView}
-use Rattle.cs_types.specs.Scenario.{IsPolicy}
+use Rattle.cs_types.specs.Scenario.{IsPolicy, IsWithin}
 use Rattle.cs_types.specs.Room.{SiblingState, RoomState, Interval, first_pid, has_pid}
 use Rattle.task_table.specs.Table.{IsSound as IsTable}
 use Rattle.cookie_refs.specs.Refs.{AgreeBut}
@@ -45,14 +45,13 @@ abbrev pub sibling_view : Sibling → CpuView
 sibling_view sibling =
     record { online = sibling.online; run = unwrap_or sibling.run 0; number = sibling.number; pending = sibling.pending }
 
--- what a room has and its state does not keep: the limit of user addresses, and the recorded intervals
+-- what a room has and its state does not keep: the recorded intervals
 pub record Beside : Type 0 where
-  pub user_top : ℕ
   pub intervals : List Interval
 
--- the same with the intervals of this room
+-- those of this room
 abbrev pub beside_after : Beside → RoomState → Beside
-beside_after beside room = record beside { intervals = room.intervals }
+beside_after beside room = record { intervals = room.intervals }
 
 -- the room that the state stands for, with what is beside it
 abbrev pub room_of : Beside → State → RoomState
@@ -60,7 +59,7 @@ room_of beside state =
     record {
       task_limit = state.tasks.limit;
       cookie_limit = state.refs.limit;
-      user_top = beside.user_top;
+      user_top = state.user_top;
       clock = state.clock;
       tasks = state.tasks.tasks;
       ended = state.ended.items;
@@ -102,30 +101,67 @@ pub record IsPaid (state : State) : Type 0 where
   pub intervals : state.account.intervals < 2 ^ 63
   pub totals : (pid : ℕ) → total_at state.totals pid ≤ 255 * unwrap_or state.account.started state.clock
 
--- there is this number of siblings, each task fits them and has a total, no pid with a total is given again, and the references
--- are those of the tasks, and one more for a cookie that is held beside them
-pub record IsSoundBut (count : ℕ) (state : State) (held : ℕ) : Type 0 where
-  pub siblings : length state.siblings.items ≡ count
+-- what always holds of a state: at most 256 tasks live; each task fits the siblings and has a total; no pid with a total is given
+-- again; and the references are those of the tasks, and one more for a cookie that is held beside them
+pub record IsSoundBut (state : State) (held : ℕ) : Type 0 where
   pub table : IsTable state.tasks
-  pub tasks : All (IsFit count state.next_pid) state.tasks.tasks
+  pub limit : state.tasks.limit ≡ state.task_limit
+  pub few_tasks : state.task_limit ≤ 256
+  pub user_top : IsWithin 8192 9223372036854775807 state.user_top
+  pub tasks : All (IsFit (length state.siblings.items) state.next_pid) state.tasks.tasks
   pub known : All (λ task. IsTrue (has_total state.totals task.spec.pid)) state.tasks.tasks
   pub low_pids : (pid : ℕ) → IsTrue (has_total state.totals pid) → pid < state.next_pid
   pub refs : AgreeBut state.refs state.tasks.tasks held
 
 -- the same with no cookie held beside them
-abbrev pub IsSound : ℕ → State → Type 0
-IsSound count state = IsSoundBut count state 0
+abbrev pub IsSound : State → Type 0
+IsSound state = IsSoundBut state 0
 
 -- the state has a task with this one's pid and cookie, and this one fits in its place
 pub record Knows (state : State) (task : Task) : Type 0 where
   pub old : Task
   pub there : find (has_pid task.spec.pid) state.tasks.tasks ≡ Some old
   pub cookie : task.cookie ≡ old.cookie
-  pub fits : (count : ℕ) → IsSound count state → IsFit count state.next_pid task
+  pub fits : IsSound state → IsFit (length state.siblings.items) state.next_pid task
 
--- the state stays sound
-abbrev pub StaysSound : State → State → Type 0
-StaysSound old new = (count : ℕ) → IsSound count old → IsSound count new
+-- the state stays sound, and keeps the number of its siblings
+pub record StaysBut (held : ℕ) (old new : State) : Type 0 where
+  pub sound : IsSoundBut old held → IsSoundBut new held
+  pub siblings : length new.siblings.items ≡ length old.siblings.items
+
+abbrev pub Stays : State → State → Type 0
+Stays old new = StaysBut 0 old new
+
+-- ---- what an event needs
+
+-- what an event may use up: touches, stamps, a cookie's serial, a pid, a place for a total and one among the ended, and a balance
+-- place
+pub record HasSpares (state : State) : Type 0 where
+  pub touches : state.task_number + 2 * length state.tasks.tasks + 2 < 2 ^ 64
+  pub stamps : state.next_stamp + length state.tasks.tasks + 1 < 2 ^ 64
+  pub serial : state.refs.next < 2 ^ 63
+  pub pid : state.next_pid + 1 < 2 ^ 32
+  pub total : 0 < state.totals.spare
+  pub ended : vec_len state.ended < vec_capacity state.ended
+  pub places : All (λ sibling. sibling.place + 1 < 2 ^ 32) state.siblings.items
+
+-- the state may pick anew
+pub record MayPick (state : State) : Type 0 where
+  pub sound : IsSound state
+  pub time : IsOnTime state
+  pub touches : state.task_number + 1 < 2 ^ 64
+
+-- and schedule, which may charge the open interval
+pub record MaySchedule (state : State) : Type 0 where
+  pub picks : MayPick state
+  pub paid : IsPaid state
+
+-- and take an event
+pub record IsReady (state : State) : Type 0 where
+  pub sound : IsSound state
+  pub time : IsOnTime state
+  pub paid : IsPaid state
+  pub spares : HasSpares state
 
 -- the room of the new state is that of the old one after this change
 abbrev pub Becomes : State → State → (RoomState → RoomState) → Type 0
@@ -138,12 +174,13 @@ BecomesCharged old new change =
 
 -- ---- the numbers
 
--- what is kept of the recorded intervals: how many there are, what each task was charged, by its pid, and the number
--- that the next pid and the places left for totals come to, which stays
+-- what is kept of the recorded intervals: how many there are, what each task was charged, by its pid, and two numbers that
+-- stay: what the next pid and the places left for totals come to, and how many tasks may end
 pub record Books : Type 0 where
   pub intervals : ℕ
   pub totals : ℕ → ℕ
   pub places : ℕ
+  pub ends : ℕ
 
 abbrev pub books_of : State → Books
 books_of state =
@@ -151,6 +188,7 @@ books_of state =
       intervals = state.account.intervals;
       totals = λ pid. total_at state.totals pid;
       places = state.totals.spare + state.next_pid;
+      ends = vec_capacity state.ended;
     }
 
 -- the task number, the pick number, each sibling's own number, and the books
@@ -191,6 +229,7 @@ numbers_at scenario most moment =
         intervals = length moment.room.intervals;
         totals = λ pid. total_of pid moment.room.intervals;
         places = most + first_pid scenario.tasks;
+        ends = most;
       };
     }
 
@@ -214,6 +253,33 @@ took cpu pick numbers =
 abbrev pub is_fresh_by : Numbers → Bool
 is_fresh_by numbers = nat_lt 0 numbers.pick && (numbers.pick == numbers.task)
 
+-- ---- changes
+
+-- the new state is the old one after this change of the room, with the same numbers
+pub record Changes (old new : State) (change : RoomState → RoomState) : Type 0 where
+  pub room : Becomes old new change
+  pub numbers : numbers_of new ≡ numbers_of old
+  pub stays : Stays old new
+
+-- the same where it touched the queues so often
+pub record Touches (count : ℕ) (old new : State) (change : RoomState → RoomState) : Type 0 where
+  pub room : Becomes old new change
+  pub numbers : numbers_of new ≡ touched count (numbers_of old)
+  pub stays : Stays old new
+
+-- and where it charged the open interval
+pub record Charges (old new : State) (change : RoomState → RoomState) : Type 0 where
+  pub room : BecomesCharged old new change
+  pub numbers : (beside : Beside) → IsBooked (room_of beside old) old → numbers_of new ≡ booked (change (room_of beside old)) (numbers_of old)
+  pub stays : Stays old new
+
+-- and touched the queues so often then
+pub record ChargesAndTouches (count : ℕ) (old new : State) (change : RoomState → RoomState) : Type 0 where
+  pub room : BecomesCharged old new change
+  pub numbers : (beside : Beside) → IsBooked (room_of beside old) old →
+      numbers_of new ≡ touched count (booked (change (room_of beside old)) (numbers_of old))
+  pub stays : Stays old new
+
 -- ---- steps
 
 -- the new state and the pick are those of a schedule of the sibling, which a change of the room is
@@ -221,6 +287,7 @@ pub record Schedules (old new : State) (cpu : ℕ) (chosen : Pick) (change : Roo
   pub pick : (beside : Beside) → chosen ≡ (change (room_of beside old)).pick
   pub room : (beside : Beside) → room_of beside new ≡ (change (room_of beside old)).room
   pub numbers : numbers_of new ≡ took cpu chosen (numbers_of old)
+  pub stays : Stays old new
 
 -- the same of a schedule that charges the open interval, unless it adopts
 pub record ChargesAndSchedules (old new : State) (cpu : ℕ) (chosen : Pick) (change : RoomState → Scheduled) : Type 0 where
@@ -228,6 +295,7 @@ pub record ChargesAndSchedules (old new : State) (cpu : ℕ) (chosen : Pick) (ch
   pub room : BecomesCharged old new (λ room. (change room).room)
   pub numbers : (beside : Beside) → IsBooked (room_of beside old) old →
       numbers_of new ≡ took cpu chosen (booked (change (room_of beside old)).room (numbers_of old))
+  pub stays : Stays old new
 
 -- each sibling's own number: that of the one whose pick of a selection for the core this is becomes the pick number
 abbrev pub own_after : Event → Reply → ℕ → List ℕ → List ℕ
@@ -256,12 +324,18 @@ pub record MakesStep (beside : Beside) (old new : State) (event : Event) (answer
       numbers_of new ≡ numbers_after (room_of beside old) event answer (booked made.room (numbers_of old))
 
 -- those of the event's step from the old one
-abbrev pub Makes : Beside → State → State → Event → Reply → Type 0
-Makes beside old new event answer =
+abbrev pub MakesBeside : Beside → State → State → Event → Reply → Type 0
+MakesBeside beside old new event answer =
     MakesStep beside old new event answer (step (room_of beside old) (is_fresh_by (numbers_of old)) event)
+
+-- whatever was recorded before
+pub record Makes (old new : State) (event : Event) (answer : Reply) : Type 0 where
+  pub step : (beside : Beside) → MakesBeside beside old new event answer
+  pub stays : Stays old new
 
 -- the new state and the reply are those of a steal try of the sibling
 pub record TriesToSteal (old new : State) (thief : ℕ) (answer : Reply) : Type 0 where
   pub reply : (beside : Beside) → answer ≡ (try_steal (room_of beside old) thief (stolen (room_of beside old) thief)).reply
   pub room : (beside : Beside) → room_of beside new ≡ (try_steal (room_of beside old) thief (stolen (room_of beside old) thief)).room
   pub numbers : (beside : Beside) → numbers_of new ≡ numbers_after (room_of beside old) (Turn thief) answer (numbers_of old)
+  pub stays : Stays old new

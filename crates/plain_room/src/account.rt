@@ -1,12 +1,12 @@
 //! What is charged for forced idle, and to whom. It is a file of its own since a tick, a sleep, an end and
 //! a schedule all charge.
 
-ghost use Rattle.std.specs.Prelude.{ℕ, true, length, IfOk, ◌≡◌, ◌+◌, ◌^◌, ◌<◌, ◌&&◌, ◌==◌, not, if◌then◌else◌, All, IsTrue};
+ghost use Rattle.std.specs.Prelude.{ℕ, true, IfOk, ◌≡◌, ◌+◌, ◌^◌, ◌<◌, ◌&&◌, ◌==◌, not, if◌then◌else◌, All, IsTrue};
 ghost use Rattle.std.specs.List.{list_any};
 ghost use Rattle.cs_types.specs.Accounting.{charge};
 ghost use Rattle.cs_types.specs.Room.{has_pid};
 ghost use Rattle.forceidle_account.specs.Charges.{has_total, total_at};
-ghost use Rattle.plain_room.specs.State.{Beside, room_of, IsSound, IsPaid, StaysSound, BecomesCharged, IsBooked, numbers_of, booked};
+ghost use Rattle.plain_room.specs.State.{IsSound, IsPaid, Charges};
 ghost use Rattle.plain_room.specs.Account.{is_charged, is_charged_as};
 
 use crate::sibling::Sibling;
@@ -73,14 +73,9 @@ fn charge_tasks(totals: &mut Totals, tasks: &TaskTable, siblings: &[Sibling], sh
 impl State {
     /// The open interval is charged up to now, if one is open and time has passed.
     pub fn charge(&mut self)
-        requires sound { IsSound (length self.old.siblings.items) self.old }
+        requires sound { IsSound self.old }
         requires paid { IsPaid self.old }
-        ensures room { BecomesCharged self.old self.new charge }
-        ensures sound { StaysSound self.old self.new }
-        ensures siblings { self.new.siblings ≡ self.old.siblings }
-        ensures numbers { (beside : Beside) → IsBooked (room_of beside self.old) self.old →
-            numbers_of self.new ≡ booked (charge (room_of beside self.old)) (numbers_of self.old) }
-        ensures ended { self.new.ended ≡ self.old.ended }
+        ensures charges { Charges self.old self.new charge }
         ensures rest { self.new ≡ record self.old { account = self.new.account; totals = self.new.totals } }
     {
         if let Some(share) = self.account.charge(self.clock) {

@@ -2,12 +2,11 @@
 
 ghost use Rattle.std.specs.Prelude.{◌≡◌, ◌+◌, ◌*◌, ◌^◌, ◌<◌, ◌≤◌, ◌∷◌, [], length, map, IfSome, IfNone};
 ghost use Rattle.cs_types.specs.declared.event.Event.TheVariants.{Prctl};
-ghost use Rattle.cs_types.specs.Scenario.{IsWithin};
 ghost use Rattle.cs_types.specs.Room.{online as siblings_online};
 ghost use Rattle.cs_types.specs.Touches.{cookie_touches};
 ghost use Rattle.task_table.specs.Group.{group_above};
 ghost use Rattle.prctl_core.specs.Plan.{named};
-ghost use Rattle.plain_room.specs.State.{Beside, sibling_state, room_of, Has, IsSound, IsSoundBut, StaysSound, numbers_of, Makes};
+ghost use Rattle.plain_room.specs.State.{Beside, sibling_state, room_of, Has, IsSoundBut, IsReady, Makes};
 ghost use Rattle.plain_room.specs.Cookies.{flagged_for, SetsCookies};
 
 use crate::sibling::Sibling;
@@ -40,7 +39,6 @@ fn touches(task: &Task, cookie: Cookie) -> u64
 impl State {
     /// How many siblings are online.
     pub fn online_count(&self) -> u8
-        requires { length self.now.siblings.items ≤ 16 }
         ensures { (beside : Beside) → result ≡ length (siblings_online (room_of beside self.now)) }
     {
         self.siblings
@@ -52,12 +50,10 @@ impl State {
     /// The task has the cookie, with a reference of its own, and where it runs its sibling becomes
     /// pending.
     fn set_cookie(&mut self, task: Task, cookie: Cookie)
-        requires sound { IsSoundBut (length self.old.siblings.items) self.old cookie }
+        requires sound { IsSoundBut self.old cookie }
         requires there { Has self.old task }
         requires touches { self.old.task_number + 2 < 2 ^ 64 }
-        ensures sets { SetsCookies self.old self.new (task ∷ []) cookie }
-        ensures sound { IsSoundBut (length self.old.siblings.items) self.new cookie }
-        ensures ended { self.new.ended ≡ self.old.ended }
+        ensures { SetsCookies self.old self.new (task ∷ []) cookie }
     {
         self.refs.get(cookie);
         self.refs.put(task.cookie);
@@ -78,11 +74,9 @@ impl State {
 
     /// The members of the group have the cookie, by rising pid.
     fn set_group(&mut self, group: Group, cookie: Cookie)
-        requires sound { IsSoundBut (length self.old.siblings.items) self.old cookie }
+        requires sound { IsSoundBut self.old cookie }
         requires touches { self.old.task_number + 2 * length self.old.tasks.tasks + 2 < 2 ^ 64 }
-        ensures sets { SetsCookies self.old self.new (group_above group 0 self.old.tasks.tasks) cookie }
-        ensures sound { IsSoundBut (length self.old.siblings.items) self.new cookie }
-        ensures ended { self.new.ended ≡ self.old.ended }
+        ensures { SetsCookies self.old self.new (group_above group 0 self.old.tasks.tasks) cookie }
     {
         let mut after = 0;
         for _ in 0..self.tasks.len() {
@@ -96,11 +90,9 @@ impl State {
 
     /// The tasks that the target names have the cookie.
     fn set_cookies(&mut self, to: Target, cookie: Cookie)
-        requires sound { IsSoundBut (length self.old.siblings.items) self.old cookie }
+        requires sound { IsSoundBut self.old cookie }
         requires touches { self.old.task_number + 2 * length self.old.tasks.tasks + 2 < 2 ^ 64 }
-        ensures sets { SetsCookies self.old self.new (named to self.old.tasks.tasks) cookie }
-        ensures sound { IsSoundBut (length self.old.siblings.items) self.new cookie }
-        ensures ended { self.new.ended ≡ self.old.ended }
+        ensures { SetsCookies self.old self.new (named to self.old.tasks.tasks) cookie }
     {
         match to {
             Target::Nobody => {}
@@ -114,17 +106,10 @@ impl State {
         }
     }
 
-    /// A call of `prctl(PR_SCHED_CORE, ..)` by the task with the pid, in an address space of this size.
-    pub fn prctl(&mut self, user_top: u64, pid: Pid, ask: Ask) -> Reply
-        requires user_top { IsWithin 8192 9223372036854775807 user_top }
-        requires few { length self.old.siblings.items ≤ 16 }
-        requires sound { IsSound (length self.old.siblings.items) self.old }
-        requires touches { self.old.task_number + 2 * length self.old.tasks.tasks + 2 < 2 ^ 64 }
-        requires serial { self.old.refs.next < 2 ^ 63 }
-        ensures makes { (beside : Beside) → beside.user_top ≡ user_top →
-            Makes beside self.old self.new (Prctl pid ask) result }
-        ensures sound { StaysSound self.old self.new }
-        ensures ended { self.new.ended ≡ self.old.ended }
+    /// A call of `prctl(PR_SCHED_CORE, ..)` by the task with the pid.
+    pub fn prctl(&mut self, pid: Pid, ask: Ask) -> Reply
+        requires ready { IsReady self.old }
+        ensures { Makes self.old self.new (Prctl pid ask) result }
     {
         let online = self.online_count();
         let planned = plan(
@@ -132,7 +117,7 @@ impl State {
             &mut self.refs,
             &mut self.guards,
             online,
-            user_top,
+            self.user_top,
             pid,
             &ask,
         );

@@ -1,32 +1,24 @@
 //! What each event does to the state.
 
-ghost use Rattle.std.specs.Prelude.{◌≡◌, ◌+◌, ◌*◌, ◌^◌, ◌<◌, ◌≤◌, Some, All, length, vec_len, vec_capacity};
-ghost use Rattle.cs_types.specs.Scenario.{IsWithin, IsPolicy, IsEvent};
+ghost use Rattle.std.specs.Prelude.{◌≡◌, ◌+◌, ◌^◌, ◌<◌, Some, length};
+ghost use Rattle.cs_types.specs.Scenario.{IsPolicy, IsEvent};
 ghost use Rattle.cs_types.specs.Room.{sibling_of, flagged};
 ghost use Rattle.cs_types.specs.Selection.{is_run};
 ghost use Rattle.cs_types.specs.Queueing.{dequeued, queued_at_home};
-ghost use Rattle.plain_room.specs.State.{Beside, room_of, Knows, IsSound, IsOnTime, IsPaid, StaysSound, Becomes, numbers_of, touched, Makes};
+ghost use Rattle.plain_room.specs.State.{Beside, room_of, Knows, IsReady, Touches, Makes};
 ghost use Rattle.cs_types.specs.Step.{child_at_home};
 
 use crate::state::State;
 use crate::task::with_policy;
-use cs_types::{Cpu, Errno, Event, Pid, Policy, Reply, Scenario, Task};
+use cs_types::{Cpu, Errno, Event, Pid, Policy, Reply, Task};
 use fork_inherit::{ForkFault, has_threads};
 
 impl State {
     /// A pending reschedule is taken. Else the sibling tries to steal, where it is to.
     fn turn(&mut self, cpu: Cpu) -> Reply
         requires cpu { cpu < length self.old.siblings.items }
-        requires few { length self.old.siblings.items ≤ 16 }
-        requires sound { IsSound (length self.old.siblings.items) self.old }
-        requires time { IsOnTime self.old }
-        requires paid { IsPaid self.old }
-        requires places { All (λ sibling. sibling.place + 1 < 2 ^ 32) self.old.siblings.items }
-        requires stamp { self.old.next_stamp + 1 < 2 ^ 64 }
-        requires touches { self.old.task_number + 2 < 2 ^ 64 }
-        ensures makes { (beside : Beside) → Makes beside self.old self.new (Event.Turn cpu) result }
-        ensures sound { StaysSound self.old self.new }
-        ensures ended { self.new.ended ≡ self.old.ended }
+        requires ready { IsReady self.old }
+        ensures { Makes self.old self.new (Event.Turn cpu) result }
     {
         if !self.is_online(cpu) {
             return Reply::Offline;
@@ -43,14 +35,8 @@ impl State {
     /// The sibling schedules.
     fn resched(&mut self, cpu: Cpu) -> Reply
         requires cpu { cpu < length self.old.siblings.items }
-        requires few { length self.old.siblings.items ≤ 16 }
-        requires sound { IsSound (length self.old.siblings.items) self.old }
-        requires time { IsOnTime self.old }
-        requires paid { IsPaid self.old }
-        requires touches { self.old.task_number + 1 < 2 ^ 64 }
-        ensures makes { (beside : Beside) → Makes beside self.old self.new (Event.Resched cpu) result }
-        ensures sound { StaysSound self.old self.new }
-        ensures ended { self.new.ended ≡ self.old.ended }
+        requires ready { IsReady self.old }
+        ensures { Makes self.old self.new (Event.Resched cpu) result }
     {
         if !self.is_online(cpu) {
             return Reply::Offline;
@@ -61,15 +47,9 @@ impl State {
     /// The running task goes to sleep, and its sibling takes the next. The open interval is charged while the
     /// task still runs.
     fn block(&mut self, cpu: Cpu) -> Reply
-        requires sound { IsSound (length self.old.siblings.items) self.old }
-        requires time { IsOnTime self.old }
-        requires paid { IsPaid self.old }
         requires cpu { cpu < length self.old.siblings.items }
-        requires few { length self.old.siblings.items ≤ 16 }
-        requires touches { self.old.task_number + 2 < 2 ^ 64 }
-        ensures makes { (beside : Beside) → Makes beside self.old self.new (Event.Block cpu) result }
-        ensures sound { StaysSound self.old self.new }
-        ensures ended { self.new.ended ≡ self.old.ended }
+        requires ready { IsReady self.old }
+        ensures { Makes self.old self.new (Event.Block cpu) result }
     {
         if !self.is_online(cpu) {
             return Reply::Offline;
@@ -88,14 +68,8 @@ impl State {
 
     /// A sleeping task is queued at its home.
     fn wake(&mut self, pid: Pid) -> Reply
-        requires few { length self.old.siblings.items ≤ 16 }
-        requires sound { IsSound (length self.old.siblings.items) self.old }
-        requires time { IsOnTime self.old }
-        requires stamp { self.old.next_stamp + 1 < 2 ^ 64 }
-        requires touches { self.old.task_number + 1 < 2 ^ 64 }
-        ensures makes { (beside : Beside) → Makes beside self.old self.new (Event.Wake pid) result }
-        ensures sound { StaysSound self.old self.new }
-        ensures ended { self.new.ended ≡ self.old.ended }
+        requires ready { IsReady self.old }
+        ensures { Makes self.old self.new (Event.Wake pid) result }
     {
         let Some(task) = self.task_of(pid) else {
             return Reply::NoTask;
@@ -110,16 +84,9 @@ impl State {
 
     /// The running task ends, unless it leads others, and its sibling takes the next.
     fn exit(&mut self, cpu: Cpu) -> Reply
-        requires sound { IsSound (length self.old.siblings.items) self.old }
-        requires time { IsOnTime self.old }
-        requires paid { IsPaid self.old }
         requires cpu { cpu < length self.old.siblings.items }
-        requires few { length self.old.siblings.items ≤ 16 }
-        requires touches { self.old.task_number + 2 < 2 ^ 64 }
-        requires spare { vec_len self.old.ended < vec_capacity self.old.ended }
-        ensures makes { (beside : Beside) → Makes beside self.old self.new (Event.Exit cpu) result }
-        ensures sound { StaysSound self.old self.new }
-        ensures ended { vec_capacity self.new.ended ≡ vec_capacity self.old.ended }
+        requires ready { IsReady self.old }
+        ensures { Makes self.old self.new (Event.Exit cpu) result }
     {
         if !self.is_online(cpu) {
             return Reply::Offline;
@@ -142,8 +109,7 @@ impl State {
     /// The child is at home where its caller is, or on another sibling where that is offline, and has the
     /// least virtual time of its queue, whatever its class.
     fn child_at_home(&self, child: Task) -> Task
-        requires home { child.home < length self.now.siblings.items }
-        requires few { length self.now.siblings.items ≤ 16 }
+        requires { child.home < length self.now.siblings.items }
         ensures child_at_home { (beside : Beside) → result ≡ child_at_home (room_of beside self.now) child }
         ensures within { result.home < length self.now.siblings.items }
     {
@@ -156,20 +122,11 @@ impl State {
     }
 
     /// A task makes a child, which is queued at its home.
-    fn fork(&mut self, limit: u16, caller: Pid, thread: bool) -> Reply
-        requires few { length self.old.siblings.items ≤ 16 }
-        requires sound { IsSound (length self.old.siblings.items) self.old }
-        requires time { IsOnTime self.old }
-        requires limit { self.old.tasks.limit ≡ limit }
-        requires stamp { self.old.next_stamp + 1 < 2 ^ 64 }
-        requires places { 0 < self.old.totals.spare }
-        requires pid { self.old.next_pid + 1 < 2 ^ 32 }
-        requires touches { self.old.task_number + 1 < 2 ^ 64 }
-        ensures makes { (beside : Beside) → Makes beside self.old self.new (Event.Fork caller thread) result }
-        ensures sound { StaysSound self.old self.new }
-        ensures ended { self.new.ended ≡ self.old.ended }
+    fn fork(&mut self, caller: Pid, thread: bool) -> Reply
+        requires ready { IsReady self.old }
+        ensures { Makes self.old self.new (Event.Fork caller thread) result }
     {
-        match self.make_child(limit, caller, thread) {
+        match self.make_child(caller, thread) {
             Ok(child) => {
                 self.queue_at_home(self.child_at_home(child));
                 Reply::Child(child.spec.pid)
@@ -185,14 +142,10 @@ impl State {
         requires home { task.home < length self.old.siblings.items }
         requires policy { IsPolicy task.spec.policy }
         requires clock { self.old.clock + 1000000000 < 2 ^ 56 }
-        requires sound { IsSound (length self.old.siblings.items) self.old }
         requires stamp { self.old.next_stamp + 1 < 2 ^ 64 }
         requires touches { self.old.task_number + 2 < 2 ^ 64 }
-        ensures room { Becomes self.old self.new (λ room. flagged (queued_at_home (dequeued room task) task)
+        ensures { Touches 2 self.old self.new (λ room. flagged (queued_at_home (dequeued room task) task)
             task.home (is_run (sibling_of room task.home).run (Some task.spec.pid))) }
-        ensures sound { StaysSound self.old self.new }
-        ensures numbers { numbers_of self.new ≡ touched 2 (numbers_of self.old) }
-        ensures ended { self.new.ended ≡ self.old.ended }
     {
         let runs = self.siblings[task.home as usize].runs(task.spec.pid);
         self.dequeue(task);
@@ -203,13 +156,8 @@ impl State {
     /// A task gets another policy, and has used nothing of its slice.
     fn set_policy(&mut self, pid: Pid, policy: Policy) -> Reply
         requires policy { IsPolicy policy }
-        requires sound { IsSound (length self.old.siblings.items) self.old }
-        requires clock { self.old.clock + 1000000000 < 2 ^ 56 }
-        requires stamp { self.old.next_stamp + 1 < 2 ^ 64 }
-        requires touches { self.old.task_number + 2 < 2 ^ 64 }
-        ensures makes { (beside : Beside) → Makes beside self.old self.new (Event.SetSched pid policy) result }
-        ensures sound { StaysSound self.old self.new }
-        ensures ended { self.new.ended ≡ self.old.ended }
+        requires ready { IsReady self.old }
+        ensures { Makes self.old self.new (Event.SetSched pid policy) result }
     {
         let Some(task) = self.task_of(pid) else {
             return Reply::NoTask;
@@ -224,26 +172,10 @@ impl State {
     }
 
     /// Makes the step of an event, and answers what the rules answer.
-    pub fn apply(&mut self, scenario: &Scenario, event: Event) -> Reply
+    pub fn apply(&mut self, event: Event) -> Reply
         requires event { IsEvent (length self.old.siblings.items) event }
-        requires sound { IsSound (length self.old.siblings.items) self.old }
-        requires time { IsOnTime self.old }
-        requires paid { IsPaid self.old }
-        requires places { 0 < self.old.totals.spare }
-        requires few { length self.old.siblings.items ≤ 16 }
-        requires places_to_steal { All (λ sibling. sibling.place + 1 < 2 ^ 32) self.old.siblings.items }
-        requires tasks { length self.old.tasks.tasks ≤ 256 }
-        requires stamp { self.old.next_stamp + length self.old.tasks.tasks + 1 < 2 ^ 64 }
-        requires serial { self.old.refs.next < 2 ^ 63 }
-        requires limit { self.old.tasks.limit ≡ scenario.now.task_limit }
-        requires pid { self.old.next_pid + 1 < 2 ^ 32 }
-        requires spare { vec_len self.old.ended < vec_capacity self.old.ended }
-        requires touches { self.old.task_number + 2 * length self.old.tasks.tasks + 2 < 2 ^ 64 }
-        requires user_top { IsWithin 8192 9223372036854775807 scenario.now.user_top }
-        ensures makes { (beside : Beside) → beside.user_top ≡ scenario.now.user_top →
-            Makes beside self.old self.new event result }
-        ensures sound { StaysSound self.old self.new }
-        ensures ended { vec_capacity self.new.ended ≡ vec_capacity self.old.ended }
+        requires ready { IsReady self.old }
+        ensures { Makes self.old self.new event result }
     {
         match event {
             Event::Turn(cpu) => self.turn(cpu),
@@ -253,8 +185,8 @@ impl State {
             Event::Tick(cpu) => self.tick(cpu),
             Event::Wake(pid) => self.wake(pid),
             Event::Advance(delta) => self.advance(delta),
-            Event::Fork { caller, thread } => self.fork(scenario.task_limit, caller, thread),
-            Event::Prctl { caller, ask } => self.prctl(scenario.user_top, caller, ask),
+            Event::Fork { caller, thread } => self.fork(caller, thread),
+            Event::Prctl { caller, ask } => self.prctl(caller, ask),
             Event::SetSched { pid, policy } => self.set_policy(pid, policy),
             Event::Offline(cpu) => self.offline(cpu),
             Event::Online(cpu) => self.online(cpu),

@@ -5,7 +5,8 @@ ghost use Rattle.std.specs.List.{enumerate_from};
 ghost use Rattle.cs_types.specs.declared.event.Event.TheVariants.{Offline, Online};
 ghost use Rattle.cs_types.specs.Room.{queued_on};
 ghost use Rattle.cs_types.specs.Hotplug.{lowest_other, moved_off, away, leave, back};
-ghost use Rattle.plain_room.specs.State.{Beside, sibling_state, room_of, IsSound, IsOnTime, IsPaid, StaysSound, Becomes, BecomesCharged, IsBooked, numbers_of, booked, touched, Makes};
+ghost use Rattle.plain_room.specs.State.{Beside, sibling_state, room_of, IsSound, IsOnTime, IsPaid, IsReady, Stays, Touches, ChargesAndTouches, Makes};
+ghost use Rattle.plain_room.specs.Time.{queued_among};
 ghost use Rattle.plain_room.specs.Hotplug.{left, count_before, new_stamp, with_moves};
 
 use crate::sibling::Sibling;
@@ -38,7 +39,6 @@ fn set_away(siblings: &mut [Sibling], cpu: Cpu)
 impl State {
     /// The lowest other sibling that is online.
     fn lowest_other(&self, cpu: Cpu) -> Cpu
-        requires few { length self.now.siblings.items ≤ 16 }
         requires some { 0 < length self.now.siblings.items }
         ensures lowest { (beside : Beside) → result ≡ lowest_other (room_of beside self.now) cpu }
         ensures within { result < length self.now.siblings.items }
@@ -93,13 +93,13 @@ impl State {
         requires to { (beside : Beside) → to ≡ lowest_other (room_of beside self.old) cpu }
         requires within { to < length self.old.siblings.items }
         requires stamps { stamps.now ≡ map (new_stamp self.old.tasks.tasks cpu self.old.next_stamp) self.old.tasks.tasks }
-        requires sound { IsSound (length self.old.siblings.items) self.old }
+        requires sound { IsSound self.old }
         requires time { IsOnTime self.old }
         ensures tasks { (beside : Beside) → self.new.tasks ≡ record self.old.tasks {
           tasks = map (moved_off (room_of beside self.old) cpu) self.old.tasks.tasks;
         } }
         ensures rest { self.new ≡ record self.old { tasks = self.new.tasks } }
-        ensures sound { StaysSound self.old self.new }
+        ensures stays { Stays self.old self.new }
     {
         for position in 0..self.tasks.len() as usize {
             let task = *self.tasks.at(position).unwrap();
@@ -115,19 +115,13 @@ impl State {
 
     /// The tasks queued on the sibling move to the lowest other online one, in the order of their stamps.
     fn move_off(&mut self, cpu: Cpu)
-        requires few { length self.old.siblings.items ≤ 16 }
         requires some { 0 < length self.old.siblings.items }
-        requires sound { IsSound (length self.old.siblings.items) self.old }
+        requires sound { IsSound self.old }
         requires time { IsOnTime self.old }
-        requires tasks { length self.old.tasks.tasks ≤ 256 }
         requires stamp { self.old.next_stamp + length self.old.tasks.tasks < 2 ^ 64 }
         requires touches { self.old.task_number + 2 * length self.old.tasks.tasks < 2 ^ 64 }
-        ensures room { Becomes self.old self.new (λ room. with_moves room cpu) }
-        ensures sound { StaysSound self.old self.new }
+        ensures changes { Touches (2 * length (queued_among self.old.tasks.tasks cpu)) self.old self.new (λ room. with_moves room cpu) }
         ensures siblings { self.new.siblings ≡ self.old.siblings }
-        ensures numbers { (beside : Beside) → numbers_of self.new ≡
-            touched (2 * length (queued_on (room_of beside self.old) cpu)) (numbers_of self.old) }
-        ensures ended { self.new.ended ≡ self.old.ended }
     {
         let count = self.queued_count(cpu);
         let to = self.lowest_other(cpu);
@@ -141,19 +135,8 @@ impl State {
     /// each other online sibling is pending.
     fn leave(&mut self, cpu: Cpu)
         requires cpu { cpu < length self.old.siblings.items }
-        requires few { length self.old.siblings.items ≤ 16 }
-        requires sound { IsSound (length self.old.siblings.items) self.old }
-        requires time { IsOnTime self.old }
-        requires paid { IsPaid self.old }
-        requires tasks { length self.old.tasks.tasks ≤ 256 }
-        requires stamp { self.old.next_stamp + length self.old.tasks.tasks < 2 ^ 64 }
-        requires touches { self.old.task_number + 2 * length self.old.tasks.tasks < 2 ^ 64 }
-        ensures room { BecomesCharged self.old self.new (λ room. leave room cpu) }
-        ensures sound { StaysSound self.old self.new }
-        ensures numbers { (beside : Beside) → IsBooked (room_of beside self.old) self.old → numbers_of self.new ≡
-            touched (2 * length (queued_on (room_of beside self.old) cpu))
-            (booked (leave (room_of beside self.old) cpu) (numbers_of self.old)) }
-        ensures ended { self.new.ended ≡ self.old.ended }
+        requires ready { IsReady self.old }
+        ensures { ChargesAndTouches (2 * length (queued_among self.old.tasks.tasks cpu)) self.old self.new (λ room. leave room cpu) }
     {
         self.charge();
         self.account.close();
@@ -164,16 +147,8 @@ impl State {
     /// The sibling leaves the core, unless it is offline already or the last.
     pub fn offline(&mut self, cpu: Cpu) -> Reply
         requires cpu { cpu < length self.old.siblings.items }
-        requires few { length self.old.siblings.items ≤ 16 }
-        requires sound { IsSound (length self.old.siblings.items) self.old }
-        requires time { IsOnTime self.old }
-        requires paid { IsPaid self.old }
-        requires tasks { length self.old.tasks.tasks ≤ 256 }
-        requires stamp { self.old.next_stamp + length self.old.tasks.tasks < 2 ^ 64 }
-        requires touches { self.old.task_number + 2 * length self.old.tasks.tasks < 2 ^ 64 }
-        ensures makes { (beside : Beside) → Makes beside self.old self.new (Offline cpu) result }
-        ensures sound { StaysSound self.old self.new }
-        ensures ended { self.new.ended ≡ self.old.ended }
+        requires ready { IsReady self.old }
+        ensures { Makes self.old self.new (Offline cpu) result }
     {
         if !self.is_online(cpu) {
             return Reply::Already;
@@ -188,9 +163,7 @@ impl State {
     /// The sibling comes back, unless it is online already.
     pub fn online(&mut self, cpu: Cpu) -> Reply
         requires cpu { cpu < length self.old.siblings.items }
-        ensures makes { (beside : Beside) → Makes beside self.old self.new (Online cpu) result }
-        ensures sound { StaysSound self.old self.new }
-        ensures ended { self.new.ended ≡ self.old.ended }
+        ensures { Makes self.old self.new (Online cpu) result }
     {
         if self.is_online(cpu) {
             return Reply::Already;

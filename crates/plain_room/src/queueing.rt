@@ -4,7 +4,7 @@ ghost use Rattle.std.specs.Prelude.{◌≡◌, ◌+◌, ◌^◌, ◌<◌, ◌≤
 ghost use Rattle.cs_types.specs.Scenario.{IsPolicy};
 ghost use Rattle.cs_types.specs.Room.{is_online, lowest_online};
 ghost use Rattle.cs_types.specs.Queueing.{enqueued, dequeued, moved_to, online_home, rehomed, preempts, refreshed, queued_at_home};
-ghost use Rattle.plain_room.specs.State.{Beside, room_of, Knows, StaysSound, Becomes, numbers_of, touched};
+ghost use Rattle.plain_room.specs.State.{Beside, room_of, Knows, Touches};
 
 use crate::state::State;
 use crate::task::is_higher;
@@ -15,11 +15,7 @@ impl State {
     pub fn dequeue(&mut self, task: Task)
         requires known { Knows self.old task }
         requires touches { self.old.task_number + 1 < 2 ^ 64 }
-        ensures room { Becomes self.old self.new (λ room. dequeued room task) }
-        ensures sound { StaysSound self.old self.new }
-        ensures siblings { self.new.siblings ≡ self.old.siblings }
-        ensures numbers { numbers_of self.new ≡ touched 1 (numbers_of self.old) }
-        ensures ended { self.new.ended ≡ self.old.ended }
+        ensures { Touches 1 self.old self.new (λ room. dequeued room task) }
     {
         self.change(Task {
             queued: false,
@@ -33,11 +29,7 @@ impl State {
         requires known { Knows self.old task }
         requires stamp { self.old.next_stamp + 1 < 2 ^ 64 }
         requires touches { self.old.task_number + 1 < 2 ^ 64 }
-        ensures room { Becomes self.old self.new (λ room. enqueued room task) }
-        ensures sound { StaysSound self.old self.new }
-        ensures siblings { self.new.siblings ≡ self.old.siblings }
-        ensures numbers { numbers_of self.new ≡ touched 1 (numbers_of self.old) }
-        ensures ended { self.new.ended ≡ self.old.ended }
+        ensures { Touches 1 self.old self.new (λ room. enqueued room task) }
     {
         self.change(Task {
             queued: true,
@@ -58,7 +50,6 @@ impl State {
 
     /// The lowest sibling that is online.
     fn lowest_online(&self) -> Cpu
-        requires few { length self.now.siblings.items ≤ 16 }
         requires some { 0 < length self.now.siblings.items }
         ensures lowest { (beside : Beside) → result ≡ lowest_online (room_of beside self.now) }
         ensures within { result < length self.now.siblings.items }
@@ -74,7 +65,6 @@ impl State {
     /// Where a task of this sibling is at home: there, or on the lowest online one while that is offline.
     pub fn online_home(&self, cpu: Cpu) -> Cpu
         requires cpu { cpu < length self.now.siblings.items }
-        requires few { length self.now.siblings.items ≤ 16 }
         ensures home { (beside : Beside) → result ≡ online_home (room_of beside self.now) cpu }
         ensures within { result < length self.now.siblings.items }
     {
@@ -106,7 +96,6 @@ impl State {
 
     /// The task as it is where its home is online: there, or moved to another sibling.
     pub fn rehomed(&self, task: Task) -> Task
-        requires few { length self.now.siblings.items ≤ 16 }
         requires home { task.home < length self.now.siblings.items }
         requires vtime { task.vtime < 2 ^ 126 }
         requires leasts { All (λ sibling. sibling.least < 2 ^ 126) self.now.siblings.items }
@@ -163,10 +152,7 @@ impl State {
         requires clock { self.old.clock + 1000000000 < 2 ^ 56 }
         requires stamp { self.old.next_stamp + 1 < 2 ^ 64 }
         requires touches { self.old.task_number + 1 < 2 ^ 64 }
-        ensures room { Becomes self.old self.new (λ room. queued_at_home room task) }
-        ensures sound { StaysSound self.old self.new }
-        ensures numbers { numbers_of self.new ≡ touched 1 (numbers_of self.old) }
-        ensures ended { self.new.ended ≡ self.old.ended }
+        ensures { Touches 1 self.old self.new (λ room. queued_at_home room task) }
     {
         let fresh = self.refreshed(task);
         let preempts = self.preempts(&fresh);

@@ -91,7 +91,7 @@ impl Room for PlainRoom {
     ghost spare = { λ room. room.spare };
 
     fn apply(&mut self, actor: Actor, event: Event) -> Reply {
-        let reply = self.state.apply(&self.scenario, event);
+        let reply = self.state.apply(event);
         self.entries.push_reserved(Entry {
             actor,
             event,

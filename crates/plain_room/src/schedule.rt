@@ -7,7 +7,7 @@ ghost use Rattle.cs_types.specs.Accounting.{charge};
 ghost use Rattle.cs_types.specs.Drain.{lowest, pending};
 ghost use Rattle.task_table.specs.Table.{IsSound as IsTable};
 ghost use Rattle.plain_room.specs.Drain.{next_by};
-ghost use Rattle.plain_room.specs.State.{Beside, Schedules, ChargesAndSchedules, IsSound, IsOnTime, IsPaid, StaysSound, Becomes, room_of, numbers_of, is_fresh_by};
+ghost use Rattle.plain_room.specs.State.{Beside, Schedules, ChargesAndSchedules, MayPick, MaySchedule, Changes, room_of, numbers_of, is_fresh_by};
 
 use crate::choice::{forced_count, occupation, update_siblings, update_tasks};
 use crate::selection::is_fair_task;
@@ -19,10 +19,7 @@ impl State {
     /// The sibling runs what waits for it.
     fn run_waiting(&mut self, cpu: Cpu, run: Option<Pid>) -> Pick
         requires { cpu < length self.old.siblings.items }
-        ensures schedules { Schedules self.old self.new cpu result (λ room. adopted room cpu run) }
-        ensures sound { StaysSound self.old self.new }
-        ensures ended { self.new.ended ≡ self.old.ended }
-        ensures length { length self.new.siblings.items ≡ length self.old.siblings.items }
+        ensures { Schedules self.old self.new cpu result (λ room. adopted room cpu run) }
     {
         self.siblings[cpu as usize] = Sibling {
             number: self.pick_number,
@@ -39,9 +36,7 @@ impl State {
     /// The sibling adopts what waits for it.
     fn adopt(&mut self, cpu: Cpu, run: Option<Pid>) -> Pick
         requires { cpu < length self.old.siblings.items }
-        ensures schedules { Schedules self.old self.new cpu result (λ room. balanced cpu (adopted room cpu run)) }
-        ensures sound { StaysSound self.old self.new }
-        ensures ended { self.new.ended ≡ self.old.ended }
+        ensures { Schedules self.old self.new cpu result (λ room. balanced cpu (adopted room cpu run)) }
     {
         let pick = self.run_waiting(cpu, run);
         self.balance(cpu);
@@ -52,9 +47,7 @@ impl State {
     fn run_first(&mut self, cpu: Cpu) -> Pick
         requires cpu { cpu < length self.old.siblings.items }
         requires touches { self.old.task_number + 1 < 2 ^ 64 }
-        ensures schedules { Schedules self.old self.new cpu result (λ room. plain room cpu) }
-        ensures sound { StaysSound self.old self.new }
-        ensures ended { self.new.ended ≡ self.old.ended }
+        ensures { Schedules self.old self.new cpu result (λ room. plain room cpu) }
     {
         let first = self.first_on(cpu);
         let run = first.map(|task| task.spec.pid);
@@ -74,16 +67,12 @@ impl State {
     /// makes, and answers what that one runs.
     fn select_for(&mut self, cpu: Cpu, core: Cookie) -> Option<Pid>
         requires cpu { cpu < length self.old.siblings.items }
-        requires few { length self.old.siblings.items ≤ 16 }
         requires table { IsTable self.old.tasks }
         requires lead { (beside : Beside) → core ≡ cookie_of (lead_from (room_of beside self.old) cpu) }
         requires clock { self.old.clock < 2 ^ 56 }
-        ensures room { Becomes self.old self.new (λ room. selected_room room cpu core) }
+        ensures changes { Changes self.old self.new (λ room. selected_room room cpu core) }
         ensures run { (beside : Beside) → result ≡ pid_of (choice (room_of beside self.old) core cpu) }
         ensures forced { (beside : Beside) → self.new.account.count ≡ forced_count (room_of beside self.old) core }
-        ensures numbers { numbers_of self.new ≡ numbers_of self.old }
-        ensures sound { StaysSound self.old self.new }
-        ensures ended { self.new.ended ≡ self.old.ended }
     {
         let choices = self.choices(core);
         let forced = forced_count(&choices);
@@ -99,13 +88,8 @@ impl State {
     /// The sibling makes a selection for the core, under the cookie of its lead.
     fn select(&mut self, cpu: Cpu) -> Pick
         requires cpu { cpu < length self.old.siblings.items }
-        requires few { length self.old.siblings.items ≤ 16 }
-        requires sound { IsSound (length self.old.siblings.items) self.old }
-        requires time { IsOnTime self.old }
-        requires touches { self.old.task_number + 1 < 2 ^ 64 }
-        ensures schedules { Schedules self.old self.new cpu result (λ room. selected room cpu) }
-        ensures sound { StaysSound self.old self.new }
-        ensures ended { self.new.ended ≡ self.old.ended }
+        requires may { MayPick self.old }
+        ensures { Schedules self.old self.new cpu result (λ room. selected room cpu) }
     {
         let core = self.lead_from(cpu).map_or(0, |task| task.cookie);
         let run = self.select_for(cpu, core);
@@ -131,13 +115,8 @@ impl State {
     /// The sibling runs its first, or selects for the core.
     fn pick_anew(&mut self, cpu: Cpu) -> Pick
         requires cpu { cpu < length self.old.siblings.items }
-        requires few { length self.old.siblings.items ≤ 16 }
-        requires sound { IsSound (length self.old.siblings.items) self.old }
-        requires time { IsOnTime self.old }
-        requires touches { self.old.task_number + 1 < 2 ^ 64 }
-        ensures schedules { Schedules self.old self.new cpu result (λ room. picked_anew room cpu) }
-        ensures sound { StaysSound self.old self.new }
-        ensures ended { self.new.ended ≡ self.old.ended }
+        requires may { MayPick self.old }
+        ensures { Schedules self.old self.new cpu result (λ room. picked_anew room cpu) }
     {
         if self.is_plain(cpu) {
             self.run_first(cpu)
@@ -149,13 +128,8 @@ impl State {
     /// The sibling picks anew.
     pub fn pick_and_balance(&mut self, cpu: Cpu) -> Pick
         requires cpu { cpu < length self.old.siblings.items }
-        requires few { length self.old.siblings.items ≤ 16 }
-        requires sound { IsSound (length self.old.siblings.items) self.old }
-        requires time { IsOnTime self.old }
-        requires touches { self.old.task_number + 1 < 2 ^ 64 }
-        ensures schedules { Schedules self.old self.new cpu result (λ room. balanced cpu (picked_anew room cpu)) }
-        ensures sound { StaysSound self.old self.new }
-        ensures ended { self.new.ended ≡ self.old.ended }
+        requires may { MayPick self.old }
+        ensures { Schedules self.old self.new cpu result (λ room. balanced cpu (picked_anew room cpu)) }
     {
         let pick = self.pick_anew(cpu);
         self.balance(cpu);
@@ -165,14 +139,8 @@ impl State {
     /// The sibling schedules, and adopts nothing: the open interval is charged, and it picks anew.
     fn charge_and_pick(&mut self, cpu: Cpu) -> Pick
         requires cpu { cpu < length self.old.siblings.items }
-        requires few { length self.old.siblings.items ≤ 16 }
-        requires sound { IsSound (length self.old.siblings.items) self.old }
-        requires time { IsOnTime self.old }
-        requires paid { IsPaid self.old }
-        requires touches { self.old.task_number + 1 < 2 ^ 64 }
-        ensures schedules { ChargesAndSchedules self.old self.new cpu result (λ room. balanced cpu (picked_anew (charge room) cpu)) }
-        ensures sound { StaysSound self.old self.new }
-        ensures ended { self.new.ended ≡ self.old.ended }
+        requires may { MaySchedule self.old }
+        ensures { ChargesAndSchedules self.old self.new cpu result (λ room. balanced cpu (picked_anew (charge room) cpu)) }
     {
         self.charge();
         self.pick_and_balance(cpu)
@@ -194,15 +162,9 @@ impl State {
     /// The sibling schedules.
     pub fn schedule(&mut self, cpu: Cpu) -> Pick
         requires cpu { cpu < length self.old.siblings.items }
-        requires few { length self.old.siblings.items ≤ 16 }
-        requires sound { IsSound (length self.old.siblings.items) self.old }
-        requires time { IsOnTime self.old }
-        requires paid { IsPaid self.old }
-        requires touches { self.old.task_number + 1 < 2 ^ 64 }
-        ensures schedules { ChargesAndSchedules self.old self.new cpu result
+        requires may { MaySchedule self.old }
+        ensures { ChargesAndSchedules self.old self.new cpu result
             (λ room. schedule room (is_fresh_by (numbers_of self.old)) cpu) }
-        ensures sound { StaysSound self.old self.new }
-        ensures ended { self.new.ended ≡ self.old.ended }
     {
         match self.adoptable(cpu) {
             Some(run) => self.adopt(cpu, run),
@@ -214,7 +176,6 @@ impl State {
 impl State {
     /// The lowest pending sibling that passes: where the test says so, only one for which something waits.
     fn lowest_pending(&self, has_waiting: bool) -> Option<Cpu>
-        requires { length self.now.siblings.items ≤ 16 }
         ensures { (beside : Beside) → result ≡ lowest (filter
             (λ cpu. not has_waiting || is_some (sibling_of (room_of beside self.now) cpu).waiting) (pending (room_of beside self.now))) }
     {
@@ -229,7 +190,6 @@ impl State {
     /// Who schedules next at the end of a run: the lowest pending sibling whose schedule would be an
     /// adoption, and where there is none, the lowest pending one.
     pub fn next_to_schedule(&self) -> Option<Cpu>
-        requires { length self.now.siblings.items ≤ 16 }
         ensures { (beside : Beside) → result ≡ next_by (room_of beside self.now) (is_fresh_by (numbers_of self.now)) }
     {
         if self.is_fresh() {

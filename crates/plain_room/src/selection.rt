@@ -82,7 +82,6 @@ impl State {
 
     /// What each sibling gets for a core cookie.
     pub fn choices(&self, core: Cookie) -> Choices
-        requires { length self.now.siblings.items ≤ 16 }
         ensures each { (beside : Beside) → result.items ≡
             map (choice_at (room_of beside self.now) core) (range_with_len 0 (length self.now.siblings.items)) }
         ensures length { length result.items ≡ length self.now.siblings.items }
@@ -98,7 +97,6 @@ impl State {
     fn push_firsts(&self, firsts: &mut Firsts, from: usize, to: usize)
         requires ordered { from ≤ to }
         requires within { to ≤ length self.now.siblings.items }
-        requires few { length self.now.siblings.items ≤ 16 }
         requires spare { array_vec_len firsts.old + (to - from) ≤ 16 }
         ensures pushed { (beside : Beside) → firsts.new.items ≡ firsts.old.items
             ++ map (first_on (room_of beside self.now)) (filter (is_online (room_of beside self.now)) (range_with_len from (to - from))) }
@@ -114,8 +112,7 @@ impl State {
     /// The lead of a selection that the sibling makes, none for idle.
     pub fn lead_from(&self, cpu: Cpu) -> Option<Task>
         requires cpu { cpu < length self.now.siblings.items }
-        requires few { length self.now.siblings.items ≤ 16 }
-        requires sound { IsSound (length self.now.siblings.items) self.now }
+        requires sound { IsSound self.now }
         requires time { IsOnTime self.now }
         ensures { (beside : Beside) → result ≡ lead_from (room_of beside self.now) cpu }
     {

@@ -2,7 +2,7 @@
 //! are made of. It is a file of its own so that each change has its whole contract, whatever the machine
 //! keeps beside.
 
-ghost use Rattle.std.specs.Prelude.{◌≡◌, ◌+◌, ◌^◌, ◌<◌, ◌≤◌, length, find, [], Option, IfOk, IfSome, ◌==◌, if◌then◌else◌, map, replicate, All, vec_capacity};
+ghost use Rattle.std.specs.Prelude.{◌≡◌, ◌+◌, ◌^◌, ◌<◌, ◌≤◌, length, find, [], Option, IfOk, IfSome, ◌==◌, if◌then◌else◌, map, replicate, All};
 ghost use Rattle.cs_types.specs.Scenario.{IsPlayable, IsPolicy, AreDistinct};
 ghost use Rattle.cs_types.specs.Room.{start, first_pid, asleep_tasks, has_pid, running_on, with_task, flagged};
 ghost use Rattle.cs_types.specs.Step.{idled};
@@ -25,6 +25,10 @@ pub struct State {
     pub tasks: TaskTable,
     pub refs: CookieRefs,
     pub guards: Guards,
+    /// How many tasks may live at once, 1 to 256.
+    pub task_limit: u16,
+    /// The end of the user addresses, in bytes (`TASK_SIZE_MAX`).
+    pub user_top: u64,
     /// The tasks that ended, in the order of their ends.
     pub ended: Vec<Pid>,
     pub siblings: Vec<Sibling>,
@@ -46,10 +50,11 @@ pub struct State {
     /// The pick number: how often they were touched up to the last selection for the core and with it, a
     /// count (`rq->core->core_pick_seq`).
     pub pick_number: u64,
+    ghost few: { length siblings.items ≤ 16 },
 }
 
 impl State {
-    ghost use Rattle.plain_room.specs.State.{Beside, room_of, IsFit, Has, Knows, IsSound, StaysSound, Becomes, numbers_of, numbers_at, touched, is_fresh_by};
+    ghost use Rattle.plain_room.specs.State.{Beside, room_of, IsFit, Has, Knows, IsSound, Changes, numbers_of, numbers_at, is_fresh_by};
 
     /// The start of a scenario: all tasks asleep at home, all siblings idle. It can take `most` entries.
     pub fn start(
@@ -60,9 +65,9 @@ impl State {
     ) -> Result<State, OutOfMemory>
         requires playable { IsPlayable scenario.now }
         requires most { most < 2 ^ 32 }
-        ensures room { IfOk result (λ state. room_of (record { user_top = scenario.now.user_top; intervals = [] }) state ≡ start scenario.now) }
-        ensures sound { IfOk result (IsSound scenario.now.siblings) }
-        ensures room_for_ended { IfOk result (λ state. most ≤ vec_capacity state.ended) }
+        ensures room { IfOk result (λ state. room_of (record { intervals = [] }) state ≡ start scenario.now) }
+        ensures sound { IfOk result IsSound }
+        ensures siblings { IfOk result (λ state. length state.siblings.items ≡ scenario.now.siblings) }
         ensures numbers { IfOk result (λ state. numbers_of state ≡ numbers_at scenario.now most (beginning scenario.now)) }
     {
         let tasks = asleep_tasks(alloc, scenario.task_limit, scenario.tasks.items())?;
@@ -74,6 +79,8 @@ impl State {
             tasks,
             refs,
             guards,
+            task_limit: scenario.task_limit,
+            user_top: scenario.user_top,
             ended,
             siblings,
             next_pid: first_pid(scenario.tasks.items()),
@@ -91,7 +98,7 @@ impl State {
     pub fn task_of(&self, pid: Pid) -> Option<Task>
         ensures task { result ≡ find (has_pid pid) self.now.tasks.tasks }
         ensures there { IfSome result (Has self.now) }
-        ensures fit { (count : _) → IsSound count self.now → IfSome result (IsFit count self.now.next_pid) }
+        ensures fit { IsSound self.now → IfSome result (IsFit (length self.now.siblings.items) self.now.next_pid) }
     {
         self.tasks.find(pid).copied()
     }
@@ -101,7 +108,7 @@ impl State {
         requires { cpu < length self.now.siblings.items }
         ensures task { (beside : Beside) → result ≡ running_on (room_of beside self.now) cpu }
         ensures there { IfSome result (Has self.now) }
-        ensures fit { (count : _) → IsSound count self.now → IfSome result (IsFit count self.now.next_pid) }
+        ensures fit { IsSound self.now → IfSome result (IsFit (length self.now.siblings.items) self.now.next_pid) }
     {
         self.task_of(self.siblings[cpu as usize].run?)
     }
@@ -132,11 +139,7 @@ impl State {
     /// The task's numbers are these now.
     pub fn change(&mut self, task: Task)
         requires known { Knows self.old task }
-        ensures room { Becomes self.old self.new (λ room. with_task room task) }
-        ensures sound { StaysSound self.old self.new }
-        ensures siblings { self.new.siblings ≡ self.old.siblings }
-        ensures numbers { numbers_of self.new ≡ numbers_of self.old }
-        ensures ended { self.new.ended ≡ self.old.ended }
+        ensures changes { Changes self.old self.new (λ room. with_task room task) }
         ensures rest { self.new ≡ record self.old { tasks = self.new.tasks } }
     {
         self.tasks.change(task);
@@ -145,11 +148,7 @@ impl State {
     /// The sibling runs idle.
     pub fn idle(&mut self, cpu: Cpu)
         requires { cpu < length self.old.siblings.items }
-        ensures room { Becomes self.old self.new (λ room. idled room cpu) }
-        ensures sound { StaysSound self.old self.new }
-        ensures numbers { numbers_of self.new ≡ numbers_of self.old }
-        ensures length { length self.new.siblings.items ≡ length self.old.siblings.items }
-        ensures ended { self.new.ended ≡ self.old.ended }
+        ensures { Changes self.old self.new (λ room. idled room cpu) }
     {
         self.siblings[cpu as usize].run = None;
     }
@@ -157,11 +156,7 @@ impl State {
     /// The sibling is pending where it was, and where the test says so.
     pub fn flag(&mut self, cpu: Cpu, test: bool)
         requires { cpu < length self.old.siblings.items }
-        ensures room { Becomes self.old self.new (λ room. flagged room cpu test) }
-        ensures sound { StaysSound self.old self.new }
-        ensures numbers { numbers_of self.new ≡ numbers_of self.old }
-        ensures length { length self.new.siblings.items ≡ length self.old.siblings.items }
-        ensures ended { self.new.ended ≡ self.old.ended }
+        ensures { Changes self.old self.new (λ room. flagged room cpu test) }
     {
         self.siblings[cpu as usize].pending |= test;
     }

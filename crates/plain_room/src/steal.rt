@@ -7,7 +7,7 @@ ghost use Rattle.cs_types.specs.Order.{first_of};
 ghost use Rattle.cs_types.specs.Selection.{first_on, queued_with, is_to_steal};
 ghost use Rattle.cs_types.specs.Steal.{source_of, may_steal, stolen, with_place, with_stolen, next_place};
 ghost use Rattle.cs_types.specs.Step.{Stepped, try_steal};
-ghost use Rattle.plain_room.specs.State.{Beside, sibling_state, room_of, Has, IsFit, IsSound, IsOnTime, StaysSound, Becomes, numbers_of, touched, TriesToSteal};
+ghost use Rattle.plain_room.specs.State.{Beside, sibling_state, room_of, Has, IsSound, IsOnTime, Changes, Touches, TriesToSteal};
 
 use crate::sibling::Sibling;
 use crate::state::State;
@@ -18,12 +18,7 @@ impl State {
     /// The sibling's next try to steal is at this place.
     pub fn set_place(&mut self, cpu: Cpu, place: u32)
         requires { cpu < length self.old.siblings.items }
-        ensures room { Becomes self.old self.new (λ room. with_place room cpu place) }
-        ensures sound { StaysSound self.old self.new }
-        ensures numbers { numbers_of self.new ≡ numbers_of self.old }
-        ensures length { length self.new.siblings.items ≡ length self.old.siblings.items }
-        ensures ended { self.new.ended ≡ self.old.ended }
-        ensures rest { self.new ≡ record self.old { siblings = self.new.siblings } }
+        ensures { Changes self.old self.new (λ room. with_place room cpu place) }
     {
         self.siblings[cpu as usize].place = place;
     }
@@ -43,12 +38,7 @@ impl State {
     /// After a schedule the sibling's tries begin at the next sibling, or it makes none.
     pub fn balance(&mut self, cpu: Cpu)
         requires { cpu < length self.old.siblings.items }
-        ensures room { Becomes self.old self.new (λ room. with_place room cpu (if is_to_steal room cpu then 1 else 0)) }
-        ensures sound { StaysSound self.old self.new }
-        ensures numbers { numbers_of self.new ≡ numbers_of self.old }
-        ensures ended { self.new.ended ≡ self.old.ended }
-        ensures account { self.new.account ≡ self.old.account }
-        ensures core { self.new.core_cookie ≡ self.old.core_cookie }
+        ensures { Changes self.old self.new (λ room. with_place room cpu (if is_to_steal room cpu then 1 else 0)) }
     {
         let place = u32::from(self.is_to_steal(cpu));
         self.set_place(cpu, place);
@@ -57,7 +47,6 @@ impl State {
     /// The sibling from which one tries to steal next.
     fn source_of(&self, cpu: Cpu) -> Cpu
         requires cpu { cpu < length self.now.siblings.items }
-        requires few { length self.now.siblings.items ≤ 16 }
         ensures source { (beside : Beside) → result ≡ source_of (room_of beside self.now) cpu }
         ensures within { result < length self.now.siblings.items }
     {
@@ -119,14 +108,11 @@ impl State {
         requires within { source < length self.old.siblings.items }
         requires source { (beside : Beside) → source ≡ source_of (room_of beside self.old) thief }
         requires there { Has self.old task }
-        requires sound { IsSound (length self.old.siblings.items) self.old }
+        requires sound { IsSound self.old }
         requires time { IsOnTime self.old }
         requires stamp { self.old.next_stamp + 1 < 2 ^ 64 }
         requires touches { self.old.task_number + 2 < 2 ^ 64 }
-        ensures room { Becomes self.old self.new (λ room. with_stolen room thief task) }
-        ensures sound { StaysSound self.old self.new }
-        ensures numbers { numbers_of self.new ≡ touched 2 (numbers_of self.old) }
-        ensures ended { self.new.ended ≡ self.old.ended }
+        ensures { Touches 2 self.old self.new (λ room. with_stolen room thief task) }
     {
         let moved = self.moved_to(thief, task);
         self.touch();
@@ -140,7 +126,6 @@ impl State {
     /// Where the sibling's next try is, where this one finds nothing.
     fn next_place(&self, cpu: Cpu) -> u32
         requires cpu { cpu < length self.now.siblings.items }
-        requires few { length self.now.siblings.items ≤ 16 }
         requires place { All (λ sibling. sibling.place + 1 < 2 ^ 32) self.now.siblings.items }
         ensures { (beside : Beside) → result ≡ next_place (room_of beside self.now) cpu }
     {
@@ -155,15 +140,12 @@ impl State {
     /// The sibling tries to steal a task.
     pub fn try_steal(&mut self, thief: Cpu) -> Reply
         requires thief { thief < length self.old.siblings.items }
-        requires few { length self.old.siblings.items ≤ 16 }
-        requires sound { IsSound (length self.old.siblings.items) self.old }
+        requires sound { IsSound self.old }
         requires time { IsOnTime self.old }
         requires places { All (λ sibling. sibling.place + 1 < 2 ^ 32) self.old.siblings.items }
         requires stamp { self.old.next_stamp + 1 < 2 ^ 64 }
         requires touches { self.old.task_number + 2 < 2 ^ 64 }
-        ensures tries { TriesToSteal self.old self.new thief result }
-        ensures sound { StaysSound self.old self.new }
-        ensures ended { self.new.ended ≡ self.old.ended }
+        ensures { TriesToSteal self.old self.new thief result }
     {
         let source = self.source_of(thief);
         match self.stolen(thief, source) {

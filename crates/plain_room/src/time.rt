@@ -9,7 +9,7 @@ ghost use Rattle.cs_types.specs.Order.{is_fair};
 ghost use Rattle.cs_types.specs.Time as time;
 ghost use Rattle.cs_types.specs.Time.{grown_by, with_growth, with_leasts, has_used_slice, is_peer, rotates, is_overtaken, is_to_yield, asks_at_tick, sliced};
 ghost use Rattle.task_table.specs.Table.{Rises};
-ghost use Rattle.plain_room.specs.State.{Beside, sibling_state, room_of, Has, IsSound, IsOnTime, IsPaid, StaysSound, Becomes, numbers_of, Makes};
+ghost use Rattle.plain_room.specs.State.{Beside, sibling_state, room_of, Has, IsSound, IsOnTime, IsReady, Stays, Changes, Makes};
 ghost use Rattle.plain_room.specs.Time.{is_run_by, grown_among, aged, smallest_among, least_among, renewed, any_other};
 
 use crate::sibling::Sibling;
@@ -143,14 +143,14 @@ fn is_other_on(task: &Task, other: &Task, cpu: Cpu) -> bool
 impl State {
     /// The running tasks grow by `delta` ns.
     fn grow_tasks(&mut self, delta: u64)
-        requires sound { IsSound (length self.old.siblings.items) self.old }
+        requires sound { IsSound self.old }
         requires time { IsOnTime self.old }
         requires delta { delta ≤ 1000000000 }
         ensures tasks { self.new.tasks ≡ record self.old.tasks {
           tasks = map (grown_among self.old.siblings.items delta) self.old.tasks.tasks;
         } }
         ensures rest { self.new ≡ record self.old { tasks = self.new.tasks } }
-        ensures sound { StaysSound self.old self.new }
+        ensures stays { Stays self.old self.new }
     {
         for position in 0..self.tasks.len() as usize {
             let task = *self.tasks.at(position).unwrap();
@@ -161,13 +161,9 @@ impl State {
 
     /// The clock goes on by `delta` ns.
     pub fn advance(&mut self, delta: u64) -> Reply
-        requires sound { IsSound (length self.old.siblings.items) self.old }
-        requires few { length self.old.siblings.items ≤ 16 }
-        requires time { IsOnTime self.old }
+        requires ready { IsReady self.old }
         requires delta { delta ≤ 1000000000 }
-        ensures makes { (beside : Beside) → Makes beside self.old self.new (Advance delta) result }
-        ensures sound { StaysSound self.old self.new }
-        ensures ended { self.new.ended ≡ self.old.ended }
+        ensures { Makes self.old self.new (Advance delta) result }
     {
         self.grow_tasks(delta);
         age(&mut self.siblings, delta);
@@ -241,11 +237,7 @@ impl State {
         requires rising { Rises self.old.tasks.tasks }
         requires rotates { (beside : Beside) → rotates ≡ time.rotates (room_of beside self.old) cpu task }
         requires stamp { self.old.next_stamp + 1 < 2 ^ 64 }
-        ensures room { Becomes self.old self.new (λ room. sliced room cpu task) }
-        ensures sound { StaysSound self.old self.new }
-        ensures siblings { self.new.siblings ≡ self.old.siblings }
-        ensures numbers { numbers_of self.new ≡ numbers_of self.old }
-        ensures ended { self.new.ended ≡ self.old.ended }
+        ensures { Changes self.old self.new (λ room. sliced room cpu task) }
     {
         if rotates {
             let stamp = self.next_stamp;
@@ -263,12 +255,8 @@ impl State {
     /// The sibling's timer ticks. The open interval is charged first.
     pub fn tick(&mut self, cpu: Cpu) -> Reply
         requires cpu { cpu < length self.old.siblings.items }
-        requires sound { IsSound (length self.old.siblings.items) self.old }
-        requires paid { IsPaid self.old }
-        requires stamp { self.old.next_stamp + 1 < 2 ^ 64 }
-        ensures makes { (beside : Beside) → Makes beside self.old self.new (Tick cpu) result }
-        ensures sound { StaysSound self.old self.new }
-        ensures ended { self.new.ended ≡ self.old.ended }
+        requires ready { IsReady self.old }
+        ensures { Makes self.old self.new (Tick cpu) result }
     {
         if !self.is_online(cpu) {
             return Reply::Offline;

@@ -13,8 +13,12 @@ invariant_of-result c =
     let most : c.most_entries-most.result ≡ length c.of-steps.result + scenario.siblings * scenario.siblings =
     c.most_entries-most.ensures ∙ ap (λ s. length s + scenario.siblings * scenario.siblings) (sym steps) in
     let first = numbers_at scenario c.most_entries-most.result (beginning scenario) in
-    let books : first ≡ record first { books = record first.books { places = (length c.of-steps.result + scenario.siblings * scenario.siblings) + first_pid c.of-tasks.result } } =
-    λ i. record first { books = record first.books { places = most i + first_pid (sym tasks i) } } in
+    let books : first ≡ record first {
+      books = record first.books {
+        places = (length c.of-steps.result + scenario.siblings * scenario.siblings) + first_pid c.of-tasks.result;
+        ends = length c.of-steps.result + scenario.siblings * scenario.siblings;
+      };
+    } = λ i. record first { books = record first.books { places = most i + first_pid (sym tasks i); ends = most i } } in
     let same : c.args.scenario.now ≡ record c.args.scenario.now { tasks = c.of-tasks.result; steps = c.of-steps.result } =
     λ i. record c.args.scenario.now { tasks = sym tasks i; steps = sym steps i } in
     record {
@@ -24,7 +28,7 @@ invariant_of-result c =
       fold = rw c.in_ok-entries.ensures.items (rw tasks c.in_ok-state.ensures.room);
       numbers = rw c.in_ok-entries.ensures.items (c.in_ok-state.ensures.numbers ∙ books);
       sound = c.in_ok-state.ensures.sound;
-      room_for_ended = omega (arith, c.in_ok-entries.ensures.exact, c.in_ok-state.ensures.room_for_ended);
+      siblings = c.in_ok-state.ensures.siblings;
       slow = omega (arith, ap (λ (room : RoomState). room.clock) c.in_ok-state.ensures.room);
       few_entries = omega (arith, c.in_ok-entries.ensures.exact, most);
     }

@@ -1,4 +1,4 @@
-use Rattle.std.proofs.Common.{◌≤◌, ◌*◌, ◌++◌, ◌∷◌, [], length, refl, ap, sym, subst, ◌∙◌, arith}
+use Rattle.std.proofs.Common.{◌≤◌, ◌*◌, ◌++◌, ◌∷◌, [], length, ap, sym, subst, ◌∙◌, arith}
 use Rattle.std.specs.Prelude.{IfSome, All, ◌+◌, ◌<◌, ◌^◌}
 use Rattle.std.proofs.lemmas.List.Elements.{All-push, All-weaker}
 use Rattle.cs_types.specs.declared.reply.Entry.{Entry}
@@ -8,7 +8,7 @@ use Rattle.cs_types.specs.Touches.{selection_of}
 use Rattle.cs_types.specs.History.{fold_of, reply_to, history_of}
 use Rattle.cs_types.specs.Laws.{SelectsForTheCore, scheduling_room, cpu_of, LeavesTheRoom}
 use Rattle.cs_types.proofs.Numbers.{task_number-ledger_of, next_stamp-fold_of, next_cookie-fold_of, next_pid-fold_of, ended-fold_of}
-use Rattle.cs_types.proofs.Tasks.{few-fold_of, task_limit-fold_of}
+use Rattle.cs_types.proofs.Tasks.{few-fold_of}
 use Rattle.cs_types.proofs.Selections.{selects}
 use Rattle.cs_types.proofs.Refusals.{refused_leaves}
 use Rattle.cs_types.proofs.BalancePlaces.{places-fold_of}
@@ -27,81 +27,12 @@ use Rattle.plain_room.proofs.Playable.{most_entries-le, first_pid-low}
 use Rattle.plain_room.proofs.Machines.{Folds, history_more, reply_more, folds_more}
 use Rattle.plain_room.proofs.room.PlainRoomRoom.apply.Goals as goal
 
-pub apply-reply-requires-clause-stamp : goal.apply-reply-requires-clause-stamp
-apply-reply-requires-clause-stamp c =
-    let a = c.self.inside in
-    omega (
-      arith,
-      next_stamp-fold_of a.scenario a.entries.items c.self.invariant.playable.few_tasks c.self.invariant.playable.task_limit.1,
-      ap (λ (room : RoomState). room.next_stamp) c.self.invariant.fold,
-      a.entries.ok.0,
-      c.self.invariant.few_entries,
-      most_entries-le a.scenario c.self.invariant.playable,
-      ap (λ (room : RoomState). length room.tasks) c.self.invariant.fold,
-      few-fold_of a.scenario a.entries.items c.self.invariant.playable.few_tasks,
-      c.self.invariant.playable.task_limit.1,
-    )
+pub apply-reply-requires-clause-event : goal.apply-reply-requires-clause-event
+apply-reply-requires-clause-event c =
+    subst (λ count. IsEvent count c.args.event) (sym c.self.invariant.siblings) (subst (λ (m : Machine). IsEvent m.scenario.siblings c.args.event) (sym c.self.view_is) c.requires.event)
 
-pub apply-reply-requires-clause-tasks : goal.apply-reply-requires-clause-tasks
-apply-reply-requires-clause-tasks c =
-    let a = c.self.inside in
-    omega (
-      arith,
-      ap (λ (room : RoomState). length room.tasks) c.self.invariant.fold,
-      few-fold_of a.scenario a.entries.items c.self.invariant.playable.few_tasks,
-      c.self.invariant.playable.task_limit.1,
-    )
-
-pub apply-reply-requires-clause-serial : goal.apply-reply-requires-clause-serial
-apply-reply-requires-clause-serial c =
-    let a = c.self.inside in
-    omega (arith, next_cookie-fold_of a.scenario a.entries.items c.self.invariant.playable.few_tasks c.self.invariant.playable.task_limit.1, ap (λ (room : RoomState). room.next_cookie) c.self.invariant.fold, a.entries.ok.0)
-
-pub apply-reply-requires-clause-limit : goal.apply-reply-requires-clause-limit
-apply-reply-requires-clause-limit c =
-    let a = c.self.inside in
-    ap (λ (room : RoomState). room.task_limit) c.self.invariant.fold ∙ task_limit-fold_of a.scenario a.entries.items
-
-pub apply-reply-requires-clause-pid : goal.apply-reply-requires-clause-pid
-apply-reply-requires-clause-pid c =
-    let a = c.self.inside in
-    omega (arith, next_pid-fold_of a.scenario a.entries.items c.self.invariant.playable.few_tasks c.self.invariant.playable.task_limit.1, ap (λ (room : RoomState). room.next_pid) c.self.invariant.fold, a.entries.ok.0, first_pid-low a.scenario c.self.invariant.playable, c.self.invariant.few_entries, most_entries-le a.scenario c.self.invariant.playable)
-
-pub apply-reply-requires-clause-spare : goal.apply-reply-requires-clause-spare
-apply-reply-requires-clause-spare c =
-    let a = c.self.inside in
-    omega (
-      arith,
-      ended-fold_of a.scenario a.entries.items c.self.invariant.playable.few_tasks c.self.invariant.playable.task_limit.1,
-      ap (λ (room : RoomState). length room.ended) c.self.invariant.fold,
-      a.entries.ok.0,
-      c.requires.spare,
-      ap (λ (m : Machine). m.spare) c.self.view_is,
-      c.self.invariant.room_for_ended,
-    )
-
-pub apply-reply-requires-clause-time : goal.apply-reply-requires-clause-time
-apply-reply-requires-clause-time c =
-    let a = c.self.inside in
-    record {
-      entries = length a.entries.items;
-      few = omega (arith, a.entries.ok.0, c.self.invariant.few_entries, most_entries-le a.scenario c.self.invariant.playable);
-      timely = λ beside. subst (λ (room : RoomState). IsTimely (length a.entries.items) room)
-          (sym (ap (λ (room : RoomState). let other : RoomState = record room { user_top = beside.user_top; intervals = beside.intervals } in other) c.self.invariant.fold))
-          (timely_beside beside (length a.entries.items) (fold_of a.scenario a.entries.items) (timely-fold_of a.scenario a.entries.items));
-      clock = omega (arith, c.self.invariant.slow, a.entries.ok.0, c.self.invariant.few_entries, most_entries-le a.scenario c.self.invariant.playable);
-    }
-
-pub apply-reply-requires-clause-places_to_steal : goal.apply-reply-requires-clause-places_to_steal
-apply-reply-requires-clause-places_to_steal c =
-    let a = c.self.inside in
-    All-weaker (λ (sibling : Sibling). sibling.place ≤ length a.entries.items) (λ (sibling : Sibling). sibling.place + 1 < 2 ^ 32)
-    (λ sibling few. omega (arith, few, a.entries.ok.0, c.self.invariant.few_entries, most_entries-le a.scenario c.self.invariant.playable)) a.state.siblings.items
-    (of_states (λ (sibling : SiblingState). sibling.place ≤ length a.entries.items) a.state.siblings.items
-    (subst (λ (room : RoomState). All (λ (sibling : SiblingState). sibling.place ≤ length a.entries.items) room.siblings) (sym c.self.invariant.fold) (places-fold_of a.scenario a.entries.items)))
-
-pub apply-reply-requires-clause-paid : goal.apply-reply-requires-clause-paid
-apply-reply-requires-clause-paid c =
+pub apply-reply-requires-clause-ready : goal.apply-reply-requires-clause-ready
+apply-reply-requires-clause-ready c =
     let a = c.self.inside in
     let last = fold_of a.scenario a.entries.items in
     let accounted : IsAccounted 255 (length a.entries.items) (account_of last) =
@@ -109,49 +40,82 @@ apply-reply-requires-clause-paid c =
     let fold = c.self.invariant.fold in
     let folds : Folds a.scenario (most_entries a.scenario) a.state a.entries.items = record { fold = fold; numbers = c.self.invariant.numbers } in
     record {
-      clock = omega (arith, c.self.invariant.slow, a.entries.ok.0, c.self.invariant.few_entries, most_entries-le a.scenario c.self.invariant.playable);
-      started = subst (λ (r : RoomState). charged_up_to (account_of r) ≤ r.clock) (sym fold) accounted.started;
-      few = subst (λ (r : RoomState). r.forced ≤ 255) (sym fold) accounted.few;
-      intervals = omega (
-        arith,
-        accounted.intervals,
-        ap (λ (numbers : Numbers). numbers.books.intervals) c.self.invariant.numbers,
-        a.entries.ok.0,
-        c.self.invariant.few_entries,
-        most_entries-le a.scenario c.self.invariant.playable,
-      );
-      totals = λ pid. subst (λ (r : RoomState). total_at a.state.totals pid ≤ 255 * charged_up_to (account_of r)) (sym fold)
-          (subst (λ n. n ≤ 255 * charged_up_to (account_of last)) (sym (total_kept a.scenario a.state a.entries.items pid folds)) (accounted.totals pid));
+      sound = c.self.invariant.sound;
+      time = record {
+        entries = length a.entries.items;
+        few = omega (arith, a.entries.ok.0, c.self.invariant.few_entries, most_entries-le a.scenario c.self.invariant.playable);
+        timely = λ beside. subst (λ (room : RoomState). IsTimely (length a.entries.items) room)
+            (sym (ap (λ (room : RoomState). let other : RoomState = record room { intervals = beside.intervals } in other) c.self.invariant.fold))
+            (timely_beside beside (length a.entries.items) (fold_of a.scenario a.entries.items) (timely-fold_of a.scenario a.entries.items));
+        clock = omega (arith, c.self.invariant.slow, a.entries.ok.0, c.self.invariant.few_entries, most_entries-le a.scenario c.self.invariant.playable);
+      };
+      paid = record {
+        clock = omega (arith, c.self.invariant.slow, a.entries.ok.0, c.self.invariant.few_entries, most_entries-le a.scenario c.self.invariant.playable);
+        started = subst (λ (r : RoomState). charged_up_to (account_of r) ≤ r.clock) (sym fold) accounted.started;
+        few = subst (λ (r : RoomState). r.forced ≤ 255) (sym fold) accounted.few;
+        intervals = omega (
+          arith,
+          accounted.intervals,
+          ap (λ (numbers : Numbers). numbers.books.intervals) c.self.invariant.numbers,
+          a.entries.ok.0,
+          c.self.invariant.few_entries,
+          most_entries-le a.scenario c.self.invariant.playable,
+        );
+        totals = λ pid. subst (λ (r : RoomState). total_at a.state.totals pid ≤ 255 * charged_up_to (account_of r)) (sym fold)
+            (subst (λ n. n ≤ 255 * charged_up_to (account_of last)) (sym (total_kept a.scenario a.state a.entries.items pid folds)) (accounted.totals pid));
+      };
+      spares = record {
+        touches = omega (
+          arith,
+          task_number-ledger_of a.scenario a.entries.items c.self.invariant.playable.few_tasks c.self.invariant.playable.task_limit.1,
+          ap (λ (numbers : Numbers). numbers.task) c.self.invariant.numbers,
+          a.entries.ok.0,
+          c.self.invariant.few_entries,
+          most_entries-le a.scenario c.self.invariant.playable,
+          ap (λ (room : RoomState). length room.tasks) c.self.invariant.fold,
+          few-fold_of a.scenario a.entries.items c.self.invariant.playable.few_tasks,
+          c.self.invariant.playable.task_limit.1,
+        );
+        stamps = omega (
+          arith,
+          next_stamp-fold_of a.scenario a.entries.items c.self.invariant.playable.few_tasks c.self.invariant.playable.task_limit.1,
+          ap (λ (room : RoomState). room.next_stamp) c.self.invariant.fold,
+          a.entries.ok.0,
+          c.self.invariant.few_entries,
+          most_entries-le a.scenario c.self.invariant.playable,
+          ap (λ (room : RoomState). length room.tasks) c.self.invariant.fold,
+          few-fold_of a.scenario a.entries.items c.self.invariant.playable.few_tasks,
+          c.self.invariant.playable.task_limit.1,
+        );
+        serial = omega (arith, next_cookie-fold_of a.scenario a.entries.items c.self.invariant.playable.few_tasks c.self.invariant.playable.task_limit.1, ap (λ (room : RoomState). room.next_cookie) c.self.invariant.fold, a.entries.ok.0);
+        pid = omega (arith, next_pid-fold_of a.scenario a.entries.items c.self.invariant.playable.few_tasks c.self.invariant.playable.task_limit.1, ap (λ (room : RoomState). room.next_pid) c.self.invariant.fold, a.entries.ok.0, first_pid-low a.scenario c.self.invariant.playable, c.self.invariant.few_entries, most_entries-le a.scenario c.self.invariant.playable);
+        total = omega (
+          arith,
+          ap (λ (numbers : Numbers). numbers.books.places) c.self.invariant.numbers,
+          next_pid-fold_of a.scenario a.entries.items c.self.invariant.playable.few_tasks c.self.invariant.playable.task_limit.1,
+          ap (λ (room : RoomState). room.next_pid) c.self.invariant.fold,
+          a.entries.ok.0,
+          c.requires.spare,
+          ap (λ (m : Machine). m.spare) c.self.view_is,
+          c.self.invariant.few_entries,
+        );
+        ended = omega (
+          arith,
+          ended-fold_of a.scenario a.entries.items c.self.invariant.playable.few_tasks c.self.invariant.playable.task_limit.1,
+          ap (λ (room : RoomState). length room.ended) c.self.invariant.fold,
+          a.entries.ok.0,
+          c.requires.spare,
+          ap (λ (m : Machine). m.spare) c.self.view_is,
+          ap (λ (numbers : Numbers). numbers.books.ends) c.self.invariant.numbers,
+          c.self.invariant.few_entries,
+          a.state.ended.ok.0,
+        );
+        places = All-weaker (λ (sibling : Sibling). sibling.place ≤ length a.entries.items) (λ (sibling : Sibling). sibling.place + 1 < 2 ^ 32)
+            (λ sibling few. omega (arith, few, a.entries.ok.0, c.self.invariant.few_entries, most_entries-le a.scenario c.self.invariant.playable)) a.state.siblings.items
+            (of_states (λ (sibling : SiblingState). sibling.place ≤ length a.entries.items) a.state.siblings.items
+            (subst (λ (room : RoomState). All (λ (sibling : SiblingState). sibling.place ≤ length a.entries.items) room.siblings) (sym c.self.invariant.fold) (places-fold_of a.scenario a.entries.items)));
+      };
     }
-
-pub apply-reply-requires-clause-places : goal.apply-reply-requires-clause-places
-apply-reply-requires-clause-places c =
-    let a = c.self.inside in
-    omega (
-      arith,
-      ap (λ (numbers : Numbers). numbers.books.places) c.self.invariant.numbers,
-      next_pid-fold_of a.scenario a.entries.items c.self.invariant.playable.few_tasks c.self.invariant.playable.task_limit.1,
-      ap (λ (room : RoomState). room.next_pid) c.self.invariant.fold,
-      a.entries.ok.0,
-      c.requires.spare,
-      ap (λ (m : Machine). m.spare) c.self.view_is,
-      c.self.invariant.few_entries,
-    )
-
-pub apply-reply-requires-clause-touches : goal.apply-reply-requires-clause-touches
-apply-reply-requires-clause-touches c =
-    let a = c.self.inside in
-    omega (
-      arith,
-      task_number-ledger_of a.scenario a.entries.items c.self.invariant.playable.few_tasks c.self.invariant.playable.task_limit.1,
-      ap (λ (numbers : Numbers). numbers.task) c.self.invariant.numbers,
-      a.entries.ok.0,
-      c.self.invariant.few_entries,
-      most_entries-le a.scenario c.self.invariant.playable,
-      ap (λ (room : RoomState). length room.tasks) c.self.invariant.fold,
-      few-fold_of a.scenario a.entries.items c.self.invariant.playable.few_tasks,
-      c.self.invariant.playable.task_limit.1,
-    )
 
 pub invariant_of-self : goal.invariant_of-self
 invariant_of-self c =
@@ -159,21 +123,21 @@ invariant_of-self c =
     let entry : Entry = record { actor = c.args.actor; event = c.args.event; reply = c.apply-reply.result } in
     let so_far : Folds a.scenario (most_entries a.scenario) a.state a.entries.items = record { fold = c.self.invariant.fold; numbers = c.self.invariant.numbers } in
     let limits = subst (λ (m : Machine). IsEvent m.scenario.siblings c.args.event) (sym c.self.view_is) c.requires.event in
-    let reply = reply_more a.scenario a.state c.apply-reply.new.self a.entries.items c.args.event c.apply-reply.result so_far (c.apply-reply.ensures.makes (beside_at a.scenario a.entries.items) refl) in
-    let folds = folds_more a.scenario a.state c.apply-reply.new.self a.entries.items entry limits so_far (c.apply-reply.ensures.makes (beside_at a.scenario a.entries.items) refl) in
+    let reply = reply_more a.scenario a.state c.apply-reply.new.self a.entries.items c.args.event c.apply-reply.result so_far (c.apply-reply.ensures.step (beside_at a.scenario a.entries.items)) in
+    let folds = folds_more a.scenario a.state c.apply-reply.new.self a.entries.items entry limits so_far (c.apply-reply.ensures.step (beside_at a.scenario a.entries.items)) in
     record {
       playable = c.self.invariant.playable;
       events = rw c.push_reserved.ensures.items (All-push (λ (e : Entry). IsEvent a.scenario.siblings e.event) a.entries.items entry c.self.invariant.events limits);
       history = rw c.push_reserved.ensures.items (history_more a.scenario a.entries.items entry c.self.invariant.history reply);
       fold = rw c.push_reserved.ensures.items folds.fold;
       numbers = rw c.push_reserved.ensures.items folds.numbers;
-      sound = c.apply-reply.ensures.sound a.scenario.siblings c.self.invariant.sound;
-      room_for_ended = omega (arith, c.push_reserved.ensures.capacity, c.apply-reply.ensures.ended, c.self.invariant.room_for_ended);
+      sound = c.apply-reply.ensures.stays.sound c.self.invariant.sound;
+      siblings = c.apply-reply.ensures.stays.siblings ∙ c.self.invariant.siblings;
       slow = omega (
         arith,
         c.push_reserved.ensures.len,
         c.self.invariant.slow,
-        ap (λ (room : RoomState). room.clock) (c.apply-reply.ensures.makes (beside_at a.scenario a.entries.items) refl).room,
+        ap (λ (room : RoomState). room.clock) (c.apply-reply.ensures.step (beside_at a.scenario a.entries.items)).room,
         clock-step (room_of (beside_at a.scenario a.entries.items) a.state) (is_fresh_by (numbers_of a.state)) c.args.event a.scenario.siblings limits,
       );
       few_entries = omega (arith, c.push_reserved.ensures.capacity, c.self.invariant.few_entries);
@@ -183,7 +147,7 @@ pub returns-clause-reply : goal.returns-clause-reply
 returns-clause-reply c =
     let a = c.self.inside in
     let so_far : Folds a.scenario (most_entries a.scenario) a.state a.entries.items = record { fold = c.self.invariant.fold; numbers = c.self.invariant.numbers } in
-    reply_more a.scenario a.state c.apply-reply.new.self a.entries.items c.args.event c.apply-reply.result so_far (c.apply-reply.ensures.makes (beside_at a.scenario a.entries.items) refl)
+    reply_more a.scenario a.state c.apply-reply.new.self a.entries.items c.args.event c.apply-reply.result so_far (c.apply-reply.ensures.step (beside_at a.scenario a.entries.items))
     ∙ ap (λ h. reply_to a.scenario h c.args.event) c.self.invariant.history
     ∙ ap (λ (m : Machine). reply_to m.scenario (history_of m.scenario m.steps) c.args.event) c.self.view_is
 
@@ -192,7 +156,7 @@ returns-clause-entry c =
     let a = c.self.inside in
     let entry : Entry = record { actor = c.args.actor; event = c.args.event; reply = c.apply-reply.result } in
     let so_far : Folds a.scenario (most_entries a.scenario) a.state a.entries.items = record { fold = c.self.invariant.fold; numbers = c.self.invariant.numbers } in
-    let reply = reply_more a.scenario a.state c.apply-reply.new.self a.entries.items c.args.event c.apply-reply.result so_far (c.apply-reply.ensures.makes (beside_at a.scenario a.entries.items) refl) in
+    let reply = reply_more a.scenario a.state c.apply-reply.new.self a.entries.items c.args.event c.apply-reply.result so_far (c.apply-reply.ensures.step (beside_at a.scenario a.entries.items)) in
     rw c.push_reserved.ensures.items
     (sym (history_more a.scenario a.entries.items entry c.self.invariant.history reply)
     ∙ ap (λ h. h ++ entry ∷ []) (c.self.invariant.history ∙ ap (λ (m : Machine). history_of m.scenario m.steps) c.self.view_is))

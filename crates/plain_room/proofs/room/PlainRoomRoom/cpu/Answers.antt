@@ -20,7 +20,7 @@ returns-clause-view c =
     let same = c.deref.ensures.value in
     found
     ∙ sibling_shown a.scenario a.state a.entries.items cpu c.get.result
-    (record { fold = c.self.invariant.fold; numbers = c.self.invariant.numbers }) c.self.invariant.sound
+    (record { fold = c.self.invariant.fold; numbers = c.self.invariant.numbers }) c.self.invariant.siblings
     (c.get.ensures.lookup.0 ∙ ap (λ (siblings : List Sibling). ltb cpu (length siblings)) same)
     (subst (λ (siblings : List Sibling). IfSome c.get.result (λ x. x.now ≡ get_or siblings cpu x.now)) same c.get.ensures.lookup.1)
     ∙ ap (λ h. cpu_view (moment_of a.scenario h) cpu) c.self.invariant.history

@@ -1,9 +1,11 @@
+use Rattle.std.proofs.Common.{ap, refl}
+use Rattle.plain_room.specs.State.{touched}
+use Rattle.plain_room.proofs.States.{both_stay, alike_stays}
 use Rattle.plain_room.proofs.state.State.dequeue.Goals as goal
 
-pub returns-clause-sound : goal.returns-clause-sound
-returns-clause-sound c count sound =
-    let changed = c.change.ensures.sound count sound in
-    rw c.touch.ensures (record { siblings = changed.siblings; table = changed.table; tasks = changed.tasks; known = changed.known; low_pids = changed.low_pids; refs = changed.refs })
-
-pub returns-clause-room : goal.returns-clause-room
-returns-clause-room c beside = rw c.touch.ensures (c.change.ensures.room beside)
+pub returns : goal.returns
+returns c = record {
+  room = λ beside. rw c.touch.ensures (c.change.ensures.changes.room beside);
+  numbers = rw c.touch.ensures (ap (touched 1) c.change.ensures.changes.numbers);
+  stays = both_stay c.change.ensures.changes.stays (rw c.touch.ensures (alike_stays _ _ refl refl refl refl refl refl refl));
+}

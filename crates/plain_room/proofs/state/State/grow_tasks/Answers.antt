@@ -5,7 +5,7 @@ use Rattle.cs_types.specs.Room.{RoomState}
 use Rattle.plain_room.specs.Time.{grown_among}
 use Rattle.plain_room.specs.declared.state.State.{State}
 use Rattle.plain_room.specs.declared.sibling.Sibling.{Sibling}
-use Rattle.plain_room.proofs.States.{some_beside, knows-alike}
+use Rattle.plain_room.proofs.States.{some_beside, knows-alike, both_stay}
 use Rattle.plain_room.proofs.Ranges.{vtimes_are_low}
 use Rattle.plain_room.proofs.Growth.{task_was, kept, there, grown_more}
 use Rattle.plain_room.proofs.state.State.grow_tasks.Goals as goal
@@ -55,11 +55,11 @@ loop-position-preserved c =
     let at = sym c.at.ensures.task ∙ ap option_copied c.unwrap-task.ensures in
     let siblings = c.deref.ensures.value ∙ ap (λ (state : State). state.siblings.items) c.loop-position.invariant.rest in
     let is = c.grown_among-task.ensures ∙ ap (λ (ss : List Sibling). grown_among ss c.args.delta task) siblings in
-    let changed = c.change.ensures.room some_beside in
+    let changed = c.change.ensures.changes.room some_beside in
     record {
       tasks = ap (λ (room : RoomState). room.tasks) changed
           ∙ grown_more old.siblings.items c.args.delta old.tasks.tasks c.loop-position.self.tasks.tasks position task within c.loop-position.invariant.tasks at c.at.ensures.sound.rising c.grown_among-task.result is;
       limit = ap (λ (room : RoomState). room.task_limit) changed ∙ c.loop-position.invariant.limit;
       rest = c.change.ensures.rest ∙ ap (λ (state : State). let next : State = record state { tasks = c.change.new.self.tasks } in next) c.loop-position.invariant.rest;
-      sound = λ count sound. c.change.ensures.sound count (c.loop-position.invariant.sound count sound);
+      stays = both_stay c.loop-position.invariant.stays c.change.ensures.changes.stays;
     }

@@ -29,7 +29,7 @@ pub lead_of-requires-clause-priorities : goal.lead_of-requires-clause-priorities
 lead_of-requires-clause-priorities c =
     let room = room_of some_beside c.args.self.now in
     subst (λ (states : List (Option Task)). All IsFirst states) (sym (gathered c))
-    (All-firsts (λ task. IsPolicy task.spec.policy) room (online_from room c.args.cpu) (policies _ c.args.self.now c.requires.sound))
+    (All-firsts (λ task. IsPolicy task.spec.policy) room (online_from room c.args.cpu) (policies c.args.self.now c.requires.sound))
 
 pub lead_of-requires-clause-homes : goal.lead_of-requires-clause-homes
 lead_of-requires-clause-homes c =

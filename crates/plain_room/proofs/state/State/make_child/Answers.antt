@@ -76,34 +76,34 @@ returns c =
     let inserted = c.in_ok-fork.ensures.child by.0 by.1 in
     let there = ap (λ (table : Table). find (has_pid next) table.tasks) inserted ∙ found-inserted child old.tasks.tasks in
     let is : c.unwrap.result ≡ child = ap (λ one. unwrap_or one c.unwrap.result) (sym c.unwrap.ensures ∙ c.task_of.ensures.task ∙ there) in
-    let places : c.add.new.self.spare + (next + 1) ≡ old.totals.spare + next = omega (arith, c.add.ensures.spare) in
-    record {
-      makes = (
-        by.0,
-        by.1,
-        record {
-          allowed = by.2;
-          is = is;
+    let places : c.add.new.self.spare + (next + 1) ≡ old.totals.spare + next = omega (arith, c.add.ensures.spare) in (
+      by.0,
+      by.1,
+      record {
+        allowed = by.2;
+        is = is;
+        there = subst (λ (task : Task). find (has_pid task.spec.pid) c.fork.new.table.tasks ≡ Some task) (sym is) there;
+        changes = record {
           room = λ beside. rw (inserted, c.fork.ensures.next, c.fork.ensures.limit) (ap (with_child (room_of beside old)) (sym is));
-          there = subst (λ (task : Task). find (has_pid task.spec.pid) c.fork.new.table.tasks ≡ Some task) (sym is) there;
-          sound = λ count sound.
-              let fit = found_fits count next c.args.caller old.tasks.tasks by.0 sound.tasks by.1 in
-              record {
-                siblings = sound.siblings;
-                table = c.fork.ensures.sound;
-                tasks = rw inserted (fit-inserted count (next + 1) child old.tasks.tasks
-                    (record { pid = omega (arith, fit.pid, fit.below); below = omega arith; home = fit.home; policy = fit.policy })
-                    (All-weaker (IsFit count next) (IsFit count (next + 1)) (λ task fits. record { pid = fits.pid; below = omega (arith, fits.below); home = fits.home; policy = fits.policy }) old.tasks.tasks sound.tasks));
-                known = rw inserted (known-inserted old.totals c.add.new.self child old.tasks.tasks c.add.ensures.has sound.known);
-                low_pids = λ pid has. low_child old.totals c.add.new.self next pid c.add.ensures.has (sound.low_pids pid) has;
-                refs = c.fork.ensures.agree;
-              };
           numbers = λ i. record (numbers_of old) { books = record (books_of old) { totals = λ pid. c.add.ensures.each pid i; places = places i } };
-          siblings = refl;
-          ended = refl;
-          stamp = refl;
-          touches = refl;
-          clock = refl;
-        },
-      );
-    }
+          stays = record {
+            sound = λ sound.
+                let count = length old.siblings.items in
+                let fit = found_fits count next c.args.caller old.tasks.tasks by.0 sound.tasks by.1 in
+                record {
+                  table = c.fork.ensures.sound;
+                  limit = ap (λ (table : Table). table.limit) inserted ∙ sound.limit;
+                  few_tasks = sound.few_tasks;
+                  user_top = sound.user_top;
+                  tasks = rw inserted (fit-inserted count (next + 1) child old.tasks.tasks
+                      (record { pid = omega (arith, fit.pid, fit.below); below = omega arith; home = fit.home; policy = fit.policy })
+                      (All-weaker (IsFit count next) (IsFit count (next + 1)) (λ task fits. record { pid = fits.pid; below = omega (arith, fits.below); home = fits.home; policy = fits.policy }) old.tasks.tasks sound.tasks));
+                  known = rw inserted (known-inserted old.totals c.add.new.self child old.tasks.tasks c.add.ensures.has sound.known);
+                  low_pids = λ pid has. low_child old.totals c.add.new.self next pid c.add.ensures.has (sound.low_pids pid) has;
+                  refs = c.fork.ensures.agree;
+                };
+            siblings = refl;
+          };
+        };
+      },
+    )

@@ -8,10 +8,10 @@ use Rattle.cs_types.specs.declared.task.TaskSpec.{TaskSpec}
 use Rattle.cs_types.specs.Scenario.{IsPolicy}
 use Rattle.cs_types.specs.Room.{RoomState}
 use Rattle.cs_types.specs.Hotplug.{moved_off}
-use Rattle.plain_room.specs.State.{room_of, StaysSound}
+use Rattle.plain_room.specs.State.{room_of, Stays}
 use Rattle.plain_room.specs.declared.state.State.{State}
 use Rattle.plain_room.specs.declared.sibling.Sibling.{Sibling}
-use Rattle.plain_room.proofs.States.{some_beside, policies, knows-inserted}
+use Rattle.plain_room.proofs.States.{some_beside, policies, knows-inserted, both_stay}
 use Rattle.plain_room.proofs.Ranges.{leasts_are_low, vtimes_are_low}
 use Rattle.plain_room.proofs.Moves.{mapped_all, task_is, task_was, same_more, there, changed_more, moved_is, stays, stamp_at}
 use Rattle.plain_room.proofs.state.State.move_tasks.Goals as goal
@@ -32,9 +32,9 @@ moved_to-moved-requires-clause-home c =
     let change = moved_off (room_of some_beside old) c.args.cpu in
     let within : position < length old.tasks.tasks = omega (arith, c.loop-position-test.true, c.len-position-end.ensures.len) in
     let at : slice_get now.tasks.tasks position ≡ Some task = sym c.at.ensures.task ∙ ap option_copied c.unwrap-task.ensures in
-    let sound = c.loop-position.invariant.sound (length old.siblings.items) c.requires.sound in
+    let sound = c.loop-position.invariant.stays.sound c.requires.sound in
     let is = task_is change old.tasks.tasks now.tasks.tasks position task within (c.loop-position.invariant.tasks some_beside) at in
-    omega (arith, (sound.tasks position task (omega (arith, within, c.loop-position.invariant.as_many))).home, sound.siblings, ap (λ (t : Task). t.home) is)
+    omega (arith, (sound.tasks position task (omega (arith, within, c.loop-position.invariant.as_many))).home, c.loop-position.invariant.stays.siblings, ap (λ (t : Task). t.home) is)
 
 pub moved_to-moved-requires-clause-vtime : goal.moved_to-moved-requires-clause-vtime
 moved_to-moved-requires-clause-vtime c =
@@ -63,13 +63,13 @@ change-requires c =
     let change = moved_off (room_of some_beside old) c.args.cpu in
     let within : position < length old.tasks.tasks = omega (arith, c.loop-position-test.true, c.len-position-end.ensures.len) in
     let at : slice_get now.tasks.tasks position ≡ Some task = sym c.at.ensures.task ∙ ap option_copied c.unwrap-task.ensures in
-    let sound = c.loop-position.invariant.sound (length old.siblings.items) c.requires.sound in
+    let sound = c.loop-position.invariant.stays.sound c.requires.sound in
     let is = task_is change old.tasks.tasks now.tasks.tasks position task within (c.loop-position.invariant.tasks some_beside) at in
     let moved = c.moved_to-moved.ensures some_beside in
     let done : Task = record c.moved_to-moved.result { stamp = get_or c.args.stamps.now position 0 } in
     let spec : done.spec ≡ task.spec = ap (λ (t : Task). t.spec) moved in
     let policy : IsPolicy task.spec.policy =
-    subst (λ (t : Task). IsPolicy t.spec.policy) (sym is) (policies (length old.siblings.items) now sound position task (omega (arith, within, c.loop-position.invariant.as_many))) in
+    subst (λ (t : Task). IsPolicy t.spec.policy) (sym is) (policies now sound position task (omega (arith, within, c.loop-position.invariant.as_many))) in
     record {
       known = knows-inserted now done task
           (there change old.tasks.tasks now.tasks.tasks position task within (c.loop-position.invariant.tasks some_beside) at c.at.ensures.sound.rising done spec)
@@ -92,7 +92,7 @@ loop-position-preserved c =
       as_many = elim c.if-task.branch [
         | then-task+then-task-cpu w ↦
             ap (λ (state : State). length state.tasks.tasks) w.self-is
-            ∙ ap (λ (room : RoomState). length room.tasks) (w.change.ensures.room some_beside)
+            ∙ ap (λ (room : RoomState). length room.tasks) (w.change.ensures.changes.room some_beside)
             ∙ length-map now.tasks.tasks _ ∙ c.loop-position.invariant.as_many
         | else-task w ↦ ap (λ (state : State). length state.tasks.tasks) w.self-is ∙ c.loop-position.invariant.as_many
       ];
@@ -105,7 +105,7 @@ loop-position-preserved c =
                 let is = moved_is beside old now c.args.cpu c.args.to (get_or c.args.stamps.now position 0) task w.moved_to-moved.result c.loop-position.invariant.rest
                 (c.requires.to beside) (w.moved_to-moved.ensures beside) w.if-task.true w.if-task-cpu.true stamp in
                 ap (λ (state : State). state.tasks.tasks) w.self-is
-                ∙ ap (λ (room : RoomState). room.tasks) (w.change.ensures.room some_beside)
+                ∙ ap (λ (room : RoomState). room.tasks) (w.change.ensures.changes.room some_beside)
                 ∙ changed_more (moved_off room c.args.cpu) old.tasks.tasks now.tasks.tasks position task within (c.loop-position.invariant.tasks beside) at c.at.ensures.sound.rising done
                 (ap (λ (t : Task). t.spec) (w.moved_to-moved.ensures beside)) is
             | else-task w ↦
@@ -118,7 +118,7 @@ loop-position-preserved c =
           ];
       limit = elim c.if-task.branch [
         | then-task+then-task-cpu w ↦
-            ap (λ (state : State). state.tasks.limit) w.self-is ∙ ap (λ (room : RoomState). room.task_limit) (w.change.ensures.room some_beside) ∙ c.loop-position.invariant.limit
+            ap (λ (state : State). state.tasks.limit) w.self-is ∙ ap (λ (room : RoomState). room.task_limit) (w.change.ensures.changes.room some_beside) ∙ c.loop-position.invariant.limit
         | else-task w ↦ ap (λ (state : State). state.tasks.limit) w.self-is ∙ c.loop-position.invariant.limit
       ];
       rest = elim c.if-task.branch [
@@ -127,10 +127,9 @@ loop-position-preserved c =
             (w.change.ensures.rest ∙ ap (λ (state : State). let next : State = record state { tasks = w.change.new.self.tasks } in next) c.loop-position.invariant.rest)
         | else-task w ↦ subst (λ (state : State). state ≡ record old { tasks = state.tasks }) (sym w.self-is) c.loop-position.invariant.rest
       ];
-      sound = elim c.if-task.branch [
-        | then-task+then-task-cpu w ↦
-            subst (λ (state : State). StaysSound old state) (sym w.self-is) (λ count sound. w.change.ensures.sound count (c.loop-position.invariant.sound count sound))
-        | else-task w ↦ subst (λ (state : State). StaysSound old state) (sym w.self-is) c.loop-position.invariant.sound
+      stays = elim c.if-task.branch [
+        | then-task+then-task-cpu w ↦ subst (λ (state : State). Stays old state) (sym w.self-is) (both_stay c.loop-position.invariant.stays w.change.ensures.changes.stays)
+        | else-task w ↦ subst (λ (state : State). Stays old state) (sym w.self-is) c.loop-position.invariant.stays
       ];
     }
 

@@ -3,7 +3,7 @@ use Rattle.std.specs.Option.{option_map}
 use Rattle.std.proofs.lemmas.List.{map-set}
 use Rattle.cs_types.specs.Selection.{pid_of, first_on, is_fair_task, running}
 use Rattle.plain_room.specs.State.{Beside, sibling_state, room_of}
-use Rattle.plain_room.proofs.States.{sibling_at, numbers_kept}
+use Rattle.plain_room.proofs.States.{sibling_at, numbers_kept, alike_stays}
 use Rattle.plain_room.proofs.state.State.run_first.Goals as goal
 
 -- the first that the code maps to its pid is the model's
@@ -23,11 +23,12 @@ state_is c beside =
     let sibling = sibling_state c.index.result.now in
     c.running_first.ensures.state ∙ (λ i. record (running sibling (run i)) { snapshot = cond (fair i) sibling.least sibling.snapshot })
 
-pub returns-clause-schedules : goal.returns-clause-schedules
-returns-clause-schedules c =
+pub returns : goal.returns
+returns c =
     let at = sibling_at c.args.self.now.siblings.items c.args.cpu c.index.result.now c.requires.cpu c.index.ensures in
     record {
       pick = λ beside. rw (c.unwrap_or.ensures, run_is c beside) refl;
       room = λ beside. rw (c.touch.ensures) (rw (map-set sibling_state, at) (rw (state_is c beside, c.close.ensures.count, c.close.ensures.occupation, c.close.ensures.started) refl));
       numbers = rw (c.touch.ensures, c.close.ensures.intervals) (rw (numbers_kept c.args.self.now.siblings.items c.args.cpu c.index.result.now c.running_first.result c.index.ensures c.running_first.ensures.number) refl);
+      stays = rw c.touch.ensures (alike_stays _ _ (search rules) refl refl refl refl refl refl);
     }

@@ -1,12 +1,11 @@
-use Rattle.std.proofs.Common.{◌≡◌, ◌∙◌, ◌≤◌, List, [], ◌∷◌, sym, ap, refl, subst, length, arith, ltb}
+use Rattle.std.proofs.Common.{◌≡◌, ◌∙◌, ◌≤◌, List, [], ◌∷◌, sym, ap, refl, length, arith, ltb}
 use Rattle.std.specs.Prelude.{◌&&◌}
 use Rattle.std.proofs.lemmas.List.Sums.{length-filter, count_by-le-length}
 use Rattle.cs_types.specs.declared.task.Task.{Task}
 use Rattle.cs_types.specs.Room.{RoomState}
 use Rattle.task_table.specs.Group.{is_in_group, group_above}
 use Rattle.task_table.proofs.Tables.{above_kept}
-use Rattle.plain_room.specs.State.{IsSoundBut}
-use Rattle.plain_room.proofs.States.{some_beside}
+use Rattle.plain_room.proofs.States.{some_beside, both_stay, same_stays}
 use Rattle.plain_room.proofs.Settings.{group_done, group_room, group_numbers, group_touches}
 use Rattle.plain_room.proofs.state.State.set_group.Goals as goal
 
@@ -20,18 +19,16 @@ none_left (task ∷ tasks) few = absurd (omega arith)
 
 pub loop-init : goal.loop-init
 loop-init c = record {
-  siblings = refl;
-  sound = c.requires.sound;
+  stays = same_stays;
   room = λ beside. refl;
   numbers = refl;
-  ended = refl;
   left = omega (arith, few_members c.args.group c.args.self.now.tasks.tasks, c.len-end.ensures.len);
 }
 
-pub returns-in_default-clause-sets : goal.returns-in_default-clause-sets
-returns-in_default-clause-sets c =
+pub returns-in_default : goal.returns-in_default
+returns-in_default c =
     group_done c.args.self.now c.loop.self c.args.cookie (group_above c.args.group c.loop.after c.loop.self.tasks.tasks) (group_above c.args.group 0 c.args.self.now.tasks.tasks)
-    c.loop.invariant.room c.loop.invariant.numbers c.in_default.ensures.none
+    c.loop.invariant.room c.loop.invariant.numbers c.in_default.ensures.none c.loop.invariant.stays
 
 pub set_cookie-requires-clause-touches : goal.set_cookie-requires-clause-touches
 set_cookie-requires-clause-touches c =
@@ -51,20 +48,21 @@ loop-preserved c =
     let all = group_above c.args.group 0 c.args.self.now.tasks.tasks in
     let rest = group_above c.args.group task.spec.pid c.set_cookie.new.self.tasks.tasks in
     let kept : rest ≡ group_above c.args.group task.spec.pid tasks =
-    ap (λ (room : RoomState). group_above c.args.group task.spec.pid room.tasks) (c.set_cookie.ensures.sets.room some_beside)
+    ap (λ (room : RoomState). group_above c.args.group task.spec.pid room.tasks) (c.set_cookie.ensures.room some_beside)
     ∙ above_kept c.args.group c.args.cookie task tasks in
     let is : left ≡ task ∷ rest = c.in-Some.ensures.some ∙ ap (λ (ts : List Task). task ∷ ts) (sym kept) in
     record {
-      siblings = c.set_cookie.ensures.sound.siblings ∙ c.loop.invariant.siblings;
-      sound = subst (λ n. IsSoundBut n c.set_cookie.new.self c.args.cookie) (sym c.set_cookie.ensures.sound.siblings) c.set_cookie.ensures.sound;
-      room = group_room c.args.self.now c.loop.self c.args.cookie left all c.loop.invariant.room c.loop.invariant.numbers c.set_cookie.new.self task rest is c.set_cookie.ensures.sets;
-      numbers = group_numbers c.args.self.now c.loop.self c.args.cookie left all c.loop.invariant.room c.loop.invariant.numbers c.set_cookie.new.self task rest is c.set_cookie.ensures.sets;
-      ended = c.set_cookie.ensures.ended ∙ c.loop.invariant.ended;
+      stays = both_stay c.loop.invariant.stays c.set_cookie.ensures.stays;
+      room = group_room c.args.self.now c.loop.self c.args.cookie left all c.loop.invariant.room c.loop.invariant.numbers c.set_cookie.new.self task rest is c.set_cookie.ensures;
+      numbers = group_numbers c.args.self.now c.loop.self c.args.cookie left all c.loop.invariant.room c.loop.invariant.numbers c.set_cookie.new.self task rest is c.set_cookie.ensures;
       left = omega (arith, ap length is, c.loop.invariant.left);
     }
 
-pub returns-clause-sets : goal.returns-clause-sets
-returns-clause-sets c =
+pub returns : goal.returns
+returns c =
     let left = group_above c.args.group c.loop.after c.loop.self.tasks.tasks in
     group_done c.args.self.now c.loop.self c.args.cookie left (group_above c.args.group 0 c.args.self.now.tasks.tasks)
-    c.loop.invariant.room c.loop.invariant.numbers (none_left left (omega (arith, c.loop.invariant.left, c.loop-test.false)))
+    c.loop.invariant.room c.loop.invariant.numbers (none_left left (omega (arith, c.loop.invariant.left, c.loop-test.false))) c.loop.invariant.stays
+
+pub set_cookie-requires-clause-sound : goal.set_cookie-requires-clause-sound
+set_cookie-requires-clause-sound c = c.loop.invariant.stays.sound c.requires.sound

@@ -1,4 +1,4 @@
-use Rattle.std.proofs.Common.{◌≡◌, ◌+◌, ◌∙◌, ap, sym, cond, Bool, true, false, refl, subst, length}
+use Rattle.std.proofs.Common.{◌≡◌, ◌+◌, ◌∙◌, ap, sym, cond, Bool, true, false, refl, subst}
 use Rattle.std.specs.Prelude.{Option, Some}
 use Rattle.cs_types.specs.declared.task.Task.{Task}
 use Rattle.cs_types.specs.Room.{RoomState, sibling_of, with_task, flagged}
@@ -21,45 +21,51 @@ found_numbers numbers task found queued is so =
 pub requeue-requires-clause-known : goal.requeue-requires-clause-known
 requeue-requires-clause-known c =
     let task = c.in-Some.task in
-    let fit = c.in-Some.ensures.fit (length c.args.self.now.siblings.items) c.requires.sound in
+    let fit = c.in-Some.ensures.fit c.requires.ready.sound in
     subst (Knows c.args.self.now) (sym c.with_policy-changed.ensures)
     (knows-inserted c.args.self.now (with_policy c.args.policy task) task c.in-Some.ensures.there refl fit.home c.requires.policy)
 
 pub change-requires : goal.change-requires
 change-requires c =
     let task = c.in-Some.task in
-    let fit = c.in-Some.ensures.fit (length c.args.self.now.siblings.items) c.requires.sound in
+    let fit = c.in-Some.ensures.fit c.requires.ready.sound in
     record {
       known = subst (Knows c.args.self.now) (sym c.with_policy-changed.ensures)
           (knows-inserted c.args.self.now (with_policy c.args.policy task) task c.in-Some.ensures.there refl fit.home c.requires.policy);
     }
 
-pub returns-else-task-clause-makes : goal.returns-else-task-clause-makes
-returns-else-task-clause-makes c beside =
-    let room = room_of beside c.args.self.now in
-    let task = c.in-Some.task in
-    let changed = with_policy c.args.policy task in
-    let queued : RoomState = flagged (queued_at_home (dequeued room changed) changed) task.home (is_run (sibling_of room task.home).run (Some task.spec.pid)) in
-    uncharged (record {
-      reply = ap (λ found. (set_policy room c.args.policy found).reply) c.in-Some.ensures.task;
-      room = c.change.ensures.room beside ∙ ap (with_task room) c.with_policy-changed.ensures
-          ∙ ap (λ b. cond b queued (with_task room changed)) (sym c.if-task.false)
-          ∙ ap (λ found. (set_policy room c.args.policy found).room) c.in-Some.ensures.task;
-      numbers = c.change.ensures.numbers ∙ untouched (numbers_of c.args.self.now)
-          ∙ found_numbers (numbers_of c.args.self.now) task _ false c.in-Some.ensures.task c.if-task.false;
-    })
+pub returns-else-task : goal.returns-else-task
+returns-else-task c = record {
+  step = λ beside.
+      let room = room_of beside c.args.self.now in
+      let task = c.in-Some.task in
+      let changed = with_policy c.args.policy task in
+      let queued : RoomState = flagged (queued_at_home (dequeued room changed) changed) task.home (is_run (sibling_of room task.home).run (Some task.spec.pid)) in
+      uncharged (record {
+        reply = ap (λ found. (set_policy room c.args.policy found).reply) c.in-Some.ensures.task;
+        room = c.change.ensures.changes.room beside ∙ ap (with_task room) c.with_policy-changed.ensures
+            ∙ ap (λ b. cond b queued (with_task room changed)) (sym c.if-task.false)
+            ∙ ap (λ found. (set_policy room c.args.policy found).room) c.in-Some.ensures.task;
+        numbers = c.change.ensures.changes.numbers ∙ untouched (numbers_of c.args.self.now)
+            ∙ found_numbers (numbers_of c.args.self.now) task _ false c.in-Some.ensures.task c.if-task.false;
+      });
+  stays = c.change.ensures.changes.stays;
+}
 
-pub returns-then-task-clause-makes : goal.returns-then-task-clause-makes
-returns-then-task-clause-makes c beside =
-    let room = room_of beside c.args.self.now in
-    let task = c.in-Some.task in
-    let changed = with_policy c.args.policy task in
-    let requeued : Task → RoomState = λ other. flagged (queued_at_home (dequeued room other) other) other.home (is_run (sibling_of room other.home).run (Some other.spec.pid)) in
-    uncharged (record {
-      reply = ap (λ found. (set_policy room c.args.policy found).reply) c.in-Some.ensures.task;
-      room = c.requeue.ensures.room beside ∙ ap requeued c.with_policy-changed.ensures
-          ∙ ap (λ b. cond b (requeued changed) (with_task room changed)) (sym c.if-task.true)
-          ∙ ap (λ found. (set_policy room c.args.policy found).room) c.in-Some.ensures.task;
-      numbers = c.requeue.ensures.numbers
-          ∙ found_numbers (numbers_of c.args.self.now) task _ true c.in-Some.ensures.task c.if-task.true;
-    })
+pub returns-then-task : goal.returns-then-task
+returns-then-task c = record {
+  step = λ beside.
+      let room = room_of beside c.args.self.now in
+      let task = c.in-Some.task in
+      let changed = with_policy c.args.policy task in
+      let requeued : Task → RoomState = λ other. flagged (queued_at_home (dequeued room other) other) other.home (is_run (sibling_of room other.home).run (Some other.spec.pid)) in
+      uncharged (record {
+        reply = ap (λ found. (set_policy room c.args.policy found).reply) c.in-Some.ensures.task;
+        room = c.requeue.ensures.room beside ∙ ap requeued c.with_policy-changed.ensures
+            ∙ ap (λ b. cond b (requeued changed) (with_task room changed)) (sym c.if-task.true)
+            ∙ ap (λ found. (set_policy room c.args.policy found).room) c.in-Some.ensures.task;
+        numbers = c.requeue.ensures.numbers
+            ∙ found_numbers (numbers_of c.args.self.now) task _ true c.in-Some.ensures.task c.if-task.true;
+      });
+  stays = c.requeue.ensures.stays;
+}

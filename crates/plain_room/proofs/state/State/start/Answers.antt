@@ -11,7 +11,7 @@ use Rattle.cs_types.specs.Room.{first_pid, has_pid, asleep_tasks, idle}
 use Rattle.cookie_refs.proofs.Agreements.{Agree-none}
 use Rattle.plain_room.specs.State.{sibling_state, IsFit}
 use Rattle.plain_room.proofs.Lists.{map-replicate}
-use Rattle.plain_room.proofs.States.{fit-asleep, cookieless-asleep, number_of}
+use Rattle.plain_room.proofs.States.{fit-asleep, cookieless-asleep, number_of, fit-as_many}
 use Rattle.plain_room.proofs.state.State.start.Goals as goal
 
 -- a pid that one of the tasks has is below what each of theirs is below
@@ -32,19 +32,26 @@ returns-clause-room c =
     let pid : c.first_pid.result ≡ first_pid c.args.scenario.now.tasks = c.first_pid.ensures ∙ ap first_pid c.items-2.ensures in
     rw (tasks, siblings, pid, c.in_ok-ended.ensures.items, c.in_ok-tasks.ensures.limit, c.in_ok-refs.ensures.next, c.in_ok-refs.ensures.limit, c.closed.ensures.count, c.closed.ensures.occupation, c.closed.ensures.started) refl
 
+pub returns-clause-siblings : goal.returns-clause-siblings
+returns-clause-siblings c = ap length (c.in_ok-siblings.ensures.items_if_clones_equal (λ y e. e)) ∙ length-replicate c.args.scenario.now.siblings _
+
 pub returns-clause-sound : goal.returns-clause-sound
 returns-clause-sound c =
-    let tasks : c.in_ok-tasks.tasks.tasks ≡ asleep_tasks c.args.scenario.now.tasks =
+    let scenario = c.args.scenario.now in
+    let tasks : c.in_ok-tasks.tasks.tasks ≡ asleep_tasks scenario.tasks =
     c.in_ok-tasks.ensures.tasks ∙ ap asleep_tasks c.items.ensures in
+    let as_many = ap length (c.in_ok-siblings.ensures.items_if_clones_equal (λ y e. e)) ∙ length-replicate scenario.siblings _ in
     record {
-      siblings = ap length (c.in_ok-siblings.ensures.items_if_clones_equal (λ y e. e)) ∙ length-replicate c.args.scenario.now.siblings _;
       table = c.in_ok-tasks.ensures.sound;
-      tasks = rw (tasks, c.first_pid.ensures ∙ ap first_pid c.items-2.ensures) (fit-asleep c.args.scenario.now.siblings c.args.scenario.now.tasks c.requires.playable.tasks);
+      limit = c.in_ok-tasks.ensures.limit;
+      few_tasks = c.requires.playable.task_limit.1;
+      user_top = c.requires.playable.user_top;
+      tasks = rw (tasks, c.first_pid.ensures ∙ ap first_pid c.items-2.ensures) (fit-as_many (first_pid scenario.tasks) (asleep_tasks scenario.tasks) as_many (fit-asleep scenario.siblings scenario.tasks c.requires.playable.tasks));
       known = c.in_ok-totals.ensures.known;
       low_pids = λ pid has. rw (c.first_pid.ensures ∙ ap first_pid c.items-2.ensures)
-          (any_below (first_pid c.args.scenario.now.tasks) pid (asleep_tasks c.args.scenario.now.tasks) (fit-asleep c.args.scenario.now.siblings c.args.scenario.now.tasks c.requires.playable.tasks)
+          (any_below (first_pid scenario.tasks) pid (asleep_tasks scenario.tasks) (fit-asleep scenario.siblings scenario.tasks c.requires.playable.tasks)
           (ap (list_any (has_pid pid)) (sym tasks) ∙ c.in_ok-totals.ensures.only pid has));
-      refs = rw tasks (Agree-none c.in_ok-refs.refs (asleep_tasks c.args.scenario.now.tasks) c.in_ok-refs.ensures.counts (cookieless-asleep c.args.scenario.now.tasks));
+      refs = rw tasks (Agree-none c.in_ok-refs.refs (asleep_tasks scenario.tasks) c.in_ok-refs.ensures.counts (cookieless-asleep scenario.tasks));
     }
 
 pub returns-clause-numbers : goal.returns-clause-numbers
@@ -61,5 +68,6 @@ returns-clause-numbers c =
         intervals = c.closed.ensures.intervals i;
         totals = λ pid. (c.in_ok-totals.ensures.zero pid ∙ sym (total_of-none pid)) i;
         places = places i;
+        ends = c.in_ok-ended.ensures.exact i;
       };
     }

@@ -13,8 +13,8 @@ pub steal-requires-clause-there : goal.steal-requires-clause-there
 steal-requires-clause-there c =
     stolen_there (room_of some_beside c.args.self.now) c.args.thief c.in-Some.task c.requires.sound.table.rising (sym (c.in-Some.ensures.stolen some_beside))
 
-pub returns-in-Some-clause-tries : goal.returns-in-Some-clause-tries
-returns-in-Some-clause-tries c = record {
+pub returns-in-Some : goal.returns-in-Some
+returns-in-Some c = record {
   reply = λ beside.
       let room = room_of beside c.args.self.now in
       ap (Stole c.in-Some.task.spec.pid) (c.source_of-source.ensures.source beside)
@@ -23,10 +23,11 @@ returns-in-Some-clause-tries c = record {
       let room = room_of beside c.args.self.now in
       c.steal.ensures.room beside ∙ ap (λ (found : Option Task). (try_steal room c.args.thief found).room) (c.in-Some.ensures.stolen beside);
   numbers = λ beside. c.steal.ensures.numbers;
+  stays = c.steal.ensures.stays;
 }
 
-pub returns-in-None-clause-tries : goal.returns-in-None-clause-tries
-returns-in-None-clause-tries c = record {
+pub returns-in-None : goal.returns-in-None
+returns-in-None c = record {
   reply = λ beside.
       let room = room_of beside c.args.self.now in
       ap Missed (c.source_of-source.ensures.source beside)
@@ -38,4 +39,5 @@ returns-in-None-clause-tries c = record {
   numbers = λ beside.
       c.set_place.ensures.numbers
       ∙ ap (λ (n : ℕ). let numbers : Numbers = record (numbers_of c.args.self.now) { task = n } in numbers) (sym (add-zero c.args.self.now.task_number));
+  stays = c.set_place.ensures.stays;
 }
