@@ -19,8 +19,45 @@ use Rattle.cookie_refs.specs.Refs.{Refs}
 use Rattle.prctl_core.specs.declared.decision.Planned.{Planned}
 use Rattle.prctl_core.specs.declared.decision.Target.{Target}
 use Rattle.prctl_core.specs.declared.decision.Target.TheVariants.{One}
-use Rattle.prctl_core.specs.Plan.{command_number, named, IsCall, AreThere, Settles, may_access_all, is_alone, NamesMembers, NamesCaller, IsRoomOf, reply_of, SetsIn, get_plan, gift, IsFull, IsMade}
+use Rattle.prctl_core.specs.Plan.{command_number, named, IsCall, AreThere, Settles, may_access_all, is_alone, NamesMembers, NamesCaller, IsRoomOf, reply_of, SetsIn, IsPlanned, get_plan, gift, IsFull, IsMade}
 use Rattle.prctl_core.proofs.Rows.{get_misplaced, get_outside, got, full, from_many, from_one, create_refused, created, share_refused, shared}
+
+-- what a GET comes to is a plan
+pub get_planned : (called : Called) (addr top : ℕ) → IsPlanned (get_plan called addr top)
+get_planned called addr top =
+    by_place (not (is_alone called) || not (addr % 8 == 0)) (nat_lt addr 4096 || nat_lt (top - 8) addr) refl refl where
+      by_place : (a b : Bool) → (not (is_alone called) || not (addr % 8 == 0)) ≡ a → (nat_lt addr 4096 || nat_lt (top - 8) addr) ≡ b →
+          IsPlanned (get_plan called addr top)
+      by_place true b at to = rw at tt
+      by_place false true at to = rw (at, to) tt
+      by_place false false at to = rw (at, to) (refl, refl)
+
+-- and sets nothing
+pub get_sets : (room : RoomState) (pid : ℕ) (ask : Ask) (called : Called) (addr top : ℕ) → SetsIn room pid ask (get_plan called addr top)
+get_sets room pid ask called addr top =
+    by_place (not (is_alone called) || not (addr % 8 == 0)) (nat_lt addr 4096 || nat_lt (top - 8) addr) refl refl where
+      by_place : (a b : Bool) → (not (is_alone called) || not (addr % 8 == 0)) ≡ a → (nat_lt addr 4096 || nat_lt (top - 8) addr) ≡ b →
+          SetsIn room pid ask (get_plan called addr top)
+      by_place true b at to = rw at tt
+      by_place false true at to = rw (at, to) tt
+      by_place false false at to = rw (at, to) (λ zero. absurd cc)
+
+-- What a gift comes to is a plan, and what a CREATE comes to
+pub gift_planned : (cookie : ℕ) (to : Result Target Errno) → IsPlanned (gift cookie to)
+gift_planned cookie (Ok to) = tt
+gift_planned cookie (Err errno) = tt
+
+pub create_planned : (tasks : List Task) (old new : Refs) (called : Called) (planned : Planned) →
+    (length (live_cookies tasks) ≡ old.limit → IsFull old new planned) →
+    (length (live_cookies tasks) ≢ old.limit → IsMade old new tasks called planned) → IsPlanned planned
+create_planned tasks old new called planned at_limit below =
+    elim (cases_Bool (length (live_cookies tasks) == old.limit)) [
+      | inl same ↦ subst IsPlanned (sym (at_limit (eqb-true (length (live_cookies tasks)) old.limit same)).refused) tt
+      | inr other ↦
+          let room_left : length (live_cookies tasks) ≢ old.limit = λ e. let is_full = eq-eqb _ _ e in absurd cc in
+          let made = below room_left in
+          subst IsPlanned (sym made.plan) (gift_planned old.next made.to)
+    ]
 
 -- a plan in a room
 pub record IsPlanOf (room : RoomState) (pid : ℕ) (ask : Ask) (planned : Planned) (refs : Refs) : Type 0 where
