@@ -217,23 +217,35 @@ fn expect_script<R: AllocGlobal + Abort>(rt: &R, script: Script) {
 }
 
 #[test]
-fn scripts(rt: HostRuntime) {
+fn scripts_of_selections(rt: HostRuntime) {
     expect_script(&rt, NOTHING);
     expect_script(&rt, FORCED_IDLE);
     expect_script(&rt, LOWER_MATCH);
     expect_script(&rt, CORE_COOKIE_0);
     expect_script(&rt, TIE_OF_LEADS);
     expect_script(&rt, STALE_PICK);
+}
+
+#[test]
+fn scripts_of_accounts(rt: HostRuntime) {
     expect_script(&rt, FORCED_IDLE_TICK);
     expect_script(&rt, TWO_SHARES);
     expect_script(&rt, THREE_SHARES);
     expect_script(&rt, CHARGED_AT_EXIT);
+}
+
+#[test]
+fn scripts_of_tasks(rt: HostRuntime) {
     expect_script(&rt, DEADLINES);
     expect_script(&rt, ROUND_ROBIN);
     expect_script(&rt, GROWTH);
     expect_script(&rt, FORK_AND_EXIT);
     expect_script(&rt, REFUSALS);
     expect_script(&rt, LAST_REFERENCE);
+}
+
+#[test]
+fn scripts_of_moves(rt: HostRuntime) {
     expect_script(&rt, STEAL);
     expect_script(&rt, LAST_TASK_STOLEN);
     expect_script(&rt, HOTPLUG);
@@ -252,30 +264,31 @@ fn played<R: AllocGlobal + Abort>(rt: &R, script: Script) -> PlainRoom
     room
 }
 
-// In pieces of 7 bytes at most. The second line of the report needs two, and the sink fails at the
-// second of these.
-#[test]
-fn texts_of_a_machine(rt: HostRuntime) {
-    let room = played(&rt, FORCED_IDLE);
-    let mut whole = sink_of(&rt, 7, Vec::new(rt.alloc()));
-    output(&room, &mut whole).expect(&rt, "a sink that takes all");
-    assert!(rt; whole.bytes() == output_of(&rt, FORCED_IDLE).as_slice());
-    let mut cut = sink_of(&rt, 7, only(&rt, 3));
-    assert!(rt; report(&room, &mut cut).is_err());
+/// Expects the output of the first example and a part of its report, in pieces of 7 bytes at most. The
+/// second line of the report needs two, and the sink fails at the second of these.
+fn expect_texts<R: AllocGlobal + Abort>(rt: &R, room: &PlainRoom) {
+    let mut whole = sink_of(rt, 7, Vec::new(rt.alloc()));
+    output(room, &mut whole).expect(rt, "a sink that takes all");
+    assert!(rt; whole.bytes() == output_of(rt, FORCED_IDLE).as_slice());
+    let mut cut = sink_of(rt, 7, only(rt, 3));
+    assert!(rt; report(room, &mut cut).is_err());
     assert!(rt; cut.bytes() == b"report\nclock 1".as_slice());
 }
 
-// What is common to the siblings, and each of them: what it runs, its own number, and whether it is
-// pending.
 #[test]
-fn views_of_a_core(rt: HostRuntime) {
-    let room = played(&rt, FORCED_IDLE_TICK);
+fn texts_of_a_machine(rt: HostRuntime) {
+    expect_texts(&rt, &played(&rt, FORCED_IDLE));
+}
+
+/// Expects what is common to the siblings, and each of them: what it runs, its own number, and whether it
+/// is pending.
+fn expect_core(rt: &impl Abort, room: &PlainRoom) {
     assert!(rt; room.clock() == 6_000_000);
     assert!(rt; room.numbers() == (7, 7));
     let core = room.core();
     assert!(rt; (core.cookie, core.forced, core.occupation, core.intervals) == (0, 1, 1, 1));
     for (place, wanted) in [(0, (0, 7, false)), (1, (0, 6, true))] {
-        let cpu = room.cpu(place).expect(&rt, "a sibling");
+        let cpu = room.cpu(place).expect(rt, "a sibling");
         assert!(rt; cpu.online && (cpu.run, cpu.number, cpu.pending) == wanted);
     }
     assert!(rt; room.cpu(2).is_none());
@@ -288,16 +301,16 @@ fn is_adoption_at_end(entry: &Entry, cpu: Cpu, run: Pid) -> bool {
         && matches!(entry.reply, Reply::Picked(pick) if matches!(pick.kind, Kind::Adopted) && pick.run == run)
 }
 
-// Sibling 1 alone is pending, and has adopted its task then.
-#[test]
-fn end_of_a_run(rt: HostRuntime) {
-    let mut room = played(&rt, FORCED_IDLE_TICK);
+/// Expects that sibling 1 alone is pending, and has adopted its task at the end.
+fn expect_end(rt: &impl Abort, room: &mut PlainRoom)
+    requires { IsPlayable room.old.scenario }
+{
     assert!(rt; room.siblings() == 2 && 4 <= room.spare());
     assert!(rt; room.drain() == 1);
     assert!(rt; room.length() == 11);
-    let entry = room.entry(10).expect(&rt, "an entry");
+    let entry = room.entry(10).expect(rt, "an entry");
     assert!(rt; is_adoption_at_end(&entry, 1, 2));
-    assert!(rt; !room.cpu(1).expect(&rt, "a sibling").pending);
+    assert!(rt; !room.cpu(1).expect(rt, "a sibling").pending);
 }
 
 /// Expects this task behind the pid: its pid, its sibling, its cookie, its total of forced idle and its
@@ -314,13 +327,19 @@ fn expect_task(
     assert!(rt; (task.pid, task.cpu, task.cookie, task.forced, task.vtime) == wanted);
 }
 
-// In the order of the pids, and none after the last.
-#[test]
-fn tasks_of_a_machine(rt: HostRuntime) {
-    let room = played(&rt, FORCED_IDLE_TICK);
-    expect_task(&rt, &room, 0, true, (1, 0, 1, 6_000_000, 6_000_000));
-    expect_task(&rt, &room, 1, true, (2, 1, 0, 0, 0));
+/// Expects the tasks, in the order of their pids, and none after the last.
+fn expect_tasks(rt: &impl Abort, room: &PlainRoom) {
+    expect_task(rt, room, 0, true, (1, 0, 1, 6_000_000, 6_000_000));
+    expect_task(rt, room, 1, true, (2, 1, 0, 0, 0));
     assert!(rt; room.task_after(2).is_none());
+}
+
+#[test]
+fn views_of_a_machine(rt: HostRuntime) {
+    let mut room = played(&rt, FORCED_IDLE_TICK);
+    expect_core(&rt, &room);
+    expect_tasks(&rt, &room);
+    expect_end(&rt, &mut room);
 }
 
 /// Expects this task at the place of its end: its pid, and its total of forced idle in ns.
@@ -329,14 +348,22 @@ fn expect_ended(rt: &impl Abort, room: &PlainRoom, place: u64, wanted: (Pid, u64
     assert!(rt; (ended.pid, ended.forced) == wanted);
 }
 
-// They are no tasks any more, and the one that lives has its cookie still.
+/// Expects that two children ended and are no tasks any more, and that the one that lives has its cookie
+/// still.
+fn expect_children(rt: &impl Abort, room: &PlainRoom) {
+    expect_ended(rt, room, 0, (2, 0));
+    expect_ended(rt, room, 1, (3, 0));
+    assert!(rt; room.ended(2).is_none());
+    expect_task(rt, room, 0, false, (1, 0, 1, 0, 0));
+    assert!(rt; room.task_after(1).is_none());
+}
+
 #[test]
-fn tasks_that_ended(rt: HostRuntime) {
-    let forked = played(&rt, FORK_AND_EXIT);
-    expect_ended(&rt, &forked, 0, (2, 0));
-    expect_ended(&rt, &forked, 1, (3, 0));
-    assert!(rt; forked.ended(2).is_none());
-    expect_task(&rt, &forked, 0, false, (1, 0, 1, 0, 0));
-    assert!(rt; forked.task_after(1).is_none());
+fn children_that_ended(rt: HostRuntime) {
+    expect_children(&rt, &played(&rt, FORK_AND_EXIT));
+}
+
+#[test]
+fn task_that_ended(rt: HostRuntime) {
     expect_ended(&rt, &played(&rt, CHARGED_AT_EXIT), 0, (1, 10));
 }

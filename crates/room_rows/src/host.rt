@@ -5,6 +5,7 @@ use crate::commands::{source_of, words_of};
 use cs_outside::MemSink;
 use scenario_runner::{Status, run};
 use std::alloc::{AllocError, Global};
+use std::process::Abort;
 use std::str;
 
 /// The host, and its steps before the first round.
@@ -51,6 +52,13 @@ fn text_of_host(alloc: Global) -> Result<Vec<u8>, AllocError> {
     Ok(text)
 }
 
+/// Expects the first lines of an output, and the first of its report.
+fn expect_host(rt: &impl Abort, output: &str) {
+    assert!(rt; output.starts_with(FIRST_LINES));
+    let (_, report) = output.split_once("report\n").expect(rt, "a report");
+    assert!(rt; report.starts_with("clock 220000000\n"));
+}
+
 #[test]
 fn host_of_two_guests(rt: HostRuntime) {
     let text = text_of_host(rt.alloc()).expect(&rt, "room");
@@ -60,8 +68,5 @@ fn host_of_two_guests(rt: HostRuntime) {
     );
     let words = words_of(rt.alloc(), &["replay"]).expect(&rt, "room");
     assert!(rt; run(&rt, &words, &mut source, &mut sink) == Status::Done);
-    let output = str::from_utf8(sink.bytes()).expect(&rt, "a text");
-    assert!(rt; output.starts_with(FIRST_LINES));
-    let (_, report) = output.split_once("report\n").expect(&rt, "a report");
-    assert!(rt; report.starts_with("clock 220000000\n"));
+    expect_host(&rt, str::from_utf8(sink.bytes()).expect(&rt, "a text"));
 }

@@ -1,6 +1,6 @@
 //! The lines of entries: whole, in one piece, and up to a fault.
 
-use cs_outside::MemSink;
+use crate::commands::{only, sink_of};
 use cs_types::{Actor, Ask, Cookie, Entry, Errno, Event, Kind, Pick, Pid, Reply};
 use scenario_text::entry_text;
 use std::process::Abort;
@@ -88,7 +88,7 @@ fn ended(pid: Pid, pick: Pick) -> Reply {
 
 /// Expects this line of the entry, written in one piece.
 fn expect_line<R: AllocGlobal + Abort>(rt: &R, entry: &Entry, line: &str) {
-    let mut sink = MemSink::of(rt.alloc(), 128, 128, Vec::new(rt.alloc())).expect(rt, "room");
+    let mut sink = sink_of(rt, 128, Vec::new(rt.alloc()));
     entry_text(entry, &mut sink).expect(rt, line);
     assert!(rt; sink.bytes() == line.as_bytes());
     assert!(rt; sink.calls() == 1);
@@ -276,8 +276,7 @@ fn lines_of_forks(rt: HostRuntime) {
 
 #[test]
 fn fails_where_the_sink_does(rt: HostRuntime) {
-    let fails = vec![in rt.alloc(); 2].expect(&rt, "room");
-    let mut sink = MemSink::of(rt.alloc(), 128, 7, fails).expect(&rt, "room");
+    let mut sink = sink_of(&rt, 7, only(&rt, 2));
     let entry = wake(0, 1, Reply::Woken(0));
     assert!(rt; entry_text(&entry, &mut sink).is_err());
     assert!(rt; sink.bytes() == b"c0 wake".as_slice());

@@ -2,7 +2,7 @@
 //! call, how a task is born and ends, and the accounts of forced idle.
 
 ghost use Rattle.std.specs.Prelude.{◌≡◌, ◌^◌, ◌<◌, All, OnErr};
-ghost use Rattle.cookie_refs.specs.Refs.{Agree};
+ghost use Rattle.cookie_refs.specs.Refs.{Agree, count_of};
 
 use cookie_refs::{CookieFull, CookieRefs};
 use cs_types::{Ask, Cookie, Creds, Errno, Pid, Policy, Reply, Task, TaskSpec};
@@ -10,6 +10,7 @@ use forceidle_account::{ForceIdle, Totals};
 use fork_inherit::{ForkFault, HasThreads, end, fork};
 use prctl_core::{Decision, Planned, Target, plan};
 use ptrace_check::{Guards, may_access};
+use std::fmt::Display;
 use std::process::Abort;
 use task_table::{AddFault, Group, TaskTable};
 
@@ -71,9 +72,19 @@ fn tasks_of_a_table(rt: HostRuntime) {
     let table = three_tasks(&rt);
     assert!(rt; table.len() == 3);
     assert!(rt; table.iter().map(|task| task.spec.pid).eq([1, 2, 3]));
+}
+
+#[test]
+fn task_that_was_added(rt: HostRuntime) {
+    let table = three_tasks(&rt);
     let task = table.find(2).expect(&rt, "a task");
-    assert!(rt; task.spec.tgid == 1 && task.home == 1 && !task.queued);
-    assert!(rt; task.cookie == 0 && task.stamp == 0 && task.occupation == 0);
+    assert!(rt; (task.spec.tgid, task.home, task.queued) == (1, 1, false));
+    assert!(rt; (task.cookie, task.stamp, task.occupation) == (0, 0, 0));
+}
+
+#[test]
+fn tasks_by_their_places(rt: HostRuntime) {
+    let table = three_tasks(&rt);
     assert!(rt; table.at(2).expect(&rt, "the last").spec.pid == 3);
     assert!(rt; table.at(3).is_none());
 }
@@ -116,35 +127,62 @@ fn tasks_of_a_group(rt: HostRuntime) {
     }
 }
 
+/// Expects that the fault is told by this text.
+fn expect_told<R: AllocGlobal + Abort, F: Display>(rt: &R, fault: &F, wanted: &str) {
+    let told = format!(in rt.alloc(); "{fault}").expect(rt, "room");
+    assert!(rt; told.as_str() == wanted);
+}
+
 #[test]
 fn faults_are_told(rt: HostRuntime) {
-    let twice = format!(in rt.alloc(); "{}", AddFault::Twice(2)).expect(&rt, "room");
-    assert!(rt; twice.as_str() == "there is a task 2 already");
-    let full = format!(in rt.alloc(); "{}", AddFault::Full(3)).expect(&rt, "room");
-    assert!(rt; full.as_str() == "there are 3 tasks already, which is the limit");
-    let no_more = format!(in rt.alloc(); "{}", CookieFull { limit: 1 }).expect(&rt, "room");
-    assert!(rt; no_more.as_str() == "1 cookies are live, and no more may be");
-    let nobody = format!(in rt.alloc(); "{}", ForkFault::NoCaller).expect(&rt, "room");
-    assert!(rt; nobody.as_str() == "no living task has the caller's pid");
-    let many = format!(in rt.alloc(); "{}", ForkFault::Eagain).expect(&rt, "room");
-    assert!(rt; many.as_str() == "as many tasks live as may, or the caller is a deadline task");
-    let led = format!(in rt.alloc(); "{}", HasThreads).expect(&rt, "room");
-    assert!(rt; led.as_str() == "the task leads a thread group that has another member");
+    expect_told(&rt, &AddFault::Twice(2), "there is a task 2 already");
+    expect_told(
+        &rt,
+        &AddFault::Full(3),
+        "there are 3 tasks already, which is the limit",
+    );
+    expect_told(
+        &rt,
+        &CookieFull { limit: 1 },
+        "1 cookies are live, and no more may be",
+    );
+    expect_told(
+        &rt,
+        &ForkFault::NoCaller,
+        "no living task has the caller's pid",
+    );
+    expect_told(
+        &rt,
+        &ForkFault::Eagain,
+        "as many tasks live as may, or the caller is a deadline task",
+    );
+    expect_told(
+        &rt,
+        &HasThreads,
+        "the task leads a thread group that has another member",
+    );
+}
+
+/// Expects as many live cookies, and as many references to cookie 1.
+fn expect_counts(rt: &impl Abort, refs: &CookieRefs, live: u16, references: u32)
+    ensures { count_of refs.now 1 ≡ references }
+{
+    assert!(rt; refs.live() == live && refs.count(1) == references);
 }
 
 #[test]
 fn references_of_a_cookie(rt: HostRuntime) {
     let mut refs = CookieRefs::with_limit(rt.alloc(), 1).expect(&rt, "room");
-    assert!(rt; refs.make().expect(&rt, "a cookie") == 1);
-    assert!(rt; refs.live() == 1 && refs.count(1) == 1);
+    assert!(rt; matches!(refs.make(), Ok(1)));
+    expect_counts(&rt, &refs, 1, 1);
     assert!(rt; matches!(refs.make(), Err(CookieFull { limit: 1 })));
     refs.get(1);
-    assert!(rt; refs.count(1) == 2);
+    expect_counts(&rt, &refs, 1, 2);
     refs.put(1);
-    assert!(rt; refs.live() == 1 && refs.count(1) == 1);
+    expect_counts(&rt, &refs, 1, 1);
     refs.put(1);
-    assert!(rt; refs.live() == 0 && refs.count(1) == 0);
-    assert!(rt; refs.make().expect(&rt, "a cookie") == 2);
+    expect_counts(&rt, &refs, 0, 0);
+    assert!(rt; matches!(refs.make(), Ok(2)));
 }
 
 #[test]
@@ -282,7 +320,7 @@ fn end_task<R: AllocGlobal + Abort>(
 }
 
 #[test]
-fn tasks_that_end_and_fork(rt: HostRuntime) {
+fn tasks_that_end(rt: HostRuntime) {
     let (mut table, mut refs) = parts(&rt);
     let full = fork_thread(&rt, &mut table, &mut refs, 1, 4);
     assert!(rt; matches!(full, Err(ForkFault::Eagain)));
@@ -290,11 +328,17 @@ fn tasks_that_end_and_fork(rt: HostRuntime) {
     assert!(rt; matches!(led, Err(HasThreads)));
     let ended = end_task(&rt, &mut table, &mut refs, 3).expect(&rt, "an end");
     assert!(rt; ended.spec.pid == 3 && table.len() == 2);
+}
+
+#[test]
+fn tasks_that_fork(rt: HostRuntime) {
+    let (mut table, mut refs) = parts(&rt);
+    end_task(&rt, &mut table, &mut refs, 3).expect(&rt, "an end");
     let nobody = fork_thread(&rt, &mut table, &mut refs, 3, 4);
     assert!(rt; matches!(nobody, Err(ForkFault::NoCaller)));
     fork_thread(&rt, &mut table, &mut refs, 2, 4).expect(&rt, "a child");
     let child = table.find(4).expect(&rt, "the child");
-    assert!(rt; child.spec.tgid == 1 && child.home == 1 && !child.queued);
+    assert!(rt; (child.spec.tgid, child.home, child.queued) == (1, 1, false));
 }
 
 /// Expects this share of an interval that begins at 0 and is charged at `now`, in ns. None is charged

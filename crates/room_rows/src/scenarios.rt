@@ -41,300 +41,141 @@ fn items_are_reversed(rt: HostRuntime) {
     );
 }
 
-/// A text of a head, one task and these lines.
-macro_rules! after_head {
-    ($lines:literal) => {
-        concat!(
-            "coresched 1\nsiblings 2\nlimits 8 8 65536\ntask 1 1 1 0 fifo:10 0 0 0 0 0 0 0 1 1\n",
-            $lines
-        )
-    };
-}
+/// A head and one task.
+const HEAD: &str =
+    "coresched 1\nsiblings 2\nlimits 8 8 65536\ntask 1 1 1 0 fifo:10 0 0 0 0 0 0 0 1 1\n";
 
-/// For each rule a text that breaks it alone.
-const REFUSED: [(&str, &str); 73] = [
-    ("some line", ""),
-    (
-        "the version",
-        "coresched 2\nsiblings 2\nlimits 8 8 65536\nend\n",
-    ),
-    (
-        "the least number of siblings",
-        "coresched 1\nsiblings 0\nlimits 8 8 65536\nend\n",
-    ),
-    (
-        "the greatest number of siblings",
-        "coresched 1\nsiblings 9\nlimits 8 8 65536\nend\n",
-    ),
-    (
-        "the least limit",
-        "coresched 1\nsiblings 2\nlimits 0 8 65536\nend\n",
-    ),
-    (
-        "the greatest limit",
-        "coresched 1\nsiblings 2\nlimits 8 257 65536\nend\n",
-    ),
-    (
-        "the least top",
-        "coresched 1\nsiblings 2\nlimits 8 8 8191\nend\n",
-    ),
-    (
-        "the greatest top",
-        "coresched 1\nsiblings 2\nlimits 8 8 9223372036854775808\nend\n",
-    ),
-    ("a last line feed", after_head!("end")),
-    ("an end", after_head!("")),
-    ("nothing after the end", after_head!("end\nstep s0 turn\n")),
-    ("one space", after_head!("step  s0 turn\nend\n")),
-    ("no space at the end", after_head!("step s0 turn \nend\n")),
-    ("no blank line", after_head!("\nend\n")),
-    ("a known word", after_head!("pause\nend\n")),
-    ("no word more", after_head!("step s0 turn 1\nend\n")),
-    ("no leading 0", after_head!("step c0 wake 01\nend\n")),
-    ("no sign", after_head!("step c0 wake +1\nend\n")),
-    (
-        "the greatest pid of a step",
-        after_head!("step c0 wake 1000000\nend\n"),
-    ),
-    ("the callers", after_head!("step c8 wake 1\nend\n")),
-    ("a sibling's own event", after_head!("step c0 turn\nend\n")),
-    ("a caller's event", after_head!("step s0 wake 1\nend\n")),
-    ("an actor's sibling", after_head!("step s2 turn\nend\n")),
-    (
-        "the greatest command",
-        after_head!("step c0 prctl 1 4294967296 0 0 0\nend\n"),
-    ),
-    (
-        "the greatest target",
-        after_head!("step c0 prctl 1 2 2147483648 0 0\nend\n"),
-    ),
-    (
-        "the least target",
-        after_head!("step c0 prctl 1 2 -2147483649 0 0\nend\n"),
-    ),
-    (
-        "no sign of a target 0",
-        after_head!("step c0 prctl 1 2 -0 0 0\nend\n"),
-    ),
-    (
-        "a sign before digits",
-        after_head!("step c0 prctl 1 2 - 0 0\nend\n"),
-    ),
-    (
-        "no leading 0 behind a sign",
-        after_head!("step c0 prctl 1 2 -01 0 0\nend\n"),
-    ),
-    (
-        "no sign of a scope",
-        after_head!("step c0 prctl 1 2 1 -1 0\nend\n"),
-    ),
-    (
-        "the greatest scope",
-        after_head!("step c0 prctl 1 1 0 4294967296 0\nend\n"),
-    ),
-    (
-        "the greatest address",
-        after_head!("step c0 prctl 1 0 0 0 18446744073709551616\nend\n"),
-    ),
-    (
-        "five arguments",
-        after_head!("step c0 prctl 1 1 0 0\nend\n"),
-    ),
-    (
-        "a call's own actor",
-        after_head!("step s0 prctl 1 1 0 0 0\nend\n"),
-    ),
-    (
-        "a fork's own actor",
-        after_head!("step s0 fork 1 thread\nend\n"),
-    ),
-    ("an exit's own actor", after_head!("step c0 exit\nend\n")),
-    ("a tick's own actor", after_head!("step c0 tick\nend\n")),
-    (
-        "an advance's own actor",
-        after_head!("step s0 advance 1\nend\n"),
-    ),
-    ("the least advance", after_head!("step c0 advance 0\nend\n")),
-    (
-        "the greatest advance",
-        after_head!("step c0 advance 1000000001\nend\n"),
-    ),
-    ("what a child is", after_head!("step c0 fork 1 task\nend\n")),
-    (
-        "the least pid of a fork",
-        after_head!("step c0 fork 0 thread\nend\n"),
-    ),
-    (
-        "a schedule's own actor",
-        after_head!("step c0 resched\nend\n"),
-    ),
-    (
-        "a policy of a change",
-        after_head!("step c0 setsched 1\nend\n"),
-    ),
-    (
-        "the greatest priority of a change",
-        after_head!("step c0 setsched 1 fifo:100\nend\n"),
-    ),
-    (
-        "the least pid of a change",
-        after_head!("step c0 setsched 0 stop\nend\n"),
-    ),
-    (
-        "a change's own actor",
-        after_head!("step s0 setsched 1 stop\nend\n"),
-    ),
-    (
-        "a sibling that leaves",
-        after_head!("step c0 offline 2\nend\n"),
-    ),
-    (
-        "a sibling that comes back",
-        after_head!("step c0 online 01\nend\n"),
-    ),
-    (
-        "the greatest pid of a task",
-        after_head!("task 10000 1 1 0 fifo:10 0 0 0 0 0 0 0 1 1\nend\n"),
-    ),
-    (
-        "a task's sibling",
-        after_head!("task 2 2 2 2 fifo:10 0 0 0 0 0 0 0 1 1\nend\n"),
-    ),
-    (
-        "the policy",
-        after_head!("task 2 2 2 0 nice:10 0 0 0 0 0 0 0 1 1\nend\n"),
-    ),
-    (
-        "the stop task's lack of a number",
-        after_head!("task 2 2 2 0 stop:1 0 0 0 0 0 0 0 1 1\nend\n"),
-    ),
-    (
-        "a number of each other policy",
-        after_head!("task 2 2 2 0 fifo 0 0 0 0 0 0 0 1 1\nend\n"),
-    ),
-    (
-        "the least relative deadline",
-        after_head!("task 2 2 2 0 dl:0 0 0 0 0 0 0 0 1 1\nend\n"),
-    ),
-    (
-        "the greatest relative deadline",
-        after_head!("task 2 2 2 0 dl:1000000001 0 0 0 0 0 0 0 1 1\nend\n"),
-    ),
-    (
-        "the least priority",
-        after_head!("task 2 2 2 0 fifo:0 0 0 0 0 0 0 0 1 1\nend\n"),
-    ),
-    (
-        "the greatest priority",
-        after_head!("task 2 2 2 0 fifo:100 0 0 0 0 0 0 0 1 1\nend\n"),
-    ),
-    (
-        "the least priority of RR",
-        after_head!("task 2 2 2 0 rr:0 0 0 0 0 0 0 0 1 1\nend\n"),
-    ),
-    (
-        "the greatest priority of RR",
-        after_head!("task 2 2 2 0 rr:100 0 0 0 0 0 0 0 1 1\nend\n"),
-    ),
-    (
-        "no leading 0 of a priority",
-        after_head!("task 2 2 2 0 rr:07 0 0 0 0 0 0 0 1 1\nend\n"),
-    ),
-    (
-        "the least nice value",
-        after_head!("task 2 2 2 0 fair:-21 0 0 0 0 0 0 0 1 1\nend\n"),
-    ),
-    (
-        "the greatest nice value",
-        after_head!("task 2 2 2 0 fair:20 0 0 0 0 0 0 0 1 1\nend\n"),
-    ),
-    (
-        "no sign of a nice value 0",
-        after_head!("task 2 2 2 0 fair:-0 0 0 0 0 0 0 0 1 1\nend\n"),
-    ),
-    (
-        "no other sign of a nice value",
-        after_head!("task 2 2 2 0 fair:+5 0 0 0 0 0 0 0 1 1\nend\n"),
-    ),
-    (
-        "the greatest id",
-        after_head!("task 2 2 2 0 fifo:10 0 0 0 0 0 65536 0 1 1\nend\n"),
-    ),
-    (
-        "a flag",
-        after_head!("task 2 2 2 0 fifo:10 0 0 0 0 0 0 0 1 2\nend\n"),
-    ),
-    (
-        "distinct pids",
-        after_head!("task 1 1 1 0 fifo:10 0 0 0 0 0 0 0 1 1\nend\n"),
-    ),
-    (
-        "an earlier leader",
-        after_head!("task 2 3 3 0 fifo:10 0 0 0 0 0 0 0 1 1\nend\n"),
-    ),
-    (
-        "the leader's process group",
-        after_head!("task 2 1 2 0 fifo:10 0 0 0 0 0 0 0 1 1\nend\n"),
-    ),
-    (
-        "a leader of its own group",
-        after_head!(
-            "task 2 1 1 0 fifo:10 0 0 0 0 0 0 0 1 1\ntask 3 2 1 0 fifo:10 0 0 0 0 0 0 0 1 1\nend\n"
-        ),
-    ),
-    (
-        "the limit of tasks",
-        "coresched 1\nsiblings 2\nlimits 1 8 65536\ntask 1 1 1 0 fifo:10 0 0 0 0 0 0 0 1 1\ntask 2 2 2 0 fifo:10 0 0 0 0 0 0 0 1 1\nend\n",
-    ),
-    (
-        "tasks before steps",
-        after_head!("step s0 turn\ntask 2 2 2 0 fifo:10 0 0 0 0 0 0 0 1 1\nend\n"),
-    ),
-];
+/// For each rule a text that breaks it alone, behind a colon. Each `|` of it is a line feed.
+const REFUSED_TEXTS: &str = "some line:
+the version:coresched 2|siblings 2|limits 8 8 65536|end|
+the least number of siblings:coresched 1|siblings 0|limits 8 8 65536|end|
+the greatest number of siblings:coresched 1|siblings 9|limits 8 8 65536|end|
+the least limit:coresched 1|siblings 2|limits 0 8 65536|end|
+the greatest limit:coresched 1|siblings 2|limits 8 257 65536|end|
+the least top:coresched 1|siblings 2|limits 8 8 8191|end|
+the greatest top:coresched 1|siblings 2|limits 8 8 9223372036854775808|end|
+the limit of tasks:coresched 1|siblings 2|limits 1 8 65536|task 1 1 1 0 fifo:10 0 0 0 0 0 0 0 1 1|task 2 2 2 0 fifo:10 0 0 0 0 0 0 0 1 1|end|";
+
+/// The same of texts that go on after the head and the task, with steps.
+const REFUSED_STEPS: &str = "a last line feed:end
+an end:
+nothing after the end:end|step s0 turn|
+one space:step  s0 turn|end|
+no space at the end:step s0 turn |end|
+no blank line:|end|
+a known word:pause|end|
+no word more:step s0 turn 1|end|
+no leading 0:step c0 wake 01|end|
+no sign:step c0 wake +1|end|
+the greatest pid of a step:step c0 wake 1000000|end|
+the callers:step c8 wake 1|end|
+a sibling's own event:step c0 turn|end|
+a caller's event:step s0 wake 1|end|
+an actor's sibling:step s2 turn|end|
+the greatest command:step c0 prctl 1 4294967296 0 0 0|end|
+the greatest target:step c0 prctl 1 2 2147483648 0 0|end|
+the least target:step c0 prctl 1 2 -2147483649 0 0|end|
+no sign of a target 0:step c0 prctl 1 2 -0 0 0|end|
+a sign before digits:step c0 prctl 1 2 - 0 0|end|
+no leading 0 behind a sign:step c0 prctl 1 2 -01 0 0|end|
+no sign of a scope:step c0 prctl 1 2 1 -1 0|end|
+the greatest scope:step c0 prctl 1 1 0 4294967296 0|end|
+the greatest address:step c0 prctl 1 0 0 0 18446744073709551616|end|
+five arguments:step c0 prctl 1 1 0 0|end|
+a call's own actor:step s0 prctl 1 1 0 0 0|end|
+a fork's own actor:step s0 fork 1 thread|end|
+an exit's own actor:step c0 exit|end|
+a tick's own actor:step c0 tick|end|
+an advance's own actor:step s0 advance 1|end|
+the least advance:step c0 advance 0|end|
+the greatest advance:step c0 advance 1000000001|end|
+what a child is:step c0 fork 1 task|end|
+the least pid of a fork:step c0 fork 0 thread|end|
+a schedule's own actor:step c0 resched|end|
+a policy of a change:step c0 setsched 1|end|
+the greatest priority of a change:step c0 setsched 1 fifo:100|end|
+the least pid of a change:step c0 setsched 0 stop|end|
+a change's own actor:step s0 setsched 1 stop|end|
+a sibling that leaves:step c0 offline 2|end|
+a sibling that comes back:step c0 online 01|end|";
+
+/// The same, with tasks.
+const REFUSED_TASKS: &str =
+    "the greatest pid of a task:task 10000 1 1 0 fifo:10 0 0 0 0 0 0 0 1 1|end|
+a task's sibling:task 2 2 2 2 fifo:10 0 0 0 0 0 0 0 1 1|end|
+the policy:task 2 2 2 0 nice:10 0 0 0 0 0 0 0 1 1|end|
+the stop task's lack of a number:task 2 2 2 0 stop:1 0 0 0 0 0 0 0 1 1|end|
+a number of each other policy:task 2 2 2 0 fifo 0 0 0 0 0 0 0 1 1|end|
+the least relative deadline:task 2 2 2 0 dl:0 0 0 0 0 0 0 0 1 1|end|
+the greatest relative deadline:task 2 2 2 0 dl:1000000001 0 0 0 0 0 0 0 1 1|end|
+the least priority:task 2 2 2 0 fifo:0 0 0 0 0 0 0 0 1 1|end|
+the greatest priority:task 2 2 2 0 fifo:100 0 0 0 0 0 0 0 1 1|end|
+the least priority of RR:task 2 2 2 0 rr:0 0 0 0 0 0 0 0 1 1|end|
+the greatest priority of RR:task 2 2 2 0 rr:100 0 0 0 0 0 0 0 1 1|end|
+no leading 0 of a priority:task 2 2 2 0 rr:07 0 0 0 0 0 0 0 1 1|end|
+the least nice value:task 2 2 2 0 fair:-21 0 0 0 0 0 0 0 1 1|end|
+the greatest nice value:task 2 2 2 0 fair:20 0 0 0 0 0 0 0 1 1|end|
+no sign of a nice value 0:task 2 2 2 0 fair:-0 0 0 0 0 0 0 0 1 1|end|
+no other sign of a nice value:task 2 2 2 0 fair:+5 0 0 0 0 0 0 0 1 1|end|
+the greatest id:task 2 2 2 0 fifo:10 0 0 0 0 0 65536 0 1 1|end|
+a flag:task 2 2 2 0 fifo:10 0 0 0 0 0 0 0 1 2|end|
+distinct pids:task 1 1 1 0 fifo:10 0 0 0 0 0 0 0 1 1|end|
+an earlier leader:task 2 3 3 0 fifo:10 0 0 0 0 0 0 0 1 1|end|
+the leader's process group:task 2 1 2 0 fifo:10 0 0 0 0 0 0 0 1 1|end|
+a leader of its own group:task 2 1 1 0 fifo:10 0 0 0 0 0 0 0 1 1|task 3 2 1 0 fifo:10 0 0 0 0 0 0 0 1 1|end|
+tasks before steps:step s0 turn|task 2 2 2 0 fifo:10 0 0 0 0 0 0 0 1 1|end|";
 
 /// A tick, and for each argument of the other events the least and the greatest.
-const STEPS: [&str; 11] = [
-    after_head!("step c7 setsched 999999 fair:-20\nend\n"),
-    after_head!("step c0 setsched 1 stop\nend\n"),
-    after_head!("step c0 offline 0\nend\n"),
-    after_head!("step c7 online 1\nend\n"),
-    after_head!("step s1 tick\nend\n"),
-    after_head!("step c0 advance 1\nend\n"),
-    after_head!("step c7 advance 1000000000\nend\n"),
-    after_head!("step c0 prctl 1 0 -2147483648 0 0\nend\n"),
-    after_head!(
-        "step c7 prctl 999999 4294967295 2147483647 4294967295 18446744073709551615\nend\n"
-    ),
-    after_head!("step c0 prctl 1 3 -1 2 4096\nend\n"),
-    after_head!("step c0 prctl 1 2 0 1 1\nend\n"),
-];
+const STEPS: &str = "step c7 setsched 999999 fair:-20
+step c0 setsched 1 stop
+step c0 offline 0
+step c7 online 1
+step s1 tick
+step c0 advance 1
+step c7 advance 1000000000
+step c0 prctl 1 0 -2147483648 0 0
+step c7 prctl 999999 4294967295 2147483647 4294967295 18446744073709551615
+step c0 prctl 1 3 -1 2 4096
+step c0 prctl 1 2 0 1 1";
+
+/// A task of each policy, with the least number and the greatest.
+const POLICIES: &str = "task 2 2 2 0 stop 0 0 0 0 0 0 0 1 1
+task 2 2 2 0 dl:1 0 0 0 0 0 0 0 1 1
+task 2 2 2 0 dl:1000000000 0 0 0 0 0 0 0 1 1
+task 2 2 2 0 fifo:1 0 0 0 0 0 0 0 1 1
+task 2 2 2 0 fifo:99 0 0 0 0 0 0 0 1 1
+task 2 2 2 0 rr:1 0 0 0 0 0 0 0 1 1
+task 2 2 2 0 rr:99 0 0 0 0 0 0 0 1 1
+task 2 2 2 0 fair:-20 0 0 0 0 0 0 0 1 1
+task 2 2 2 0 fair:19 0 0 0 0 0 0 0 1 1";
+
+/// The head, and behind it these bytes, with a line feed for each `|`.
+fn text_of(alloc: Global, head: &str, rest: &str) -> Result<Vec<u8>, AllocError> {
+    let mut text = head.as_bytes().to_vec(alloc)?;
+    for byte in rest.as_bytes() {
+        text.push(if *byte == b'|' { b'\n' } else { *byte })?;
+    }
+    Ok(text)
+}
+
+/// The scenario of the head, one line and an end.
+fn read_line<R: AllocGlobal + Abort>(rt: &R, line: &str) -> Scenario {
+    let mut text = text_of(rt.alloc(), HEAD, line).expect(rt, "room");
+    text.extend_from_slice(b"\nend\n").expect(rt, "room");
+    read(rt.alloc(), &text).expect(rt, line)
+}
 
 #[test]
 fn reads_steps(rt: HostRuntime) {
-    for text in &STEPS {
-        let scenario = read(rt.alloc(), text.as_bytes()).expect(&rt, text);
-        assert!(rt; scenario.steps.items().len() == 1);
+    for line in STEPS.lines() {
+        assert!(rt; read_line(&rt, line).steps.items().len() == 1);
     }
 }
 
-/// A task of each policy, with the least number and the greatest.
-const POLICIES: [&str; 9] = [
-    after_head!("task 2 2 2 0 stop 0 0 0 0 0 0 0 1 1\nend\n"),
-    after_head!("task 2 2 2 0 dl:1 0 0 0 0 0 0 0 1 1\nend\n"),
-    after_head!("task 2 2 2 0 dl:1000000000 0 0 0 0 0 0 0 1 1\nend\n"),
-    after_head!("task 2 2 2 0 fifo:1 0 0 0 0 0 0 0 1 1\nend\n"),
-    after_head!("task 2 2 2 0 fifo:99 0 0 0 0 0 0 0 1 1\nend\n"),
-    after_head!("task 2 2 2 0 rr:1 0 0 0 0 0 0 0 1 1\nend\n"),
-    after_head!("task 2 2 2 0 rr:99 0 0 0 0 0 0 0 1 1\nend\n"),
-    after_head!("task 2 2 2 0 fair:-20 0 0 0 0 0 0 0 1 1\nend\n"),
-    after_head!("task 2 2 2 0 fair:19 0 0 0 0 0 0 0 1 1\nend\n"),
-];
-
 #[test]
 fn reads_policies(rt: HostRuntime) {
-    for text in &POLICIES {
-        let scenario = read(rt.alloc(), text.as_bytes()).expect(&rt, text);
-        assert!(rt; scenario.tasks.items().len() == 2);
+    for line in POLICIES.lines() {
+        assert!(rt; read_line(&rt, line).tasks.items().len() == 2);
     }
 }
 
@@ -348,16 +189,25 @@ fn is_refused(alloc: Global, text: &[u8]) -> bool {
     )
 }
 
+/// Expects that each of these texts is refused behind the head. Before its colon stands the rule that it breaks.
+fn expect_refused<R: AllocGlobal + Abort>(rt: &R, head: &str, texts: &str) {
+    for line in texts.lines() {
+        let (rule, rest) = line.split_once(':').expect(rt, line);
+        let text = text_of(rt.alloc(), head, rest).expect(rt, "room");
+        assert!(rt; is_refused(rt.alloc(), &text), "{rule}");
+    }
+}
+
 #[test]
 fn refuses_other_texts(rt: HostRuntime) {
-    for (rule, text) in &REFUSED {
-        assert!(rt; is_refused(rt.alloc(), text.as_bytes()), "{rule}");
-    }
+    expect_refused(&rt, "", REFUSED_TEXTS);
+    expect_refused(&rt, HEAD, REFUSED_STEPS);
+    expect_refused(&rt, HEAD, REFUSED_TASKS);
 }
 
 /// A text of a head, one task and this many steps.
 fn text_of_steps(alloc: Global, count: usize) -> Result<Vec<u8>, AllocError> {
-    let mut text = after_head!("").as_bytes().to_vec(alloc)?;
+    let mut text = HEAD.as_bytes().to_vec(alloc)?;
     for _ in 0..count {
         text.extend_from_slice(b"step s0 turn\n")?;
     }
