@@ -1,7 +1,8 @@
 //! The commands, each by its words.
 
-ghost use Rattle.std.specs.Prelude.{◌≡◌, ◌≢◌, ◌↔◌, ◌+◌, ◌-◌, ◌^◌, ◌<◌, ◌≤◌, Err, IfOk, IfSome, IsTrue};
-ghost use Rattle.cs_outside.specs.Device.{Rose};
+ghost use Rattle.std.specs.Prelude.{◌≡◌, ◌≢◌, ◌⊎◌, ◌↔◌, ◌+◌, ◌-◌, ◌^◌, ◌<◌, ◌≤◌, Err, IfOk, IfSome, IsTrue};
+ghost use Rattle.cs_outside.specs.Device.{Rose, appended, WritesPrefix};
+ghost use Rattle.room_report.specs.Report.{output_text};
 ghost use Rattle.scenario_runner.specs.Commands.{IsReplay};
 ghost use Rattle.scenario_runner.specs.Input.{IsBad, input_limit, count_read};
 ghost use Rattle.cs_types.specs.History.{file};
@@ -56,6 +57,21 @@ fn is_replay(words: &[String]) -> bool
     }
 }
 
+/// Writes the line of each entry and the report, and says how that ended.
+fn write_output<R: Room, K: Sink>(room: &R, sink: &mut K) -> Status
+    ensures either { (result ≡ Status.Done) ⊎ (result ≡ Status.WriteFault) }
+    ensures whole { result ≡ Status.Done → K.written sink.new ≡ appended (K.written sink.old) (output_text (R.scenario room.now) (R.history room.now)) }
+    ensures prefix { WritesPrefix (K.written sink.old) (output_text (R.scenario room.now) (R.history room.now)) (K.written sink.new) }
+
+    ensures faultless { result ≡ Status.Done → K.faults sink.new ≡ K.faults sink.old }
+    ensures failed { result ≡ Status.WriteFault → Rose (K.faults sink.old) (K.faults sink.new) }
+{
+    match output(room, sink) {
+        Ok(()) => Status::Done,
+        Err(_) => Status::WriteFault,
+    }
+}
+
 /// Reads a scenario to its end, makes its steps in the order of their lines and then the entries of the
 /// end, and writes the line of each entry and the report, each line in one piece. It waits for nobody and always returns.
 ///
@@ -78,10 +94,7 @@ pub fn replay<S: Source, K: Sink>(
         return Status::BadWords;
     }
     match played(alloc, source) {
-        Ok(room) => match output(&room, sink) {
-            Ok(()) => Status::Done,
-            Err(_) => Status::WriteFault,
-        },
+        Ok(room) => write_output(&room, sink),
         Err(stop) => Status::from(stop),
     }
 }

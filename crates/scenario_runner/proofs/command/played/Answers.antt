@@ -1,5 +1,4 @@
-use Rattle.std.proofs.Common.{◌≡◌, ◌∙◌, sym, ap, subst}
-use Rattle.cs_types.specs.declared.scenario.Scenario.{Scenario}
+use Rattle.std.proofs.Common.{◌≡◌, ◌∙◌, sym, subst}
 use Rattle.scenario_text.specs.Text.{scenario_text}
 use Rattle.scenario_runner.specs.Input.{IsReadAs}
 use Rattle.scenario_runner.specs.Replay.{Reads}
