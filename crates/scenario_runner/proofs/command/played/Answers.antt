@@ -2,6 +2,8 @@ use Rattle.std.proofs.Common.{◌≡◌, ◌∙◌, sym, subst}
 use Rattle.scenario_text.specs.Text.{scenario_text}
 use Rattle.scenario_runner.specs.Input.{IsReadAs}
 use Rattle.scenario_runner.specs.Replay.{Reads}
+use Rattle.cs_types.specs.History.{history_of}
+use Rattle.scenario_runner.proofs.Plays.{drained_file}
 use Rattle.scenario_runner.proofs.command.played.Goals as goal
 
 -- The room has the scenario whose text was read.
@@ -15,3 +17,10 @@ returns-clause-reads g c =
     } in
     subst (λ scenario. Reads scenario (g.S.Source.left c.args.source.now) (g.S.Source.left c.read_to_end.new.source))
     (sym (c.drain.ensures.scenario ∙ c.play.ensures.scenario ∙ c.in_ok-room.ensures.scenario)) reads
+
+-- Its history is the file of that scenario, and then the entries of the end.
+pub returns-clause-played : goal.returns-clause-played
+returns-clause-played g c =
+    drained_file c.in_ok-scenario.scenario _ _ _ _ c.drain.ensures.scenario (c.play.ensures.scenario ∙ c.in_ok-room.ensures.scenario)
+    (c.play.ensures.history ∙ (λ i. history_of (c.in_ok-room.ensures.scenario i) (c.items.ensures i)))
+    c.drain.ensures.entries
