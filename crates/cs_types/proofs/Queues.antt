@@ -18,8 +18,7 @@ use Rattle.std.proofs.lemmas.List.Sorted.{ranks_by}
 use Rattle.cs_types.specs.declared.task.Policy.{Policy}
 use Rattle.cs_types.specs.declared.task.Policy.TheVariants.{Stop, Deadline, Fifo, Rr, Fair}
 use Rattle.cs_types.specs.declared.task.Task.{Task}
-use Rattle.cs_types.specs.declared.queue.TheConstants.Queued.{STOP, DEADLINE, REAL_TIME, FAIR}
-use Rattle.cs_types.specs.Order.{foremost, stop_class, deadline_class, real_time_class, fair_class, class_of, priority_of, goes_before, first_of}
+use Rattle.cs_types.specs.Order.{foremost, class_of, priority_of, goes_before, first_of}
 use Rattle.cs_types.specs.Queue.{top_of, Key, key_cmp, Seat, seat_cmp, rank_by, entry_of, queue_of}
 use Rattle.cs_types.proofs.Foremost.{find_passes, find_narrower, find_same, each_of_all, all_of_each, each_weaker, foremost_none, not_before_itself}
 
@@ -46,11 +45,6 @@ key_cmp-IsAntisymmetric = same_pair nat_cmp-IsAntisymmetric nat_cmp-IsAntisymmet
 
 pub seat_cmp-IsAntisymmetric : IsAntisymmetric seat_cmp
 seat_cmp-IsAntisymmetric = same_pair nat_cmp-IsAntisymmetric key_cmp-IsAntisymmetric
-
--- ---- the classes that the code names
-
-classes_named : record { stop : STOP ≡ stop_class; deadline : DEADLINE ≡ deadline_class; real_time : REAL_TIME ≡ real_time_class; fair : FAIR ≡ fair_class }
-classes_named = record { stop = refl; deadline = refl; real_time = refl; fair = refl }
 
 -- ---- a map that is made of sorted entries
 

@@ -3,6 +3,8 @@
 use Rattle.std.specs.Prelude.{ℕ, ◌+◌, Bool, true, false, ◌==◌, ◌&&◌, ◌||◌, not, nat_lt, List, find, Option, Some, None}
 use Rattle.std.specs.List.{list_all}
 use Rattle.cs_types.specs.declared.task.Task.{Task}
+use Rattle.cs_types.specs.declared.task.Class.{Class}
+use Rattle.cs_types.specs.declared.task.Class.TheVariants as class
 use Rattle.cs_types.specs.declared.task.Policy.{Policy}
 use Rattle.cs_types.specs.declared.task.Policy.TheVariants.{Stop, Deadline, Fifo, Rr, Fair}
 
@@ -28,6 +30,13 @@ fair_class = 3
 
 abbrev pub idle_class : ℕ
 idle_class = 4
+
+-- the number of a class, as queues and offers have it
+abbrev pub class_number : Class → ℕ
+class_number class.Stop = stop_class
+class_number class.Deadline = deadline_class
+class_number class.RealTime = real_time_class
+class_number class.Fair = fair_class
 
 abbrev pub class_of : Policy → ℕ
 class_of Stop = stop_class

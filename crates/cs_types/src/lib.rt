@@ -20,5 +20,5 @@ pub use reply::{Entry, Errno, Kind, Pick, Reply};
 pub use room::Room;
 pub use scenario::Scenario;
 pub use steps::Steps;
-pub use task::{Cookie, Cpu, Creds, Pid, Policy, Task, TaskSpec};
+pub use task::{Class, Cookie, Cpu, Creds, Pid, Policy, Task, TaskSpec};
 pub use view::{CoreView, CpuView, EndView, TaskView};

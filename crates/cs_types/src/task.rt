@@ -1,5 +1,9 @@
 //! A task as a scenario describes it.
 
+ghost use Rattle.std.specs.Prelude.{◌≡◌};
+
+use crate::queue::Queued;
+
 /// The number of a task. 0 is no task's: where a reply names what a sibling runs, it is idle.
 pub type Pid = u32;
 
@@ -22,6 +26,51 @@ pub enum Policy {
     Rr(u8),
     /// `SCHED_NORMAL` with a nice value from -20 to 19, the smaller the more weight.
     Fair(i8),
+}
+
+impl Policy {
+    ghost use Rattle.cs_types.specs.Order.{class_number, class_of};
+
+    /// The scheduling class of the policy (`__setscheduler_prio`).
+    pub fn class(self) -> Class
+        ensures { class_number result ≡ class_of self }
+    {
+        match self {
+            Policy::Stop => Class::Stop,
+            Policy::Deadline(_) => Class::Deadline,
+            Policy::Fifo(_) | Policy::Rr(_) => Class::RealTime,
+            Policy::Fair(_) => Class::Fair,
+        }
+    }
+}
+
+/// A scheduling class, from the highest. Idle is the absence of tasks, and no task's class.
+#[derive(Clone, Copy)]
+pub enum Class {
+    /// The stop task's (`stop_sched_class`).
+    Stop,
+    /// Deadline tasks' (`dl_sched_class`).
+    Deadline,
+    /// FIFO and RR tasks' (`rt_sched_class`).
+    RealTime,
+    /// Fair tasks' (`fair_sched_class`).
+    Fair,
+}
+
+impl Class {
+    ghost use Rattle.cs_types.specs.Order.{class_number};
+
+    /// Its number in a queued task and in an offer: 0 to 3, the smaller the higher.
+    pub fn number(self) -> u8
+        ensures { result ≡ class_number self }
+    {
+        match self {
+            Class::Stop => Queued::STOP,
+            Class::Deadline => Queued::DEADLINE,
+            Class::RealTime => Queued::REAL_TIME,
+            Class::Fair => Queued::FAIR,
+        }
+    }
 }
 
 /// A task's credentials, as the ptrace access check reads them.

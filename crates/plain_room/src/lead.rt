@@ -8,7 +8,6 @@ ghost use Rattle.plain_room.specs.Time.{snapshot_in};
 
 use crate::choice::MOST_SIBLINGS;
 use crate::sibling::Sibling;
-use crate::task::{class_of, priority_of};
 use arrayvec::ArrayVec;
 use cs_types::{Policy, Task};
 use sibling_priority::{IDLE, Offer, lead};
@@ -49,7 +48,7 @@ fn offer(first: Option<Task>, siblings: &[Sibling]) -> Offer
         Some(task) => Offer {
             cpu: task.home,
             pid: task.spec.pid,
-            class: class_of(task.spec.policy),
+            class: task.spec.policy.class().number(),
             rank: rank_of(&task),
             snapshot: siblings[task.home as usize].snapshot,
         },

@@ -1,25 +1,12 @@
 //! How two tasks compare, and what a machine shows of one.
 
 ghost use Rattle.std.specs.Prelude.{◌≡◌};
-ghost use Rattle.cs_types.specs.Order.{class_of, priority_of, is_fair, goes_before, is_higher_here};
+ghost use Rattle.cs_types.specs.Order.{priority_of, is_fair, goes_before, is_higher_here};
 ghost use Rattle.cs_types.specs.Step.{with_policy};
 ghost use Rattle.cs_types.specs.View.{task_view, forced_of};
 ghost use Rattle.cs_types.specs.Room.{RoomState};
 
-use cs_types::{Policy, Task, TaskSpec, TaskView};
-use sibling_priority::{DEADLINE, FAIR, REAL_TIME, STOP};
-
-/// The class of a policy, 0 to 3, the smaller the higher.
-pub fn class_of(policy: Policy) -> u8
-    ensures { result ≡ class_of policy }
-{
-    match policy {
-        Policy::Stop => STOP,
-        Policy::Deadline(_) => DEADLINE,
-        Policy::Fifo(_) | Policy::Rr(_) => REAL_TIME,
-        Policy::Fair(_) => FAIR,
-    }
-}
+use cs_types::{Class, Policy, Task, TaskSpec, TaskView};
 
 /// The priority of a real-time policy, 1 to 99, and 0 of every other.
 pub fn priority_of(policy: Policy) -> u8
@@ -36,7 +23,7 @@ pub fn priority_of(policy: Policy) -> u8
 pub fn is_fair(task: &Task) -> bool
     ensures { result ≡ is_fair task.now }
 {
-    class_of(task.spec.policy) == FAIR
+    matches!(task.spec.policy, Policy::Fair(_))
 }
 
 /// The task with this policy. It has used nothing of its slice.
@@ -57,16 +44,16 @@ pub fn with_policy(policy: Policy, task: Task) -> Task
 pub fn is_higher(task: &Task, other: &Task) -> bool
     ensures { result ≡ is_higher_here task.now other.now }
 {
-    let class = class_of(task.spec.policy);
-    let other_class = class_of(other.spec.policy);
-    if class != other_class {
-        return class < other_class;
+    let class = task.spec.policy.class();
+    let other_class = other.spec.policy.class();
+    if class.number() != other_class.number() {
+        return class.number() < other_class.number();
     }
     match class {
-        DEADLINE => task.deadline < other.deadline,
-        REAL_TIME => priority_of(task.spec.policy) > priority_of(other.spec.policy),
-        FAIR => task.vtime < other.vtime,
-        _ => false,
+        Class::Stop => false,
+        Class::Deadline => task.deadline < other.deadline,
+        Class::RealTime => priority_of(task.spec.policy) > priority_of(other.spec.policy),
+        Class::Fair => task.vtime < other.vtime,
     }
 }
 

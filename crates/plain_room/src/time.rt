@@ -14,10 +14,9 @@ ghost use Rattle.plain_room.specs.Time.{is_run_by, grown_among, aged, smallest_a
 
 use crate::sibling::Sibling;
 use crate::state::State;
-use crate::task::{class_of, is_fair, priority_of};
-use cs_types::{Cpu, Policy, Reply, Task};
+use crate::task::{is_fair, priority_of};
+use cs_types::{Class, Cpu, Policy, Reply, Task};
 use fair_queue::grow;
-use sibling_priority::REAL_TIME;
 use task_table::TaskTable;
 
 /// The slice of an RR task, in ns (`RR_TIMESLICE`, which the kernel counts in ticks).
@@ -129,7 +128,7 @@ fn has_used_slice(task: &Task) -> bool
 fn is_peer(task: &Task, other: &Task) -> bool
     ensures { result ≡ is_peer task.now other.now }
 {
-    class_of(other.spec.policy) == REAL_TIME
+    matches!(other.spec.policy.class(), Class::RealTime)
         && priority_of(other.spec.policy) == priority_of(task.spec.policy)
 }
 

@@ -3,6 +3,7 @@
 ghost use Rattle.std.specs.Prelude.{All};
 ghost use Rattle.sibling_priority.specs.Offers.{IsInRange};
 
+use cs_types::Policy;
 use sibling_priority::{IDLE, Offer, REAL_TIME, higher, lead};
 
 /// The offer of a real-time task.
@@ -24,6 +25,15 @@ fn idle() -> Offer
         class: IDLE,
         ..Offer::default()
     }
+}
+
+#[test]
+fn classes_from_the_highest(rt: HostRuntime) {
+    assert!(rt; Policy::Stop.class().number() == 0);
+    assert!(rt; Policy::Deadline(1).class().number() == 1);
+    assert!(rt; Policy::Fifo(1).class().number() == 2);
+    assert!(rt; Policy::Rr(1).class().number() == 2);
+    assert!(rt; Policy::Fair(0).class().number() == 3);
 }
 
 #[test]
