@@ -233,7 +233,7 @@ numbers_at scenario most moment =
       };
     }
 
--- the numbers once the queues were touched so often
+-- the numbers once the queues were touched this number of times
 abbrev pub touched : ℕ → Numbers → Numbers
 touched count numbers = record numbers { task = numbers.task + count }
 
@@ -261,7 +261,7 @@ pub record Changes (old new : State) (change : RoomState → RoomState) : Type 0
   pub numbers : numbers_of new ≡ numbers_of old
   pub stays : Stays old new
 
--- the same where it touched the queues so often
+-- the same where it touched the queues this number of times
 pub record Touches (count : ℕ) (old new : State) (change : RoomState → RoomState) : Type 0 where
   pub room : Becomes old new change
   pub numbers : numbers_of new ≡ touched count (numbers_of old)
@@ -273,7 +273,7 @@ pub record Charges (old new : State) (change : RoomState → RoomState) : Type 0
   pub numbers : (beside : Beside) → IsBooked (room_of beside old) old → numbers_of new ≡ booked (change (room_of beside old)) (numbers_of old)
   pub stays : Stays old new
 
--- and touched the queues so often then
+-- and then touched the queues this number of times
 pub record ChargesAndTouches (count : ℕ) (old new : State) (change : RoomState → RoomState) : Type 0 where
   pub room : BecomesCharged old new change
   pub numbers : (beside : Beside) → IsBooked (room_of beside old) old →
