@@ -5,15 +5,17 @@ use Rattle.std.specs.declared.alloc.Global.{Global}
 use Rattle.cs_types.specs.declared.scenario.Scenario.{Scenario}
 use Rattle.cs_outside.specs.Device.{Rose}
 use Rattle.scenario_text.specs.declared.fault.BadKind.{BadKind}
-use Rattle.scenario_runner.specs.declared.stop.Stop.{Stop}
-use Rattle.scenario_runner.specs.declared.stop.Stop.TheVariants.{ReadFault, TooLong, BadScenario, OutOfMemory}
-use Rattle.scenario_runner.specs.declared.status.Status.TheVariants as status
+use Rattle.scenario_input.specs.declared.stop.Stop.{Stop}
+use Rattle.scenario_input.specs.declared.stop.Stop.TheVariants.{ReadFault, TooLong, BadScenario}
+use Rattle.scenario_input.specs.declared.status.Status.TheVariants as status
+use Rattle.scenario_input.specs.Input.{IsBad, input_limit, count_read}
+use Rattle.scenario_input.specs.Stop.{status_of}
+use Rattle.scenario_input.proofs.Inputs.{count_none}
+use Rattle.scenario_input.proofs.Stops.{stop_not_done, stop_not_words, stop_not_write, stop_read, stop_long, stop_bad}
+use Rattle.scenario_input.proofs.Completes.{stop_complete}
 use Rattle.scenario_runner.specs.Commands.{IsReplay}
-use Rattle.scenario_runner.specs.Input.{IsBad, input_limit, count_read}
 use Rattle.scenario_runner.specs.Replay.{Replays, BreaksOff}
-use Rattle.scenario_runner.specs.Stop.{status_of}
 use Rattle.scenario_runner.specs.Ends.{Used, Failed, IsFaultless, EndsAsReplay}
-use Rattle.scenario_runner.proofs.Completes.{stop_complete}
 
 -- ---- what is known once the input was read, or was not
 
@@ -43,48 +45,6 @@ where_told (Some left) is = is
 same_where_told : (told : Option (List ℕ)) {A B : Type 0} (C : Type 0) → (A → B) → (B → A) → IfSome told (λ _. A ↔ C) → IfSome told (λ _. B ↔ C)
 same_where_told None C to back is = tt
 same_where_told (Some left) C to back is = (λ b. is.0 (back b), λ c. to (is.1 c))
-
-count_none : (told : Option (List ℕ)) → count_read told told ≡ 0
-count_none None = refl
-count_none (Some left) = omega arith
-
--- ---- the statuses of what stops an input
-
-stop_not_done : (stop : Stop) → status_of stop ≡ status.Done → ⊥
-stop_not_done ReadFault e = cc
-stop_not_done TooLong e = cc
-stop_not_done (BadScenario line kind) e = cc
-stop_not_done OutOfMemory e = cc
-
-stop_not_words : (stop : Stop) → status_of stop ≡ status.BadWords → ⊥
-stop_not_words ReadFault e = cc
-stop_not_words TooLong e = cc
-stop_not_words (BadScenario line kind) e = cc
-stop_not_words OutOfMemory e = cc
-
-stop_not_write : (stop : Stop) → status_of stop ≡ status.WriteFault → ⊥
-stop_not_write ReadFault e = cc
-stop_not_write TooLong e = cc
-stop_not_write (BadScenario line kind) e = cc
-stop_not_write OutOfMemory e = cc
-
-stop_read : (stop : Stop) → status_of stop ≡ status.ReadFault → stop ≡ ReadFault
-stop_read ReadFault e = refl
-stop_read TooLong e = cc
-stop_read (BadScenario line kind) e = cc
-stop_read OutOfMemory e = cc
-
-stop_long : (stop : Stop) → status_of stop ≡ status.TooLong → stop ≡ TooLong
-stop_long ReadFault e = cc
-stop_long TooLong e = refl
-stop_long (BadScenario line kind) e = cc
-stop_long OutOfMemory e = cc
-
-stop_bad : (stop : Stop) (line : ℕ) (kind : BadKind) → status_of stop ≡ status.BadScenario line kind → stop ≡ BadScenario line kind
-stop_bad ReadFault line kind e = cc
-stop_bad TooLong line kind e = cc
-stop_bad (BadScenario at what) line kind e = cc
-stop_bad OutOfMemory line kind e = cc
 
 same_error : {T E : Type 0} (read : Result T E) (one other : E) → read ≡ Err one → read ≡ Err other → one ≡ other
 same_error read one other is too = cc

@@ -1,5 +1,5 @@
 -- Runs: what is so of the history of a run.
-use Rattle.std.proofs.Common.{◌≡◌, ◌≢◌, ℕ, false, List, [], ◌∷◌, ◌++◌, refl, ap, ◌∙◌, subst}
+use Rattle.std.proofs.Common.{◌≡◌, ◌≢◌, ℕ, false, List, [], ◌∷◌, ◌++◌, refl, sym, ap, ◌∙◌, subst}
 use Rattle.std.specs.List.{AllByRecursion}
 use Rattle.std.proofs.lemmas.List.{append_assoc}
 use Rattle.std.proofs.lemmas.List.Elements.{All-from_recursion, recursion_from_All}
@@ -44,6 +44,13 @@ all_right P [] rest all = all
 all_right P (entry ∷ past) rest all = all_right P past rest all.1
 
 -- ---- the run
+
+-- the entries of the end follow the file of the scenario that was read
+pub drained_file : (scenario played now : Scenario) (past run : History) → now ≡ played → played ≡ scenario → past ≡ file scenario →
+    IsDrained played past run → IsDrained now (file now) run
+drained_file scenario played now past run same alike is drained =
+    subst (λ (s : Scenario). IsDrained s (file s) run) (sym (same ∙ alike))
+    (subst (λ (s : Scenario). IsDrained s (file scenario) run) alike (subst (λ (h : History). IsDrained played h run) is drained))
 
 pub run_alone : (scenario : Scenario) (run : History) → IsDrained scenario (file scenario) run → IsRun scenario run
 run_alone scenario run drained = record { drained = drained; alone = λ other too. drained_alone scenario (file scenario) other run too drained }

@@ -5,10 +5,10 @@ use Rattle.cs_types.specs.declared.scenario.Scenario.{Scenario}
 use Rattle.cs_types.specs.Scenario.{IsBuilt}
 use Rattle.scenario_text.specs.declared.fault.BadKind.{BadKind}
 use Rattle.scenario_text.specs.Text.{scenario_text}
-use Rattle.scenario_runner.specs.declared.status.Status.{Status}
-use Rattle.scenario_runner.specs.declared.status.Status.TheVariants.{Done, BadWords, BadScenario, TooLong, ReadFault, WriteFault, OutOfMemory}
+use Rattle.scenario_input.specs.declared.status.Status.{Status}
+use Rattle.scenario_input.specs.declared.status.Status.TheVariants.{Done, BadWords, BadScenario, TooLong, ReadFault, WriteFault, OutOfMemory}
+use Rattle.scenario_input.specs.Input.{IsBad, input_limit, count_read}
 use Rattle.scenario_runner.specs.Commands.{IsReplay}
-use Rattle.scenario_runner.specs.Input.{IsBad, input_limit, count_read}
 use Rattle.scenario_runner.specs.Replay.{Replays, BreaksOff}
 
 -- a device before and after a call: what it tells of its bytes, and the count of its faults

@@ -1,5 +1,3 @@
 pub mod Commands
-pub mod Input
-pub mod Stop
 pub mod Replay
 pub mod Ends

@@ -4,15 +4,14 @@ use Rattle.cs_types.specs.declared.event.Actor.{Actor}
 use Rattle.cs_types.specs.declared.event.Actor.TheVariants.{End}
 use Rattle.cs_types.specs.declared.reply.Entry.{Entry}
 use Rattle.cs_types.specs.declared.scenario.Scenario.{Scenario}
-use Rattle.cs_types.specs.Scenario.{IsBuilt, script}
+use Rattle.cs_types.specs.Scenario.{script}
 use Rattle.cs_types.specs.Touches.{selection_of}
 use Rattle.cs_types.specs.History.{History, IsLegal, fold_of, events_by, file}
 use Rattle.cs_types.specs.Drain.{pending, IsDrained}
 use Rattle.cs_types.specs.Laws.{SelectsForTheCore, scheduling_room, cpu_of, IsSettled, RunOneCookie}
 use Rattle.cs_outside.specs.Device.{appended, WritesPrefix}
-use Rattle.scenario_text.specs.Text.{scenario_text}
 use Rattle.room_report.specs.Report.{output_text}
-use Rattle.scenario_runner.specs.Input.{IsReadAs}
+use Rattle.scenario_input.specs.Input.{Reads}
 
 -- The history is that of a run: the file's steps in order, and then the entries of the end. No other is.
 pub record IsRun (scenario : Scenario) (run : History) : Type 0 where
@@ -34,12 +33,7 @@ pub record IsPlayed (scenario : Scenario) (run : History) : Type 0 where
   pub nobody_pending : pending (fold_of scenario run) ≡ []
   pub one_cookie : RunOneCookie (fold_of scenario run)
 
--- the input is the text of a scenario that can be played, and was read to its end
-pub record Reads (scenario : Scenario) (input left : Option (List ℕ)) : Type 0 where
-  pub built : IsBuilt scenario
-  pub read : IsReadAs input (scenario_text scenario) left
-
--- and what was written is the output of its run: the line of each entry, and its report
+-- The input was read as a scenario, and what was written is the output of its run: the line of each entry, and its report
 pub record Replays (scenario : Scenario) (input left written now : Option (List ℕ)) : Type 0 where
   pub reads : Reads scenario input left
   pub run : History
@@ -47,7 +41,7 @@ pub record Replays (scenario : Scenario) (input left written now : Option (List 
   pub played : IsPlayed scenario run
   pub writes : now ≡ appended written (output_text scenario run)
 
--- or a prefix of that output
+-- Or a prefix of that output was written.
 pub record BreaksOff (scenario : Scenario) (input left written now : Option (List ℕ)) : Type 0 where
   pub reads : Reads scenario input left
   pub run : History

@@ -4,22 +4,17 @@ ghost use Rattle.std.specs.Prelude.{◌≡◌, ◌≢◌, ◌⊎◌, ◌↔◌, 
 ghost use Rattle.cs_outside.specs.Device.{Rose, appended, WritesPrefix};
 ghost use Rattle.room_report.specs.Report.{output_text};
 ghost use Rattle.scenario_runner.specs.Commands.{IsReplay};
-ghost use Rattle.scenario_runner.specs.Input.{IsBad, input_limit, count_read};
+ghost use Rattle.scenario_input.specs.Input.{Reads, IsBad, input_limit, count_read};
 ghost use Rattle.cs_types.specs.History.{file};
 ghost use Rattle.cs_types.specs.Drain.{IsDrained};
-ghost use Rattle.scenario_runner.specs.Replay.{Reads};
 ghost use Rattle.scenario_runner.specs.Ends.{EndsAsReplay};
 
-use crate::input::read_to_end;
-use crate::playing::play;
-use crate::status::Status;
-use crate::stop::Stop;
 use cs_outside::{Sink, Source};
 use cs_types::Room;
 use plain_room::PlainRoom;
 use ptrace_check::Guards;
 use room_report::output;
-use scenario_text::read;
+use scenario_input::{Status, Stop, play, read_scenario};
 use std::alloc::Global;
 
 /// The room of the scenario that the input spells, with all its steps made in the order of the lines, and
@@ -39,8 +34,7 @@ fn played<S: Source>(alloc: Global, source: &mut S) -> Result<PlainRoom, Stop>
     ensures failed { result ≡ Err Stop.ReadFault → Rose (S.faults source.old) (S.faults source.new) }
     ensures counted { S.faults source.old ≤ S.faults source.new }
 {
-    let input = read_to_end(alloc, source)?;
-    let scenario = read(alloc, &input)?;
+    let scenario = read_scenario(alloc, source)?;
     let mut room = PlainRoom::start(alloc, &scenario, Guards::none())?;
     play(&mut room, scenario.steps.items());
     room.drain();

@@ -2,11 +2,6 @@
 #![tactic(auto)]
 
 mod command;
-mod input;
-mod playing;
-mod status;
-mod stop;
 
 pub use command::{replay, run};
-pub use playing::play;
-pub use status::Status;
+pub use scenario_input::{Status, play};

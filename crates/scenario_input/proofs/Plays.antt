@@ -1,12 +1,11 @@
 -- How the history goes on, step by step.
-use Rattle.std.proofs.Common.{◌≡◌, ℕ, ◌+◌, ◌<◌, List, [], ◌∷◌, ◌++◌, length, take, get_or, sym, ap, ◌∙◌, subst}
+use Rattle.std.proofs.Common.{◌≡◌, ℕ, ◌+◌, ◌<◌, List, [], ◌∷◌, ◌++◌, length, take, get_or, sym, ap, ◌∙◌}
 use Rattle.std.proofs.lemmas.List.{take_more}
 use Rattle.cs_types.specs.declared.event.Step.{Step}
 use Rattle.cs_types.specs.declared.reply.Reply.{Reply}
 use Rattle.cs_types.specs.declared.reply.Entry.{Entry}
 use Rattle.cs_types.specs.declared.scenario.Scenario.{Scenario}
-use Rattle.cs_types.specs.History.{History, moment_of, reply_to, entry_of, history_of, file}
-use Rattle.cs_types.specs.Drain.{IsDrained}
+use Rattle.cs_types.specs.History.{History, moment_of, reply_to, entry_of, history_of}
 use Rattle.cs_types.proofs.Histories.{history_of-push}
 
 abbrev entry_with : Step → Reply → Entry
@@ -26,10 +25,3 @@ history_more scenario same steps i d past now reply lt so_far alike one_more tol
     ∙ ap (λ (h : History). h ++ entry_of (moment_of scenario h) made ∷ []) so_far
     ∙ sym (history_of-push scenario (take i steps) made)
     ∙ ap (history_of scenario) (sym (take_more steps i d lt))
-
--- the entries of the end follow the file of the scenario that was read
-pub drained_file : (scenario played now : Scenario) (past run : History) → now ≡ played → played ≡ scenario → past ≡ file scenario →
-    IsDrained played past run → IsDrained now (file now) run
-drained_file scenario played now past run same alike is drained =
-    subst (λ (s : Scenario). IsDrained s (file s) run) (sym (same ∙ alike))
-    (subst (λ (s : Scenario). IsDrained s (file scenario) run) alike (subst (λ (h : History). IsDrained played h run) is drained))

@@ -1,6 +1,6 @@
 use Rattle.std.proofs.Common.{◌∙◌, arith}
-use Rattle.scenario_runner.proofs.Plays.{history_more}
-use Rattle.scenario_runner.proofs.playing.play.Goals as goal
+use Rattle.scenario_input.proofs.Plays.{history_more}
+use Rattle.scenario_input.proofs.playing.play.Goals as goal
 
 pub loop-step-preserved : goal.loop-step-preserved
 loop-step-preserved g c = record {

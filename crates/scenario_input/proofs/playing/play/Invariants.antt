@@ -1,6 +1,6 @@
 use Rattle.std.proofs.Common.{◌≡◌, ◌+◌, take}
 use Rattle.cs_types.specs.History.{history_of}
-use Rattle.scenario_runner.proofs.playing.play.Given as goal
+use Rattle.scenario_input.proofs.playing.play.Given as goal
 
 abbrev pub invariant-loop-step : goal.invariant-loop-step
 invariant-loop-step g l =

@@ -1,7 +1,7 @@
 use Rattle.std.proofs.Common.{◌≡◌, ◌+◌, ◌-◌, ◌≤◌, length}
 use Rattle.cs_outside.specs.Device.{prepended}
-use Rattle.scenario_runner.specs.Input.{input_limit}
-use Rattle.scenario_runner.proofs.input.read_to_end.Given as goal
+use Rattle.scenario_input.specs.Input.{input_limit}
+use Rattle.scenario_input.proofs.input.read_to_end.Given as goal
 
 abbrev pub invariant-loop-count : goal.invariant-loop-count
 invariant-loop-count g l =

@@ -1,10 +1,10 @@
 -- Why an input is not played, as the layers below say it and as the command does.
 use Rattle.scenario_text.specs.declared.fault.ReadFault.{ReadFault}
 use Rattle.scenario_text.specs.declared.fault.ReadFault.TheVariants as text
-use Rattle.scenario_runner.specs.declared.stop.Stop.{Stop}
-use Rattle.scenario_runner.specs.declared.stop.Stop.TheVariants as stop
-use Rattle.scenario_runner.specs.declared.status.Status.{Status}
-use Rattle.scenario_runner.specs.declared.status.Status.TheVariants as status
+use Rattle.scenario_input.specs.declared.stop.Stop.{Stop}
+use Rattle.scenario_input.specs.declared.stop.Stop.TheVariants as stop
+use Rattle.scenario_input.specs.declared.status.Status.{Status}
+use Rattle.scenario_input.specs.declared.status.Status.TheVariants as status
 
 abbrev pub stop_of : ReadFault → Stop
 stop_of (text.Bad line kind) = stop.BadScenario line kind

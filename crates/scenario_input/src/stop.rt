@@ -1,7 +1,7 @@
 //! Why an input is not played.
 
 ghost use Rattle.std.specs.Prelude.{◌≡◌};
-ghost use Rattle.scenario_runner.specs.declared.stop.Stop.TheVariants.{OutOfMemory};
+ghost use Rattle.scenario_input.specs.declared.stop.Stop.TheVariants.{OutOfMemory};
 
 use crate::status::Status;
 use cs_types::OutOfMemory;
@@ -38,7 +38,7 @@ impl From<OutOfMemory> for Stop {
 }
 
 impl From<ReadFault> for Stop {
-    ghost use Rattle.scenario_runner.specs.Stop.{stop_of};
+    ghost use Rattle.scenario_input.specs.Stop.{stop_of};
 
     ghost from_gives = { λ fault stop. stop ≡ stop_of fault };
 
@@ -51,7 +51,7 @@ impl From<ReadFault> for Stop {
 }
 
 impl From<Stop> for Status {
-    ghost use Rattle.scenario_runner.specs.Stop.{status_of};
+    ghost use Rattle.scenario_input.specs.Stop.{status_of};
 
     ghost from_gives = { λ stop status. status ≡ status_of stop };
 

@@ -1,11 +1,13 @@
-//! Reading the input to its end.
+//! Reading the input to its end, and the scenario that it spells.
 
 ghost use Rattle.std.specs.Prelude.{◌≡◌, ◌≢◌, ◌+◌, ◌<◌, ◌≤◌, ◌↔◌, Err, IfOk, IfSome};
 ghost use Rattle.cs_outside.specs.Device.{Rose};
-ghost use Rattle.scenario_runner.specs.Input.{IsReadAs, input_limit, count_read};
+ghost use Rattle.scenario_input.specs.Input.{IsReadAs, IsBad, Reads, input_limit, count_read};
 
 use crate::stop::Stop;
 use cs_outside::Source;
+use cs_types::Scenario;
+use scenario_text::read;
 use std::alloc::Global;
 
 /// The most bytes that an input may have.
@@ -16,7 +18,7 @@ const BUFFER_BYTES: usize = 65_536;
 
 /// The bytes of a source, read to their end. One more than an input may have ends the reading. It always
 /// returns, since each read takes a byte, is the end, or fails.
-pub fn read_to_end<S: Source>(alloc: Global, source: &mut S) -> Result<Vec<u8>, Stop>
+fn read_to_end<S: Source>(alloc: Global, source: &mut S) -> Result<Vec<u8>, Stop>
     ensures whole { IfOk result (λ bytes. IsReadAs (S.left source.old) bytes.items (S.left source.new)) }
     ensures too_long { IfSome (S.left source.old) (λ _.
         (result ≡ Err Stop.TooLong) ↔ (input_limit < count_read (S.left source.old) (S.left source.new))) }
@@ -44,4 +46,24 @@ pub fn read_to_end<S: Source>(alloc: Global, source: &mut S) -> Result<Vec<u8>, 
         }
         bytes.extend_from_slice(&buffer[..count])?;
     }
+}
+
+/// The scenario that the input spells. The source is read to its end, or until it fails or has given one byte
+/// more than an input may have.
+pub fn read_scenario<S: Source>(alloc: Global, source: &mut S) -> Result<Scenario, Stop>
+    ensures reads { IfOk result (λ scenario. Reads scenario (S.left source.old) (S.left source.new)) }
+    ensures too_long { IfSome (S.left source.old) (λ _.
+        (result ≡ Err Stop.TooLong) ↔ (input_limit < count_read (S.left source.old) (S.left source.new))) }
+    ensures most { IfSome (S.left source.old) (λ _.
+        count_read (S.left source.old) (S.left source.new) ≤ input_limit + 1) }
+    ensures bad { (line : _) (kind : _) → result ≡ Err (Stop.BadScenario line kind) →
+        IsBad line kind (S.left source.old) (S.left source.new) }
+
+    ensures faultless { result ≢ Err Stop.ReadFault → S.faults source.new ≡ S.faults source.old }
+    ensures failed { result ≡ Err Stop.ReadFault → Rose (S.faults source.old) (S.faults source.new) }
+    ensures counted { S.faults source.old ≤ S.faults source.new }
+{
+    let input = read_to_end(alloc, source)?;
+    let scenario = read(alloc, &input)?;
+    Ok(scenario)
 }

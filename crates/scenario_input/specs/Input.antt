@@ -1,9 +1,12 @@
 -- The input: what was read of it, and how much.
 use Rattle.std.specs.Prelude.{◌≡◌, ℕ, ◌-◌, List, [], length, Option, Some, IfSome}
 use Rattle.std.specs.Option.{option_map_or}
+use Rattle.cs_types.specs.declared.scenario.Scenario.{Scenario}
+use Rattle.cs_types.specs.Scenario.{IsBuilt}
 use Rattle.cs_outside.specs.Device.{prepended}
 use Rattle.scenario_text.specs.declared.fault.BadKind.{BadKind}
 use Rattle.scenario_text.specs.declared.fault.BadKind.TheVariants.{Unbuilt}
+use Rattle.scenario_text.specs.Text.{scenario_text}
 use Rattle.scenario_text.specs.Reader.{HasNoScenario}
 
 -- the most bytes that an input may have (this project's rule)
@@ -17,6 +20,11 @@ count_read before now = option_map_or length before 0 - option_map_or length now
 -- the input was these bytes and was read to its end, where the source tells it
 abbrev pub IsReadAs : Option (List ℕ) → List ℕ → Option (List ℕ) → Type 0
 IsReadAs before bytes now = (before ≡ prepended bytes now) × IfSome now (λ left. left ≡ [])
+
+-- the input is the text of a scenario that can be played, and was read to its end
+pub record Reads (scenario : Scenario) (input left : Option (List ℕ)) : Type 0 where
+  pub built : IsBuilt scenario
+  pub read : IsReadAs input (scenario_text scenario) left
 
 -- the input was read to its end, and is the text of no scenario that can be played, which is said of the text
 -- as a whole

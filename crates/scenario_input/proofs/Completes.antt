@@ -6,15 +6,12 @@ use Rattle.cs_types.specs.Scenario.{IsBuilt}
 use Rattle.cs_outside.specs.Device.{Rose}
 use Rattle.scenario_text.specs.declared.fault.BadKind.{BadKind}
 use Rattle.scenario_text.specs.Text.{scenario_text}
-use Rattle.scenario_runner.specs.declared.stop.Stop.{Stop}
-use Rattle.scenario_runner.specs.declared.stop.Stop.TheVariants.{ReadFault, TooLong, BadScenario, OutOfMemory}
-use Rattle.scenario_runner.specs.declared.status.Status.TheVariants as status
-use Rattle.scenario_runner.specs.Input.{IsBad, input_limit, count_read}
-use Rattle.scenario_runner.specs.Stop.{status_of}
-
--- no more bytes were read than there were
-count_read-le : (text : List ℕ) (now : Option (List ℕ)) → count_read (Some text) now ≤ length text
-count_read-le text now = omega arith
+use Rattle.scenario_input.specs.declared.stop.Stop.{Stop}
+use Rattle.scenario_input.specs.declared.stop.Stop.TheVariants.{ReadFault, TooLong, BadScenario, OutOfMemory}
+use Rattle.scenario_input.specs.declared.status.Status.TheVariants as status
+use Rattle.scenario_input.specs.Input.{IsBad, input_limit, count_read}
+use Rattle.scenario_input.specs.Stop.{status_of}
+use Rattle.scenario_input.proofs.Inputs.{count_read-le}
 
 pub stop_complete : (stop : Stop) (now : Option (List ℕ)) (faults then : ℕ) (scenario : Scenario) →
     (stop ≡ TooLong → input_limit < count_read (Some (scenario_text scenario)) now) →

@@ -1,0 +1,4 @@
+pub mod Plays
+pub mod Inputs
+pub mod Stops
+pub mod Completes

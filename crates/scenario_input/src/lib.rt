@@ -1,0 +1,13 @@
+//! What the commands stand on: a scenario from the input, its steps played on any machine, and how a command
+//! ends. It knows no machine, so that it is proved beside the largest of them.
+#![tactic(auto)]
+
+mod input;
+mod playing;
+mod status;
+mod stop;
+
+pub use input::read_scenario;
+pub use playing::play;
+pub use status::Status;
+pub use stop::Stop;
