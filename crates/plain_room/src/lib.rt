@@ -1,21 +1,8 @@
-//! The slow machine: the rules made to run, over plain lists.
+//! The slow machine: the rules made to run, over a plain list of tasks.
 #![tactic(auto)]
 
-mod account;
-mod choice;
-mod cookies;
-mod events;
-mod hotplug;
-mod lead;
-mod life;
-mod queueing;
 mod room;
-mod schedule;
-mod selection;
-mod sibling;
-mod state;
-mod steal;
-mod task;
-mod time;
+mod walk;
 
 pub use room::PlainRoom;
+pub use walk::Walk;

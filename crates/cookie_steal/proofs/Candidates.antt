@@ -1,0 +1,56 @@
+-- Candidates: the tasks that a thief looks through, of which no two tie.
+use Rattle.std.proofs.Common.{◌≡◌, ℕ, zero, suc, ◌+◌, ◌<◌, ◌≤◌, Bool, true, false, ltb, List, [], ◌∷◌, length, get_or, sym, ap, ◌∙◌, Some, arith}
+use Rattle.std.specs.Prelude.{◌&&◌, ◌||◌, ◌==◌, not, find, Contains}
+use Rattle.std.proofs.lemmas.Bool.{cond-true, cond-false, and_parts, eqb-true, eq-eqb, ne_eqb}
+use Rattle.std.proofs.lemmas.Bool.Decides.{nat_tests}
+use Rattle.cs_types.specs.declared.task.Task.{Task}
+use Rattle.cs_types.specs.Room.{has_pid}
+use Rattle.cs_types.specs.Order.{goes_before, is_higher_here}
+use Rattle.cs_types.proofs.Filtered.{Contains-filter_parts}
+use Rattle.task_table.specs.Table.{Rises, RisesFrom}
+use Rattle.core_lanes.specs.Queued.{queued_among, with_cookie, IsOf, AreStamped}
+
+-- the tasks queued on the source with the cookie
+abbrev pub candidates : ℕ → ℕ → List Task → List Task
+candidates cookie source tasks = with_cookie cookie (queued_among tasks source)
+
+-- each of a rising list is found by its pid
+is_of_at : (low : ℕ) (tasks : List Task) (task : Task) → RisesFrom low tasks → (k : ℕ) → k < length tasks → get_or tasks k task ≡ task →
+    (find (has_pid task.spec.pid) tasks ≡ Some task) × (low ≤ task.spec.pid)
+is_of_at low [] task rises k below is = absurd (omega arith)
+is_of_at low (first ∷ tasks) task rises zero below is =
+    let pid : first.spec.pid ≡ task.spec.pid = ap (λ (t : Task). t.spec.pid) is in
+    (cond-true (first.spec.pid == task.spec.pid) (Some first) (find (has_pid task.spec.pid) tasks) (eq-eqb _ _ pid) ∙ ap Some is, omega (arith, pid, rises.0))
+is_of_at low (first ∷ tasks) task rises (suc k) below is =
+    let rest = is_of_at (first.spec.pid + 1) tasks task rises.1 k (omega arith) is in
+    let above : first.spec.pid + 1 ≤ task.spec.pid = rest.1 in (
+      cond-false (first.spec.pid == task.spec.pid) (Some first) (find (has_pid task.spec.pid) tasks) (ne_eqb first.spec.pid task.spec.pid (λ e. omega (arith, e, above))) ∙ rest.0,
+      omega (arith, above, rises.0),
+    )
+
+pub is_of : (tasks : List Task) (task : Task) → Rises tasks → Contains tasks task → IsOf tasks task
+is_of tasks task rises there = (is_of_at 0 tasks task rises there.0 there.1 there.2).0
+
+-- a candidate is a task of the list, queued, and with the cookie
+pub candidate_parts : (cookie source : ℕ) (tasks : List Task) (task : Task) → Contains (candidates cookie source tasks) task →
+    Contains tasks task × (task.queued ≡ true) × (task.cookie ≡ cookie)
+candidate_parts cookie source tasks task there =
+    let one = Contains-filter_parts (λ (t : Task). t.cookie == cookie) (queued_among tasks source) task there in
+    let two = Contains-filter_parts (λ (t : Task). t.queued && (t.home == source)) tasks task one.0 in
+    (two.0, (and_parts task.queued (task.home == source) two.1).0, eqb-true task.cookie cookie one.1)
+
+-- two that tie have one stamp
+tie : (above below : Bool) (s t : ℕ) → (above || (not below && ltb s t)) ≡ false → (below || (not above && ltb t s)) ≡ false → s ≡ t
+tie above below s t one two = grind (arith, nat_tests)
+
+pub no_two_tie : (next cookie source : ℕ) (tasks : List Task) → Rises tasks → AreStamped next tasks → (x y : Task) →
+    Contains (candidates cookie source tasks) x → Contains (candidates cookie source tasks) y → goes_before x y ≡ false → goes_before y x ≡ false → x ≡ y
+no_two_tie next cookie source tasks rises stamped x y in_x in_y one two =
+    let at_x = candidate_parts cookie source tasks x in_x in
+    let at_y = candidate_parts cookie source tasks y in_y in
+    let of_x : find (has_pid x.spec.pid) tasks ≡ Some x = is_of tasks x rises at_x.0 in
+    let of_y : find (has_pid y.spec.pid) tasks ≡ Some y = is_of tasks y rises at_y.0 in
+    let stamp = tie (is_higher_here x y) (is_higher_here y x) x.stamp y.stamp one two in
+    let pid : x.spec.pid ≡ y.spec.pid = stamped.distinct y of_y at_y.1 x of_x at_x.1 stamp in
+    let same : Some x ≡ Some y = sym of_x ∙ ap (λ n. find (has_pid n) tasks) pid ∙ of_y in
+    cc

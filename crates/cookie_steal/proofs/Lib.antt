@@ -1,0 +1,3 @@
+mod Enumerated
+mod Candidates
+mod Steals

@@ -1,0 +1,95 @@
+use Rattle.std.proofs.Common.{◌≡◌, ℕ, ◌<◌, List, ap, sym, subst, ◌∙◌, Option}
+use Rattle.std.specs.Prelude.{filter, Contains}
+use Rattle.cs_types.specs.declared.task.Task.{Task}
+use Rattle.cs_types.specs.Room.{SiblingState}
+use Rattle.cs_types.specs.Order.{goes_before, first_of}
+use Rattle.cs_types.specs.Steal.{may_steal}
+use Rattle.cs_types.proofs.First.{goes_before_is_order}
+use Rattle.core_lanes.specs.Queued.{behind}
+use Rattle.core_lanes.specs.Lanes.{lane_state}
+use Rattle.core_lanes.proofs.Stays.{lane_at}
+use Rattle.cookie_steal.proofs.Enumerated.{IsLeft, to_go, left_first, left_next, left_found, left_none, to_go_falls}
+use Rattle.cookie_steal.proofs.Candidates.{candidates, candidate_parts, no_two_tie}
+use Rattle.cookie_steal.proofs.Steals.{queue_at}
+use Rattle.cookie_steal.proofs.search.first_to_steal.Goals as goal
+
+-- the first of those that the thief may take, as its siblings stand in the room
+from_room : (thief source : SiblingState) (idle from : SiblingState) (queued : List Task) → thief ≡ idle → source ≡ from →
+    first_of (filter (may_steal idle from) queued) ≡ first_of (filter (may_steal thief source) queued)
+from_room thief source idle from queued one two = sym (λ i. first_of (filter (may_steal (one i) (two i)) queued))
+
+-- what stands behind a candidate
+behind_it : (cookie source : ℕ) (tasks : List Task) (task : Task) → Contains (candidates cookie source tasks) task →
+    first_of (behind task (candidates task.cookie source tasks)) ≡ first_of (behind task (candidates cookie source tasks))
+behind_it cookie source tasks task there = ap (λ n. first_of (behind task (candidates n source tasks))) (candidate_parts cookie source tasks task there).2
+
+pub loop-next-init : goal.loop-next-init
+loop-next-init g c =
+    let core = c.args.core.now in
+    let table = c.args.table.now in
+    let all = candidates core.cookie c.args.source table.tasks in
+    let may = may_steal (lane_state c.index-idle.result.now) (lane_state c.index-from.result.now) in
+    subst (IsLeft goes_before all may) (sym c.first_with-next.ensures)
+    (left_first goes_before goes_before_is_order all (no_two_tie core.next_stamp core.cookie c.args.source table.tasks c.requires.agree.table.rising c.requires.agree.stamped) may)
+
+pub returns-then-may_steal : goal.returns-then-may_steal
+returns-then-may_steal g c beside =
+    let core = c.args.core.now in
+    let table = c.args.table.now in
+    let all = candidates core.cookie c.args.source table.tasks in
+    let may = may_steal (lane_state c.index-idle.result.now) (lane_state c.index-from.result.now) in
+    let left = subst (IsLeft goes_before all may) c.in-Some.is c.loop-next.invariant in
+    sym (left_found goes_before goes_before_is_order all (no_two_tie core.next_stamp core.cookie c.args.source table.tasks c.requires.agree.table.rising c.requires.agree.stamped) may
+    c.in-Some.task left (sym c.may_steal.ensures ∙ c.if-may_steal.true))
+    ∙ from_room _ _ _ _ all (lane_at core.lanes.items c.args.thief c.index-idle.result.now c.requires.thief c.index-idle.ensures)
+    (lane_at core.lanes.items c.args.source c.index-from.result.now c.requires.source c.index-from.ensures)
+
+pub next_with-next-requires-clause-cookie : goal.next_with-next-requires-clause-cookie
+next_with-next-requires-clause-cookie g c =
+    let core = c.args.core.now in
+    let tasks = c.args.table.now.tasks in
+    let may = may_steal (lane_state c.index-idle.result.now) (lane_state c.index-from.result.now) in
+    let left = subst (IsLeft goes_before (candidates core.cookie c.args.source tasks) may) c.in-Some.is c.loop-next.invariant in
+    λ zero. c.requires.cookie (sym (candidate_parts core.cookie c.args.source tasks c.in-Some.task left.0).2 ∙ zero)
+
+pub next_with-next-requires-clause-holds : goal.next_with-next-requires-clause-holds
+next_with-next-requires-clause-holds g c =
+    let from = c.index-from.result.now in
+    c.requires.agree.held c.args.source from.queue (queue_at c.args.core.now.lanes.items c.args.source from c.requires.source c.index-from.ensures)
+
+pub loop-next-smaller : goal.loop-next-smaller
+loop-next-smaller g c =
+    let core = c.args.core.now in
+    let table = c.args.table.now in
+    let all = candidates core.cookie c.args.source table.tasks in
+    let may = may_steal (lane_state c.index-idle.result.now) (lane_state c.index-from.result.now) in
+    let left = subst (IsLeft goes_before all may) c.in-Some.is c.loop-next.invariant in
+    let next : c.next_with-next.result ≡ first_of (behind c.in-Some.task all) =
+    c.next_with-next.ensures ∙ behind_it core.cookie c.args.source table.tasks c.in-Some.task left.0 in
+    subst (λ (one : Option Task). to_go goes_before all one < to_go goes_before all c.loop-next.next) (sym next)
+    (subst (λ (one : Option Task). to_go goes_before all (first_of (behind c.in-Some.task all)) < to_go goes_before all one) (sym c.in-Some.is)
+    (to_go_falls goes_before goes_before_is_order all (no_two_tie core.next_stamp core.cookie c.args.source table.tasks c.requires.agree.table.rising c.requires.agree.stamped) may c.in-Some.task))
+
+pub loop-next-preserved : goal.loop-next-preserved
+loop-next-preserved g c =
+    let core = c.args.core.now in
+    let table = c.args.table.now in
+    let all = candidates core.cookie c.args.source table.tasks in
+    let may = may_steal (lane_state c.index-idle.result.now) (lane_state c.index-from.result.now) in
+    let left = subst (IsLeft goes_before all may) c.in-Some.is c.loop-next.invariant in
+    let next : c.next_with-next.result ≡ first_of (behind c.in-Some.task all) =
+    c.next_with-next.ensures ∙ behind_it core.cookie c.args.source table.tasks c.in-Some.task left.0 in
+    subst (IsLeft goes_before all may) (sym next)
+    (left_next goes_before goes_before_is_order all (no_two_tie core.next_stamp core.cookie c.args.source table.tasks c.requires.agree.table.rising c.requires.agree.stamped) may
+    c.in-Some.task left (sym c.may_steal.ensures ∙ c.if-may_steal.false))
+
+pub returns : goal.returns
+returns g c beside =
+    let core = c.args.core.now in
+    let table = c.args.table.now in
+    let all = candidates core.cookie c.args.source table.tasks in
+    let may = may_steal (lane_state c.index-idle.result.now) (lane_state c.index-from.result.now) in
+    let left = subst (IsLeft goes_before all may) c.in_default.is c.loop-next.invariant in
+    sym (left_none goes_before goes_before_is_order all (no_two_tie core.next_stamp core.cookie c.args.source table.tasks c.requires.agree.table.rising c.requires.agree.stamped) may left)
+    ∙ from_room _ _ _ _ all (lane_at core.lanes.items c.args.thief c.index-idle.result.now c.requires.thief c.index-idle.ensures)
+    (lane_at core.lanes.items c.args.source c.index-from.result.now c.requires.source c.index-from.ensures)

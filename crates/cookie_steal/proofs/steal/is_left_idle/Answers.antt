@@ -1,0 +1,46 @@
+use Rattle.std.proofs.Common.{ap, ◌∙◌, sym, ◌≡◌, Bool, true, false, refl}
+use Rattle.std.specs.Prelude.{not, ◌&&◌, ◌==◌, is_none}
+use Rattle.cs_types.specs.Room.{SiblingState, sibling_of}
+use Rattle.cs_types.specs.Selection.{first_on}
+use Rattle.core_lanes.specs.Lanes.{room_of}
+use Rattle.core_lanes.proofs.Stays.{lane_at}
+use Rattle.cookie_steal.proofs.steal.is_left_idle.Goals as goal
+use Rattle.cookie_steal.proofs.steal.is_left_idle.Goals.{then-is_none, else-is_none}
+
+pub returns-then-is_none-2 : goal.returns-then-is_none-2
+returns-then-is_none-2 g c beside =
+    let room = room_of beside (c.args.core.now, c.args.table.now) in
+    let empty : is_none (first_on room c.args.cpu) ≡ c.is_none.result =
+    ap is_none (sym (c.first_on.ensures beside)) ∙ ap not c.is_none.ensures ∙ twice c.is_none.result in
+    elim c.if-is_none.branch [
+      | then-is_none w ↦
+          let at = lane_at c.args.core.now.lanes.items c.args.cpu w.index.result.now c.requires.cpu w.index.ensures in
+          let none = empty ∙ w.if-is_none.true in
+          let idles : is_none (sibling_of room c.args.cpu).run ≡ true =
+          ap (λ (s : SiblingState). is_none s.run) at ∙ ap not w.is_none-then-is_none.ensures ∙ ap (λ b. not (not b)) (sym w.value-is ∙ c.if-is_none-2.true) in
+          ap (λ n. not (n == 0)) c.count.ensures.count ∙ sym (λ i. none i && idles i && not (room.forced == 0))
+      | else-is_none w ↦ let bad = sym (w.value-is ∙ w.if-is_none.false) ∙ c.if-is_none-2.true in absurd cc
+    ] where
+      twice : (b : Bool) → not (not b) ≡ b
+      twice true = refl
+      twice false = refl
+
+pub returns-else-is_none-2 : goal.returns-else-is_none-2
+returns-else-is_none-2 g c beside =
+    let room = room_of beside (c.args.core.now, c.args.table.now) in
+    let empty : is_none (first_on room c.args.cpu) ≡ c.is_none.result =
+    ap is_none (sym (c.first_on.ensures beside)) ∙ ap not c.is_none.ensures ∙ twice c.is_none.result in
+    elim c.if-is_none.branch [
+      | then-is_none w ↦
+          let at = lane_at c.args.core.now.lanes.items c.args.cpu w.index.result.now c.requires.cpu w.index.ensures in
+          let none = empty ∙ w.if-is_none.true in
+          let runs : is_none (sibling_of room c.args.cpu).run ≡ false =
+          ap (λ (s : SiblingState). is_none s.run) at ∙ ap not w.is_none-then-is_none.ensures ∙ ap (λ b. not (not b)) (sym w.value-is ∙ c.if-is_none-2.false) in
+          c.if-is_none-2.false ∙ sym (λ i. none i && runs i && not (room.forced == 0))
+      | else-is_none w ↦
+          let some = empty ∙ w.if-is_none.false in
+          c.if-is_none-2.false ∙ sym (λ i. some i && is_none (sibling_of room c.args.cpu).run && not (room.forced == 0))
+    ] where
+      twice : (b : Bool) → not (not b) ≡ b
+      twice true = refl
+      twice false = refl

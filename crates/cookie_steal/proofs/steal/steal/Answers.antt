@@ -1,0 +1,68 @@
+use Rattle.std.proofs.Common.{ℕ, ◌≡◌, ◌<◌, ◌^◌, true, ap, ◌∙◌, refl, subst, sym, arith}
+use Rattle.std.specs.Prelude.{length}
+use Rattle.cs_types.specs.declared.task.Task.{Task}
+use Rattle.cs_types.specs.Room.{RoomState, flagged}
+use Rattle.cs_types.specs.Queueing.{moved_to, moved, enqueued}
+use Rattle.cs_types.specs.Steal.{with_place}
+use Rattle.core_lanes.specs.Lanes.{room_of, IsFit, KnowsApart}
+use Rattle.core_lanes.specs.Numbers.{Numbers, numbers_of, touched}
+use Rattle.core_lanes.specs.Changes.{Kept}
+use Rattle.core_lanes.proofs.Stays.{some_beside, both_stay, found_in}
+use Rattle.cookie_steal.proofs.Steals.{is_left}
+use Rattle.cookie_steal.proofs.steal.steal.Goals as goal
+
+pub moved_to-moved-requires-clause-home : goal.moved_to-moved-requires-clause-home
+moved_to-moved-requires-clause-home g c =
+    (found_in (IsFit (length c.args.core.now.lanes.items)) c.args.task.spec.pid c.args.table.now.tasks c.args.task c.requires.agree.tasks c.requires.there).home
+
+pub moved_to-moved-requires-clause-vtime : goal.moved_to-moved-requires-clause-vtime
+moved_to-moved-requires-clause-vtime g c =
+    found_in (λ (task : Task). task.vtime < 2 ^ 100) c.args.task.spec.pid c.args.table.now.tasks c.args.task c.requires.low.vtimes c.requires.there
+
+pub enqueue-requires-clause-knows : goal.enqueue-requires-clause-knows
+enqueue-requires-clause-knows g c =
+    let core = c.args.core.now in
+    let table = c.args.table.now in
+    let task = c.args.task in
+    let fit = found_in (IsFit (length core.lanes.items)) task.spec.pid table.tasks task c.requires.agree.tasks c.requires.there in
+    let many : length c.touch.new.self.lanes.items ≡ length core.lanes.items = ap (λ (kept : Kept). kept.siblings) (c.touch.ensures table).stays.kept in
+    let knows : KnowsApart (c.touch.new.self, table) (moved_to (room_of some_beside (core, table)) c.args.thief task) =
+    record {
+      apart = record { old = task; there = c.requires.there; fits = record { home = subst (λ n. c.args.thief < n) (sym many) c.requires.thief; policy = fit.policy } };
+      cookie = refl;
+    } in
+    subst (KnowsApart (c.touch.new.self, table)) (sym (c.moved_to-moved.ensures some_beside table)) knows
+
+pub enqueue-requires-clause-stamp : goal.enqueue-requires-clause-stamp
+enqueue-requires-clause-stamp g c =
+    let same : c.touch.new.self.next_stamp ≡ c.args.core.now.next_stamp = ap (λ (room : RoomState). room.next_stamp) ((c.touch.ensures c.args.table.now).room some_beside) in
+    omega (arith, same, c.requires.stamp)
+
+pub returns : goal.returns
+returns g c =
+    let table = c.args.table.now in
+    let touch = c.touch.ensures table in
+    let place = c.set_place.ensures c.enqueue.new.table in
+    let flag = c.flag.ensures c.enqueue.new.table in
+    let last = c.flag-2.ensures c.enqueue.new.table in
+    record {
+      room = λ beside.
+          let room = room_of beside (c.args.core.now, table) in
+          let thief = c.args.thief in
+          let at : RoomState → RoomState = λ now. flagged (with_place now thief 0) thief true in
+          let after = at (moved room thief c.args.task) in
+          let mid : room_of beside (c.flag.new.self, c.enqueue.new.table) ≡ after =
+          flag.room beside
+          ∙ ap (λ (now : RoomState). flagged now thief true) (place.room beside)
+          ∙ ap at (c.enqueue.ensures.room beside)
+          ∙ ap (λ (now : RoomState). at (enqueued now c.moved_to-moved.result)) (touch.room beside)
+          ∙ ap (λ (task : Task). at (enqueued room task)) (c.moved_to-moved.ensures beside table) in
+          last.room beside
+          ∙ ap (flagged (room_of beside (c.flag.new.self, c.enqueue.new.table)) c.args.source) (c.is_left_idle-idles.ensures beside)
+          ∙ ap (λ (now : RoomState). flagged now c.args.source (is_left now c.args.source)) mid
+          ∙ ap (λ (source : ℕ). flagged after source (is_left after source)) (c.requires.source beside);
+      numbers =
+          last.numbers ∙ flag.numbers ∙ place.numbers ∙ c.enqueue.ensures.numbers ∙ ap (touched 1) touch.numbers
+          ∙ ap (λ (n : ℕ). let numbers : Numbers = record (numbers_of c.args.core.now) { task = n } in numbers) (omega arith);
+      stays = both_stay touch.stays (both_stay c.enqueue.ensures.stays (both_stay place.stays (both_stay flag.stays last.stays)));
+    }

@@ -1,0 +1,70 @@
+use Rattle.std.proofs.Common.{ℕ, ap, ◌∙◌, sym, ◌≡◌, false, add-zero}
+use Rattle.std.specs.Prelude.{Option, ◌==◌}
+use Rattle.std.proofs.lemmas.Bool.{ne_eqb, cond-false}
+use Rattle.cs_types.specs.declared.task.Task.{Task}
+use Rattle.cs_types.specs.declared.reply.Reply.TheVariants.{Stole, Missed, Nothing}
+use Rattle.cs_types.specs.Room.{RoomState, SiblingState, sibling_of}
+use Rattle.cs_types.specs.Steal.{with_place, stolen}
+use Rattle.cs_types.specs.Step.{Stepped, try_steal}
+use Rattle.core_lanes.specs.Lanes.{room_of}
+use Rattle.core_lanes.specs.Numbers.{Numbers, numbers_of}
+use Rattle.core_lanes.proofs.Stays.{some_beside, lane_at}
+use Rattle.cookie_steal.specs.Tries.{tried}
+use Rattle.cookie_steal.proofs.Steals.{stolen_there}
+use Rattle.cookie_steal.proofs.steal.try_steal.Goals as goal
+
+-- where the balance place is not 0, the sibling tries
+it_tries : (room : RoomState) (cpu : ℕ) (state : SiblingState) → sibling_of room cpu ≡ state → (state.place ≡ 0 → ⊥) → try_steal room cpu (stolen room cpu) ≡ tried room cpu
+it_tries room cpu state at some =
+    let so : ((sibling_of room cpu).place == 0) ≡ false = ap (λ (s : SiblingState). s.place == 0) at ∙ ne_eqb state.place 0 some in
+    sym (cond-false ((sibling_of room cpu).place == 0) (record { reply = Nothing; room = room }) (try_steal room cpu (stolen room cpu)) so)
+
+pub stolen-requires-clause-source : goal.stolen-requires-clause-source
+stolen-requires-clause-source g c beside = c.source_of-source.ensures.source beside c.args.table.now
+
+pub steal-requires-clause-source : goal.steal-requires-clause-source
+steal-requires-clause-source g c beside = c.source_of-source.ensures.source beside c.args.table.now
+
+pub steal-requires-clause-there : goal.steal-requires-clause-there
+steal-requires-clause-there g c =
+    stolen_there (room_of some_beside (c.args.core.now, c.args.table.now)) c.args.cpu c.in-Some.task c.requires.agree.table.rising (sym (c.in-Some.ensures.stolen some_beside))
+
+pub returns-in-Some : goal.returns-in-Some
+returns-in-Some g c =
+    let at = lane_at c.args.core.now.lanes.items c.args.cpu c.index.result.now c.requires.cpu c.index.ensures in
+    record {
+      reply = λ beside.
+          let room = room_of beside (c.args.core.now, c.args.table.now) in
+          ap (Stole c.in-Some.task.spec.pid) (c.source_of-source.ensures.source beside c.args.table.now)
+          ∙ ap (λ (found : Option Task). (try_steal room c.args.cpu found).reply) (c.in-Some.ensures.stolen beside)
+          ∙ ap (λ (made : Stepped). made.reply) (it_tries room c.args.cpu _ at c.if-index-eq0.false);
+      room = λ beside.
+          let room = room_of beside (c.args.core.now, c.args.table.now) in
+          c.steal.ensures.room beside ∙ ap (λ (found : Option Task). (try_steal room c.args.cpu found).room) (c.in-Some.ensures.stolen beside)
+          ∙ ap (λ (made : Stepped). made.room) (it_tries room c.args.cpu _ at c.if-index-eq0.false);
+      numbers = c.steal.ensures.numbers;
+      unchanged = λ none. absurd cc;
+      stays = c.steal.ensures.stays;
+    }
+
+pub returns-in-None : goal.returns-in-None
+returns-in-None g c =
+    let at = lane_at c.args.core.now.lanes.items c.args.cpu c.index.result.now c.requires.cpu c.index.ensures in
+    let place = c.set_place.ensures c.args.table.now in
+    record {
+      reply = λ beside.
+          let room = room_of beside (c.args.core.now, c.args.table.now) in
+          ap Missed (c.source_of-source.ensures.source beside c.args.table.now)
+          ∙ ap (λ (found : Option Task). (try_steal room c.args.cpu found).reply) (c.in-None.ensures.stolen beside)
+          ∙ ap (λ (made : Stepped). made.reply) (it_tries room c.args.cpu _ at c.if-index-eq0.false);
+      room = λ beside.
+          let room = room_of beside (c.args.core.now, c.args.table.now) in
+          place.room beside ∙ ap (with_place room c.args.cpu) (c.next_place-place.ensures beside c.args.table.now)
+          ∙ ap (λ (found : Option Task). (try_steal room c.args.cpu found).room) (c.in-None.ensures.stolen beside)
+          ∙ ap (λ (made : Stepped). made.room) (it_tries room c.args.cpu _ at c.if-index-eq0.false);
+      numbers =
+          place.numbers
+          ∙ ap (λ (n : ℕ). let numbers : Numbers = record (numbers_of c.args.core.now) { task = n } in numbers) (sym (add-zero c.args.core.now.task_number));
+      unchanged = λ none. absurd cc;
+      stays = place.stays;
+    }

@@ -1,0 +1,42 @@
+-- Tries: what a steal try makes of a core and its table.
+use Rattle.std.specs.Prelude.{◌≡◌, ℕ, ◌==◌, if◌then◌else◌}
+use Rattle.cs_types.specs.declared.reply.Reply.{Reply}
+use Rattle.cs_types.specs.declared.reply.Reply.TheVariants as answer
+use Rattle.cs_types.specs.Room.{RoomState, sibling_of}
+use Rattle.cs_types.specs.Steal.{stolen}
+use Rattle.cs_types.specs.Step.{Stepped, try_steal}
+use Rattle.task_table.specs.Table.{Table}
+use Rattle.core_lanes.specs.declared.queue.SiblingQueue.{Ghosts}
+use Rattle.core_lanes.specs.declared.lanes.Core.{Core}
+use Rattle.core_lanes.specs.Lanes.{Beside, room_of}
+use Rattle.core_lanes.specs.Numbers.{numbers_of, touched}
+use Rattle.core_lanes.specs.Changes.{Stays}
+use Rattle.cookie_steal.specs.declared.steal.Try.{Try}
+use Rattle.cookie_steal.specs.declared.steal.Try.TheVariants.{Stole, Missed, NoBalance}
+
+-- what a machine answers
+abbrev pub reply_of : Try → Reply
+reply_of (Stole pid from) = answer.Stole pid from
+reply_of (Missed from) = answer.Missed from
+reply_of NoBalance = answer.Nothing
+
+-- how often the queues are touched: twice where a task moves
+abbrev pub steal_touches : Try → ℕ
+steal_touches (Stole pid from) = 2
+steal_touches (Missed from) = 0
+steal_touches NoBalance = 0
+
+-- A sibling whose balance place is 0 tries none. Else it tries to steal.
+abbrev pub tried : RoomState → ℕ → Stepped
+tried room cpu =
+    if (sibling_of room cpu).place == 0
+    then record { reply = answer.Nothing; room = room }
+    else try_steal room cpu (stolen room cpu)
+
+-- the new room and the answer are those of a try of the sibling, and where it tries none nothing changes
+pub record TriesToSteal {Q : Type 0} {g : Ghosts Q} (old new : Core Q g × Table) (cpu : ℕ) (made : Try) : Type 0 where
+  pub reply : (beside : Beside) → reply_of made ≡ (tried (room_of beside old) cpu).reply
+  pub room : (beside : Beside) → room_of beside new ≡ (tried (room_of beside old) cpu).room
+  pub numbers : numbers_of new.0 ≡ touched (steal_touches made) (numbers_of old.0)
+  pub unchanged : made ≡ NoBalance → new ≡ old
+  pub stays : Stays old new

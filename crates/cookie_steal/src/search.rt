@@ -1,0 +1,72 @@
+//! What a thief finds on its source. It is apart, since it asks the source's queue and changes nothing.
+
+ghost use Rattle.std.specs.Prelude.{◌≡◌, ◌≢◌, ◌<◌, length, filter};
+ghost use Rattle.cs_types.specs.Room.{sibling_of};
+ghost use Rattle.cs_types.specs.Order.{first_of};
+ghost use Rattle.cs_types.specs.Selection.{is_run, queued_with};
+ghost use Rattle.cs_types.specs.Steal.{source_of, may_steal, stolen};
+ghost use Rattle.core_lanes.specs.Lanes.{Beside, lane_state, room_of, Agree};
+
+use core_lanes::{Core, Lane, SiblingQueue};
+use cs_types::{Cpu, Steps, Task};
+use std::sync::ledger::Ledger;
+use task_table::TaskTable;
+
+/// Whether the thief may take the task from the source: that neither is to run it nor runs it, and it was
+/// chosen beside no more tasks than the thief's idle.
+fn may_steal<Q: Drop>(thief: &Lane<Q>, source: &Lane<Q>, task: &Task) -> bool
+    ensures { result ≡ may_steal (lane_state thief.now) (lane_state source.now) task.now }
+{
+    source.waiting != Some(Some(task.spec.pid))
+        && !source.runs(task.spec.pid)
+        && thief.idle_occupation >= task.occupation
+}
+
+/// The first of the source's tasks with the core's cookie, which is not 0, that the thief may take
+/// (`try_steal_cookie`).
+fn first_to_steal<Q: SiblingQueue, L: Ledger>(
+    core: &Core<Q>,
+    table: &TaskTable,
+    thief: Cpu,
+    source: Cpu,
+    steps: &mut Steps<L>,
+) -> Option<Task>
+    requires cookie { core.now.cookie ≢ 0 }
+    requires thief { thief < length core.now.lanes.items }
+    requires source { source < length core.now.lanes.items }
+    requires agree { Agree (core.now, table.now) }
+    ensures { (beside : Beside) → let room = room_of beside (core.now, table.now) in
+        result ≡ first_of (filter (may_steal (sibling_of room thief) (sibling_of room source)) (queued_with room room.core_cookie source)) }
+{
+    let idle = &core.lanes[thief as usize];
+    let from = &core.lanes[source as usize];
+    let mut next = from.queue.first_with(core.cookie, table, source, steps);
+    while let Some(task) = next {
+        if may_steal(idle, from, &task) {
+            return Some(task);
+        }
+        next = from.queue.next_with(&task, table, source, steps);
+    }
+    None
+}
+
+/// What the thief steals from the source, if there is something.
+#[tactic(auto, unfolding(cs_types::specs::Steal::stolen))]
+pub fn stolen<Q: SiblingQueue, L: Ledger>(
+    core: &Core<Q>,
+    table: &TaskTable,
+    thief: Cpu,
+    source: Cpu,
+    steps: &mut Steps<L>,
+) -> Option<Task>
+    requires thief { thief < length core.now.lanes.items }
+    requires within { source < length core.now.lanes.items }
+    requires source { (beside : Beside) → source ≡ source_of (room_of beside (core.now, table.now)) thief }
+    requires agree { Agree (core.now, table.now) }
+    ensures stolen { (beside : Beside) → result ≡ stolen (room_of beside (core.now, table.now)) thief }
+{
+    if core.cookie == 0 || core.lanes[thief as usize].run.is_some() {
+        return None;
+    }
+    first_to_steal(core, table, thief, source, steps)
+}

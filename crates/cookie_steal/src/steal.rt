@@ -1,0 +1,134 @@
+//! A try, and how what it finds moves.
+
+ghost use Rattle.std.specs.Prelude.{◌≡◌, ◌+◌, ◌^◌, ◌<◌, ◌&&◌, ◌==◌, length, not, is_none, All};
+ghost use Rattle.cs_types.specs.Room.{sibling_of};
+ghost use Rattle.cs_types.specs.Selection.{first_on};
+ghost use Rattle.cs_types.specs.Steal.{source_of, with_stolen, next_place};
+ghost use Rattle.task_table.specs.Table.{Table};
+ghost use Rattle.core_lanes.specs.Queued.{IsOf};
+ghost use Rattle.core_lanes.specs.Lanes.{Beside, room_of, Agree, HasLowTimes};
+ghost use Rattle.core_lanes.specs.Changes.{Touches};
+ghost use Rattle.cookie_steal.specs.Tries.{TriesToSteal};
+
+use crate::search::stolen;
+use core_lanes::{Core, SiblingQueue};
+use cs_types::{Cpu, Pid, Steps, Task};
+use std::sync::ledger::Ledger;
+use task_table::TaskTable;
+
+/// What came of a steal try.
+#[derive(Clone, Copy)]
+pub enum Try {
+    /// The sibling stole the task with this pid from that one, where it queues now and is pending. This
+    /// comes where the core has a cookie, the sibling runs idle, and a task with the cookie is queued on
+    /// that one which it may take.
+    Stole { pid: Pid, from: Cpu },
+    /// The sibling found nothing to steal on that one, and tries the next one next, or none after the last.
+    Missed(Cpu),
+    /// The sibling tries none: its balance place is 0. Nothing changed.
+    NoBalance,
+}
+
+/// The sibling from which one tries to steal next.
+fn source_of<Q: SiblingQueue>(core: &Core<Q>, cpu: Cpu) -> Cpu
+    requires cpu { cpu < length core.now.lanes.items }
+    ensures source { (beside : Beside) (table : Table) → result ≡ source_of (room_of beside (core.now, table)) cpu }
+    ensures within { result < length core.now.lanes.items }
+{
+    let place = core.lanes[cpu as usize].place as usize;
+    ((cpu as usize + place) % core.lanes.len()) as u8
+}
+
+/// Whether a sibling idles with no task queued on it while some sibling is forced idle.
+fn is_left_idle<Q: SiblingQueue, L: Ledger>(
+    core: &Core<Q>,
+    table: &TaskTable,
+    cpu: Cpu,
+    steps: &mut Steps<L>,
+) -> bool
+    requires cpu { cpu < length core.now.lanes.items }
+    requires agree { Agree (core.now, table.now) }
+    ensures { (beside : Beside) → let room = room_of beside (core.now, table.now) in
+        result ≡ (is_none (first_on room cpu) && is_none (sibling_of room cpu).run && not (room.forced == 0)) }
+{
+    core.first_on(table, cpu, steps).is_none()
+        && core.lanes[cpu as usize].run.is_none()
+        && core.account.count() != 0
+}
+
+/// The task moves from the source to the thief, which is pending.
+fn steal<Q: SiblingQueue, L: Ledger>(
+    core: &mut Core<Q>,
+    table: &mut TaskTable,
+    thief: Cpu,
+    source: Cpu,
+    task: Task,
+    steps: &mut Steps<L>,
+)
+    requires thief { thief < length core.old.lanes.items }
+    requires within { source < length core.old.lanes.items }
+    requires source { (beside : Beside) → source ≡ source_of (room_of beside (core.old, table.old)) thief }
+    requires there { IsOf table.old.tasks task }
+    requires agree { Agree (core.old, table.old) }
+    requires low { HasLowTimes (core.old, table.old) }
+    requires stamp { core.old.next_stamp + 1 < 2 ^ 64 }
+    requires touches { core.old.task_number + 2 < 2 ^ 64 }
+    ensures { Touches 2 (core.old, table.old) (core.new, table.new) (λ room. with_stolen room thief task) }
+{
+    let moved = core.moved_to(thief, task);
+    core.touch();
+    core.enqueue(table, moved, steps);
+    core.set_place(thief, 0);
+    core.flag(thief, true);
+    let idles = is_left_idle(core, table, source, steps);
+    core.flag(source, idles);
+}
+
+/// Where the sibling's next try is, where this one finds nothing.
+fn next_place<Q: SiblingQueue>(core: &Core<Q>, cpu: Cpu) -> u32
+    requires cpu { cpu < length core.now.lanes.items }
+    requires places { All (λ lane. lane.place + 1 < 2 ^ 32) core.now.lanes.items }
+    ensures { (beside : Beside) (table : Table) → result ≡ next_place (room_of beside (core.now, table)) cpu }
+{
+    let next = core.lanes[cpu as usize].place + 1;
+    if next as usize == core.lanes.len() {
+        0
+    } else {
+        next
+    }
+}
+
+/// The sibling tries to steal a task, where its balance place says that it is to.
+pub fn try_steal<Q: SiblingQueue, L: Ledger>(
+    core: &mut Core<Q>,
+    table: &mut TaskTable,
+    cpu: Cpu,
+    steps: &mut Steps<L>,
+) -> Try
+    requires cpu { cpu < length core.old.lanes.items }
+    requires agree { Agree (core.old, table.old) }
+    requires low { HasLowTimes (core.old, table.old) }
+    requires places { All (λ lane. lane.place + 1 < 2 ^ 32) core.old.lanes.items }
+    requires stamp { core.old.next_stamp + 1 < 2 ^ 64 }
+    requires touches { core.old.task_number + 2 < 2 ^ 64 }
+    ensures { TriesToSteal (core.old, table.old) (core.new, table.new) cpu result }
+{
+    if core.lanes[cpu as usize].place == 0 {
+        return Try::NoBalance;
+    }
+    let source = source_of(core, cpu);
+    match stolen(core, table, cpu, source, steps) {
+        Some(task) => {
+            steal(core, table, cpu, source, task, steps);
+            Try::Stole {
+                pid: task.spec.pid,
+                from: source,
+            }
+        }
+        None => {
+            let place = next_place(core, cpu);
+            core.set_place(cpu, place);
+            Try::Missed(source)
+        }
+    }
+}

@@ -1,0 +1,63 @@
+-- Changes: changes of a core and its table in turn, and a task that a core knows in place of one of its table.
+use Rattle.std.proofs.Common.{◌≡◌, ℕ, ◌<◌, sym, ap, subst, ◌∙◌, length}
+use Rattle.std.specs.Prelude.{find, Some, IsTrue}
+use Rattle.cs_types.specs.declared.task.Task.{Task}
+use Rattle.cs_types.specs.declared.task.TaskSpec.{TaskSpec}
+use Rattle.cs_types.specs.Scenario.{IsPolicy}
+use Rattle.cs_types.specs.Room.{RoomState, has_pid}
+use Rattle.task_table.specs.Table.{Table}
+use Rattle.core_lanes.specs.declared.queue.SiblingQueue.{Ghosts}
+use Rattle.core_lanes.specs.declared.lanes.Core.{Core}
+use Rattle.core_lanes.specs.Queued.{IsOf}
+use Rattle.core_lanes.specs.Lanes.{Beside, room_of, IsFit, Agree, Knows}
+use Rattle.core_lanes.specs.Changes.{Changes}
+use Rattle.core_lanes.proofs.Stays.{found_in, both_stay}
+
+-- two changes in turn
+pub both_change : {Q : Type 0} {g : Ghosts Q} {old mid new : Core Q g × Table} {first second : RoomState → RoomState} →
+    Changes old mid first → Changes mid new second → Changes old new (λ room. second (first room))
+both_change {second = second} one two = record {
+  room = λ beside. two.room beside ∙ ap second (one.room beside);
+  numbers = two.numbers ∙ one.numbers;
+  stays = both_stay one.stays two.stays;
+}
+
+-- one change is another that makes the same of the old room
+pub changes_as : {Q : Type 0} {g : Ghosts Q} {old new : Core Q g × Table} {change other : RoomState → RoomState} →
+    ((beside : Beside) → change (room_of beside old) ≡ other (room_of beside old)) → Changes old new change → Changes old new other
+changes_as same changes = record { room = λ beside. changes.room beside ∙ same beside; numbers = changes.numbers; stays = changes.stays }
+
+-- a task is the same but for its times
+pub record KeepsTask (old new : Task) : Type 0 where
+  pub spec : new.spec ≡ old.spec
+  pub cookie : new.cookie ≡ old.cookie
+  pub home : new.home ≡ old.home
+  pub queued : new.queued ≡ old.queued
+  pub stamp : new.stamp ≡ old.stamp
+
+-- so the core knows it in place of the one that it was
+pub knows-alike : {Q : Type 0} {g : Ghosts Q} (both : Core Q g × Table) (task old : Task) → Agree both → IsOf both.1.tasks old → KeepsTask old task → Knows both task
+knows-alike both task old agree there keeps =
+    let count = length both.0.lanes.items in
+    let fit = found_in (IsFit count) old.spec.pid both.1.tasks old agree.tasks there in
+    record {
+      known = record {
+        apart = record {
+          old = old;
+          there = subst (λ (spec : TaskSpec). find (has_pid spec.pid) both.1.tasks ≡ Some old) (sym keeps.spec) there;
+          fits = record {
+            home = subst (λ (n : ℕ). n < count) (sym keeps.home) fit.home;
+            policy = subst (λ (spec : TaskSpec). IsPolicy spec.policy) (sym keeps.spec) fit.policy;
+          };
+        };
+        cookie = keeps.cookie;
+      };
+      stamp = λ queued.
+          let was : IsTrue old.queued = sym keeps.queued ∙ queued in
+          record {
+            below = subst (λ (n : ℕ). n < both.0.next_stamp) (sym keeps.stamp)
+                (found_in (λ (t : Task). IsTrue t.queued → t.stamp < both.0.next_stamp) old.spec.pid both.1.tasks old agree.stamped.below there was);
+            own = λ other is on same.
+                agree.stamped.distinct old there was other is on (same ∙ keeps.stamp) ∙ ap (λ (spec : TaskSpec). spec.pid) (sym keeps.spec);
+          };
+    }

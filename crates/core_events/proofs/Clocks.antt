@@ -1,0 +1,96 @@
+-- Clocks: what a new slice and renewed leasts make of a room.
+use Rattle.std.proofs.Common.{◌≡◌, ℕ, ◌+◌, ◌<◌, Bool, true, false, cond, List, [], ◌∷◌, ◌++◌, map, take, drop, length, get_or, refl, sym, ap, ◌∙◌, Option, Some}
+use Rattle.std.specs.Prelude.{find, max, nat_lt}
+use Rattle.std.specs.Option.{option_map_or}
+use Rattle.cs_types.specs.Order.{foremost}
+use Rattle.std.specs.List.{enumerate_from}
+use Rattle.std.proofs.lemmas.Bool.{cond_both}
+use Rattle.std.proofs.lemmas.List.{append-nil}
+use Rattle.std.proofs.Math.Seq.{take-length, drop-length}
+use Rattle.cs_types.specs.declared.task.Task.{Task}
+use Rattle.cs_types.specs.Room.{RoomState, SiblingState, absent, has_pid, sibling_of, queued_on, with_task, with_sibling}
+use Rattle.cs_types.specs.Time.{rotates, has_used_slice, sliced, least_of, fair_times, with_leasts}
+use Rattle.core_lanes.specs.Queued.{smallest_vtime}
+use Rattle.task_table.specs.Table.{Rises}
+use Rattle.task_table.proofs.Tables.{changed_each}
+use Rattle.core_lanes.proofs.Lists.{placed_more, placed_at}
+use Rattle.core_events.specs.Time.{with_least}
+
+-- ---- a new slice
+
+-- a task in its own place changes nothing
+same_each : (pid : ℕ) (tasks : List Task) → map (λ other. cond (has_pid pid other) other other) tasks ≡ tasks
+same_each pid [] = refl
+same_each pid (task ∷ tasks) =
+    λ i. cond_both (has_pid pid task) task task (λ (t : Task). t ≡ task) (λ _. refl) (λ _. refl) i ∷ same_each pid tasks i
+
+with_task-same : (room : RoomState) (task : Task) → Rises room.tasks → find (has_pid task.spec.pid) room.tasks ≡ Some task → with_task room task ≡ room
+with_task-same room task rises found =
+    ap (λ (tasks : List Task). let now : RoomState = record room { tasks = tasks } in now)
+    (changed_each (λ t. t) room.tasks task rises found ∙ same_each task.spec.pid room.tasks)
+
+-- a new slice, by what is asked of the task
+abbrev sliced_by : RoomState → Task → Bool → Bool → RoomState
+sliced_by room task used behind =
+    record (with_task room (record task {
+      used = cond used 0 task.used;
+      stamp = cond behind room.next_stamp task.stamp;
+    })) { next_stamp = cond behind (room.next_stamp + 1) room.next_stamp }
+
+sliced_is : (room : RoomState) (cpu : ℕ) (task : Task) (used behind : Bool) → has_used_slice task ≡ used → rotates room cpu task ≡ behind →
+    sliced_by room task used behind ≡ sliced room cpu task
+sliced_is room cpu task used behind is_used is_behind = λ i. sliced_by room task (sym is_used i) (sym is_behind i)
+
+-- it goes behind
+pub sliced_behind : (room : RoomState) (cpu : ℕ) (task : Task) → has_used_slice task ≡ true → rotates room cpu task ≡ true →
+    record (with_task room (record task { used = 0; stamp = room.next_stamp })) { next_stamp = room.next_stamp + 1 } ≡ sliced room cpu task
+sliced_behind room cpu task used behind = sliced_is room cpu task true true used behind
+
+-- it begins anew in its place
+pub sliced_in_place : (room : RoomState) (cpu : ℕ) (task : Task) → has_used_slice task ≡ true → rotates room cpu task ≡ false →
+    with_task room (record task { used = 0 }) ≡ sliced room cpu task
+sliced_in_place room cpu task used behind = sliced_is room cpu task true false used behind
+
+-- it goes on
+pub sliced_not : (room : RoomState) (cpu : ℕ) (task : Task) → Rises room.tasks → find (has_pid task.spec.pid) room.tasks ≡ Some task →
+    has_used_slice task ≡ false → rotates room cpu task ≡ false → room ≡ sliced room cpu task
+sliced_not room cpu task rises found used behind =
+    sym (with_task-same room task rises found) ∙ sliced_is room cpu task false false used behind
+
+-- ---- the leasts
+
+-- what the smallest of its fair tasks makes of a sibling's least
+pub least_is : (room : RoomState) (cpu : ℕ) (sibling : SiblingState) (found : Option ℕ) → sibling_of room cpu ≡ sibling → found ≡ smallest_vtime (queued_on room cpu) →
+    with_sibling room cpu (record sibling { least = option_map_or (λ smallest. max sibling.least smallest) found sibling.least }) ≡ with_least room cpu
+least_is room cpu sibling found there is =
+    sym (λ i. with_sibling room cpu (record (there i) { least = option_map_or (λ smallest. max (there i).least smallest) (sym is i) (there i).least }))
+
+-- the sibling at a place with its least renewed
+abbrev pub renewed : RoomState → ℕ × SiblingState → SiblingState
+renewed room place = record place.1 { least = least_of room place.0 }
+
+-- the room whose first siblings have theirs renewed
+abbrev pub renewed_first : ℕ → RoomState → RoomState
+renewed_first count room =
+    record room { siblings = map (renewed room) (enumerate_from 0 (take count room.siblings)) ++ drop count room.siblings }
+
+-- the least of a sibling that had this one
+abbrev least_from : RoomState → ℕ → ℕ → ℕ
+least_from room cpu least = option_map_or (λ smallest. max least smallest) (foremost nat_lt (fair_times room cpu)) least
+
+-- one sibling more
+pub renewed_more : (cpu : ℕ) (room : RoomState) → cpu < length room.siblings → with_least (renewed_first cpu room) cpu ≡ renewed_first (cpu + 1) room
+renewed_more cpu room below =
+    let now = renewed_first cpu room in
+    let before = get_or now.siblings cpu absent in
+    let here : before ≡ get_or room.siblings cpu absent = placed_at (renewed room) 0 room.siblings cpu absent below in
+    ap (λ (siblings : List SiblingState). let after : RoomState = record room { siblings = siblings } in after)
+    (placed_more (renewed room) room.siblings now.siblings cpu (record before { least = least_of now cpu }) absent below refl
+    (ap (λ (sibling : SiblingState). let after : SiblingState = record before { least = least_from room cpu sibling.least } in after) here))
+
+-- and all
+pub renewed_all : (count : ℕ) (room : RoomState) → count ≡ length room.siblings → renewed_first count room ≡ with_leasts room
+renewed_all count room all =
+    ap (λ (siblings : List SiblingState). let now : RoomState = record room { siblings = siblings } in now)
+    ((λ i. map (renewed room) (enumerate_from 0 ((ap (λ n. take n room.siblings) all ∙ take-length room.siblings) i)) ++ (ap (λ n. drop n room.siblings) all ∙ drop-length room.siblings) i)
+    ∙ append-nil (map (renewed room) (enumerate_from 0 room.siblings)))

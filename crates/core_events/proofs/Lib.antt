@@ -1,0 +1,17 @@
+pub mod States
+pub mod Starts
+pub mod Onlines
+pub mod Sleeps
+pub mod Lows
+pub mod Readies
+pub mod Machines
+pub mod Views
+pub mod Playable
+pub mod Pending
+pub mod Ends
+pub mod Changes
+pub mod Growth
+pub mod Clocks
+pub mod Peers
+pub mod Settings
+pub mod Lives

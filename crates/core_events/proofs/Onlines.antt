@@ -1,0 +1,19 @@
+-- Onlines: what an event of a sibling makes where that is offline, and where it is online.
+use Rattle.std.proofs.Common.{◌≡◌, ℕ, ◌+◌, true, false, ap, sym, arith}
+use Rattle.std.proofs.lemmas.Bool.{cond-true, cond-false}
+use Rattle.cs_types.specs.declared.reply.Reply.TheVariants.{Offline}
+use Rattle.cs_types.specs.Room.{RoomState, is_online}
+use Rattle.cs_types.specs.Step.{Stepped, unless_offline}
+use Rattle.core_lanes.specs.Numbers.{Numbers}
+
+-- nothing is touched
+pub untouched : (numbers : Numbers) → numbers ≡ record numbers { task = numbers.task + 0 }
+untouched numbers = ap (λ n. let other : Numbers = record numbers { task = n } in other) (omega arith)
+
+-- the step of a sibling that is online is what it makes
+pub when_online : (room : RoomState) (cpu : ℕ) (stepped : Stepped) → is_online room cpu ≡ true → stepped ≡ unless_offline room cpu stepped
+when_online room cpu stepped online = sym (cond-true (is_online room cpu) stepped (record { reply = Offline; room = room }) online)
+
+-- and that of one that is offline changes nothing
+pub when_offline : (room : RoomState) (cpu : ℕ) (stepped : Stepped) → is_online room cpu ≡ false → record { reply = Offline; room = room } ≡ unless_offline room cpu stepped
+when_offline room cpu stepped offline = sym (cond-false (is_online room cpu) stepped (record { reply = Offline; room = room }) offline)

@@ -1,0 +1,101 @@
+-- Readies: what the events of a state have in common.
+use Rattle.std.proofs.Common.{◌≡◌, ℕ, Bool, true, false, cond, refl, subst, sym, ap, ◌∙◌, arith, length, Option, Some, None}
+use Rattle.std.specs.Prelude.{find}
+use Rattle.cs_types.specs.declared.event.Event.TheVariants.{Turn, Resched, Offline, Online}
+use Rattle.cs_types.specs.declared.reply.Pick.{Pick}
+use Rattle.cs_types.specs.declared.reply.Reply.{Reply}
+use Rattle.cs_types.specs.declared.reply.Reply.TheVariants.{Picked}
+use Rattle.cs_types.specs.declared.task.Task.{Task}
+use Rattle.cs_types.specs.Room.{RoomState, has_pid, sibling_of, queued_on}
+use Rattle.cs_types.specs.Selection.{schedule, balanced, picked_anew, adopted_or_picked_anew}
+use Rattle.cs_types.specs.Accounting.{charge}
+use Rattle.cs_types.proofs.Accounts.{account_of, charged_up_to, charge-again}
+use Rattle.core_lanes.specs.declared.queue.SiblingQueue.{Ghosts}
+use Rattle.core_lanes.specs.declared.lanes.Core.{Core}
+use Rattle.task_table.specs.Table.{Table}
+use Rattle.core_lanes.specs.Queued.{IsOf}
+use Rattle.core_lanes.specs.Lanes.{Agree, IsFit, KnowsApart}
+use Rattle.core_lanes.specs.Numbers.{Numbers, touched}
+use Rattle.core_lanes.proofs.Stays.{found_in}
+use Rattle.core_pick.specs.Schedules.{MayPick, MaySchedule}
+use Rattle.core_events.specs.declared.state.State.{State}
+use Rattle.core_events.specs.State.{both, IsReady}
+use Rattle.core_events.specs.Steps.{numbers_after}
+use Rattle.cookie_steal.specs.Tries.{reply_of, steal_touches}
+use Rattle.cookie_steal.specs.declared.steal.Try.{Try}
+use Rattle.cookie_steal.specs.declared.steal.Try.TheVariants.{Stole, Missed, NoBalance}
+use Rattle.cpu_hotplug.specs.Hotplugs.{leave_touches, reply_of as hotplug_reply}
+use Rattle.cpu_hotplug.specs.declared.hotplug.Hotplug.{Hotplug}
+use Rattle.cpu_hotplug.specs.declared.hotplug.Hotplug.TheVariants.{Done, Busy, Already}
+use Rattle.core_events.proofs.States.{low_times}
+use Rattle.core_events.proofs.Onlines.{untouched}
+
+-- a state that is ready may schedule
+pub may_pick : {Q : Type 0} {g : Ghosts Q} (state : State Q g) → IsReady state → MayPick state.clock (both state)
+may_pick state ready = record {
+  agree = ready.sound.agree;
+  low = low_times state ready.time;
+  clock = omega (arith, ready.time.clock);
+  touches = omega (arith, ready.spares.touches);
+}
+
+pub may_schedule : {Q : Type 0} {g : Ghosts Q} (state : State Q g) → IsReady state → MaySchedule state.clock (both state)
+may_schedule state ready = record { picks = may_pick state ready; paid = ready.paid }
+
+-- a turn that is answered with a pick is counted as a reschedule is
+pub turn_as_resched : (room : RoomState) (cpu : ℕ) (answer : Reply) (pick : Pick) (numbers : Numbers) → answer ≡ Picked pick →
+    numbers_after room (Resched cpu) answer numbers ≡ numbers_after room (Turn cpu) answer numbers
+turn_as_resched room cpu answer pick numbers is =
+    subst (λ (r : Reply). numbers_after room (Resched cpu) r numbers ≡ numbers_after room (Turn cpu) r numbers) (sym is) refl
+
+-- and one that tries to steal touches the queues twice where it stole
+pub turn_touches : (room : RoomState) (cpu : ℕ) (numbers : Numbers) (made : Try) → touched (steal_touches made) numbers ≡ numbers_after room (Turn cpu) (reply_of made) numbers
+turn_touches room cpu numbers (Stole pid from) = refl
+turn_touches room cpu numbers (Missed from) = refl
+turn_touches room cpu numbers NoBalance = refl
+
+-- ---- tasks
+
+-- a task of the table fits the core
+pub fits_found : {Q : Type 0} {g : Ghosts Q} (pair : Core Q g × Table) (pid : ℕ) (task : Task) → Agree pair → find (has_pid pid) pair.1.tasks ≡ Some task → IsFit (length pair.0.lanes.items) task
+fits_found pair pid task agree found = found_in (IsFit (length pair.0.lanes.items)) pid pair.1.tasks task agree.tasks found
+
+-- one that has the spec but for the policy, and the cookie, of one of the table is known, where it fits
+pub knows_as : {Q : Type 0} {g : Ghosts Q} (pair : Core Q g × Table) (task old : Task) → task.spec.pid ≡ old.spec.pid → task.cookie ≡ old.cookie → IsOf pair.1.tasks old →
+    IsFit (length pair.0.lanes.items) task → KnowsApart pair task
+knows_as pair task old pid cookie there fits = record {
+  apart = record { old = old; there = subst (λ n. find (has_pid n) pair.1.tasks ≡ Some old) (sym pid) there; fits = fits };
+  cookie = cookie;
+}
+
+-- ---- a pick that adopts nothing
+
+pub schedule_not_adopted : (room : RoomState) (fresh : Bool) (cpu : ℕ) → None ≡ cond fresh (sibling_of room cpu).waiting None →
+    schedule room fresh cpu ≡ balanced cpu (picked_anew (charge room) cpu)
+schedule_not_adopted room fresh cpu none = ap (balanced cpu) (not_adopted fresh (sibling_of room cpu).waiting none) where
+  not_adopted : (b : Bool) (waiting : Option (Option ℕ)) → None ≡ cond b waiting None → adopted_or_picked_anew room b cpu waiting ≡ picked_anew (charge room) cpu
+  not_adopted b None e = refl
+  not_adopted false (Some run) e = refl
+  not_adopted true (Some run) e = absurd cc
+
+-- the pick of a sibling whose open interval was charged, and whose task is gone since
+pub picked_charged : (charged gone : RoomState) (cpu : ℕ) → charged_up_to (account_of gone) ≡ gone.clock → charged ≡ gone →
+    balanced cpu (picked_anew charged cpu) ≡ schedule gone false cpu
+picked_charged charged gone cpu now is =
+    ap (λ (room : RoomState). balanced cpu (picked_anew room cpu)) (is ∙ sym (charge-again gone now))
+    ∙ sym (schedule_not_adopted gone false cpu refl)
+
+-- ---- a sibling that leaves or comes back
+
+-- where it leaves, the queues are touched twice for each task that is queued there
+pub offline_touches : (room : RoomState) (cpu : ℕ) (numbers : Numbers) (made : Hotplug) →
+    touched (leave_touches made (length (queued_on room cpu))) numbers ≡ numbers_after room (Offline cpu) (hotplug_reply made) numbers
+offline_touches room cpu numbers Done = refl
+offline_touches room cpu numbers Busy = refl
+offline_touches room cpu numbers Already = refl
+
+-- and where it comes back they are not
+pub online_touches : (room : RoomState) (cpu : ℕ) (numbers : Numbers) (made : Hotplug) → numbers ≡ numbers_after room (Online cpu) (hotplug_reply made) numbers
+online_touches room cpu numbers Done = untouched numbers
+online_touches room cpu numbers Busy = untouched numbers
+online_touches room cpu numbers Already = untouched numbers

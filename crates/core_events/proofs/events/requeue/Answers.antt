@@ -1,0 +1,55 @@
+use Rattle.std.proofs.Common.{ℕ, ◌<◌, ◌∙◌, ap, sym, refl, subst, arith, false, Some}
+use Rattle.cs_types.specs.declared.task.Task.{Task}
+use Rattle.cs_types.specs.Room.{RoomState, SiblingState, flagged}
+use Rattle.core_lanes.specs.Queued.{IsOf}
+use Rattle.cs_types.specs.Selection.{is_run}
+use Rattle.cs_types.specs.Queueing.{dequeued, queued_at_home}
+use Rattle.core_lanes.specs.Lanes.{at, room_of}
+use Rattle.core_lanes.specs.Numbers.{Numbers, numbers_of, touched}
+use Rattle.core_lanes.specs.Changes.{Kept}
+use Rattle.core_lanes.proofs.Stays.{both_stay, lane_at, some_beside}
+use Rattle.core_lanes.proofs.Replaced.{is_of}
+use Rattle.core_events.proofs.Readies.{knows_as}
+use Rattle.core_events.proofs.events.requeue.Goals as goal
+
+pub queue_at_home-requires-clause-knows : goal.queue_at_home-requires-clause-knows
+queue_at_home-requires-clause-knows g c =
+    let task = c.args.task in
+    let apart = c.requires.knows.apart in
+    let asleep : Task = record task { queued = false } in
+    let siblings = ap (λ (k : Kept). k.siblings) c.dequeue.ensures.stays.kept in
+    let there = is_of asleep apart.old c.args.table.now.tasks apart.there in
+    knows_as (c.dequeue.new.self, c.dequeue.new.table) task asleep refl refl
+    (subst (λ (room : RoomState). IsOf room.tasks asleep) (sym (c.dequeue.ensures.room some_beside)) there)
+    (record { home = subst (λ n. task.home < n) (sym siblings) apart.fits.home; policy = apart.fits.policy })
+
+pub queue_at_home-requires-clause-agree : goal.queue_at_home-requires-clause-agree
+queue_at_home-requires-clause-agree g c = c.dequeue.ensures.stays.agree c.requires.agree
+
+pub queue_at_home-requires-clause-stamp : goal.queue_at_home-requires-clause-stamp
+queue_at_home-requires-clause-stamp g c = omega (arith, ap (λ (room : RoomState). room.next_stamp) (c.dequeue.ensures.room some_beside), c.requires.stamp)
+
+pub queue_at_home-requires-clause-touches : goal.queue_at_home-requires-clause-touches
+queue_at_home-requires-clause-touches g c = omega (arith, ap (λ (numbers : Numbers). numbers.task) c.dequeue.ensures.numbers, c.requires.touches)
+
+pub flag-requires : goal.flag-requires
+flag-requires g c = omega (arith, ap (λ (k : Kept). k.siblings) c.queue_at_home.ensures.stays.kept, ap (λ (k : Kept). k.siblings) c.dequeue.ensures.stays.kept, c.requires.knows.apart.fits.home)
+
+pub returns : goal.returns
+returns g c =
+    let task = c.args.task in
+    let flag = c.flag.ensures c.queue_at_home.new.table in
+    record {
+      room = λ beside.
+          let here = at c.args.now beside in
+          let room = room_of here (c.args.core.now, c.args.table.now) in
+          let lane = lane_at c.args.core.now.lanes.items task.home c.index.result.now c.requires.knows.apart.fits.home c.index.ensures in
+          let runs = c.runs-runs.ensures ∙ ap (λ (s : SiblingState). is_run s.run (Some task.spec.pid)) (sym lane) in
+          flag.room here
+          ∙ ap (λ (now : RoomState). flagged now task.home c.runs-runs.result)
+          (c.queue_at_home.ensures.room beside ∙ ap (λ (now : RoomState). queued_at_home now task) (c.dequeue.ensures.room here))
+          ∙ ap (flagged (queued_at_home (dequeued room task) task) task.home) runs;
+      numbers = flag.numbers ∙ c.queue_at_home.ensures.numbers ∙ ap (touched 1) c.dequeue.ensures.numbers
+          ∙ ap (λ (n : ℕ). let numbers : Numbers = record (numbers_of c.args.core.now) { task = n } in numbers) (omega arith);
+      stays = both_stay c.dequeue.ensures.stays (both_stay c.queue_at_home.ensures.stays flag.stays);
+    }

@@ -1,0 +1,15 @@
+use Rattle.std.proofs.Common.{◌≡◌, ◌+◌, ◌-◌, length}
+use Rattle.cs_types.specs.History.{history_of}
+use Rattle.core_events.proofs.Ends.{IsAhead}
+use Rattle.core_events.proofs.room.CoreRoomRoom.drain.Given as goal
+
+abbrev pub invariant-loop-entries : goal.invariant-loop-entries
+invariant-loop-entries g l =
+    let past = history_of l.fn.self.scenario l.fn.self.steps in
+    let now = history_of l.fn.self.scenario l.self.steps in
+    record {
+      scenario : l.self.scenario ≡ l.fn.self.scenario;
+      spare : l.self.spare + l.entries ≡ l.fn.self.spare;
+      made : length now ≡ length past + l.entries;
+      ahead : IsAhead l.fn.self.scenario past now (l.most - l.entries);
+    }

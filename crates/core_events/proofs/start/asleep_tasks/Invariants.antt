@@ -1,0 +1,11 @@
+use Rattle.std.proofs.Common.{◌≡◌, take}
+use Rattle.cs_types.specs.Room.{asleep_tasks}
+use Rattle.task_table.specs.Table.{IsSound as IsTable}
+use Rattle.core_events.proofs.start.asleep_tasks.Given as goal
+
+abbrev pub invariant-loop-spec : goal.invariant-loop-spec
+invariant-loop-spec l = record {
+  sound : IsTable l.tasks;
+  tasks : l.tasks.tasks ≡ asleep_tasks (take l.spec-index l.specs);
+  limit : l.tasks.limit ≡ l.limit;
+}

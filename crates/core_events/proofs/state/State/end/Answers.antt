@@ -1,0 +1,101 @@
+use Rattle.std.proofs.Common.{◌≡◌, ◌++◌, ◌∷◌, [], List, ap, ◌∙◌, refl, sym, subst, false, length}
+use Rattle.std.specs.Prelude.{All, Some, find, not, IsSomeAnd, ◌==◌, ◌&&◌}
+use Rattle.std.specs.Result.{IsOk}
+use Rattle.std.proofs.lemmas.List.Elements.{All-filter}
+use Rattle.cs_types.specs.declared.task.Task.{Task}
+use Rattle.cs_types.specs.Room.{RoomState, has_pid}
+use Rattle.cs_types.specs.Queueing.{dequeued}
+use Rattle.cs_types.specs.Step.{has_threads}
+use Rattle.task_table.specs.Table.{Table, IsSound as IsTable}
+use Rattle.core_lanes.specs.declared.queue.SiblingQueue.{Ghosts}
+use Rattle.core_lanes.specs.declared.lanes.Core.{Core}
+use Rattle.core_lanes.specs.Queued.{IsOf}
+use Rattle.core_lanes.specs.Lanes.{bare, room_by, room_of, IsFit, Agree}
+use Rattle.core_lanes.specs.Changes.{Becomes}
+use Rattle.core_lanes.proofs.Stays.{some_beside, found_in}
+use Rattle.core_events.specs.State.{both, beside_of, room_with, IsGiven}
+use Rattle.core_events.proofs.States.{lifted, both_stay}
+use Rattle.core_events.proofs.Lives.{but, but-changed, find-changed, any-changed, agree-but}
+use Rattle.core_events.proofs.state.State.end.Goals as goal
+
+module _ {Q : Type 0} {g : Ghosts Q} (old new : Core Q g × Table) (task : Task) (becomes : Becomes old new (λ room. dequeued room task)) where
+  -- a dequeued task is found among the tasks
+  found : IsOf old.1.tasks task → find (has_pid task.spec.pid) new.1.tasks ≡ Some (record task { queued = false })
+  found there =
+      ap (λ (room : RoomState). find (has_pid task.spec.pid) room.tasks) (becomes some_beside)
+      ∙ find-changed (record task { queued = false }) task old.1.tasks there
+
+  -- and leads nobody where it led nobody
+  alone : has_threads (room_of some_beside old) task ≡ false → has_threads (room_of some_beside new) (record task { queued = false }) ≡ false
+  alone nobody =
+      ap (λ (room : RoomState). has_threads room (record task { queued = false })) (becomes some_beside)
+      ∙ ap (λ b. (task.spec.tgid == task.spec.pid) && b) (any-changed (record task { queued = false }) (λ other. other.spec.tgid == task.spec.pid) old.1.tasks)
+      ∙ nobody
+
+pub dequeue-requires-clause-knows : goal.dequeue-requires-clause-knows
+dequeue-requires-clause-knows g c =
+    let old = c.args.self.now in
+    let task = c.args.task in
+    let there = c.requires.there in
+    record {
+      apart = record {
+        old = task;
+        there = there;
+        fits = found_in (IsFit (length old.core.lanes.items)) task.spec.pid old.tasks.tasks task c.requires.sound.agree.tasks there;
+      };
+      cookie = refl;
+    }
+
+pub end-requires-clause-asleep : goal.end-requires-clause-asleep
+end-requires-clause-asleep g c =
+    subst (λ one. IsSomeAnd one (λ (task : Task). task.queued ≡ false))
+    (sym (found (both c.args.self.now) (c.dequeue.new.self, c.dequeue.new.table) c.args.task c.dequeue.ensures.room c.requires.there)) refl
+
+pub end-requires-clause-agree : goal.end-requires-clause-agree
+end-requires-clause-agree g c =
+    ((lifted c.args.self.now (c.dequeue.new.self, c.dequeue.new.table) c.dequeue.ensures.stays).sound c.requires.sound).refs
+
+pub unwrap-requires : goal.unwrap-requires
+unwrap-requires g c =
+    let old = both c.args.self.now in
+    let mid = c.dequeue.new.self in
+    let table = c.dequeue.new.table in
+    let task = c.args.task in
+    let asleep : Task = record task { queued = false } in
+    subst IsOk (sym (c.end.ensures.answer (room_of some_beside (mid, table)) asleep refl (found old (mid, table) task c.dequeue.ensures.room c.requires.there)))
+    (rw (alone old (mid, table) task c.dequeue.ensures.room (c.requires.alone [])) refl)
+
+pub returns : goal.returns
+returns g c =
+    let old = c.args.self.now in
+    let mid = c.dequeue.new.self in
+    let table = c.dequeue.new.table in
+    let task = c.args.task in
+    let pid = task.spec.pid in
+    let asleep : Task = record task { queued = false } in
+    let gone = λ (other : Task). not (has_pid pid other) in
+    let less : Table = record table { tasks = but pid table.tasks } in
+    let ended : c.end.new.table ≡ less = rw c.unwrap.ensures at c.end.ensures.ended in
+    let there = found (both old) (mid, table) task c.dequeue.ensures.room c.requires.there in
+    record {
+      room = λ intervals.
+          let beside = beside_of intervals old in
+          (λ i. room_by (record beside { cookie_limit = c.end.ensures.limit i; ended = c.push_reserved.ensures.items i; next_cookie = c.end.ensures.next i }) (bare mid) (ended i))
+          ∙ ap (λ (room : RoomState). let left : RoomState = record room { tasks = but pid room.tasks; ended = room.ended ++ pid ∷ [] } in left) (c.dequeue.ensures.room beside)
+          ∙ ap (λ (tasks : List Task). let left : RoomState = record (room_with intervals old) { tasks = tasks; ended = old.ended.items ++ pid ∷ [] } in left) (but-changed asleep old.tasks.tasks);
+      numbers = c.dequeue.ensures.numbers;
+      stays = both_stay (lifted old (mid, table) c.dequeue.ensures.stays) (record {
+        sound = λ sound. record {
+          agree = subst (λ (t : Table). Agree (mid, t)) (sym ended) (agree-but mid table asleep there refl (subst IsTable ended c.end.ensures.sound) sound.agree);
+          limit = ap (λ (t : Table). t.limit) ended ∙ sound.limit;
+          user_top = sound.user_top;
+          pids = subst (λ (t : Table). All (λ (task : Task). IsGiven old.next_pid task.spec.pid) t.tasks) (sym ended)
+              (All-filter gone (λ (task : Task). IsGiven old.next_pid task.spec.pid) table.tasks sound.pids);
+          low_pids = sound.low_pids;
+          refs = c.end.ensures.agree;
+        };
+        siblings = refl;
+        places = refl;
+        ends = c.push_reserved.ensures.capacity;
+      });
+    }

@@ -1,0 +1,79 @@
+use Rattle.std.proofs.Common.{◌≡◌, ap, ◌∙◌, sym, subst, ◌<◌, length, arith, []}
+use Rattle.std.proofs.lemmas.Bool.{cond-false}
+use Rattle.std.specs.Prelude.{Some}
+use Rattle.cs_types.specs.declared.reply.Reply.TheVariants.{Child}
+use Rattle.cs_types.specs.declared.task.Task.{Task}
+use Rattle.cs_types.specs.Scenario.{IsPolicy}
+use Rattle.cs_types.specs.Room.{RoomState}
+use Rattle.cs_types.specs.Queueing.{queued_at_home}
+use Rattle.cs_types.specs.Step.{Stepped, forked, child_at_home, child_of, with_child}
+use Rattle.core_lanes.specs.Numbers.{Numbers, touched}
+use Rattle.core_lanes.proofs.Stays.{some_beside}
+use Rattle.core_events.specs.State.{beside_of, both, room_with}
+use Rattle.core_events.proofs.States.{uncharged, lifted, both_stay}
+use Rattle.core_events.proofs.Readies.{fits_found, knows_as}
+use Rattle.core_events.proofs.state.State.fork.Goals as goal
+
+pub child_at_home-task-requires : goal.child_at_home-task-requires
+child_at_home-task-requires g c =
+    let makes = c.in-Ok.ensures in
+    let born = makes.2 in
+    let fit = fits_found (both c.args.self.now) c.args.caller makes.0 c.requires.ready.sound.agree makes.1 in
+    let after = c.make_child.new.self in
+    subst (λ (task : Task). task.home < length after.core.lanes.items) (sym born.is)
+    (subst (λ count. makes.0.home < count) (sym born.stays.siblings) fit.home)
+
+-- the child at home is the child but for its home and its virtual time
+pub queue_at_home-requires-clause-knows : goal.queue_at_home-requires-clause-knows
+queue_at_home-requires-clause-knows g c =
+    let makes = c.in-Ok.ensures in
+    let born = makes.2 in
+    let after = c.make_child.new.self in
+    let fit = fits_found (both c.args.self.now) c.args.caller makes.0 c.requires.ready.sound.agree makes.1 in
+    let is = c.child_at_home-task.ensures.child_at_home some_beside after.tasks in
+    knows_as (both after) c.child_at_home-task.result c.in-Ok.child
+    (ap (λ (task : Task). task.spec.pid) is) (ap (λ (task : Task). task.cookie) is) born.there
+    (record {
+      home = c.child_at_home-task.ensures.within;
+      policy = subst (λ (task : Task). IsPolicy task.spec.policy) (sym is) (subst (λ (task : Task). IsPolicy task.spec.policy) (sym born.is) fit.policy);
+    })
+
+pub queue_at_home-requires-clause-agree : goal.queue_at_home-requires-clause-agree
+queue_at_home-requires-clause-agree g c = (c.in-Ok.ensures.2.stays.sound c.requires.ready.sound).agree
+
+pub queue_at_home-requires-clause-clock : goal.queue_at_home-requires-clause-clock
+queue_at_home-requires-clause-clock g c = omega (arith, ap (λ (room : RoomState). room.clock) (c.in-Ok.ensures.2.room []), c.requires.ready.time.clock)
+
+pub queue_at_home-requires-clause-stamp : goal.queue_at_home-requires-clause-stamp
+queue_at_home-requires-clause-stamp g c = omega (arith, ap (λ (room : RoomState). room.next_stamp) (c.in-Ok.ensures.2.room []), c.requires.ready.spares.stamps)
+
+pub queue_at_home-requires-clause-touches : goal.queue_at_home-requires-clause-touches
+queue_at_home-requires-clause-touches g c = omega (arith, ap (λ (numbers : Numbers). numbers.task) c.in-Ok.ensures.2.numbers, c.requires.ready.spares.touches)
+
+pub returns-in-Ok : goal.returns-in-Ok
+returns-in-Ok g c =
+    let old = c.args.self.now in
+    let after = c.make_child.new.self in
+    let makes = c.in-Ok.ensures in
+    let born = makes.2 in
+    let child = c.in-Ok.child in
+    let queued = c.queue_at_home.ensures in
+    record {
+      step = λ intervals.
+          let room = room_with intervals old in
+          let beside = beside_of intervals after in
+          let made : Task → Stepped = λ task. record { reply = Child task.spec.pid; room = queued_at_home (with_child room task) (child_at_home room task) } in
+          let is : made child ≡ forked room c.args.thread (Some makes.0) =
+          ap made born.is ∙ sym (cond-false _ _ (made (child_of makes.0 c.args.thread room.next_pid)) born.allowed) in
+          let whole = is ∙ ap (forked room c.args.thread) (sym makes.1) in
+          uncharged (record {
+            reply = ap (λ (m : Stepped). m.reply) whole;
+            room = queued.room beside
+                ∙ ap (λ (now : RoomState). queued_at_home now c.child_at_home-task.result) (born.room intervals)
+                ∙ ap (queued_at_home (with_child room child))
+                (c.child_at_home-task.ensures.child_at_home beside after.tasks ∙ ap (λ (now : RoomState). child_at_home now child) (born.room intervals))
+                ∙ ap (λ (m : Stepped). m.room) whole;
+            numbers = queued.numbers ∙ ap (λ (numbers : Numbers). touched 1 numbers) born.numbers;
+          });
+      stays = both_stay born.stays (lifted after (c.queue_at_home.new.core, c.queue_at_home.new.table) queued.stays);
+    }

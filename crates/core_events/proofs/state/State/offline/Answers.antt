@@ -1,0 +1,31 @@
+use Rattle.std.proofs.Common.{◌∙◌, ap, sym}
+use Rattle.cs_types.specs.declared.event.Event.TheVariants.{Offline}
+use Rattle.cs_types.specs.Step.{taken_offline}
+use Rattle.core_lanes.specs.Numbers.{numbers_of, booked}
+use Rattle.core_events.specs.State.{beside_of, room_with}
+use Rattle.core_events.specs.Steps.{numbers_after}
+use Rattle.core_events.proofs.States.{lifted, low_times}
+use Rattle.core_events.proofs.Readies.{offline_touches}
+use Rattle.core_events.proofs.state.State.offline.Goals as goal
+
+pub offline-requires-clause-low : goal.offline-requires-clause-low
+offline-requires-clause-low g c = low_times c.args.self.now c.requires.ready.time
+
+pub returns : goal.returns
+returns g c =
+    let old = c.args.self.now in
+    let cpu = c.args.cpu in
+    let takes = c.offline.ensures in
+    record {
+      step = λ intervals.
+          let room = room_with intervals old in
+          let beside = beside_of intervals old in
+          record {
+            reply = c.hotplug_reply.ensures ∙ takes.reply beside;
+            room = takes.room beside;
+            numbers = λ kept. takes.numbers beside kept
+                ∙ offline_touches room cpu (booked (taken_offline room cpu).room (numbers_of old.core)) c.offline.result
+                ∙ ap (λ r. numbers_after room (Offline cpu) r (booked (taken_offline room cpu).room (numbers_of old.core))) (sym c.hotplug_reply.ensures);
+          };
+      stays = lifted old (c.offline.new.core, c.offline.new.table) takes.stays;
+    }

@@ -1,0 +1,26 @@
+use Rattle.std.proofs.Common.{◌∙◌, ap, sym}
+use Rattle.cs_types.specs.declared.event.Event.TheVariants.{Online}
+use Rattle.core_lanes.specs.Numbers.{numbers_of}
+use Rattle.core_events.specs.State.{beside_of, room_with}
+use Rattle.core_events.specs.Steps.{numbers_after}
+use Rattle.core_events.proofs.States.{uncharged, lifted}
+use Rattle.core_events.proofs.Readies.{online_touches}
+use Rattle.core_events.proofs.state.State.online.Goals as goal
+
+pub returns : goal.returns
+returns g c =
+    let old = c.args.self.now in
+    let cpu = c.args.cpu in
+    let brings = c.online.ensures old.tasks in
+    record {
+      step = λ intervals.
+          let room = room_with intervals old in
+          let beside = beside_of intervals old in
+          uncharged (record {
+            reply = c.hotplug_reply.ensures ∙ brings.reply beside;
+            room = brings.room beside;
+            numbers = brings.numbers ∙ online_touches room cpu (numbers_of old.core) c.online.result
+                ∙ ap (λ r. numbers_after room (Online cpu) r (numbers_of old.core)) (sym c.hotplug_reply.ensures);
+          });
+      stays = lifted old (c.online.new.core, old.tasks) brings.stays;
+    }

@@ -1,0 +1,48 @@
+use Rattle.std.proofs.Common.{◌∙◌, ap, sym, subst}
+use Rattle.cs_types.specs.declared.event.Event.TheVariants.{Resched}
+use Rattle.cs_types.specs.declared.reply.Reply.TheVariants.{Picked, Offline}
+use Rattle.cs_types.specs.Selection.{schedule}
+use Rattle.cs_types.specs.Step.{picked}
+use Rattle.core_lanes.specs.Numbers.{numbers_of, booked, is_fresh_by}
+use Rattle.core_events.specs.declared.state.State.{State}
+use Rattle.core_events.specs.State.{beside_of, room_with}
+use Rattle.core_events.specs.Steps.{MakesStep, Makes}
+use Rattle.core_events.proofs.States.{lifted, leaves_all}
+use Rattle.core_events.proofs.Onlines.{untouched, when_online, when_offline}
+use Rattle.core_events.proofs.Sleeps.{took-resched}
+use Rattle.core_events.proofs.Readies.{may_schedule}
+use Rattle.core_events.proofs.state.State.resched.Goals as goal
+
+pub schedule-requires-clause-may : goal.schedule-requires-clause-may
+schedule-requires-clause-may g c = may_schedule c.args.self.now c.requires.ready
+
+pub returns-in-Some : goal.returns-in-Some
+returns-in-Some g c =
+    let old = c.args.self.now in
+    let cpu = c.args.cpu in
+    let pick = c.in-Some.pick in
+    let schedules = c.in-Some.ensures.schedules in
+    let fresh = is_fresh_by (numbers_of old.core) in
+    record {
+      step = λ intervals.
+          let beside = beside_of intervals old in
+          let room = room_with intervals old in
+          let made = when_online room cpu (picked Picked (schedule room fresh cpu)) (sym (c.in-Some.ensures.online beside)) in
+          subst (MakesStep intervals old _ (Resched cpu) (Picked pick)) made (record {
+            reply = ap Picked (schedules.pick beside);
+            room = schedules.room beside;
+            numbers = λ kept. schedules.numbers beside kept ∙ took-resched room cpu pick (booked (schedule room fresh cpu).room (numbers_of old.core));
+          });
+      stays = lifted old (c.schedule.new.core, c.schedule.new.table) schedules.stays;
+    }
+
+pub returns-in-None : goal.returns-in-None
+returns-in-None g c =
+    let old = c.args.self.now in
+    let cpu = c.args.cpu in
+    let fresh = is_fresh_by (numbers_of old.core) in
+    subst (λ (state : State g.row.Q.Denot g.Q.SiblingQueue). Makes old state (Resched cpu) Offline)
+    (λ i. record old { core = sym c.in-None.ensures.core i; tasks = sym c.in-None.ensures.table i })
+    (leaves_all old (Resched cpu) Offline (λ intervals. untouched (numbers_of old.core)) (λ intervals.
+    let room = room_with intervals old in
+    when_offline room cpu (picked Picked (schedule room fresh cpu)) (sym (c.in-None.ensures.online (beside_of intervals old)))))

@@ -1,0 +1,97 @@
+use Rattle.std.proofs.Common.{◌≡◌, ◌<◌, ◌∙◌, ◌+◌, refl, sym, ap, subst, map, length, arith}
+use Rattle.std.specs.Prelude.{All, IsTrue}
+use Rattle.std.specs.Vec.{with_items}
+use Rattle.std.proofs.lemmas.List.{with_items_is}
+use Rattle.cs_types.specs.declared.task.Task.{Task}
+use Rattle.cookie_refs.specs.Refs.{AgreeBut}
+use Rattle.cookie_refs.proofs.Agreements.{AgreeBut-with_cookie, own_cookie_is_live, count_of-le}
+use Rattle.forceidle_account.specs.Charges.{has_total}
+use Rattle.task_table.specs.Table.{Table}
+use Rattle.task_table.proofs.Tables.{rising_pairs}
+use Rattle.core_lanes.specs.Lanes.{BareCore, bare, lane_state, IsFit}
+use Rattle.core_lanes.specs.Numbers.{numbers_of, numbers_by, touched}
+use Rattle.core_lanes.specs.Changes.{Kept}
+use Rattle.core_lanes.proofs.Replaced.{All-replaced}
+use Rattle.core_lanes.proofs.Stays.{alike_stays, as_many_bare, found_in, number_of, queue_of}
+use Rattle.core_events.specs.State.{beside_of, IsGiven}
+use Rattle.core_events.specs.Cookies.{flagged_for}
+use Rattle.core_events.proofs.Settings.{flagged_core, sets_one, touches_alone}
+use Rattle.core_events.proofs.state.State.set_cookie.Goals as goal
+
+pub get-requires-clause-few : goal.get-requires-clause-few
+get-requires-clause-few g c =
+    let sound = c.requires.sound in
+    omega (arith, sound.agree.table.few, sound.agree.few_tasks, count_of-le c.args.self.now.refs c.args.self.now.tasks.tasks c.args.cookie sound.refs c.args.cookie)
+
+pub put-requires : goal.put-requires
+put-requires g c own =
+    omega (
+      arith,
+      c.get.ensures.counts c.args.task.cookie,
+      own_cookie_is_live c.args.self.now.refs c.args.self.now.tasks.tasks c.args.cookie c.args.task.spec.pid c.args.task c.requires.there c.requires.sound.refs own,
+    )
+
+pub replace-requires-clause-fits : goal.replace-requires-clause-fits
+replace-requires-clause-fits g c =
+    let core = c.args.self.now.core in
+    let tasks = c.args.self.now.tasks.tasks in
+    let task = c.args.task in
+    let there = c.requires.there in
+    let agree = c.requires.sound.agree in
+    let fit = found_in (IsFit (length core.lanes.items)) task.spec.pid tasks task agree.tasks there in
+    record {
+      apart = record { old = task; there = there; fits = record { home = fit.home; policy = fit.policy } };
+      stamp = λ queued. record {
+        below = found_in (λ (t : Task). IsTrue t.queued → t.stamp < core.next_stamp) task.spec.pid tasks task agree.stamped.below there queued;
+        own = agree.stamped.distinct task there queued;
+      };
+    }
+
+pub returns : goal.returns
+returns g c =
+    let old = c.args.self.now in
+    let pid = c.args.task.spec.pid in
+    let tasks = old.tasks.tasks in
+    let there = c.requires.there in
+    let mid = c.replace.new.self in
+    let same : bare mid ≡ bare old.core = c.replace.ensures.bare in
+    let table = c.replace.ensures.table in
+    let flagged = c.flag_runners.new.lanes in
+    let as_many = c.flag_runners.auto.lanes ∙ ap length c.deref_mut.ensures.value in
+    let after = (with_items mid.lanes flagged).items in
+    let kept : after ≡ flagged = with_items_is mid.lanes flagged (as_many ∙ sym mid.lanes.ok.0) in
+    let flags : map lane_state after ≡ map (flagged_for pid) (map lane_state mid.lanes.items) =
+    ap (map lane_state) kept ∙ c.flag_runners.ensures.states ∙ ap (λ lanes. map (flagged_for pid) (map lane_state lanes)) c.deref_mut.ensures.value in
+    let own : map number_of after ≡ map number_of mid.lanes.items =
+    ap (map number_of) kept ∙ c.flag_runners.ensures.numbers ∙ ap (map number_of) c.deref_mut.ensures.value in
+    let queues : map queue_of after ≡ map queue_of mid.lanes.items =
+    ap (map queue_of) kept ∙ c.flag_runners.ensures.queues ∙ ap (map queue_of) c.deref_mut.ensures.value in
+    let touches = c.touches.result in
+    let core : BareCore = record (bare mid) { task_number = mid.task_number + touches; siblings = map lane_state after; own = map number_of after } in
+    let is : core ≡ flagged_core touches pid (bare old.core) =
+    (λ i. let one : BareCore = record (bare mid) { task_number = mid.task_number + touches; siblings = flags i; own = own i } in one)
+    ∙ ap (flagged_core touches pid) same in
+    let stays = alike_stays (mid, c.replace.new.table) _ queues refl refl refl in
+    record {
+      room = λ intervals.
+          sets_one (beside_of intervals old) c.put.new.self.limit c.put.new.self.next touches (bare old.core) core old.tasks c.replace.new.table c.args.task c.args.cookie
+          c.requires.sound.agree.table.rising there table (c.put.ensures.limit ∙ c.get.ensures.limit) (c.put.ensures.next ∙ c.get.ensures.next) is;
+      numbers = ap numbers_by is ∙ ap (λ n. touched n (numbers_of old.core)) (touches_alone c.args.task c.args.cookie touches c.touches.ensures.touches);
+      stays = record {
+        sound = λ sound. record {
+          agree = stays.agree c.replace.ensures.agree;
+          limit = ap (λ (t : Table). t.limit) table ∙ sound.limit;
+          user_top = sound.user_top;
+          pids = subst (λ (t : Table). All (λ (task : Task). IsGiven old.next_pid task.spec.pid) t.tasks) (sym table)
+              (All-replaced (λ (task : Task). IsGiven old.next_pid task.spec.pid) (record c.args.task { cookie = c.args.cookie }) tasks
+              (found_in (λ (task : Task). IsGiven old.next_pid task.spec.pid) pid tasks c.args.task sound.pids there) sound.pids);
+          low_pids = λ one has. sound.low_pids one (subst (λ (bare : BareCore). IsTrue (has_total bare.totals one)) is has);
+          refs = subst (λ (t : Table). AgreeBut c.put.new.self t.tasks c.args.cookie) (sym table)
+              (AgreeBut-with_cookie old.refs c.get.new.self c.put.new.self tasks c.args.cookie pid c.args.cookie c.args.task
+              (rising_pairs 0 tasks sound.agree.table.rising) there c.get.ensures.counts c.put.ensures.counts sound.refs);
+        };
+        siblings = ap (λ (k : Kept). k.siblings) stays.kept ∙ as_many_bare old.core mid same;
+        places = ap (λ (bare : BareCore). bare.totals.spare + old.next_pid) is;
+        ends = refl;
+      };
+    }

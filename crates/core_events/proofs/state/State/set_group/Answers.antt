@@ -1,0 +1,68 @@
+use Rattle.std.proofs.Common.{◌≡◌, ◌∙◌, ◌≤◌, List, [], ◌∷◌, sym, ap, refl, length, arith, ltb}
+use Rattle.std.specs.Prelude.{◌&&◌}
+use Rattle.std.proofs.lemmas.List.Sums.{length-filter, count_by-le-length}
+use Rattle.cs_types.specs.declared.task.Task.{Task}
+use Rattle.cs_types.specs.Room.{RoomState}
+use Rattle.task_table.specs.Group.{is_in_group, group_above}
+use Rattle.task_table.proofs.Tables.{above_kept}
+use Rattle.core_events.proofs.States.{both_stay, same_stays}
+use Rattle.core_events.proofs.Settings.{group_done, group_room, group_numbers, group_touches}
+use Rattle.core_events.proofs.state.State.set_group.Goals as goal
+
+few_members : (group : _) (tasks : List Task) → length (group_above group 0 tasks) ≤ length tasks
+few_members group tasks =
+    omega (arith, length-filter (λ task. is_in_group group task && ltb 0 task.spec.pid) tasks, count_by-le-length (λ task. is_in_group group task && ltb 0 task.spec.pid) tasks)
+
+none_left : (tasks : List Task) → length tasks ≤ 0 → tasks ≡ []
+none_left [] few = refl
+none_left (task ∷ tasks) few = absurd (omega arith)
+
+pub loop-init : goal.loop-init
+loop-init g c = record {
+  stays = same_stays;
+  room = λ intervals. refl;
+  numbers = refl;
+  left = omega (arith, few_members c.args.group c.args.self.now.tasks.tasks, c.len-end.ensures.len);
+}
+
+pub returns-in_default : goal.returns-in_default
+returns-in_default g c =
+    group_done c.args.self.now c.loop.self c.args.cookie (group_above c.args.group c.loop.after c.loop.self.tasks.tasks) (group_above c.args.group 0 c.args.self.now.tasks.tasks)
+    c.loop.invariant.room c.loop.invariant.numbers c.in_default.ensures.none c.loop.invariant.stays
+
+pub set_cookie-requires-clause-touches : goal.set_cookie-requires-clause-touches
+set_cookie-requires-clause-touches g c =
+    omega (
+      arith,
+      group_touches c.args.self.now c.loop.self c.args.cookie (group_above c.args.group c.loop.after c.loop.self.tasks.tasks) (group_above c.args.group 0 c.args.self.now.tasks.tasks)
+          c.loop.invariant.room c.loop.invariant.numbers,
+      few_members c.args.group c.args.self.now.tasks.tasks,
+      c.requires.touches,
+    )
+
+pub loop-preserved : goal.loop-preserved
+loop-preserved g c =
+    let tasks = c.loop.self.tasks.tasks in
+    let task = c.in-Some.task in
+    let left = group_above c.args.group c.loop.after tasks in
+    let all = group_above c.args.group 0 c.args.self.now.tasks.tasks in
+    let rest = group_above c.args.group task.spec.pid c.set_cookie.new.self.tasks.tasks in
+    let kept : rest ≡ group_above c.args.group task.spec.pid tasks =
+    ap (λ (room : RoomState). group_above c.args.group task.spec.pid room.tasks) (c.set_cookie.ensures.room [])
+    ∙ above_kept c.args.group c.args.cookie task tasks in
+    let is : left ≡ task ∷ rest = c.in-Some.ensures.some ∙ ap (λ (ts : List Task). task ∷ ts) (sym kept) in
+    record {
+      stays = both_stay c.loop.invariant.stays c.set_cookie.ensures.stays;
+      room = group_room c.args.self.now c.loop.self c.args.cookie left all c.loop.invariant.room c.loop.invariant.numbers c.set_cookie.new.self task rest is c.set_cookie.ensures;
+      numbers = group_numbers c.args.self.now c.loop.self c.args.cookie left all c.loop.invariant.room c.loop.invariant.numbers c.set_cookie.new.self task rest is c.set_cookie.ensures;
+      left = omega (arith, ap length is, c.loop.invariant.left);
+    }
+
+pub returns : goal.returns
+returns g c =
+    let left = group_above c.args.group c.loop.after c.loop.self.tasks.tasks in
+    group_done c.args.self.now c.loop.self c.args.cookie left (group_above c.args.group 0 c.args.self.now.tasks.tasks)
+    c.loop.invariant.room c.loop.invariant.numbers (none_left left (omega (arith, c.loop.invariant.left, c.loop-test.false))) c.loop.invariant.stays
+
+pub set_cookie-requires-clause-sound : goal.set_cookie-requires-clause-sound
+set_cookie-requires-clause-sound g c = c.loop.invariant.stays.sound c.requires.sound

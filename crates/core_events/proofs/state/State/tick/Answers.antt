@@ -1,0 +1,33 @@
+use Rattle.std.proofs.Common.{◌∙◌, sym, subst}
+use Rattle.cs_types.specs.Room.{running_on}
+use Rattle.cs_types.specs.Step.{ticked}
+use Rattle.core_lanes.specs.Numbers.{numbers_of, booked}
+use Rattle.core_events.specs.State.{beside_of, room_with}
+use Rattle.core_events.specs.Steps.{MakesStep}
+use Rattle.core_events.proofs.States.{lifted, leaves_all}
+use Rattle.core_events.proofs.Onlines.{untouched, when_online, when_offline}
+use Rattle.core_events.proofs.state.State.tick.Goals as goal
+
+pub returns-then-not-is_online : goal.returns-then-not-is_online
+returns-then-not-is_online g c = leaves_all _ _ _ (λ intervals. untouched (numbers_of c.args.self.now.core)) (λ intervals.
+    let room = room_with intervals c.args.self.now in
+    when_offline room c.args.cpu (ticked room c.args.cpu (running_on room c.args.cpu)) (sym (c.is_online.ensures (beside_of intervals c.args.self.now) c.args.self.now.tasks) ∙ c.if-not-is_online.true))
+
+pub returns : goal.returns
+returns g c =
+    let old = c.args.self.now in
+    let cpu = c.args.cpu in
+    let charges = c.tick.ensures.charges in
+    record {
+      step = λ intervals.
+          let room = room_with intervals old in
+          let beside = beside_of intervals old in
+          let made = ticked room cpu (running_on room cpu) in
+          let up = when_online room cpu made (sym (c.is_online.ensures beside old.tasks) ∙ c.if-not-is_online.false) in
+          subst (MakesStep intervals old _ _ _) up (record {
+            reply = c.tick.ensures.asks beside;
+            room = charges.room beside;
+            numbers = λ kept. charges.numbers beside kept ∙ untouched (booked made.room (numbers_of old.core));
+          });
+      stays = lifted old (c.tick.new.core, c.tick.new.table) charges.stays;
+    }

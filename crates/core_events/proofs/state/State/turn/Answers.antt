@@ -1,0 +1,79 @@
+use Rattle.std.proofs.Common.{◌≡◌, ◌∙◌, ap, sym, subst, Bool, cond, true, false, eqb, ℕ}
+use Rattle.cs_types.specs.declared.event.Event.TheVariants.{Turn, Resched}
+use Rattle.cs_types.specs.declared.reply.Reply.TheVariants.{Picked, Nothing}
+use Rattle.cs_types.specs.Room.{RoomState, SiblingState, sibling_of}
+use Rattle.cs_types.specs.Selection.{schedule}
+use Rattle.cs_types.specs.Steal.{stolen}
+use Rattle.cs_types.specs.Step.{Stepped, step, turned, try_steal, picked, unless_offline}
+use Rattle.core_lanes.specs.Numbers.{numbers_of, booked, is_fresh_by}
+use Rattle.core_lanes.proofs.Stays.{lane_at}
+use Rattle.core_events.specs.State.{beside_of, room_with}
+use Rattle.core_events.specs.Steps.{numbers_after}
+use Rattle.core_events.proofs.States.{uncharged, lifted, low_times, leaves_all}
+use Rattle.core_events.proofs.Onlines.{untouched, when_online, when_offline}
+use Rattle.core_events.proofs.Readies.{turn_as_resched, turn_touches}
+use Rattle.core_events.proofs.state.State.turn.Goals as goal
+
+-- what a turn does, by whether its sibling is pending
+abbrev turn_by : RoomState → Bool → ℕ → Bool → Stepped
+turn_by room fresh cpu pending =
+    cond pending (picked Picked (schedule room fresh cpu))
+    (cond (eqb (sibling_of room cpu).place 0) (record { reply = Nothing; room = room }) (try_steal room cpu (stolen room cpu)))
+
+pub returns-then-not-is_online : goal.returns-then-not-is_online
+returns-then-not-is_online g c = leaves_all _ _ _ (λ intervals. untouched (numbers_of c.args.self.now.core)) (λ intervals.
+    let room = room_with intervals c.args.self.now in
+    when_offline room c.args.cpu (turned room (is_fresh_by (numbers_of c.args.self.now.core)) c.args.cpu)
+    (sym (c.is_online.ensures (beside_of intervals c.args.self.now) c.args.self.now.tasks) ∙ c.if-not-is_online.true))
+
+pub returns-then-index : goal.returns-then-index
+returns-then-index g c =
+    let old = c.args.self.now in
+    let cpu = c.args.cpu in
+    let fresh = is_fresh_by (numbers_of old.core) in
+    let made = c.resched.ensures in
+    record {
+      step = λ intervals.
+          let room = room_with intervals old in
+          let at = lane_at old.core.lanes.items cpu c.index.result.now c.requires.cpu c.index.ensures in
+          let pends : (sibling_of room cpu).pending ≡ true = ap (λ (s : SiblingState). s.pending) at ∙ c.if-index.true in
+          let is : picked Picked (schedule room fresh cpu) ≡ turned room fresh cpu = ap (turn_by room fresh cpu) (sym pends) in
+          let same : step room fresh (Resched cpu) ≡ step room fresh (Turn cpu) = ap (unless_offline room cpu) is in
+          let here = made.step intervals in
+          let up = when_online room cpu (picked Picked (schedule room fresh cpu)) (sym (c.is_online.ensures (beside_of intervals old) old.tasks) ∙ c.if-not-is_online.false) in
+          let answer : c.resched.result ≡ Picked (schedule room fresh cpu).pick = here.reply ∙ ap (λ (m : Stepped). m.reply) (sym up) in
+          record {
+            reply = here.reply ∙ ap (λ (m : Stepped). m.reply) same;
+            room = subst (λ (m : Stepped). room_with m.room.intervals c.resched.new.self ≡ m.room) same here.room;
+            numbers = λ kept. here.numbers kept
+                ∙ turn_as_resched room cpu c.resched.result (schedule room fresh cpu).pick _ answer
+                ∙ ap (λ (m : Stepped). numbers_after room (Turn cpu) c.resched.result (booked m.room (numbers_of old.core))) same;
+          };
+      stays = made.stays;
+    }
+
+pub try_steal-requires-clause-low : goal.try_steal-requires-clause-low
+try_steal-requires-clause-low g c = low_times c.args.self.now c.requires.ready.time
+
+pub returns : goal.returns
+returns g c =
+    let old = c.args.self.now in
+    let cpu = c.args.cpu in
+    let fresh = is_fresh_by (numbers_of old.core) in
+    let tried = c.try_steal.ensures in
+    record {
+      step = λ intervals.
+          let room = room_with intervals old in
+          let beside = beside_of intervals old in
+          let at = lane_at old.core.lanes.items cpu c.index.result.now c.requires.cpu c.index.ensures in
+          let idle : (sibling_of room cpu).pending ≡ false = ap (λ (s : SiblingState). s.pending) at ∙ c.if-index.false in
+          let made = ap (turn_by room fresh cpu) (sym idle)
+          ∙ when_online room cpu (turned room fresh cpu) (sym (c.is_online.ensures beside old.tasks) ∙ c.if-not-is_online.false) in
+          uncharged (record {
+            reply = c.steal_reply.ensures ∙ tried.reply beside ∙ ap (λ (m : Stepped). m.reply) made;
+            room = tried.room beside ∙ ap (λ (m : Stepped). m.room) made;
+            numbers = tried.numbers ∙ turn_touches room cpu (numbers_of old.core) c.try_steal.result
+                ∙ ap (λ r. numbers_after room (Turn cpu) r (numbers_of old.core)) (sym c.steal_reply.ensures);
+          });
+      stays = lifted old (c.try_steal.new.core, c.try_steal.new.table) tried.stays;
+    }

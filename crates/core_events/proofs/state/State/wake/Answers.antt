@@ -1,0 +1,64 @@
+use Rattle.std.proofs.Common.{◌≡◌, ◌<◌, ◌^◌, ◌∙◌, ap, sym, subst, refl}
+use Rattle.std.proofs.lemmas.Bool.{cond-false, cond_both}
+use Rattle.std.specs.Prelude.{Some}
+use Rattle.cs_types.specs.declared.task.Task.{Task}
+use Rattle.cs_types.specs.declared.task.TaskSpec.{TaskSpec}
+use Rattle.cs_types.specs.declared.reply.Reply.TheVariants.{Woken}
+use Rattle.cs_types.specs.Scenario.{IsPolicy}
+use Rattle.cs_types.specs.Room.{RoomState, is_online, lowest_online}
+use Rattle.cs_types.specs.Queueing.{moved_to, rehomed, queued_at_home}
+use Rattle.cs_types.specs.Step.{Stepped, woken}
+use Rattle.core_lanes.specs.Lanes.{room_of}
+use Rattle.core_lanes.proofs.Stays.{found_in, some_beside}
+use Rattle.core_events.specs.State.{beside_of, both, room_with}
+use Rattle.core_events.proofs.States.{uncharged, lifted, low_times}
+use Rattle.core_events.proofs.Readies.{fits_found, knows_as}
+use Rattle.core_events.proofs.state.State.wake.Goals as goal
+
+pub rehomed-task-requires-clause-home : goal.rehomed-task-requires-clause-home
+rehomed-task-requires-clause-home g c =
+    (fits_found (both c.args.self.now) c.args.pid c.in-Some.task c.requires.ready.sound.agree (sym c.in-Some.ensures.task)).home
+
+pub rehomed-task-requires-clause-vtime : goal.rehomed-task-requires-clause-vtime
+rehomed-task-requires-clause-vtime g c =
+    found_in (λ (t : Task). t.vtime < 2 ^ 100) c.args.pid c.args.self.now.tasks.tasks c.in-Some.task (low_times c.args.self.now c.requires.ready.time).vtimes (sym c.in-Some.ensures.task)
+
+pub rehomed-task-requires-clause-leasts : goal.rehomed-task-requires-clause-leasts
+rehomed-task-requires-clause-leasts g c = (low_times c.args.self.now c.requires.ready.time).leasts
+
+-- a task at another home has its pid, its policy and its cookie still
+kept : (room : RoomState) (task : Task) → ((rehomed room task).spec ≡ task.spec) × ((rehomed room task).cookie ≡ task.cookie)
+kept room task =
+    let moved = moved_to room (lowest_online room) task in
+    cond_both (is_online room task.home) task moved (λ (t : Task). (t.spec ≡ task.spec) × (t.cookie ≡ task.cookie)) (λ _. (refl, refl)) (λ _. (refl, refl))
+
+pub queue_at_home-requires-clause-knows : goal.queue_at_home-requires-clause-knows
+queue_at_home-requires-clause-knows g c =
+    let state = c.args.self.now in
+    let task = c.in-Some.task in
+    let is = c.rehomed-task.ensures.rehomed some_beside state.tasks in
+    let same = kept (room_of some_beside (both state)) task in
+    let spec = ap (λ (t : Task). t.spec) is ∙ same.0 in
+    let fit = fits_found (both state) c.args.pid task c.requires.ready.sound.agree (sym c.in-Some.ensures.task) in
+    knows_as (both state) c.rehomed-task.result task (ap (λ (s : TaskSpec). s.pid) spec) (ap (λ (t : Task). t.cookie) is ∙ same.1) c.in-Some.ensures.there
+    (record { home = c.rehomed-task.ensures.within; policy = subst (λ (s : TaskSpec). IsPolicy s.policy) (sym spec) fit.policy })
+
+pub returns : goal.returns
+returns g c =
+    let old = c.args.self.now in
+    let task = c.in-Some.task in
+    let queued = c.queue_at_home.ensures in
+    record {
+      step = λ intervals.
+          let room = room_with intervals old in
+          let beside = beside_of intervals old in
+          let made : Task → Stepped = λ moved. record { reply = Woken moved.home; room = queued_at_home room moved } in
+          let is : made c.rehomed-task.result ≡ woken room (Some task) =
+          ap made (c.rehomed-task.ensures.rehomed beside old.tasks) ∙ sym (cond-false task.queued _ (made (rehomed room task)) c.if-task.false) in
+          uncharged (record {
+            reply = ap (λ (m : Stepped). m.reply) is ∙ ap (λ found. (woken room found).reply) c.in-Some.ensures.task;
+            room = queued.room beside ∙ ap (λ (m : Stepped). m.room) is ∙ ap (λ found. (woken room found).room) c.in-Some.ensures.task;
+            numbers = queued.numbers;
+          });
+      stays = lifted old (c.queue_at_home.new.core, c.queue_at_home.new.table) queued.stays;
+    }

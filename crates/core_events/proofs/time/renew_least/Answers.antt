@@ -1,0 +1,25 @@
+use Rattle.std.proofs.Common.{ℕ, ◌∙◌, ap, sym, refl, Some}
+use Rattle.std.specs.Prelude.{List}
+use Rattle.std.proofs.lemmas.List.{map-set}
+use Rattle.cs_types.specs.Room.{RoomState, SiblingState, with_sibling}
+use Rattle.core_lanes.specs.Lanes.{lane_state, room_of}
+use Rattle.core_lanes.proofs.Stays.{lane_at, numbers_kept, queues_kept, alike_stays}
+use Rattle.core_events.proofs.Clocks.{least_is}
+use Rattle.core_events.proofs.time.renew_least.Goals as goal
+
+pub returns-in-Some : goal.returns-in-Some
+returns-in-Some g c =
+    let lanes = c.args.core.now.lanes.items in
+    let cpu = c.args.cpu in
+    let lane = c.index_mut-lane.result.now in
+    let is = c.index_mut-lane.ensures.value in
+    let after = record lane { least = c.max-lane.result } in
+    record {
+      room = λ beside.
+          let room = room_of beside (c.args.core.now, c.args.table.now) in
+          ap (λ (siblings : List SiblingState). let now : RoomState = record room { siblings = siblings } in now) (map-set lane_state lanes cpu after)
+          ∙ ap (λ (n : ℕ). with_sibling room cpu (let now : SiblingState = record (lane_state lane) { least = n } in now)) c.max-lane.ensures
+          ∙ least_is room cpu (lane_state lane) (Some c.in-Some.smallest) (lane_at lanes cpu lane c.requires.cpu is) (sym c.in-Some.is ∙ c.smallest_vtime.ensures);
+      numbers = rw (numbers_kept lanes cpu lane after is refl) refl;
+      stays = alike_stays _ _ (queues_kept lanes cpu lane after is refl) refl refl refl;
+    }

@@ -1,0 +1,15 @@
+use Rattle.std.proofs.Common.{◌∙◌, ap, sym}
+use Rattle.std.specs.Prelude.{◌&&◌}
+use Rattle.std.specs.List.{list_any}
+use Rattle.cs_types.specs.Time.{is_peer, others_on}
+use Rattle.core_lanes.specs.Lanes.{room_of}
+use Rattle.core_events.proofs.Peers.{rr_peers}
+use Rattle.core_events.proofs.time.rotates.Goals as goal
+
+pub returns-then-has_used_slice : goal.returns-then-has_used_slice
+returns-then-has_used_slice g c beside =
+    let room = room_of beside (c.args.core.now, c.args.table.now) in
+    let task = c.args.task.now in
+    let used = sym c.has_used_slice.ensures ∙ c.if-has_used_slice.true in
+    c.has_peer.ensures ∙ rr_peers room c.args.cpu task used
+    ∙ ap (λ b. b && list_any (is_peer task) (others_on room c.args.cpu task)) (sym used)

@@ -1,0 +1,46 @@
+-- Inside: what the machine keeps, and that it is the fold of its history.
+use Rattle.std.specs.Prelude.{◌≡◌, ℕ, ◌+◌, ◌-◌, ◌*◌, ◌≤◌, List, length, map, vec_len, vec_capacity}
+use Rattle.cs_types.specs.declared.event.Step.{Step}
+use Rattle.cs_types.specs.declared.reply.Entry.{Entry}
+use Rattle.cs_types.specs.declared.scenario.Scenario.{Scenario}
+use Rattle.cs_types.specs.Scenario.{IsPlayable}
+use Rattle.cs_types.specs.Room.{first_pid}
+use Rattle.cs_types.specs.History.{AreEvents, moment_of, fold_of, history_of}
+use Rattle.core_lanes.specs.declared.queue.SiblingQueue.{Ghosts}
+use Rattle.core_lanes.specs.Numbers.{numbers_of}
+use Rattle.core_events.specs.State.{room_with, IsSound}
+use Rattle.core_events.specs.Steps.{numbers_at}
+use Rattle.core_events.specs.Machine.{Machine}
+use Rattle.core_events.specs.declared.room.CoreRoom.TheInside.{Inside}
+
+-- the steps of entries
+abbrev pub steps_of : List Entry → List Step
+steps_of entries = map (λ entry. record { actor = entry.actor; event = entry.event }) entries
+
+abbrev pub machine_of : {Q : Type 0} {g : Ghosts Q} → Inside Q g → Machine
+machine_of room =
+    record {
+      scenario = room.scenario;
+      steps = steps_of room.entries.items;
+      spare = vec_capacity room.entries - vec_len room.entries;
+    }
+
+-- how many entries a machine may make: the steps of the scenario, and those of the end
+abbrev pub most_entries : Scenario → ℕ
+most_entries scenario = length scenario.steps + scenario.siblings * scenario.siblings
+
+-- the entries are the history of their steps, and the state is its fold
+pub record IsFold {Q : Type 0} {g : Ghosts Q} (room : Inside Q g) : Type 0 where
+  pub playable : IsPlayable room.scenario
+  pub events : AreEvents room.scenario room.entries.items
+  pub history : room.entries.items ≡ history_of room.scenario (steps_of room.entries.items)
+  pub fold : room_with (fold_of room.scenario room.entries.items).intervals room.state ≡ fold_of room.scenario room.entries.items
+  pub numbers : numbers_of room.state.core ≡ numbers_at room.scenario (moment_of room.scenario room.entries.items)
+  pub sound : IsSound room.state
+  pub siblings : length room.state.core.lanes.items ≡ room.scenario.siblings
+  -- no advance is above one second
+  pub slow : room.state.clock ≤ 1000000000 * vec_len room.entries
+  -- so no stamp, cookie, number or time overflows, each child has a place for its total, and no task that ends takes memory
+  pub few_entries : vec_capacity room.entries ≤ most_entries room.scenario
+  pub places : room.state.core.totals.spare + room.state.next_pid ≡ most_entries room.scenario + first_pid room.scenario.tasks
+  pub ends : vec_capacity room.state.ended ≡ most_entries room.scenario

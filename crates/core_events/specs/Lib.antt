@@ -1,0 +1,9 @@
+pub mod State
+pub mod Steps
+pub mod Moments
+pub mod Time
+pub mod Life
+pub mod Cookies
+pub mod Drain
+pub mod Machine
+pub mod Inside

@@ -1,0 +1,35 @@
+-- Life: what the making of a child leaves.
+use Rattle.std.specs.Prelude.{◌≡◌, ℕ, Bool, true, false, ◌==◌, ◌||◌, length, find, Some, None, Result, Ok, Err}
+use Rattle.cs_types.specs.declared.task.Task.{Task}
+use Rattle.cs_types.specs.Room.{has_pid}
+use Rattle.cs_types.specs.Order.{deadline_class, class_of}
+use Rattle.cs_types.specs.Step.{child_of, with_child}
+use Rattle.fork_inherit.specs.declared.forking.ForkFault.{ForkFault}
+use Rattle.fork_inherit.specs.declared.forking.ForkFault.TheVariants.{NoCaller, Eagain}
+use Rattle.task_table.specs.Table.{Table}
+use Rattle.core_lanes.specs.declared.queue.SiblingQueue.{Ghosts}
+use Rattle.core_lanes.specs.Numbers.{numbers_of}
+use Rattle.core_lanes.specs.Queued.{IsOf}
+use Rattle.core_events.specs.declared.state.State.{State}
+use Rattle.core_events.specs.State.{Stays}
+use Rattle.core_events.specs.Steps.{Becomes}
+
+-- whether a fork by the task is refused
+abbrev pub is_refused : Table → Task → Bool
+is_refused table by = (length table.tasks == table.limit) || (class_of by.spec.policy == deadline_class)
+
+-- the new state is the old one with this child, of this caller
+pub record IsBorn {Q : Type 0} {g : Ghosts Q} (old new : State Q g) (by : Task) (thread : Bool) (child : Task) : Type 0 where
+  pub allowed : is_refused old.tasks by ≡ false
+  pub is : child ≡ child_of by thread old.next_pid
+  pub there : IsOf new.tasks.tasks child
+  pub room : Becomes old new (λ room. with_child room child)
+  pub numbers : numbers_of new.core ≡ numbers_of old.core
+  pub stays : Stays old new
+
+-- a child of the task with the pid was made, or none, and then nothing changed
+abbrev pub MakesChild : {Q : Type 0} {g : Ghosts Q} → State Q g → State Q g → ℕ → Bool → Result Task ForkFault → Type 0
+MakesChild old new caller thread (Ok child) = (by : Task) × (find (has_pid caller) old.tasks.tasks ≡ Some by) × IsBorn old new by thread child
+MakesChild old new caller thread (Err NoCaller) = (find (has_pid caller) old.tasks.tasks ≡ None) × (new ≡ old)
+MakesChild old new caller thread (Err Eagain) =
+    (by : Task) × (find (has_pid caller) old.tasks.tasks ≡ Some by) × (is_refused old.tasks by ≡ true) × (new ≡ old)

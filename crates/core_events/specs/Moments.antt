@@ -1,0 +1,22 @@
+-- Moments: what is made of a core and its table where the clock is read or goes on.
+use Rattle.std.specs.Prelude.{◌≡◌, ℕ, ◌+◌}
+use Rattle.cs_types.specs.Room.{RoomState}
+use Rattle.cs_types.specs.Time.{advanced}
+use Rattle.task_table.specs.Table.{Table}
+use Rattle.core_lanes.specs.declared.queue.SiblingQueue.{Ghosts}
+use Rattle.core_lanes.specs.declared.lanes.Core.{Core}
+use Rattle.core_lanes.specs.Lanes.{Beside, at, room_of}
+use Rattle.core_lanes.specs.Numbers.{numbers_of, touched}
+use Rattle.core_lanes.specs.Changes.{Stays}
+
+-- the new room is the old one after this change at this moment, where the queues were touched this number of times
+pub record TouchesAt {Q : Type 0} {g : Ghosts Q} (now count : ℕ) (old new : Core Q g × Table) (change : RoomState → RoomState) : Type 0 where
+  pub room : (beside : Beside) → room_of (at now beside) new ≡ change (room_of (at now beside) old)
+  pub numbers : numbers_of new.0 ≡ touched count (numbers_of old.0)
+  pub stays : Stays old new
+
+-- the new room is the old one once the clock went on from this moment by delta ns, with the same numbers
+pub record Advances {Q : Type 0} {g : Ghosts Q} (now delta : ℕ) (old new : Core Q g × Table) : Type 0 where
+  pub room : (beside : Beside) → room_of (at (now + delta) beside) new ≡ advanced (room_of (at now beside) old) delta
+  pub numbers : numbers_of new.0 ≡ numbers_of old.0
+  pub stays : Stays old new

@@ -1,0 +1,95 @@
+-- State: the room that a state stands for, what always holds of it, and what an event asks of it.
+use Rattle.std.specs.Prelude.{◌≡◌, ℕ, ◌+◌, ◌*◌, ◌^◌, ◌<◌, List, length, All, IsTrue, vec_len, vec_capacity}
+use Rattle.cs_types.specs.Scenario.{IsWithin}
+use Rattle.cs_types.specs.Room.{RoomState, Interval}
+use Rattle.cs_types.proofs.Timely.{IsTimely}
+use Rattle.cookie_refs.specs.Refs.{AgreeBut}
+use Rattle.forceidle_account.specs.Charges.{has_total}
+use Rattle.task_table.specs.Table.{Table}
+use Rattle.core_lanes.specs.declared.queue.SiblingQueue.{Ghosts}
+use Rattle.core_lanes.specs.declared.lanes.Core.{Core}
+use Rattle.core_lanes.specs.Lanes.{Beside, room_of, Agree}
+use Rattle.core_pick.specs.Schedules.{IsPaid}
+use Rattle.core_events.specs.declared.state.State.{State}
+
+-- ---- the room
+
+-- the core and the table of a state
+abbrev pub both : {Q : Type 0} {g : Ghosts Q} → State Q g → Core Q g × Table
+both state = (state.core, state.tasks)
+
+-- what is beside these, where these intervals were recorded
+abbrev pub beside_of : {Q : Type 0} {g : Ghosts Q} → List Interval → State Q g → Beside
+beside_of intervals state =
+    record {
+      cookie_limit = state.refs.limit;
+      user_top = state.user_top;
+      clock = state.clock;
+      ended = state.ended.items;
+      next_pid = state.next_pid;
+      next_cookie = state.refs.next;
+      intervals = intervals;
+    }
+
+-- the room that the state stands for, where these intervals were recorded
+abbrev pub room_with : {Q : Type 0} {g : Ghosts Q} → List Interval → State Q g → RoomState
+room_with intervals state = room_of (beside_of intervals state) (both state)
+
+-- ---- what holds of it
+
+-- the pid is one that was given
+abbrev pub IsGiven : ℕ → ℕ → Type 0
+IsGiven next pid = (0 < pid) × (pid < next)
+
+-- What always holds of a state: its core and its table agree; each task's pid was given, and so was each that has a total; and
+-- the references are those of the tasks, and one more for a cookie that is held beside them.
+pub record IsSoundBut {Q : Type 0} {g : Ghosts Q} (state : State Q g) (held : ℕ) : Type 0 where
+  pub agree : Agree (both state)
+  pub limit : state.tasks.limit ≡ state.task_limit
+  pub user_top : IsWithin 8192 9223372036854775807 state.user_top
+  pub pids : All (λ task. IsGiven state.next_pid task.spec.pid) state.tasks.tasks
+  pub low_pids : (pid : ℕ) → IsTrue (has_total state.core.totals pid) → pid < state.next_pid
+  pub refs : AgreeBut state.refs state.tasks.tasks held
+
+-- the same with no cookie held beside them
+abbrev pub IsSound : {Q : Type 0} {g : Ghosts Q} → State Q g → Type 0
+IsSound state = IsSoundBut state 0
+
+-- The state stays sound, and keeps the number of its siblings, what the next pid and the places left for totals come to, and how
+-- many tasks may end.
+pub record StaysBut {Q : Type 0} {g : Ghosts Q} (held : ℕ) (old new : State Q g) : Type 0 where
+  pub sound : IsSoundBut old held → IsSoundBut new held
+  pub siblings : length new.core.lanes.items ≡ length old.core.lanes.items
+  pub places : new.core.totals.spare + new.next_pid ≡ old.core.totals.spare + old.next_pid
+  pub ends : vec_capacity new.ended ≡ vec_capacity old.ended
+
+abbrev pub Stays : {Q : Type 0} {g : Ghosts Q} → State Q g → State Q g → Type 0
+Stays old new = StaysBut 0 old new
+
+-- ---- what an event asks
+
+-- the times of the state keep their bounds, and its clock is so low that no time overflows, after one more advance too,
+-- in a history of fewer than 2^17 entries
+pub record IsOnTime {Q : Type 0} {g : Ghosts Q} (state : State Q g) : Type 0 where
+  pub entries : ℕ
+  pub few : entries < 2 ^ 17
+  pub timely : (intervals : List Interval) → IsTimely entries (room_with intervals state)
+  pub clock : state.clock + 1000000000 < 2 ^ 56
+
+-- what an event may use up: touches, stamps, a cookie's serial, a pid, a place for a total and one among the ended, and a balance
+-- place
+pub record HasSpares {Q : Type 0} {g : Ghosts Q} (state : State Q g) : Type 0 where
+  pub touches : state.core.task_number + 2 * length state.tasks.tasks + 2 < 2 ^ 64
+  pub stamps : state.core.next_stamp + length state.tasks.tasks + 1 < 2 ^ 64
+  pub serial : state.refs.next < 2 ^ 63
+  pub pid : state.next_pid + 1 < 2 ^ 32
+  pub total : 0 < state.core.totals.spare
+  pub ended : vec_len state.ended < vec_capacity state.ended
+  pub places : All (λ lane. lane.place + 1 < 2 ^ 32) state.core.lanes.items
+
+-- the state may take an event
+pub record IsReady {Q : Type 0} {g : Ghosts Q} (state : State Q g) : Type 0 where
+  pub sound : IsSound state
+  pub time : IsOnTime state
+  pub paid : IsPaid state.clock state.core
+  pub spares : HasSpares state

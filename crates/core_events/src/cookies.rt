@@ -1,0 +1,129 @@
+//! Cookies: what a plan of `prctl` sets. It is a file of its own since no other event sets one.
+
+ghost use Rattle.std.specs.Prelude.{◌≡◌, ◌+◌, ◌*◌, ◌^◌, ◌<◌, ◌≤◌, ◌∷◌, [], length, map, IfSome, IfNone};
+ghost use Rattle.cs_types.specs.declared.event.Event.TheVariants.{Prctl};
+ghost use Rattle.cs_types.specs.Touches.{cookie_touches};
+ghost use Rattle.task_table.specs.Group.{group_above};
+ghost use Rattle.prctl_core.specs.Plan.{named};
+ghost use Rattle.core_lanes.specs.Queued.{IsOf};
+ghost use Rattle.core_lanes.specs.Lanes.{lane_state};
+ghost use Rattle.core_events.specs.State.{IsSoundBut, IsReady};
+ghost use Rattle.core_events.specs.Steps.{Makes};
+ghost use Rattle.core_events.specs.Cookies.{flagged_for, SetsCookies};
+
+use crate::state::State;
+use core_lanes::{Lane, SiblingQueue, task_of};
+use cpu_hotplug::online_count;
+use cs_types::{Ask, Cookie, Pid, Reply, Steps, Task};
+use prctl_core::{Planned, Target, plan};
+use std::sync::ledger::Ledger;
+use task_table::{Group, TaskTable};
+
+/// Each sibling that runs the task with the pid becomes pending.
+fn flag_runners<Q: Drop>(lanes: &mut [Lane<Q>], pid: Pid)
+    ensures states { map lane_state lanes.new ≡ map (flagged_for pid) (map lane_state lanes.old) }
+    ensures numbers { map (λ lane. lane.number) lanes.new ≡ map (λ lane. lane.number) lanes.old }
+    ensures queues { map (λ lane. lane.queue) lanes.new ≡ map (λ lane. lane.queue) lanes.old }
+{
+    for lane in lanes.iter_mut() {
+        lane.pending |= lane.runs(pid);
+    }
+}
+
+/// How often the queues are touched where the task gets the cookie.
+fn touches(task: &Task, cookie: Cookie) -> u64
+    ensures touches { result ≡ cookie_touches cookie task.now }
+    ensures few { result ≤ 2 }
+{
+    if !task.queued {
+        return 0;
+    }
+    u64::from(task.cookie != 0) + u64::from(cookie != 0)
+}
+
+/// The member of the group with the least pid above this one.
+fn member_after(table: &TaskTable, group: Group, after: Pid) -> Option<Task>
+    ensures some { IfSome result (λ task. group_above group after table.now.tasks ≡ task ∷ group_above group task.spec.pid table.now.tasks) }
+    ensures there { IfSome result (IsOf table.now.tasks) }
+    ensures none { IfNone result (group_above group after table.now.tasks ≡ []) }
+{
+    let next = table.next_in(group, after)?;
+    table.find(next).copied()
+}
+
+impl<Q: SiblingQueue> State<Q> {
+    /// The task has the cookie, with a reference of its own, and where it runs its sibling becomes
+    /// pending.
+    fn set_cookie<L: Ledger>(&mut self, task: Task, cookie: Cookie, steps: &mut Steps<L>)
+        requires sound { IsSoundBut self.old cookie }
+        requires there { IsOf self.old.tasks.tasks task }
+        requires touches { self.old.core.task_number + 2 < 2 ^ 64 }
+        ensures { SetsCookies self.old self.new (task ∷ []) cookie }
+    {
+        self.refs.get(cookie);
+        self.refs.put(task.cookie);
+        self.core
+            .replace(&mut self.tasks, Task { cookie, ..task }, steps);
+        self.core.task_number += touches(&task, cookie);
+        flag_runners(&mut self.core.lanes, task.spec.pid);
+    }
+
+    /// The members of the group have the cookie, by rising pid.
+    fn set_group<L: Ledger>(&mut self, group: Group, cookie: Cookie, steps: &mut Steps<L>)
+        requires sound { IsSoundBut self.old cookie }
+        requires touches { self.old.core.task_number + 2 * length self.old.tasks.tasks + 2 < 2 ^ 64 }
+        ensures { SetsCookies self.old self.new (group_above group 0 self.old.tasks.tasks) cookie }
+    {
+        let mut after = 0;
+        for _ in 0..self.tasks.len() {
+            let Some(task) = member_after(&self.tasks, group, after) else {
+                return;
+            };
+            self.set_cookie(task, cookie, steps);
+            after = task.spec.pid;
+        }
+    }
+
+    /// The tasks that the target names have the cookie.
+    fn set_cookies<L: Ledger>(&mut self, to: Target, cookie: Cookie, steps: &mut Steps<L>)
+        requires sound { IsSoundBut self.old cookie }
+        requires touches { self.old.core.task_number + 2 * length self.old.tasks.tasks + 2 < 2 ^ 64 }
+        ensures { SetsCookies self.old self.new (named to self.old.tasks.tasks) cookie }
+    {
+        match to {
+            Target::Nobody => {}
+            Target::One(pid) => {
+                if let Some(task) = task_of(&self.tasks, pid) {
+                    self.set_cookie(task, cookie, steps);
+                }
+            }
+            Target::Threads(tgid) => self.set_group(Group::Threads(tgid), cookie, steps),
+            Target::Process(pgid) => self.set_group(Group::Process(pgid), cookie, steps),
+        }
+    }
+
+    /// A call of `prctl(PR_SCHED_CORE, ..)` by the task with the pid.
+    pub fn prctl<L: Ledger>(&mut self, pid: Pid, ask: Ask, steps: &mut Steps<L>) -> Reply
+        requires ready { IsReady self.old }
+        ensures { Makes self.old self.new (Prctl pid ask) result }
+    {
+        let online = online_count(&self.core);
+        let planned = plan(
+            &self.tasks,
+            &mut self.refs,
+            &mut self.guards,
+            online,
+            self.user_top,
+            pid,
+            &ask,
+        );
+        match planned {
+            Planned::Answer(reply) => reply,
+            Planned::Go(decision) => {
+                self.set_cookies(decision.to, decision.cookie, steps);
+                self.refs.put(decision.cookie);
+                decision.reply
+            }
+        }
+    }
+}

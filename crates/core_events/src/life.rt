@@ -1,0 +1,52 @@
+//! How a task comes and goes. It is a file of its own since nothing else changes who lives.
+
+ghost use Rattle.std.specs.Prelude.{◌≡◌, ◌+◌, ◌^◌, ◌<◌, List, false, vec_len, vec_capacity};
+ghost use Rattle.cs_types.specs.Room.{Interval};
+ghost use Rattle.cs_types.specs.Step.{has_threads, without};
+ghost use Rattle.core_lanes.specs.Queued.{IsOf};
+ghost use Rattle.core_events.specs.State.{room_with, IsSound};
+ghost use Rattle.core_events.specs.Steps.{Touches};
+ghost use Rattle.core_events.specs.Life.{MakesChild};
+
+use crate::state::State;
+use core_lanes::{SiblingQueue, task_of};
+use cs_types::{Pid, Steps, Task};
+use fork_inherit::{ForkFault, end, fork};
+use std::sync::ledger::Ledger;
+
+impl<Q: SiblingQueue> State<Q> {
+    /// The task is no longer among the living, and is the last of the ended.
+    pub fn end<L: Ledger>(&mut self, task: Task, steps: &mut Steps<L>)
+        requires there { IsOf self.old.tasks.tasks task }
+        requires sound { IsSound self.old }
+        requires alone { (intervals : List Interval) → has_threads (room_with intervals self.old) task ≡ false }
+        requires touches { self.old.core.task_number + 1 < 2 ^ 64 }
+        requires spare { vec_len self.old.ended < vec_capacity self.old.ended }
+        ensures { Touches 1 self.old self.new (λ room. without room task) }
+    {
+        self.core.dequeue(&mut self.tasks, task, steps);
+        end(&mut self.tasks, &mut self.refs, task.spec.pid).unwrap();
+        self.ended.push_reserved(task.spec.pid);
+    }
+
+    /// A child of the caller is among the living, asleep at home.
+    pub fn make_child(&mut self, caller: Pid, thread: bool) -> Result<Task, ForkFault>
+        requires sound { IsSound self.old }
+        requires pid { self.old.next_pid + 1 < 2 ^ 32 }
+        requires total { 0 < self.old.core.totals.spare }
+        ensures { MakesChild self.old self.new caller thread result }
+    {
+        let child = self.next_pid;
+        fork(
+            &mut self.tasks,
+            &mut self.refs,
+            self.task_limit,
+            caller,
+            thread,
+            child,
+        )?;
+        self.core.totals.add(child);
+        self.next_pid += 1;
+        Ok(task_of(&self.tasks, child).unwrap())
+    }
+}

@@ -1,0 +1,220 @@
+//! The machine over any queue of a sibling: its scenario, the state of the core and every entry. It is a file of
+//! its own so that nothing else reads how a machine keeps these.
+
+ghost use Rattle.std.specs.Prelude.{◌≡◌, ◌+◌, ◌*◌, ◌<◌, [], length, IfOk};
+ghost use Rattle.cs_types.specs.Scenario.{IsPlayable, IsEvent};
+ghost use Rattle.cs_types.specs.Room.{RoomState, Interval};
+ghost use Rattle.cs_types.specs.View.{task_after, task_view, forced_of};
+ghost use Rattle.core_events.specs.State.{room_with, IsReady};
+ghost use Rattle.core_events.specs.Steps.{Makes};
+
+use crate::drain::next_to_schedule;
+use crate::state::State;
+use core_lanes::SiblingQueue;
+use cs_types::{
+    Actor, CoreView, Cpu, CpuView, EndView, Entry, Event, List, OutOfMemory, Pid, Reply, Room,
+    Scenario, Steps, Task, TaskView,
+};
+use ptrace_check::Guards;
+use std::alloc::Global;
+use std::marker::{Brand, Model};
+use std::sync::ledger::{Blank, Ledger};
+use task_table::Group;
+
+/// A machine over any queue of a sibling. Contracts see what it stands for: its scenario, the steps that
+/// were made, and how many more entries it can take.
+#[derive(Drop)]
+pub struct CoreRoom<Q: SiblingQueue> {
+    scenario: Scenario,
+    state: State<Q>,
+    entries: Vec<Entry>,
+}
+
+impl<Q: SiblingQueue> Model for CoreRoom<Q> {
+    ghost use Rattle.core_events.specs.Machine.{Machine};
+
+    ghost Value = { Machine };
+
+    ghost use Rattle.core_events.specs.Inside.{machine_of, IsFold};
+
+    ghost view = { machine_of };
+
+    ghost invariant = { IsFold };
+}
+
+/// How many entries a machine may make: the steps of the scenario, and the entries of the end.
+fn most_entries(scenario: &Scenario) -> usize
+    requires { IsPlayable scenario.now }
+    ensures { result ≡ length scenario.now.steps + scenario.now.siblings * scenario.now.siblings }
+{
+    let siblings = scenario.siblings as usize;
+    scenario.steps.items().len() + siblings * siblings
+}
+
+/// What a machine shows of the task, which was charged this for forced idle, in ns.
+fn view(task: &Task, forced: u64) -> TaskView
+    ensures { (room : RoomState) → forced ≡ forced_of room task.now.spec.pid → result ≡ task_view room task.now }
+{
+    TaskView {
+        pid: task.spec.pid,
+        cpu: task.home,
+        queued: task.queued,
+        cookie: task.cookie,
+        forced,
+        vtime: task.vtime,
+    }
+}
+
+/// The living task with the least pid above this one.
+fn task_after<Q: SiblingQueue>(state: &State<Q>, pid: Pid) -> Option<Task>
+    ensures { (intervals : List Interval) → result ≡ task_after (room_with intervals state.now) pid }
+{
+    let next = state.tasks.next_in(Group::All, pid)?;
+    state.tasks.find(next).copied()
+}
+
+/// Makes the step of an event. The ledger of the blank is the one in which its comparisons are counted.
+fn counted<Q: SiblingQueue, L: Ledger>(state: &mut State<Q>, event: Event, blank: Blank) -> Reply
+    requires name { blank.name ≡ L.name }
+    requires parts { blank.parts ≡ L.parts }
+    requires some { 0 < blank.parts }
+    requires event { IsEvent (length state.old.core.lanes.items) event }
+    requires ready { IsReady state.old }
+    ensures { Makes state.old state.new event result }
+{
+    let mut steps = Steps::<L>::start(blank);
+    state.apply(event, &mut steps)
+}
+
+impl<Q: SiblingQueue> CoreRoom<Q> {
+    /// The room of a scenario before its first step. It takes memory for as many entries as the
+    /// scenario has steps, and for those of the end, and no later call takes any. The core has 1 to 16
+    /// siblings.
+    pub fn start(
+        alloc: Global,
+        scenario: &Scenario,
+        guards: Guards,
+    ) -> Result<CoreRoom<Q>, OutOfMemory>
+        requires { IsPlayable scenario.now }
+        ensures scenario { IfOk result (λ room. room.scenario ≡ scenario.now) }
+        ensures empty { IfOk result (λ room. room.steps ≡ []) }
+        ensures spare { IfOk result (λ room. room.spare ≡
+            length scenario.now.steps + scenario.now.siblings * scenario.now.siblings) }
+    {
+        let most = most_entries(scenario);
+        let state = State::start(alloc, scenario, most, guards)?;
+        let entries = Vec::with_capacity(alloc, most)?;
+        let tasks = List::of(Vec::from_slice(alloc, scenario.tasks.items())?);
+        let steps = List::of(Vec::from_slice(alloc, scenario.steps.items())?);
+        let scenario = Scenario {
+            siblings: scenario.siblings,
+            task_limit: scenario.task_limit,
+            cookie_limit: scenario.cookie_limit,
+            user_top: scenario.user_top,
+            tasks,
+            steps,
+        };
+        Ok(CoreRoom {
+            scenario,
+            state,
+            entries,
+        })
+    }
+}
+
+impl<Q: SiblingQueue> Room for CoreRoom<Q> {
+    ghost use Rattle.cs_types.specs.History.{history_of};
+    ghost use Rattle.cs_types.proofs.Histories.{IsLegal-history_of};
+    ghost use Rattle.cs_types.proofs.Trust.{consistent-moment_of, settled-moment_of};
+
+    ghost scenario = { λ room. room.scenario };
+
+    ghost history = { λ room. history_of room.scenario room.steps };
+
+    ghost spare = { λ room. room.spare };
+
+    fn apply(&mut self, actor: Actor, event: Event) -> Reply {
+        let reply = counted::<Q, Brand>(&mut self.state, event, Blank::new(1));
+        self.entries.push_reserved(Entry {
+            actor,
+            event,
+            reply,
+        });
+        reply
+    }
+
+    fn drain(&mut self) -> u64 {
+        let siblings = u64::from(self.scenario.siblings);
+        let most = siblings * siblings;
+        for entries in 0..most {
+            let Some(cpu) = next_to_schedule(&self.state.core) else {
+                return entries;
+            };
+            self.apply(Actor::End, Event::Resched(cpu));
+        }
+        most
+    }
+
+    fn spare(&self) -> u64 {
+        (self.entries.capacity() - self.entries.len()) as u64
+    }
+
+    fn length(&self) -> u64 {
+        self.entries.len() as u64
+    }
+
+    fn entry(&self, place: u64) -> Option<Entry> {
+        self.entries.get(place as usize).copied()
+    }
+
+    fn siblings(&self) -> u8 {
+        self.scenario.siblings
+    }
+
+    fn clock(&self) -> u64 {
+        self.state.clock
+    }
+
+    fn numbers(&self) -> (u64, u64) {
+        (self.state.core.task_number, self.state.core.pick_number)
+    }
+
+    fn core(&self) -> CoreView {
+        let core = &self.state.core;
+        CoreView {
+            cookie: core.cookie,
+            forced: core.account.count(),
+            occupation: core.account.occupation(),
+            intervals: core.account.intervals(),
+        }
+    }
+
+    fn cpu(&self, cpu: Cpu) -> Option<CpuView> {
+        self.state
+            .core
+            .lanes
+            .get(cpu as usize)
+            .map(|lane| lane.view())
+    }
+
+    fn task_after(&self, pid: Pid) -> Option<TaskView> {
+        let task = task_after(&self.state, pid)?;
+        Some(view(&task, self.state.core.totals.of(task.spec.pid)))
+    }
+
+    fn ended(&self, place: u64) -> Option<EndView> {
+        let pid = *self.state.ended.get(place as usize)?;
+        Some(EndView {
+            pid,
+            forced: self.state.core.totals.of(pid),
+        })
+    }
+
+    ghost legal = { λ room. IsLegal-history_of room.scenario room.steps };
+
+    ghost consistent = { λ room playable events. consistent-moment_of room.scenario
+        (history_of room.scenario room.steps) playable events (IsLegal-history_of room.scenario room.steps) };
+
+    ghost settled = { λ room playable events. settled-moment_of room.scenario
+        (history_of room.scenario room.steps) playable events (IsLegal-history_of room.scenario room.steps) };
+}

@@ -1,0 +1,74 @@
+//! The state of the core, and how it starts. It is a file of its own so that each event has its whole contract,
+//! whatever the machine keeps beside.
+
+ghost use Rattle.std.specs.Prelude.{◌≡◌, ◌+◌, ◌^◌, ◌<◌, ◌≤◌, [], length, IfOk, All, vec_capacity};
+ghost use Rattle.cs_types.specs.Scenario.{IsPlayable};
+ghost use Rattle.cs_types.specs.Room.{start, first_pid};
+ghost use Rattle.cs_types.specs.History.{beginning};
+ghost use Rattle.core_lanes.specs.Numbers.{numbers_of};
+
+use crate::start::{asleep_tasks, first_pid, totals_of};
+use cookie_refs::CookieRefs;
+use core_lanes::{Core, SiblingQueue};
+use cs_types::{OutOfMemory, Pid, Scenario};
+use ptrace_check::Guards;
+use std::alloc::Global;
+use task_table::TaskTable;
+
+/// The core and its tasks, and what else the events keep.
+#[derive(Drop)]
+pub struct State<Q: SiblingQueue> {
+    pub core: Core<Q>,
+    pub tasks: TaskTable,
+    pub refs: CookieRefs,
+    pub guards: Guards,
+    /// How many tasks may live at once, 1 to 256.
+    pub task_limit: u16,
+    /// The end of the user addresses, in bytes (`TASK_SIZE_MAX`).
+    pub user_top: u64,
+    /// The tasks that ended, in the order of their ends.
+    pub ended: Vec<Pid>,
+    /// The pid of the next child (this project's). None is given twice.
+    pub next_pid: Pid,
+    /// The time since the start, in ns (`rq->clock`).
+    pub clock: u64,
+}
+
+impl<Q: SiblingQueue> State<Q> {
+    ghost use Rattle.core_events.specs.State.{room_with, IsSound};
+    ghost use Rattle.core_events.specs.Steps.{numbers_at};
+
+    /// The start of a scenario: all tasks asleep at home, all siblings idle. It can take `most` entries.
+    pub fn start(
+        alloc: Global,
+        scenario: &Scenario,
+        most: usize,
+        guards: Guards,
+    ) -> Result<State<Q>, OutOfMemory>
+        requires playable { IsPlayable scenario.now }
+        requires most { most < 2 ^ 32 }
+        ensures room { IfOk result (λ state. room_with [] state ≡ start scenario.now) }
+        ensures sound { IfOk result IsSound }
+        ensures siblings { IfOk result (λ state. length state.core.lanes.items ≡ scenario.now.siblings) }
+        ensures numbers { IfOk result (λ state. numbers_of state.core ≡ numbers_at scenario.now (beginning scenario.now)) }
+        ensures places { IfOk result (λ state. state.core.totals.spare + state.next_pid ≡ most + first_pid scenario.now.tasks) }
+        ensures ends { IfOk result (λ state. vec_capacity state.ended ≡ most) }
+    {
+        let tasks = asleep_tasks(alloc, scenario.task_limit, scenario.tasks.items())?;
+        let refs = CookieRefs::with_limit(alloc, scenario.cookie_limit)?;
+        let totals = totals_of(alloc, &tasks, most)?;
+        let ended = Vec::with_capacity(alloc, most)?;
+        let core = Core::of(alloc, scenario.siblings, scenario.task_limit, totals)?;
+        Ok(State {
+            core,
+            tasks,
+            refs,
+            guards,
+            task_limit: scenario.task_limit,
+            user_top: scenario.user_top,
+            ended,
+            next_pid: first_pid(scenario.tasks.items()),
+            clock: 0,
+        })
+    }
+}

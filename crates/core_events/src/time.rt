@@ -1,0 +1,325 @@
+//! What an advance of the clock and a tick of a sibling's timer do. It is a file of its own since these
+//! alone move time.
+
+ghost use Rattle.std.specs.Prelude.{◌≡◌, ℕ, ◌+◌, ◌*◌, ◌^◌, ◌<◌, ◌≤◌, ◌||◌, length, map, All};
+ghost use Rattle.cs_types.specs.declared.reply.Reply.TheVariants.{Ticked};
+ghost use Rattle.cs_types.specs.Scenario.{IsPolicy};
+ghost use Rattle.cs_types.specs.Room.{running_on};
+ghost use Rattle.cs_types.specs.Step.{ticked};
+ghost use Rattle.cs_types.specs.Time as time;
+ghost use Rattle.cs_types.specs.Time.{grown_by, grown, with_leasts, has_used_slice, rotates, is_overtaken, is_to_yield, asks_at_tick, sliced};
+ghost use Rattle.core_lanes.specs.Queued.{IsOf};
+ghost use Rattle.core_lanes.specs.Lanes.{Beside, at, lane_state, room_of, Agree};
+ghost use Rattle.core_lanes.specs.Changes.{Changes};
+ghost use Rattle.core_pick.specs.Schedules.{IsPaid, Charges};
+ghost use Rattle.core_events.specs.Moments.{Advances};
+ghost use Rattle.core_events.specs.Time.{MayAdvance, is_run_by, with_growth_on, aged, with_least};
+
+use core_lanes::{Core, Lane, SiblingQueue, is_fair};
+use core_pick::charge;
+use cs_types::{Cpu, Pid, Policy, Steps, Task};
+use fair_queue::grow;
+use std::sync::ledger::Ledger;
+use task_table::TaskTable;
+
+/// The slice of an RR task, in ns (`RR_TIMESLICE`, which the kernel counts in ticks).
+const SLICE: u64 = 100_000_000;
+
+/// How long a fair task that is alone may run while a sibling is forced idle, in ns.
+const PATIENCE: u64 = 6_000_000;
+
+/// A running task as it is `delta` ns later.
+fn grown(task: Task, delta: u64) -> Task
+    requires policy { IsPolicy task.spec.policy }
+    requires used { task.used + delta < 2 ^ 64 }
+    requires vtime { task.vtime + 69 * delta < 2 ^ 128 }
+    ensures { result ≡ grown_by delta task.spec.policy task }
+{
+    match task.spec.policy {
+        Policy::Rr(_) => Task {
+            used: task.used + delta,
+            ..task
+        },
+        Policy::Fair(nice) => Task {
+            vtime: task.vtime + grow(delta, nice),
+            ..task
+        },
+        _ => task,
+    }
+}
+
+/// Whether one of the siblings runs the task with the pid.
+fn is_run_by<Q: Drop>(lanes: &[Lane<Q>], pid: Pid) -> bool
+    ensures { result ≡ is_run_by (map lane_state lanes.now) pid }
+{
+    lanes.iter().any(|lane| lane.runs(pid))
+}
+
+/// The task that the sibling runs grows by `delta` ns, unless a lower one runs it too.
+fn grow_on<Q: SiblingQueue, L: Ledger>(
+    core: &mut Core<Q>,
+    table: &mut TaskTable,
+    cpu: Cpu,
+    delta: u64,
+    steps: &mut Steps<L>,
+)
+    requires cpu { cpu < length core.old.lanes.items }
+    requires agree { Agree (core.old, table.old) }
+    requires used { All (λ task. task.used + delta < 2 ^ 64) table.old.tasks }
+    requires vtimes { All (λ task. task.vtime + 69 * delta < 2 ^ 128) table.old.tasks }
+    ensures { Changes (core.old, table.old) (core.new, table.new) (λ room. with_growth_on room cpu delta) }
+{
+    let Some(task) = core.running_on(table, cpu) else {
+        return;
+    };
+    if !is_run_by(&core.lanes[..cpu as usize], task.spec.pid) {
+        core.change(table, grown(task, delta), steps);
+    }
+}
+
+/// The running tasks grow by `delta` ns.
+fn grow_tasks<Q: SiblingQueue, L: Ledger>(
+    core: &mut Core<Q>,
+    table: &mut TaskTable,
+    delta: u64,
+    steps: &mut Steps<L>,
+)
+    requires agree { Agree (core.old, table.old) }
+    requires delta { delta ≤ 1000000000 }
+    requires used { All (λ task. task.used < 2 ^ 56) table.old.tasks }
+    requires vtimes { All (λ task. task.vtime < 2 ^ 100) table.old.tasks }
+    ensures { Changes (core.old, table.old) (core.new, table.new) (λ room. record room { tasks = map (grown room delta) room.tasks }) }
+{
+    for cpu in 0..core.lanes.len() {
+        grow_on(core, table, cpu as u8, delta, steps);
+    }
+}
+
+/// The siblings have run `delta` ns longer.
+fn age<Q: Drop>(lanes: &mut [Lane<Q>], delta: u64)
+    requires { All (λ sibling. sibling.ran + delta < 2 ^ 64) (map lane_state lanes.old) }
+    ensures states { map lane_state lanes.new ≡ map (aged delta) (map lane_state lanes.old) }
+    ensures numbers { map (λ lane. lane.number) lanes.new ≡ map (λ lane. lane.number) lanes.old }
+    ensures queues { map (λ lane. lane.queue) lanes.new ≡ map (λ lane. lane.queue) lanes.old }
+{
+    for lane in lanes.iter_mut() {
+        lane.ran += delta;
+    }
+}
+
+/// The least virtual time of the sibling becomes the greater of itself and the smallest of the fair tasks
+/// that are queued there.
+fn renew_least<Q: SiblingQueue, L: Ledger>(
+    core: &mut Core<Q>,
+    table: &TaskTable,
+    cpu: Cpu,
+    steps: &mut Steps<L>,
+)
+    requires cpu { cpu < length core.old.lanes.items }
+    requires agree { Agree (core.old, table.now) }
+    ensures { Changes (core.old, table.now) (core.new, table.now) (λ room. with_least room cpu) }
+{
+    let lane = &mut core.lanes[cpu as usize];
+    if let Some(smallest) = lane.queue.smallest_vtime(table, cpu, steps) {
+        lane.least = lane.least.max(smallest);
+    }
+}
+
+/// The least virtual times of the siblings are renewed.
+fn renew_leasts<Q: SiblingQueue, L: Ledger>(
+    core: &mut Core<Q>,
+    table: &TaskTable,
+    steps: &mut Steps<L>,
+)
+    requires agree { Agree (core.old, table.now) }
+    ensures { Changes (core.old, table.now) (core.new, table.now) with_leasts }
+{
+    for cpu in 0..core.lanes.len() {
+        renew_least(core, table, cpu as u8, steps);
+    }
+}
+
+/// The clock goes on by `delta` ns. The result is the new clock, in ns.
+pub fn advance<Q: SiblingQueue, L: Ledger>(
+    core: &mut Core<Q>,
+    table: &mut TaskTable,
+    delta: u64,
+    now: u64,
+    steps: &mut Steps<L>,
+) -> u64
+    requires may { MayAdvance now (core.old, table.old) }
+    requires delta { delta ≤ 1000000000 }
+    ensures clock { result ≡ now + delta }
+    ensures advances { Advances now delta (core.old, table.old) (core.new, table.new) }
+{
+    grow_tasks(core, table, delta, steps);
+    age(&mut core.lanes, delta);
+    renew_leasts(core, table, steps);
+    now + delta
+}
+
+/// Whether an RR task has used its slice.
+fn has_used_slice(task: &Task) -> bool
+    ensures { result ≡ has_used_slice task.now }
+{
+    match task.spec.policy {
+        Policy::Rr(_) => task.used >= SLICE,
+        _ => false,
+    }
+}
+
+/// Whether the running task goes behind the others of its priority.
+fn rotates<Q: SiblingQueue, L: Ledger>(
+    core: &Core<Q>,
+    table: &TaskTable,
+    cpu: Cpu,
+    task: &Task,
+    steps: &mut Steps<L>,
+) -> bool
+    requires cpu { cpu < length core.now.lanes.items }
+    requires agree { Agree (core.now, table.now) }
+    ensures { (beside : Beside) → result ≡ rotates (room_of beside (core.now, table.now)) cpu task.now }
+{
+    has_used_slice(task)
+        && core.lanes[cpu as usize]
+            .queue
+            .has_peer(task, table, cpu, steps)
+}
+
+/// Whether another fair task on the sibling has a smaller virtual time than the running fair one.
+fn is_overtaken<Q: SiblingQueue, L: Ledger>(
+    core: &Core<Q>,
+    table: &TaskTable,
+    cpu: Cpu,
+    task: &Task,
+    steps: &mut Steps<L>,
+) -> bool
+    requires cpu { cpu < length core.now.lanes.items }
+    requires agree { Agree (core.now, table.now) }
+    requires there { IsOf table.now.tasks task.now }
+    ensures { (beside : Beside) → result ≡ is_overtaken (room_of beside (core.now, table.now)) cpu task.now }
+{
+    if !is_fair(task) {
+        return false;
+    }
+    match core.lanes[cpu as usize]
+        .queue
+        .smallest_vtime(table, cpu, steps)
+    {
+        Some(smallest) => smallest < task.vtime,
+        None => false,
+    }
+}
+
+/// Whether the running task is to yield: it is fair, no other fair one is queued beside it, and it has run
+/// for so long while a sibling is forced idle.
+fn is_to_yield<Q: SiblingQueue, L: Ledger>(
+    core: &Core<Q>,
+    table: &TaskTable,
+    cpu: Cpu,
+    task: &Task,
+    steps: &mut Steps<L>,
+) -> bool
+    requires cpu { cpu < length core.now.lanes.items }
+    requires agree { Agree (core.now, table.now) }
+    ensures { (beside : Beside) → result ≡ is_to_yield (room_of beside (core.now, table.now)) cpu task.now }
+{
+    let lane = &core.lanes[cpu as usize];
+    is_fair(task)
+        && core.account.count() != 0
+        && lane.ran >= PATIENCE
+        && !lane.queue.has_peer(task, table, cpu, steps)
+}
+
+/// Whether the running task is asked to leave as a fair one: it is overtaken, or is to yield.
+fn is_asked<Q: SiblingQueue, L: Ledger>(
+    core: &Core<Q>,
+    table: &TaskTable,
+    cpu: Cpu,
+    task: &Task,
+    steps: &mut Steps<L>,
+) -> bool
+    requires cpu { cpu < length core.now.lanes.items }
+    requires agree { Agree (core.now, table.now) }
+    requires there { IsOf table.now.tasks task.now }
+    ensures { (beside : Beside) → let room = room_of beside (core.now, table.now) in
+        result ≡ (is_overtaken room cpu task.now || is_to_yield room cpu task.now) }
+{
+    is_overtaken(core, table, cpu, task, steps) || is_to_yield(core, table, cpu, task, steps)
+}
+
+/// Whether the tick asks for a reschedule, where the test says whether the running task goes behind the
+/// others of its priority.
+fn asks_at_tick<Q: SiblingQueue, L: Ledger>(
+    core: &Core<Q>,
+    table: &TaskTable,
+    cpu: Cpu,
+    task: &Task,
+    rotates: bool,
+    steps: &mut Steps<L>,
+) -> bool
+    requires cpu { cpu < length core.now.lanes.items }
+    requires agree { Agree (core.now, table.now) }
+    requires there { IsOf table.now.tasks task.now }
+    requires rotates { (beside : Beside) → rotates ≡ time.rotates (room_of beside (core.now, table.now)) cpu task.now }
+    ensures { (beside : Beside) → result ≡ asks_at_tick (room_of beside (core.now, table.now)) cpu task.now }
+{
+    rotates || is_asked(core, table, cpu, task, steps)
+}
+
+/// An RR task that has used its slice begins a new one, with the next stamp where it goes behind the others
+/// of its priority.
+fn begin_slice<Q: SiblingQueue, L: Ledger>(
+    core: &mut Core<Q>,
+    table: &mut TaskTable,
+    task: Task,
+    rotates: bool,
+    steps: &mut Steps<L>,
+)
+    requires there { IsOf table.old.tasks task }
+    requires agree { Agree (core.old, table.old) }
+    requires stamp { core.old.next_stamp + 1 < 2 ^ 64 }
+    ensures { (cpu : ℕ) → ((beside : Beside) → rotates ≡ time.rotates (room_of beside (core.old, table.old)) cpu task) →
+        Changes (core.old, table.old) (core.new, table.new) (λ room. sliced room cpu task) }
+{
+    if rotates {
+        let stamp = core.next_stamp;
+        core.next_stamp += 1;
+        let last = Task {
+            used: 0,
+            stamp,
+            ..task
+        };
+        core.change(table, last, steps);
+    } else if has_used_slice(&task) {
+        core.change(table, Task { used: 0, ..task }, steps);
+    }
+}
+
+/// The timer of the sibling, which is online, ticks. The open interval is charged first. The result says
+/// whether the tick asks for a reschedule.
+pub fn tick<Q: SiblingQueue, L: Ledger>(
+    core: &mut Core<Q>,
+    table: &mut TaskTable,
+    cpu: Cpu,
+    now: u64,
+    steps: &mut Steps<L>,
+) -> bool
+    requires cpu { cpu < length core.old.lanes.items }
+    requires agree { Agree (core.old, table.old) }
+    requires paid { IsPaid now core.old }
+    requires stamp { core.old.next_stamp + 1 < 2 ^ 64 }
+    ensures asks { (beside : Beside) → let room = room_of (at now beside) (core.old, table.old) in
+        Ticked result ≡ (ticked room cpu (running_on room cpu)).reply }
+    ensures charges { Charges now (core.old, table.old) (core.new, table.new) (λ room. (ticked room cpu (running_on room cpu)).room) }
+{
+    charge(core, table, now);
+    let Some(task) = core.running_on(table, cpu) else {
+        return false;
+    };
+    let rotates = rotates(core, table, cpu, &task, steps);
+    let asks = asks_at_tick(core, table, cpu, &task, rotates, steps);
+    begin_slice(core, table, task, rotates, steps);
+    core.flag(cpu, asks);
+    asks
+}

@@ -1,0 +1,5 @@
+pub mod Stays
+pub mod Queues
+pub mod Replaced
+pub mod Starts
+pub mod Lists

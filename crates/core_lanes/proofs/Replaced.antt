@@ -1,0 +1,98 @@
+-- Replaced: a task in the place of the one with its pid.
+use Rattle.std.proofs.Common.{◌≡◌, ◌⊎◌, inl, inr, ℕ, ◌+◌, ◌<◌, true, false, List, [], ◌∷◌, map, arith, refl, subst, sym, ap, ◌∙◌, Some}
+use Rattle.std.specs.Prelude.{find, ◌==◌, All, IsTrue}
+use Rattle.std.proofs.lemmas.Bool.{cond_both, cond-true, cond-false, cases_Bool, eqb-true, eq-eqb, ne_eqb}
+use Rattle.task_table.specs.Table.{Rises, RisesFrom}
+use Rattle.std.proofs.lemmas.List.Elements.{All-map, All-weaker}
+use Rattle.cs_types.specs.declared.task.Task.{Task}
+use Rattle.cs_types.specs.Room.{has_pid}
+use Rattle.cs_types.proofs.Spots.{replaced_by, find-replaced}
+use Rattle.forceidle_account.specs.Charges.{Charges, has_total}
+use Rattle.core_lanes.specs.Queued.{IsOf, HasOwnStamp, AreStamped}
+use Rattle.core_lanes.specs.Lanes.{MayStamp}
+use Rattle.core_lanes.specs.Changes.{identity_of}
+
+-- what holds of all, and of the one that takes a place
+pub All-replaced : (P : Task → Type 0) (task : Task) (tasks : List Task) → P task → All P tasks → All P (map (replaced_by task) tasks)
+All-replaced P task tasks here all =
+    All-map P (replaced_by task) tasks
+    (All-weaker P (λ (t : Task). P (replaced_by task t)) (λ t h. cond_both (has_pid task.spec.pid t) task t P (λ _. here) (λ _. h)) tasks all)
+
+module _ (task old : Task) (tasks : List Task) (there : find (has_pid task.spec.pid) tasks ≡ Some old) where
+  -- it is one of them
+  pub is_of : IsOf (map (replaced_by task) tasks) task
+  is_of = find-replaced task old tasks there task.spec.pid ∙ cond-true _ (Some task) (find (has_pid task.spec.pid) tasks) (eq-eqb task.spec.pid task.spec.pid refl)
+
+  -- and each other one was there
+  pub was_of : (other : Task) → IsOf (map (replaced_by task) tasks) other → (other ≡ task) ⊎ IsOf tasks other
+  was_of other now =
+      let found = sym (find-replaced task old tasks there other.spec.pid) ∙ now in
+      elim (cases_Bool (other.spec.pid == task.spec.pid)) [
+        | inl same ↦
+            let is : Some task ≡ Some other = sym (cond-true _ (Some task) (find (has_pid other.spec.pid) tasks) same) ∙ found in
+            inl cc
+        | inr differs ↦ inr (sym (cond-false _ (Some task) (find (has_pid other.spec.pid) tasks) differs) ∙ found)
+      ]
+
+  -- so it has a stamp of its own still
+  pub own_stamp : HasOwnStamp tasks task → HasOwnStamp (map (replaced_by task) tasks) task
+  own_stamp own other now queued same =
+      elim (was_of other now) [
+        | inl is ↦ ap (λ (t : Task). t.spec.pid) is
+        | inr before ↦ own other before queued same
+      ]
+
+  pub stamped-replaced : (next : ℕ) → (IsTrue task.queued → MayStamp next tasks task) → AreStamped next tasks → AreStamped next (map (replaced_by task) tasks)
+  stamped-replaced next may stamped = record {
+    below = All-replaced (λ (t : Task). IsTrue t.queued → t.stamp < next) task tasks (λ queued. (may queued).below) stamped.below;
+    distinct = λ one now queued other now_other queued_other same.
+        elim (was_of one now) [
+          | inl is ↦
+              own_stamp (may (subst (λ (t : Task). IsTrue t.queued) is queued)).own other now_other queued_other (same ∙ ap (λ (t : Task). t.stamp) is)
+              ∙ ap (λ (t : Task). t.spec.pid) (sym is)
+          | inr before ↦
+              elim (was_of other now_other) [
+                | inl is ↦
+                    ap (λ (t : Task). t.spec.pid) is
+                    ∙ sym ((may (subst (λ (t : Task). IsTrue t.queued) is queued_other)).own one before queued (sym same ∙ ap (λ (t : Task). t.stamp) is))
+                | inr was ↦ stamped.distinct one before queued other was queued_other same
+              ]
+        ];
+  }
+
+-- each keeps its total, since it keeps its pid
+pub totals-replaced : (charges : Charges) (task : Task) (tasks : List Task) → All (λ task. IsTrue (has_total charges task.spec.pid)) tasks →
+    All (λ task. IsTrue (has_total charges task.spec.pid)) (map (replaced_by task) tasks)
+totals-replaced charges task tasks all =
+    All-map (λ (t : Task). IsTrue (has_total charges t.spec.pid)) (replaced_by task) tasks
+    (All-weaker (λ (t : Task). IsTrue (has_total charges t.spec.pid)) (λ (t : Task). IsTrue (has_total charges (replaced_by task t).spec.pid))
+    (λ t has. cond_both (has_pid task.spec.pid t) task t (λ (one : Task). IsTrue (has_total charges one.spec.pid))
+    (λ same. subst (λ pid. IsTrue (has_total charges pid)) (eqb-true t.spec.pid task.spec.pid same) has) (λ _. has)) tasks all)
+
+-- and each its pid and cookie, where the one that takes a place has the cookie of the one that had it
+pub identities-replaced : (task old : Task) (tasks : List Task) → Rises tasks → find (has_pid task.spec.pid) tasks ≡ Some old → task.cookie ≡ old.cookie →
+    map identity_of (map (replaced_by task) tasks) ≡ map identity_of tasks
+identities-replaced task old tasks rises there cookie = go 0 tasks rises there where
+  same_pid : (t : Task) → has_pid task.spec.pid t ≡ true → t.spec.pid ≡ task.spec.pid
+  same_pid t is = eqb-true t.spec.pid task.spec.pid is
+
+  past : (low : ℕ) (ts : List Task) → task.spec.pid < low → RisesFrom low ts → map identity_of (map (replaced_by task) ts) ≡ map identity_of ts
+  past low [] below rises = refl
+  past low (t ∷ ts) below rises =
+      let apart : has_pid task.spec.pid t ≡ false = ne_eqb t.spec.pid task.spec.pid (λ e. omega (arith, e, below, rises.0)) in
+      (λ i. identity_of (cond-false (has_pid task.spec.pid t) task t apart i) ∷ past (t.spec.pid + 1) ts (omega (arith, below, rises.0)) rises.1 i)
+
+  go : (low : ℕ) (ts : List Task) → RisesFrom low ts → find (has_pid task.spec.pid) ts ≡ Some old → map identity_of (map (replaced_by task) ts) ≡ map identity_of ts
+  go low [] rises found = refl
+  go low (t ∷ ts) rises found =
+      elim (cases_Bool (has_pid task.spec.pid t)) [
+        | inl here ↦
+            let same : Some t ≡ Some old = sym (cond-true _ (Some t) (find (has_pid task.spec.pid) ts) here) ∙ found in
+            let is : t ≡ old = cc in
+            let identity : identity_of (replaced_by task t) ≡ identity_of t =
+            ap identity_of (cond-true (has_pid task.spec.pid t) task t here) ∙ (λ i. (sym (same_pid t here) i, (cookie ∙ ap (λ (o : Task). o.cookie) (sym is)) i)) in
+            (λ i. identity i ∷ past (t.spec.pid + 1) ts (omega (arith, same_pid t here)) rises.1 i)
+        | inr other ↦
+            let rest = go (t.spec.pid + 1) ts rises.1 (sym (cond-false _ (Some t) (find (has_pid task.spec.pid) ts) other) ∙ found) in
+            (λ i. identity_of (cond-false (has_pid task.spec.pid t) task t other i) ∷ rest i)
+      ]

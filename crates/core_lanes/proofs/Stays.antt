@@ -1,0 +1,137 @@
+-- Stays: what a change of a core and its table keeps.
+use Rattle.std.proofs.Common.{◌≡◌, ℕ, ◌<◌, ◌≤◌, Bool, true, false, cond, List, [], ◌∷◌, map, refl, subst, sym, ap, ◌∙◌, length, set, get_or, Option, Some, ◌+◌, arith}
+use Rattle.std.specs.Prelude.{All, IfSome, IsTrue, find, slice_get}
+use Rattle.std.proofs.lemmas.List.Elements.{All-head, All-tail, All-weaker}
+use Rattle.std.proofs.lemmas.List.{get_or-map, length-map}
+use Rattle.std.proofs.Math.Seq.{map-set_same}
+use Rattle.cs_types.specs.declared.task.Task.{Task}
+use Rattle.cs_types.specs.Room.{absent, has_pid}
+use Rattle.forceidle_account.specs.Charges.{Charges, has_total}
+use Rattle.task_table.specs.Table.{Table, IsSound as IsTable}
+use Rattle.core_lanes.specs.Queued.{queued_at, AreStamped}
+use Rattle.core_lanes.specs.Lanes.{Beside, BareCore, bare, lane_state, IsFit, queues_of, MayStamp}
+use Rattle.core_lanes.specs.Changes.{Stays, identity_of}
+use Rattle.core_lanes.specs.declared.queue.SiblingQueue.{Ghosts}
+use Rattle.core_lanes.specs.declared.lane.Lane.{Lane}
+use Rattle.core_lanes.specs.declared.lanes.Core.{Core}
+
+-- something beside a core: what is said of it with anything beside it is said with this
+pub some_beside : Beside
+some_beside = record { cookie_limit = 0; user_top = 0; clock = 0; ended = []; next_pid = 0; next_cookie = 0; intervals = [] }
+
+-- what stays through two changes stays through both
+pub both_stay : {Q : Type 0} {g : Ghosts Q} {old mid new : Core Q g × Table} → Stays old mid → Stays mid new → Stays old new
+both_stay first second = record { agree = λ agree. second.agree (first.agree agree); kept = second.kept ∙ first.kept }
+
+-- and where nothing changes
+pub same_stays : {Q : Type 0} {g : Ghosts Q} {both : Core Q g × Table} → Stays both both
+same_stays = record { agree = λ agree. agree; kept = refl }
+
+-- as many queues are as many siblings
+as_many : {Q : Type 0} {g : Ghosts Q} (old new : Core Q g) → queues_of new ≡ queues_of old → length new.lanes.items ≡ length old.lanes.items
+as_many {Q} old new queues =
+    sym (length-map new.lanes.items (λ (lane : Lane Q). lane.queue)) ∙ ap length queues ∙ length-map old.lanes.items (λ (lane : Lane Q). lane.queue)
+
+-- So it stays where the queues, the table, the next stamp and the totals do.
+pub alike_stays : {Q : Type 0} {g : Ghosts Q} (old new : Core Q g × Table) → queues_of new.0 ≡ queues_of old.0 → new.1 ≡ old.1 →
+    new.0.next_stamp ≡ old.0.next_stamp → new.0.totals ≡ old.0.totals → Stays old new
+alike_stays {Q} {g} old new queues table stamp totals =
+    let many = as_many old.0 new.0 queues in
+    record {
+      agree = λ agree. record {
+        table = subst IsTable (sym table) agree.table;
+        few_tasks = subst (λ (t : Table). t.limit ≤ 256) (sym table) agree.few_tasks;
+        tasks = subst (λ (t : Table). All (IsFit (length new.0.lanes.items)) t.tasks) (sym table)
+            (subst (λ n. All (IsFit n) old.1.tasks) (sym many) agree.tasks);
+        stamped = subst (λ (t : Table). AreStamped new.0.next_stamp t.tasks) (sym table)
+            (subst (λ n. AreStamped n old.1.tasks) (sym stamp) agree.stamped);
+        totals = subst (λ (t : Table). All (λ (task : Task). IsTrue (has_total new.0.totals task.spec.pid)) t.tasks) (sym table)
+            (subst (λ (c : Charges). All (λ (task : Task). IsTrue (has_total c task.spec.pid)) old.1.tasks) (sym totals) agree.totals);
+        held = λ cpu queue at.
+            subst (λ (t : Table). g.holds queue t.limit (queued_at t.tasks cpu)) (sym table)
+            (agree.held cpu queue (ap (λ (qs : List Q). slice_get qs cpu) (sym queues) ∙ at));
+      };
+      kept = λ i. record {
+        siblings = many i;
+        limit = (table i).limit;
+        identities = map identity_of (table i).tasks;
+        known = λ pid. has_total (totals i) pid;
+        spare = (totals i).spare;
+      };
+    }
+
+-- ---- a sibling
+
+-- what a sibling at a place stands for
+pub lane_at : {Q : Type 0} (lanes : List (Lane Q)) (cpu : ℕ) (x : Lane Q) → cpu < length lanes → x ≡ get_or lanes cpu x →
+    get_or (map lane_state lanes) cpu absent ≡ lane_state x
+lane_at lanes cpu x below is = get_or-map lane_state lanes cpu x absent below ∙ ap lane_state (sym is)
+
+-- its own number
+abbrev pub number_of : {Q : Type 0} → Lane Q → ℕ
+number_of lane = lane.number
+
+-- and its queue
+abbrev pub queue_of : {Q : Type 0} → Lane Q → Q
+queue_of lane = lane.queue
+
+-- a sibling that keeps its own number, and its queue
+pub numbers_kept : {Q : Type 0} (lanes : List (Lane Q)) (cpu : ℕ) (x y : Lane Q) → x ≡ get_or lanes cpu x → y.number ≡ x.number →
+    map number_of (set lanes cpu y) ≡ map number_of lanes
+numbers_kept lanes cpu x y is same = map-set_same number_of lanes cpu y x (same ∙ ap number_of is)
+
+pub queues_kept : {Q : Type 0} (lanes : List (Lane Q)) (cpu : ℕ) (x y : Lane Q) → x ≡ get_or lanes cpu x → y.queue ≡ x.queue →
+    map queue_of (set lanes cpu y) ≡ map queue_of lanes
+queues_kept lanes cpu x y is same = map-set_same queue_of lanes cpu y x (same ∙ ap queue_of is)
+
+-- cores that are alike but for their queues have as many siblings
+pub as_many_bare : {Q : Type 0} {g : Ghosts Q} (old new : Core Q g) → bare new ≡ bare old → length new.lanes.items ≡ length old.lanes.items
+as_many_bare old new same =
+    sym (length-map new.lanes.items lane_state) ∙ ap (λ (core : BareCore). length core.siblings) same ∙ length-map old.lanes.items lane_state
+
+-- what holds of each task of a list holds of one that was found
+pub found_in : (P : Task → Type 0) (pid : ℕ) (tasks : List Task) (task : Task) → All P tasks → find (has_pid pid) tasks ≡ Some task → P task
+found_in P pid tasks task all found = subst (λ (one : Option Task). IfSome one P) found (All-find P (has_pid pid) tasks all) where
+  All-find : (P : Task → Type 0) (p : Task → Bool) (xs : List Task) → All P xs → IfSome (find p xs) P
+  All-find P p [] each = tt
+  All-find P p (x ∷ xs) each =
+      elim (p x) as (λ b. IfSome (cond b (Some x) (find p xs)) P) [
+        | true ↦ All-head P x xs each
+        | false ↦ All-find P p xs (All-tail P x xs each)
+      ]
+
+-- ---- stamps
+
+-- stamps below the next one are below each later one
+pub stamped-later : {next later : ℕ} {tasks : List Task} → next ≤ later → AreStamped next tasks → AreStamped later tasks
+stamped-later {next} {later} {tasks} above stamped = record {
+  below = All-weaker (λ (t : Task). IsTrue t.queued → t.stamp < next) (λ (t : Task). IsTrue t.queued → t.stamp < later)
+      (λ t below queued. omega (arith, below queued, above)) tasks stamped.below;
+  distinct = stamped.distinct;
+}
+
+-- The next stamp is nobody's.
+pub stamp_next : (next : ℕ) (tasks : List Task) (task : Task) → task.stamp ≡ next → AreStamped next tasks → MayStamp (next + 1) tasks task
+stamp_next next tasks task is stamped = record {
+  below = omega (arith, is);
+  own = λ other there queued same.
+      let low = found_in (λ (t : Task). IsTrue t.queued → t.stamp < next) other.spec.pid tasks other stamped.below there queued in
+      absurd (omega (arith, low, same, is));
+}
+
+-- a core whose next stamp is a later one
+pub stamped_later : {Q : Type 0} {g : Ghosts Q} (old new : Core Q g) (table : Table) → queues_of new ≡ queues_of old → new.totals ≡ old.totals →
+    old.next_stamp ≤ new.next_stamp → Stays (old, table) (new, table)
+stamped_later {Q} {g} old new table queues totals later =
+    let many = as_many old new queues in
+    record {
+      agree = λ agree. record {
+        table = agree.table;
+        few_tasks = agree.few_tasks;
+        tasks = subst (λ n. All (IsFit n) table.tasks) (sym many) agree.tasks;
+        stamped = stamped-later later agree.stamped;
+        totals = subst (λ (c : Charges). All (λ (task : Task). IsTrue (has_total c task.spec.pid)) table.tasks) (sym totals) agree.totals;
+        held = λ cpu queue at. agree.held cpu queue (ap (λ (qs : List Q). slice_get qs cpu) (sym queues) ∙ at);
+      };
+      kept = λ i. record { siblings = many i; limit = table.limit; identities = map identity_of table.tasks; known = λ pid. has_total (totals i) pid; spare = (totals i).spare };
+    }

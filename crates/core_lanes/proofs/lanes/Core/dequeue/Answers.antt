@@ -1,0 +1,24 @@
+use Rattle.std.proofs.Common.{ap, ◌∙◌}
+use Rattle.core_lanes.specs.Numbers.{touched}
+use Rattle.core_lanes.proofs.Stays.{both_stay}
+use Rattle.core_lanes.proofs.lanes.Core.dequeue.Goals as goal
+
+pub change-requires-clause-knows : goal.change-requires-clause-knows
+change-requires-clause-knows g c =
+    let known = c.requires.knows in
+    record {
+      known = record {
+        apart = record { old = known.apart.old; there = known.apart.there; fits = record { home = known.apart.fits.home; policy = known.apart.fits.policy } };
+        cookie = known.cookie;
+      };
+      stamp = λ queued. absurd cc;
+    }
+
+pub returns : goal.returns
+returns g c =
+    let touch = c.touch.ensures c.change.new.table in
+    record {
+      room = λ beside. touch.room beside ∙ c.change.ensures.room beside;
+      numbers = touch.numbers ∙ ap (touched 1) c.change.ensures.numbers;
+      stays = both_stay c.change.ensures.stays touch.stays;
+    }

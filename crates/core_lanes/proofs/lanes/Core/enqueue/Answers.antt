@@ -1,0 +1,32 @@
+use Rattle.std.proofs.Common.{◌+◌, ◌≤◌, ap, ◌∙◌, arith, refl}
+use Rattle.core_lanes.specs.Numbers.{touched}
+use Rattle.core_lanes.proofs.Stays.{both_stay, stamp_next, stamped_later}
+use Rattle.core_lanes.proofs.lanes.Core.enqueue.Goals as goal
+
+pub change-requires-clause-knows : goal.change-requires-clause-knows
+change-requires-clause-knows g c =
+    let known = c.requires.knows in
+    record {
+      known = record {
+        apart = record { old = known.apart.old; there = known.apart.there; fits = record { home = known.apart.fits.home; policy = known.apart.fits.policy } };
+        cookie = known.cookie;
+      };
+      stamp = λ queued. stamp_next c.args.self.now.next_stamp c.args.table.now.tasks _ refl c.requires.agree.stamped;
+    }
+
+pub change-requires-clause-agree : goal.change-requires-clause-agree
+change-requires-clause-agree g c =
+    let next = c.args.self.now.next_stamp in
+    let later : next ≤ next + 1 = omega arith in
+    (stamped_later c.args.self.now _ c.args.table.now refl refl later).agree c.requires.agree
+
+pub returns : goal.returns
+returns g c =
+    let touch = c.touch.ensures c.change.new.table in
+    let next = c.args.self.now.next_stamp in
+    let later : next ≤ next + 1 = omega arith in
+    record {
+      room = λ beside. touch.room beside ∙ c.change.ensures.room beside;
+      numbers = touch.numbers ∙ ap (touched 1) c.change.ensures.numbers;
+      stays = both_stay (stamped_later c.args.self.now _ c.args.table.now refl refl later) (both_stay c.change.ensures.stays touch.stays);
+    }

@@ -1,0 +1,37 @@
+use Rattle.std.proofs.Common.{ℕ, refl, subst, ap}
+use Rattle.std.proofs.lemmas.List.{map-set}
+use Rattle.std.proofs.Math.Seq.{map-set_same}
+use Rattle.core_lanes.specs.Queued.{queued_at, others}
+use Rattle.core_lanes.specs.Lanes.{lane_state, queues_of}
+use Rattle.core_lanes.proofs.Stays.{number_of, queue_of}
+use Rattle.core_lanes.proofs.Queues.{held-set, others-absent, off_elsewhere, off_asleep}
+use Rattle.core_lanes.proofs.lanes.Core.put.Goals as goal
+
+pub returns-then-task-clause-bare : goal.returns-then-task-clause-bare
+returns-then-task-clause-bare g c =
+    let lanes = c.args.self.now.lanes.items in
+    let lane = c.index_mut.result.now in
+    let after = record lane { queue = c.put.new.self } in
+    rw (map-set_same lane_state lanes c.args.task.now.home after lane (ap lane_state c.index_mut.ensures.value), map-set_same number_of lanes c.args.task.now.home after lane (ap number_of c.index_mut.ensures.value)) refl
+
+pub returns-then-task-clause-held : goal.returns-then-task-clause-held
+returns-then-task-clause-held g c =
+    let task = c.args.task.now in
+    let tasks = c.args.table.now.tasks in
+    let limit = c.args.table.now.limit in
+    let pid = task.spec.pid in
+    let lane = c.index_mut.result.now in
+    let after = record lane { queue = c.put.new.self } in
+    rw (map-set queue_of c.args.self.now.lanes.items task.home after)
+    (held-set (λ cpu x. g.Q.SiblingQueue.holds x limit (others pid (queued_at tasks cpu))) (λ cpu x. g.Q.SiblingQueue.holds x limit (queued_at tasks cpu)) (queues_of c.args.self.now) task.home c.put.new.self
+    (λ cpu x other held. let off = λ (n : ℕ). off_elsewhere task cpu other in subst (λ qs. g.Q.SiblingQueue.holds x limit qs) (others-absent tasks task cpu c.requires.table.rising c.requires.there (off cpu)) held)
+    c.requires.held c.put.ensures)
+
+pub returns-else-task-clause-held : goal.returns-else-task-clause-held
+returns-else-task-clause-held g c cpu x at =
+    let task = c.args.task.now in
+    let tasks = c.args.table.now.tasks in
+    let limit = c.args.table.now.limit in
+    let off = λ (n : ℕ). off_asleep task cpu c.if-task.false in
+    let held = c.requires.held cpu x at in
+    subst (λ qs. g.Q.SiblingQueue.holds x limit qs) (others-absent tasks task cpu c.requires.table.rising c.requires.there (off cpu)) held

@@ -1,0 +1,67 @@
+-- Changes: how one core and its table become others.
+use Rattle.std.specs.Prelude.{◌≡◌, ℕ, Bool, List, length, map}
+use Rattle.cs_types.specs.declared.task.Task.{Task}
+use Rattle.cs_types.specs.Room.{RoomState}
+use Rattle.forceidle_account.specs.Charges.{has_total}
+use Rattle.task_table.specs.Table.{Table}
+use Rattle.core_lanes.specs.declared.queue.SiblingQueue.{Ghosts}
+use Rattle.core_lanes.specs.declared.lanes.Core.{Core}
+use Rattle.core_lanes.specs.Lanes.{Beside, at, beside_after, room_of, Agree}
+use Rattle.core_lanes.specs.Numbers.{numbers_of, booked, touched}
+
+-- ---- what stays
+
+-- what every change of this crate and of those above it keeps: how many siblings there are and how many tasks may live, each
+-- task's pid and cookie, whose totals are kept, and how many more may be
+pub record Kept : Type 0 where
+  pub siblings : ℕ
+  pub limit : ℕ
+  pub identities : List (ℕ × ℕ)
+  pub known : ℕ → Bool
+  pub spare : ℕ
+
+-- a task's pid and cookie
+abbrev pub identity_of : Task → ℕ × ℕ
+identity_of task = (task.spec.pid, task.cookie)
+
+abbrev pub kept_of : {Q : Type 0} {g : Ghosts Q} → Core Q g × Table → Kept
+kept_of both =
+    record {
+      siblings = length both.0.lanes.items;
+      limit = both.1.limit;
+      identities = map identity_of both.1.tasks;
+      known = λ pid. has_total both.0.totals pid;
+      spare = both.0.totals.spare;
+    }
+
+-- that stays, and where they agreed they agree still
+pub record Stays {Q : Type 0} {g : Ghosts Q} (old new : Core Q g × Table) : Type 0 where
+  pub agree : Agree old → Agree new
+  pub kept : kept_of new ≡ kept_of old
+
+-- ---- changes
+
+-- the new room is the old one after this change, whatever is beside it
+abbrev pub Becomes : {Q : Type 0} {g : Ghosts Q} → Core Q g × Table → Core Q g × Table → (RoomState → RoomState) → Type 0
+Becomes old new change = (beside : Beside) → room_of beside new ≡ change (room_of beside old)
+
+-- the same with the same numbers
+pub record Changes {Q : Type 0} {g : Ghosts Q} (old new : Core Q g × Table) (change : RoomState → RoomState) : Type 0 where
+  pub room : Becomes old new change
+  pub numbers : numbers_of new.0 ≡ numbers_of old.0
+  pub stays : Stays old new
+
+-- and where the queues were touched this number of times
+pub record Touches {Q : Type 0} {g : Ghosts Q} (count : ℕ) (old new : Core Q g × Table) (change : RoomState → RoomState) : Type 0 where
+  pub room : Becomes old new change
+  pub numbers : numbers_of new.0 ≡ touched count (numbers_of old.0)
+  pub stays : Stays old new
+
+-- the same of a change that charges the open interval, at this moment
+abbrev pub BecomesCharged : {Q : Type 0} {g : Ghosts Q} → ℕ → Core Q g × Table → Core Q g × Table → (RoomState → RoomState) → Type 0
+BecomesCharged now old new change =
+    (beside : Beside) → let room = change (room_of (at now beside) old) in room_of (beside_after (at now beside) room) new ≡ room
+
+-- the books of the core are those of the room's recorded intervals
+abbrev pub IsBooked : {Q : Type 0} {g : Ghosts Q} → RoomState → Core Q g → Type 0
+IsBooked room core = numbers_of core ≡ booked room (numbers_of core)

@@ -1,0 +1,181 @@
+-- Lanes: the room that a core and a table stand for, and that these agree.
+use Rattle.std.specs.Prelude.{◌≡◌, ℕ, ◌^◌, ◌<◌, ◌≤◌, List, length, map, find, replicate, Some, None, All, IsTrue, slice_get, unwrap_or}
+use Rattle.cs_types.specs.declared.task.Task.{Task}
+use Rattle.cs_types.specs.declared.view.CpuView.{CpuView}
+use Rattle.cs_types.specs.Scenario.{IsPolicy}
+use Rattle.cs_types.specs.Room.{SiblingState, idle, RoomState, Interval, has_pid}
+use Rattle.forceidle_account.specs.Account.{Account}
+use Rattle.forceidle_account.specs.Charges.{Charges, has_total}
+use Rattle.task_table.specs.Table.{Table, IsSound as IsTable}
+use Rattle.core_lanes.specs.Queued.{queued_at, others, AreStamped, HasOwnStamp}
+use Rattle.core_lanes.specs.declared.queue.SiblingQueue.{Ghosts}
+use Rattle.core_lanes.specs.declared.lane.Lane.{Lane}
+use Rattle.core_lanes.specs.declared.lanes.Core.{Core}
+
+-- ---- the room
+
+-- a sibling, but for its own number and its queue
+abbrev pub lane_state : {Q : Type 0} → Lane Q → SiblingState
+lane_state lane =
+    record {
+      online = lane.online;
+      run = lane.run;
+      pending = lane.pending;
+      waiting = lane.waiting;
+      occupation = lane.idle_occupation;
+      least = lane.least;
+      snapshot = lane.snapshot;
+      ran = lane.ran;
+      place = lane.place;
+    }
+
+-- what a machine shows of it
+abbrev pub lane_view : {Q : Type 0} → Lane Q → CpuView
+lane_view lane =
+    record { online = lane.online; run = unwrap_or lane.run 0; number = lane.number; pending = lane.pending }
+
+-- a core but for its queues
+pub record BareCore : Type 0 where
+  pub cookie : ℕ
+  pub task_number : ℕ
+  pub pick_number : ℕ
+  pub next_stamp : ℕ
+  pub account : Account
+  pub totals : Charges
+  pub siblings : List SiblingState
+  pub own : List ℕ
+
+abbrev pub bare : {Q : Type 0} {g : Ghosts Q} → Core Q g → BareCore
+bare core =
+    record {
+      cookie = core.cookie;
+      task_number = core.task_number;
+      pick_number = core.pick_number;
+      next_stamp = core.next_stamp;
+      account = core.account;
+      totals = core.totals;
+      siblings = map lane_state core.lanes.items;
+      own = map (λ lane. lane.number) core.lanes.items;
+    }
+
+-- a core before the first step
+abbrev pub bare_start : ℕ → Charges → BareCore
+bare_start siblings totals =
+    record {
+      cookie = 0;
+      task_number = 0;
+      pick_number = 0;
+      next_stamp = 0;
+      account = record { count = 0; occupation = 0; started = None; intervals = 0 };
+      totals = totals;
+      siblings = replicate siblings idle;
+      own = replicate siblings 0;
+    }
+
+-- what a room has, and a core and a table do not keep
+pub record Beside : Type 0 where
+  pub cookie_limit : ℕ
+  pub user_top : ℕ
+  pub clock : ℕ
+  pub ended : List ℕ
+  pub next_pid : ℕ
+  pub next_cookie : ℕ
+  pub intervals : List Interval
+
+-- the same at this moment
+abbrev pub at : ℕ → Beside → Beside
+at now beside = record beside { clock = now }
+
+-- and with the recorded intervals of this room
+abbrev pub beside_after : Beside → RoomState → Beside
+beside_after beside room = record beside { intervals = room.intervals }
+
+-- the room that a core and a table stand for, with what is beside them
+abbrev pub room_by : Beside → BareCore → Table → RoomState
+room_by beside core table =
+    record {
+      task_limit = table.limit;
+      cookie_limit = beside.cookie_limit;
+      user_top = beside.user_top;
+      clock = beside.clock;
+      tasks = table.tasks;
+      ended = beside.ended;
+      siblings = core.siblings;
+      next_pid = beside.next_pid;
+      next_stamp = core.next_stamp;
+      next_cookie = beside.next_cookie;
+      core_cookie = core.cookie;
+      forced = core.account.count;
+      occupation = core.account.occupation;
+      started = core.account.started;
+      intervals = beside.intervals;
+    }
+
+abbrev pub room_of : {Q : Type 0} {g : Ghosts Q} → Beside → Core Q g × Table → RoomState
+room_of beside both = room_by beside (bare both.0) both.1
+
+-- ---- that they agree
+
+-- the task is at home on one of this number of siblings, and its policy keeps its limits
+pub record IsFit (count : ℕ) (task : Task) : Type 0 where
+  pub home : task.home < count
+  pub policy : IsPolicy task.spec.policy
+
+-- the queues, by rising sibling
+abbrev pub queues_of : {Q : Type 0} {g : Ghosts Q} → Core Q g → List Q
+queues_of core = map (λ lane. lane.queue) core.lanes.items
+
+-- each queue holds the tasks that the table has queued on its sibling, and can take as many as the table
+abbrev pub AreHeld : {Q : Type 0} {g : Ghosts Q} → Core Q g × Table → Type 0
+AreHeld {Q} {g} both =
+    (cpu : ℕ) (queue : Q) → slice_get (queues_of both.0) cpu ≡ Some queue → g.holds queue both.1.limit (queued_at both.1.tasks cpu)
+
+-- the same but for the task with this pid, which none of them holds
+abbrev pub AreHeldBut : {Q : Type 0} {g : Ghosts Q} → ℕ → Core Q g × Table → Type 0
+AreHeldBut {Q} {g} pid both =
+    (cpu : ℕ) (queue : Q) → slice_get (queues_of both.0) cpu ≡ Some queue → g.holds queue both.1.limit (others pid (queued_at both.1.tasks cpu))
+
+-- A core and a table agree: at most 256 tasks live; each task fits the siblings, has a total, and
+-- where it is queued a stamp of its own; and the queues hold the queued tasks.
+pub record Agree {Q : Type 0} {g : Ghosts Q} (both : Core Q g × Table) : Type 0 where
+  pub table : IsTable both.1
+  pub few_tasks : both.1.limit ≤ 256
+  pub tasks : All (IsFit (length both.0.lanes.items)) both.1.tasks
+  pub stamped : AreStamped both.0.next_stamp both.1.tasks
+  pub totals : All (λ task. IsTrue (has_total both.0.totals task.spec.pid)) both.1.tasks
+  pub held : AreHeld both
+
+-- a stamp that a queued task may have
+pub record MayStamp (next : ℕ) (tasks : List Task) (task : Task) : Type 0 where
+  pub below : task.stamp < next
+  pub own : HasOwnStamp tasks task
+
+-- the table has a task with this one's pid, and this one fits in its place: but for its stamp, in its place where its stamp
+-- may stand, and that with its cookie
+pub record FitsApart {Q : Type 0} {g : Ghosts Q} (both : Core Q g × Table) (task : Task) : Type 0 where
+  pub old : Task
+  pub there : find (has_pid task.spec.pid) both.1.tasks ≡ Some old
+  pub fits : IsFit (length both.0.lanes.items) task
+
+pub record FitsIn {Q : Type 0} {g : Ghosts Q} (both : Core Q g × Table) (task : Task) : Type 0 where
+  pub apart : FitsApart both task
+  pub stamp : IsTrue task.queued → MayStamp both.0.next_stamp both.1.tasks task
+
+pub record KnowsApart {Q : Type 0} {g : Ghosts Q} (both : Core Q g × Table) (task : Task) : Type 0 where
+  pub apart : FitsApart both task
+  pub cookie : task.cookie ≡ apart.old.cookie
+
+pub record Knows {Q : Type 0} {g : Ghosts Q} (both : Core Q g × Table) (task : Task) : Type 0 where
+  pub known : KnowsApart both task
+  pub stamp : IsTrue task.queued → MayStamp both.0.next_stamp both.1.tasks task
+
+-- ---- the times
+
+-- the virtual times, the leasts and the snapshots are below this bound, far above what any scenario comes to
+pub record AreLow (siblings : List SiblingState) (tasks : List Task) : Type 0 where
+  pub vtimes : All (λ task. task.vtime < 2 ^ 100) tasks
+  pub leasts : All (λ sibling. sibling.least < 2 ^ 100) siblings
+  pub snapshots : All (λ sibling. sibling.snapshot < 2 ^ 100) siblings
+
+abbrev pub HasLowTimes : {Q : Type 0} {g : Ghosts Q} → Core Q g × Table → Type 0
+HasLowTimes both = AreLow (map lane_state both.0.lanes.items) both.1.tasks

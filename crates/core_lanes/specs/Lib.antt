@@ -1,0 +1,4 @@
+pub mod Queued
+pub mod Lanes
+pub mod Numbers
+pub mod Changes

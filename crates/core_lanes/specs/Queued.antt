@@ -1,0 +1,62 @@
+-- Queued: the tasks of a table that are queued on a sibling, as its queue has them, and what it is asked of them.
+use Rattle.std.specs.Prelude.{◌≡◌, ℕ, ◌<◌, Bool, ◌==◌, ◌&&◌, not, nat_lt, List, map, filter, find, count_by, Option, Some, All, IsTrue}
+use Rattle.std.specs.List.{list_any}
+use Rattle.cs_types.specs.declared.task.Task.{Task}
+use Rattle.cs_types.specs.declared.queue.Queued.{Queued}
+use Rattle.cs_types.specs.Order.{class_of, priority_of, foremost, is_fair, goes_before}
+use Rattle.cs_types.specs.Queue.{queued_of}
+use Rattle.cs_types.specs.Room.{has_pid}
+
+-- ---- the tasks of a queue
+
+-- the tasks of a list that are queued on a sibling
+abbrev pub queued_among : List Task → ℕ → List Task
+queued_among tasks cpu = filter (λ task. task.queued && (task.home == cpu)) tasks
+
+-- as its queue has them
+abbrev pub queued_at : List Task → ℕ → List Queued
+queued_at tasks cpu = map queued_of (queued_among tasks cpu)
+
+-- those but for the one with this pid
+abbrev pub others : ℕ → List Queued → List Queued
+others pid queued = filter (λ task. not (task.pid == pid)) queued
+
+-- the task is one of the list
+abbrev pub IsOf : List Task → Task → Type 0
+IsOf tasks task = find (has_pid task.spec.pid) tasks ≡ Some task
+
+-- no other queued task of the list has this one's stamp
+abbrev pub HasOwnStamp : List Task → Task → Type 0
+HasOwnStamp tasks task =
+    (other : Task) → IsOf tasks other → IsTrue other.queued → other.stamp ≡ task.stamp → other.spec.pid ≡ task.spec.pid
+
+-- the stamps of the queued tasks of a list are distinct, and below the next one
+pub record AreStamped (next : ℕ) (tasks : List Task) : Type 0 where
+  pub below : All (λ task. IsTrue task.queued → task.stamp < next) tasks
+  pub distinct : (task : Task) → IsOf tasks task → IsTrue task.queued → HasOwnStamp tasks task
+
+-- ---- what is asked of it
+
+-- the tasks with a cookie
+abbrev pub with_cookie : ℕ → List Task → List Task
+with_cookie cookie tasks = filter (λ task. task.cookie == cookie) tasks
+
+-- those behind a task
+abbrev pub behind : Task → List Task → List Task
+behind task tasks = filter (λ other. goes_before task other) tasks
+
+-- the smallest virtual time of the fair tasks
+abbrev pub smallest_vtime : List Task → Option ℕ
+smallest_vtime tasks = foremost nat_lt (map (λ task. task.vtime) (filter is_fair tasks))
+
+-- whether another task has this one's class, and of real-time tasks the same priority
+abbrev pub is_peer_of : Task → Task → Bool
+is_peer_of task other =
+    (class_of other.spec.policy == class_of task.spec.policy) && (priority_of other.spec.policy == priority_of task.spec.policy)
+
+abbrev pub has_peer : Task → List Task → Bool
+has_peer task tasks = list_any (λ other. not (has_pid task.spec.pid other) && is_peer_of task other) tasks
+
+-- how many have a smaller stamp
+abbrev pub count_before : List Task → ℕ → ℕ
+count_before tasks stamp = count_by (λ other. nat_lt other.stamp stamp) tasks

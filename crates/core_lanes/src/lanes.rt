@@ -1,0 +1,261 @@
+//! The core.
+
+ghost use Rattle.std.specs.Prelude.{◌≡◌, ℕ, [], ◌+◌, ◌^◌, ◌<◌, ◌≤◌, length, map, find, All, Some, IfOk, IfSome, slice_get, IsTrue, if◌then◌else◌};
+ghost use Rattle.cs_types.specs.Room.{has_pid, is_online, running_on, with_task, flagged};
+ghost use Rattle.cs_types.specs.Selection.{first_on};
+ghost use Rattle.cs_types.specs.Step.{idled};
+ghost use Rattle.cs_types.specs.Steal.{with_place};
+ghost use Rattle.cs_types.specs.Queueing.{enqueued, dequeued, moved_to};
+ghost use Rattle.task_table.specs.Table.{Table, IsSound as IsTable};
+ghost use Rattle.core_lanes.specs.Queued.{IsOf};
+
+use crate::lane::Lane;
+use crate::queue::SiblingQueue;
+use cs_types::{Cookie, Cpu, OutOfMemory, Pid, Steps, Task};
+use forceidle_account::{ForceIdle, Totals};
+use std::alloc::Global;
+use std::sync::ledger::Ledger;
+use task_table::TaskTable;
+
+/// The living task with the pid.
+pub fn task_of(table: &TaskTable, pid: Pid) -> Option<Task>
+    ensures task { result ≡ find (has_pid pid) table.now.tasks }
+    ensures there { IfSome result (IsOf table.now.tasks) }
+{
+    table.find(pid).copied()
+}
+
+/// The siblings of a core, and its numbers (`rq->core`).
+#[derive(Drop)]
+pub struct Core<Q: SiblingQueue> {
+    /// The cookie that the core runs under, 0 for none (`core_cookie`).
+    pub cookie: Cookie,
+    /// The task number: how often the queues were touched, a count (`core_task_seq`).
+    pub task_number: u64,
+    /// The pick number: how often they were touched up to the last selection for the core and with it, a
+    /// count (`core_pick_seq`).
+    pub pick_number: u64,
+    /// The stamp of the next enqueue (this project's).
+    pub next_stamp: u64,
+    /// How siblings are forced idle since the last selection for the core (`core_forceidle_count`,
+    /// `core_forceidle_occupation` and `core_forceidle_start`).
+    pub account: ForceIdle,
+    /// What each task was charged for forced idle, also one that ended (`core_forceidle_sum`).
+    pub totals: Totals,
+    /// The siblings, by rising number.
+    pub lanes: Vec<Lane<Q>>,
+    ghost few: { length lanes.items ≤ 16 },
+}
+
+impl<Q: SiblingQueue> Core<Q> {
+    ghost use Rattle.core_lanes.specs.Queued.{HasOwnStamp};
+    ghost use Rattle.core_lanes.specs.Lanes.{Beside, lane_state, bare_start, queues_of, room_of, bare, Agree, AreHeld, AreHeldBut, FitsIn, Knows, KnowsApart};
+    ghost use Rattle.core_lanes.specs.Numbers.{numbers_of, is_fresh_by};
+    ghost use Rattle.core_lanes.specs.Changes.{Changes, Touches};
+
+    /// The siblings, which are 1 to 16, before the first step: each is online and runs idle, and no number is
+    /// above 0. Each queue can take `tasks`, a count. This call alone takes memory.
+    pub fn of(
+        alloc: Global,
+        siblings: u8,
+        tasks: u16,
+        totals: Totals,
+    ) -> Result<Core<Q>, OutOfMemory>
+        requires { siblings ≤ 16 }
+        ensures bare { IfOk result (λ core. bare core ≡ bare_start siblings totals) }
+        ensures held { IfOk result (λ core. (cpu : ℕ) (queue : _) → slice_get (queues_of core) cpu ≡ Some queue → Q.holds queue tasks []) }
+    {
+        let mut lanes = Vec::with_capacity(alloc, siblings as usize)?;
+        for _ in 0..siblings {
+            lanes.push_reserved(Lane::with_queue(Q::with_capacity(alloc, tasks)?));
+        }
+        Ok(Core {
+            cookie: 0,
+            task_number: 0,
+            pick_number: 0,
+            next_stamp: 0,
+            account: ForceIdle::closed(),
+            totals,
+            lanes,
+        })
+    }
+
+    /// Whether the sibling is online.
+    pub fn is_online(&self, cpu: Cpu) -> bool
+        requires { cpu < length self.now.lanes.items }
+        ensures { (beside : Beside) (table : Table) → result ≡ is_online (room_of beside (self.now, table)) cpu }
+    {
+        self.lanes[cpu as usize].online
+    }
+
+    /// The task that a sibling runs, none where it runs idle.
+    pub fn running_on(&self, table: &TaskTable, cpu: Cpu) -> Option<Task>
+        requires { cpu < length self.now.lanes.items }
+        ensures task { (beside : Beside) → result ≡ running_on (room_of beside (self.now, table.now)) cpu }
+        ensures there { IfSome result (IsOf table.now.tasks) }
+    {
+        task_of(table, self.lanes[cpu as usize].run?)
+    }
+
+    /// The first task queued on a sibling, none for idle (`pick_task`).
+    pub fn first_on<L: Ledger>(
+        &self,
+        table: &TaskTable,
+        cpu: Cpu,
+        steps: &mut Steps<L>,
+    ) -> Option<Task>
+        requires cpu { cpu < length self.now.lanes.items }
+        requires agree { Agree (self.now, table.now) }
+        ensures { (beside : Beside) → result ≡ first_on (room_of beside (self.now, table.now)) cpu }
+    {
+        self.lanes[cpu as usize].queue.first(table, cpu, steps)
+    }
+
+    /// Whether there was a selection for the core, and nothing was touched since the last one.
+    pub fn is_fresh(&self) -> bool
+        ensures { result ≡ is_fresh_by (numbers_of self.now) }
+    {
+        self.pick_number > 0 && self.pick_number == self.task_number
+    }
+
+    /// The queues are touched once more.
+    pub fn touch(&mut self)
+        requires { self.old.task_number + 1 < 2 ^ 64 }
+        ensures { (table : Table) → Touches 1 (self.old, table) (self.new, table) (λ room. room) }
+    {
+        self.task_number += 1;
+    }
+
+    /// The sibling runs idle.
+    pub fn idle(&mut self, cpu: Cpu)
+        requires { cpu < length self.old.lanes.items }
+        ensures { (table : Table) → Changes (self.old, table) (self.new, table) (λ room. idled room cpu) }
+    {
+        self.lanes[cpu as usize].run = None;
+    }
+
+    /// The sibling is pending where it was, and where the test says so (`resched_curr`).
+    pub fn flag(&mut self, cpu: Cpu, test: bool)
+        requires { cpu < length self.old.lanes.items }
+        ensures { (table : Table) → Changes (self.old, table) (self.new, table) (λ room. flagged room cpu test) }
+    {
+        self.lanes[cpu as usize].pending |= test;
+    }
+
+    /// The sibling's next try to steal is at this place.
+    pub fn set_place(&mut self, cpu: Cpu, place: u32)
+        requires { cpu < length self.old.lanes.items }
+        ensures { (table : Table) → Changes (self.old, table) (self.new, table) (λ room. with_place room cpu place) }
+    {
+        self.lanes[cpu as usize].place = place;
+    }
+
+    /// The queue that the task stands in, if one, has it no longer.
+    fn take<L: Ledger>(&mut self, table: &TaskTable, task: &Task, steps: &mut Steps<L>)
+        requires there { IsOf table.now.tasks task.now }
+        requires home { task.now.home < length self.old.lanes.items }
+        requires table { IsTable table.now }
+        requires held { AreHeld (self.old, table.now) }
+        ensures bare { bare self.new ≡ bare self.old }
+        ensures held { AreHeldBut task.now.spec.pid (self.new, table.now) }
+    {
+        if task.queued {
+            self.lanes[task.home as usize]
+                .queue
+                .take(table, task.home, task, steps);
+        }
+    }
+
+    /// The queue that the task belongs into, if one, has it.
+    fn put<L: Ledger>(&mut self, table: &TaskTable, task: &Task, steps: &mut Steps<L>)
+        requires there { IsOf table.now.tasks task.now }
+        requires home { task.now.home < length self.old.lanes.items }
+        requires table { IsTable table.now }
+        requires stamp { IsTrue task.now.queued → HasOwnStamp table.now.tasks task.now }
+        requires held { AreHeldBut task.now.spec.pid (self.old, table.now) }
+        ensures bare { bare self.new ≡ bare self.old }
+        ensures held { AreHeld (self.new, table.now) }
+    {
+        if task.queued {
+            self.lanes[task.home as usize]
+                .queue
+                .put(table, task.home, task, steps);
+        }
+    }
+
+    /// The task in the place of the one with its pid, in the table and in the queues.
+    pub fn replace<L: Ledger>(&mut self, table: &mut TaskTable, task: Task, steps: &mut Steps<L>)
+        requires fits { FitsIn (self.old, table.old) task }
+        requires agree { Agree (self.old, table.old) }
+        ensures table { table.new ≡ record table.old { tasks = map (λ other. if has_pid task.spec.pid other then task else other) table.old.tasks } }
+        ensures bare { bare self.new ≡ bare self.old }
+        ensures agree { Agree (self.new, table.new) }
+    {
+        let old = task_of(table, task.spec.pid).unwrap();
+        self.take(table, &old, steps);
+        table.change(task);
+        self.put(table, &task, steps);
+    }
+
+    /// The task's numbers are these now.
+    pub fn change<L: Ledger>(&mut self, table: &mut TaskTable, task: Task, steps: &mut Steps<L>)
+        requires knows { Knows (self.old, table.old) task }
+        requires agree { Agree (self.old, table.old) }
+        ensures { Changes (self.old, table.old) (self.new, table.new) (λ room. with_task room task) }
+    {
+        self.replace(table, task, steps);
+    }
+
+    /// The task is asleep (`dequeue_task`).
+    pub fn dequeue<L: Ledger>(&mut self, table: &mut TaskTable, task: Task, steps: &mut Steps<L>)
+        requires knows { KnowsApart (self.old, table.old) task }
+        requires agree { Agree (self.old, table.old) }
+        requires touches { self.old.task_number + 1 < 2 ^ 64 }
+        ensures { Touches 1 (self.old, table.old) (self.new, table.new) (λ room. dequeued room task) }
+    {
+        let asleep = Task {
+            queued: false,
+            ..task
+        };
+        self.change(table, asleep, steps);
+        self.touch();
+    }
+
+    /// The task is queued, with the next stamp (`enqueue_task`).
+    pub fn enqueue<L: Ledger>(&mut self, table: &mut TaskTable, task: Task, steps: &mut Steps<L>)
+        requires knows { KnowsApart (self.old, table.old) task }
+        requires agree { Agree (self.old, table.old) }
+        requires stamp { self.old.next_stamp + 1 < 2 ^ 64 }
+        requires touches { self.old.task_number + 1 < 2 ^ 64 }
+        ensures { Touches 1 (self.old, table.old) (self.new, table.new) (λ room. enqueued room task) }
+    {
+        let stamp = self.next_stamp;
+        self.next_stamp += 1;
+        let queued = Task {
+            queued: true,
+            stamp,
+            ..task
+        };
+        self.change(table, queued, steps);
+        self.touch();
+    }
+
+    /// The task as it is once it has moved to the sibling: it keeps what it is ahead of the least virtual
+    /// time of its queue.
+    pub fn moved_to(&self, cpu: Cpu, task: Task) -> Task
+        requires cpu { cpu < length self.now.lanes.items }
+        requires home { task.home < length self.now.lanes.items }
+        requires vtime { task.vtime < 2 ^ 100 }
+        requires leasts { All (λ sibling. sibling.least < 2 ^ 100) (map lane_state self.now.lanes.items) }
+        ensures { (beside : Beside) (table : Table) → result ≡ moved_to (room_of beside (self.now, table)) cpu task }
+    {
+        let ahead = task
+            .vtime
+            .saturating_sub(self.lanes[task.home as usize].least);
+        Task {
+            home: cpu,
+            vtime: self.lanes[cpu as usize].least + ahead,
+            ..task
+        }
+    }
+}

@@ -1,0 +1,13 @@
+//! The siblings of a core, each with its queue, and the small changes that a schedule and the other events are
+//! made of. The queue is a parameter, so that one text serves every kind of it.
+#![tactic(auto)]
+
+mod lane;
+mod lanes;
+mod order;
+mod queue;
+
+pub use lane::Lane;
+pub use lanes::{Core, task_of};
+pub use order::{goes_before, is_fair, is_higher, priority_of};
+pub use queue::{MOST_TASKS, SiblingQueue, Stamps};

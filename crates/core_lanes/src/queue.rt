@@ -1,0 +1,111 @@
+//! What a sibling's queue is asked. It is a trait, so that one text of the events serves every kind of queue.
+
+ghost use Rattle.std.specs.Prelude.{◌≡◌, ◌≢◌, ◌+◌, ◌<◌, ◌≤◌, ◌^◌, ℕ, List, [], length, map, IfOk, IsTrue};
+ghost use Rattle.cs_types.specs.declared.queue.Queued.{Queued};
+ghost use Rattle.cs_types.specs.Order.{first_of};
+ghost use Rattle.core_lanes.specs.Queued.{queued_among, queued_at, others, IsOf, HasOwnStamp, with_cookie, behind, smallest_vtime, has_peer, count_before};
+
+use arrayvec::ArrayVec;
+use cs_types::{Cookie, Cpu, OutOfMemory, Steps, Task};
+use std::alloc::Global;
+use std::sync::ledger::Ledger;
+use task_table::TaskTable;
+
+/// The most tasks that live at once.
+pub const MOST_TASKS: usize = 256;
+
+/// A stamp for each task of a table, by rising pid.
+pub type Stamps = ArrayVec<u64, MOST_TASKS>;
+
+/// The queued tasks of one sibling (`struct rq`). The tasks themselves stand in a table, which each call is
+/// handed: what the queue is asked is answered of the tasks that the table has queued on the sibling, and the
+/// queue has to hold these. A call that looks for a task counts its comparisons.
+pub trait SiblingQueue: Drop {
+    /// That it holds these tasks, and can take this number in all.
+    ghost holds: { Self → ℕ → List Queued → Type 0 };
+
+    /// A queue with no task, which can take `most`, a count. This call alone takes memory.
+    fn with_capacity(alloc: Global, most: u16) -> Result<Self, OutOfMemory>
+        ensures { IfOk result (λ queue. holds queue most []) };
+
+    /// The task, which the table has queued on the sibling, enters.
+    fn put<L: Ledger>(&mut self, table: &TaskTable, cpu: Cpu, task: &Task, steps: &mut Steps<L>)
+        requires there { IsOf table.now.tasks task.now }
+        requires queued { IsTrue task.now.queued }
+        requires home { task.now.home ≡ cpu }
+        requires stamp { HasOwnStamp table.now.tasks task.now }
+        requires holds { holds self.old table.now.limit (others task.now.spec.pid (queued_at table.now.tasks cpu)) }
+        ensures { holds self.new table.now.limit (queued_at table.now.tasks cpu) };
+
+    /// The task, which the table has queued on the sibling, leaves.
+    fn take<L: Ledger>(&mut self, table: &TaskTable, cpu: Cpu, task: &Task, steps: &mut Steps<L>)
+        requires there { IsOf table.now.tasks task.now }
+        requires queued { IsTrue task.now.queued }
+        requires home { task.now.home ≡ cpu }
+        requires holds { holds self.old table.now.limit (queued_at table.now.tasks cpu) }
+        ensures { holds self.new table.now.limit (others task.now.spec.pid (queued_at table.now.tasks cpu)) };
+
+    /// The first task, `None` where there is none (`pick_task`).
+    fn first<L: Ledger>(&self, table: &TaskTable, cpu: Cpu, steps: &mut Steps<L>) -> Option<Task>
+        requires { holds self.now table.now.limit (queued_at table.now.tasks cpu) }
+        ensures { result ≡ first_of (queued_among table.now.tasks cpu) };
+
+    /// The first task with the cookie, which is not 0 (`sched_core_find`).
+    fn first_with<L: Ledger>(
+        &self,
+        cookie: Cookie,
+        table: &TaskTable,
+        cpu: Cpu,
+        steps: &mut Steps<L>,
+    ) -> Option<Task>
+        requires cookie { cookie ≢ 0 }
+        requires holds { holds self.now table.now.limit (queued_at table.now.tasks cpu) }
+        ensures { result ≡ first_of (with_cookie cookie (queued_among table.now.tasks cpu)) };
+
+    /// The first task with the cookie of this one, which is not 0, that stands behind it (`sched_core_next`).
+    fn next_with<L: Ledger>(
+        &self,
+        task: &Task,
+        table: &TaskTable,
+        cpu: Cpu,
+        steps: &mut Steps<L>,
+    ) -> Option<Task>
+        requires cookie { task.now.cookie ≢ 0 }
+        requires holds { holds self.now table.now.limit (queued_at table.now.tasks cpu) }
+        ensures { result ≡ first_of (behind task.now (with_cookie task.now.cookie (queued_among table.now.tasks cpu))) };
+
+    /// The smallest virtual time of the fair tasks, in ns, `None` where there is none (`update_min_vruntime`).
+    fn smallest_vtime<L: Ledger>(
+        &self,
+        table: &TaskTable,
+        cpu: Cpu,
+        steps: &mut Steps<L>,
+    ) -> Option<u128>
+        requires { holds self.now table.now.limit (queued_at table.now.tasks cpu) }
+        ensures { result ≡ smallest_vtime (queued_among table.now.tasks cpu) };
+
+    /// Whether there is another task of the class of this one, which is one of the queue, and among real-time
+    /// tasks one of its priority.
+    fn has_peer<L: Ledger>(
+        &self,
+        task: &Task,
+        table: &TaskTable,
+        cpu: Cpu,
+        steps: &mut Steps<L>,
+    ) -> bool
+        requires holds { holds self.now table.now.limit (queued_at table.now.tasks cpu) }
+        ensures { result ≡ has_peer task.now (queued_among table.now.tasks cpu) };
+
+    /// How many tasks there are (`nr_running`).
+    fn count(&self, table: &TaskTable, cpu: Cpu) -> u16
+        requires { holds self.now table.now.limit (queued_at table.now.tasks cpu) }
+        ensures { result ≡ length (queued_among table.now.tasks cpu) };
+
+    /// For each task of the table, which has at most 256, this stamp and how many tasks of the queue have a
+    /// smaller one: so the tasks of the queue get new stamps in the order of those that they have.
+    fn new_stamps(&self, table: &TaskTable, cpu: Cpu, next: u64) -> Stamps
+        requires few { length table.now.tasks ≤ 256 }
+        requires next { next + length table.now.tasks < 2 ^ 64 }
+        requires holds { holds self.now table.now.limit (queued_at table.now.tasks cpu) }
+        ensures { result.items ≡ map (λ task. next + count_before (queued_among table.now.tasks cpu) task.stamp) table.now.tasks };
+}

@@ -1,0 +1,5 @@
+pub mod Accounts
+pub mod Choices
+pub mod Remembered
+pub mod Ranges
+pub mod Cases

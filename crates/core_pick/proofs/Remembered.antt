@@ -1,0 +1,189 @@
+-- Remembered: the tasks that remember the occupation after a selection, and what stays where they do.
+use Rattle.std.proofs.Common.{◌≡◌, ℕ, ◌<◌, Bool, true, false, cond, List, [], ◌∷◌, ◌++◌, map, length, refl, subst, sym, ap, ◌∙◌, arith, eqb, Option, Some, None, inl, inr}
+use Rattle.std.specs.Prelude.{◌==◌, ◌&&◌, ◌||◌, find, IfSome, IsTrue}
+use Rattle.std.specs.List.{AllByRecursion, list_any}
+use Rattle.std.specs.Option.{option_and_then, option_map}
+use Rattle.std.proofs.lemmas.Bool.{cases_Bool, cond-true, cond-false, eqb-true}
+use Rattle.std.proofs.lemmas.Bool.Decides.{nat_tests}
+use Rattle.std.proofs.lemmas.List.Elements.{All-map, All-weaker}
+use Rattle.cs_types.specs.declared.task.Task.{Task}
+use Rattle.cs_types.specs.Queue.{queued_of}
+use Rattle.cs_types.specs.Room.{has_pid}
+use Rattle.cs_types.specs.Selection.{is_run}
+use Rattle.cs_types.proofs.Foremost.{find_passes}
+use Rattle.cs_types.proofs.Siblings.{map-map_alike}
+use Rattle.cs_types.proofs.Spots.{find-map}
+use Rattle.cs_types.proofs.Tasks.{found_again}
+use Rattle.task_table.specs.Table.{Table, Rises, IsSound as IsTable}
+use Rattle.task_table.proofs.Rising.{find_again}
+use Rattle.task_table.proofs.Tables.{changed_each}
+use Rattle.forceidle_account.specs.Charges.{has_total}
+use Rattle.core_lanes.specs.declared.queue.SiblingQueue.{Ghosts}
+use Rattle.core_lanes.specs.declared.lanes.Core.{Core}
+use Rattle.core_lanes.specs.Queued.{queued_among, queued_at, IsOf, AreStamped}
+use Rattle.core_lanes.specs.Lanes.{IsFit, queues_of}
+use Rattle.core_lanes.specs.Changes.{Stays, identity_of}
+use Rattle.core_lanes.proofs.Lists.{filter-map, any-push}
+use Rattle.core_lanes.proofs.Stays.{both_stay, alike_stays}
+use Rattle.core_pick.specs.declared.choice.Choice.{Choice}
+use Rattle.core_pick.specs.Choice.{chosen_task, task_after_choice, task_after_choices}
+
+-- ---- the task that is chosen for a sibling
+
+-- what was found by a pid is found by its own
+pub found_there : (pid : ℕ) (tasks : List Task) (found : Option Task) → found ≡ find (has_pid pid) tasks →
+    IfSome found (λ task. find (has_pid task.spec.pid) tasks ≡ Some task)
+found_there pid tasks None is = tt
+found_there pid tasks (Some task) is = found_again pid tasks task (sym is)
+
+-- it is found by its own pid
+pub chosen_there : (tasks : List Task) (choice : Choice) (found : Option Task) → Rises tasks → found ≡ chosen_task tasks choice →
+    IfSome found (λ task. find (has_pid task.spec.pid) tasks ≡ Some task)
+chosen_there tasks choice None rises is = tt
+chosen_there tasks choice (Some task) rises is = by_choice choice.is_online choice.run is where
+  by_choice : (online : Bool) (run : Option ℕ) → Some task ≡ cond online (option_and_then (λ pid. find (has_pid pid) tasks) run) None →
+      find (has_pid task.spec.pid) tasks ≡ Some task
+  by_choice false run is = absurd cc
+  by_choice true None is = absurd cc
+  by_choice true (Some pid) is = find_again (has_pid pid) 0 tasks task rises (sym is)
+
+map_alike : {X : Type 0} (f g : X → X) (xs : List X) → ((x : X) → f x ≡ g x) → map f xs ≡ map g xs
+map_alike f g [] same = refl
+map_alike f g (x ∷ xs) same = λ i. same x i ∷ map_alike f g xs same i
+
+-- a task that was found has the pid
+pid_found : (pid : ℕ) (tasks : List Task) (task : Task) → find (has_pid pid) tasks ≡ Some task → task.spec.pid ≡ pid
+pid_found pid tasks task found = eqb-true task.spec.pid pid (find_passes (has_pid pid) tasks task found)
+
+pub run_test : (a b : ℕ) → eqb b a ≡ eqb a b
+run_test a b = grind (arith, nat_tests)
+
+-- where one is, it remembers, and no other does
+pub map-task_after_choice : (tasks : List Task) (choice : Choice) (occupation : ℕ) (task : Task) → Rises tasks → Some task ≡ chosen_task tasks choice →
+    map (λ other. cond (has_pid task.spec.pid other) (record task { occupation = occupation }) other) tasks ≡ map (task_after_choice choice occupation) tasks
+map-task_after_choice tasks choice occupation task rises is =
+    changed_each (λ t. record t { occupation = occupation }) tasks task rises (chosen_there tasks choice (Some task) rises is)
+    ∙ map_alike (λ other. cond (has_pid task.spec.pid other) (record other { occupation = occupation }) other) (task_after_choice choice occupation) tasks
+    (λ other. ap (λ b. cond b (record other { occupation = occupation }) other) (by_choice choice.is_online choice.run is other)) where
+      by_choice : (online : Bool) (run : Option ℕ) → Some task ≡ cond online (option_and_then (λ pid. find (has_pid pid) tasks) run) None →
+          (other : Task) → has_pid task.spec.pid other ≡ (online && is_run run (Some other.spec.pid))
+      by_choice false run is other = absurd cc
+      by_choice true None is other = absurd cc
+      by_choice true (Some pid) is other =
+          ap (λ n. eqb other.spec.pid n) (pid_found pid tasks task (sym is)) ∙ run_test pid other.spec.pid
+
+-- where none is, none remembers
+pub map-task_after_choice_none : (tasks : List Task) (choice : Choice) (occupation : ℕ) → None ≡ chosen_task tasks choice →
+    tasks ≡ map (task_after_choice choice occupation) tasks
+map-task_after_choice_none tasks choice occupation is = sym (kept tasks (by_choice choice.is_online choice.run is)) where
+  kept : (ts : List Task) → AllByRecursion (λ other. (choice.is_online && is_run choice.run (Some other.spec.pid)) ≡ false) ts → map (task_after_choice choice occupation) ts ≡ ts
+  kept [] none = refl
+  kept (t ∷ ts) none = λ i. cond-false _ (record t { occupation = occupation }) t none.0 i ∷ kept ts none.1 i
+
+  all_false : (test : Task → Bool) → ((t : Task) → test t ≡ false) → (ts : List Task) → AllByRecursion (λ other. test other ≡ false) ts
+  all_false test none [] = tt
+  all_false test none (t ∷ ts) = (none t, all_false test none ts)
+
+  not_found : (pid : ℕ) (ts : List Task) → None ≡ find (has_pid pid) ts → AllByRecursion (λ other. eqb pid other.spec.pid ≡ false) ts
+  not_found pid [] none = tt
+  not_found pid (t ∷ ts) none =
+      elim (cases_Bool (has_pid pid t)) [
+        | inl here ↦ let some = none ∙ cond-true _ (Some t) (find (has_pid pid) ts) here in absurd cc
+        | inr past ↦ (sym (run_test pid t.spec.pid) ∙ past, not_found pid ts (none ∙ cond-false _ (Some t) (find (has_pid pid) ts) past))
+      ]
+
+  by_choice : (online : Bool) (run : Option ℕ) → None ≡ cond online (option_and_then (λ pid. find (has_pid pid) tasks) run) None →
+      AllByRecursion (λ other. (online && is_run run (Some other.spec.pid)) ≡ false) tasks
+  by_choice false run is = all_false (λ other. false) (λ t. refl) tasks
+  by_choice true None is = all_false (λ other. false) (λ t. refl) tasks
+  by_choice true (Some pid) is = not_found pid tasks is
+
+-- ---- choice by choice
+
+pub map-task_after_choices_none : (occupation : ℕ) (tasks : List Task) → map (task_after_choices [] occupation) tasks ≡ tasks
+map-task_after_choices_none occupation [] = refl
+map-task_after_choices_none occupation (task ∷ tasks) = ap (λ (ts : List Task). task ∷ ts) (map-task_after_choices_none occupation tasks)
+
+-- one choice more
+pub map-task_after_choices_push : (choices : List Choice) (choice : Choice) (occupation : ℕ) (tasks : List Task) →
+    map (task_after_choice choice occupation) (map (task_after_choices choices occupation) tasks) ≡ map (task_after_choices (choices ++ choice ∷ []) occupation) tasks
+map-task_after_choices_push choices choice occupation [] = refl
+map-task_after_choices_push choices choice occupation (task ∷ tasks) =
+    let test = λ (one : Choice). one.is_online && is_run one.run (Some task.spec.pid) in
+    let one : task_after_choice choice occupation (task_after_choices choices occupation task) ≡ task_after_choices (choices ++ choice ∷ []) occupation task =
+    by_tests (list_any test choices) (test choice) ∙ ap (λ b. record task { occupation = cond b occupation task.occupation }) (sym (any-push test choices choice)) in
+    λ i. one i ∷ map-task_after_choices_push choices choice occupation tasks i where
+      by_tests : (a b : Bool) → cond b (record task { occupation = occupation }) (record task { occupation = cond a occupation task.occupation })
+          ≡ record task { occupation = cond (a || b) occupation task.occupation }
+      by_tests true true = refl
+      by_tests true false = refl
+      by_tests false true = refl
+      by_tests false false = refl
+
+-- ---- what stays
+
+module _ (choices : List Choice) (occupation : ℕ) (tasks : List Task) where
+  -- the tasks once they remember
+  abbrev now : List Task
+  now = map (task_after_choices choices occupation) tasks
+
+  -- each was there, the same but for what it remembers
+  was_there : (task : Task) → IsOf now task → (old : Task) × (IsOf tasks old) × (task_after_choices choices occupation old ≡ task)
+  was_there task is =
+      by_found (find (has_pid task.spec.pid) tasks) refl (sym (find-map (task_after_choices choices occupation) (λ t. refl) task.spec.pid tasks) ∙ is) where
+        by_found : (found : Option Task) → find (has_pid task.spec.pid) tasks ≡ found → option_map (task_after_choices choices occupation) found ≡ Some task →
+            (old : Task) × (IsOf tasks old) × (task_after_choices choices occupation old ≡ task)
+        by_found None there some = absurd cc
+        by_found (Some old) there some = (old, found_again task.spec.pid tasks old there, cc)
+
+  -- so the queues hold the same
+  pub queued_at-remembered : (cpu : ℕ) → queued_at now cpu ≡ queued_at tasks cpu
+  queued_at-remembered cpu =
+      ap (map queued_of) (filter-map (task_after_choices choices occupation) (λ task. task.queued && (task.home == cpu)) tasks)
+      ∙ map-map_alike queued_of (task_after_choices choices occupation) (λ task. refl) (queued_among tasks cpu)
+
+  stamped-remembered : (next : ℕ) → AreStamped next tasks → AreStamped next now
+  stamped-remembered next stamped = record {
+    below = All-map (λ (t : Task). IsTrue t.queued → t.stamp < next) (task_after_choices choices occupation) tasks stamped.below;
+    distinct = λ one is queued other is_other queued_other same.
+        let first = was_there one is in
+        let second = was_there other is_other in
+        let pid : first.0.spec.pid ≡ one.spec.pid = ap (λ (t : Task). t.spec.pid) first.2 in
+        let stamp : first.0.stamp ≡ one.stamp = ap (λ (t : Task). t.stamp) first.2 in
+        let pid_other : second.0.spec.pid ≡ other.spec.pid = ap (λ (t : Task). t.spec.pid) second.2 in
+        let stamp_other : second.0.stamp ≡ other.stamp = ap (λ (t : Task). t.stamp) second.2 in
+        sym pid_other
+        ∙ stamped.distinct first.0 first.1 (subst (λ (t : Task). IsTrue t.queued) (sym first.2) queued) second.0 second.1
+        (subst (λ (t : Task). IsTrue t.queued) (sym second.2) queued_other) (stamp_other ∙ same ∙ sym stamp)
+        ∙ pid;
+  }
+
+  -- A core and its table agree still.
+  remembered_stays : {Q : Type 0} {g : Ghosts Q} (core : Core Q g) (limit : ℕ) →
+      IsTable (record { tasks = now; limit = limit }) → Stays (core, record { tasks = tasks; limit = limit }) (core, record { tasks = now; limit = limit })
+  remembered_stays {Q} {g} core limit sound = record {
+    agree = λ agree. record {
+      table = sound;
+      few_tasks = agree.few_tasks;
+      tasks = All-map (IsFit (length core.lanes.items)) (task_after_choices choices occupation) tasks
+          (All-weaker (IsFit (length core.lanes.items)) (λ (t : Task). IsFit (length core.lanes.items) (task_after_choices choices occupation t))
+          (λ t fit. record { home = fit.home; policy = fit.policy }) tasks agree.tasks);
+      stamped = stamped-remembered core.next_stamp agree.stamped;
+      totals = All-map (λ (t : Task). IsTrue (has_total core.totals t.spec.pid)) (task_after_choices choices occupation) tasks agree.totals;
+      held = λ cpu queue at. subst (λ qs. g.holds queue limit qs) (sym (queued_at-remembered cpu)) (agree.held cpu queue at);
+    };
+    kept = λ i. record {
+      siblings = length core.lanes.items;
+      limit = limit;
+      identities = map-map_alike identity_of (task_after_choices choices occupation) (λ task. refl) tasks i;
+      known = λ pid. has_total core.totals pid;
+      spare = core.totals.spare;
+    };
+  }
+
+-- also where the core keeps no more than its queues, its stamps and its totals
+pub stays-remembered : {Q : Type 0} {g : Ghosts Q} (old new : Core Q g × Table) (choices : List Choice) (occupation : ℕ) →
+    new.1 ≡ record old.1 { tasks = map (task_after_choices choices occupation) old.1.tasks } → IsTable new.1 →
+    queues_of new.0 ≡ queues_of old.0 → new.0.next_stamp ≡ old.0.next_stamp → new.0.totals ≡ old.0.totals → Stays old new
+stays-remembered {Q} {g} old new choices occupation table sound queues stamp totals =
+    both_stay (remembered_stays choices occupation old.1.tasks old.0 old.1.limit (subst IsTable table sound)) (alike_stays (old.0, record old.1 { tasks = map (task_after_choices choices occupation) old.1.tasks }) new queues table stamp totals)

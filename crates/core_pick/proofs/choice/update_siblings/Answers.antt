@@ -1,0 +1,62 @@
+use Rattle.std.proofs.Common.{ℕ, ◌≡◌, ◌<◌, ◌++◌, ◌∙◌, ap, sym, map, take, drop, length, get_or, arith}
+use Rattle.std.specs.List.{enumerate_from}
+use Rattle.std.proofs.lemmas.Bool.{cond-true, cond-false}
+use Rattle.std.proofs.lemmas.List.{append-nil, map-set, length-map, get_or-map}
+use Rattle.std.proofs.Math.Seq.{take-length, drop-length}
+use Rattle.cs_types.specs.Room.{RoomState, SiblingState, idle}
+use Rattle.cs_types.specs.Selection.{occupation_of, renews_snapshots, sibling_after_selection, selected_room}
+use Rattle.cs_types.proofs.Selections.{numbered_after_selection}
+use Rattle.core_lanes.specs.Lanes.{lane_state}
+use Rattle.core_pick.specs.Choice.{choices_of}
+use Rattle.core_lanes.proofs.Lists.{placed_more}
+use Rattle.core_lanes.proofs.Stays.{number_of, queue_of, numbers_kept, queues_kept}
+use Rattle.core_pick.proofs.Choices.{no_choice, choice_in}
+use Rattle.core_pick.proofs.choice.update_siblings.Goals as goal
+use Rattle.core_pick.proofs.choice.update_siblings.Goals.{then-lane, else-lane}
+
+pub loop-cpu-preserved : goal.loop-cpu-preserved
+loop-cpu-preserved g c =
+    let states = map lane_state c.args.lanes.now in
+    let cpu = c.loop-cpu.cpu in
+    let lane = c.index-lanes-cpu.result in
+    let old = get_or c.loop-cpu.lanes cpu lane in
+    let within : cpu < length states = omega (arith, length-map c.args.lanes.now lane_state, c.loop-cpu-test.true) in
+    let inside : cpu < length c.loop-cpu.lanes = omega arith in
+    let more = λ (room : RoomState) (core : ℕ) (is : room.siblings ≡ states) (each : c.args.choices.now ≡ choices_of room core)
+    (occupation : c.args.occupation ≡ occupation_of room core) (renews : c.args.renews ≡ renews_snapshots room core) (now : SiblingState)
+    (same : now ≡ numbered_after_selection room core c.args.selector (cpu, lane_state old)).
+    placed_more (numbered_after_selection room core c.args.selector) states (map lane_state c.loop-cpu.lanes) cpu now idle within
+    (c.loop-cpu.invariant.states room core is each occupation renews)
+    (same ∙ ap (λ (state : SiblingState). numbered_after_selection room core c.args.selector (cpu, state)) (sym (get_or-map lane_state c.loop-cpu.lanes cpu lane idle inside))) in
+    elim c.if-lane.branch [
+      | then-lane w ↦ record {
+        states = λ room core is each occupation renews.
+            ap (map lane_state) w.lanes-is ∙ map-set lane_state c.loop-cpu.lanes cpu w.hand.new.lane
+            ∙ more room core is each occupation renews (lane_state w.hand.new.lane)
+            (w.hand.ensures.state room core
+            (ap (λ choices. get_or choices cpu no_choice) each ∙ choice_in room core cpu no_choice (omega (arith, within, ap length is))) occupation renews
+            ∙ sym (cond-true old.online (sibling_after_selection room core c.args.selector cpu (lane_state old)) (lane_state old) w.if-lane.true));
+        numbers = ap (map number_of) w.lanes-is
+            ∙ numbers_kept c.loop-cpu.lanes cpu lane w.hand.new.lane c.index-lanes-cpu.is (w.hand.ensures.number ∙ ap number_of (sym c.index-lanes-cpu.is)) ∙ c.loop-cpu.invariant.numbers;
+        queues = ap (map queue_of) w.lanes-is ∙ queues_kept c.loop-cpu.lanes cpu lane w.hand.new.lane c.index-lanes-cpu.is (w.hand.ensures.queue ∙ ap queue_of (sym c.index-lanes-cpu.is)) ∙ c.loop-cpu.invariant.queues;
+      }
+      | else-lane w ↦ record {
+        states = λ room core is each occupation renews.
+            ap (map lane_state) w.lanes-is ∙ map-set lane_state c.loop-cpu.lanes cpu old
+            ∙ more room core is each occupation renews (lane_state old)
+            (sym (cond-false old.online (sibling_after_selection room core c.args.selector cpu (lane_state old)) (lane_state old) w.if-lane.false));
+        numbers = ap (map number_of) w.lanes-is ∙ numbers_kept c.loop-cpu.lanes cpu lane old c.index-lanes-cpu.is (ap number_of (sym c.index-lanes-cpu.is)) ∙ c.loop-cpu.invariant.numbers;
+        queues = ap (map queue_of) w.lanes-is ∙ queues_kept c.loop-cpu.lanes cpu lane old c.index-lanes-cpu.is (ap queue_of (sym c.index-lanes-cpu.is)) ∙ c.loop-cpu.invariant.queues;
+      }
+    ]
+
+pub returns-clause-states : goal.returns-clause-states
+unfolding selected_room
+returns-clause-states g c room core is each occupation renews =
+    let states = map lane_state c.args.lanes.now in
+    let all : c.loop-cpu.cpu ≡ length states = omega (arith, length-map c.args.lanes.now lane_state, c.loop-cpu-test.false, c.loop-cpu.auto.cpu-end) in
+    let after = numbered_after_selection room core c.args.selector in
+    c.loop-cpu.invariant.states room core is each occupation renews
+    ∙ ap (λ n. map after (enumerate_from 0 (take n states)) ++ drop n states) all
+    ∙ (λ i. map after (enumerate_from 0 (take-length states i)) ++ drop-length states i)
+    ∙ append-nil (map after (enumerate_from 0 states)) ∙ ap (λ siblings. map after (enumerate_from 0 siblings)) (sym is)

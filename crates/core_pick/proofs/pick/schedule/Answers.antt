@@ -1,0 +1,25 @@
+use Rattle.std.proofs.Common.{◌∙◌, ap}
+use Rattle.std.specs.Prelude.{if◌then◌else◌}
+use Rattle.cs_types.specs.Room.{RoomState, sibling_of}
+use Rattle.cs_types.specs.Selection.{adopted_or_picked_anew, is_to_steal}
+use Rattle.cs_types.specs.Steal.{with_place}
+use Rattle.core_lanes.specs.Lanes.{at, beside_after, room_of}
+use Rattle.core_lanes.specs.Numbers.{numbers_of, is_fresh_by}
+use Rattle.core_lanes.proofs.Stays.{both_stay}
+use Rattle.core_pick.proofs.pick.schedule.Goals as goal
+
+pub returns-clause-schedules : goal.returns-clause-schedules
+returns-clause-schedules g c =
+    let now = c.args.now in
+    let cpu = c.args.cpu in
+    let picked = c.adopt_or_pick_anew-pick.ensures in
+    record {
+      pick = picked.pick;
+      room = λ beside.
+          let old = room_of (at now beside) (c.args.core.now, c.args.table.now) in
+          let made = (adopted_or_picked_anew old (is_fresh_by (numbers_of c.args.core.now)) cpu (sibling_of old cpu).waiting).room in
+          c.balance.ensures.room (beside_after (at now beside) made)
+          ∙ ap (λ (room : RoomState). with_place room cpu (if is_to_steal room cpu then 1 else 0)) (picked.room beside);
+      numbers = λ beside kept. c.balance.ensures.numbers ∙ picked.numbers beside kept;
+      stays = both_stay picked.stays c.balance.ensures.stays;
+    }

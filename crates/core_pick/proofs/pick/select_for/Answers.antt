@@ -1,0 +1,62 @@
+use Rattle.std.proofs.Common.{◌∙◌, ◌<◌, ap, sym, subst, refl, cond, map, arith, length, get_or}
+use Rattle.std.specs.Prelude.{Some, None, ◌||◌, ◌==◌, List}
+use Rattle.std.proofs.lemmas.List.{length-map}
+use Rattle.cs_types.specs.Selection.{selected_room, forced_count, occupation_of, cookie_of, lead_from}
+use Rattle.cs_types.proofs.Selections.{occupied}
+use Rattle.core_lanes.specs.Lanes.{at, lane_state, room_of}
+use Rattle.core_lanes.proofs.Lists.{items-as_many}
+use Rattle.core_lanes.proofs.Stays.{some_beside, queue_of}
+use Rattle.core_pick.specs.declared.choice.Choice.{Choice}
+use Rattle.core_pick.specs.Choice.{task_after_choices}
+use Rattle.core_pick.proofs.Choices.{choices_are, forced_is, occupation_is, choice_in, map-task_after_choices}
+use Rattle.core_pick.proofs.Remembered.{stays-remembered}
+use Rattle.core_pick.proofs.pick.select_for.Goals as goal
+
+pub begin-requires-clause-occupied : goal.begin-requires-clause-occupied
+begin-requires-clause-occupied g c some =
+    let room = room_of some_beside (c.args.core.now, c.args.table.now) in
+    let are = choices_are room c.args.cookie (length c.args.core.now.lanes.items) c.choices-choices.result.items (length-map c.args.core.now.lanes.items lane_state) (c.choices-choices.ensures.each some_beside) in
+    let lead = c.requires.lead some_beside in
+    let below : c.args.cpu < length room.siblings = omega (arith, length-map c.args.core.now.lanes.items lane_state, c.requires.cpu) in
+    let has : 0 < forced_count room (cookie_of (lead_from room c.args.cpu)) = subst (λ n. 0 < n) (forced_is room c.args.cookie _ _ c.forced_count-forced.ensures (c.deref.ensures.0 ∙ are) ∙ ap (forced_count room) lead) some in
+    subst (λ n. 0 < n) (sym (occupation_is room c.args.cookie _ _ c.occupation-occupation.ensures (c.deref-2.ensures.0 ∙ are) ∙ ap (occupation_of room) lead)) (occupied room c.args.cpu below has)
+
+pub returns-clause-run : goal.returns-clause-run
+returns-clause-run g c beside =
+    let room = room_of beside (c.args.core.now, c.args.table.now) in
+    let are = choices_are room c.args.cookie (length c.args.core.now.lanes.items) c.choices-choices.result.items (length-map c.args.core.now.lanes.items lane_state) (c.choices-choices.ensures.each beside) in
+    ap (λ (choices : List Choice). (get_or choices c.args.cpu _).run) (c.deref-5.ensures.0 ∙ are)
+    ∙ ap (λ (choice : Choice). choice.run) (choice_in room c.args.cookie c.args.cpu _ (omega (arith, length-map c.args.core.now.lanes.items lane_state, c.requires.cpu)))
+
+pub returns-clause-forced : goal.returns-clause-forced
+returns-clause-forced g c beside =
+    let room = room_of beside (c.args.core.now, c.args.table.now) in
+    let are = choices_are room c.args.cookie (length c.args.core.now.lanes.items) c.choices-choices.result.items (length-map c.args.core.now.lanes.items lane_state) (c.choices-choices.ensures.each beside) in
+    c.begin.ensures.count ∙ forced_is room c.args.cookie _ _ c.forced_count-forced.ensures (c.deref.ensures.0 ∙ are)
+
+pub returns-clause-room : goal.returns-clause-room
+unfolding selected_room
+returns-clause-room g c beside =
+    let now = at c.args.now beside in
+    let room = room_of now (c.args.core.now, c.args.table.now) in
+    let are = choices_are room c.args.cookie (length c.args.core.now.lanes.items) c.choices-choices.result.items (length-map c.args.core.now.lanes.items lane_state) (c.choices-choices.ensures.each now) in
+    let forced = forced_is room c.args.cookie _ _ c.forced_count-forced.ensures (c.deref.ensures.0 ∙ are) in
+    let occupation = occupation_is room c.args.cookie _ _ c.occupation-occupation.ensures (c.deref-2.ensures.0 ∙ are) in
+    let count = c.count.ensures.count in
+    let renews_is = c.renews_snapshots-renews.ensures ∙ (λ i. (count i == 0) || (forced i == 0)) in
+    let begun = c.begin.ensures.count ∙ forced in
+    let chosen = c.begin.ensures.occupation ∙ occupation in
+    let started = c.begin.ensures.started ∙ ap (λ n. cond ((n == 0) || (c.args.cookie == 0)) None (Some c.args.now)) forced in
+    let tasks = ap (λ (choices : List Choice). map (task_after_choices choices c.occupation-occupation.result) c.args.table.now.tasks) (c.deref-3.ensures.0 ∙ are)
+    ∙ map-task_after_choices room c.args.cookie c.occupation-occupation.result c.args.table.now.tasks occupation in
+    let kept_lanes = items-as_many c.args.core.now.lanes c.update_siblings.new.lanes (c.update_siblings.auto.lanes ∙ ap length c.deref_mut.ensures.value) in
+    let siblings = ap (map lane_state) kept_lanes
+    ∙ c.update_siblings.ensures.states room c.args.cookie (sym (ap (map lane_state) c.deref_mut.ensures.value))
+    (c.deref-4.ensures.0 ∙ are) occupation renews_is in
+    rw c.update_tasks.ensures.tasks (rw (tasks, siblings, begun, chosen, started) refl)
+
+pub returns-clause-stays : goal.returns-clause-stays
+returns-clause-stays g c =
+    let kept_lanes = items-as_many c.args.core.now.lanes c.update_siblings.new.lanes (c.update_siblings.auto.lanes ∙ ap length c.deref_mut.ensures.value) in
+    stays-remembered _ _ c.deref-3.result.now c.occupation-occupation.result c.update_tasks.ensures.tasks c.update_tasks.ensures.sound
+    (ap (map queue_of) kept_lanes ∙ c.update_siblings.ensures.queues ∙ ap (map queue_of) c.deref_mut.ensures.value) refl refl

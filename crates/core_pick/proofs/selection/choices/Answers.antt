@@ -1,0 +1,19 @@
+use Rattle.std.proofs.Common.{◌≡◌, ◌∙◌, ap, refl, map, length, arith}
+use Rattle.std.specs.List.{range_with_len}
+use Rattle.std.proofs.lemmas.List.FromFn.{map-range_with_len_more}
+use Rattle.core_lanes.specs.Lanes.{room_of}
+use Rattle.core_pick.specs.Choice.{choice_at}
+use Rattle.core_pick.proofs.selection.choices.Goals as goal
+
+pub loop-cpu-preserved : goal.loop-cpu-preserved
+loop-cpu-preserved g c = record {
+  counted = omega (arith, c.push.ensures.len, c.loop-cpu.invariant.counted);
+  made = λ beside.
+      rw (c.push.ensures.items, c.loop-cpu.invariant.made beside, c.choice_at.ensures beside, map-range_with_len_more (choice_at (room_of beside (c.args.core.now, c.args.table.now)) c.args.cookie) 0 c.loop-cpu.cpu c.loop-cpu.cpu (omega arith)) refl;
+}
+
+pub returns-clause-each : goal.returns-clause-each
+returns-clause-each g c beside =
+    let core = c.args.core.now in
+    let all : c.loop-cpu.cpu ≡ length core.lanes.items = omega (arith, core.lanes.ok.0, c.loop-cpu-test.false, c.loop-cpu.auto.cpu-end) in
+    c.loop-cpu.invariant.made beside ∙ ap (λ n. map (choice_at (room_of beside (core, c.args.table.now)) c.args.cookie) (range_with_len 0 n)) all

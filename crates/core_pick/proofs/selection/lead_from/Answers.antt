@@ -1,0 +1,67 @@
+use Rattle.std.proofs.Common.{◌≡◌, ◌∙◌, ◌<◌, ◌^◌, ap, sym, List, subst, map, length, arith}
+use Rattle.std.specs.Prelude.{Option, All, IfSome}
+use Rattle.std.specs.Option.{option_and_then}
+use Rattle.std.proofs.lemmas.List.{length-map}
+use Rattle.std.proofs.lemmas.List.Elements.{All-weaker}
+use Rattle.cs_types.specs.declared.task.Task.{Task}
+use Rattle.cs_types.specs.Scenario.{IsPolicy}
+use Rattle.cs_types.specs.Room.{SiblingState, online_from}
+use Rattle.cs_types.specs.Order.{foremost, outranks}
+use Rattle.cs_types.specs.Selection.{first_on, snapshot_of}
+use Rattle.core_lanes.specs.declared.lane.Lane.{Lane}
+use Rattle.core_lanes.specs.Lanes.{lane_state, room_of, IsFit}
+use Rattle.core_lanes.proofs.Stays.{some_beside}
+use Rattle.core_pick.specs.Choice.{snapshot_in}
+use Rattle.core_pick.proofs.Choices.{firsts_pushed, All-firsts, lead_is}
+use Rattle.core_pick.proofs.selection.lead_from.Given.{Over}
+use Rattle.core_pick.proofs.selection.lead_from.Goals as goal
+
+-- the firsts that the code gathers, whatever is beside the core
+gathered : (g : Over) (c : goal.After-deref-2 g) →
+    let room = room_of some_beside (c.args.core.now, c.args.table.now) in c.deref.result.now ≡ map (first_on room) (online_from room c.args.cpu)
+gathered g c =
+    let room = room_of some_beside (c.args.core.now, c.args.table.now) in
+    let there = c.len.ensures ∙ c.args.core.now.lanes.ok.0 ∙ sym (length-map c.args.core.now.lanes.items lane_state) in
+    firsts_pushed room c.args.cpu c.len.result c.new-firsts.result.items c.push_firsts.new.firsts.items c.push_firsts-2.new.firsts.items c.deref.result.now
+    there c.new-firsts.ensures (c.push_firsts.ensures.pushed some_beside) (c.push_firsts-2.ensures.pushed some_beside) c.deref.ensures.0
+
+-- each of them is a task of the table
+each_first : (g : Over) (c : goal.After-deref-2 g) (P : Task → Type 0) → All P c.args.table.now.tasks → All (λ (first : Option Task). IfSome first P) c.deref.result.now
+each_first g c P all =
+    let room = room_of some_beside (c.args.core.now, c.args.table.now) in
+    subst (λ (firsts : List (Option Task)). All (λ first. IfSome first P) firsts) (sym (gathered g c)) (All-firsts P room (online_from room c.args.cpu) all)
+
+pub lead_of-requires-clause-priorities : goal.lead_of-requires-clause-priorities
+lead_of-requires-clause-priorities g c =
+    let lanes = c.args.core.now.lanes.items in
+    each_first g c (λ task. IsPolicy task.spec.policy)
+    (All-weaker (IsFit (length lanes)) (λ (task : Task). IsPolicy task.spec.policy) (λ task fit. fit.policy) c.args.table.now.tasks c.requires.agree.tasks)
+
+pub lead_of-requires-clause-homes : goal.lead_of-requires-clause-homes
+lead_of-requires-clause-homes g c =
+    let lanes = c.args.core.now.lanes.items in
+    let P : Task → Type 0 = λ task. task.home < length lanes in
+    subst (λ (now : List (Lane g.row.Q.Denot)). All (λ (first : Option Task). IfSome first (λ task. task.home < length now)) c.deref.result.now) (sym c.deref-2.ensures.value)
+    (each_first g c P (All-weaker (IsFit (length lanes)) P (λ task fit. fit.home) c.args.table.now.tasks c.requires.agree.tasks))
+
+pub lead_of-requires-clause-vtimes : goal.lead_of-requires-clause-vtimes
+lead_of-requires-clause-vtimes g c =
+    each_first g c (λ task. task.vtime < 2 ^ 127)
+    (All-weaker (λ (task : Task). task.vtime < 2 ^ 100) (λ (task : Task). task.vtime < 2 ^ 127) (λ task low. omega (arith, low)) c.args.table.now.tasks c.requires.low.vtimes)
+
+pub lead_of-requires-clause-snapshots : goal.lead_of-requires-clause-snapshots
+lead_of-requires-clause-snapshots g c =
+    subst (λ (lanes : List (Lane g.row.Q.Denot)). All (λ (sibling : SiblingState). sibling.snapshot < 2 ^ 127) (map lane_state lanes)) (sym c.deref-2.ensures.value)
+    (All-weaker (λ (sibling : SiblingState). sibling.snapshot < 2 ^ 100) (λ (sibling : SiblingState). sibling.snapshot < 2 ^ 127) (λ sibling low. omega (arith, low))
+    (map lane_state c.args.core.now.lanes.items) c.requires.low.snapshots)
+
+pub returns : goal.returns
+returns g c beside =
+    let room = room_of beside (c.args.core.now, c.args.table.now) in
+    let there = c.len.ensures ∙ c.args.core.now.lanes.ok.0 ∙ sym (length-map c.args.core.now.lanes.items lane_state) in
+    let firsts = firsts_pushed room c.args.cpu c.len.result c.new-firsts.result.items c.push_firsts.new.firsts.items c.push_firsts-2.new.firsts.items c.deref.result.now
+    there c.new-firsts.ensures (c.push_firsts.ensures.pushed beside) (c.push_firsts-2.ensures.pushed beside) c.deref.ensures.0 in
+    c.lead_of.ensures
+    ∙ ap (λ (lanes : List (Lane g.row.Q.Denot)). option_and_then (λ (first : Option Task). first) (foremost (outranks (snapshot_in (map lane_state lanes))) c.deref.result.now)) c.deref-2.ensures.value
+    ∙ ap (λ (states : List (Option Task)). option_and_then (λ (first : Option Task). first) (foremost (outranks (snapshot_of room)) states)) firsts
+    ∙ lead_is room c.args.cpu

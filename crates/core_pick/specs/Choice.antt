@@ -1,0 +1,44 @@
+-- Choice: what the lead and the choices of a selection are made of, and what the choices make of tasks.
+use Rattle.std.specs.Prelude.{ℕ, Bool, ◌&&◌, if◌then◌else◌, List, length, map, find, Option, Some, None, slice_index_or}
+use Rattle.std.specs.Option.{option_and_then}
+use Rattle.std.specs.List.{list_any, range_with_len}
+use Rattle.cs_types.specs.Room.{RoomState, SiblingState, absent, has_pid, is_online}
+use Rattle.cs_types.specs.Selection.{is_run, pid_of, is_fair_task, choice, is_forced}
+use Rattle.core_pick.specs.declared.choice.Choice.{Choice}
+use Rattle.cs_types.specs.declared.task.Task.{Task}
+
+-- the snapshot of a sibling among these
+abbrev pub snapshot_in : List SiblingState → ℕ → ℕ
+snapshot_in siblings cpu = (slice_index_or siblings cpu absent).snapshot
+
+-- what a sibling gets for a core cookie
+abbrev pub choice_at : RoomState → ℕ → ℕ → Choice
+choice_at room core cpu =
+    record {
+      run = pid_of (choice room core cpu);
+      is_online = is_online room cpu;
+      is_forced = is_online room cpu && is_forced room core cpu;
+      is_fair = is_fair_task (choice room core cpu);
+    }
+
+-- what each sibling gets, in the order of their numbers
+abbrev pub choices_of : RoomState → ℕ → List Choice
+choices_of room core = map (choice_at room core) (range_with_len 0 (length room.siblings))
+
+-- the task that is chosen for a sibling, none where that is offline or gets idle
+abbrev pub chosen_task : List Task → Choice → Option Task
+chosen_task tasks choice = if choice.is_online then option_and_then (λ pid. find (has_pid pid) tasks) choice.run else None
+
+-- whether this is the choice of an online sibling for the task with this pid
+abbrev pub is_choice_of : ℕ → Choice → Bool
+is_choice_of pid choice = choice.is_online && is_run choice.run (Some pid)
+
+-- a task remembers the occupation where it is this choice
+abbrev pub task_after_choice : Choice → ℕ → Task → Task
+task_after_choice choice occupation task =
+    if is_choice_of task.spec.pid choice then record task { occupation = occupation } else task
+
+-- and where it is among these
+abbrev pub task_after_choices : List Choice → ℕ → Task → Task
+task_after_choices choices occupation task =
+    record task { occupation = if list_any (is_choice_of task.spec.pid) choices then occupation else task.occupation }

@@ -1,0 +1,108 @@
+//! What each sibling gets in a selection for the core. It is a file of its own since the selection
+//! counts the choices before it changes siblings and tasks by them.
+
+ghost use Rattle.std.specs.Prelude.{◌≡◌, ℕ, ◌≤◌, ◌&&◌, count_by, is_some, length, map, find, Some, IfSome};
+ghost use Rattle.cs_types.specs.Room.{RoomState, has_pid};
+ghost use Rattle.cs_types.specs.Selection.{occupation_of, renews_snapshots, selected_room};
+ghost use Rattle.task_table.specs.Table.{IsSound as IsTable};
+ghost use Rattle.core_lanes.specs.Lanes.{lane_state};
+ghost use Rattle.core_pick.specs.Choice.{choices_of, chosen_task, task_after_choice, task_after_choices};
+
+use crate::sibling::hand;
+use arrayvec::ArrayVec;
+use core_lanes::Lane;
+use cs_types::{Cpu, Pid, Task};
+use task_table::TaskTable;
+
+/// The most siblings of a core.
+pub const MOST_SIBLINGS: usize = 16;
+
+/// What a sibling gets: a task, or none for idle. The first two tests say no of one that is offline.
+#[derive(Clone, Copy, Default)]
+pub struct Choice {
+    pub run: Option<Pid>,
+    pub is_online: bool,
+    pub is_forced: bool,
+    /// Whether it is a fair task.
+    pub is_fair: bool,
+}
+
+/// What each sibling gets, in the order of their numbers.
+pub type Choices = ArrayVec<Choice, MOST_SIBLINGS>;
+
+/// How many siblings are forced idle.
+pub fn forced_count(choices: &[Choice]) -> u8
+    requires { length choices.now ≤ 16 }
+    ensures { result ≡ count_by (λ choice. choice.is_forced) choices.now }
+{
+    choices.iter().filter(|choice| choice.is_forced).count() as u8
+}
+
+/// For how many siblings a task is chosen.
+pub fn occupation(choices: &[Choice]) -> u8
+    requires { length choices.now ≤ 16 }
+    ensures { result ≡ count_by (λ choice. choice.is_online && is_some choice.run) choices.now }
+{
+    choices
+        .iter()
+        .filter(|choice| choice.is_online && choice.run.is_some())
+        .count() as u8
+}
+
+/// The task that is chosen for the sibling, if one is.
+fn chosen_task(tasks: &TaskTable, choice: &Choice) -> Option<Task>
+    ensures chosen { result ≡ chosen_task tasks.now.tasks choice.now }
+    ensures there { IfSome result (λ task. find (has_pid task.spec.pid) tasks.now.tasks ≡ Some task) }
+{
+    if !choice.is_online {
+        return None;
+    }
+    tasks.find(choice.run?).copied()
+}
+
+/// The task that is chosen for the sibling, if one is, remembers the occupation.
+fn update_task(tasks: &mut TaskTable, choice: &Choice, occupation: u8)
+    requires { IsTable tasks.old }
+    ensures tasks { tasks.new ≡ record tasks.old { tasks = map (task_after_choice choice.now occupation) tasks.old.tasks } }
+    ensures sound { IsTable tasks.new }
+{
+    if let Some(task) = chosen_task(tasks, choice) {
+        tasks.change(Task { occupation, ..task });
+    }
+}
+
+/// Makes each task what it is after a selection for the core: those that are chosen remember the
+/// occupation.
+pub fn update_tasks(tasks: &mut TaskTable, choices: &[Choice], occupation: u8)
+    requires { IsTable tasks.old }
+    ensures tasks { tasks.new ≡ record tasks.old { tasks = map (task_after_choices choices.now occupation) tasks.old.tasks } }
+    ensures sound { IsTable tasks.new }
+{
+    for choice in choices {
+        update_task(tasks, choice, occupation);
+    }
+}
+
+/// Hands each online sibling its choice in a selection for the core that the selector makes. The test says
+/// whether snapshots are renewed.
+pub fn update_siblings<Q: Drop>(
+    lanes: &mut [Lane<Q>],
+    selector: Cpu,
+    choices: &[Choice],
+    occupation: u8,
+    renews: bool,
+)
+    requires each { length choices.now ≡ length lanes.old }
+    requires few { length lanes.old ≤ 16 }
+    ensures states { (room : RoomState) (cookie : ℕ) → room.siblings ≡ map lane_state lanes.old → choices.now ≡ choices_of room cookie →
+        occupation ≡ occupation_of room cookie → renews ≡ renews_snapshots room cookie →
+        map lane_state lanes.new ≡ (selected_room room selector cookie).siblings }
+    ensures numbers { map (λ lane. lane.number) lanes.new ≡ map (λ lane. lane.number) lanes.old }
+    ensures queues { map (λ lane. lane.queue) lanes.new ≡ map (λ lane. lane.queue) lanes.old }
+{
+    for (cpu, lane) in lanes.iter_mut().enumerate() {
+        if lane.online {
+            hand(lane, selector, cpu as u8, choices[cpu], occupation, renews);
+        }
+    }
+}

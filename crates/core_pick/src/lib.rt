@@ -1,0 +1,14 @@
+//! A schedule of a sibling: what forced idle is charged before it, what it chooses for the siblings of the core,
+//! and what becomes of them. The queue of a sibling is a parameter.
+#![tactic(auto)]
+
+mod account;
+mod balance;
+mod choice;
+mod lead;
+mod pick;
+mod selection;
+mod sibling;
+
+pub use account::charge;
+pub use pick::{pick_and_balance, schedule};

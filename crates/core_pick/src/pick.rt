@@ -1,0 +1,255 @@
+//! A schedule, in its three cases (`pick_next_task`, kernel/sched/core.c).
+
+ghost use Rattle.std.specs.Prelude.{◌≡◌, ℕ, ◌+◌, ◌^◌, ◌<◌, length, ◌==◌, ◌&&◌, ◌||◌, is_some, None, IfSome, IfNone, if◌then◌else◌};
+ghost use Rattle.cs_types.specs.Room.{sibling_of, is_online};
+ghost use Rattle.cs_types.specs.Selection.{cookie_of, lead_from, pid_of, choice, forced_count, is_plain, adopted, plain, selected_room, selected, picked_anew, adopted_or_picked_anew, balanced, schedule};
+ghost use Rattle.task_table.specs.Table.{Table};
+ghost use Rattle.core_lanes.specs.Lanes.{Beside, at, room_of, Agree};
+ghost use Rattle.core_lanes.specs.Numbers.{numbers_of, is_fresh_by};
+ghost use Rattle.core_lanes.specs.Changes.{Stays};
+ghost use Rattle.core_pick.specs.Schedules.{MayPick, MaySchedule, Schedules, ChargesAndSchedules};
+
+use crate::account::charge;
+use crate::balance::balance;
+use crate::choice::{forced_count, occupation, update_siblings, update_tasks};
+use crate::selection::{choices, is_fair_task, lead_from};
+use crate::sibling::{run, run_first};
+use core_lanes::{Core, SiblingQueue};
+use cs_types::{Cookie, Cpu, Kind, Pick, Pid, Steps};
+use std::sync::ledger::Ledger;
+use task_table::TaskTable;
+
+// ---- the fast path
+
+/// What waits for the sibling and may be adopted: nothing was touched since it was chosen.
+fn adoptable<Q: SiblingQueue>(core: &Core<Q>, cpu: Cpu) -> Option<Option<Pid>>
+    requires { cpu < length core.now.lanes.items }
+    ensures { (beside : Beside) (table : Table) → result ≡
+        (if is_fresh_by (numbers_of core.now) then (sibling_of (room_of beside (core.now, table)) cpu).waiting else None) }
+{
+    if core.is_fresh() {
+        core.lanes[cpu as usize].waiting
+    } else {
+        None
+    }
+}
+
+/// The sibling runs what waits for it.
+fn adopt<Q: SiblingQueue>(core: &mut Core<Q>, cpu: Cpu, waiting: Option<Pid>) -> Pick
+    requires { cpu < length core.old.lanes.items }
+    ensures { (now : ℕ) (table : Table) → Schedules now (core.old, table) (core.new, table) cpu result (λ room. adopted room cpu waiting) }
+{
+    let lane = &mut core.lanes[cpu as usize];
+    run(lane, waiting);
+    lane.number = core.pick_number;
+    Pick {
+        kind: Kind::Adopted,
+        run: waiting.unwrap_or(0),
+        core: core.cookie,
+        forced: core.account.count(),
+    }
+}
+
+// ---- the plain pick
+
+/// Whether neither the core nor a sibling's first task has a cookie, and none is forced idle.
+fn is_cookieless(core: Cookie, forced: u8, first: Cookie) -> bool
+    ensures { result ≡ ((core == 0) && (forced == 0) && (first == 0)) }
+{
+    core == 0 && forced == 0 && first == 0
+}
+
+/// Whether no cookie takes part in a schedule of the sibling.
+fn is_plain<Q: SiblingQueue, L: Ledger>(
+    core: &Core<Q>,
+    table: &TaskTable,
+    cpu: Cpu,
+    steps: &mut Steps<L>,
+) -> bool
+    requires cpu { cpu < length core.now.lanes.items }
+    requires agree { Agree (core.now, table.now) }
+    ensures { (beside : Beside) → result ≡ is_plain (room_of beside (core.now, table.now)) cpu }
+{
+    let cookie = core
+        .first_on(table, cpu, steps)
+        .map_or(0, |task| task.cookie);
+    is_cookieless(core.cookie, core.account.count(), cookie)
+}
+
+/// The sibling runs the first of its own queue.
+fn pick_plain<Q: SiblingQueue, L: Ledger>(
+    core: &mut Core<Q>,
+    table: &TaskTable,
+    cpu: Cpu,
+    steps: &mut Steps<L>,
+) -> Pick
+    requires cpu { cpu < length core.old.lanes.items }
+    requires agree { Agree (core.old, table.now) }
+    requires touches { core.old.task_number + 1 < 2 ^ 64 }
+    ensures { (now : ℕ) → Schedules now (core.old, table.now) (core.new, table.now) cpu result (λ room. plain room cpu) }
+{
+    let first = core.first_on(table, cpu, steps);
+    let pid = first.map(|task| task.spec.pid);
+    core.account.close();
+    run_first(&mut core.lanes[cpu as usize], pid, is_fair_task(first));
+    core.touch();
+    Pick {
+        kind: Kind::Plain,
+        run: pid.unwrap_or(0),
+        core: 0,
+        forced: 0,
+    }
+}
+
+// ---- the selection
+
+/// Whether a selection renews snapshots, which it does not where some sibling was forced idle before it
+/// and some is after it.
+fn renews_snapshots(before: u8, after: u8) -> bool
+    ensures { result ≡ ((before == 0) || (after == 0)) }
+{
+    before == 0 || after == 0
+}
+
+/// Gives each online sibling its choice for this core cookie, in a selection that the one sibling
+/// makes, and answers what that one runs.
+fn select_for<Q: SiblingQueue, L: Ledger>(
+    core: &mut Core<Q>,
+    table: &mut TaskTable,
+    cpu: Cpu,
+    cookie: Cookie,
+    now: u64,
+    steps: &mut Steps<L>,
+) -> Option<Pid>
+    requires cpu { cpu < length core.old.lanes.items }
+    requires agree { Agree (core.old, table.old) }
+    requires lead { (beside : Beside) → cookie ≡ cookie_of (lead_from (room_of beside (core.old, table.old)) cpu) }
+    requires clock { now < 2 ^ 56 }
+    ensures room { (beside : Beside) →
+        room_of (at now beside) (core.new, table.new) ≡ selected_room (room_of (at now beside) (core.old, table.old)) cpu cookie }
+    ensures numbers { numbers_of core.new ≡ numbers_of core.old }
+    ensures stays { Stays (core.old, table.old) (core.new, table.new) }
+    ensures run { (beside : Beside) → result ≡ pid_of (choice (room_of beside (core.old, table.old)) cookie cpu) }
+    ensures forced { (beside : Beside) → core.new.account.count ≡ forced_count (room_of beside (core.old, table.old)) cookie }
+{
+    let choices = choices(core, table, cookie, steps);
+    let forced = forced_count(&choices);
+    let occupation = occupation(&choices);
+    let renews = renews_snapshots(core.account.count(), forced);
+    core.cookie = cookie;
+    core.account.begin(cookie, forced, occupation, now);
+    update_tasks(table, &choices, occupation);
+    update_siblings(&mut core.lanes, cpu, &choices, occupation, renews);
+    choices[cpu as usize].run
+}
+
+/// The sibling makes a selection for the core, under the cookie of its lead.
+fn select<Q: SiblingQueue, L: Ledger>(
+    core: &mut Core<Q>,
+    table: &mut TaskTable,
+    cpu: Cpu,
+    now: u64,
+    steps: &mut Steps<L>,
+) -> Pick
+    requires cpu { cpu < length core.old.lanes.items }
+    requires may { MayPick now (core.old, table.old) }
+    ensures { Schedules now (core.old, table.old) (core.new, table.new) cpu result (λ room. selected room cpu) }
+{
+    let cookie = lead_from(core, table, cpu, steps).map_or(0, |task| task.cookie);
+    let run = select_for(core, table, cpu, cookie, now, steps);
+    core.touch();
+    core.pick_number = core.task_number;
+    core.lanes[cpu as usize].number = core.pick_number;
+    Pick {
+        kind: Kind::Selected,
+        run: run.unwrap_or(0),
+        core: cookie,
+        forced: core.account.count(),
+    }
+}
+
+// ---- every case
+
+/// The sibling runs its first, or selects for the core.
+fn pick_anew<Q: SiblingQueue, L: Ledger>(
+    core: &mut Core<Q>,
+    table: &mut TaskTable,
+    cpu: Cpu,
+    now: u64,
+    steps: &mut Steps<L>,
+) -> Pick
+    requires cpu { cpu < length core.old.lanes.items }
+    requires may { MayPick now (core.old, table.old) }
+    ensures { Schedules now (core.old, table.old) (core.new, table.new) cpu result (λ room. picked_anew room cpu) }
+{
+    if is_plain(core, table, cpu, steps) {
+        pick_plain(core, table, cpu, steps)
+    } else {
+        select(core, table, cpu, now, steps)
+    }
+}
+
+/// The sibling picks anew, at `now`, in ns from the start.
+pub fn pick_and_balance<Q: SiblingQueue, L: Ledger>(
+    core: &mut Core<Q>,
+    table: &mut TaskTable,
+    cpu: Cpu,
+    now: u64,
+    steps: &mut Steps<L>,
+) -> Pick
+    requires cpu { cpu < length core.old.lanes.items }
+    requires may { MayPick now (core.old, table.old) }
+    ensures { Schedules now (core.old, table.old) (core.new, table.new) cpu result (λ room. balanced cpu (picked_anew room cpu)) }
+{
+    let pick = pick_anew(core, table, cpu, now, steps);
+    balance(core, table, cpu, steps);
+    pick
+}
+
+/// The sibling runs what waits for it where that may be adopted. Else the open interval is charged, and the
+/// sibling picks anew.
+fn adopt_or_pick_anew<Q: SiblingQueue, L: Ledger>(
+    core: &mut Core<Q>,
+    table: &mut TaskTable,
+    cpu: Cpu,
+    now: u64,
+    steps: &mut Steps<L>,
+) -> Pick
+    requires cpu { cpu < length core.old.lanes.items }
+    requires may { MaySchedule now (core.old, table.old) }
+    ensures { ChargesAndSchedules now (core.old, table.old) (core.new, table.new) cpu result
+        (λ room. adopted_or_picked_anew room (is_fresh_by (numbers_of core.old)) cpu (sibling_of room cpu).waiting) }
+{
+    match adoptable(core, cpu) {
+        Some(waiting) => adopt(core, cpu, waiting),
+        None => {
+            charge(core, table, now);
+            pick_anew(core, table, cpu, now, steps)
+        }
+    }
+}
+
+/// The sibling schedules at `now`, in ns from the start (`pick_next_task`). `None` exactly where it is
+/// offline, and then nothing changes.
+pub fn schedule<Q: SiblingQueue, L: Ledger>(
+    core: &mut Core<Q>,
+    table: &mut TaskTable,
+    cpu: Cpu,
+    now: u64,
+    steps: &mut Steps<L>,
+) -> Option<Pick>
+    requires cpu { cpu < length core.old.lanes.items }
+    requires may { MaySchedule now (core.old, table.old) }
+    ensures online { (beside : Beside) → is_some result ≡ is_online (room_of beside (core.old, table.old)) cpu }
+    ensures core { IfNone result (core.new ≡ core.old) }
+    ensures table { IfNone result (table.new ≡ table.old) }
+    ensures schedules { IfSome result (λ pick. ChargesAndSchedules now (core.old, table.old) (core.new, table.new) cpu pick
+        (λ room. schedule room (is_fresh_by (numbers_of core.old)) cpu)) }
+{
+    if !core.is_online(cpu) {
+        return None;
+    }
+    let pick = adopt_or_pick_anew(core, table, cpu, now, steps);
+    balance(core, table, cpu, steps);
+    Some(pick)
+}

@@ -1,0 +1,161 @@
+//! What a selection for the core asks of the queues: the lead, and what each sibling gets for a core cookie.
+//! It is a file of its own since it changes nothing.
+
+ghost use Rattle.std.specs.Prelude.{◌≡◌, ◌+◌, ◌-◌, ◌<◌, ◌≤◌, ◌++◌, ◌&&◌, ◌==◌, length, map, filter, None, is_none, is_some, if◌then◌else◌};
+ghost use Rattle.std.specs.List.{range_with_len};
+ghost use Rattle.arrayvec.specs.ArrayVec.{array_vec_len};
+ghost use Rattle.cs_types.specs.Room.{is_online};
+ghost use Rattle.cs_types.specs.Order.{first_of};
+ghost use Rattle.cs_types.specs.Selection.{first_on, queued_with, is_fair_task, choice, lead_from};
+ghost use Rattle.core_lanes.specs.Lanes.{Beside, room_of, Agree, HasLowTimes};
+ghost use Rattle.core_pick.specs.Choice.{choice_at};
+
+use crate::choice::{Choice, Choices};
+use crate::lead::{Firsts, lead_of};
+use core_lanes::{Core, SiblingQueue};
+use cs_types::{Cookie, Cpu, Policy, Steps, Task};
+use std::sync::ledger::Ledger;
+use task_table::TaskTable;
+
+/// The first task queued on a sibling that has the cookie (`sched_core_find`). None has cookie 0 here.
+fn first_with<Q: SiblingQueue, L: Ledger>(
+    core: &Core<Q>,
+    table: &TaskTable,
+    cookie: Cookie,
+    cpu: Cpu,
+    steps: &mut Steps<L>,
+) -> Option<Task>
+    requires cpu { cpu < length core.now.lanes.items }
+    requires agree { Agree (core.now, table.now) }
+    ensures { (beside : Beside) → result ≡
+        (if cookie == 0 then None else first_of (queued_with (room_of beside (core.now, table.now)) cookie cpu)) }
+{
+    if cookie == 0 {
+        return None;
+    }
+    core.lanes[cpu as usize]
+        .queue
+        .first_with(cookie, table, cpu, steps)
+}
+
+/// The task that a sibling with this first task gets for a core cookie, none for idle.
+#[tactic(auto, unfolding(cs_types::specs::Selection::choice))]
+fn choice<Q: SiblingQueue, L: Ledger>(
+    core: &Core<Q>,
+    table: &TaskTable,
+    first: Option<Task>,
+    cookie: Cookie,
+    cpu: Cpu,
+    steps: &mut Steps<L>,
+) -> Option<Task>
+    requires cpu { cpu < length core.now.lanes.items }
+    requires agree { Agree (core.now, table.now) }
+    ensures { (beside : Beside) → first ≡ first_on (room_of beside (core.now, table.now)) cpu →
+        result ≡ choice (room_of beside (core.now, table.now)) cookie cpu }
+{
+    match first {
+        Some(task) if task.cookie != cookie => first_with(core, table, cookie, cpu, steps),
+        _ => first,
+    }
+}
+
+/// What a sibling gets for a core cookie.
+fn choice_at<Q: SiblingQueue, L: Ledger>(
+    core: &Core<Q>,
+    table: &TaskTable,
+    cookie: Cookie,
+    cpu: Cpu,
+    steps: &mut Steps<L>,
+) -> Choice
+    requires cpu { cpu < length core.now.lanes.items }
+    requires agree { Agree (core.now, table.now) }
+    ensures { (beside : Beside) → result ≡ choice_at (room_of beside (core.now, table.now)) cookie cpu }
+{
+    let first = core.first_on(table, cpu, steps);
+    let chosen = choice(core, table, first, cookie, cpu, steps);
+    let is_online = core.is_online(cpu);
+    Choice {
+        run: chosen.map(|task| task.spec.pid),
+        is_online,
+        is_forced: is_forced(is_online, first, chosen),
+        is_fair: is_fair_task(chosen),
+    }
+}
+
+/// What each sibling gets for a core cookie.
+pub fn choices<Q: SiblingQueue, L: Ledger>(
+    core: &Core<Q>,
+    table: &TaskTable,
+    cookie: Cookie,
+    steps: &mut Steps<L>,
+) -> Choices
+    requires { Agree (core.now, table.now) }
+    ensures each { (beside : Beside) → result.items ≡
+        map (choice_at (room_of beside (core.now, table.now)) cookie) (range_with_len 0 (length core.now.lanes.items)) }
+    ensures length { length result.items ≡ length core.now.lanes.items }
+{
+    let mut choices = Choices::new();
+    for cpu in 0..core.lanes.len() {
+        choices.push(choice_at(core, table, cookie, cpu as u8, steps));
+    }
+    choices
+}
+
+/// Puts the firsts of the online siblings from one on up to another after the others.
+fn push_firsts<Q: SiblingQueue, L: Ledger>(
+    firsts: &mut Firsts,
+    core: &Core<Q>,
+    table: &TaskTable,
+    from: Cpu,
+    to: Cpu,
+    steps: &mut Steps<L>,
+)
+    requires agree { Agree (core.now, table.now) }
+    requires ordered { from ≤ to }
+    requires within { to ≤ length core.now.lanes.items }
+    requires spare { array_vec_len firsts.old + (to - from) ≤ 16 }
+    ensures pushed { (beside : Beside) → let room = room_of beside (core.now, table.now) in
+        firsts.new.items ≡ firsts.old.items ++ map (first_on room) (filter (is_online room) (range_with_len from (to - from))) }
+    ensures length { array_vec_len firsts.new ≤ array_vec_len firsts.old + (to - from) }
+{
+    for cpu in from..to {
+        if core.is_online(cpu) {
+            firsts.push(core.first_on(table, cpu, steps));
+        }
+    }
+}
+
+/// The lead of a selection that the sibling makes, none for idle.
+pub fn lead_from<Q: SiblingQueue, L: Ledger>(
+    core: &Core<Q>,
+    table: &TaskTable,
+    cpu: Cpu,
+    steps: &mut Steps<L>,
+) -> Option<Task>
+    requires cpu { cpu < length core.now.lanes.items }
+    requires agree { Agree (core.now, table.now) }
+    requires low { HasLowTimes (core.now, table.now) }
+    ensures { (beside : Beside) → result ≡ lead_from (room_of beside (core.now, table.now)) cpu }
+{
+    let mut firsts = Firsts::new();
+    push_firsts(&mut firsts, core, table, cpu, core.lanes.len() as u8, steps);
+    push_firsts(&mut firsts, core, table, 0, cpu, steps);
+    lead_of(&firsts, &core.lanes)
+}
+
+/// Whether this is a fair task.
+pub fn is_fair_task(task: Option<Task>) -> bool
+    ensures { result ≡ is_fair_task task }
+{
+    match task {
+        Some(task) => matches!(task.spec.policy, Policy::Fair(_)),
+        None => false,
+    }
+}
+
+/// Whether a sibling with this first task that gets the other is forced idle.
+fn is_forced(is_online: bool, first: Option<Task>, chosen: Option<Task>) -> bool
+    ensures { result ≡ (is_online && (is_none chosen && is_some first)) }
+{
+    is_online && chosen.is_none() && first.is_some()
+}

@@ -1,0 +1,72 @@
+//! What a schedule makes of one sibling. It is a file of its own since it knows no other sibling.
+
+ghost use Rattle.std.specs.Prelude.{◌≡◌, ℕ, if◌then◌else◌};
+ghost use Rattle.cs_types.specs.Room.{RoomState};
+ghost use Rattle.cs_types.specs.Selection.{running, occupation_of, renews_snapshots, sibling_after_selection};
+ghost use Rattle.core_lanes.specs.Lanes.{lane_state};
+ghost use Rattle.core_pick.specs.Choice.{choice_at};
+
+use crate::choice::Choice;
+use core_lanes::Lane;
+use cs_types::{Cpu, Pid};
+
+/// It runs this from now on, nothing waits for it, and its reschedule is no longer pending
+/// (`clear_tsk_need_resched`).
+pub fn run<Q: Drop>(lane: &mut Lane<Q>, run: Option<Pid>)
+    ensures state { lane_state lane.new ≡ running (lane_state lane.old) run }
+    ensures number { lane.new.number ≡ lane.old.number }
+    ensures queue { lane.new.queue ≡ lane.old.queue }
+{
+    lane.run = run;
+    lane.pending = false;
+    lane.waiting = None;
+    lane.ran = 0;
+}
+
+/// It runs its first task, which is fair where the test says so, or idle (`se_fi_update`).
+pub fn run_first<Q: Drop>(lane: &mut Lane<Q>, first: Option<Pid>, is_fair: bool)
+    ensures state { lane_state lane.new ≡
+        record (running (lane_state lane.old) first) { snapshot = if is_fair then lane.old.least else lane.old.snapshot } }
+    ensures number { lane.new.number ≡ lane.old.number }
+    ensures queue { lane.new.queue ≡ lane.old.queue }
+{
+    run(lane, first);
+    lane.snapshot = if is_fair { lane.least } else { lane.snapshot };
+}
+
+/// It gets this choice in a selection for the core that the selector makes, where it is online. The test
+/// says whether snapshots are renewed.
+pub fn hand<Q: Drop>(
+    lane: &mut Lane<Q>,
+    selector: Cpu,
+    cpu: Cpu,
+    choice: Choice,
+    occupation: u8,
+    renews: bool,
+)
+    ensures state { (room : RoomState) (cookie : ℕ) → choice ≡ choice_at room cookie cpu → occupation ≡ occupation_of room cookie →
+        renews ≡ renews_snapshots room cookie → lane_state lane.new ≡ sibling_after_selection room cookie selector cpu (lane_state lane.old) }
+    ensures number { lane.new.number ≡ lane.old.number }
+    ensures queue { lane.new.queue ≡ lane.old.queue }
+{
+    let selects = cpu == selector;
+    let runs_it = lane.run == choice.run;
+    lane.run = if selects { choice.run } else { lane.run };
+    lane.waiting = if selects || runs_it {
+        None
+    } else {
+        Some(choice.run)
+    };
+    lane.pending = !selects && (!runs_it || lane.pending);
+    lane.ran = if selects { 0 } else { lane.ran };
+    lane.idle_occupation = if choice.run.is_none() {
+        occupation
+    } else {
+        lane.idle_occupation
+    };
+    lane.snapshot = if choice.is_fair && renews {
+        lane.least
+    } else {
+        lane.snapshot
+    };
+}

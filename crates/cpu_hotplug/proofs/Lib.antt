@@ -1,0 +1,4 @@
+pub mod Onlines
+mod Places
+mod Stamps
+mod Steps

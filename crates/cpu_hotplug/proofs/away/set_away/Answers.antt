@@ -1,0 +1,48 @@
+use Rattle.std.proofs.Common.{◌≡◌, ◌<◌, ◌∙◌, ap, sym, map, length, get_or, eqb, eq-eqb, ne_eqb, arith}
+use Rattle.std.proofs.lemmas.List.{map-set, length-map, get_or-map}
+use Rattle.std.proofs.lemmas.Bool.{cond-true, cond-false}
+use Rattle.cs_types.specs.Room.{SiblingState, absent}
+use Rattle.cs_types.specs.Hotplug.{away}
+use Rattle.core_lanes.specs.Lanes.{lane_state}
+use Rattle.core_lanes.proofs.Lists.{placed_more}
+use Rattle.core_lanes.proofs.Stays.{number_of, queue_of, numbers_kept, queues_kept}
+use Rattle.cpu_hotplug.specs.Leaves.{left, beside_one_that_leaves}
+use Rattle.cpu_hotplug.proofs.away.set_away.Goals as goal
+use Rattle.cpu_hotplug.proofs.away.set_away.Goals.{then-other-cpu, else-other-cpu}
+
+pub loop-other-preserved : goal.loop-other-preserved
+loop-other-preserved g c =
+    let lanes = c.loop-other.lanes in
+    let states = map lane_state c.args.lanes.now in
+    let other = c.loop-other.other in
+    let cpu = c.args.cpu in
+    let read = c.index-lanes-other.result in
+    let is = c.index-lanes-other.is in
+    let old = get_or lanes other read in
+    let within : other < length states = omega (arith, length-map c.args.lanes.now lane_state, c.loop-other-test.true) in
+    let inside : other < length lanes = omega (arith, c.loop-other-test.true, c.loop-other.auto.lanes) in
+    let at = get_or-map lane_state lanes other read absent inside in
+    elim c.if-other-cpu.branch [
+      | then-other-cpu w ↦
+          let now = w.leave.new.lane in
+          let made : lane_state now ≡ left cpu (other, lane_state old) =
+          w.leave.ensures.state ∙ sym (cond-true (eqb other cpu) (away (lane_state old)) (beside_one_that_leaves (lane_state old)) (eq-eqb other cpu w.if-other-cpu.true)) in
+          record {
+            states = ap (map lane_state) w.lanes-is ∙ map-set lane_state lanes other now
+                ∙ placed_more (left cpu) states (map lane_state lanes) other (lane_state now) absent within c.loop-other.invariant.states
+                (made ∙ ap (λ (state : SiblingState). left cpu (other, state)) (sym at));
+            numbers = ap (map number_of) w.lanes-is ∙ numbers_kept lanes other read now is (w.leave.ensures.number ∙ ap number_of (sym is)) ∙ c.loop-other.invariant.numbers;
+            queues = ap (map queue_of) w.lanes-is ∙ queues_kept lanes other read now is (w.leave.ensures.queue ∙ ap queue_of (sym is)) ∙ c.loop-other.invariant.queues;
+          }
+      | else-other-cpu w ↦
+          let now = w.stand_by.new.lane in
+          let made : lane_state now ≡ left cpu (other, lane_state old) =
+          w.stand_by.ensures.state ∙ sym (cond-false (eqb other cpu) (away (lane_state old)) (beside_one_that_leaves (lane_state old)) (ne_eqb other cpu w.if-other-cpu.false)) in
+          record {
+            states = ap (map lane_state) w.lanes-is ∙ map-set lane_state lanes other now
+                ∙ placed_more (left cpu) states (map lane_state lanes) other (lane_state now) absent within c.loop-other.invariant.states
+                (made ∙ ap (λ (state : SiblingState). left cpu (other, state)) (sym at));
+            numbers = ap (map number_of) w.lanes-is ∙ numbers_kept lanes other read now is (w.stand_by.ensures.number ∙ ap number_of (sym is)) ∙ c.loop-other.invariant.numbers;
+            queues = ap (map queue_of) w.lanes-is ∙ queues_kept lanes other read now is (w.stand_by.ensures.queue ∙ ap queue_of (sym is)) ∙ c.loop-other.invariant.queues;
+          }
+    ]

@@ -1,0 +1,53 @@
+use Rattle.std.proofs.Common.{◌≡◌, ◌*◌, ◌∙◌, ap, sym, map, length, refl}
+use Rattle.std.specs.Prelude.{List}
+use Rattle.std.specs.List.{enumerate_from}
+use Rattle.std.proofs.lemmas.List.{with_items_is}
+use Rattle.cs_types.specs.Room.{RoomState}
+use Rattle.cs_types.specs.Accounting.{charge}
+use Rattle.cs_types.specs.Hotplug.{leave}
+use Rattle.core_lanes.specs.declared.lane.Lane.{Lane}
+use Rattle.core_lanes.specs.Queued.{queued_among}
+use Rattle.core_lanes.specs.Lanes.{at, beside_after, lane_state, room_of}
+use Rattle.core_lanes.specs.Numbers.{Numbers, numbers_of, touched}
+use Rattle.core_lanes.proofs.Stays.{number_of, queue_of, both_stay, alike_stays}
+use Rattle.cpu_hotplug.specs.Leaves.{left, with_moves}
+use Rattle.cpu_hotplug.proofs.Steps.{closed, with_account, closed_is, leave_is}
+use Rattle.cpu_hotplug.proofs.hotplug.leave.Goals as goal
+
+pub returns : goal.returns
+unfolding leave
+returns g c =
+    let cpu = c.args.cpu in
+    let moved = c.move_off.new.core in
+    let account = c.close.new.self in
+    let kept = with_items_is moved.lanes c.set_away.new.lanes (c.set_away.auto.lanes ∙ ap length c.deref_mut.ensures.value ∙ sym moved.lanes.ok.0) in
+    record {
+      room = λ beside.
+          let room = room_of (at c.args.now beside) (c.args.core.now, c.args.table.now) in
+          let paid = beside_after (at c.args.now beside) (charge room) in
+          let shut : room_of paid (c.charge.new.core, c.args.table.now) ≡ charge room = c.charge.ensures.charges.room beside in
+          let before = ap (λ (r : RoomState). with_account r account) shut ∙ closed_is (charge room) account c.close.ensures.count c.close.ensures.occupation c.close.ensures.started in
+          let after : room_of paid (moved, c.move_off.new.table) ≡ with_moves (closed (charge room)) cpu = c.move_off.ensures.room paid ∙ ap (λ (r : RoomState). with_moves r cpu) before in
+          let states : map lane_state c.set_away.new.lanes ≡ map (left cpu) (enumerate_from 0 room.siblings) =
+          c.set_away.ensures.states
+          ∙ ap (λ (lanes : List (Lane g.row.Q.Denot)). map (left cpu) (enumerate_from 0 (map lane_state lanes))) c.deref_mut.ensures.value
+          ∙ ap (λ (r : RoomState). map (left cpu) (enumerate_from 0 r.siblings)) after in
+          ap (λ (lanes : List (Lane g.row.Q.Denot)). let next : RoomState = record (room_of paid (moved, c.move_off.new.table)) { siblings = map lane_state lanes } in next) kept
+          ∙ (λ i. let next : RoomState = record (after i) { siblings = states i } in next)
+          ∙ leave_is room cpu;
+      numbers = λ beside booked_before.
+          let room = room_of (at c.args.now beside) (c.args.core.now, c.args.table.now) in
+          let own : map number_of c.set_away.new.lanes ≡ map number_of moved.lanes.items = c.set_away.ensures.numbers ∙ ap (map number_of) c.deref_mut.ensures.value in
+          let charged =
+          ap (λ n. let next : Numbers = record (numbers_of c.charge.new.core) { intervals = n } in next) c.close.ensures.intervals
+          ∙ c.charge.ensures.charges.numbers beside booked_before in
+          ap (λ (lanes : List (Lane g.row.Q.Denot)). let next : Numbers = record (numbers_of moved) { own = map number_of lanes } in next) kept
+          ∙ (λ i. let next : Numbers = record (numbers_of moved) { own = own i } in next)
+          ∙ c.move_off.ensures.numbers
+          ∙ ap (touched (2 * length (queued_among c.args.table.now.tasks cpu))) charged;
+      stays =
+          both_stay c.charge.ensures.charges.stays
+          (both_stay (alike_stays _ _ refl refl refl refl)
+          (both_stay c.move_off.ensures.stays
+          (alike_stays _ _ (ap (map queue_of) kept ∙ c.set_away.ensures.queues ∙ ap (map queue_of) c.deref_mut.ensures.value) refl refl refl)));
+    }

@@ -1,0 +1,186 @@
+use Rattle.std.proofs.Common.{◌≡◌, ◌+◌, ◌*◌, ◌<◌, ◌≤◌, ◌^◌, false, true, refl, subst, sym, ap, ◌∙◌, arith, length, get_or, Some, eq-eqb, ne_eqb}
+use Rattle.std.specs.Prelude.{◌==◌, ◌&&◌, All, List, option_copied, slice_get}
+use Rattle.std.proofs.Math.Bool.{and-false}
+use Rattle.std.proofs.lemmas.List.{length-map}
+use Rattle.std.proofs.lemmas.List.Sums.{length-filter, count_by-le-length}
+use Rattle.cs_types.specs.declared.task.Task.{Task}
+use Rattle.cs_types.specs.declared.task.TaskSpec.{TaskSpec}
+use Rattle.cs_types.specs.Scenario.{IsPolicy}
+use Rattle.cs_types.specs.Room.{RoomState, SiblingState}
+use Rattle.cs_types.specs.Hotplug.{moved_off}
+use Rattle.core_lanes.specs.Queued.{queued_among}
+use Rattle.core_lanes.specs.Lanes.{room_of, IsFit, MayStamp}
+use Rattle.core_lanes.specs.Numbers.{numbers_of, touched}
+use Rattle.core_lanes.specs.Changes.{Kept, Stays}
+use Rattle.core_lanes.proofs.Stays.{some_beside, both_stay, found_in, stamped_later}
+use Rattle.cpu_hotplug.proofs.Places.{mapped_all, task_was, found_then, same_more, there, changed_more, so_far, moved_is, stays, stamp_at}
+use Rattle.cpu_hotplug.proofs.Stamps.{may_stamp}
+use Rattle.cpu_hotplug.proofs.moves.move_off.Goals as goal
+use Rattle.cpu_hotplug.proofs.moves.move_off.Goals.{then-task+then-task-cpu, else-task, else-task-via-then-task+else-task-cpu, else-task-via-else-task}
+
+-- ---- the numbers
+
+pub overflow_add-core : goal.overflow_add-core
+overflow_add-core g c =
+    let tasks = c.args.table.now.tasks in
+    omega (
+      arith,
+      c.from-count.ensures,
+      c.count.ensures,
+      c.requires.stamp,
+      length-filter (λ (task : Task). task.queued && (task.home == c.args.cpu)) tasks,
+      count_by-le-length (λ (task : Task). task.queued && (task.home == c.args.cpu)) tasks,
+    )
+
+pub overflow_add-core-2 : goal.overflow_add-core-2
+overflow_add-core-2 g c =
+    let tasks = c.args.table.now.tasks in
+    omega (
+      arith,
+      c.from-count.ensures,
+      c.count.ensures,
+      c.requires.touches,
+      length-filter (λ (task : Task). task.queued && (task.home == c.args.cpu)) tasks,
+      count_by-le-length (λ (task : Task). task.queued && (task.home == c.args.cpu)) tasks,
+    )
+
+pub loop-position-init : goal.loop-position-init
+loop-position-init g c =
+    let core = c.args.core.now in
+    let table = c.args.table.now in
+    let count = c.from-count.result in
+    let is : count ≡ length (queued_among table.tasks c.args.cpu) = c.from-count.ensures ∙ c.count.ensures in
+    let later : core.next_stamp ≤ core.next_stamp + count = omega arith in
+    record {
+      as_many = refl;
+      room = λ beside. ap (λ n. let next : RoomState = record (room_of beside (core, table)) { next_stamp = core.next_stamp + n } in next) is;
+      numbers = ap (λ n. touched (2 * n) (numbers_of core)) is;
+      stays = stamped_later core _ table refl refl later;
+    }
+
+-- ---- the calls
+
+pub moved_to-moved-requires-clause-vtime : goal.moved_to-moved-requires-clause-vtime
+moved_to-moved-requires-clause-vtime g c =
+    let table = c.args.table.now in
+    let now = c.loop-position.table in
+    let position = c.loop-position.position in
+    let task = c.unwrap-task.result.now in
+    let change = moved_off (room_of some_beside (c.args.core.now, table)) c.args.cpu in
+    let within : position < length table.tasks = omega (arith, c.loop-position-test.true, c.len-position-end.ensures.len) in
+    let at : slice_get now.tasks position ≡ Some task = sym c.at.ensures.task ∙ ap option_copied c.unwrap-task.ensures in
+    let are = ap (λ (room : RoomState). room.tasks) (c.loop-position.invariant.room some_beside) in
+    found_in (λ (one : Task). one.vtime < 2 ^ 100) task.spec.pid table.tasks task c.requires.low.vtimes
+    (found_then change table.tasks now.tasks position task within are at c.requires.agree.table.rising)
+
+pub moved_to-moved-requires-clause-leasts : goal.moved_to-moved-requires-clause-leasts
+moved_to-moved-requires-clause-leasts g c =
+    subst (λ (siblings : List SiblingState). All (λ (sibling : SiblingState). sibling.least < 2 ^ 100) siblings)
+    (sym (ap (λ (room : RoomState). room.siblings) (c.loop-position.invariant.room some_beside))) c.requires.low.leasts
+
+pub change-requires-clause-knows : goal.change-requires-clause-knows
+change-requires-clause-knows g c =
+    let core = c.args.core.now in
+    let table = c.args.table.now in
+    let now = c.loop-position.table in
+    let position = c.loop-position.position in
+    let task = c.unwrap-task.result.now in
+    let cpu = c.args.cpu in
+    let room = room_of some_beside (core, table) in
+    let change = moved_off room cpu in
+    let within : position < length table.tasks = omega (arith, c.loop-position-test.true, c.len-position-end.ensures.len) in
+    let at : slice_get now.tasks position ≡ Some task = sym c.at.ensures.task ∙ ap option_copied c.unwrap-task.ensures in
+    let are = ap (λ (one : RoomState). one.tasks) (c.loop-position.invariant.room some_beside) in
+    let was = task_was change table.tasks now.tasks position task within are at in
+    let found = found_then change table.tasks now.tasks position task within are at c.requires.agree.table.rising in
+    let agree = c.loop-position.invariant.stays.agree c.requires.agree in
+    let many : length c.loop-position.core.lanes.items ≡ length core.lanes.items = ap (λ (kept : Kept). kept.siblings) c.loop-position.invariant.stays.kept in
+    let moved = c.moved_to-moved.ensures some_beside now in
+    let done : Task = record c.moved_to-moved.result { stamp = get_or c.deref.result.now position 0 } in
+    let spec : done.spec ≡ task.spec = ap (λ (one : Task). one.spec) moved in
+    let on : (task.queued && (task.home == cpu)) ≡ true = λ i. c.if-task.true i && eq-eqb task.home cpu c.if-task-cpu.true i in
+    let stamp = stamp_at (queued_among table.tasks cpu) table.tasks core.next_stamp position task c.deref.result.now within (c.deref.ensures.0 ∙ c.new_stamps-stamps.ensures) was in
+    let policy = (found_in (IsFit (length core.lanes.items)) task.spec.pid table.tasks task c.requires.agree.tasks found).policy in
+    record {
+      known = record {
+        apart = record {
+          old = task;
+          there = there change table.tasks now.tasks position task within are at agree.table.rising done spec;
+          fits = record {
+            home = omega (arith, ap (λ (one : Task). one.home) moved, c.lowest_other-to.ensures.within, many);
+            policy = subst (λ (one : TaskSpec). IsPolicy one.policy) (sym spec) policy;
+          };
+        };
+        cookie = ap (λ (one : Task). one.cookie) moved;
+      };
+      stamp = λ queued.
+          subst (λ n. MayStamp n now.tasks done) (sym (ap (λ (one : RoomState). one.next_stamp) (c.loop-position.invariant.room some_beside)))
+          (may_stamp room cpu c.requires.agree.stamped position now.tasks task done are found on spec stamp);
+    }
+
+pub loop-position-preserved : goal.loop-position-preserved
+loop-position-preserved g c =
+    let core = c.args.core.now in
+    let table = c.args.table.now in
+    let now = c.loop-position.table in
+    let position = c.loop-position.position in
+    let task = c.unwrap-task.result.now in
+    let cpu = c.args.cpu in
+    let within : position < length table.tasks = omega (arith, c.loop-position-test.true, c.len-position-end.ensures.len) in
+    let at : slice_get now.tasks position ≡ Some task = sym c.at.ensures.task ∙ ap option_copied c.unwrap-task.ensures in
+    let agree = c.loop-position.invariant.stays.agree c.requires.agree in
+    elim c.if-task.branch [
+      | then-task+then-task-cpu w ↦
+          let done : Task = record w.moved_to-moved.result { stamp = get_or w.deref.result.now position 0 } in
+          record {
+            as_many =
+                ap (λ t. length t.tasks) w.table-is ∙ ap (λ (room : RoomState). length room.tasks) (w.change.ensures.room some_beside)
+                ∙ length-map now.tasks _ ∙ c.loop-position.invariant.as_many;
+            room = λ beside.
+                let room = room_of beside (core, table) in
+                let change = moved_off room cpu in
+                let are = ap (λ (one : RoomState). one.tasks) (c.loop-position.invariant.room beside) in
+                let same = ap (λ (one : RoomState). one.siblings) (c.loop-position.invariant.room beside) in
+                let was = task_was change table.tasks now.tasks position task within are at in
+                let stamp = stamp_at (queued_among table.tasks cpu) table.tasks core.next_stamp position task w.deref.result.now within (w.deref.ensures.0 ∙ c.new_stamps-stamps.ensures) was in
+                let is = moved_is room (room_of beside (c.loop-position.core, now)) cpu c.lowest_other-to.result (get_or w.deref.result.now position 0) task w.moved_to-moved.result same
+                (c.lowest_other-to.ensures.lowest beside table) (w.moved_to-moved.ensures beside now) w.if-task.true w.if-task-cpu.true stamp in
+                let more = changed_more change table.tasks now.tasks position task within are at agree.table.rising done (ap (λ (one : Task). one.spec) (w.moved_to-moved.ensures beside now)) is in
+                (λ i. room_of beside (w.core-is i, w.table-is i)) ∙ w.change.ensures.room beside
+                ∙ (λ i. let next : RoomState = record (c.loop-position.invariant.room beside i) { tasks = more i } in next);
+            numbers = ap numbers_of w.core-is ∙ w.change.ensures.numbers ∙ c.loop-position.invariant.numbers;
+            stays = subst (Stays (core, table)) (λ i. (sym w.core-is i, sym w.table-is i)) (both_stay c.loop-position.invariant.stays w.change.ensures.stays);
+          }
+      | else-task w ↦
+          let stays_there : (task.queued && (task.home == cpu)) ≡ false = elim w.else-task.branch [
+            | else-task-via-then-task+else-task-cpu w' ↦ ap (λ b. task.queued && b) (ne_eqb task.home cpu w'.if-task-cpu.false) ∙ and-false task.queued
+            | else-task-via-else-task w' ↦ ap (λ b. b && (task.home == cpu)) w'.if-task.false
+          ] in
+          record {
+            as_many = ap (λ t. length t.tasks) w.table-is ∙ c.loop-position.invariant.as_many;
+            room = λ beside.
+                let room = room_of beside (core, table) in
+                let are = ap (λ (one : RoomState). one.tasks) (c.loop-position.invariant.room beside) in
+                let more = same_more (moved_off room cpu) table.tasks now.tasks position task within are at (stays room cpu task stays_there) in
+                (λ i. room_of beside (w.core-is i, w.table-is i))
+                ∙ (λ i. let next : RoomState = record (c.loop-position.invariant.room beside i) { tasks = more i } in next);
+            numbers = ap numbers_of w.core-is ∙ c.loop-position.invariant.numbers;
+            stays = subst (Stays (core, table)) (λ i. (sym w.core-is i, sym w.table-is i)) c.loop-position.invariant.stays;
+          }
+    ]
+
+-- ---- all tasks
+
+pub returns : goal.returns
+returns g c =
+    let table = c.args.table.now in
+    let position = c.loop-position.position in
+    let all : position ≡ length table.tasks = omega (arith, c.loop-position-test.false, c.loop-position.auto.position-end, c.len-position-end.ensures.len) in
+    record {
+      room = λ beside.
+          let room = room_of beside (c.args.core.now, table) in
+          let moved = mapped_all (moved_off room c.args.cpu) table.tasks position all in
+          c.loop-position.invariant.room beside ∙ (λ i. let next : RoomState = record (so_far room c.args.cpu position) { tasks = moved i } in next);
+      numbers = c.loop-position.invariant.numbers;
+      stays = c.loop-position.invariant.stays;
+    }

@@ -1,0 +1,46 @@
+-- Hotplugs: what an ask that a sibling leaves the core, or comes back, makes of a core and its table.
+use Rattle.std.specs.Prelude.{◌≡◌, ◌≢◌, ℕ, ◌*◌, length}
+use Rattle.cs_types.specs.declared.reply.Reply.{Reply}
+use Rattle.cs_types.specs.declared.reply.Reply.TheVariants as answer
+use Rattle.cs_types.specs.declared.reply.Errno.TheVariants.{Ebusy}
+use Rattle.cs_types.specs.Step.{taken_offline, brought_online}
+use Rattle.task_table.specs.Table.{Table}
+use Rattle.core_lanes.specs.declared.queue.SiblingQueue.{Ghosts}
+use Rattle.core_lanes.specs.declared.lanes.Core.{Core}
+use Rattle.core_lanes.specs.Queued.{queued_among}
+use Rattle.core_lanes.specs.Lanes.{Beside, at, room_of}
+use Rattle.core_lanes.specs.Numbers.{numbers_of, booked, touched}
+use Rattle.core_lanes.specs.Changes.{Stays, Becomes, BecomesCharged, IsBooked}
+use Rattle.cpu_hotplug.specs.declared.hotplug.Hotplug.{Hotplug}
+use Rattle.cpu_hotplug.specs.declared.hotplug.Hotplug.TheVariants.{Done, Busy, Already}
+
+-- what a machine answers
+abbrev pub reply_of : Hotplug → Reply
+reply_of Done = answer.Done
+reply_of Busy = answer.Refused Ebusy
+reply_of Already = answer.Already
+
+-- how often the queues are touched where this number of tasks is queued on the sibling: twice for each that moves
+abbrev pub leave_touches : Hotplug → ℕ → ℕ
+leave_touches Done queued = 2 * queued
+leave_touches Busy queued = 0
+leave_touches Already queued = 0
+
+-- The new room and the answer are those of an ask at this moment that the sibling leaves. The open interval is charged
+-- where it does, and else nothing changes.
+pub record TakesOffline {Q : Type 0} {g : Ghosts Q} (now : ℕ) (old new : Core Q g × Table) (cpu : ℕ) (made : Hotplug) : Type 0 where
+  pub reply : (beside : Beside) → reply_of made ≡ (taken_offline (room_of (at now beside) old) cpu).reply
+  pub room : BecomesCharged now old new (λ room. (taken_offline room cpu).room)
+  pub numbers : (beside : Beside) → IsBooked (room_of (at now beside) old) old.0 →
+      numbers_of new.0
+      ≡ touched (leave_touches made (length (queued_among old.1.tasks cpu))) (booked (taken_offline (room_of (at now beside) old) cpu).room (numbers_of old.0))
+  pub unchanged : made ≢ Done → new ≡ old
+  pub stays : Stays old new
+
+-- the new room and the answer are those of an ask that the sibling comes back, and where it does not nothing changes
+pub record BringsOnline {Q : Type 0} {g : Ghosts Q} (old new : Core Q g × Table) (cpu : ℕ) (made : Hotplug) : Type 0 where
+  pub reply : (beside : Beside) → reply_of made ≡ (brought_online (room_of beside old) cpu).reply
+  pub room : Becomes old new (λ room. (brought_online room cpu).room)
+  pub numbers : numbers_of new.0 ≡ numbers_of old.0
+  pub unchanged : made ≢ Done → new ≡ old
+  pub stays : Stays old new

@@ -1,0 +1,20 @@
+-- Leaves: what the leaving of a sibling makes of the siblings and of the tasks, each by itself.
+use Rattle.std.specs.Prelude.{ℕ, ◌+◌, ◌==◌, ◌||◌, if◌then◌else◌, map, length}
+use Rattle.cs_types.specs.Room.{RoomState, SiblingState, queued_on}
+use Rattle.cs_types.specs.Hotplug.{away, moved_off}
+
+-- a sibling becomes pending where it is online, since another leaves
+abbrev pub beside_one_that_leaves : SiblingState → SiblingState
+beside_one_that_leaves sibling = record sibling { pending = sibling.pending || sibling.online }
+
+-- the sibling at a place once the one with the number left
+abbrev pub left : ℕ → ℕ × SiblingState → SiblingState
+left cpu place = if place.0 == cpu then away place.1 else beside_one_that_leaves place.1
+
+-- the room once the tasks queued on the sibling moved to the lowest other online one
+abbrev pub with_moves : RoomState → ℕ → RoomState
+with_moves room cpu =
+    record room {
+      tasks = map (moved_off room cpu) room.tasks;
+      next_stamp = room.next_stamp + length (queued_on room cpu);
+    }

@@ -1,0 +1,85 @@
+//! Which siblings are online, and what one that leaves or comes back makes of them. It is apart, since it
+//! reads and changes siblings alone, and no task.
+
+ghost use Rattle.std.specs.Prelude.{◌≡◌, ◌<◌, ◌≤◌, length, map};
+ghost use Rattle.std.specs.List.{enumerate_from};
+ghost use Rattle.cs_types.specs.Room.{online as siblings_online};
+ghost use Rattle.cs_types.specs.Hotplug.{lowest_other, away, back};
+ghost use Rattle.task_table.specs.Table.{Table};
+ghost use Rattle.core_lanes.specs.Lanes.{Beside, lane_state, room_of};
+ghost use Rattle.cpu_hotplug.specs.Leaves.{beside_one_that_leaves, left};
+
+use core_lanes::{Core, Lane, SiblingQueue};
+use cs_types::Cpu;
+
+/// How many siblings are online.
+pub fn online_count<Q: SiblingQueue>(core: &Core<Q>) -> u8
+    ensures { (beside : Beside) (table : Table) → result ≡ length (siblings_online (room_of beside (core.now, table))) }
+{
+    core.lanes.iter().filter(|lane| lane.online).count() as u8
+}
+
+/// The lowest other sibling that is online.
+pub fn lowest_other<Q: SiblingQueue>(core: &Core<Q>, cpu: Cpu) -> Cpu
+    requires some { 0 < length core.now.lanes.items }
+    ensures lowest { (beside : Beside) (table : Table) → result ≡ lowest_other (room_of beside (core.now, table)) cpu }
+    ensures within { result < length core.now.lanes.items }
+{
+    for other in 0..core.lanes.len() {
+        if core.lanes[other].online && other != cpu as usize {
+            return other as u8;
+        }
+    }
+    0
+}
+
+/// The sibling is offline, and runs idle while it is.
+fn leave<Q: Drop>(lane: &mut Lane<Q>)
+    ensures state { lane_state lane.new ≡ away (lane_state lane.old) }
+    ensures number { lane.new.number ≡ lane.old.number }
+    ensures queue { lane.new.queue ≡ lane.old.queue }
+{
+    lane.online = false;
+    lane.run = None;
+    lane.pending = false;
+    lane.waiting = None;
+    lane.place = 0;
+}
+
+/// The sibling becomes pending where it is online, since another leaves.
+fn stand_by<Q: Drop>(lane: &mut Lane<Q>)
+    ensures state { lane_state lane.new ≡ beside_one_that_leaves (lane_state lane.old) }
+    ensures number { lane.new.number ≡ lane.old.number }
+    ensures queue { lane.new.queue ≡ lane.old.queue }
+{
+    lane.pending |= lane.online;
+}
+
+/// The sibling is away, and each other online one is pending.
+pub fn set_away<Q: Drop>(lanes: &mut [Lane<Q>], cpu: Cpu)
+    requires few { length lanes.old ≤ 16 }
+    ensures states { map lane_state lanes.new ≡ map (left cpu) (enumerate_from 0 (map lane_state lanes.old)) }
+    ensures numbers { map (λ lane. lane.number) lanes.new ≡ map (λ lane. lane.number) lanes.old }
+    ensures queues { map (λ lane. lane.queue) lanes.new ≡ map (λ lane. lane.queue) lanes.old }
+{
+    for (other, lane) in lanes.iter_mut().enumerate() {
+        if other == cpu as usize {
+            leave(lane);
+        } else {
+            stand_by(lane);
+        }
+    }
+}
+
+/// The sibling is online again, runs idle and is pending.
+pub fn set_back<Q: Drop>(lane: &mut Lane<Q>)
+    ensures state { lane_state lane.new ≡ back (lane_state lane.old) }
+    ensures number { lane.new.number ≡ lane.old.number }
+    ensures queue { lane.new.queue ≡ lane.old.queue }
+{
+    lane.online = true;
+    lane.run = None;
+    lane.pending = true;
+    lane.waiting = None;
+    lane.place = 0;
+}

@@ -1,0 +1,90 @@
+//! The two events of a sibling that leaves the core or comes back (`sched_core_cpu_deactivate` and
+//! `sched_core_cpu_starting`).
+
+ghost use Rattle.std.specs.Prelude.{◌≡◌, ◌+◌, ◌*◌, ◌^◌, ◌<◌, length};
+ghost use Rattle.cs_types.specs.Hotplug.{leave};
+ghost use Rattle.task_table.specs.Table.{Table};
+ghost use Rattle.core_lanes.specs.Queued.{queued_among};
+ghost use Rattle.core_lanes.specs.Lanes.{Agree, HasLowTimes};
+ghost use Rattle.core_pick.specs.Schedules.{IsPaid, ChargesAndTouches};
+ghost use Rattle.cpu_hotplug.specs.Hotplugs.{TakesOffline, BringsOnline};
+
+use crate::away::{online_count, set_away, set_back};
+use crate::moves::move_off;
+use core_lanes::{Core, SiblingQueue};
+use core_pick::charge;
+use cs_types::{Cpu, Steps};
+use std::sync::ledger::Ledger;
+use task_table::TaskTable;
+
+/// What came of an ask that a sibling leaves the core, or comes back.
+#[derive(Clone, Copy)]
+pub enum Hotplug {
+    /// The sibling has left the core, or has come back.
+    Done,
+    /// The sibling may not leave, since it is the last that is online. Nothing changed.
+    Busy,
+    /// The sibling is offline, or online, already. Nothing changed.
+    Already,
+}
+
+/// The sibling leaves the core. The open interval is charged, and none stays open. The tasks move, and
+/// each other online sibling is pending.
+fn leave<Q: SiblingQueue, L: Ledger>(
+    core: &mut Core<Q>,
+    table: &mut TaskTable,
+    cpu: Cpu,
+    now: u64,
+    steps: &mut Steps<L>,
+)
+    requires cpu { cpu < length core.old.lanes.items }
+    requires agree { Agree (core.old, table.old) }
+    requires low { HasLowTimes (core.old, table.old) }
+    requires paid { IsPaid now core.old }
+    requires stamp { core.old.next_stamp + length table.old.tasks < 2 ^ 64 }
+    requires touches { core.old.task_number + 2 * length table.old.tasks < 2 ^ 64 }
+    ensures { ChargesAndTouches now (2 * length (queued_among table.old.tasks cpu)) (core.old, table.old) (core.new, table.new) (λ room. leave room cpu) }
+{
+    charge(core, table, now);
+    core.account.close();
+    move_off(core, table, cpu, steps);
+    set_away(&mut core.lanes, cpu);
+}
+
+/// The sibling leaves the core at `now`, in ns from the start, unless it is offline already or the last.
+pub fn offline<Q: SiblingQueue, L: Ledger>(
+    core: &mut Core<Q>,
+    table: &mut TaskTable,
+    cpu: Cpu,
+    now: u64,
+    steps: &mut Steps<L>,
+) -> Hotplug
+    requires cpu { cpu < length core.old.lanes.items }
+    requires agree { Agree (core.old, table.old) }
+    requires low { HasLowTimes (core.old, table.old) }
+    requires paid { IsPaid now core.old }
+    requires stamp { core.old.next_stamp + length table.old.tasks < 2 ^ 64 }
+    requires touches { core.old.task_number + 2 * length table.old.tasks < 2 ^ 64 }
+    ensures { TakesOffline now (core.old, table.old) (core.new, table.new) cpu result }
+{
+    if !core.is_online(cpu) {
+        return Hotplug::Already;
+    }
+    if online_count(core) == 1 {
+        return Hotplug::Busy;
+    }
+    leave(core, table, cpu, now, steps);
+    Hotplug::Done
+}
+
+/// The sibling comes back, unless it is online already.
+pub fn online<Q: SiblingQueue>(core: &mut Core<Q>, cpu: Cpu) -> Hotplug
+    requires cpu { cpu < length core.old.lanes.items }
+    ensures { (table : Table) → BringsOnline (core.old, table) (core.new, table) cpu result }
+{
+    if core.is_online(cpu) {
+        return Hotplug::Already;
+    }
+    set_back(&mut core.lanes[cpu as usize]);
+    Hotplug::Done
+}

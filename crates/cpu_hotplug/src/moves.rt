@@ -1,0 +1,43 @@
+//! How the tasks of a sibling that leaves come to another. It is apart, since it alone gives them new stamps.
+
+ghost use Rattle.std.specs.Prelude.{◌≡◌, ◌+◌, ◌*◌, ◌^◌, ◌<◌, ◌≤◌, length};
+ghost use Rattle.core_lanes.specs.Queued.{queued_among};
+ghost use Rattle.core_lanes.specs.Lanes.{room_of, Agree, HasLowTimes};
+ghost use Rattle.core_lanes.specs.Changes.{Touches};
+ghost use Rattle.cpu_hotplug.specs.Leaves.{with_moves};
+
+use crate::away::lowest_other;
+use core_lanes::{Core, SiblingQueue};
+use cs_types::{Cpu, Steps, Task};
+use std::sync::ledger::Ledger;
+use task_table::TaskTable;
+
+/// The tasks queued on the sibling move to the lowest other online one, in the order of their stamps.
+pub fn move_off<Q: SiblingQueue, L: Ledger>(
+    core: &mut Core<Q>,
+    table: &mut TaskTable,
+    cpu: Cpu,
+    steps: &mut Steps<L>,
+)
+    requires cpu { cpu < length core.old.lanes.items }
+    requires agree { Agree (core.old, table.old) }
+    requires low { HasLowTimes (core.old, table.old) }
+    requires stamp { core.old.next_stamp + length table.old.tasks < 2 ^ 64 }
+    requires touches { core.old.task_number + 2 * length table.old.tasks < 2 ^ 64 }
+    ensures { Touches (2 * length (queued_among table.old.tasks cpu)) (core.old, table.old) (core.new, table.new) (λ room. with_moves room cpu) }
+{
+    let to = lowest_other(core, cpu);
+    let queue = &core.lanes[cpu as usize].queue;
+    let count = u64::from(queue.count(table, cpu));
+    let stamps = queue.new_stamps(table, cpu, core.next_stamp);
+    core.next_stamp += count;
+    core.task_number += 2 * count;
+    for position in 0..table.len() as usize {
+        let task = *table.at(position).unwrap();
+        if task.queued && task.home == cpu {
+            let moved = core.moved_to(to, task);
+            let stamp = stamps[position];
+            core.change(table, Task { stamp, ..moved }, steps);
+        }
+    }
+}

@@ -1,0 +1,38 @@
+use Rattle.std.proofs.Common.{ℕ, ◌≡◌, ◌+◌, ◌<◌, ◌∙◌, ◌∷◌, ◌++◌, [], ap, sym, map, take, length, get_or, arith}
+use Rattle.std.specs.Prelude.{option_copied, slice_get, unwrap_or, Some}
+use Rattle.std.proofs.Math.Seq.{take-length}
+use Rattle.std.proofs.lemmas.List.{take_more, map_push}
+use Rattle.std.proofs.lemmas.Option.{slice_get-get_or}
+use Rattle.cs_types.specs.declared.task.Task.{Task}
+use Rattle.core_lanes.specs.Queued.{queued_among, count_before}
+use Rattle.plain_room.proofs.walk.WalkSiblingQueue.new_stamps.Goals as goal
+
+pub push-requires : goal.push-requires
+push-requires c =
+    (omega arith, omega (arith, c.loop-position.invariant.counted, c.loop-position-test.true, c.len-position-end.ensures.len, c.requires.few))
+
+pub loop-position-preserved : goal.loop-position-preserved
+loop-position-preserved c =
+    let tasks = c.args.table.now.tasks in
+    let stamp_of : Task → ℕ = λ task. c.args.next + count_before (queued_among tasks c.args.cpu) task.stamp in
+    let position = c.loop-position.position in
+    let task = c.unwrap-task.result.now in
+    let within : position < length tasks = omega (arith, c.loop-position-test.true, c.len-position-end.ensures.len) in
+    let at : slice_get tasks position ≡ Some task = sym c.at.ensures.task ∙ ap option_copied c.unwrap-task.ensures in
+    let is : task ≡ get_or tasks position task = ap (λ found. unwrap_or found task) (sym at ∙ slice_get-get_or tasks position task within) in
+    let stamp : c.args.next + c.count_before.result ≡ stamp_of (get_or tasks position task) =
+    ap (λ n. c.args.next + n) c.count_before.ensures.count ∙ ap stamp_of is in
+    record {
+      counted = omega (arith, c.push.ensures.len, c.loop-position.invariant.counted);
+      made = c.push.ensures.items
+          ∙ (λ i. c.loop-position.invariant.made i ++ stamp i ∷ [])
+          ∙ sym (map_push stamp_of (take position tasks) (get_or tasks position task))
+          ∙ ap (map stamp_of) (sym (take_more tasks position task within));
+    }
+
+pub returns : goal.returns
+returns c =
+    let tasks = c.args.table.now.tasks in
+    let stamp_of : Task → ℕ = λ task. c.args.next + count_before (queued_among tasks c.args.cpu) task.stamp in
+    let all : c.loop-position.position ≡ length tasks = omega (arith, c.loop-position-test.false, c.loop-position.auto.position-end, c.len-position-end.ensures.len) in
+    c.loop-position.invariant.made ∙ ap (λ n. map stamp_of (take n tasks)) all ∙ ap (map stamp_of) (take-length tasks)

@@ -1,0 +1,151 @@
+//! The queue that is none: each question is answered by a walk over the table.
+
+ghost use Rattle.std.specs.Prelude.{◌≡◌, ◌≤◌, ◌==◌, ◌&&◌, length};
+ghost use Rattle.core_lanes.specs.Queued.{queued_among, is_peer_of, count_before};
+
+use core_lanes::{SiblingQueue, Stamps, goes_before, is_fair, priority_of};
+use cs_types::{Cookie, Cpu, OutOfMemory, Steps, Task};
+use std::alloc::Global;
+use std::sync::ledger::Ledger;
+use task_table::TaskTable;
+
+/// It keeps nothing: the queued tasks of a sibling are those that the table has there.
+#[derive(Drop)]
+pub struct Walk;
+
+/// Whether the other is of the class of the task, and of its priority where that is a real-time one.
+fn is_peer_of(task: &Task, other: &Task) -> bool
+    ensures { result ≡ is_peer_of task.now other.now }
+{
+    task.spec.policy.class().number() == other.spec.policy.class().number()
+        && priority_of(task.spec.policy) == priority_of(other.spec.policy)
+}
+
+/// How many of the tasks queued on the sibling have a smaller stamp than this one.
+fn count_before(table: &TaskTable, cpu: Cpu, stamp: u64) -> u64
+    ensures count { result ≡ count_before (queued_among table.now.tasks cpu) stamp }
+    ensures few { result ≤ length table.now.tasks }
+{
+    table
+        .iter()
+        .filter(|task| task.queued && task.home == cpu && task.stamp < stamp)
+        .count() as u64
+}
+
+impl SiblingQueue for Walk {
+    ghost holds = { λ queue most tasks. Unit {0} };
+
+    fn with_capacity(_alloc: Global, _most: u16) -> Result<Walk, OutOfMemory> {
+        Ok(Walk)
+    }
+
+    fn put<L: Ledger>(
+        &mut self,
+        _table: &TaskTable,
+        _cpu: Cpu,
+        _task: &Task,
+        _steps: &mut Steps<L>,
+    ) {}
+
+    fn take<L: Ledger>(
+        &mut self,
+        _table: &TaskTable,
+        _cpu: Cpu,
+        _task: &Task,
+        _steps: &mut Steps<L>,
+    ) {}
+
+    fn first<L: Ledger>(&self, table: &TaskTable, cpu: Cpu, _steps: &mut Steps<L>) -> Option<Task> {
+        table
+            .iter()
+            .copied()
+            .filter(|task| task.queued && task.home == cpu)
+            .reduce(|first, task| if goes_before(&task, &first) {
+                task
+            } else {
+                first
+            })
+    }
+
+    fn first_with<L: Ledger>(
+        &self,
+        cookie: Cookie,
+        table: &TaskTable,
+        cpu: Cpu,
+        _steps: &mut Steps<L>,
+    ) -> Option<Task> {
+        table
+            .iter()
+            .copied()
+            .filter(|task| task.queued && task.home == cpu && task.cookie == cookie)
+            .reduce(|first, task| if goes_before(&task, &first) {
+                task
+            } else {
+                first
+            })
+    }
+
+    fn next_with<L: Ledger>(
+        &self,
+        task: &Task,
+        table: &TaskTable,
+        cpu: Cpu,
+        _steps: &mut Steps<L>,
+    ) -> Option<Task> {
+        table
+            .iter()
+            .copied()
+            .filter(|other| other.queued
+                && other.home == cpu
+                && other.cookie == task.cookie
+                && goes_before(task, other))
+            .reduce(|first, other| if goes_before(&other, &first) {
+                other
+            } else {
+                first
+            })
+    }
+
+    fn smallest_vtime<L: Ledger>(
+        &self,
+        table: &TaskTable,
+        cpu: Cpu,
+        _steps: &mut Steps<L>,
+    ) -> Option<u128> {
+        table
+            .iter()
+            .copied()
+            .filter(|task| task.queued && task.home == cpu && is_fair(task))
+            .map(|task| task.vtime)
+            .reduce(|smallest, vtime| if vtime < smallest { vtime } else { smallest })
+    }
+
+    fn has_peer<L: Ledger>(
+        &self,
+        task: &Task,
+        table: &TaskTable,
+        cpu: Cpu,
+        _steps: &mut Steps<L>,
+    ) -> bool {
+        table.iter().any(|other| other.queued
+            && other.home == cpu
+            && other.spec.pid != task.spec.pid
+            && is_peer_of(task, other))
+    }
+
+    fn count(&self, table: &TaskTable, cpu: Cpu) -> u16 {
+        table
+            .iter()
+            .filter(|task| task.queued && task.home == cpu)
+            .count() as u16
+    }
+
+    fn new_stamps(&self, table: &TaskTable, cpu: Cpu, next: u64) -> Stamps {
+        let mut stamps = Stamps::new();
+        for position in 0..table.len() as usize {
+            let task = *table.at(position).unwrap();
+            stamps.push(next + count_before(table, cpu, task.stamp));
+        }
+        stamps
+    }
+}
