@@ -19,7 +19,8 @@ pub type Stamps = ArrayVec<u64, MOST_TASKS>;
 
 /// The queued tasks of one sibling (`struct rq`). The tasks themselves stand in a table, which each call is
 /// handed: what the queue is asked is answered of the tasks that the table has queued on the sibling, and the
-/// queue has to hold these. A call that looks for a task counts its comparisons.
+/// queue has to hold these. A call that looks for a task is handed a counter for its comparisons, of which
+/// nothing is promised yet.
 pub trait SiblingQueue: Drop {
     /// That it holds these tasks, and can take this number in all.
     ghost holds: { Self → ℕ → List Queued → Type 0 };
