@@ -12,7 +12,7 @@ ghost use Rattle.core_pick.specs.Schedules.{MayPick, MaySchedule, Schedules, Cha
 use crate::account::charge;
 use crate::balance::balance;
 use crate::choice::{forced_count, occupation, update_siblings, update_tasks};
-use crate::selection::{choices, is_fair_task, lead_from};
+use crate::selection::{choices, cookie_of, is_fair_task, lead_from, pid_of};
 use crate::sibling::{run, run_first};
 use core_lanes::{Core, SiblingQueue};
 use cs_types::{Cookie, Cpu, Kind, Pick, Pid, Steps};
@@ -70,9 +70,7 @@ fn is_plain<Q: SiblingQueue, L: Ledger>(
     requires agree { Agree (core.now, table.now) }
     ensures { (beside : Beside) → result ≡ is_plain (room_of beside (core.now, table.now)) cpu }
 {
-    let cookie = core
-        .first_on(table, cpu, steps)
-        .map_or(0, |task| task.cookie);
+    let cookie = cookie_of(core.first_on(table, cpu, steps));
     is_cookieless(core.cookie, core.account.count(), cookie)
 }
 
@@ -89,7 +87,7 @@ fn pick_plain<Q: SiblingQueue, L: Ledger>(
     ensures { (now : ℕ) → Schedules now (core.old, table.now) (core.new, table.now) cpu result (λ room. plain room cpu) }
 {
     let first = core.first_on(table, cpu, steps);
-    let pid = first.map(|task| task.spec.pid);
+    let pid = pid_of(first);
     core.account.close();
     run_first(&mut core.lanes[cpu as usize], pid, is_fair_task(first));
     core.touch();
@@ -155,7 +153,7 @@ fn select<Q: SiblingQueue, L: Ledger>(
     requires may { MayPick now (core.old, table.old) }
     ensures { Schedules now (core.old, table.old) (core.new, table.new) cpu result (λ room. selected room cpu) }
 {
-    let cookie = lead_from(core, table, cpu, steps).map_or(0, |task| task.cookie);
+    let cookie = cookie_of(lead_from(core, table, cpu, steps));
     let run = select_for(core, table, cpu, cookie, now, steps);
     core.touch();
     core.pick_number = core.task_number;

@@ -6,14 +6,14 @@ ghost use Rattle.std.specs.List.{range_with_len};
 ghost use Rattle.arrayvec.specs.ArrayVec.{array_vec_len};
 ghost use Rattle.cs_types.specs.Room.{is_online};
 ghost use Rattle.cs_types.specs.Order.{first_of};
-ghost use Rattle.cs_types.specs.Selection.{first_on, queued_with, is_fair_task, choice, lead_from};
+ghost use Rattle.cs_types.specs.Selection.{first_on, queued_with, cookie_of, pid_of, is_fair_task, choice, lead_from};
 ghost use Rattle.core_lanes.specs.Lanes.{Beside, room_of, Agree, HasLowTimes};
 ghost use Rattle.core_pick.specs.Choice.{choice_at};
 
 use crate::choice::{Choice, Choices};
 use crate::lead::{Firsts, lead_of};
-use core_lanes::{Core, SiblingQueue};
-use cs_types::{Cookie, Cpu, Policy, Steps, Task};
+use core_lanes::{Core, SiblingQueue, is_fair};
+use cs_types::{Cookie, Cpu, Pid, Steps, Task};
 use std::sync::ledger::Ledger;
 use task_table::TaskTable;
 
@@ -75,7 +75,7 @@ fn choice_at<Q: SiblingQueue, L: Ledger>(
     let chosen = choice(core, table, first, cookie, cpu, steps);
     let is_online = core.is_online(cpu);
     Choice {
-        run: chosen.map(|task| task.spec.pid),
+        run: pid_of(chosen),
         is_online,
         is_forced: is_forced(is_online, first, chosen),
         is_fair: is_fair_task(chosen),
@@ -143,12 +143,29 @@ pub fn lead_from<Q: SiblingQueue, L: Ledger>(
     lead_of(&firsts, &core.lanes)
 }
 
+/// The task's pid, none for idle.
+pub fn pid_of(task: Option<Task>) -> Option<Pid>
+    ensures { result ≡ pid_of task }
+{
+    Some(task?.spec.pid)
+}
+
+/// The task's cookie, and 0 for idle.
+pub fn cookie_of(task: Option<Task>) -> Cookie
+    ensures { result ≡ cookie_of task }
+{
+    match task {
+        Some(task) => task.cookie,
+        None => 0,
+    }
+}
+
 /// Whether this is a fair task.
 pub fn is_fair_task(task: Option<Task>) -> bool
     ensures { result ≡ is_fair_task task }
 {
     match task {
-        Some(task) => matches!(task.spec.policy, Policy::Fair(_)),
+        Some(task) => is_fair(&task),
         None => false,
     }
 }

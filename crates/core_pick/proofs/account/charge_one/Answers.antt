@@ -1,8 +1,6 @@
-use Rattle.std.proofs.Common.{◌+◌, ◌∙◌, ap, sym, cond, map, eqb, add-zero}
+use Rattle.std.proofs.Common.{◌+◌, ◌∙◌, ap, sym, cond, add-zero}
 use Rattle.std.specs.Prelude.{◌&&◌, ◌==◌}
 use Rattle.forceidle_account.specs.Charges.{total_at}
-use Rattle.core_lanes.specs.Lanes.{lane_state}
-use Rattle.core_pick.specs.Account.{is_charged, is_charged_as}
 use Rattle.core_pick.proofs.Remembered.{run_test}
 use Rattle.core_pick.proofs.account.charge_one.Goals as goal
 

@@ -1,12 +1,27 @@
-use Rattle.std.proofs.Common.{◌≡◌, ◌∙◌, ap}
+use Rattle.std.proofs.Common.{◌≡◌, ◌∙◌, ◌+◌, ◌<◌, ◌^◌, ap, sym, subst}
 use Rattle.cs_types.specs.Room.{RoomState, sibling_of}
 use Rattle.cs_types.specs.Selection.{adopted, picked_anew, adopted_or_picked_anew}
 use Rattle.cs_types.specs.Accounting.{charge}
-use Rattle.core_lanes.specs.Lanes.{Beside, at, beside_after, room_of}
+use Rattle.core_lanes.specs.Lanes.{Beside, BareCore, AreLow, at, beside_after, room_of}
 use Rattle.core_lanes.specs.Numbers.{Numbers, numbers_of, booked, took, is_fresh_by}
+use Rattle.core_lanes.specs.Changes.{Kept}
 use Rattle.core_lanes.proofs.Stays.{both_stay}
 use Rattle.core_pick.proofs.Cases.{ChargesAndSchedules-same, is_adopted, is_not_adopted, stands}
 use Rattle.core_pick.proofs.pick.adopt_or_pick_anew.Goals as goal
+
+pub pick_anew-requires-clause-may : goal.pick_anew-requires-clause-may
+pick_anew-requires-clause-may g c =
+    let picks = c.requires.may.picks in
+    let rest = sym c.charge.ensures.rest in
+    record {
+      agree = c.charge.ensures.charges.stays.agree picks.agree;
+      low = subst (λ (core : BareCore). AreLow core.siblings c.args.table.now.tasks) rest picks.low;
+      clock = picks.clock;
+      touches = subst (λ (core : BareCore). core.task_number + 1 < 2 ^ 64) rest picks.touches;
+    }
+
+pub pick_anew-requires-clause-cpu : goal.pick_anew-requires-clause-cpu
+pick_anew-requires-clause-cpu g c = subst (λ (kept : Kept). c.args.cpu < kept.siblings) (sym c.charge.ensures.charges.stays.kept) c.requires.cpu
 
 pub returns-in-Some : goal.returns-in-Some
 returns-in-Some g c =

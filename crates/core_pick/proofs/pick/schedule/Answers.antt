@@ -1,12 +1,19 @@
-use Rattle.std.proofs.Common.{◌∙◌, ap}
+use Rattle.std.proofs.Common.{◌∙◌, ◌<◌, ap, sym, subst}
 use Rattle.std.specs.Prelude.{if◌then◌else◌}
 use Rattle.cs_types.specs.Room.{RoomState, sibling_of}
 use Rattle.cs_types.specs.Selection.{adopted_or_picked_anew, is_to_steal}
 use Rattle.cs_types.specs.Steal.{with_place}
 use Rattle.core_lanes.specs.Lanes.{at, beside_after, room_of}
 use Rattle.core_lanes.specs.Numbers.{numbers_of, is_fresh_by}
+use Rattle.core_lanes.specs.Changes.{Kept}
 use Rattle.core_lanes.proofs.Stays.{both_stay}
 use Rattle.core_pick.proofs.pick.schedule.Goals as goal
+
+pub balance-requires-clause-cpu : goal.balance-requires-clause-cpu
+balance-requires-clause-cpu g c = subst (λ (kept : Kept). c.args.cpu < kept.siblings) (sym c.adopt_or_pick_anew-pick.ensures.stays.kept) c.requires.cpu
+
+pub balance-requires-clause-agree : goal.balance-requires-clause-agree
+balance-requires-clause-agree g c = c.adopt_or_pick_anew-pick.ensures.stays.agree c.requires.may.picks.agree
 
 pub returns-clause-schedules : goal.returns-clause-schedules
 returns-clause-schedules g c =

@@ -1,41 +1,64 @@
-use Rattle.std.proofs.Common.{rules, ◌≡◌, ◌∙◌, ap, set, refl}
-use Rattle.std.specs.Option.{option_map_or}
+use Rattle.std.proofs.Common.{◌∙◌, ◌+◌, ◌<◌, ◌≤◌, ◌^◌, ap, sym, set, subst, refl}
+use Rattle.std.specs.Prelude.{unwrap_or}
+use Rattle.std.proofs.Math.ListN.{length-set}
 use Rattle.std.proofs.lemmas.List.{map-set}
 use Rattle.std.proofs.Math.Seq.{map-set_same}
+use Rattle.cs_types.specs.declared.reply.Kind.TheVariants.{Selected}
+use Rattle.cs_types.specs.declared.reply.Pick.{Pick}
 use Rattle.cs_types.specs.Room.{RoomState}
-use Rattle.cs_types.specs.Selection.{cookie_of, lead_from}
+use Rattle.cs_types.specs.Selection.{cookie_of, pid_of, choice, forced_count, selected_room}
 use Rattle.core_lanes.specs.declared.lane.Lane.{Lane}
-use Rattle.core_lanes.specs.Lanes.{Beside, at, lane_state, room_of}
-use Rattle.core_lanes.specs.Numbers.{Numbers, touched}
+use Rattle.core_lanes.specs.Lanes.{at, lane_state, room_of}
+use Rattle.core_lanes.specs.Numbers.{Numbers, numbers_of, touched}
+use Rattle.core_lanes.specs.Changes.{Kept}
 use Rattle.core_lanes.proofs.Stays.{number_of, queues_kept, alike_stays, both_stay}
-use Rattle.core_pick.proofs.Choices.{cookie_of-task}
-use Rattle.core_pick.proofs.pick.select.Given.{Over}
 use Rattle.core_pick.proofs.pick.select.Goals as goal
 
--- the core cookie is the lead's
-core_is : (g : Over) (c : goal.After-count g) (beside : Beside) → c.map_or-cookie.result ≡ cookie_of (lead_from (room_of beside (c.args.core.now, c.args.table.now)) c.args.cpu)
-core_is g c beside =
-    let mapped : c.map_or-cookie.result ≡ option_map_or (λ task. task.cookie) c.lead_from.result 0 = search rules in
-    mapped ∙ cookie_of-task c.lead_from.result ∙ ap cookie_of (c.lead_from.ensures beside)
+pub select_for-run-requires-clause-lead : goal.select_for-run-requires-clause-lead
+select_for-run-requires-clause-lead g c beside = c.cookie_of-cookie.ensures ∙ ap cookie_of (c.lead_from.ensures beside)
+
+pub touch-requires : goal.touch-requires
+touch-requires g c = subst (λ n. n + 1 < 2 ^ 64) (sym (ap (λ (n : Numbers). n.task) c.select_for-run.ensures.numbers)) c.requires.may.touches
+
+pub index_mut-requires : goal.index_mut-requires
+index_mut-requires g c =
+    let kept = (c.touch.ensures c.select_for-run.new.table).stays.kept ∙ c.select_for-run.ensures.stays.kept in
+    subst (λ n. c.args.cpu < n) (sym (c.touch.new.self.lanes.ok.0 ∙ ap (λ (k : Kept). k.siblings) kept)) c.requires.cpu
+
+pub invariant_of-core : goal.invariant_of-core
+invariant_of-core g c = record { few = subst (λ n. n ≤ 16) (sym (length-set c.touch.new.self.lanes.items c.args.cpu _)) c.touch.new.self.few }
 
 pub returns : goal.returns
 returns g c =
+    let cpu = c.args.cpu in
+    let now = c.args.now in
     let touched_core = c.touch.new.self in
     let lanes = touched_core.lanes.items in
     let lane = c.index_mut.result.now in
     let is = c.index_mut.ensures.value in
     let numbered : Lane g.row.Q.Denot = record lane { number = touched_core.task_number } in
     let touch = c.touch.ensures c.select_for-run.new.table in
-    let now = c.args.now in
     record {
       pick = λ beside.
-          let account : c.count.result ≡ c.select_for-run.new.core.account.count = c.count.ensures.count ∙ ap (λ (room : RoomState). room.forced) (touch.room (at now beside)) in
-          rw (← core_is g c (at now beside)) (rw (c.unwrap_or.ensures, account, c.select_for-run.ensures.run (at now beside), c.select_for-run.ensures.forced (at now beside)) refl);
+          let room = room_of (at now beside) (c.args.core.now, c.args.table.now) in
+          let core = c.cookie_of-cookie.ensures ∙ ap cookie_of (c.lead_from.ensures (at now beside)) in
+          let run = c.unwrap_or.ensures
+          ∙ ap (λ pid. unwrap_or pid 0) (c.select_for-run.ensures.run (at now beside) ∙ ap (λ n. pid_of (choice room n cpu)) core) in
+          let forced = c.count.ensures.count
+          ∙ ap (λ (r : RoomState). r.forced) (touch.room (at now beside))
+          ∙ c.select_for-run.ensures.forced (at now beside)
+          ∙ ap (forced_count room) core in
+          λ i. let pick : Pick = record { kind = Selected; run = run i; core = core i; forced = forced i } in pick;
       room = λ beside.
-          rw (← core_is g c (at now beside))
-          (rw (map-set_same lane_state lanes c.args.cpu numbered lane (ap lane_state is)) (touch.room (at now beside) ∙ c.select_for-run.ensures.room beside));
-      numbers = rw (map-set number_of lanes c.args.cpu numbered)
-          (ap (λ (n : Numbers). record n { pick = n.task; own = set n.own c.args.cpu n.task }) (touch.numbers ∙ ap (touched 1) c.select_for-run.ensures.numbers));
+          let room = room_of (at now beside) (c.args.core.now, c.args.table.now) in
+          let core = c.cookie_of-cookie.ensures ∙ ap cookie_of (c.lead_from.ensures (at now beside)) in
+          let same = map-set_same lane_state lanes cpu numbered lane (ap lane_state is) in
+          (λ i. record (room_of (at now beside) (touched_core, c.select_for-run.new.table)) { siblings = same i })
+          ∙ touch.room (at now beside)
+          ∙ c.select_for-run.ensures.room beside
+          ∙ ap (selected_room room cpu) core;
+      numbers = (λ i. record (numbers_of touched_core) { pick = touched_core.task_number; own = map-set number_of lanes cpu numbered i })
+          ∙ ap (λ (n : Numbers). record n { pick = n.task; own = set n.own cpu n.task }) (touch.numbers ∙ ap (touched 1) c.select_for-run.ensures.numbers);
       stays = both_stay c.select_for-run.ensures.stays
-          (both_stay touch.stays (alike_stays _ _ (queues_kept lanes c.args.cpu lane numbered is refl) refl refl refl));
+          (both_stay touch.stays (alike_stays _ _ (queues_kept lanes cpu lane numbered is refl) refl refl refl));
     }

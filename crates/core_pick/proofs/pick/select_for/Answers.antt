@@ -1,11 +1,12 @@
-use Rattle.std.proofs.Common.{◌∙◌, ◌<◌, ap, sym, subst, refl, cond, map, arith, length, get_or}
+use Rattle.std.proofs.Common.{◌∙◌, ◌<◌, ◌≤◌, ap, sym, subst, refl, cond, map, arith, length, get_or}
 use Rattle.std.specs.Prelude.{Some, None, ◌||◌, ◌==◌, List}
 use Rattle.std.proofs.lemmas.List.{length-map}
 use Rattle.cs_types.specs.Selection.{selected_room, forced_count, occupation_of, cookie_of, lead_from}
 use Rattle.cs_types.proofs.Selections.{occupied}
 use Rattle.core_lanes.specs.Lanes.{at, lane_state, room_of}
+use Rattle.core_lanes.specs.Numbers.{numbers_of}
 use Rattle.core_lanes.proofs.Lists.{items-as_many}
-use Rattle.core_lanes.proofs.Stays.{some_beside, queue_of}
+use Rattle.core_lanes.proofs.Stays.{some_beside, number_of, queue_of}
 use Rattle.core_pick.specs.declared.choice.Choice.{Choice}
 use Rattle.core_pick.specs.Choice.{task_after_choices}
 use Rattle.core_pick.proofs.Choices.{choices_are, forced_is, occupation_is, choice_in, map-task_after_choices}
@@ -53,10 +54,45 @@ returns-clause-room g c beside =
     let siblings = ap (map lane_state) kept_lanes
     ∙ c.update_siblings.ensures.states room c.args.cookie (sym (ap (map lane_state) c.deref_mut.ensures.value))
     (c.deref-4.ensures.0 ∙ are) occupation renews_is in
-    rw c.update_tasks.ensures.tasks (rw (tasks, siblings, begun, chosen, started) refl)
+    let table = c.update_tasks.ensures.tasks ∙ (λ i. record c.args.table.now { tasks = tasks i }) in
+    λ i. record room {
+      task_limit = (table i).limit;
+      tasks = (table i).tasks;
+      siblings = siblings i;
+      core_cookie = c.args.cookie;
+      forced = begun i;
+      occupation = chosen i;
+      started = started i;
+    }
 
 pub returns-clause-stays : goal.returns-clause-stays
 returns-clause-stays g c =
     let kept_lanes = items-as_many c.args.core.now.lanes c.update_siblings.new.lanes (c.update_siblings.auto.lanes ∙ ap length c.deref_mut.ensures.value) in
     stays-remembered _ _ c.deref-3.result.now c.occupation-occupation.result c.update_tasks.ensures.tasks c.update_tasks.ensures.sound
     (ap (map queue_of) kept_lanes ∙ c.update_siblings.ensures.queues ∙ ap (map queue_of) c.deref_mut.ensures.value) refl refl
+
+pub forced_count-forced-requires : goal.forced_count-forced-requires
+forced_count-forced-requires g c = c.deref.ensures.1
+
+pub occupation-occupation-requires : goal.occupation-occupation-requires
+occupation-occupation-requires g c = c.deref-2.ensures.1
+
+pub update_siblings-requires-clause-each : goal.update_siblings-requires-clause-each
+update_siblings-requires-clause-each g c = ap length c.deref-4.ensures.0 ∙ c.choices-choices.ensures.length ∙ sym (ap length c.deref_mut.ensures.value)
+
+pub update_siblings-requires-clause-few : goal.update_siblings-requires-clause-few
+update_siblings-requires-clause-few g c = subst (λ n. n ≤ 16) (sym (ap length c.deref_mut.ensures.value)) c.args.core.now.few
+
+pub bounds-deref-cpu : goal.bounds-deref-cpu
+bounds-deref-cpu g c = subst (λ n. c.args.cpu < n) (sym (ap length c.deref-5.ensures.0 ∙ c.choices-choices.ensures.length)) c.requires.cpu
+
+pub returns-clause-numbers : goal.returns-clause-numbers
+returns-clause-numbers g c =
+    let kept_lanes = items-as_many c.args.core.now.lanes c.update_siblings.new.lanes (c.update_siblings.auto.lanes ∙ ap length c.deref_mut.ensures.value) in
+    let own = ap (map number_of) kept_lanes ∙ c.update_siblings.ensures.numbers ∙ ap (map number_of) c.deref_mut.ensures.value in
+    λ i. record (numbers_of c.args.core.now) { intervals = c.begin.ensures.intervals i; own = own i }
+
+pub invariant_of-core : goal.invariant_of-core
+invariant_of-core g c =
+    let kept_lanes = items-as_many c.args.core.now.lanes c.update_siblings.new.lanes (c.update_siblings.auto.lanes ∙ ap length c.deref_mut.ensures.value) in
+    record { few = subst (λ n. n ≤ 16) (sym (ap length kept_lanes ∙ c.update_siblings.auto.lanes ∙ ap length c.deref_mut.ensures.value)) c.args.core.now.few }
