@@ -2,7 +2,7 @@
 use Rattle.std.proofs.Common.{◌≡◌, ℕ, suc, ◌+◌, ◌-◌, ◌<◌, ◌≤◌, Bool, true, false, cond, List, [], ◌∷◌, ◌++◌, map, length, get_or, refl, sym, ap, ◌∙◌, append_assoc, arith}
 use Rattle.std.specs.Prelude.{◌||◌, ◌&&◌, ◌==◌, filter, count_by, All, Option, Some, None, is_none, is_some, IfSome, not}
 use Rattle.std.specs.List.{list_any, list_all, range_with_len}
-use Rattle.std.specs.Option.{option_and_then, option_map_or}
+use Rattle.std.specs.Option.{option_and_then}
 use Rattle.std.proofs.lemmas.Bool.{cond-false, ne_eqb}
 use Rattle.std.proofs.lemmas.List.{map-append}
 use Rattle.std.proofs.lemmas.List.Elements.{filter-append, All-map, All-filter}
@@ -28,37 +28,25 @@ is_some-pid_of : (task : Option Task) → is_some (pid_of task) ≡ is_some task
 is_some-pid_of None = refl
 is_some-pid_of (Some task) = refl
 
--- a task's cookie, as the code takes it, is the model's
-pub cookie_of-task : (task : Option Task) → option_map_or (λ (t : Task). t.cookie) task 0 ≡ cookie_of task
-cookie_of-task None = refl
-cookie_of-task (Some task) = refl
-
 -- the choices that the code makes, of as many siblings as the room has
 pub choices_are : (room : RoomState) (core count : ℕ) (choices : List Choice) → length room.siblings ≡ count →
     choices ≡ map (choice_at room core) (range_with_len 0 count) → choices ≡ choices_of room core
 choices_are room core count choices as_many is =
     is ∙ ap (λ n. map (choice_at room core) (range_with_len 0 n)) (sym as_many)
 
-forced_count-choices : (room : RoomState) (core : ℕ) → count_by (λ (c : Choice). c.is_forced) (choices_of room core) ≡ forced_count room core
-forced_count-choices room core =
-    count_at (choice_at room core) (λ c. c.is_forced) (is_online room) (is_forced room core) (range_with_len 0 (length room.siblings)) (λ cpu. refl)
-
-occupation-choices : (room : RoomState) (core : ℕ) →
-    count_by (λ (c : Choice). c.is_online && is_some c.run) (choices_of room core) ≡ occupation_of room core
-occupation-choices room core =
-    count_at (choice_at room core) (λ c. c.is_online && is_some c.run) (is_online room) (λ cpu. is_some (choice room core cpu)) (range_with_len 0 (length room.siblings))
-    (λ cpu. ap (λ b. is_online room cpu && b) (is_some-pid_of (choice room core cpu)))
-
--- so a count of them is the model's
+-- a count of them is the model's
 pub forced_is : (room : RoomState) (core : ℕ) (choices : List Choice) (count : ℕ) → count ≡ count_by (λ c. c.is_forced) choices → choices ≡ choices_of room core →
     count ≡ forced_count room core
 forced_is room core choices count counted are =
-    counted ∙ ap (count_by (λ (c : Choice). c.is_forced)) are ∙ forced_count-choices room core
+    counted ∙ ap (count_by (λ (c : Choice). c.is_forced)) are
+    ∙ count_at (choice_at room core) (λ c. c.is_forced) (is_online room) (is_forced room core) (range_with_len 0 (length room.siblings)) (λ cpu. refl)
 
 pub occupation_is : (room : RoomState) (core : ℕ) (choices : List Choice) (count : ℕ) → count ≡ count_by (λ c. c.is_online && is_some c.run) choices →
     choices ≡ choices_of room core → count ≡ occupation_of room core
 occupation_is room core choices count counted are =
-    counted ∙ ap (count_by (λ (c : Choice). c.is_online && is_some c.run)) are ∙ occupation-choices room core
+    counted ∙ ap (count_by (λ (c : Choice). c.is_online && is_some c.run)) are
+    ∙ count_at (choice_at room core) (λ c. c.is_online && is_some c.run) (is_online room) (λ cpu. is_some (choice room core cpu)) (range_with_len 0 (length room.siblings))
+    (λ cpu. ap (λ b. is_online room cpu && b) (is_some-pid_of (choice room core cpu)))
 
 any-choices : (room : RoomState) (core pid : ℕ) →
     list_any (λ (c : Choice). c.is_online && is_run c.run (Some pid)) (choices_of room core)
@@ -74,64 +62,48 @@ no_choice = record { run = None; is_online = false; is_forced = false; is_fair =
 pub choice_in : (room : RoomState) (core cpu : ℕ) (d : Choice) → cpu < length room.siblings → get_or (choices_of room core) cpu d ≡ choice_at room core cpu
 choice_in room core cpu d lt = get_or-map-range_with_len (choice_at room core) 0 (length room.siblings) cpu cpu d lt (omega arith)
 
--- a sibling more among the firsts of those that are online
-pub firsts_more : (room : RoomState) (from cpu : ℕ) → from ≤ cpu →
-    map (first_on room) (filter (is_online room) (range_with_len from (cpu + 1 - from)))
-    ≡ map (first_on room) (filter (is_online room) (range_with_len from (cpu - from))) ++ cond (is_online room cpu) (first_on room cpu ∷ []) []
-firsts_more room from cpu le =
-    let n = cpu - from in
-    let one_more : cpu + 1 - from ≡ suc n = omega arith in
-    let there : from + n ≡ cpu = omega arith in
-    ap (λ m. map (first_on room) (filter (is_online room) (range_with_len from m))) one_more
-    ∙ ap (λ (cpus : List ℕ). map (first_on room) (filter (is_online room) cpus)) (range_more from n)
-    ∙ ap (map (first_on room)) (filter-append (is_online room) (range_with_len from n) ((from + n) ∷ []))
-    ∙ map-append (first_on room) (filter (is_online room) (range_with_len from n)) (filter (is_online room) ((from + n) ∷ []))
-    ∙ ap (λ (m : ℕ). map (first_on room) (filter (is_online room) (range_with_len from n)) ++ map (first_on room) (cond (is_online room m) (m ∷ []) [])) there
-    ∙ ap (λ (firsts : List (Option Task)). map (first_on room) (filter (is_online room) (range_with_len from n)) ++ firsts) (first_where (is_online room cpu)) where
-      first_where : (b : Bool) → map (first_on room) (cond b (cpu ∷ []) []) ≡ cond b (first_on room cpu ∷ []) []
-      first_where true = refl
-      first_where false = refl
+-- ---- the firsts
+
+-- the firsts of those of some siblings that are online, and of those from one to another
+abbrev pub firsts_of : RoomState → List ℕ → List (Option Task)
+firsts_of room cpus = map (first_on room) (filter (is_online room) cpus)
+
+abbrev pub firsts_between : RoomState → ℕ → ℕ → List (Option Task)
+firsts_between room from to = firsts_of room (range_with_len from (to - from))
+
+firsts_of-append : (room : RoomState) (cpus more : List ℕ) → firsts_of room (cpus ++ more) ≡ firsts_of room cpus ++ firsts_of room more
+firsts_of-append room cpus more =
+    ap (map (first_on room)) (filter-append (is_online room) cpus more) ∙ map-append (first_on room) (filter (is_online room) cpus) (filter (is_online room) more)
 
 -- the firsts so far, after one more sibling
-pub firsts_step : (room : RoomState) (from cpu : ℕ) → from ≤ cpu → (initial before now : List (Option Task)) →
-    before ≡ initial ++ map (first_on room) (filter (is_online room) (range_with_len from (cpu - from))) →
-    now ≡ before ++ cond (is_online room cpu) (first_on room cpu ∷ []) [] →
-    now ≡ initial ++ map (first_on room) (filter (is_online room) (range_with_len from (cpu + 1 - from)))
+pub firsts_step : (room : RoomState) (from cpu : ℕ) → from ≤ cpu → (initial before now : List (Option Task)) → before ≡ initial ++ firsts_between room from cpu →
+    now ≡ before ++ cond (is_online room cpu) (first_on room cpu ∷ []) [] → now ≡ initial ++ firsts_between room from (cpu + 1)
 firsts_step room from cpu le initial before now so_far step =
+    let n = cpu - from in
+    let one_more : suc n ≡ cpu + 1 - from = omega arith in
+    let there : cpu ≡ from + n = omega arith in
     let more = cond (is_online room cpu) (first_on room cpu ∷ []) [] in
     step
     ∙ ap (λ (firsts : List (Option Task)). firsts ++ more) so_far
-    ∙ append_assoc initial (map (first_on room) (filter (is_online room) (range_with_len from (cpu - from)))) more
-    ∙ ap (λ (firsts : List (Option Task)). initial ++ firsts) (sym (firsts_more room from cpu le))
-
--- the firsts from a sibling on, and then those before it
-pub firsts_from : (room : RoomState) (cpu : ℕ) →
-    map (first_on room) (filter (is_online room) (range_with_len cpu (length room.siblings - cpu)))
-    ++ map (first_on room) (filter (is_online room) (range_with_len 0 cpu)) ≡ map (first_on room) (online_from room cpu)
-firsts_from room cpu =
-    let later = range_with_len cpu (length room.siblings - cpu) in
-    let earlier = range_with_len 0 cpu in
-    sym (ap (map (first_on room)) (filter-append (is_online room) later earlier)
-    ∙ map-append (first_on room) (filter (is_online room) later) (filter (is_online room) earlier))
-
--- the firsts of the online siblings from one to another
-abbrev pub firsts_between : RoomState → ℕ → ℕ → List (Option Task)
-firsts_between room from to = map (first_on room) (filter (is_online room) (range_with_len from (to - from)))
+    ∙ append_assoc initial (firsts_between room from cpu) more
+    ∙ ap (λ (firsts : List (Option Task)). initial ++ firsts)
+    (ap (λ (firsts : List (Option Task)). firsts_between room from cpu ++ firsts) (first_where (is_online room cpu) ∙ ap (λ (m : ℕ). firsts_of room (m ∷ [])) there)
+    ∙ sym (firsts_of-append room (range_with_len from n) ((from + n) ∷ []))
+    ∙ ap (firsts_of room) (sym (range_more from n))
+    ∙ ap (λ m. firsts_of room (range_with_len from m)) one_more) where
+      first_where : (b : Bool) → cond b (first_on room cpu ∷ []) [] ≡ map (first_on room) (cond b (cpu ∷ []) [])
+      first_where true = refl
+      first_where false = refl
 
 -- what is pushed from a sibling on, and then up to it, are the firsts from it on
 pub firsts_pushed : (room : RoomState) (cpu count : ℕ) (none later all firsts : List (Option Task)) → count ≡ length room.siblings → none ≡ [] →
-    later ≡ none ++ firsts_between room cpu count →
-    all ≡ later ++ firsts_between room 0 cpu → firsts ≡ all →
-    firsts ≡ map (first_on room) (online_from room cpu)
+    later ≡ none ++ firsts_between room cpu count → all ≡ later ++ firsts_between room 0 cpu → firsts ≡ all → firsts ≡ map (first_on room) (online_from room cpu)
 firsts_pushed room cpu count none later all firsts counted empty first second same =
     let whole : cpu - 0 ≡ cpu = omega arith in
     same
     ∙ second
-    ∙ ap (λ (states : List (Option Task)). states ++ firsts_between room 0 cpu) (first
-    ∙ ap (λ (tasks : List (Option Task)). tasks ++ firsts_between room cpu count) empty
-    ∙ ap (λ (n : ℕ). firsts_between room cpu n) counted)
-    ∙ ap (λ (n : ℕ). firsts_between room cpu (length room.siblings) ++ map (first_on room) (filter (is_online room) (range_with_len 0 n))) whole
-    ∙ firsts_from room cpu
+    ∙ (λ i. (first ∙ (λ j. empty j ++ firsts_between room cpu (counted j))) i ++ firsts_of room (range_with_len 0 (whole i)))
+    ∙ sym (firsts_of-append room (range_with_len cpu (length room.siblings - cpu)) (range_with_len 0 cpu))
 
 -- each first is a task of the room
 pub All-firsts : (P : Task → Type 0) (room : RoomState) (cpus : List ℕ) → All P room.tasks → All (λ first. IfSome first P) (map (first_on room) cpus)
@@ -148,8 +120,5 @@ lead_is room cpu = refl
 -- a task after a selection, as the code finds it among the choices
 pub map-task_after_choices : (room : RoomState) (core occupation : ℕ) (tasks : List Task) → occupation ≡ occupation_of room core →
     map (task_after_choices (choices_of room core) occupation) tasks ≡ map (task_after_selection room core) tasks
-map-task_after_choices room core occupation [] same = refl
-map-task_after_choices room core occupation (task ∷ tasks) same =
-    let one : task_after_choices (choices_of room core) occupation task ≡ task_after_selection room core task =
-    λ i. record task { occupation = cond (any-choices room core task.spec.pid i) (same i) task.occupation } in
-    λ i. one i ∷ map-task_after_choices room core occupation tasks same i
+map-task_after_choices room core occupation tasks same =
+    λ i. map (λ (task : Task). record task { occupation = cond (any-choices room core task.spec.pid i) (same i) task.occupation }) tasks

@@ -1,11 +1,12 @@
 -- Remembered: the tasks that remember the occupation after a selection, and what stays where they do.
 use Rattle.std.proofs.Common.{◌≡◌, ℕ, ◌<◌, Bool, true, false, cond, List, [], ◌∷◌, ◌++◌, map, length, refl, subst, sym, ap, ◌∙◌, arith, eqb, Option, Some, None, inl, inr}
 use Rattle.std.specs.Prelude.{◌==◌, ◌&&◌, ◌||◌, find, IfSome, IsTrue}
-use Rattle.std.specs.List.{AllByRecursion, list_any}
+use Rattle.std.specs.List.{list_any}
 use Rattle.std.specs.Option.{option_and_then, option_map}
 use Rattle.std.proofs.lemmas.Bool.{cases_Bool, cond-true, cond-false, eqb-true}
 use Rattle.std.proofs.lemmas.Bool.Decides.{nat_tests}
 use Rattle.std.proofs.lemmas.List.Elements.{All-map, All-weaker}
+use Rattle.std.proofs.lemmas.List.{map-id}
 use Rattle.cs_types.specs.declared.task.Task.{Task}
 use Rattle.cs_types.specs.Queue.{queued_of}
 use Rattle.cs_types.specs.Room.{has_pid}
@@ -15,7 +16,6 @@ use Rattle.cs_types.proofs.Siblings.{map-map_alike}
 use Rattle.cs_types.proofs.Spots.{find-map}
 use Rattle.cs_types.proofs.Tasks.{found_again}
 use Rattle.task_table.specs.Table.{Table, Rises, IsSound as IsTable}
-use Rattle.task_table.proofs.Rising.{find_again}
 use Rattle.task_table.proofs.Tables.{changed_each}
 use Rattle.forceidle_account.specs.Charges.{has_total}
 use Rattle.core_lanes.specs.declared.queue.SiblingQueue.{Ghosts}
@@ -36,73 +36,40 @@ pub found_there : (pid : ℕ) (tasks : List Task) (found : Option Task) → foun
 found_there pid tasks None is = tt
 found_there pid tasks (Some task) is = found_again pid tasks task (sym is)
 
--- it is found by its own pid
-pub chosen_there : (tasks : List Task) (choice : Choice) (found : Option Task) → Rises tasks → found ≡ chosen_task tasks choice →
-    IfSome found (λ task. find (has_pid task.spec.pid) tasks ≡ Some task)
-chosen_there tasks choice None rises is = tt
-chosen_there tasks choice (Some task) rises is = by_choice choice.is_online choice.run is where
-  by_choice : (online : Bool) (run : Option ℕ) → Some task ≡ cond online (option_and_then (λ pid. find (has_pid pid) tasks) run) None →
-      find (has_pid task.spec.pid) tasks ≡ Some task
-  by_choice false run is = absurd cc
-  by_choice true None is = absurd cc
-  by_choice true (Some pid) is = find_again (has_pid pid) 0 tasks task rises (sym is)
-
-map_alike : {X : Type 0} (f g : X → X) (xs : List X) → ((x : X) → f x ≡ g x) → map f xs ≡ map g xs
-map_alike f g [] same = refl
-map_alike f g (x ∷ xs) same = λ i. same x i ∷ map_alike f g xs same i
-
--- a task that was found has the pid
-pid_found : (pid : ℕ) (tasks : List Task) (task : Task) → find (has_pid pid) tasks ≡ Some task → task.spec.pid ≡ pid
-pid_found pid tasks task found = eqb-true task.spec.pid pid (find_passes (has_pid pid) tasks task found)
-
 pub run_test : (a b : ℕ) → eqb b a ≡ eqb a b
 run_test a b = grind (arith, nat_tests)
 
 -- where one is, it remembers, and no other does
-pub map-task_after_choice : (tasks : List Task) (choice : Choice) (occupation : ℕ) (task : Task) → Rises tasks → Some task ≡ chosen_task tasks choice →
+pub map-task_after_choice : (tasks : List Task) (choice : Choice) (occupation : ℕ) (task : Task) → Rises tasks → IsOf tasks task → Some task ≡ chosen_task tasks choice →
     map (λ other. cond (has_pid task.spec.pid other) (record task { occupation = occupation }) other) tasks ≡ map (task_after_choice choice occupation) tasks
-map-task_after_choice tasks choice occupation task rises is =
-    changed_each (λ t. record t { occupation = occupation }) tasks task rises (chosen_there tasks choice (Some task) rises is)
-    ∙ map_alike (λ other. cond (has_pid task.spec.pid other) (record other { occupation = occupation }) other) (task_after_choice choice occupation) tasks
-    (λ other. ap (λ b. cond b (record other { occupation = occupation }) other) (by_choice choice.is_online choice.run is other)) where
+map-task_after_choice tasks choice occupation task rises there is =
+    changed_each (λ t. record t { occupation = occupation }) tasks task rises there
+    ∙ (λ i. map (λ other. cond (by_choice choice.is_online choice.run is other i) (record other { occupation = occupation }) other) tasks) where
       by_choice : (online : Bool) (run : Option ℕ) → Some task ≡ cond online (option_and_then (λ pid. find (has_pid pid) tasks) run) None →
           (other : Task) → has_pid task.spec.pid other ≡ (online && is_run run (Some other.spec.pid))
       by_choice false run is other = absurd cc
       by_choice true None is other = absurd cc
       by_choice true (Some pid) is other =
-          ap (λ n. eqb other.spec.pid n) (pid_found pid tasks task (sym is)) ∙ run_test pid other.spec.pid
+          ap (λ n. eqb other.spec.pid n) (eqb-true task.spec.pid pid (find_passes (has_pid pid) tasks task (sym is))) ∙ run_test pid other.spec.pid
 
 -- where none is, none remembers
 pub map-task_after_choice_none : (tasks : List Task) (choice : Choice) (occupation : ℕ) → None ≡ chosen_task tasks choice →
     tasks ≡ map (task_after_choice choice occupation) tasks
-map-task_after_choice_none tasks choice occupation is = sym (kept tasks (by_choice choice.is_online choice.run is)) where
-  kept : (ts : List Task) → AllByRecursion (λ other. (choice.is_online && is_run choice.run (Some other.spec.pid)) ≡ false) ts → map (task_after_choice choice occupation) ts ≡ ts
-  kept [] none = refl
-  kept (t ∷ ts) none = λ i. cond-false _ (record t { occupation = occupation }) t none.0 i ∷ kept ts none.1 i
-
-  all_false : (test : Task → Bool) → ((t : Task) → test t ≡ false) → (ts : List Task) → AllByRecursion (λ other. test other ≡ false) ts
-  all_false test none [] = tt
-  all_false test none (t ∷ ts) = (none t, all_false test none ts)
-
-  not_found : (pid : ℕ) (ts : List Task) → None ≡ find (has_pid pid) ts → AllByRecursion (λ other. eqb pid other.spec.pid ≡ false) ts
-  not_found pid [] none = tt
-  not_found pid (t ∷ ts) none =
+map-task_after_choice_none tasks choice occupation is = by_choice choice.is_online choice.run tasks is where
+  by_choice : (online : Bool) (run : Option ℕ) (ts : List Task) → None ≡ cond online (option_and_then (λ pid. find (has_pid pid) ts) run) None →
+      ts ≡ map (λ other. cond (online && is_run run (Some other.spec.pid)) (record other { occupation = occupation }) other) ts
+  by_choice false run ts is = sym (map-id ts)
+  by_choice true None ts is = sym (map-id ts)
+  by_choice true (Some pid) [] is = refl
+  by_choice true (Some pid) (t ∷ ts) is =
       elim (cases_Bool (has_pid pid t)) [
-        | inl here ↦ let some = none ∙ cond-true _ (Some t) (find (has_pid pid) ts) here in absurd cc
-        | inr past ↦ (sym (run_test pid t.spec.pid) ∙ past, not_found pid ts (none ∙ cond-false _ (Some t) (find (has_pid pid) ts) past))
+        | inl here ↦ let some = is ∙ cond-true _ (Some t) (find (has_pid pid) ts) here in absurd cc
+        | inr past ↦
+            λ i. sym (cond-false _ (record t { occupation = occupation }) t (sym (run_test pid t.spec.pid) ∙ past)) i
+            ∷ by_choice true (Some pid) ts (is ∙ cond-false _ (Some t) (find (has_pid pid) ts) past) i
       ]
 
-  by_choice : (online : Bool) (run : Option ℕ) → None ≡ cond online (option_and_then (λ pid. find (has_pid pid) tasks) run) None →
-      AllByRecursion (λ other. (online && is_run run (Some other.spec.pid)) ≡ false) tasks
-  by_choice false run is = all_false (λ other. false) (λ t. refl) tasks
-  by_choice true None is = all_false (λ other. false) (λ t. refl) tasks
-  by_choice true (Some pid) is = not_found pid tasks is
-
 -- ---- choice by choice
-
-pub map-task_after_choices_none : (occupation : ℕ) (tasks : List Task) → map (task_after_choices [] occupation) tasks ≡ tasks
-map-task_after_choices_none occupation [] = refl
-map-task_after_choices_none occupation (task ∷ tasks) = ap (λ (ts : List Task). task ∷ ts) (map-task_after_choices_none occupation tasks)
 
 -- one choice more
 pub map-task_after_choices_push : (choices : List Choice) (choice : Choice) (occupation : ℕ) (tasks : List Task) →
@@ -110,15 +77,14 @@ pub map-task_after_choices_push : (choices : List Choice) (choice : Choice) (occ
 map-task_after_choices_push choices choice occupation [] = refl
 map-task_after_choices_push choices choice occupation (task ∷ tasks) =
     let test = λ (one : Choice). one.is_online && is_run one.run (Some task.spec.pid) in
-    let one : task_after_choice choice occupation (task_after_choices choices occupation task) ≡ task_after_choices (choices ++ choice ∷ []) occupation task =
-    by_tests (list_any test choices) (test choice) ∙ ap (λ b. record task { occupation = cond b occupation task.occupation }) (sym (any-push test choices choice)) in
+    let one = by_tests task (list_any test choices) (test choice) ∙ ap (λ b. record task { occupation = cond b occupation task.occupation }) (sym (any-push test choices choice)) in
     λ i. one i ∷ map-task_after_choices_push choices choice occupation tasks i where
-      by_tests : (a b : Bool) → cond b (record task { occupation = occupation }) (record task { occupation = cond a occupation task.occupation })
-          ≡ record task { occupation = cond (a || b) occupation task.occupation }
-      by_tests true true = refl
-      by_tests true false = refl
-      by_tests false true = refl
-      by_tests false false = refl
+      by_tests : (t : Task) (a b : Bool) → cond b (record t { occupation = occupation }) (record t { occupation = cond a occupation t.occupation })
+          ≡ record t { occupation = cond (a || b) occupation t.occupation }
+      by_tests t true true = refl
+      by_tests t true false = refl
+      by_tests t false true = refl
+      by_tests t false false = refl
 
 -- ---- what stays
 
@@ -148,14 +114,10 @@ module _ (choices : List Choice) (occupation : ℕ) (tasks : List Task) where
     distinct = λ one is queued other is_other queued_other same.
         let first = was_there one is in
         let second = was_there other is_other in
-        let pid : first.0.spec.pid ≡ one.spec.pid = ap (λ (t : Task). t.spec.pid) first.2 in
-        let stamp : first.0.stamp ≡ one.stamp = ap (λ (t : Task). t.stamp) first.2 in
-        let pid_other : second.0.spec.pid ≡ other.spec.pid = ap (λ (t : Task). t.spec.pid) second.2 in
-        let stamp_other : second.0.stamp ≡ other.stamp = ap (λ (t : Task). t.stamp) second.2 in
-        sym pid_other
+        ap (λ (t : Task). t.spec.pid) (sym second.2)
         ∙ stamped.distinct first.0 first.1 (subst (λ (t : Task). IsTrue t.queued) (sym first.2) queued) second.0 second.1
-        (subst (λ (t : Task). IsTrue t.queued) (sym second.2) queued_other) (stamp_other ∙ same ∙ sym stamp)
-        ∙ pid;
+        (subst (λ (t : Task). IsTrue t.queued) (sym second.2) queued_other) (ap (λ (t : Task). t.stamp) second.2 ∙ same ∙ ap (λ (t : Task). t.stamp) (sym first.2))
+        ∙ ap (λ (t : Task). t.spec.pid) first.2;
   }
 
   -- A core and its table agree still.

@@ -45,7 +45,7 @@ charge_one-requires-clause-low g c =
     let is = sym (get_or_from_slice_get tasks position task task (sym c.at.ensures.task ∙ ap option_copied c.unwrap.ensures)) in
     let before : list_any (is_charged_as siblings task.spec.pid) (take position tasks) ≡ false =
     ap (λ (t : Task). list_any (is_charged_as siblings t.spec.pid) (take position tasks)) is
-    ∙ none_before (is_charged siblings) 0 position task tasks c.at.ensures.sound.rising within in
+    ∙ none_before (is_charged siblings) position task tasks c.at.ensures.sound.rising within in
     omega (arith, c.loop-position.invariant.charged task.spec.pid, ap (λ b. cond b c.args.share 0) before, c.requires.low task.spec.pid)
 
 pub loop-position-preserved : goal.loop-position-preserved
@@ -60,7 +60,7 @@ loop-position-preserved g c =
     λ pid charged.
     let own : task.spec.pid ≡ pid = eqb-true task.spec.pid pid (and_parts (is_charged siblings task) (task.spec.pid == pid) charged).1 in
     ap (λ n. list_any (is_charged_as siblings n) (take position tasks)) (sym own ∙ ap (λ (t : Task). t.spec.pid) is)
-    ∙ none_before (is_charged siblings) 0 position task tasks c.at.ensures.sound.rising within in
+    ∙ none_before (is_charged siblings) position task tasks c.at.ensures.sound.rising within in
     let more : (pid : ℕ) → (list_any (is_charged_as siblings pid) (take position tasks) || is_charged_as siblings pid task) ≡ list_any (is_charged_as siblings pid) (take (position + 1) tasks) =
     λ pid. ap (λ (t : Task). list_any (is_charged_as siblings pid) (take position tasks) || is_charged_as siblings pid t) is
     ∙ sym (ap (list_any (is_charged_as siblings pid)) (take_more tasks position task within) ∙ any-push (is_charged_as siblings pid) (take position tasks) (get_or tasks position task)) in

@@ -8,7 +8,7 @@ pub returns-in-Some-clause-tasks : goal.returns-in-Some-clause-tasks
 returns-in-Some-clause-tasks c =
     c.change.ensures.changed
     ∙ ap (λ (tasks : List Task). let table : Table = record { tasks = tasks; limit = c.args.tasks.now.limit } in table)
-    (map-task_after_choice c.args.tasks.now.tasks c.args.choice.now c.args.occupation c.in-Some.task c.requires.rising c.in-Some.ensures.chosen)
+    (map-task_after_choice c.args.tasks.now.tasks c.args.choice.now c.args.occupation c.in-Some.task c.requires.rising c.in-Some.ensures.there c.in-Some.ensures.chosen)
 
 pub returns-in_default-clause-tasks : goal.returns-in_default-clause-tasks
 returns-in_default-clause-tasks c =

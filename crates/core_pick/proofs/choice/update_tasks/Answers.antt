@@ -1,10 +1,10 @@
 use Rattle.std.proofs.Common.{◌∙◌, sym, ap, List, map, get_or, take}
-use Rattle.std.proofs.lemmas.List.{take_more}
+use Rattle.std.proofs.lemmas.List.{take_more, map-id}
 use Rattle.cs_types.specs.declared.task.Task.{Task}
 use Rattle.task_table.specs.Table.{Table}
 use Rattle.core_pick.specs.declared.choice.Choice.{Choice}
 use Rattle.core_pick.specs.Choice.{task_after_choice, task_after_choices}
-use Rattle.core_pick.proofs.Remembered.{map-task_after_choices_none, map-task_after_choices_push}
+use Rattle.core_pick.proofs.Remembered.{map-task_after_choices_push}
 use Rattle.core_pick.proofs.Choices.{no_choice}
 use Rattle.core_pick.proofs.choice.update_tasks.Goals as goal
 
@@ -12,7 +12,7 @@ pub loop-choice-init : goal.loop-choice-init
 loop-choice-init c = record {
   sound = record { rising = c.requires.rising; few = c.requires.few; limit = c.requires.limit };
   so_far = ap (λ (tasks : List Task). let table : Table = record { tasks = tasks; limit = c.args.tasks.now.limit } in table)
-      (sym (map-task_after_choices_none c.args.occupation c.args.tasks.now.tasks));
+      (sym (map-id c.args.tasks.now.tasks));
 }
 
 pub loop-choice-preserved : goal.loop-choice-preserved
