@@ -131,13 +131,14 @@ fn select_for<Q: SiblingQueue, L: Ledger>(
     ensures forced { (beside : Beside) → core.new.account.count ≡ forced_count (room_of beside (core.old, table.old)) cookie }
 {
     let choices = choices(core, table, cookie, steps);
-    let forced = forced_count(&choices);
-    let occupation = occupation(&choices);
+    let choices = choices.as_slice();
+    let forced = forced_count(choices);
+    let occupation = occupation(choices);
     let renews = renews_snapshots(core.account.count(), forced);
     core.cookie = cookie;
     core.account.begin(cookie, forced, occupation, now);
-    update_tasks(table, &choices, occupation);
-    update_siblings(&mut core.lanes, cpu, &choices, occupation, renews);
+    update_tasks(table, choices, occupation);
+    update_siblings(&mut core.lanes, cpu, choices, occupation, renews);
     choices[cpu as usize].run
 }
 
