@@ -1,7 +1,7 @@
 -- Ranges: low times are in the range that the order of offers asks for.
 use Rattle.std.proofs.Common.{ℕ, zero, suc, ◌^◌, ◌<◌, List, [], ◌∷◌, take, arith}
 use Rattle.std.specs.Prelude.{All, Option, Some, None, IfSome}
-use Rattle.std.proofs.lemmas.List.Elements.{All-head, All-tail}
+use Rattle.std.proofs.lemmas.List.Elements.{All-head, All-tail, All-take, All-weaker}
 use Rattle.cs_types.specs.declared.task.Task.{Task}
 use Rattle.cs_types.specs.Room.{SiblingState}
 use Rattle.sibling_priority.specs.Offers.{IsTimeInRange}
@@ -9,18 +9,11 @@ use Rattle.core_pick.specs.Choice.{snapshot_in}
 
 -- each first of a prefix has a low virtual time
 pub low_times : (firsts : List (Option Task)) (n : ℕ) → All (λ (first : Option Task). IfSome first (λ task. task.vtime < 2 ^ 127)) firsts → All IsTimeInRange (take n firsts)
-low_times firsts zero all = λ k d lt. absurd (omega arith)
-low_times [] (suc n) all = λ k d lt. absurd (omega arith)
-low_times (first ∷ firsts) (suc n) all =
-    all_cons first (take n firsts) (in_range first (All-head (λ (one : Option Task). IfSome one (λ task. task.vtime < 2 ^ 127)) first firsts all))
-    (low_times firsts n (All-tail (λ (one : Option Task). IfSome one (λ task. task.vtime < 2 ^ 127)) first firsts all)) where
+low_times firsts n all =
+    All-weaker (λ (first : Option Task). IfSome first (λ task. task.vtime < 2 ^ 127)) IsTimeInRange in_range (take n firsts) (All-take (λ (first : Option Task). IfSome first (λ task. task.vtime < 2 ^ 127)) n firsts all) where
       in_range : (one : Option Task) → IfSome one (λ task. task.vtime < 2 ^ 127) → IsTimeInRange one
       in_range None low = tt
       in_range (Some task) low = λ fair. low
-
-      all_cons : (x : Option Task) (xs : List (Option Task)) → IsTimeInRange x → All IsTimeInRange xs → All IsTimeInRange (x ∷ xs)
-      all_cons x xs here all zero d lt = here
-      all_cons x xs here all (suc k) d lt = all k d (omega arith)
 
 -- the snapshot of each sibling, also past the last, is low
 pub low_snapshots : (siblings : List SiblingState) → All (λ sibling. sibling.snapshot < 2 ^ 127) siblings → (cpu : ℕ) → snapshot_in siblings cpu < 2 ^ 127
