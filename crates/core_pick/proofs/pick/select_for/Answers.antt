@@ -70,12 +70,6 @@ returns-clause-stays g c =
     stays-remembered _ _ c.as_slice-choices.result.now c.occupation-occupation.result c.update_tasks.ensures.tasks c.update_tasks.ensures.sound
     (ap (map queue_of) kept_lanes ∙ c.update_siblings.ensures.queues ∙ ap (map queue_of) c.deref_mut.ensures.value) refl refl
 
-pub forced_count-forced-requires : goal.forced_count-forced-requires
-forced_count-forced-requires g c = c.as_slice-choices.ensures.fits
-
-pub occupation-occupation-requires : goal.occupation-occupation-requires
-occupation-occupation-requires g c = c.as_slice-choices.ensures.fits
-
 pub update_siblings-requires-clause-each : goal.update_siblings-requires-clause-each
 update_siblings-requires-clause-each g c = ap length c.as_slice-choices.ensures.value ∙ c.choices-choices.ensures.length ∙ sym (ap length c.deref_mut.ensures.value)
 
