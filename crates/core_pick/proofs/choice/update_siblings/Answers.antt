@@ -1,4 +1,4 @@
-use Rattle.std.proofs.Common.{ℕ, ◌≡◌, ◌<◌, ◌++◌, refl, subst, ◌∙◌, ap, sym, map, take, drop, length, get_or, arith}
+use Rattle.std.proofs.Common.{ℕ, refl, ◌≡◌, ◌<◌, ◌≤◌, ◌*◌, ◌++◌, Fits, w8, w64, subst, ◌∙◌, ap, sym, map, take, drop, length, get_or, arith}
 use Rattle.std.specs.List.{enumerate_from}
 use Rattle.std.proofs.lemmas.Bool.{cond-true, cond-false}
 use Rattle.std.proofs.lemmas.List.{append-nil, map-set, length-map, get_or-map}
@@ -14,11 +14,24 @@ use Rattle.core_pick.proofs.Choices.{no_choice, choice_in}
 use Rattle.core_pick.proofs.choice.update_siblings.Goals as goal
 use Rattle.core_pick.proofs.choice.update_siblings.Goals.{then-lane, else-lane}
 
+-- the number of a sibling fits a byte, and its choice the memory
+number_fits : (cpu count : ℕ) → cpu < count → count ≤ 16 → Fits w8 cpu
+number_fits cpu count below few = omega arith
+
+choice_fits : (cpu count : ℕ) → cpu < count → count ≤ 16 → Fits w64 (cpu * 12)
+choice_fits cpu count below few = omega arith
+
+pub overflow_cast-cpu : goal.overflow_cast-cpu
+overflow_cast-cpu g c = number_fits c.loop-cpu.cpu (length c.args.lanes.now) c.loop-cpu-test.true c.requires.few
+
+pub offset_bounds-choices-cpu : goal.offset_bounds-choices-cpu
+offset_bounds-choices-cpu g c = choice_fits c.loop-cpu.cpu (length c.args.lanes.now) c.loop-cpu-test.true c.requires.few
+
+pub bounds-choices-cpu : goal.bounds-choices-cpu
+bounds-choices-cpu g c = subst (λ n. c.loop-cpu.cpu < n) (sym c.requires.each) c.loop-cpu-test.true
+
 pub loop-cpu-init : goal.loop-cpu-init
 loop-cpu-init g c = record { states = λ room core is each occupation renews. refl; numbers = refl; queues = refl }
-
-pub bounds-lanes-cpu : goal.bounds-lanes-cpu
-bounds-lanes-cpu g c = subst (λ n. c.loop-cpu.cpu < n) (sym c.loop-cpu.auto.lanes) c.loop-cpu-test.true
 
 pub loop-cpu-preserved : goal.loop-cpu-preserved
 loop-cpu-preserved g c =

@@ -1,4 +1,4 @@
-use Rattle.std.proofs.Common.{◌≡◌, ◌∙◌, ◌<◌, ◌^◌, ap, sym, List, subst, map, length, arith}
+use Rattle.std.proofs.Common.{◌≡◌, ◌∙◌, ℕ, ◌+◌, ◌-◌, ◌<◌, ◌≤◌, ◌^◌, Fits, w8, ap, sym, List, subst, map, length, arith}
 use Rattle.std.specs.Prelude.{Option, All, IfSome}
 use Rattle.std.specs.Option.{option_and_then}
 use Rattle.std.proofs.lemmas.List.{length-map}
@@ -30,6 +30,28 @@ each_first : (g : Over) (c : goal.After-deref-2 g) (P : Task → Type 0) → All
 each_first g c P all =
     let room = room_of some_beside (c.args.core.now, c.args.table.now) in
     subst (λ (firsts : List (Option Task)). All (λ first. IfSome first P) firsts) (sym (gathered g c)) (All-firsts P room (online_from room c.args.cpu) all)
+
+-- the siblings are few, and so are the firsts from one on and then those before it
+few_fit : (count most : ℕ) → count ≡ most → most ≤ 16 → Fits w8 count
+few_fit count most is few = omega arith
+
+later_fit : (none cpu count most : ℕ) → none ≡ 0 → count ≡ most → most ≤ 16 → none + (count - cpu) ≤ 16
+later_fit none cpu count most empty is few = omega arith
+
+earlier_fit : (none some cpu count most : ℕ) → some ≤ none + (count - cpu) → none ≡ 0 → count ≡ most → most ≤ 16 → cpu < most → some + (cpu - 0) ≤ 16
+earlier_fit none some cpu count most pushed empty is few below = omega arith
+
+pub overflow_cast-len : goal.overflow_cast-len
+overflow_cast-len g c = few_fit c.len.result (length c.args.core.now.lanes.items) (c.len.ensures ∙ c.args.core.now.lanes.ok.0) c.args.core.now.few
+
+pub push_firsts-requires-clause-spare : goal.push_firsts-requires-clause-spare
+push_firsts-requires-clause-spare g c =
+    later_fit (length c.new-firsts.result.items) c.args.cpu c.len.result (length c.args.core.now.lanes.items) (ap length c.new-firsts.ensures) (c.len.ensures ∙ c.args.core.now.lanes.ok.0) c.args.core.now.few
+
+pub push_firsts-requires-2-clause-spare : goal.push_firsts-requires-2-clause-spare
+push_firsts-requires-2-clause-spare g c =
+    earlier_fit (length c.new-firsts.result.items) (length c.push_firsts.new.firsts.items) c.args.cpu c.len.result (length c.args.core.now.lanes.items) c.push_firsts.ensures.length (ap length c.new-firsts.ensures) (c.len.ensures ∙ c.args.core.now.lanes.ok.0) c.args.core.now.few
+    c.requires.cpu
 
 pub lead_of-requires-clause-few : goal.lead_of-requires-clause-few
 lead_of-requires-clause-few g c = c.deref.ensures.1
