@@ -1,17 +1,20 @@
 -- Changes: changes of a core and its table in turn, and a task that a core knows in place of one of its table.
-use Rattle.std.proofs.Common.{◌≡◌, ℕ, ◌<◌, sym, ap, subst, ◌∙◌, length}
+use Rattle.std.proofs.Common.{◌≡◌, ℕ, ◌<◌, sym, ap, subst, ◌∙◌, length, map, get_or}
 use Rattle.std.specs.Prelude.{find, Some, IsTrue}
+use Rattle.std.proofs.lemmas.List.{length-map, get_or-map}
+use Rattle.std.proofs.lemmas.Option.{slice_get_read}
 use Rattle.cs_types.specs.declared.task.Task.{Task}
 use Rattle.cs_types.specs.declared.task.TaskSpec.{TaskSpec}
 use Rattle.cs_types.specs.Scenario.{IsPolicy}
 use Rattle.cs_types.specs.Room.{RoomState, has_pid}
 use Rattle.task_table.specs.Table.{Table}
 use Rattle.core_lanes.specs.declared.queue.SiblingQueue.{Ghosts}
+use Rattle.core_lanes.specs.declared.lane.Lane.{Lane}
 use Rattle.core_lanes.specs.declared.lanes.Core.{Core}
-use Rattle.core_lanes.specs.Queued.{IsOf}
+use Rattle.core_lanes.specs.Queued.{IsOf, queued_at}
 use Rattle.core_lanes.specs.Lanes.{Beside, room_of, IsFit, Agree, Knows}
-use Rattle.core_lanes.specs.Changes.{Changes}
-use Rattle.core_lanes.proofs.Stays.{found_in, both_stay}
+use Rattle.core_lanes.specs.Changes.{Kept, Stays, Changes}
+use Rattle.core_lanes.proofs.Stays.{found_in, both_stay, queue_of}
 
 -- two changes in turn
 pub both_change : {Q : Type 0} {g : Ghosts Q} {old mid new : Core Q g × Table} {first second : RoomState → RoomState} →
@@ -61,3 +64,16 @@ knows-alike both task old agree there keeps =
                 agree.stamped.distinct old there was other is on (same ∙ keeps.stamp) ∙ ap (λ (spec : TaskSpec). spec.pid) (sym keeps.spec);
           };
     }
+
+-- a sibling is one of the core still
+pub still_below : {Q : Type 0} {g : Ghosts Q} {old new : Core Q g × Table} {cpu : ℕ} → Stays old new → cpu < length old.0.lanes.items → cpu < length new.0.lanes.items
+still_below {cpu = cpu} stays below = subst (λ n. cpu < n) (sym (ap (λ (kept : Kept). kept.siblings) stays.kept)) below
+
+-- the queue of a sibling holds the tasks that are queued there
+pub held_at : {Q : Type 0} {g : Ghosts Q} (both : Core Q g × Table) (cpu : ℕ) (lane : Lane Q) → Agree both → cpu < length both.0.lanes.items →
+    lane ≡ get_or both.0.lanes.items cpu lane → g.holds lane.queue both.1.limit (queued_at both.1.tasks cpu)
+held_at both cpu lane agree below is =
+    let lanes = both.0.lanes.items in
+    agree.held cpu lane.queue
+    (slice_get_read (map queue_of lanes) (length lanes) cpu lane.queue (sym (length-map lanes queue_of)) below
+    (ap queue_of is ∙ sym (get_or-map queue_of lanes cpu lane lane.queue below)))

@@ -11,7 +11,22 @@ use Rattle.core_lanes.specs.Lanes.{at, lane_state}
 use Rattle.core_lanes.specs.Numbers.{Numbers, numbers_of}
 use Rattle.core_lanes.proofs.Stays.{some_beside, number_of, queue_of, both_stay, alike_stays}
 use Rattle.core_events.specs.Time.{aged}
+use Rattle.cs_types.specs.declared.task.Task.{Task}
 use Rattle.core_events.proofs.time.advance.Goals as goal
+
+pub grow_tasks-requires : goal.grow_tasks-requires
+grow_tasks-requires g c = record {
+  agree = c.requires.may.agree;
+  delta = c.requires.delta;
+  used = All-weaker (λ (task : Task). task.used ≤ c.args.now) (λ (task : Task). task.used < 2 ^ 56) (λ task is. omega (arith, is, c.requires.may.clock)) c.args.table.now.tasks c.requires.may.used;
+  vtimes = c.requires.may.low.vtimes;
+}
+
+pub invariant_of-core : goal.invariant_of-core
+invariant_of-core g c =
+    let vector = c.grow_tasks.new.core.lanes in
+    let items = with_items_is vector c.age.new.lanes (c.age.auto.lanes ∙ ap length c.deref_mut.ensures.value ∙ sym vector.ok.0) in
+    record { few = subst (λ n. n ≤ 16) (sym (ap length items ∙ c.age.auto.lanes ∙ ap length c.deref_mut.ensures.value)) c.grow_tasks.new.core.few }
 
 pub age-requires : goal.age-requires
 age-requires g c =

@@ -1,6 +1,6 @@
-use Rattle.std.proofs.Common.{◌+◌, ◌<◌, ◌∙◌, ap, sym, refl, map, length, get_or, arith}
+use Rattle.std.proofs.Common.{◌+◌, ◌<◌, ◌∙◌, ap, sym, refl, map, length, get_or, arith, ◌≤◌, ◌≡◌, ◌++◌, take, drop}
 use Rattle.std.specs.Prelude.{List}
-use Rattle.std.proofs.lemmas.List.{map-set, length-map, get_or-map}
+use Rattle.std.proofs.lemmas.List.{map-set, length-map, get_or-map, take_all, drop_all, append-nil}
 use Rattle.std.proofs.Math.Seq.{map-set_same}
 use Rattle.cs_types.specs.Room.{SiblingState, absent}
 use Rattle.core_lanes.specs.Lanes.{lane_state}
@@ -35,4 +35,17 @@ loop-lane-preserved g c =
           (ap (aged c.args.delta) (sym (get_or-map lane_state lanes i c.lane-item.result absent inside)));
       numbers = map-set_same number_of lanes i after c.lane-item.result refl ∙ c.loop-lane.invariant.numbers;
       queues = map-set_same queue_of lanes i after c.lane-item.result refl ∙ c.loop-lane.invariant.queues;
+    }
+
+pub returns : goal.returns
+returns g c =
+    let states = map lane_state c.args.lanes.now in
+    let i = c.loop-lane.lane-index in
+    let all : length states ≤ i = omega (arith, length-map c.args.lanes.now lane_state, c.loop-lane-test.false) in
+    record {
+      states = c.loop-lane.invariant.states
+          ∙ (λ k. map (aged c.args.delta) (take_all i states all k) ++ drop_all i states all k)
+          ∙ append-nil (map (aged c.args.delta) states);
+      numbers = c.loop-lane.invariant.numbers;
+      queues = c.loop-lane.invariant.queues;
     }

@@ -10,7 +10,17 @@ use Rattle.task_table.specs.Table.{Rises}
 use Rattle.core_lanes.specs.Queued.{IsOf, smallest_vtime}
 use Rattle.core_lanes.specs.Lanes.{room_of}
 use Rattle.core_events.proofs.Peers.{overtaken_by}
+use Rattle.core_events.proofs.Changes.{held_at}
 use Rattle.core_events.proofs.time.is_overtaken.Goals as goal
+
+pub smallest_vtime-requires : goal.smallest_vtime-requires
+smallest_vtime-requires g c = held_at (c.args.core.now, c.args.table.now) c.args.cpu c.index.result.now c.requires.agree c.requires.cpu c.index.ensures
+
+pub returns-then-not-is_fair : goal.returns-then-not-is_fair
+returns-then-not-is_fair g c beside =
+    let task = c.args.task.now in
+    let others = others_on (room_of beside (c.args.core.now, c.args.table.now)) c.args.cpu task in
+    ap (λ b. b && list_any (λ other. is_fair other && ltb other.vtime task.vtime) others) (sym c.if-not-is_fair.true ∙ c.is_fair.ensures)
 
 -- a fair task is overtaken where the smallest of those there is smaller
 by_smallest : (room : RoomState) (cpu : ℕ) (task : Task) → Rises room.tasks → IsOf room.tasks task → is_fair task ≡ true →

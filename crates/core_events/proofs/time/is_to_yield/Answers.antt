@@ -8,7 +8,11 @@ use Rattle.cs_types.specs.Time.{others_on, is_to_yield, patience}
 use Rattle.core_lanes.specs.Lanes.{room_of}
 use Rattle.core_lanes.proofs.Stays.{lane_at}
 use Rattle.core_events.proofs.Peers.{fair_peers}
+use Rattle.core_events.proofs.Changes.{held_at}
 use Rattle.core_events.proofs.time.is_to_yield.Goals as goal
+
+pub has_peer-requires : goal.has_peer-requires
+has_peer-requires g c = record { holds = held_at (c.args.core.now, c.args.table.now) c.args.cpu c.index-lane.result.now c.requires.agree c.requires.cpu c.index-lane.ensures }
 
 -- a fair task that has run so long while a sibling is forced idle is to yield where no other fair one is there
 where_alone : (room : RoomState) (cpu : ℕ) (task : Task) → is_fair task ≡ true → (room.forced == 0) ≡ false → ltb (sibling_of room cpu).ran patience ≡ false →

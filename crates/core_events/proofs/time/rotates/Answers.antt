@@ -4,7 +4,17 @@ use Rattle.std.specs.List.{list_any}
 use Rattle.cs_types.specs.Time.{is_peer, others_on}
 use Rattle.core_lanes.specs.Lanes.{room_of}
 use Rattle.core_events.proofs.Peers.{rr_peers}
+use Rattle.core_events.proofs.Changes.{held_at}
 use Rattle.core_events.proofs.time.rotates.Goals as goal
+
+pub has_peer-requires : goal.has_peer-requires
+has_peer-requires g c = record { holds = held_at (c.args.core.now, c.args.table.now) c.args.cpu c.index.result.now c.requires.agree c.requires.cpu c.index.ensures }
+
+pub returns-else-has_used_slice : goal.returns-else-has_used_slice
+returns-else-has_used_slice g c beside =
+    let room = room_of beside (c.args.core.now, c.args.table.now) in
+    c.if-has_used_slice.false
+    ∙ ap (λ b. b && list_any (is_peer c.args.task.now) (others_on room c.args.cpu c.args.task.now)) (sym c.if-has_used_slice.false ∙ c.has_used_slice.ensures)
 
 pub returns-then-has_used_slice : goal.returns-then-has_used_slice
 returns-then-has_used_slice g c beside =

@@ -1,4 +1,4 @@
-use Rattle.std.proofs.Common.{◌≡◌, ◌∙◌, ap, subst, refl, Option, Some, None}
+use Rattle.std.proofs.Common.{◌≡◌, ◌∙◌, ap, subst, refl, Option, Some, None, ◌+◌, ◌<◌, ◌^◌, sym}
 use Rattle.cs_types.specs.declared.task.Task.{Task}
 use Rattle.cs_types.specs.declared.reply.Reply.TheVariants.{Ticked}
 use Rattle.cs_types.specs.Room.{RoomState, flagged, running_on}
@@ -8,10 +8,38 @@ use Rattle.cs_types.specs.Step.{ticked}
 use Rattle.task_table.specs.Table.{Table}
 use Rattle.core_lanes.specs.declared.queue.SiblingQueue.{Ghosts}
 use Rattle.core_lanes.specs.declared.lanes.Core.{Core}
-use Rattle.core_lanes.specs.Lanes.{Beside, at, beside_after, room_of}
+use Rattle.core_lanes.specs.Lanes.{Beside, at, beside_after, room_of, BareCore}
 use Rattle.core_lanes.specs.Numbers.{numbers_of, booked}
 use Rattle.core_lanes.proofs.Stays.{both_stay}
+use Rattle.core_events.proofs.Changes.{still_below}
 use Rattle.core_events.proofs.time.tick.Goals as goal
+
+pub running_on-requires : goal.running_on-requires
+running_on-requires g c = still_below c.charge.ensures.charges.stays c.requires.cpu
+
+pub rotates-rotates-requires : goal.rotates-rotates-requires
+rotates-rotates-requires g c = record {
+  cpu = still_below c.charge.ensures.charges.stays c.requires.cpu;
+  agree = c.charge.ensures.charges.stays.agree c.requires.agree;
+}
+
+pub asks_at_tick-asks-requires : goal.asks_at_tick-asks-requires
+asks_at_tick-asks-requires g c = record {
+  cpu = still_below c.charge.ensures.charges.stays c.requires.cpu;
+  agree = c.charge.ensures.charges.stays.agree c.requires.agree;
+  there = c.in-Some.ensures.there;
+  rotates = c.rotates-rotates.ensures;
+}
+
+pub begin_slice-requires : goal.begin_slice-requires
+begin_slice-requires g c = record {
+  there = c.in-Some.ensures.there;
+  agree = c.charge.ensures.charges.stays.agree c.requires.agree;
+  stamp = subst (λ n. n + 1 < 2 ^ 64) (sym (ap (λ (core : BareCore). core.next_stamp) c.charge.ensures.rest)) c.requires.stamp;
+}
+
+pub flag-requires : goal.flag-requires
+flag-requires g c = still_below (both_stay c.charge.ensures.charges.stays (c.begin_slice.ensures c.args.cpu c.rotates-rotates.ensures).stays) c.requires.cpu
 
 -- a core and its table stand for a room of which they have all but what is beside them
 stands : {Q : Type 0} {g : Ghosts Q} (beside : Beside) (both : Core Q g × Table) (room : RoomState) → room_of beside both ≡ room → room_of (beside_after beside room) both ≡ room

@@ -16,7 +16,18 @@ use Rattle.core_events.proofs.Onlines.{untouched, when_online, when_offline}
 use Rattle.core_events.proofs.Sleeps.{took-touched}
 use Rattle.core_events.proofs.Lows.{HasLow, low_idled, low_dequeued}
 use Rattle.core_events.proofs.Readies.{fits_found, knows_as, picked_charged}
+use Rattle.core_events.proofs.Changes.{still_below}
 use Rattle.core_events.proofs.state.State.block.Goals as goal
+
+pub dequeue-requires-clause-touches : goal.dequeue-requires-clause-touches
+dequeue-requires-clause-touches g c = omega (arith, ap (λ (b : BareCore). b.task_number) c.charge.ensures.rest, c.requires.ready.spares.touches)
+
+pub idle-requires : goal.idle-requires
+idle-requires g c = still_below (both_stay c.charge.ensures.charges.stays c.dequeue.ensures.stays) c.requires.cpu
+
+pub pick_and_balance-requires-clause-cpu : goal.pick_and_balance-requires-clause-cpu
+pick_and_balance-requires-clause-cpu g c =
+    still_below (both_stay c.charge.ensures.charges.stays (both_stay c.dequeue.ensures.stays (c.idle.ensures c.dequeue.new.table).stays)) c.requires.cpu
 
 pub dequeue-requires-clause-knows : goal.dequeue-requires-clause-knows
 dequeue-requires-clause-knows g c =

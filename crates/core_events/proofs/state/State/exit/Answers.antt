@@ -1,4 +1,4 @@
-use Rattle.std.proofs.Common.{◌≡◌, ap, ◌∙◌, refl, sym, subst, arith, false, []}
+use Rattle.std.proofs.Common.{◌≡◌, ap, ◌∙◌, refl, sym, subst, arith, false, [], ◌<◌}
 use Rattle.cs_types.specs.declared.reply.Reply.TheVariants.{Ended, HasThreads}
 use Rattle.cs_types.specs.Room.{RoomState, running_on}
 use Rattle.cs_types.specs.Selection.{Scheduled, schedule}
@@ -16,7 +16,15 @@ use Rattle.core_events.proofs.Onlines.{untouched, when_online, when_offline}
 use Rattle.core_events.proofs.Sleeps.{took-ended}
 use Rattle.core_events.proofs.Lows.{HasLow, low_idled, low_without}
 use Rattle.core_events.proofs.Readies.{picked_charged}
+use Rattle.core_events.proofs.Changes.{still_below}
 use Rattle.core_events.proofs.state.State.exit.Goals as goal
+
+pub idle-requires : goal.idle-requires
+idle-requires g c = subst (λ n. c.args.cpu < n) (sym c.end.ensures.stays.siblings) (still_below c.charge.ensures.charges.stays c.requires.cpu)
+
+pub pick_and_balance-requires-clause-cpu : goal.pick_and_balance-requires-clause-cpu
+pick_and_balance-requires-clause-cpu g c =
+    still_below (c.idle.ensures c.end.new.self.tasks).stays (subst (λ n. c.args.cpu < n) (sym c.end.ensures.stays.siblings) (still_below c.charge.ensures.charges.stays c.requires.cpu))
 
 pub end-requires-clause-there : goal.end-requires-clause-there
 end-requires-clause-there g c = c.in-Some.ensures.there

@@ -1,17 +1,22 @@
 use Rattle.std.proofs.Common.{◌≡◌, ap, ◌∙◌, sym, subst, ◌<◌, length, arith, []}
-use Rattle.std.proofs.lemmas.Bool.{cond-false}
+use Rattle.std.proofs.lemmas.Bool.{cond-false, cond-true}
 use Rattle.std.specs.Prelude.{Some}
-use Rattle.cs_types.specs.declared.reply.Reply.TheVariants.{Child}
+use Rattle.cs_types.specs.declared.reply.Reply.TheVariants.{Child, NoCaller, Refused}
 use Rattle.cs_types.specs.declared.task.Task.{Task}
 use Rattle.cs_types.specs.Scenario.{IsPolicy}
 use Rattle.cs_types.specs.Room.{RoomState}
 use Rattle.cs_types.specs.Queueing.{queued_at_home}
 use Rattle.cs_types.specs.Step.{Stepped, forked, child_at_home, child_of, with_child}
-use Rattle.core_lanes.specs.Numbers.{Numbers, touched}
+use Rattle.core_lanes.specs.Numbers.{Numbers, touched, numbers_of}
 use Rattle.core_lanes.proofs.Stays.{some_beside}
 use Rattle.core_events.specs.State.{beside_of, both, room_with}
-use Rattle.core_events.proofs.States.{uncharged, lifted, both_stay}
+use Rattle.core_events.proofs.States.{uncharged, lifted, both_stay, leaves_all}
 use Rattle.core_events.proofs.Readies.{fits_found, knows_as}
+use Rattle.cs_types.specs.declared.event.Event.TheVariants.{Fork}
+use Rattle.cs_types.specs.declared.reply.Errno.TheVariants.{Eagain}
+use Rattle.core_events.specs.declared.state.State.{State}
+use Rattle.core_events.specs.Steps.{Makes}
+use Rattle.core_events.proofs.Onlines.{untouched}
 use Rattle.core_events.proofs.state.State.fork.Goals as goal
 
 pub child_at_home-task-requires : goal.child_at_home-task-requires
@@ -77,3 +82,20 @@ returns-in-Ok g c =
           });
       stays = both_stay born.stays (lifted after (c.queue_at_home.new.core, c.queue_at_home.new.table) queued.stays);
     }
+
+pub returns-in-Err-NoCaller : goal.returns-in-Err-NoCaller
+returns-in-Err-NoCaller g c =
+    let old = c.args.self.now in
+    let makes = rw c.in-Err-NoCaller.field-0-is at c.in-Err-NoCaller.ensures in
+    subst (λ (new : State _ _). Makes old new (Fork c.args.caller c.args.thread) NoCaller) (sym makes.1)
+    (leaves_all old (Fork c.args.caller c.args.thread) NoCaller (λ intervals. untouched (numbers_of old.core)) (λ intervals.
+    ap (forked (room_with intervals old) c.args.thread) (sym makes.0)))
+
+pub returns-in-Err-Eagain : goal.returns-in-Err-Eagain
+returns-in-Err-Eagain g c =
+    let old = c.args.self.now in
+    let makes = rw c.in-Err-Eagain.field-0-is at c.in-Err-Eagain.ensures in
+    subst (λ (new : State _ _). Makes old new (Fork c.args.caller c.args.thread) (Refused Eagain)) (sym makes.3)
+    (leaves_all old (Fork c.args.caller c.args.thread) (Refused Eagain) (λ intervals. untouched (numbers_of old.core)) (λ intervals.
+    let room = room_with intervals old in
+    sym (cond-true _ (record { reply = Refused Eagain; room = room }) _ makes.2) ∙ ap (forked room c.args.thread) (sym makes.1)))

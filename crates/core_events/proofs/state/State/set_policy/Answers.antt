@@ -7,9 +7,11 @@ use Rattle.cs_types.specs.Touches.{policy_touches}
 use Rattle.core_lanes.specs.Lanes.{Knows, KnowsApart}
 use Rattle.core_lanes.specs.Numbers.{Numbers, numbers_of}
 use Rattle.core_events.specs.State.{beside_of, both, room_with}
-use Rattle.core_events.proofs.States.{uncharged, lifted}
+use Rattle.core_events.proofs.States.{uncharged, lifted, leaves_all}
 use Rattle.core_events.proofs.Onlines.{untouched}
 use Rattle.core_events.proofs.Readies.{fits_found, knows_as}
+use Rattle.cs_types.specs.declared.event.Event.TheVariants.{SetSched}
+use Rattle.cs_types.specs.declared.reply.Reply.TheVariants.{NoTask}
 use Rattle.core_events.proofs.state.State.set_policy.Goals as goal
 
 -- the numbers once the touches of a change of policy came, where the task was found
@@ -78,3 +80,7 @@ returns-then-task g c =
           });
       stays = lifted old (c.requeue.new.core, c.requeue.new.table) c.requeue.ensures.stays;
     }
+
+pub returns-in_default : goal.returns-in_default
+returns-in_default g c = leaves_all c.args.self.now (SetSched c.args.pid c.args.policy) NoTask (λ intervals. untouched (numbers_of c.args.self.now.core)) (λ intervals.
+    ap (set_policy (room_with intervals c.args.self.now) c.args.policy) c.in_default.ensures.task)

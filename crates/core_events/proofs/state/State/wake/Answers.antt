@@ -1,9 +1,9 @@
 use Rattle.std.proofs.Common.{◌≡◌, ◌<◌, ◌^◌, ◌∙◌, ap, sym, subst, refl}
-use Rattle.std.proofs.lemmas.Bool.{cond-false, cond_both}
+use Rattle.std.proofs.lemmas.Bool.{cond-false, cond_both, cond-true}
 use Rattle.std.specs.Prelude.{Some}
 use Rattle.cs_types.specs.declared.task.Task.{Task}
 use Rattle.cs_types.specs.declared.task.TaskSpec.{TaskSpec}
-use Rattle.cs_types.specs.declared.reply.Reply.TheVariants.{Woken}
+use Rattle.cs_types.specs.declared.reply.Reply.TheVariants.{Woken, NoTask, Awake}
 use Rattle.cs_types.specs.Scenario.{IsPolicy}
 use Rattle.cs_types.specs.Room.{RoomState, is_online, lowest_online}
 use Rattle.cs_types.specs.Queueing.{moved_to, rehomed, queued_at_home}
@@ -11,8 +11,11 @@ use Rattle.cs_types.specs.Step.{Stepped, woken}
 use Rattle.core_lanes.specs.Lanes.{room_of}
 use Rattle.core_lanes.proofs.Stays.{found_in, some_beside}
 use Rattle.core_events.specs.State.{beside_of, both, room_with}
-use Rattle.core_events.proofs.States.{uncharged, lifted, low_times}
+use Rattle.core_events.proofs.States.{uncharged, lifted, low_times, leaves_all}
 use Rattle.core_events.proofs.Readies.{fits_found, knows_as}
+use Rattle.cs_types.specs.declared.event.Event.TheVariants.{Wake}
+use Rattle.core_events.proofs.Onlines.{untouched}
+use Rattle.core_lanes.specs.Numbers.{numbers_of}
 use Rattle.core_events.proofs.state.State.wake.Goals as goal
 
 pub rehomed-task-requires-clause-home : goal.rehomed-task-requires-clause-home
@@ -62,3 +65,12 @@ returns g c =
           });
       stays = lifted old (c.queue_at_home.new.core, c.queue_at_home.new.table) queued.stays;
     }
+
+pub returns-in_default : goal.returns-in_default
+returns-in_default g c = leaves_all c.args.self.now (Wake c.args.pid) NoTask (λ intervals. untouched (numbers_of c.args.self.now.core)) (λ intervals.
+    ap (woken (room_with intervals c.args.self.now)) c.in_default.ensures.task)
+
+pub returns-then-task : goal.returns-then-task
+returns-then-task g c = leaves_all c.args.self.now (Wake c.args.pid) Awake (λ intervals. untouched (numbers_of c.args.self.now.core)) (λ intervals.
+    let room = room_with intervals c.args.self.now in
+    sym (cond-true c.in-Some.task.queued (record { reply = Awake; room = room }) _ c.if-task.true) ∙ ap (woken room) c.in-Some.ensures.task)

@@ -1,0 +1,47 @@
+use Rattle.std.proofs.Common.{◌≡◌, sym, subst}
+use Rattle.cs_types.specs.declared.event.Event.{Event}
+use Rattle.cs_types.specs.declared.reply.Reply.{Reply}
+use Rattle.core_lanes.specs.declared.queue.SiblingQueue.{Ghosts}
+use Rattle.core_events.specs.declared.state.State.{State}
+use Rattle.core_events.specs.Steps.{Makes}
+use Rattle.core_events.proofs.state.State.apply.Goals as goal
+
+-- what was made by an event was made by the one that it is
+by_event : {Q : Type 0} {g : Ghosts Q} {old new : State Q g} {event other : Event} {answer : Reply} → event ≡ other → Makes old new other answer → Makes old new event answer
+by_event {old = old} {new = new} {answer = answer} is made = subst (λ (e : Event). Makes old new e answer) (sym is) made
+
+pub returns-in-Turn : goal.returns-in-Turn
+returns-in-Turn g c = by_event c.in-Turn.is c.turn.ensures
+
+pub returns-in-Resched : goal.returns-in-Resched
+returns-in-Resched g c = by_event c.in-Resched.is c.resched.ensures
+
+pub returns-in-Block : goal.returns-in-Block
+returns-in-Block g c = by_event c.in-Block.is c.block.ensures
+
+pub returns-in-Exit : goal.returns-in-Exit
+returns-in-Exit g c = by_event c.in-Exit.is c.exit.ensures
+
+pub returns-in-Tick : goal.returns-in-Tick
+returns-in-Tick g c = by_event c.in-Tick.is c.tick.ensures
+
+pub returns-in-Wake : goal.returns-in-Wake
+returns-in-Wake g c = by_event c.in-Wake.is c.wake.ensures
+
+pub returns-in-Advance : goal.returns-in-Advance
+returns-in-Advance g c = by_event c.in-Advance.is c.advance.ensures
+
+pub returns-in-Fork : goal.returns-in-Fork
+returns-in-Fork g c = by_event c.in-Fork.is c.fork.ensures
+
+pub returns-in-Prctl : goal.returns-in-Prctl
+returns-in-Prctl g c = by_event c.in-Prctl.is c.prctl.ensures
+
+pub returns-in-SetSched : goal.returns-in-SetSched
+returns-in-SetSched g c = by_event c.in-SetSched.is c.set_policy.ensures
+
+pub returns-in-Offline : goal.returns-in-Offline
+returns-in-Offline g c = by_event c.in-Offline.is c.offline.ensures
+
+pub returns-in-Online : goal.returns-in-Online
+returns-in-Online g c = by_event c.in-Online.is c.online.ensures
