@@ -7,7 +7,7 @@ use Rattle.core_lanes.specs.Lanes.{lane_state, room_of}
 use Rattle.core_lanes.specs.Changes.{Kept}
 use Rattle.core_lanes.proofs.Stays.{some_beside, same_stays}
 use Rattle.core_events.proofs.Changes.{both_change, changes_as}
-use Rattle.core_events.proofs.Growth.{grown_with_none, grown_with_more, grown_with_all, used-grown, vtimes-grown}
+use Rattle.core_events.proofs.Growth.{grown_with_none, grown_with_more, grown_with_all, all_grown}
 use Rattle.core_events.proofs.time.grow_tasks.Goals as goal
 
 pub loop-cpu-init : goal.loop-cpu-init
@@ -28,15 +28,17 @@ grow_on-requires-clause-agree g c = c.loop-cpu.invariant.changes.stays.agree c.r
 
 pub grow_on-requires-clause-used : goal.grow_on-requires-clause-used
 grow_on-requires-clause-used g c =
-    let siblings = take c.loop-cpu.cpu (map lane_state c.args.core.now.lanes.items) in
-    subst (All (λ (task : Task). task.used + c.args.delta < 2 ^ 64)) (sym (ap (λ (room : RoomState). room.tasks) (c.loop-cpu.invariant.changes.room some_beside)))
-    (used-grown siblings c.args.delta (2 ^ 56) (2 ^ 64) c.args.table.now.tasks (omega (arith, c.requires.delta)) c.requires.used)
+    let after : Task → Type 0 = λ task. task.used + c.args.delta < 2 ^ 64 in
+    subst (All after) (sym (ap (λ (room : RoomState). room.tasks) (c.loop-cpu.invariant.changes.room some_beside)))
+    (all_grown (λ task. task.used < 2 ^ 56) after (take c.loop-cpu.cpu (map lane_state c.args.core.now.lanes.items)) c.args.delta c.args.table.now.tasks
+    (λ old new grows low. omega (arith, grows.used, low, c.requires.delta)) c.requires.used)
 
 pub grow_on-requires-clause-vtimes : goal.grow_on-requires-clause-vtimes
 grow_on-requires-clause-vtimes g c =
-    let siblings = take c.loop-cpu.cpu (map lane_state c.args.core.now.lanes.items) in
-    subst (All (λ (task : Task). task.vtime + 69 * c.args.delta < 2 ^ 128)) (sym (ap (λ (room : RoomState). room.tasks) (c.loop-cpu.invariant.changes.room some_beside)))
-    (vtimes-grown siblings c.args.delta (2 ^ 100) (2 ^ 128) c.args.table.now.tasks (omega (arith, c.requires.delta)) c.requires.vtimes)
+    let after : Task → Type 0 = λ task. task.vtime + 69 * c.args.delta < 2 ^ 128 in
+    subst (All after) (sym (ap (λ (room : RoomState). room.tasks) (c.loop-cpu.invariant.changes.room some_beside)))
+    (all_grown (λ task. task.vtime < 2 ^ 100) after (take c.loop-cpu.cpu (map lane_state c.args.core.now.lanes.items)) c.args.delta c.args.table.now.tasks
+    (λ old new grows low. omega (arith, grows.vtime, low, c.requires.delta)) c.requires.vtimes)
 
 pub loop-cpu-preserved : goal.loop-cpu-preserved
 loop-cpu-preserved g c =
