@@ -3,6 +3,7 @@ use Rattle.std.proofs.Common.{◌≡◌, ℕ, Bool, true, false, cond, not, ltb,
 use Rattle.std.specs.Prelude.{filter, find, ◌&&◌, ◌||◌, ◌==◌}
 use Rattle.std.specs.List.{list_any, fold}
 use Rattle.std.specs.Option.{option_map_or}
+use Rattle.std.proofs.lemmas.Bool.{and_right, or_parts, or_from}
 use Rattle.std.proofs.lemmas.Bool.Decides.{nat_tests}
 use Rattle.cs_types.specs.declared.task.Task.{Task}
 use Rattle.cs_types.specs.declared.task.Policy.{Policy}
@@ -19,23 +20,17 @@ use Rattle.core_lanes.proofs.Lists.{any-map, any-filter, less_is_order}
 -- ---- the smallest
 
 -- the smaller of two is below a third where one of them is
-either : (m n most : ℕ) → ltb (cond (ltb n m) n m) most ≡ (ltb m most || ltb n most)
-either m n most = grind (arith, nat_tests)
-
-or_or : (a b c : Bool) → ((a || b) || c) ≡ (a || (b || c))
-or_or true b c = refl
-or_or false b c = refl
+either : (m n most : ℕ) (rest : Bool) → (ltb (cond (ltb n m) n m) most || rest) ≡ (ltb m most || (ltb n most || rest))
+either m n most rest = grind (arith, nat_tests)
 
 -- and the smallest of some where one of them is
-some_below : (first : ℕ) (times : List ℕ) (most : ℕ) → ltb (fold (better ltb less_is_order) first times) most ≡ (ltb first most || list_any (λ time. ltb time most) times)
-some_below first [] most = sym (or_false (ltb first most)) where
-  or_false : (b : Bool) → (b || false) ≡ b
-  or_false true = refl
-  or_false false = refl
+some_below : (first : ℕ) (times : List ℕ) (most : ℕ) → ltb (fold (better ltb less_is_order) first times) most ≡ list_any (λ time. ltb time most) (first ∷ times)
+some_below first [] most = alone (ltb first most) where
+  alone : (b : Bool) → b ≡ (b || false)
+  alone true = refl
+  alone false = refl
 some_below first (time ∷ times) most =
-    some_below (cond (ltb time first) time first) times most
-    ∙ ap (λ b. b || list_any (λ time. ltb time most) times) (either first time most)
-    ∙ or_or (ltb first most) (ltb time most) (list_any (λ time. ltb time most) times)
+    some_below (cond (ltb time first) time first) times most ∙ either first time most (list_any (λ time. ltb time most) times)
 
 -- whether the smallest of a list, if it has one, is below this
 abbrev is_below : ℕ → Option ℕ → Bool
@@ -47,33 +42,16 @@ smallest_below (time ∷ times) most = ap (is_below most) (foremost_reduce ltb l
 
 -- ---- the others
 
--- where what passes is none of those with the pid, it is one of the others
-others_alone : (passes is_it on : Task → Bool) (tasks : List Task) → list_any (λ task. is_it task && passes task) tasks ≡ false →
-    list_any passes (filter on tasks) ≡ list_any passes (filter (λ task. not (is_it task)) (filter on tasks))
-others_alone passes is_it on [] none = refl
-others_alone passes is_it on (task ∷ tasks) none =
-    let parts : ((is_it task && passes task) ≡ false) × (list_any (λ task. is_it task && passes task) tasks ≡ false) =
-    both_false (is_it task && passes task) (list_any (λ task. is_it task && passes task) tasks) none in
-    step (on task) (is_it task) (passes task) refl refl refl parts.0 (others_alone passes is_it on tasks parts.1) where
-      both_false : (a b : Bool) → (a || b) ≡ false → (a ≡ false) × (b ≡ false)
-      both_false true b is = absurd cc
-      both_false false b is = (refl, is)
-
-      others : List Task
-      others = filter (λ task. not (is_it task)) (filter on tasks)
-
-      step : (here it pass : Bool) → on task ≡ here → is_it task ≡ it → passes task ≡ pass → (is_it task && passes task) ≡ false →
-          list_any passes (filter on tasks) ≡ list_any passes others →
-          list_any passes (cond here (task ∷ filter on tasks) (filter on tasks))
-          ≡ list_any passes (filter (λ task. not (is_it task)) (cond here (task ∷ filter on tasks) (filter on tasks)))
-      step false it pass here_is it_is pass_is neither rest = rest
-      step true true true here_is it_is pass_is neither rest = let bad : true ≡ false = sym (λ i. it_is i && pass_is i) ∙ neither in absurd cc
-      step true true false here_is it_is pass_is neither rest =
-          ap (λ b. b || list_any passes (filter on tasks)) pass_is ∙ rest
-          ∙ sym (ap (λ b. list_any passes (cond (not b) (task ∷ others) others)) it_is)
-      step true false pass here_is it_is pass_is neither rest =
-          ap (λ b. passes task || b) rest
-          ∙ sym (ap (λ b. list_any passes (cond (not b) (task ∷ others) others)) it_is)
+-- where what passes is none of those that it is not to be, it is one of the others
+but_it : (on passes is_it : Task → Bool) (tasks : List Task) → list_any (λ task. is_it task && passes task) tasks ≡ false →
+    list_any (λ task. on task && passes task) tasks ≡ list_any (λ task. on task && (not (is_it task) && passes task)) tasks
+but_it on passes is_it [] none = refl
+but_it on passes is_it (task ∷ tasks) none =
+    let parts = or_parts (is_it task && passes task) (list_any (λ other. is_it other && passes other) tasks) none in
+    (λ i. (on task && own (is_it task) (passes task) parts.0 i) || but_it on passes is_it tasks parts.1 i) where
+      own : (it pass : Bool) → (it && pass) ≡ false → pass ≡ (not it && pass)
+      own true pass none = none
+      own false pass none = refl
 
 -- Another fair task has a smaller virtual time than this one where the smallest is smaller.
 pub overtaken_by : (room : RoomState) (cpu : ℕ) (task : Task) → Rises room.tasks → find (has_pid task.spec.pid) room.tasks ≡ Some task →
@@ -83,7 +61,10 @@ overtaken_by room cpu task rises there =
     smallest_below (map (λ (t : Task). t.vtime) (filter is_fair queued)) task.vtime
     ∙ any-map (λ time. ltb time task.vtime) (λ (t : Task). t.vtime) (filter is_fair queued)
     ∙ any-filter (λ (t : Task). ltb t.vtime task.vtime) is_fair queued
-    ∙ others_alone passes (has_pid task.spec.pid) (λ other. other.queued && (other.home == cpu)) room.tasks none where
+    ∙ any-filter passes (λ other. other.queued && (other.home == cpu)) room.tasks
+    ∙ but_it (λ other. other.queued && (other.home == cpu)) passes (has_pid task.spec.pid) room.tasks none
+    ∙ sym (any-filter (λ other. not (has_pid task.spec.pid other) && passes other) (λ other. other.queued && (other.home == cpu)) room.tasks)
+    ∙ sym (any-filter passes (λ other. not (has_pid task.spec.pid other)) queued) where
       queued : List Task
       queued = queued_on room cpu
 
@@ -92,15 +73,10 @@ overtaken_by room cpu task rises there =
 
       none : list_any (λ other. has_pid task.spec.pid other && passes other) room.tasks ≡ false
       none =
+          let same : ltb task.vtime task.vtime ≡ false = grind (arith, nat_tests) in
           sym (any-filter passes (has_pid task.spec.pid) room.tasks)
           ∙ ap (list_any passes) (found_alone 0 task.spec.pid room.tasks task rises there)
-          ∙ ap (λ b. b || false) (ap (λ b. is_fair task && b) (not_below task.vtime) ∙ no_more (is_fair task)) where
-            not_below : (n : ℕ) → ltb n n ≡ false
-            not_below n = grind (arith, nat_tests)
-
-            no_more : (b : Bool) → (b && false) ≡ false
-            no_more true = refl
-            no_more false = refl
+          ∙ or_from (passes task) false (and_right (is_fair task) (ltb task.vtime task.vtime) same) refl
 
 -- ---- peers
 

@@ -1,9 +1,10 @@
-use Rattle.std.proofs.Common.{◌≡◌, sym, subst}
+use Rattle.std.proofs.Common.{◌≡◌, sym, subst, length}
 use Rattle.cs_types.specs.declared.event.Event.{Event}
 use Rattle.cs_types.specs.declared.reply.Reply.{Reply}
 use Rattle.core_lanes.specs.declared.queue.SiblingQueue.{Ghosts}
 use Rattle.core_events.specs.declared.state.State.{State}
 use Rattle.core_events.specs.Steps.{Makes}
+use Rattle.cs_types.specs.Scenario.{IsEvent}
 use Rattle.core_events.proofs.state.State.apply.Goals as goal
 
 -- what was made by an event was made by the one that it is
@@ -45,3 +46,34 @@ returns-in-Offline g c = by_event c.in-Offline.is c.offline.ensures
 
 pub returns-in-Online : goal.returns-in-Online
 returns-in-Online g c = by_event c.in-Online.is c.online.ensures
+
+pub turn-requires : goal.turn-requires
+turn-requires g c = record { cpu = subst (IsEvent (length c.args.self.now.core.lanes.items)) c.in-Turn.is c.requires.event; ready = c.requires.ready }
+
+pub resched-requires : goal.resched-requires
+resched-requires g c = record { cpu = subst (IsEvent (length c.args.self.now.core.lanes.items)) c.in-Resched.is c.requires.event; ready = c.requires.ready }
+
+pub block-requires : goal.block-requires
+block-requires g c = record { cpu = subst (IsEvent (length c.args.self.now.core.lanes.items)) c.in-Block.is c.requires.event; ready = c.requires.ready }
+
+pub exit-requires : goal.exit-requires
+exit-requires g c = record { cpu = subst (IsEvent (length c.args.self.now.core.lanes.items)) c.in-Exit.is c.requires.event; ready = c.requires.ready }
+
+pub tick-requires : goal.tick-requires
+tick-requires g c = record { cpu = subst (IsEvent (length c.args.self.now.core.lanes.items)) c.in-Tick.is c.requires.event; ready = c.requires.ready }
+
+pub offline-requires : goal.offline-requires
+offline-requires g c = record { cpu = subst (IsEvent (length c.args.self.now.core.lanes.items)) c.in-Offline.is c.requires.event; ready = c.requires.ready }
+
+pub online-requires : goal.online-requires
+online-requires g c = record { cpu = subst (IsEvent (length c.args.self.now.core.lanes.items)) c.in-Online.is c.requires.event }
+
+pub advance-requires : goal.advance-requires
+advance-requires g c =
+    let within = subst (IsEvent (length c.args.self.now.core.lanes.items)) c.in-Advance.is c.requires.event in
+    record { ready = c.requires.ready; delta = within.1 }
+
+pub set_policy-requires : goal.set_policy-requires
+set_policy-requires g c =
+    let within = subst (IsEvent (length c.args.self.now.core.lanes.items)) c.in-SetSched.is c.requires.event in
+    record { policy = within.1; ready = c.requires.ready }
