@@ -1,8 +1,9 @@
 -- Onlines: what an event of a sibling makes where that is offline, and where it is online.
-use Rattle.std.proofs.Common.{◌≡◌, ℕ, ◌+◌, true, false, ap, sym, arith}
+use Rattle.std.proofs.Common.{◌≡◌, ℕ, ◌+◌, true, false, ap, sym, ◌∙◌, arith, Option}
 use Rattle.std.proofs.lemmas.Bool.{cond-true, cond-false}
+use Rattle.cs_types.specs.declared.task.Task.{Task}
 use Rattle.cs_types.specs.declared.reply.Reply.TheVariants.{Offline}
-use Rattle.cs_types.specs.Room.{RoomState, is_online}
+use Rattle.cs_types.specs.Room.{RoomState, is_online, running_on}
 use Rattle.cs_types.specs.Step.{Stepped, unless_offline}
 use Rattle.core_lanes.specs.Numbers.{Numbers}
 
@@ -13,6 +14,11 @@ untouched numbers = ap (λ n. let other : Numbers = record numbers { task = n } 
 -- the step of a sibling that is online is what it makes
 pub when_online : (room : RoomState) (cpu : ℕ) (stepped : Stepped) → is_online room cpu ≡ true → stepped ≡ unless_offline room cpu stepped
 when_online room cpu stepped online = sym (cond-true (is_online room cpu) stepped (record { reply = Offline; room = room }) online)
+
+-- and so of one that runs this
+pub when_running : (room : RoomState) (cpu : ℕ) (made : Option Task → Stepped) (task : Option Task) → task ≡ running_on room cpu → is_online room cpu ≡ true →
+    made task ≡ unless_offline room cpu (made (running_on room cpu))
+when_running room cpu made task is online = ap made is ∙ when_online room cpu (made (running_on room cpu)) online
 
 -- and that of one that is offline changes nothing
 pub when_offline : (room : RoomState) (cpu : ℕ) (stepped : Stepped) → is_online room cpu ≡ false → record { reply = Offline; room = room } ≡ unless_offline room cpu stepped

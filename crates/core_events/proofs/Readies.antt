@@ -1,5 +1,5 @@
 -- Readies: what the events of a state have in common.
-use Rattle.std.proofs.Common.{◌≡◌, ℕ, Bool, true, false, cond, refl, subst, sym, ap, ◌∙◌, arith, length, Option, Some, None}
+use Rattle.std.proofs.Common.{◌≡◌, ℕ, ◌+◌, ◌^◌, ◌<◌, Bool, true, false, cond, refl, subst, sym, ap, ◌∙◌, arith, length, Option, Some, None}
 use Rattle.std.specs.Prelude.{find}
 use Rattle.cs_types.specs.declared.event.Event.TheVariants.{Turn, Resched, Offline, Online}
 use Rattle.cs_types.specs.declared.reply.Pick.{Pick}
@@ -41,6 +41,11 @@ may_pick state ready = record {
 
 pub may_schedule : {Q : Type 0} {g : Ghosts Q} (state : State Q g) → IsReady state → MaySchedule state.clock (both state)
 may_schedule state ready = record { picks = may_pick state ready; paid = ready.paid }
+
+-- also where the queues were touched since
+pub may_touch_after : {Q : Type 0} {g : Ghosts Q} (state : State Q g) → IsReady state → (paid now : Numbers) → paid.task ≡ state.core.task_number → now ≡ touched 1 paid →
+    now.task + 1 < 2 ^ 64
+may_touch_after state ready paid now same is = omega (arith, ready.spares.touches, same, ap (λ (numbers : Numbers). numbers.task) is)
 
 -- a turn that is answered with a pick is counted as a reschedule is
 pub turn_as_resched : (room : RoomState) (cpu : ℕ) (answer : Reply) (pick : Pick) (numbers : Numbers) → answer ≡ Picked pick →

@@ -1,15 +1,15 @@
 -- The numbers of a sibling that schedules, and of one whose task went to sleep or ended.
 use Rattle.std.proofs.Common.{◌≡◌, ℕ, ap, arith, refl, set}
-use Rattle.cs_types.specs.declared.event.Event.TheVariants.{Turn, Resched, Block, Exit}
+use Rattle.cs_types.specs.declared.event.Event.TheVariants.{Resched, Block}
 use Rattle.cs_types.specs.declared.reply.Kind.{Kind}
 use Rattle.cs_types.specs.declared.reply.Kind.TheVariants.{Selected, Adopted, Plain}
 use Rattle.cs_types.specs.declared.reply.Pick.{Pick}
-use Rattle.cs_types.specs.declared.reply.Reply.TheVariants.{Picked, Slept, Ended}
+use Rattle.cs_types.specs.declared.reply.Reply.TheVariants.{Picked, Slept}
 use Rattle.cs_types.specs.Room.{RoomState}
 use Rattle.core_lanes.specs.Numbers.{Numbers, touched, took}
 use Rattle.core_events.specs.Steps.{numbers_after}
 
--- a dequeue touched once, and then a pick was taken
+-- a dequeue touched once, and then a pick was taken, as where the task ended
 pub took-touched : (room : RoomState) (cpu pid : ℕ) (pick : Pick) (numbers : Numbers) →
     took cpu pick (touched 1 numbers) ≡ numbers_after room (Block cpu) (Slept pid pick) numbers
 took-touched room cpu pid pick numbers = by_kind pick.kind pick.run pick.core pick.forced where
@@ -19,11 +19,6 @@ took-touched room cpu pid pick numbers = by_kind pick.kind pick.run pick.core pi
   by_kind Selected run core forced = ap (λ (n : ℕ). record numbers { task = n; pick = n; own = set numbers.own cpu n }) (omega arith)
   by_kind Adopted run core forced = ap (λ (n : ℕ). record numbers { task = n; pick = numbers.pick; own = set numbers.own cpu numbers.pick }) (omega arith)
   by_kind Plain run core forced = ap (λ (n : ℕ). record numbers { task = n; pick = numbers.pick; own = numbers.own }) (omega arith)
-
--- and so where the task ended
-pub took-ended : (room : RoomState) (cpu pid : ℕ) (pick : Pick) (numbers : Numbers) →
-    took cpu pick (touched 1 numbers) ≡ numbers_after room (Exit cpu) (Ended pid pick) numbers
-took-ended room cpu pid pick numbers = took-touched room cpu pid pick numbers
 
 -- a sibling that schedules takes a pick
 pub took-resched : (room : RoomState) (cpu : ℕ) (pick : Pick) (numbers : Numbers) →
@@ -35,8 +30,3 @@ took-resched room cpu pick numbers = by_kind pick.kind pick.run pick.core pick.f
   by_kind Selected run core forced = refl
   by_kind Adopted run core forced = refl
   by_kind Plain run core forced = refl
-
--- and so at a turn
-pub took-turn : (room : RoomState) (cpu : ℕ) (pick : Pick) (numbers : Numbers) →
-    took cpu pick numbers ≡ numbers_after room (Turn cpu) (Picked pick) numbers
-took-turn room cpu pick numbers = took-resched room cpu pick numbers

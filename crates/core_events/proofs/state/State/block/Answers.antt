@@ -1,26 +1,28 @@
-use Rattle.std.proofs.Common.{◌≡◌, ◌<◌, ◌^◌, ap, ◌∙◌, refl, sym, subst, arith, Some}
-use Rattle.cs_types.specs.declared.reply.Reply.TheVariants.{Slept}
+use Rattle.std.proofs.Common.{◌≡◌, ◌+◌, ◌<◌, ◌^◌, ap, ◌∙◌, refl, sym, subst, List, Some, None}
+use Rattle.cs_types.specs.declared.event.Event.TheVariants.{Block}
+use Rattle.cs_types.specs.declared.reply.Reply.TheVariants.{Slept, Idle, Offline}
 use Rattle.cs_types.specs.declared.task.Task.{Task}
-use Rattle.cs_types.specs.Room.{RoomState, running_on}
+use Rattle.cs_types.specs.Room.{RoomState, SiblingState, running_on}
 use Rattle.cs_types.specs.Selection.{Scheduled}
 use Rattle.cs_types.specs.Accounting.{charge}
 use Rattle.cs_types.specs.Queueing.{dequeued}
-use Rattle.cs_types.specs.Step.{Stepped, idled, blocked, unless_offline}
+use Rattle.cs_types.specs.Step.{Stepped, idled, blocked}
 use Rattle.cs_types.proofs.Accounts.{now-charge}
-use Rattle.core_lanes.specs.Lanes.{BareCore, beside_after, room_of}
+use Rattle.core_lanes.specs.Lanes.{BareCore, AreLow, beside_after, room_of}
 use Rattle.core_lanes.specs.Numbers.{Numbers, numbers_of, booked, took, touched}
 use Rattle.core_lanes.proofs.Stays.{both_stay, found_in, some_beside}
 use Rattle.core_events.specs.State.{beside_of, room_with}
 use Rattle.core_events.proofs.States.{once_charged, lifted, low_times, leaves_all}
-use Rattle.core_events.proofs.Onlines.{untouched, when_online, when_offline}
+use Rattle.core_events.proofs.Onlines.{untouched, when_running, when_offline}
 use Rattle.core_events.proofs.Sleeps.{took-touched}
 use Rattle.core_events.proofs.Lows.{HasLow, low_idled, low_dequeued}
-use Rattle.core_events.proofs.Readies.{fits_found, knows_as, picked_charged}
+use Rattle.core_events.proofs.Readies.{may_pick, may_touch_after, fits_found, knows_as, picked_charged}
 use Rattle.core_events.proofs.Changes.{still_below}
 use Rattle.core_events.proofs.state.State.block.Goals as goal
 
 pub dequeue-requires-clause-touches : goal.dequeue-requires-clause-touches
-dequeue-requires-clause-touches g c = omega (arith, ap (λ (b : BareCore). b.task_number) c.charge.ensures.rest, c.requires.ready.spares.touches)
+dequeue-requires-clause-touches g c =
+    subst (λ n. n + 1 < 2 ^ 64) (sym (ap (λ (b : BareCore). b.task_number) c.charge.ensures.rest)) (may_pick c.args.self.now c.requires.ready).touches
 
 pub idle-requires : goal.idle-requires
 idle-requires g c = still_below (both_stay c.charge.ensures.charges.stays c.dequeue.ensures.stays) c.requires.cpu
@@ -47,48 +49,28 @@ pick_and_balance-requires-clause-may g c =
     let low : task.vtime < 2 ^ 100 = found_in (λ (t : Task). t.vtime < 2 ^ 100) task.spec.pid old.tasks.tasks task first.vtimes c.in-Some.ensures.there in
     let idle = c.idle.ensures c.dequeue.new.table in
     let rest = c.charge.ensures.rest in
-    let paid : HasLow (room_of some_beside (c.charge.new.core, old.tasks)) = record {
-      vtimes = first.vtimes;
-      leasts = rw (ap (λ (b : BareCore). b.siblings) rest) first.leasts;
-      snapshots = rw (ap (λ (b : BareCore). b.siblings) rest) first.snapshots;
-    } in
+    let paid : HasLow (room_of some_beside (c.charge.new.core, old.tasks)) =
+    subst (λ (siblings : List SiblingState). AreLow siblings old.tasks.tasks) (sym (ap (λ (b : BareCore). b.siblings) rest)) first in
     record {
       agree = idle.stays.agree (c.dequeue.ensures.stays.agree (c.charge.ensures.charges.stays.agree c.requires.ready.sound.agree));
       low = subst HasLow
           (sym (idle.room some_beside ∙ ap (λ (r : RoomState). idled r c.args.cpu) (c.dequeue.ensures.room some_beside)))
           (low_idled (dequeued (room_of some_beside (c.charge.new.core, old.tasks)) task) c.args.cpu (low_dequeued (room_of some_beside (c.charge.new.core, old.tasks)) task low paid));
-      clock = omega (arith, c.requires.ready.time.clock);
-      touches = omega (
-        arith,
-        ap (λ (numbers : Numbers). numbers.task) idle.numbers,
-        ap (λ (numbers : Numbers). numbers.task) c.dequeue.ensures.numbers,
-        ap (λ (b : BareCore). b.task_number) rest,
-        c.requires.ready.spares.touches,
-      );
+      clock = (may_pick old c.requires.ready).clock;
+      touches = may_touch_after old c.requires.ready (numbers_of c.charge.new.core) (numbers_of c.idle.new.self)
+          (ap (λ (b : BareCore). b.task_number) rest) (idle.numbers ∙ c.dequeue.ensures.numbers);
     }
 
--- a sibling that is online blocks as the model has it
-online_is : (g : _) (c : goal.After-pick_and_balance g) (intervals : _) →
-    blocked (room_with intervals c.args.self.now) c.args.cpu (Some c.in-Some.task)
-    ≡ unless_offline (room_with intervals c.args.self.now) c.args.cpu (blocked (room_with intervals c.args.self.now) c.args.cpu (running_on (room_with intervals c.args.self.now) c.args.cpu))
-online_is g c intervals =
-    let room = room_with intervals c.args.self.now in
-    let beside = beside_of intervals c.args.self.now in
-    ap (blocked room c.args.cpu) (c.in-Some.ensures.task beside)
-    ∙ when_online room c.args.cpu (blocked room c.args.cpu (running_on room c.args.cpu)) (sym (c.is_online.ensures beside c.args.self.now.tasks) ∙ c.if-not-is_online.false)
-
 pub returns-then-not-is_online : goal.returns-then-not-is_online
-returns-then-not-is_online g c = leaves_all _ _ _ (λ intervals. untouched (numbers_of c.args.self.now.core)) (λ intervals.
+returns-then-not-is_online g c = leaves_all c.args.self.now (Block c.args.cpu) Offline (λ intervals. untouched (numbers_of c.args.self.now.core)) (λ intervals.
     let room = room_with intervals c.args.self.now in
     when_offline room c.args.cpu (blocked room c.args.cpu (running_on room c.args.cpu)) (sym (c.is_online.ensures (beside_of intervals c.args.self.now) c.args.self.now.tasks) ∙ c.if-not-is_online.true))
 
 pub returns-in_default : goal.returns-in_default
-returns-in_default g c = leaves_all _ _ _ (λ intervals. untouched (numbers_of c.args.self.now.core)) (λ intervals.
+returns-in_default g c = leaves_all c.args.self.now (Block c.args.cpu) Idle (λ intervals. untouched (numbers_of c.args.self.now.core)) (λ intervals.
     let room = room_with intervals c.args.self.now in
     let beside = beside_of intervals c.args.self.now in
-    let made = ap (blocked room c.args.cpu) (c.in_default.ensures.task beside)
-    ∙ when_online room c.args.cpu (blocked room c.args.cpu (running_on room c.args.cpu)) (sym (c.is_online.ensures beside c.args.self.now.tasks) ∙ c.if-not-is_online.false) in
-    made)
+    when_running room c.args.cpu (blocked room c.args.cpu) None (c.in_default.ensures.task beside) (sym (c.is_online.ensures beside c.args.self.now.tasks) ∙ c.if-not-is_online.false))
 
 pub returns : goal.returns
 returns g c =
@@ -105,7 +87,7 @@ returns g c =
           let is : room_of paid (c.idle.new.self, c.dequeue.new.table) ≡ gone =
           idle.room paid ∙ ap (λ (r : RoomState). idled r cpu) (c.dequeue.ensures.room paid ∙ ap (λ (r : RoomState). dequeued r task) (c.charge.ensures.charges.room beside)) in
           let scheduled = picked_charged (room_of paid (c.idle.new.self, c.dequeue.new.table)) gone cpu (now-charge room) is in
-          let up = online_is g c intervals in
+          let up = when_running room cpu (blocked room cpu) (Some task) (c.in-Some.ensures.task beside) (sym (c.is_online.ensures beside old.tasks) ∙ c.if-not-is_online.false) in
           once_charged (record {
             reply = ap (Slept task.spec.pid) (c.pick_and_balance.ensures.pick paid ∙ ap (λ (made : Scheduled). made.pick) scheduled) ∙ ap (λ (m : Stepped). m.reply) up;
             room = c.pick_and_balance.ensures.room paid ∙ ap (λ (made : Scheduled). made.room) scheduled ∙ ap (λ (m : Stepped). m.room) up;

@@ -1,21 +1,22 @@
-use Rattle.std.proofs.Common.{◌≡◌, ap, ◌∙◌, refl, sym, subst, arith, false, [], ◌<◌}
-use Rattle.cs_types.specs.declared.reply.Reply.TheVariants.{Ended, HasThreads}
-use Rattle.cs_types.specs.Room.{RoomState, running_on}
+use Rattle.std.proofs.Common.{◌≡◌, ◌+◌, ◌^◌, ◌<◌, ap, ◌∙◌, refl, sym, subst, arith, false, List, [], Some, None}
+use Rattle.cs_types.specs.declared.event.Event.TheVariants.{Exit}
+use Rattle.cs_types.specs.declared.reply.Reply.TheVariants.{Ended, HasThreads, Idle, Offline}
+use Rattle.cs_types.specs.Room.{RoomState, SiblingState, running_on}
 use Rattle.cs_types.specs.Selection.{Scheduled, schedule}
 use Rattle.cs_types.specs.Accounting.{charge}
 use Rattle.cs_types.specs.Step.{Stepped, idled, exited, without, has_threads, picked}
 use Rattle.cs_types.proofs.Accounts.{now-charge}
-use Rattle.core_lanes.specs.Lanes.{BareCore, room_of}
+use Rattle.core_lanes.specs.Lanes.{BareCore, AreLow, room_of}
 use Rattle.core_lanes.specs.Numbers.{Numbers, numbers_of, booked, took, touched}
 use Rattle.core_lanes.proofs.Stays.{some_beside}
 use Rattle.core_lanes.proofs.Stays as core
 use Rattle.std.proofs.lemmas.Bool.{cond-true, cond-false}
 use Rattle.core_events.specs.State.{beside_of, room_with}
 use Rattle.core_events.proofs.States.{once_charged, lifted, both_stay, low_times, leaves_all}
-use Rattle.core_events.proofs.Onlines.{untouched, when_online, when_offline}
-use Rattle.core_events.proofs.Sleeps.{took-ended}
+use Rattle.core_events.proofs.Onlines.{untouched, when_running, when_offline}
+use Rattle.core_events.proofs.Sleeps.{took-touched}
 use Rattle.core_events.proofs.Lows.{HasLow, low_idled, low_without}
-use Rattle.core_events.proofs.Readies.{picked_charged}
+use Rattle.core_events.proofs.Readies.{may_pick, may_touch_after, picked_charged}
 use Rattle.core_events.proofs.Changes.{still_below}
 use Rattle.core_events.proofs.state.State.exit.Goals as goal
 
@@ -37,7 +38,8 @@ end-requires-clause-alone g c intervals =
     sym (c.has_threads.ensures (room_with intervals c.args.self.now) refl) ∙ c.if-has_threads.false
 
 pub end-requires-clause-touches : goal.end-requires-clause-touches
-end-requires-clause-touches g c = omega (arith, ap (λ (b : BareCore). b.task_number) c.charge.ensures.rest, c.requires.ready.spares.touches)
+end-requires-clause-touches g c =
+    subst (λ n. n + 1 < 2 ^ 64) (sym (ap (λ (b : BareCore). b.task_number) c.charge.ensures.rest)) (may_pick c.args.self.now c.requires.ready).touches
 
 pub pick_and_balance-requires-clause-may : goal.pick_and_balance-requires-clause-may
 pick_and_balance-requires-clause-may g c =
@@ -48,51 +50,38 @@ pick_and_balance-requires-clause-may g c =
     let idle = c.idle.ensures ended.tasks in
     let rest = c.charge.ensures.rest in
     let mid = room_with [] (record old { core = c.charge.new.core }) in
-    let paid : HasLow mid = record {
-      vtimes = first.vtimes;
-      leasts = rw (ap (λ (b : BareCore). b.siblings) rest) first.leasts;
-      snapshots = rw (ap (λ (b : BareCore). b.siblings) rest) first.snapshots;
-    } in
+    let paid : HasLow mid = subst (λ (siblings : List SiblingState). AreLow siblings old.tasks.tasks) (sym (ap (λ (b : BareCore). b.siblings) rest)) first in
     let sound = c.end.ensures.stays.sound ((lifted old (c.charge.new.core, old.tasks) c.charge.ensures.charges.stays).sound c.requires.ready.sound) in
     record {
       agree = idle.stays.agree sound.agree;
       low = subst HasLow
           (sym (idle.room (beside_of [] ended) ∙ ap (λ (r : RoomState). idled r c.args.cpu) (c.end.ensures.room [])))
           (low_idled (without mid task) c.args.cpu (low_without mid task paid));
-      clock = omega (arith, ap (λ (r : RoomState). r.clock) (c.end.ensures.room []), c.requires.ready.time.clock);
-      touches = omega (
-        arith,
-        ap (λ (numbers : Numbers). numbers.task) idle.numbers,
-        ap (λ (numbers : Numbers). numbers.task) c.end.ensures.numbers,
-        ap (λ (b : BareCore). b.task_number) rest,
-        c.requires.ready.spares.touches,
-      );
+      clock = subst (λ n. n < 2 ^ 56) (sym (ap (λ (r : RoomState). r.clock) (c.end.ensures.room []))) (may_pick old c.requires.ready).clock;
+      touches = may_touch_after old c.requires.ready (numbers_of c.charge.new.core) (numbers_of c.idle.new.self)
+          (ap (λ (b : BareCore). b.task_number) rest) (idle.numbers ∙ c.end.ensures.numbers);
     }
 
 pub returns-then-not-is_online : goal.returns-then-not-is_online
-returns-then-not-is_online g c = leaves_all _ _ _ (λ intervals. untouched (numbers_of c.args.self.now.core)) (λ intervals.
+returns-then-not-is_online g c = leaves_all c.args.self.now (Exit c.args.cpu) Offline (λ intervals. untouched (numbers_of c.args.self.now.core)) (λ intervals.
     let room = room_with intervals c.args.self.now in
     when_offline room c.args.cpu (exited room c.args.cpu (running_on room c.args.cpu)) (sym (c.is_online.ensures (beside_of intervals c.args.self.now) c.args.self.now.tasks) ∙ c.if-not-is_online.true))
 
 pub returns-in_default : goal.returns-in_default
-returns-in_default g c = leaves_all _ _ _ (λ intervals. untouched (numbers_of c.args.self.now.core)) (λ intervals.
+returns-in_default g c = leaves_all c.args.self.now (Exit c.args.cpu) Idle (λ intervals. untouched (numbers_of c.args.self.now.core)) (λ intervals.
     let room = room_with intervals c.args.self.now in
     let beside = beside_of intervals c.args.self.now in
-    let made = ap (exited room c.args.cpu) (c.in_default.ensures.task beside)
-    ∙ when_online room c.args.cpu (exited room c.args.cpu (running_on room c.args.cpu)) (sym (c.is_online.ensures beside c.args.self.now.tasks) ∙ c.if-not-is_online.false) in
-    made)
+    when_running room c.args.cpu (exited room c.args.cpu) None (c.in_default.ensures.task beside) (sym (c.is_online.ensures beside c.args.self.now.tasks) ∙ c.if-not-is_online.false))
 
 pub returns-then-has_threads : goal.returns-then-has_threads
-returns-then-has_threads g c = leaves_all _ _ _ (λ intervals. untouched (numbers_of c.args.self.now.core)) (λ intervals.
+returns-then-has_threads g c = leaves_all c.args.self.now (Exit c.args.cpu) HasThreads (λ intervals. untouched (numbers_of c.args.self.now.core)) (λ intervals.
     let room = room_with intervals c.args.self.now in
     let beside = beside_of intervals c.args.self.now in
     let task = c.in-Some.task in
     let leads = sym (c.has_threads.ensures room refl) ∙ c.if-has_threads.true in
     let goes : Stepped = picked (Ended task.spec.pid) (schedule (idled (without (charge room) task) c.args.cpu) false c.args.cpu) in
-    let stays : Stepped = record { reply = HasThreads; room = room } in
-    let made = sym (cond-true (has_threads room task) stays goes leads) ∙ ap (exited room c.args.cpu) (c.in-Some.ensures.task beside)
-    ∙ when_online room c.args.cpu (exited room c.args.cpu (running_on room c.args.cpu)) (sym (c.is_online.ensures beside c.args.self.now.tasks) ∙ c.if-not-is_online.false) in
-    made)
+    sym (cond-true (has_threads room task) (record { reply = HasThreads; room = room }) goes leads)
+    ∙ when_running room c.args.cpu (exited room c.args.cpu) (Some task) (c.in-Some.ensures.task beside) (sym (c.is_online.ensures beside c.args.self.now.tasks) ∙ c.if-not-is_online.false))
 
 pub returns : goal.returns
 returns g c =
@@ -108,8 +97,8 @@ returns g c =
           let alone = sym (c.has_threads.ensures room refl) ∙ c.if-has_threads.false in
           let goes : Stepped = picked (Ended task.spec.pid) (schedule (idled (without (charge room) task) cpu) false cpu) in
           let stays : Stepped = record { reply = HasThreads; room = room } in
-          let up = sym (cond-false (has_threads room task) stays goes alone) ∙ ap (exited room cpu) (c.in-Some.ensures.task beside)
-          ∙ when_online room cpu (exited room cpu (running_on room cpu)) (sym (c.is_online.ensures beside old.tasks) ∙ c.if-not-is_online.false) in
+          let up = sym (cond-false (has_threads room task) stays goes alone)
+          ∙ when_running room cpu (exited room cpu) (Some task) (c.in-Some.ensures.task beside) (sym (c.is_online.ensures beside old.tasks) ∙ c.if-not-is_online.false) in
           let after = (charge room).intervals in
           let paid = beside_of after ended in
           let gone = idled (without (charge room) task) cpu in
@@ -123,7 +112,7 @@ returns g c =
             numbers = λ kept. c.pick_and_balance.ensures.numbers
                 ∙ ap (λ (numbers : Numbers). took cpu c.pick_and_balance.result numbers)
                 (idle.numbers ∙ c.end.ensures.numbers ∙ ap (λ (numbers : Numbers). touched 1 numbers) (c.charge.ensures.charges.numbers beside kept))
-                ∙ took-ended room cpu task.spec.pid c.pick_and_balance.result (booked (charge room) (numbers_of old.core));
+                ∙ took-touched room cpu task.spec.pid c.pick_and_balance.result (booked (charge room) (numbers_of old.core));
           });
       stays = both_stay (lifted old (c.charge.new.core, old.tasks) c.charge.ensures.charges.stays)
           (both_stay c.end.ensures.stays

@@ -1,4 +1,6 @@
 use Rattle.std.proofs.Common.{◌∙◌, sym, subst}
+use Rattle.cs_types.specs.declared.event.Event.TheVariants.{Tick}
+use Rattle.cs_types.specs.declared.reply.Reply.TheVariants.{Offline}
 use Rattle.cs_types.specs.Room.{running_on}
 use Rattle.cs_types.specs.Step.{ticked}
 use Rattle.core_lanes.specs.Numbers.{numbers_of, booked}
@@ -9,7 +11,7 @@ use Rattle.core_events.proofs.Onlines.{untouched, when_online, when_offline}
 use Rattle.core_events.proofs.state.State.tick.Goals as goal
 
 pub returns-then-not-is_online : goal.returns-then-not-is_online
-returns-then-not-is_online g c = leaves_all _ _ _ (λ intervals. untouched (numbers_of c.args.self.now.core)) (λ intervals.
+returns-then-not-is_online g c = leaves_all c.args.self.now (Tick c.args.cpu) Offline (λ intervals. untouched (numbers_of c.args.self.now.core)) (λ intervals.
     let room = room_with intervals c.args.self.now in
     when_offline room c.args.cpu (ticked room c.args.cpu (running_on room c.args.cpu)) (sym (c.is_online.ensures (beside_of intervals c.args.self.now) c.args.self.now.tasks) ∙ c.if-not-is_online.true))
 

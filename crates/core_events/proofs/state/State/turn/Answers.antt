@@ -1,6 +1,6 @@
-use Rattle.std.proofs.Common.{◌≡◌, ◌∙◌, ap, sym, subst, Bool, cond, true, false, eqb, ℕ}
+use Rattle.std.proofs.Common.{◌≡◌, ◌∙◌, ap, sym, subst, Bool, cond, true, false, eqb, ℕ, ◌+◌, ◌<◌, ◌^◌, arith}
 use Rattle.cs_types.specs.declared.event.Event.TheVariants.{Turn, Resched}
-use Rattle.cs_types.specs.declared.reply.Reply.TheVariants.{Picked, Nothing}
+use Rattle.cs_types.specs.declared.reply.Reply.TheVariants.{Picked, Nothing, Offline}
 use Rattle.cs_types.specs.Room.{RoomState, SiblingState, sibling_of}
 use Rattle.cs_types.specs.Selection.{schedule}
 use Rattle.cs_types.specs.Steal.{stolen}
@@ -14,6 +14,16 @@ use Rattle.core_events.proofs.Onlines.{untouched, when_online, when_offline}
 use Rattle.core_events.proofs.Readies.{turn_as_resched, turn_touches}
 use Rattle.core_events.proofs.state.State.turn.Goals as goal
 
+pub try_steal-requires : goal.try_steal-requires
+try_steal-requires g c = record {
+  cpu = c.requires.cpu;
+  agree = c.requires.ready.sound.agree;
+  low = low_times c.args.self.now c.requires.ready.time;
+  places = c.requires.ready.spares.places;
+  stamp = omega (arith, c.requires.ready.spares.stamps);
+  touches = omega (arith, c.requires.ready.spares.touches);
+}
+
 -- what a turn does, by whether its sibling is pending
 abbrev turn_by : RoomState → Bool → ℕ → Bool → Stepped
 turn_by room fresh cpu pending =
@@ -21,7 +31,7 @@ turn_by room fresh cpu pending =
     (cond (eqb (sibling_of room cpu).place 0) (record { reply = Nothing; room = room }) (try_steal room cpu (stolen room cpu)))
 
 pub returns-then-not-is_online : goal.returns-then-not-is_online
-returns-then-not-is_online g c = leaves_all _ _ _ (λ intervals. untouched (numbers_of c.args.self.now.core)) (λ intervals.
+returns-then-not-is_online g c = leaves_all c.args.self.now (Turn c.args.cpu) Offline (λ intervals. untouched (numbers_of c.args.self.now.core)) (λ intervals.
     let room = room_with intervals c.args.self.now in
     when_offline room c.args.cpu (turned room (is_fresh_by (numbers_of c.args.self.now.core)) c.args.cpu)
     (sym (c.is_online.ensures (beside_of intervals c.args.self.now) c.args.self.now.tasks) ∙ c.if-not-is_online.true))
@@ -51,9 +61,6 @@ returns-then-index g c =
           };
       stays = made.stays;
     }
-
-pub try_steal-requires-clause-low : goal.try_steal-requires-clause-low
-try_steal-requires-clause-low g c = low_times c.args.self.now c.requires.ready.time
 
 pub returns : goal.returns
 returns g c =
