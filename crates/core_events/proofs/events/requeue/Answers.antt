@@ -6,10 +6,10 @@ use Rattle.cs_types.specs.Selection.{is_run}
 use Rattle.cs_types.specs.Queueing.{dequeued, queued_at_home}
 use Rattle.core_lanes.specs.Lanes.{at, room_of}
 use Rattle.core_lanes.specs.Numbers.{Numbers, numbers_of, touched}
-use Rattle.core_lanes.specs.Changes.{Kept}
 use Rattle.core_lanes.proofs.Stays.{both_stay, lane_at, some_beside}
 use Rattle.core_lanes.proofs.Replaced.{is_of}
 use Rattle.core_events.proofs.Readies.{knows_as}
+use Rattle.core_events.proofs.Changes.{still_below}
 use Rattle.core_events.proofs.events.requeue.Goals as goal
 
 pub queue_at_home-requires-clause-knows : goal.queue_at_home-requires-clause-knows
@@ -17,11 +17,10 @@ queue_at_home-requires-clause-knows g c =
     let task = c.args.task in
     let apart = c.requires.knows.apart in
     let asleep : Task = record task { queued = false } in
-    let siblings = ap (λ (k : Kept). k.siblings) c.dequeue.ensures.stays.kept in
     let there = is_of asleep apart.old c.args.table.now.tasks apart.there in
     knows_as (c.dequeue.new.self, c.dequeue.new.table) task asleep refl refl
     (subst (λ (room : RoomState). IsOf room.tasks asleep) (sym (c.dequeue.ensures.room some_beside)) there)
-    (record { home = subst (λ n. task.home < n) (sym siblings) apart.fits.home; policy = apart.fits.policy })
+    (record { home = still_below c.dequeue.ensures.stays apart.fits.home; policy = apart.fits.policy })
 
 pub queue_at_home-requires-clause-agree : goal.queue_at_home-requires-clause-agree
 queue_at_home-requires-clause-agree g c = c.dequeue.ensures.stays.agree c.requires.agree
@@ -33,7 +32,7 @@ pub queue_at_home-requires-clause-touches : goal.queue_at_home-requires-clause-t
 queue_at_home-requires-clause-touches g c = omega (arith, ap (λ (numbers : Numbers). numbers.task) c.dequeue.ensures.numbers, c.requires.touches)
 
 pub flag-requires : goal.flag-requires
-flag-requires g c = omega (arith, ap (λ (k : Kept). k.siblings) c.queue_at_home.ensures.stays.kept, ap (λ (k : Kept). k.siblings) c.dequeue.ensures.stays.kept, c.requires.knows.apart.fits.home)
+flag-requires g c = still_below (both_stay c.dequeue.ensures.stays c.queue_at_home.ensures.stays) c.requires.knows.apart.fits.home
 
 pub returns : goal.returns
 returns g c =

@@ -1,4 +1,4 @@
-use Rattle.std.proofs.Common.{ap, ◌∙◌, ◌<◌, ℕ, sym, subst, length}
+use Rattle.std.proofs.Common.{ap, ◌∙◌, ◌<◌, ℕ, sym, subst, length, ◌+◌, ◌^◌}
 use Rattle.std.specs.Prelude.{find, Some, ◌≡◌}
 use Rattle.cs_types.specs.declared.task.Task.{Task}
 use Rattle.cs_types.specs.declared.task.TaskSpec.{TaskSpec}
@@ -7,7 +7,14 @@ use Rattle.cs_types.specs.Room.{RoomState, flagged, has_pid}
 use Rattle.cs_types.specs.Queueing.{enqueued, preempts}
 use Rattle.core_lanes.specs.Lanes.{at, room_of}
 use Rattle.core_lanes.proofs.Stays.{both_stay}
+use Rattle.core_events.proofs.Changes.{still_below}
 use Rattle.core_events.proofs.queueing.queue_at_home.Goals as goal
+
+pub flag-requires : goal.flag-requires
+flag-requires g c = still_below c.enqueue.ensures.stays c.requires.knows.apart.fits.home
+
+pub preempts-preempts-requires : goal.preempts-preempts-requires
+preempts-preempts-requires g c = subst (λ (n : ℕ). n < length c.args.core.now.lanes.items) (sym c.refreshed-fresh.ensures.home) c.requires.knows.apart.fits.home
 
 pub enqueue-requires-clause-knows : goal.enqueue-requires-clause-knows
 enqueue-requires-clause-knows g c =

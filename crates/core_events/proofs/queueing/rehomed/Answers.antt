@@ -6,6 +6,9 @@ use Rattle.core_lanes.specs.Lanes.{room_of}
 use Rattle.core_lanes.proofs.Stays.{some_beside}
 use Rattle.core_events.proofs.queueing.rehomed.Goals as goal
 
+pub moved_to-requires : goal.moved_to-requires
+moved_to-requires g c = record { cpu = c.lowest_online.ensures.within; home = c.requires.home; vtime = c.requires.vtime; leasts = c.requires.leasts }
+
 pub returns-then-is_online-clause-rehomed : goal.returns-then-is_online-clause-rehomed
 returns-then-is_online-clause-rehomed g c beside table =
     let room = room_of beside (c.args.core.now, table) in
