@@ -4,8 +4,7 @@ use Rattle.std.specs.Prelude.{find, max, nat_lt}
 use Rattle.std.specs.Option.{option_map_or}
 use Rattle.cs_types.specs.Order.{foremost}
 use Rattle.std.specs.List.{enumerate_from}
-use Rattle.std.proofs.lemmas.Bool.{cond_both}
-use Rattle.std.proofs.lemmas.List.{append-nil}
+use Rattle.std.proofs.lemmas.List.{append-nil, map-id}
 use Rattle.std.proofs.Math.Seq.{take-length, drop-length}
 use Rattle.cs_types.specs.declared.task.Task.{Task}
 use Rattle.cs_types.specs.Room.{RoomState, SiblingState, absent, has_pid, sibling_of, queued_on, with_task, with_sibling}
@@ -19,39 +18,27 @@ use Rattle.core_events.specs.Time.{with_least}
 -- ---- a new slice
 
 -- a task in its own place changes nothing
-same_each : (pid : ℕ) (tasks : List Task) → map (λ other. cond (has_pid pid other) other other) tasks ≡ tasks
-same_each pid [] = refl
-same_each pid (task ∷ tasks) =
-    λ i. cond_both (has_pid pid task) task task (λ (t : Task). t ≡ task) (λ _. refl) (λ _. refl) i ∷ same_each pid tasks i
-
 with_task-same : (room : RoomState) (task : Task) → Rises room.tasks → find (has_pid task.spec.pid) room.tasks ≡ Some task → with_task room task ≡ room
 with_task-same room task rises found =
     ap (λ (tasks : List Task). let now : RoomState = record room { tasks = tasks } in now)
-    (changed_each (λ t. t) room.tasks task rises found ∙ same_each task.spec.pid room.tasks)
+    (changed_each (λ t. t) room.tasks task rises found ∙ (λ i. map (λ (other : Task). same (has_pid task.spec.pid other) other i) room.tasks) ∙ map-id room.tasks) where
+      same : (b : Bool) (other : Task) → cond b other other ≡ other
+      same true other = refl
+      same false other = refl
 
 -- a new slice, by what is asked of the task
-abbrev sliced_by : RoomState → Task → Bool → Bool → RoomState
+abbrev pub sliced_by : RoomState → Task → Bool → Bool → RoomState
 sliced_by room task used behind =
     record (with_task room (record task {
       used = cond used 0 task.used;
       stamp = cond behind room.next_stamp task.stamp;
     })) { next_stamp = cond behind (room.next_stamp + 1) room.next_stamp }
 
-sliced_is : (room : RoomState) (cpu : ℕ) (task : Task) (used behind : Bool) → has_used_slice task ≡ used → rotates room cpu task ≡ behind →
+pub sliced_is : (room : RoomState) (cpu : ℕ) (task : Task) (used behind : Bool) → has_used_slice task ≡ used → rotates room cpu task ≡ behind →
     sliced_by room task used behind ≡ sliced room cpu task
 sliced_is room cpu task used behind is_used is_behind = λ i. sliced_by room task (sym is_used i) (sym is_behind i)
 
--- it goes behind
-pub sliced_behind : (room : RoomState) (cpu : ℕ) (task : Task) → has_used_slice task ≡ true → rotates room cpu task ≡ true →
-    record (with_task room (record task { used = 0; stamp = room.next_stamp })) { next_stamp = room.next_stamp + 1 } ≡ sliced room cpu task
-sliced_behind room cpu task used behind = sliced_is room cpu task true true used behind
-
--- it begins anew in its place
-pub sliced_in_place : (room : RoomState) (cpu : ℕ) (task : Task) → has_used_slice task ≡ true → rotates room cpu task ≡ false →
-    with_task room (record task { used = 0 }) ≡ sliced room cpu task
-sliced_in_place room cpu task used behind = sliced_is room cpu task true false used behind
-
--- it goes on
+-- where nothing is asked of it it goes on
 pub sliced_not : (room : RoomState) (cpu : ℕ) (task : Task) → Rises room.tasks → find (has_pid task.spec.pid) room.tasks ≡ Some task →
     has_used_slice task ≡ false → rotates room cpu task ≡ false → room ≡ sliced room cpu task
 sliced_not room cpu task rises found used behind =

@@ -9,6 +9,15 @@ use Rattle.core_lanes.proofs.Stays.{number_of, queue_of}
 use Rattle.core_events.specs.Time.{aged}
 use Rattle.core_events.proofs.time.age.Goals as goal
 
+pub loop-lane-init : goal.loop-lane-init
+loop-lane-init g c = record { states = refl; numbers = refl; queues = refl }
+
+pub bounds-lanes-lane-index : goal.bounds-lanes-lane-index
+bounds-lanes-lane-index g c = omega (arith, c.loop-lane-test.true, c.loop-lane.auto.lanes)
+
+pub loop-lane-smaller : goal.loop-lane-smaller
+loop-lane-smaller g c = omega (arith, c.loop-lane-test.true)
+
 pub overflow_add-lane : goal.overflow_add-lane
 overflow_add-lane g c =
     let states = map lane_state c.args.lanes.now in

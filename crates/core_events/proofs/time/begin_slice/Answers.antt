@@ -1,10 +1,10 @@
-use Rattle.std.proofs.Common.{◌+◌, ◌≤◌, ◌≡◌, ◌∙◌, sym, refl, true, arith}
+use Rattle.std.proofs.Common.{◌+◌, ◌≤◌, ◌≡◌, ◌∙◌, sym, refl, true, false, arith}
 use Rattle.std.proofs.lemmas.Bool.{and_parts}
 use Rattle.cs_types.specs.Time.{has_used_slice}
 use Rattle.core_lanes.specs.Lanes.{room_of}
 use Rattle.core_lanes.proofs.Stays.{both_stay, same_stays, stamp_next, stamped_later}
 use Rattle.core_events.proofs.Changes.{knows-alike}
-use Rattle.core_events.proofs.Clocks.{sliced_behind, sliced_in_place, sliced_not}
+use Rattle.core_events.proofs.Clocks.{sliced_is, sliced_not}
 use Rattle.core_events.proofs.time.begin_slice.Goals as goal
 
 pub change-requires-clause-knows : goal.change-requires-clause-knows
@@ -45,7 +45,7 @@ returns-then-rotates g c cpu is =
           let room = room_of beside (c.args.core.now, c.args.table.now) in
           let behind = sym (is beside) ∙ c.if-rotates.true in
           let used : has_used_slice c.args.task ≡ true = (and_parts (has_used_slice c.args.task) _ behind).0 in
-          c.change.ensures.room beside ∙ sliced_behind room cpu c.args.task used behind;
+          c.change.ensures.room beside ∙ sliced_is room cpu c.args.task true true used behind;
       numbers = c.change.ensures.numbers;
       stays = both_stay (stamped_later c.args.core.now _ c.args.table.now refl refl later) c.change.ensures.stays;
     }
@@ -54,7 +54,7 @@ pub returns-then-has_used_slice : goal.returns-then-has_used_slice
 returns-then-has_used_slice g c cpu is = record {
   room = λ beside.
       c.change-then-has_used_slice.ensures.room beside
-      ∙ sliced_in_place (room_of beside (c.args.core.now, c.args.table.now)) cpu c.args.task (sym c.has_used_slice.ensures ∙ c.if-has_used_slice.true)
+      ∙ sliced_is (room_of beside (c.args.core.now, c.args.table.now)) cpu c.args.task true false (sym c.has_used_slice.ensures ∙ c.if-has_used_slice.true)
       (sym (is beside) ∙ c.if-rotates.false);
   numbers = c.change-then-has_used_slice.ensures.numbers;
   stays = c.change-then-has_used_slice.ensures.stays;
