@@ -1,5 +1,5 @@
 -- Clocks: what a new slice and renewed leasts make of a room.
-use Rattle.std.proofs.Common.{◌≡◌, ℕ, ◌+◌, ◌<◌, Bool, true, false, cond, List, [], ◌∷◌, ◌++◌, map, take, drop, length, get_or, refl, sym, ap, ◌∙◌, Option, Some}
+use Rattle.std.proofs.Common.{◌≡◌, ℕ, ◌+◌, ◌<◌, Bool, true, false, cond, List, ◌++◌, map, take, drop, length, get_or, refl, sym, ap, ◌∙◌, Option, Some}
 use Rattle.std.specs.Prelude.{find, max, nat_lt}
 use Rattle.std.specs.Option.{option_map_or}
 use Rattle.cs_types.specs.Order.{foremost}

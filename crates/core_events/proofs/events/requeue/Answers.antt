@@ -1,4 +1,4 @@
-use Rattle.std.proofs.Common.{ℕ, ◌<◌, ◌∙◌, ap, sym, refl, subst, arith, false, Some}
+use Rattle.std.proofs.Common.{ℕ, ◌∙◌, ap, sym, refl, subst, arith, false, Some}
 use Rattle.cs_types.specs.declared.task.Task.{Task}
 use Rattle.cs_types.specs.Room.{RoomState, SiblingState, flagged}
 use Rattle.core_lanes.specs.Queued.{IsOf}

@@ -1,4 +1,4 @@
-use Rattle.std.proofs.Common.{ap, ◌∙◌, ◌<◌, ℕ, sym, subst, length, ◌+◌, ◌^◌}
+use Rattle.std.proofs.Common.{ap, ◌∙◌, ◌<◌, ℕ, sym, subst, length}
 use Rattle.std.specs.Prelude.{find, Some, ◌≡◌}
 use Rattle.cs_types.specs.declared.task.Task.{Task}
 use Rattle.cs_types.specs.declared.task.TaskSpec.{TaskSpec}

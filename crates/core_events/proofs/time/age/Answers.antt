@@ -1,4 +1,4 @@
-use Rattle.std.proofs.Common.{◌+◌, ◌<◌, ◌∙◌, ap, sym, refl, map, length, get_or, arith, ◌≤◌, ◌≡◌, ◌++◌, take, drop}
+use Rattle.std.proofs.Common.{◌+◌, ◌<◌, ◌∙◌, ap, sym, refl, map, length, get_or, arith, ◌≤◌, ◌++◌}
 use Rattle.std.specs.Prelude.{List}
 use Rattle.std.proofs.lemmas.List.{map-set, length-map, get_or-map, take_all, drop_all, append-nil}
 use Rattle.std.proofs.Math.Seq.{map-set_same}

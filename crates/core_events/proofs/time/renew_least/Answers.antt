@@ -1,4 +1,4 @@
-use Rattle.std.proofs.Common.{ℕ, ◌∙◌, ap, sym, refl, Some, ◌≤◌, subst, ◌≡◌, length, None}
+use Rattle.std.proofs.Common.{ℕ, ◌∙◌, ap, sym, refl, Some, ◌≤◌, subst, None}
 use Rattle.std.specs.Prelude.{List}
 use Rattle.std.proofs.lemmas.List.{map-set, length-set}
 use Rattle.cs_types.specs.Room.{RoomState, SiblingState, with_sibling}

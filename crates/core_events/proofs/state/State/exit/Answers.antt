@@ -1,4 +1,4 @@
-use Rattle.std.proofs.Common.{◌≡◌, ◌+◌, ◌^◌, ◌<◌, ap, ◌∙◌, refl, sym, subst, arith, false, List, [], Some, None}
+use Rattle.std.proofs.Common.{◌≡◌, ◌+◌, ◌^◌, ◌<◌, ap, ◌∙◌, refl, sym, subst, false, List, [], Some, None}
 use Rattle.cs_types.specs.declared.event.Event.TheVariants.{Exit}
 use Rattle.cs_types.specs.declared.reply.Reply.TheVariants.{Ended, HasThreads, Idle, Offline}
 use Rattle.cs_types.specs.Room.{RoomState, SiblingState, running_on}
