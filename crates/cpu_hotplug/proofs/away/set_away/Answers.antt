@@ -1,5 +1,7 @@
-use Rattle.std.proofs.Common.{◌≡◌, ◌<◌, ◌∙◌, ap, sym, map, length, get_or, eqb, eq-eqb, ne_eqb, arith}
-use Rattle.std.proofs.lemmas.List.{map-set, length-map, get_or-map}
+use Rattle.std.proofs.Common.{refl, ◌≡◌, ◌++◌, take, drop, ◌<◌, ◌∙◌, ap, sym, map, length, get_or, eqb, eq-eqb, ne_eqb, arith}
+use Rattle.std.specs.List.{enumerate_from}
+use Rattle.std.proofs.Math.Seq.{take-length, drop-length}
+use Rattle.std.proofs.lemmas.List.{append-nil, map-set, length-map, get_or-map}
 use Rattle.std.proofs.lemmas.Bool.{cond-true, cond-false}
 use Rattle.cs_types.specs.Room.{SiblingState, absent}
 use Rattle.cs_types.specs.Hotplug.{away}
@@ -9,6 +11,9 @@ use Rattle.core_lanes.proofs.Stays.{number_of, queue_of, numbers_kept, queues_ke
 use Rattle.cpu_hotplug.specs.Leaves.{left, beside_one_that_leaves}
 use Rattle.cpu_hotplug.proofs.away.set_away.Goals as goal
 use Rattle.cpu_hotplug.proofs.away.set_away.Goals.{then-other-cpu, else-other-cpu}
+
+pub loop-other-init : goal.loop-other-init
+loop-other-init g c = record { states = refl; numbers = refl; queues = refl }
 
 pub loop-other-preserved : goal.loop-other-preserved
 loop-other-preserved g c =
@@ -46,3 +51,18 @@ loop-other-preserved g c =
             queues = ap (map queue_of) w.lanes-is ∙ queues_kept lanes other read now is (w.stand_by.ensures.queue ∙ ap queue_of (sym is)) ∙ c.loop-other.invariant.queues;
           }
     ]
+
+pub returns-clause-states : goal.returns-clause-states
+returns-clause-states g c =
+    let states = map lane_state c.args.lanes.now in
+    let all : c.loop-other.other ≡ length states = omega (arith, length-map c.args.lanes.now lane_state, c.loop-other-test.false, c.loop-other.auto.other-end) in
+    c.loop-other.invariant.states
+    ∙ (λ k. map (left c.args.cpu) (enumerate_from 0 (take (all k) states)) ++ drop (all k) states)
+    ∙ (λ k. map (left c.args.cpu) (enumerate_from 0 (take-length states k)) ++ drop-length states k)
+    ∙ append-nil (map (left c.args.cpu) (enumerate_from 0 states))
+
+pub returns-clause-numbers : goal.returns-clause-numbers
+returns-clause-numbers g c = c.loop-other.invariant.numbers
+
+pub returns-clause-queues : goal.returns-clause-queues
+returns-clause-queues g c = c.loop-other.invariant.queues

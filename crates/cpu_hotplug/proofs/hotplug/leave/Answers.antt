@@ -1,18 +1,42 @@
-use Rattle.std.proofs.Common.{◌≡◌, ◌*◌, ◌∙◌, ap, sym, map, length, refl}
+use Rattle.std.proofs.Common.{arith, subst, ◌≤◌, ◌≡◌, ◌*◌, ◌∙◌, ap, sym, map, length, refl}
 use Rattle.std.specs.Prelude.{List}
 use Rattle.std.specs.List.{enumerate_from}
 use Rattle.std.proofs.lemmas.List.{with_items_is}
-use Rattle.cs_types.specs.Room.{RoomState}
+use Rattle.cs_types.specs.Room.{RoomState, SiblingState}
 use Rattle.cs_types.specs.Accounting.{charge}
 use Rattle.cs_types.specs.Hotplug.{leave}
 use Rattle.core_lanes.specs.declared.lane.Lane.{Lane}
 use Rattle.core_lanes.specs.Queued.{queued_among}
-use Rattle.core_lanes.specs.Lanes.{at, beside_after, lane_state, room_of}
+use Rattle.core_lanes.specs.Changes.{Kept}
+use Rattle.core_lanes.specs.Lanes.{AreLow, BareCore, at, beside_after, lane_state, room_of}
 use Rattle.core_lanes.specs.Numbers.{Numbers, numbers_of, touched}
 use Rattle.core_lanes.proofs.Stays.{number_of, queue_of, both_stay, alike_stays}
 use Rattle.cpu_hotplug.specs.Leaves.{left, with_moves}
 use Rattle.cpu_hotplug.proofs.Steps.{closed, with_account, closed_is, leave_is}
 use Rattle.cpu_hotplug.proofs.hotplug.leave.Goals as goal
+
+-- ---- the calls
+
+pub move_off-requires-clause-cpu : goal.move_off-requires-clause-cpu
+move_off-requires-clause-cpu g c = omega (arith, c.requires.cpu, ap (λ (kept : Kept). kept.siblings) c.charge.ensures.charges.stays.kept)
+
+pub move_off-requires-clause-agree : goal.move_off-requires-clause-agree
+move_off-requires-clause-agree g c = (alike_stays _ _ refl refl refl refl).agree (c.charge.ensures.charges.stays.agree c.requires.agree)
+
+pub move_off-requires-clause-low : goal.move_off-requires-clause-low
+move_off-requires-clause-low g c =
+    subst (λ (siblings : List SiblingState). AreLow siblings c.args.table.now.tasks) (sym (ap (λ (core : BareCore). core.siblings) c.charge.ensures.rest)) c.requires.low
+
+pub move_off-requires-clause-stamp : goal.move_off-requires-clause-stamp
+move_off-requires-clause-stamp g c = omega (arith, c.requires.stamp, ap (λ (core : BareCore). core.next_stamp) c.charge.ensures.rest)
+
+pub move_off-requires-clause-touches : goal.move_off-requires-clause-touches
+move_off-requires-clause-touches g c = omega (arith, c.requires.touches, ap (λ (core : BareCore). core.task_number) c.charge.ensures.rest)
+
+pub set_away-requires : goal.set_away-requires
+set_away-requires g c = record { few = subst (λ (lanes : List (Lane g.row.Q.Denot)). length lanes ≤ 16) (sym c.deref_mut.ensures.value) c.move_off.new.core.few }
+
+-- ---- the room
 
 pub returns : goal.returns
 unfolding leave

@@ -1,24 +1,62 @@
-use Rattle.std.proofs.Common.{◌≡◌, ◌+◌, ◌*◌, ◌<◌, ◌≤◌, ◌^◌, false, true, refl, subst, sym, ap, ◌∙◌, arith, length, get_or, Some, eq-eqb, ne_eqb}
+use Rattle.std.proofs.Common.{ℕ, map, ◌≡◌, ◌+◌, ◌*◌, ◌<◌, ◌≤◌, ◌^◌, false, true, refl, subst, sym, ap, ◌∙◌, arith, length, get_or, Some, eq-eqb, ne_eqb}
 use Rattle.std.specs.Prelude.{◌==◌, ◌&&◌, All, List, option_copied, slice_get}
 use Rattle.std.proofs.Math.Bool.{and-false}
-use Rattle.std.proofs.lemmas.List.{length-map}
+use Rattle.std.proofs.lemmas.List.{length-map, get_or-map}
+use Rattle.std.proofs.lemmas.Option.{slice_get-get_or}
+use Rattle.std.proofs.lemmas.List.Elements.{All-get_or}
 use Rattle.std.proofs.lemmas.List.Sums.{length-filter, count_by-le-length}
 use Rattle.cs_types.specs.declared.task.Task.{Task}
 use Rattle.cs_types.specs.declared.task.TaskSpec.{TaskSpec}
 use Rattle.cs_types.specs.Scenario.{IsPolicy}
 use Rattle.cs_types.specs.Room.{RoomState, SiblingState}
 use Rattle.cs_types.specs.Hotplug.{moved_off}
-use Rattle.core_lanes.specs.Queued.{queued_among}
-use Rattle.core_lanes.specs.Lanes.{room_of, IsFit, MayStamp}
+use Rattle.core_lanes.specs.Queued.{queued_among, queued_at, count_before}
+use Rattle.core_lanes.specs.declared.queue.SiblingQueue.{Ghosts}
+use Rattle.core_lanes.specs.declared.lane.Lane.{Lane}
+use Rattle.core_lanes.specs.declared.lanes.Core.{Core}
+use Rattle.task_table.specs.Table.{Table}
+use Rattle.core_lanes.specs.Lanes.{room_of, IsFit, MayStamp, AreHeld}
 use Rattle.core_lanes.specs.Numbers.{numbers_of, touched}
 use Rattle.core_lanes.specs.Changes.{Kept, Stays}
-use Rattle.core_lanes.proofs.Stays.{some_beside, both_stay, found_in, stamped_later}
+use Rattle.core_lanes.proofs.Stays.{some_beside, queue_of, both_stay, found_in, stamped_later}
 use Rattle.cpu_hotplug.proofs.Places.{mapped_all, task_was, found_then, same_more, there, changed_more, so_far, moved_is, stays, stamp_at}
 use Rattle.cpu_hotplug.proofs.Stamps.{may_stamp}
 use Rattle.cpu_hotplug.proofs.moves.move_off.Goals as goal
 use Rattle.cpu_hotplug.proofs.moves.move_off.Goals.{then-task+then-task-cpu, else-task, else-task-via-then-task+else-task-cpu, else-task-via-else-task}
 
 -- ---- the numbers
+
+held_at : {Q : Type 0} {g : Ghosts Q} (both : Core Q g × Table) (cpu : ℕ) (lane : Lane Q) → AreHeld both → cpu < length both.0.lanes.items →
+    lane ≡ get_or both.0.lanes.items cpu lane → g.holds lane.queue both.1.limit (queued_at both.1.tasks cpu)
+held_at {Q} both cpu lane held below is =
+    let queues = map queue_of both.0.lanes.items in
+    let within : cpu < length queues = omega (arith, length-map both.0.lanes.items (λ (one : Lane Q). one.queue)) in
+    held cpu lane.queue (slice_get-get_or queues cpu lane.queue within ∙ ap Some (get_or-map queue_of both.0.lanes.items cpu lane lane.queue below ∙ ap queue_of (sym is)))
+
+pub lowest_other-to-requires : goal.lowest_other-to-requires
+lowest_other-to-requires g c = record { some = omega (arith, c.requires.cpu) }
+
+pub count-requires : goal.count-requires
+count-requires g c = held_at (c.args.core.now, c.args.table.now) c.args.cpu c.index.result.now c.requires.agree.held c.requires.cpu c.index.ensures
+
+pub new_stamps-stamps-requires-clause-few : goal.new_stamps-stamps-requires-clause-few
+new_stamps-stamps-requires-clause-few g c = omega (arith, c.requires.agree.table.few, c.requires.agree.few_tasks)
+
+pub new_stamps-stamps-requires-clause-holds : goal.new_stamps-stamps-requires-clause-holds
+new_stamps-stamps-requires-clause-holds g c =
+    held_at (c.args.core.now, c.args.table.now) c.args.cpu c.index.result.now c.requires.agree.held c.requires.cpu c.index.ensures
+
+pub overflow_mul-core : goal.overflow_mul-core
+overflow_mul-core g c =
+    let tasks = c.args.table.now.tasks in
+    omega (
+      arith,
+      c.from-count.ensures,
+      c.count.ensures,
+      c.requires.touches,
+      length-filter (λ (task : Task). task.queued && (task.home == c.args.cpu)) tasks,
+      count_by-le-length (λ (task : Task). task.queued && (task.home == c.args.cpu)) tasks,
+    )
 
 pub overflow_add-core : goal.overflow_add-core
 overflow_add-core g c =
@@ -59,6 +97,35 @@ loop-position-init g c =
     }
 
 -- ---- the calls
+
+pub moved_to-moved-requires-clause-cpu : goal.moved_to-moved-requires-clause-cpu
+moved_to-moved-requires-clause-cpu g c = omega (arith, c.lowest_other-to.ensures.within, ap (λ (kept : Kept). kept.siblings) c.loop-position.invariant.stays.kept)
+
+pub moved_to-moved-requires-clause-home : goal.moved_to-moved-requires-clause-home
+moved_to-moved-requires-clause-home g c =
+    let now = c.loop-position.table in
+    let position = c.loop-position.position in
+    let task = c.unwrap-task.result.now in
+    let within : position < length now.tasks = omega (arith, c.loop-position-test.true, c.len-position-end.ensures.len, c.loop-position.invariant.as_many) in
+    let at : slice_get now.tasks position ≡ Some task = sym c.at.ensures.task ∙ ap option_copied c.unwrap-task.ensures in
+    let found : Some task ≡ Some (get_or now.tasks position task) = sym at ∙ slice_get-get_or now.tasks position task within in
+    let is : get_or now.tasks position task ≡ task = cc in
+    let fits = All-get_or (IsFit (length c.loop-position.core.lanes.items)) now.tasks position task within (c.loop-position.invariant.stays.agree c.requires.agree).tasks in
+    omega (arith, fits.home, ap (λ (one : Task). one.home) is)
+
+pub bounds-deref-position : goal.bounds-deref-position
+bounds-deref-position g c =
+    let tasks = c.args.table.now.tasks in
+    omega (
+      arith,
+      ap length (c.deref.ensures.0 ∙ c.new_stamps-stamps.ensures),
+      length-map tasks (λ (task : Task). c.args.core.now.next_stamp + count_before (queued_among tasks c.args.cpu) task.stamp),
+      c.loop-position-test.true,
+      c.len-position-end.ensures.len,
+    )
+
+pub change-requires-clause-agree : goal.change-requires-clause-agree
+change-requires-clause-agree g c = c.loop-position.invariant.stays.agree c.requires.agree
 
 pub moved_to-moved-requires-clause-vtime : goal.moved_to-moved-requires-clause-vtime
 moved_to-moved-requires-clause-vtime g c =
