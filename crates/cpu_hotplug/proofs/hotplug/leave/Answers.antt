@@ -36,6 +36,15 @@ move_off-requires-clause-touches g c = omega (arith, c.requires.touches, ap (λ 
 pub set_away-requires : goal.set_away-requires
 set_away-requires g c = record { few = subst (λ (lanes : List (Lane g.row.Q.Denot)). length lanes ≤ 16) (sym c.deref_mut.ensures.value) c.move_off.new.core.few }
 
+pub invariant_of-core : goal.invariant_of-core
+invariant_of-core g c = record { few = c.charge.new.core.few }
+
+pub invariant_of-core-2 : goal.invariant_of-core-2
+invariant_of-core-2 g c =
+    let moved = c.move_off.new.core in
+    let kept = with_items_is moved.lanes c.set_away.new.lanes (c.set_away.auto.lanes ∙ ap length c.deref_mut.ensures.value ∙ sym moved.lanes.ok.0) in
+    record { few = omega (arith, ap length kept, c.set_away.auto.lanes, ap length c.deref_mut.ensures.value, moved.few) }
+
 -- ---- the room
 
 pub returns : goal.returns

@@ -82,6 +82,12 @@ overflow_add-core-2 g c =
       count_by-le-length (λ (task : Task). task.queued && (task.home == c.args.cpu)) tasks,
     )
 
+pub invariant_of-core : goal.invariant_of-core
+invariant_of-core g c = record { few = c.args.core.now.few }
+
+pub index-requires : goal.index-requires
+index-requires g c = omega (arith, c.requires.cpu, c.args.core.now.lanes.ok.0)
+
 pub loop-position-init : goal.loop-position-init
 loop-position-init g c =
     let core = c.args.core.now in
