@@ -1,8 +1,9 @@
-use Rattle.std.proofs.Common.{ℕ, map, ◌≡◌, ◌+◌, ◌*◌, ◌<◌, ◌≤◌, ◌^◌, false, true, refl, subst, sym, ap, ◌∙◌, arith, length, get_or, Some, eq-eqb, ne_eqb}
+use Rattle.std.proofs.Common.{Bor, Option, None, inl, inr, ℕ, map, ◌≡◌, ◌+◌, ◌*◌, ◌<◌, ◌≤◌, ◌^◌, false, true, refl, subst, sym, ap, ◌∙◌, arith, length, get_or, Some, eq-eqb, ne_eqb}
 use Rattle.std.specs.Prelude.{◌==◌, ◌&&◌, All, List, option_copied, slice_get}
+use Rattle.std.specs.Option.{IsSome}
 use Rattle.std.proofs.Math.Bool.{and-false}
 use Rattle.std.proofs.lemmas.List.{length-map, get_or-map}
-use Rattle.std.proofs.lemmas.Option.{slice_get-get_or}
+use Rattle.std.proofs.lemmas.Option.{slice_get-get_or, slice_get_cases}
 use Rattle.std.proofs.lemmas.List.Elements.{All-get_or}
 use Rattle.std.proofs.lemmas.List.Sums.{length-filter, count_by-le-length}
 use Rattle.cs_types.specs.declared.task.Task.{Task}
@@ -103,6 +104,20 @@ loop-position-init g c =
     }
 
 -- ---- the calls
+
+is_there : (found : Option (Bor Task)) (task : Task) → option_copied found ≡ Some task → IsSome found
+is_there None task is = absurd cc
+is_there (Some found) task is = refl
+
+pub unwrap-task-requires : goal.unwrap-task-requires
+unwrap-task-requires g c =
+    let tasks = c.loop-position.table.tasks in
+    let position = c.loop-position.position in
+    let within : position < length tasks = omega (arith, c.loop-position-test.true, c.len-position-end.ensures.len, c.loop-position.invariant.as_many) in
+    elim (slice_get_cases tasks position).1 [
+      | inl inside ↦ is_there c.at.result inside.0 (c.at.ensures.task ∙ inside.2)
+      | inr past ↦ absurd (omega (arith, past.0, within))
+    ]
 
 pub moved_to-moved-requires-clause-cpu : goal.moved_to-moved-requires-clause-cpu
 moved_to-moved-requires-clause-cpu g c = omega (arith, c.lowest_other-to.ensures.within, ap (λ (kept : Kept). kept.siblings) c.loop-position.invariant.stays.kept)
