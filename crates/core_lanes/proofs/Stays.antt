@@ -1,13 +1,15 @@
 -- Stays: what a change of a core and its table keeps.
-use Rattle.std.proofs.Common.{◌≡◌, ℕ, ◌<◌, ◌≤◌, Bool, true, false, cond, List, [], ◌∷◌, map, refl, subst, sym, ap, ◌∙◌, length, set, get_or, Option, Some, ◌+◌, arith}
+use Rattle.std.proofs.Common.{◌≡◌, ℕ, ◌<◌, ◌≤◌, List, [], map, refl, subst, sym, ap, ◌∙◌, length, set, get_or, Option, Some, ◌+◌, arith}
 use Rattle.std.specs.Prelude.{All, IfSome, IsTrue, find, slice_get}
-use Rattle.std.proofs.lemmas.List.Elements.{All-head, All-tail, All-weaker}
+use Rattle.std.proofs.lemmas.List.Elements.{All-weaker}
 use Rattle.std.proofs.lemmas.List.{get_or-map, length-map}
+use Rattle.std.proofs.lemmas.Option.{slice_get-get_or}
 use Rattle.std.proofs.Math.Seq.{map-set_same}
 use Rattle.cs_types.specs.declared.task.Task.{Task}
 use Rattle.cs_types.specs.Room.{absent, has_pid}
 use Rattle.forceidle_account.specs.Charges.{Charges, has_total}
 use Rattle.task_table.specs.Table.{Table, IsSound as IsTable}
+use Rattle.core_lanes.proofs.Lists.{All-find}
 use Rattle.core_lanes.specs.Queued.{queued_at, AreStamped}
 use Rattle.core_lanes.specs.Lanes.{Beside, BareCore, bare, lane_state, IsFit, queues_of, MayStamp}
 use Rattle.core_lanes.specs.Changes.{Stays, identity_of}
@@ -84,6 +86,13 @@ pub queues_kept : {Q : Type 0} (lanes : List (Lane Q)) (cpu : ℕ) (x y : Lane Q
     map queue_of (set lanes cpu y) ≡ map queue_of lanes
 queues_kept lanes cpu x y is same = map-set_same queue_of lanes cpu y x (same ∙ ap queue_of is)
 
+-- the queue of the sibling at a place
+pub queue_at : {Q : Type 0} (lanes : List (Lane Q)) (cpu : ℕ) (x : Lane Q) → cpu < length lanes → x ≡ get_or lanes cpu x →
+    slice_get (map queue_of lanes) cpu ≡ Some x.queue
+queue_at lanes cpu x below is =
+    slice_get-get_or (map queue_of lanes) cpu x.queue (omega (arith, length-map lanes queue_of))
+    ∙ ap Some (get_or-map queue_of lanes cpu x x.queue below ∙ ap queue_of (sym is))
+
 -- cores that are alike but for their queues have as many siblings
 pub as_many_bare : {Q : Type 0} {g : Ghosts Q} (old new : Core Q g) → bare new ≡ bare old → length new.lanes.items ≡ length old.lanes.items
 as_many_bare old new same =
@@ -91,14 +100,7 @@ as_many_bare old new same =
 
 -- what holds of each task of a list holds of one that was found
 pub found_in : (P : Task → Type 0) (pid : ℕ) (tasks : List Task) (task : Task) → All P tasks → find (has_pid pid) tasks ≡ Some task → P task
-found_in P pid tasks task all found = subst (λ (one : Option Task). IfSome one P) found (All-find P (has_pid pid) tasks all) where
-  All-find : (P : Task → Type 0) (p : Task → Bool) (xs : List Task) → All P xs → IfSome (find p xs) P
-  All-find P p [] each = tt
-  All-find P p (x ∷ xs) each =
-      elim (p x) as (λ b. IfSome (cond b (Some x) (find p xs)) P) [
-        | true ↦ All-head P x xs each
-        | false ↦ All-find P p xs (All-tail P x xs each)
-      ]
+found_in P pid tasks task all found = subst (λ (one : Option Task). IfSome one P) found (All-find P (has_pid pid) tasks all)
 
 -- ---- stamps
 

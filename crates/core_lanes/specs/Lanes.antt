@@ -150,21 +150,23 @@ pub record MayStamp (next : ℕ) (tasks : List Task) (task : Task) : Type 0 wher
   pub below : task.stamp < next
   pub own : HasOwnStamp tasks task
 
--- the table has a task with this one's pid, and this one fits in its place: but for its stamp, in its place where its stamp
--- may stand, and that with its cookie
+-- the table has a task with this one's pid, in whose place this one fits but for its stamp
 pub record FitsApart {Q : Type 0} {g : Ghosts Q} (both : Core Q g × Table) (task : Task) : Type 0 where
   pub old : Task
   pub there : find (has_pid task.spec.pid) both.1.tasks ≡ Some old
   pub fits : IsFit (length both.0.lanes.items) task
 
+-- it fits there with its stamp too, where it is queued
 pub record FitsIn {Q : Type 0} {g : Ghosts Q} (both : Core Q g × Table) (task : Task) : Type 0 where
   pub apart : FitsApart both task
   pub stamp : IsTrue task.queued → MayStamp both.0.next_stamp both.1.tasks task
 
+-- it fits but for its stamp, and has the cookie of the task whose place it takes
 pub record KnowsApart {Q : Type 0} {g : Ghosts Q} (both : Core Q g × Table) (task : Task) : Type 0 where
   pub apart : FitsApart both task
   pub cookie : task.cookie ≡ apart.old.cookie
 
+-- the same with its stamp, where it is queued
 pub record Knows {Q : Type 0} {g : Ghosts Q} (both : Core Q g × Table) (task : Task) : Type 0 where
   pub known : KnowsApart both task
   pub stamp : IsTrue task.queued → MayStamp both.0.next_stamp both.1.tasks task

@@ -1,8 +1,9 @@
-use Rattle.std.proofs.Common.{◌∙◌, ◌++◌, ◌∷◌, [], ap, subst, sym, arith, inl, inr}
+use Rattle.std.proofs.Common.{Some, ◌≡◌, ◌∙◌, ◌++◌, ◌∷◌, [], ap, subst, sym, arith, inl, inr}
 use Rattle.std.specs.Prelude.{replicate, vec_len, map, slice_get}
 use Rattle.std.proofs.lemmas.List.{map_push, replicate-append-replicate}
 use Rattle.cs_types.specs.Room.{idle}
-use Rattle.core_lanes.specs.Lanes.{lane_state}
+use Rattle.forceidle_account.specs.Account.{Account}
+use Rattle.core_lanes.specs.Lanes.{BareCore, bare_start, lane_state}
 use Rattle.core_lanes.proofs.Stays.{number_of, queue_of}
 use Rattle.core_lanes.proofs.Starts.{slice_get-more}
 use Rattle.core_lanes.proofs.lanes.Core.of.Goals as goal
@@ -33,3 +34,36 @@ loop-preserved g c =
                 (c.in_ok-with_capacity.ensures)
           ];
     }
+
+pub loop-init : goal.loop-init
+loop-init g c =
+    let made = c.in_ok-lanes.ensures in
+    record {
+      some = omega (arith, made.len);
+      spare = omega (arith, made.capacity);
+      counted = made.len;
+      states = ap (λ xs. map lane_state xs) made.items ∙ ap (λ n. replicate n idle) (sym made.len);
+      numbers = ap (λ xs. map number_of xs) made.items ∙ ap (λ n. replicate n 0) (sym made.len);
+      held = λ cpu queue at. let none : slice_get [] cpu ≡ Some queue = ap (λ xs. slice_get (map queue_of xs) cpu) (sym made.items) ∙ at in absurd cc;
+    }
+
+pub push_reserved-requires : goal.push_reserved-requires
+push_reserved-requires g c = omega (arith, c.loop.invariant.spare, c.loop.invariant.counted, c.loop-test.true)
+
+pub invariant_of-result : goal.invariant_of-result
+invariant_of-result g c = record { few = omega (arith, c.loop.invariant.some, c.requires, c.loop.lanes.ok.0) }
+
+pub returns-clause-bare : goal.returns-clause-bare
+returns-clause-bare g c =
+    let so_far = c.loop.invariant in
+    let all : vec_len c.loop.lanes ≡ c.args.siblings = omega (arith, so_far.counted, so_far.some, c.loop-test.false) in
+    let states = so_far.states ∙ ap (λ n. replicate n idle) all in
+    let numbers = so_far.numbers ∙ ap (λ n. replicate n 0) all in
+    let shut = c.closed.ensures in
+    λ i.
+    let account : Account = record { count = shut.count i; occupation = shut.occupation i; started = shut.started i; intervals = shut.intervals i } in
+    let core : BareCore = record (bare_start c.args.siblings c.args.totals) { account = account; siblings = states i; own = numbers i } in
+    core
+
+pub returns-clause-held : goal.returns-clause-held
+returns-clause-held g c = c.loop.invariant.held

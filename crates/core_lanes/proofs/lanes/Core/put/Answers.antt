@@ -3,9 +3,15 @@ use Rattle.std.proofs.lemmas.List.{map-set}
 use Rattle.std.proofs.Math.Seq.{map-set_same}
 use Rattle.core_lanes.specs.Queued.{queued_at, others}
 use Rattle.core_lanes.specs.Lanes.{lane_state, queues_of}
-use Rattle.core_lanes.proofs.Stays.{number_of, queue_of}
+use Rattle.core_lanes.proofs.Stays.{number_of, queue_of, queue_at}
 use Rattle.core_lanes.proofs.Queues.{held-set, others-absent, off_elsewhere, off_asleep}
 use Rattle.core_lanes.proofs.lanes.Core.put.Goals as goal
+
+pub put-requires-clause-holds : goal.put-requires-clause-holds
+put-requires-clause-holds g c =
+    let home = c.args.task.now.home in
+    let lane = c.index_mut.result.now in
+    c.requires.held home lane.queue (queue_at c.args.self.now.lanes.items home lane c.requires.home c.index_mut.ensures.value)
 
 pub returns-then-task-clause-bare : goal.returns-then-task-clause-bare
 returns-then-task-clause-bare g c =
