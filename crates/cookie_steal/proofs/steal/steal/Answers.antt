@@ -19,6 +19,9 @@ pub moved_to-moved-requires-clause-vtime : goal.moved_to-moved-requires-clause-v
 moved_to-moved-requires-clause-vtime g c =
     found_in (λ (task : Task). task.vtime < 2 ^ 100) c.args.task.spec.pid c.args.table.now.tasks c.args.task c.requires.low.vtimes c.requires.there
 
+pub moved_to-moved-requires-clause-leasts : goal.moved_to-moved-requires-clause-leasts
+moved_to-moved-requires-clause-leasts g c = c.requires.low.leasts
+
 pub enqueue-requires-clause-knows : goal.enqueue-requires-clause-knows
 enqueue-requires-clause-knows g c =
     let core = c.args.core.now in
@@ -37,6 +40,40 @@ pub enqueue-requires-clause-stamp : goal.enqueue-requires-clause-stamp
 enqueue-requires-clause-stamp g c =
     let same : c.touch.new.self.next_stamp ≡ c.args.core.now.next_stamp = ap (λ (room : RoomState). room.next_stamp) ((c.touch.ensures c.args.table.now).room some_beside) in
     omega (arith, same, c.requires.stamp)
+
+pub enqueue-requires-clause-agree : goal.enqueue-requires-clause-agree
+enqueue-requires-clause-agree g c = (c.touch.ensures c.args.table.now).stays.agree c.requires.agree
+
+pub enqueue-requires-clause-touches : goal.enqueue-requires-clause-touches
+enqueue-requires-clause-touches g c = omega (arith, ap (λ (numbers : Numbers). numbers.task) (c.touch.ensures c.args.table.now).numbers, c.requires.touches)
+
+pub set_place-requires : goal.set_place-requires
+set_place-requires g c =
+    let stays = both_stay (c.touch.ensures c.args.table.now).stays c.enqueue.ensures.stays in
+    omega (arith, c.requires.thief, ap (λ (kept : Kept). kept.siblings) stays.kept)
+
+pub flag-requires : goal.flag-requires
+flag-requires g c =
+    let stays = both_stay (c.touch.ensures c.args.table.now).stays (both_stay c.enqueue.ensures.stays (c.set_place.ensures c.enqueue.new.table).stays) in
+    omega (arith, c.requires.thief, ap (λ (kept : Kept). kept.siblings) stays.kept)
+
+pub is_left_idle-idles-requires-clause-cpu : goal.is_left_idle-idles-requires-clause-cpu
+is_left_idle-idles-requires-clause-cpu g c =
+    let table = c.enqueue.new.table in
+    let stays = both_stay (c.touch.ensures c.args.table.now).stays (both_stay c.enqueue.ensures.stays (both_stay (c.set_place.ensures table).stays (c.flag.ensures table).stays)) in
+    omega (arith, c.requires.within, ap (λ (kept : Kept). kept.siblings) stays.kept)
+
+pub is_left_idle-idles-requires-clause-agree : goal.is_left_idle-idles-requires-clause-agree
+is_left_idle-idles-requires-clause-agree g c =
+    let table = c.enqueue.new.table in
+    let stays = both_stay (c.touch.ensures c.args.table.now).stays (both_stay c.enqueue.ensures.stays (both_stay (c.set_place.ensures table).stays (c.flag.ensures table).stays)) in
+    stays.agree c.requires.agree
+
+pub flag-requires-2 : goal.flag-requires-2
+flag-requires-2 g c =
+    let table = c.enqueue.new.table in
+    let stays = both_stay (c.touch.ensures c.args.table.now).stays (both_stay c.enqueue.ensures.stays (both_stay (c.set_place.ensures table).stays (c.flag.ensures table).stays)) in
+    omega (arith, c.requires.within, ap (λ (kept : Kept). kept.siblings) stays.kept)
 
 pub returns : goal.returns
 returns g c =

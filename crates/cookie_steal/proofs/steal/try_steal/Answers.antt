@@ -29,6 +29,12 @@ pub steal-requires-clause-there : goal.steal-requires-clause-there
 steal-requires-clause-there g c =
     stolen_there (room_of some_beside (c.args.core.now, c.args.table.now)) c.args.cpu c.in-Some.task c.requires.agree.table.rising (sym (c.in-Some.ensures.stolen some_beside))
 
+pub steal-requires-clause-low : goal.steal-requires-clause-low
+steal-requires-clause-low g c = c.requires.low
+
+pub next_place-place-requires-clause-places : goal.next_place-place-requires-clause-places
+next_place-place-requires-clause-places g c = c.requires.places
+
 pub returns-in-Some : goal.returns-in-Some
 returns-in-Some g c =
     let at = lane_at c.args.core.now.lanes.items c.args.cpu c.index.result.now c.requires.cpu c.index.ensures in
