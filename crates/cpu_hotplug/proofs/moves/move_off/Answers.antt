@@ -1,8 +1,8 @@
-use Rattle.std.proofs.Common.{Bor, Option, None, inl, inr, ℕ, map, ◌≡◌, ◌+◌, ◌*◌, ◌<◌, ◌≤◌, ◌^◌, false, true, refl, subst, sym, ap, ◌∙◌, arith, length, get_or, Some, eq-eqb, ne_eqb}
+use Rattle.std.proofs.Common.{Bor, Option, None, inl, inr, ◌≡◌, ◌+◌, ◌*◌, ◌<◌, ◌≤◌, ◌^◌, false, true, refl, subst, sym, ap, ◌∙◌, arith, length, get_or, Some, eq-eqb, ne_eqb}
 use Rattle.std.specs.Prelude.{◌==◌, ◌&&◌, All, List, option_copied, slice_get}
 use Rattle.std.specs.Option.{IsSome}
 use Rattle.std.proofs.Math.Bool.{and-false}
-use Rattle.std.proofs.lemmas.List.{length-map, get_or-map}
+use Rattle.std.proofs.lemmas.List.{length-map}
 use Rattle.std.proofs.lemmas.Option.{slice_get-get_or, slice_get_cases}
 use Rattle.std.proofs.lemmas.List.Elements.{All-get_or}
 use Rattle.std.proofs.lemmas.List.Sums.{length-filter, count_by-le-length}
@@ -11,15 +11,11 @@ use Rattle.cs_types.specs.declared.task.TaskSpec.{TaskSpec}
 use Rattle.cs_types.specs.Scenario.{IsPolicy}
 use Rattle.cs_types.specs.Room.{RoomState, SiblingState}
 use Rattle.cs_types.specs.Hotplug.{moved_off}
-use Rattle.core_lanes.specs.Queued.{queued_among, queued_at, count_before}
-use Rattle.core_lanes.specs.declared.queue.SiblingQueue.{Ghosts}
-use Rattle.core_lanes.specs.declared.lane.Lane.{Lane}
-use Rattle.core_lanes.specs.declared.lanes.Core.{Core}
-use Rattle.task_table.specs.Table.{Table}
-use Rattle.core_lanes.specs.Lanes.{room_of, IsFit, MayStamp, AreHeld}
+use Rattle.core_lanes.specs.Queued.{queued_among, count_before}
+use Rattle.core_lanes.specs.Lanes.{room_of, IsFit, MayStamp}
 use Rattle.core_lanes.specs.Numbers.{numbers_of, touched}
 use Rattle.core_lanes.specs.Changes.{Kept, Stays}
-use Rattle.core_lanes.proofs.Stays.{some_beside, queue_of, both_stay, found_in, stamped_later}
+use Rattle.core_lanes.proofs.Stays.{some_beside, queue_at, both_stay, found_in, stamped_later}
 use Rattle.cpu_hotplug.proofs.Places.{mapped_all, task_was, found_then, same_more, there, changed_more, so_far, moved_is, stays, stamp_at}
 use Rattle.cpu_hotplug.proofs.Stamps.{may_stamp}
 use Rattle.cpu_hotplug.proofs.moves.move_off.Goals as goal
@@ -27,25 +23,21 @@ use Rattle.cpu_hotplug.proofs.moves.move_off.Goals.{then-task+then-task-cpu, els
 
 -- ---- the numbers
 
-held_at : {Q : Type 0} {g : Ghosts Q} (both : Core Q g × Table) (cpu : ℕ) (lane : Lane Q) → AreHeld both → cpu < length both.0.lanes.items →
-    lane ≡ get_or both.0.lanes.items cpu lane → g.holds lane.queue both.1.limit (queued_at both.1.tasks cpu)
-held_at {Q} both cpu lane held below is =
-    let queues = map queue_of both.0.lanes.items in
-    let within : cpu < length queues = omega (arith, length-map both.0.lanes.items (λ (one : Lane Q). one.queue)) in
-    held cpu lane.queue (slice_get-get_or queues cpu lane.queue within ∙ ap Some (get_or-map queue_of both.0.lanes.items cpu lane lane.queue below ∙ ap queue_of (sym is)))
-
 pub lowest_other-to-requires : goal.lowest_other-to-requires
 lowest_other-to-requires g c = record { some = omega (arith, c.requires.cpu) }
 
 pub count-requires : goal.count-requires
-count-requires g c = held_at (c.args.core.now, c.args.table.now) c.args.cpu c.index.result.now c.requires.agree.held c.requires.cpu c.index.ensures
+count-requires g c =
+    let lane = c.index.result.now in
+    c.requires.agree.held c.args.cpu lane.queue (queue_at c.args.core.now.lanes.items c.args.cpu lane c.requires.cpu c.index.ensures)
 
 pub new_stamps-stamps-requires-clause-few : goal.new_stamps-stamps-requires-clause-few
 new_stamps-stamps-requires-clause-few g c = omega (arith, c.requires.agree.table.few, c.requires.agree.few_tasks)
 
 pub new_stamps-stamps-requires-clause-holds : goal.new_stamps-stamps-requires-clause-holds
 new_stamps-stamps-requires-clause-holds g c =
-    held_at (c.args.core.now, c.args.table.now) c.args.cpu c.index.result.now c.requires.agree.held c.requires.cpu c.index.ensures
+    let lane = c.index.result.now in
+    c.requires.agree.held c.args.cpu lane.queue (queue_at c.args.core.now.lanes.items c.args.cpu lane c.requires.cpu c.index.ensures)
 
 pub overflow_mul-core : goal.overflow_mul-core
 overflow_mul-core g c =
