@@ -1,10 +1,11 @@
 -- Views: what the machine shows of its state is what the fold of its entries shows.
-use Rattle.std.proofs.Common.{◌≡◌, ℕ, ◌<◌, true, false, length, get_or, ltb, sym, ap, ◌∙◌, arith, Option, Some, None, Bor, is_some}
-use Rattle.std.specs.Prelude.{IfSome, unwrap_or}
+use Rattle.std.proofs.Common.{◌≡◌, ℕ, ◌<◌, true, false, List, refl, length, get_or, ltb, sym, ap, ◌∙◌, arith, Option, Some, None, Bor, is_some}
+use Rattle.std.specs.Prelude.{IfSome, unwrap_or, option_copied, slice_get}
 use Rattle.std.specs.Option.{option_map}
 use Rattle.std.proofs.lemmas.List.{length-map, get_or-map}
 use Rattle.std.proofs.lemmas.List.FromFn.{get_or-map-range_with_len}
-use Rattle.std.proofs.lemmas.Bool.{cond-true, cond-false, ltb-true}
+use Rattle.std.proofs.lemmas.Option.{slice_get_past, slice_get_read}
+use Rattle.std.proofs.lemmas.Bool.{cond-true, cond-false, ltb-true, ltb-false}
 use Rattle.cs_types.specs.declared.scenario.Scenario.{Scenario}
 use Rattle.cs_types.specs.declared.view.CpuView.{CpuView}
 use Rattle.cs_types.specs.Room.{RoomState, SiblingState, sibling_of}
@@ -21,6 +22,12 @@ use Rattle.core_events.specs.State.{room_with}
 use Rattle.core_events.specs.declared.state.State.{State}
 use Rattle.cs_types.specs.declared.task.Task.{Task}
 use Rattle.core_events.proofs.Machines.{Folds}
+
+-- an item that is looked up is the one at its place
+pub looked_up : {X : Type 0} (xs : List X) (place : ℕ) (found : Option (Bor X)) →
+    is_some found ≡ ltb place (length xs) → IfSome found (λ x. x.now ≡ get_or xs place x.now) → option_copied found ≡ slice_get xs place
+looked_up xs place None past is = sym (slice_get_past xs place (ltb-false place (length xs) (sym past)))
+looked_up xs place (Some x) within is = sym (slice_get_read xs (length xs) place x.now refl (ltb-true place (length xs) (sym within)) is)
 
 -- ---- a task
 

@@ -51,6 +51,22 @@ fn most_entries(scenario: &Scenario) -> usize
     scenario.steps.items().len() + siblings * siblings
 }
 
+/// The scenario in memory of its own.
+fn copy_of(alloc: Global, scenario: &Scenario) -> Result<Scenario, OutOfMemory>
+    ensures { IfOk result (λ copy. copy ≡ scenario.now) }
+{
+    let tasks = Vec::from_slice(alloc, scenario.tasks.items())?;
+    let steps = Vec::from_slice(alloc, scenario.steps.items())?;
+    Ok(Scenario {
+        siblings: scenario.siblings,
+        task_limit: scenario.task_limit,
+        cookie_limit: scenario.cookie_limit,
+        user_top: scenario.user_top,
+        tasks: List::of(tasks),
+        steps: List::of(steps),
+    })
+}
+
 /// What a machine shows of the task, which was charged this for forced idle, in ns.
 fn view(task: &Task, forced: u64) -> TaskView
     ensures { (room : RoomState) → forced ≡ forced_of room task.now.spec.pid → result ≡ task_view room task.now }
@@ -102,20 +118,11 @@ impl<Q: SiblingQueue> CoreRoom<Q> {
             length scenario.now.steps + scenario.now.siblings * scenario.now.siblings) }
     {
         let most = most_entries(scenario);
-        let state = State::start(alloc, scenario, most, guards)?;
+        let copy = copy_of(alloc, scenario)?;
         let entries = Vec::with_capacity(alloc, most)?;
-        let tasks = List::of(Vec::from_slice(alloc, scenario.tasks.items())?);
-        let steps = List::of(Vec::from_slice(alloc, scenario.steps.items())?);
-        let scenario = Scenario {
-            siblings: scenario.siblings,
-            task_limit: scenario.task_limit,
-            cookie_limit: scenario.cookie_limit,
-            user_top: scenario.user_top,
-            tasks,
-            steps,
-        };
+        let state = State::start(alloc, scenario, most, guards)?;
         Ok(CoreRoom {
-            scenario,
+            scenario: copy,
             state,
             entries,
         })

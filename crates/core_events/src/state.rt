@@ -7,7 +7,7 @@ ghost use Rattle.cs_types.specs.Room.{start, first_pid};
 ghost use Rattle.cs_types.specs.History.{beginning};
 ghost use Rattle.core_lanes.specs.Numbers.{numbers_of};
 
-use crate::start::{asleep_tasks, first_pid, totals_of};
+use crate::start::{asleep_tasks, core_of, first_pid};
 use cookie_refs::CookieRefs;
 use core_lanes::{Core, SiblingQueue};
 use cs_types::{OutOfMemory, Pid, Scenario};
@@ -54,11 +54,10 @@ impl<Q: SiblingQueue> State<Q> {
         ensures places { IfOk result (λ state. state.core.totals.spare + state.next_pid ≡ most + first_pid scenario.now.tasks) }
         ensures ends { IfOk result (λ state. vec_capacity state.ended ≡ most) }
     {
-        let tasks = asleep_tasks(alloc, scenario.task_limit, scenario.tasks.items())?;
-        let refs = CookieRefs::with_limit(alloc, scenario.cookie_limit)?;
-        let totals = totals_of(alloc, &tasks, most)?;
         let ended = Vec::with_capacity(alloc, most)?;
-        let core = Core::of(alloc, scenario.siblings, scenario.task_limit, totals)?;
+        let refs = CookieRefs::with_limit(alloc, scenario.cookie_limit)?;
+        let tasks = asleep_tasks(alloc, scenario.task_limit, scenario.tasks.items())?;
+        let core = core_of(alloc, scenario, &tasks, most)?;
         Ok(State {
             core,
             tasks,

@@ -1,6 +1,6 @@
-use Rattle.std.proofs.Common.{◌≡◌, ◌<◌, ◌∙◌, refl, ap, sym, map, length, get_or, arith}
+use Rattle.std.proofs.Common.{◌≡◌, ◌<◌, ◌≤◌, ◌++◌, ◌∙◌, refl, ap, sym, map, length, get_or, arith}
 use Rattle.std.specs.Prelude.{◌||◌}
-use Rattle.std.proofs.lemmas.List.{map-set, length-map, get_or-map}
+use Rattle.std.proofs.lemmas.List.{append-nil, map-set, length-map, get_or-map, take_all, drop_all}
 use Rattle.std.proofs.Math.Seq.{map-set_same}
 use Rattle.cs_types.specs.Room.{SiblingState, absent}
 use Rattle.core_lanes.specs.Lanes.{lane_state}
@@ -26,4 +26,16 @@ loop-lane-preserved g c =
           ∙ mapped_more (flagged_for c.args.pid) states (map lane_state lanes) i (lane_state after) absent within c.loop-lane.invariant.states is;
       numbers = map-set_same number_of lanes i after c.lane-item.result refl ∙ c.loop-lane.invariant.numbers;
       queues = map-set_same queue_of lanes i after c.lane-item.result refl ∙ c.loop-lane.invariant.queues;
+    }
+
+pub returns : goal.returns
+returns g c =
+    let states = map lane_state c.args.lanes.now in
+    let past : length states ≤ c.loop-lane.lane-index = omega (arith, length-map c.args.lanes.now lane_state, c.loop-lane-test.false) in
+    record {
+      states = c.loop-lane.invariant.states
+          ∙ (λ i. map (flagged_for c.args.pid) (take_all c.loop-lane.lane-index states past i) ++ drop_all c.loop-lane.lane-index states past i)
+          ∙ append-nil (map (flagged_for c.args.pid) states);
+      numbers = c.loop-lane.invariant.numbers;
+      queues = c.loop-lane.invariant.queues;
     }

@@ -1,3 +1,6 @@
+use Rattle.std.proofs.Common.{◌∙◌, ap}
+use Rattle.std.proofs.lemmas.List.{take_all}
+use Rattle.cs_types.specs.Room.{asleep_tasks}
 use Rattle.core_events.proofs.Starts.{added_ok}
 use Rattle.core_events.proofs.start.asleep_tasks.Goals as goal
 
@@ -5,3 +8,11 @@ pub unwrap-requires : goal.unwrap-requires
 unwrap-requires c =
     added_ok c.loop-spec.tasks c.args.specs.now c.args.limit c.loop-spec.spec-index _ c.add.result c.loop-spec.invariant.tasks c.loop-spec.invariant.limit c.add.ensures.answer
     c.requires.distinct c.loop-spec-test.true c.requires.few
+
+pub loop-spec-init : goal.loop-spec-init
+loop-spec-init c = record { sound = c.in_ok-tasks.ensures.sound; tasks = c.in_ok-tasks.ensures.empty; limit = c.in_ok-tasks.ensures.limit }
+
+pub returns : goal.returns
+returns c =
+    let now = c.loop-spec.invariant in
+    record { tasks = now.tasks ∙ ap asleep_tasks (take_all c.loop-spec.spec-index c.args.specs.now c.loop-spec-test.false); sound = now.sound; limit = now.limit }

@@ -1,4 +1,5 @@
-use Rattle.std.proofs.Common.{◌≡◌, ◌+◌, ◌*◌, ◌-◌, ◌<◌, ◌++◌, ◌∷◌, [], ◌∙◌, ap, sym, subst, refl, length, arith, Option, ℕ}
+use Rattle.std.proofs.Common.{◌≡◌, ◌+◌, ◌*◌, ◌-◌, ◌<◌, ◌≤◌, ◌++◌, ◌∷◌, [], ◌∙◌, ap, sym, subst, refl, length, arith, Option, ℕ}
+use Rattle.std.proofs.lemmas.Nat.{mul-le}
 use Rattle.std.proofs.lemmas.List.{length-append}
 use Rattle.cs_types.specs.declared.event.Actor.TheVariants.{End}
 use Rattle.cs_types.specs.declared.event.Event.TheVariants.{Resched}
@@ -122,3 +123,42 @@ returns-clause-one_cookie g c =
     one_cookie_at_end m.scenario c.loop-entries.self.scenario (history_of m.scenario m.steps) (history_of c.loop-entries.self.scenario c.loop-entries.self.steps)
     c.loop-entries.invariant.scenario (returns-clause-entries g c)
     (playable_of c.self.inside c.self.invariant m c.self.view_is) (events_of c.self.inside c.self.invariant m c.self.view_is) (IsLegal-history_of m.scenario m.steps)
+
+pub overflow_mul-most : goal.overflow_mul-most
+overflow_mul-most g c =
+    let n = c.from-siblings.result in
+    let few : n ≤ 16 = omega (arith, c.from-siblings.ensures, c.self.invariant.playable.siblings.1) in
+    omega (arith, mul-le n n 16 16 few few)
+
+-- the square of the siblings, as the code has it
+square : {Q : Type 0} {g : Ghosts Q} (a : Inside Q g) (m : Machine) (n : ℕ) → machine_of a ≡ m → n ≡ a.scenario.siblings → n * n ≡ m.scenario.siblings * m.scenario.siblings
+square a m n view_is is = ap (λ k. k * k) (is ∙ ap (λ (m : Machine). m.scenario.siblings) view_is)
+
+pub apply-requires-clause-spare : goal.apply-requires-clause-spare
+apply-requires-clause-spare g c =
+    let most = square c.self.inside c.args.self.now c.from-siblings.result c.self.view_is c.from-siblings.ensures in
+    omega (arith, most, c.loop-entries-test.true, c.loop-entries.invariant.spare, c.requires.spare)
+
+pub returns-in_default-clause-count : goal.returns-in_default-clause-count
+returns-in_default-clause-count g c =
+    ap (λ (s : Scenario). length (history_of s c.loop-entries.self.steps)) c.loop-entries.invariant.scenario ∙ c.loop-entries.invariant.made
+
+pub returns-in_default-clause-few : goal.returns-in_default-clause-few
+returns-in_default-clause-few g c =
+    let most = square c.self.inside c.args.self.now c.from-siblings.result c.self.view_is c.from-siblings.ensures in
+    omega (arith, most, c.loop-entries-test.true)
+
+pub returns-in_default-clause-spare : goal.returns-in_default-clause-spare
+returns-in_default-clause-spare g c = c.loop-entries.invariant.spare
+
+pub returns-clause-count : goal.returns-clause-count
+returns-clause-count g c =
+    let all : c.loop-entries.entries ≡ c.from-siblings.result * c.from-siblings.result = omega (arith, c.loop-entries-test.false, c.loop-entries.auto.entries-end) in
+    ap (λ (s : Scenario). length (history_of s c.loop-entries.self.steps)) c.loop-entries.invariant.scenario ∙ c.loop-entries.invariant.made
+    ∙ ap (λ n. length (history_of c.args.self.now.scenario c.args.self.now.steps) + n) all
+
+pub returns-clause-few : goal.returns-clause-few
+returns-clause-few g c = omega (arith, square c.self.inside c.args.self.now c.from-siblings.result c.self.view_is c.from-siblings.ensures)
+
+pub returns-clause-spare : goal.returns-clause-spare
+returns-clause-spare g c = omega (arith, c.loop-entries-test.false, c.loop-entries.auto.entries-end, c.loop-entries.invariant.spare)

@@ -1,4 +1,4 @@
-use Rattle.std.proofs.Common.{◌≡◌, ◌^◌, ◌<◌, ap, ◌∙◌, sym, subst, rules, arith, Option, Some, None}
+use Rattle.std.proofs.Common.{◌≡◌, ◌^◌, ◌<◌, ap, ◌∙◌, sym, subst, arith, Option, Some}
 use Rattle.std.specs.Prelude.{IfSome}
 use Rattle.std.specs.Option.{option_map}
 use Rattle.cs_types.specs.View.{task_after, task_view, task_view_after}
@@ -16,11 +16,9 @@ pub returns-in_err-task-clause-view : goal.returns-in_err-task-clause-view
 returns-in_err-task-clause-view g c =
     let a = c.self.inside in
     let pid = c.args.pid in
-    let none : c.task_after.result ≡ None = search rules in
-    let out : c.from_residual.result ≡ None = search rules in
     let folds = folds_of a c.self.invariant in
-    out
-    ∙ ap (option_map (task_view (fold_of a.scenario a.entries.items))) (sym none)
+    c.from_residual.ensures
+    ∙ ap (option_map (task_view (fold_of a.scenario a.entries.items))) (sym c.in_err-task.was)
     ∙ task_shown a.scenario a.state a.entries.items pid c.task_after.result folds (c.task_after.ensures (fold_of a.scenario a.entries.items).intervals)
     ∙ ap (λ h. option_map (task_view (fold_of a.scenario h)) (task_after (fold_of a.scenario h) pid)) c.self.invariant.history
     ∙ ap (λ (m : Machine). option_map (task_view (fold_of m.scenario (history_of m.scenario m.steps))) (task_after (fold_of m.scenario (history_of m.scenario m.steps)) pid)) c.self.view_is
@@ -30,11 +28,10 @@ shown : (g : _) (c : goal.After-view g) → Some c.view.result ≡ task_view_aft
 shown g c =
     let a = c.self.inside in
     let last = fold_of a.scenario a.entries.items in
-    let some : c.task_after.result ≡ Some c.in_ok-task.task = search rules in
     let folds = folds_of a c.self.invariant in
     let total = c.of.ensures ∙ total_kept a.scenario a.state a.entries.items c.in_ok-task.task.spec.pid folds in
     ap Some (c.view.ensures last total)
-    ∙ ap (option_map (task_view last)) (sym some)
+    ∙ ap (option_map (task_view last)) (sym c.in_ok-task.was)
     ∙ task_shown a.scenario a.state a.entries.items c.args.pid c.task_after.result folds (c.task_after.ensures (fold_of a.scenario a.entries.items).intervals)
 
 pub returns-clause-view : goal.returns-clause-view

@@ -4,7 +4,7 @@ use Rattle.std.specs.Vec.{with_items}
 use Rattle.std.proofs.lemmas.List.{with_items_is}
 use Rattle.cs_types.specs.declared.task.Task.{Task}
 use Rattle.cookie_refs.specs.Refs.{AgreeBut}
-use Rattle.cookie_refs.proofs.Agreements.{AgreeBut-with_cookie, own_cookie_is_live, count_of-le}
+use Rattle.cookie_refs.proofs.Agreements.{AgreeBut-with_cookie, held_cookie_is_live, own_cookie_is_live, count_of-le}
 use Rattle.forceidle_account.specs.Charges.{has_total}
 use Rattle.task_table.specs.Table.{Table}
 use Rattle.task_table.proofs.Tables.{rising_pairs}
@@ -95,3 +95,12 @@ returns g c =
         ends = refl;
       };
     }
+
+pub replace-requires-clause-agree : goal.replace-requires-clause-agree
+replace-requires-clause-agree g c = c.requires.sound.agree
+
+pub get-requires-clause-live : goal.get-requires-clause-live
+get-requires-clause-live g c = held_cookie_is_live c.args.self.now.refs c.args.self.now.tasks.tasks c.args.cookie c.requires.sound.refs
+
+pub overflow_add-self : goal.overflow_add-self
+overflow_add-self g c = omega (arith, ap (λ (b : BareCore). b.task_number) c.replace.ensures.bare, c.requires.touches, c.touches.ensures.few)
