@@ -1,12 +1,12 @@
 //! What a state begins with. It is apart since nothing of it is asked later.
 
-ghost use Rattle.std.specs.Prelude.{ℕ, true, ◌≡◌, ◌^◌, ◌<◌, ◌≤◌, [], length, All, IfOk, IsTrue, Some, slice_get};
+ghost use Rattle.std.specs.Prelude.{ℕ, true, ◌≡◌, ◌^◌, ◌<◌, ◌≤◌, length, All, IfOk, IsTrue};
 ghost use Rattle.std.specs.List.{list_any};
-ghost use Rattle.cs_types.specs.Scenario.{AreDistinct};
+ghost use Rattle.cs_types.specs.Scenario.{AreDistinct, IsPlayable};
 ghost use Rattle.cs_types.specs.Room.{first_pid, asleep_tasks, has_pid};
 ghost use Rattle.forceidle_account.specs.Charges.{has_total, total_at};
 ghost use Rattle.task_table.specs.Table.{IsSound as IsTable};
-ghost use Rattle.core_lanes.specs.Lanes.{bare, bare_start, queues_of};
+ghost use Rattle.core_lanes.specs.Lanes.{bare, bare_start, Agree};
 
 use core_lanes::{Core, SiblingQueue};
 use cs_types::{OutOfMemory, Pid, Scenario, TaskSpec};
@@ -52,22 +52,23 @@ pub fn totals_of(alloc: Global, tasks: &TaskTable, more: usize) -> Result<Totals
     Ok(totals)
 }
 
-/// The core before the first step, with a total of 0 for each task of the table, and capacity for `more` other totals.
-pub fn core_of<Q: SiblingQueue>(
+/// The core and its tasks before the first step, with a total of 0 for each task, and capacity for `more` other totals.
+pub fn core_and_tasks<Q: SiblingQueue>(
     alloc: Global,
     scenario: &Scenario,
-    tasks: &TaskTable,
     more: usize,
-) -> Result<Core<Q>, OutOfMemory>
-    requires few { scenario.now.siblings ≤ 16 }
+) -> Result<(Core<Q>, TaskTable), OutOfMemory>
+    requires playable { IsPlayable scenario.now }
     requires more { more < 2 ^ 32 }
-    ensures bare { IfOk result (λ core. bare core ≡ bare_start scenario.now.siblings core.totals) }
-    ensures held { IfOk result (λ core. (cpu : ℕ) (queue : _) → slice_get (queues_of core) cpu ≡ Some queue → Q.holds queue scenario.now.task_limit []) }
-    ensures known { IfOk result (λ core. All (λ task. IsTrue (has_total core.totals task.spec.pid)) tasks.now.tasks) }
-    ensures only { IfOk result (λ core. (pid : ℕ) → IsTrue (has_total core.totals pid) → list_any (has_pid pid) tasks.now.tasks ≡ true) }
-    ensures zero { IfOk result (λ core. (pid : ℕ) → total_at core.totals pid ≡ 0) }
-    ensures spare { IfOk result (λ core. core.totals.spare ≡ more) }
+    ensures core { IfOk result (λ both. bare both.0 ≡ bare_start scenario.now.siblings both.0.totals) }
+    ensures tasks { IfOk result (λ both. both.1 ≡ record { tasks = asleep_tasks scenario.now.tasks; limit = scenario.now.task_limit }) }
+    ensures agree { IfOk result (λ both. Agree both) }
+    ensures only { IfOk result (λ both. (pid : ℕ) → IsTrue (has_total both.0.totals pid) → list_any (has_pid pid) both.1.tasks ≡ true) }
+    ensures zero { IfOk result (λ both. (pid : ℕ) → total_at both.0.totals pid ≡ 0) }
+    ensures spare { IfOk result (λ both. both.0.totals.spare ≡ more) }
 {
-    let totals = totals_of(alloc, tasks, more)?;
-    Core::of(alloc, scenario.siblings, scenario.task_limit, totals)
+    let tasks = asleep_tasks(alloc, scenario.task_limit, scenario.tasks.items())?;
+    let totals = totals_of(alloc, &tasks, more)?;
+    let core = Core::of(alloc, scenario.siblings, scenario.task_limit, totals)?;
+    Ok((core, tasks))
 }

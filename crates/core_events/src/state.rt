@@ -7,7 +7,7 @@ ghost use Rattle.cs_types.specs.Room.{start, first_pid};
 ghost use Rattle.cs_types.specs.History.{beginning};
 ghost use Rattle.core_lanes.specs.Numbers.{numbers_of};
 
-use crate::start::{asleep_tasks, core_of, first_pid};
+use crate::start::{core_and_tasks, first_pid};
 use cookie_refs::CookieRefs;
 use core_lanes::{Core, SiblingQueue};
 use cs_types::{OutOfMemory, Pid, Scenario};
@@ -56,8 +56,7 @@ impl<Q: SiblingQueue> State<Q> {
     {
         let ended = Vec::with_capacity(alloc, most)?;
         let refs = CookieRefs::with_limit(alloc, scenario.cookie_limit)?;
-        let tasks = asleep_tasks(alloc, scenario.task_limit, scenario.tasks.items())?;
-        let core = core_of(alloc, scenario, &tasks, most)?;
+        let (core, tasks) = core_and_tasks(alloc, scenario, most)?;
         Ok(State {
             core,
             tasks,
