@@ -39,3 +39,6 @@ returns g c =
       numbers = c.loop-lane.invariant.numbers;
       queues = c.loop-lane.invariant.queues;
     }
+
+pub loop-lane-init : goal.loop-lane-init
+loop-lane-init g c = record { states = refl; numbers = refl; queues = refl }

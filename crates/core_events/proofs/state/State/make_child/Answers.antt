@@ -76,3 +76,6 @@ returns g c =
         };
       },
     )
+
+pub invariant_of-self : goal.invariant_of-self
+invariant_of-self g c = record { few = c.args.self.now.core.few }

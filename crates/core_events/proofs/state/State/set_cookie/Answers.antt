@@ -104,3 +104,6 @@ get-requires-clause-live g c = held_cookie_is_live c.args.self.now.refs c.args.s
 
 pub overflow_add-self : goal.overflow_add-self
 overflow_add-self g c = omega (arith, ap (λ (b : BareCore). b.task_number) c.replace.ensures.bare, c.requires.touches, c.touches.ensures.few)
+
+pub invariant_of-self : goal.invariant_of-self
+invariant_of-self g c = record { few = c.replace.new.self.few }
