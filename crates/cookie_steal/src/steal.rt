@@ -3,7 +3,7 @@
 ghost use Rattle.std.specs.Prelude.{◌≡◌, ◌+◌, ◌^◌, ◌<◌, ◌&&◌, ◌==◌, length, not, is_none, All};
 ghost use Rattle.cs_types.specs.Room.{sibling_of};
 ghost use Rattle.cs_types.specs.Selection.{first_on};
-ghost use Rattle.cs_types.specs.Steal.{source_of, with_stolen, next_place};
+ghost use Rattle.cs_types.specs.Steal.{source_of, steal, next_place};
 ghost use Rattle.task_table.specs.Table.{Table};
 ghost use Rattle.core_lanes.specs.Queued.{IsOf};
 ghost use Rattle.core_lanes.specs.Lanes.{Beside, room_of, Agree, HasLowTimes};
@@ -73,7 +73,7 @@ fn steal<Q: SiblingQueue, L: Ledger>(
     requires low { HasLowTimes (core.old, table.old) }
     requires stamp { core.old.next_stamp + 1 < 2 ^ 64 }
     requires touches { core.old.task_number + 2 < 2 ^ 64 }
-    ensures { Touches 2 (core.old, table.old) (core.new, table.new) (λ room. with_stolen room thief task) }
+    ensures { Touches 2 (core.old, table.old) (core.new, table.new) (λ room. steal room thief task) }
 {
     let moved = core.moved_to(thief, task);
     core.touch();

@@ -8,7 +8,7 @@ use Rattle.std.proofs.lemmas.List.{append-nil, map-id}
 use Rattle.std.proofs.Math.Seq.{take-length, drop-length}
 use Rattle.cs_types.specs.declared.task.Task.{Task}
 use Rattle.cs_types.specs.Room.{RoomState, SiblingState, absent, has_pid, sibling_of, queued_on, with_task, with_sibling}
-use Rattle.cs_types.specs.Time.{rotates, has_used_slice, sliced, least_of, fair_times, with_leasts}
+use Rattle.cs_types.specs.Time.{rotates, has_used_slice, begin_slice, least_of, fair_times, with_leasts}
 use Rattle.core_lanes.specs.Queued.{smallest_vtime}
 use Rattle.task_table.specs.Table.{Rises}
 use Rattle.task_table.proofs.Tables.{changed_each}
@@ -35,12 +35,12 @@ sliced_by room task used behind =
     })) { next_stamp = cond behind (room.next_stamp + 1) room.next_stamp }
 
 pub sliced_is : (room : RoomState) (cpu : ℕ) (task : Task) (used behind : Bool) → has_used_slice task ≡ used → rotates room cpu task ≡ behind →
-    sliced_by room task used behind ≡ sliced room cpu task
+    sliced_by room task used behind ≡ begin_slice room cpu task
 sliced_is room cpu task used behind is_used is_behind = λ i. sliced_by room task (sym is_used i) (sym is_behind i)
 
 -- where nothing is asked of it it goes on
 pub sliced_not : (room : RoomState) (cpu : ℕ) (task : Task) → Rises room.tasks → find (has_pid task.spec.pid) room.tasks ≡ Some task →
-    has_used_slice task ≡ false → rotates room cpu task ≡ false → room ≡ sliced room cpu task
+    has_used_slice task ≡ false → rotates room cpu task ≡ false → room ≡ begin_slice room cpu task
 sliced_not room cpu task rises found used behind =
     sym (with_task-same room task rises found) ∙ sliced_is room cpu task false false used behind
 

@@ -27,7 +27,7 @@ use Rattle.core_lanes.specs.Lanes.{IsFit, Agree}
 use Rattle.core_lanes.proofs.Stays.{queue_of}
 use Rattle.core_lanes.proofs.Queues.{is_on, others-absent, off_asleep}
 use Rattle.core_events.specs.State.{IsGiven}
-use Rattle.core_events.specs.Life.{is_refused}
+use Rattle.core_events.specs.Life.{may_not_fork_in}
 
 own_pid : (task : Task) → has_pid task.spec.pid task ≡ true
 own_pid task = eq-eqb task.spec.pid task.spec.pid refl
@@ -224,12 +224,12 @@ low_child old new next pid has low known =
 -- ---- the child of a fork
 
 -- where a child is made, the caller was found, and there was a place left
-pub caller_of : (table : Table) (found : Option Task) → fork_answer table found ≡ Ok tt → (by : Task) × (found ≡ Some by) × (is_refused table by ≡ false)
+pub caller_of : (table : Table) (found : Option Task) → fork_answer table found ≡ Ok tt → (by : Task) × (found ≡ Some by) × (may_not_fork_in table by ≡ false)
 caller_of table None made = absurd cc
 caller_of table (Some by) made = (
   by,
   refl,
-  elim (cases_Bool (is_refused table by)) [
+  elim (cases_Bool (may_not_fork_in table by)) [
     | inl refused ↦ let bad : Err Eagain ≡ Ok tt = sym (cond-true _ _ _ refused) ∙ made in absurd cc
     | inr allowed ↦ allowed
   ],

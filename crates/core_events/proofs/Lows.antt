@@ -4,8 +4,8 @@ use Rattle.std.specs.Prelude.{All, None}
 use Rattle.std.proofs.lemmas.List.Elements.{All-set, All-head, All-tail, All-filter}
 use Rattle.cs_types.specs.declared.task.Task.{Task}
 use Rattle.cs_types.specs.Room.{RoomState, SiblingState, absent, has_pid, sibling_of}
-use Rattle.cs_types.specs.Queueing.{dequeued}
-use Rattle.cs_types.specs.Step.{idled, without}
+use Rattle.cs_types.specs.Queueing.{dequeue}
+use Rattle.cs_types.specs.Step.{run_idle, without}
 use Rattle.std.specs.Prelude.{not}
 use Rattle.core_lanes.specs.Lanes.{AreLow}
 use Rattle.core_lanes.proofs.Replaced.{All-replaced}
@@ -20,7 +20,7 @@ at_place P [] cpu none all = none
 at_place P (s ∷ siblings) zero none all = All-head P s siblings all
 at_place P (s ∷ siblings) (suc cpu) none all = at_place P siblings cpu none (All-tail P s siblings all)
 
-pub low_idled : (room : RoomState) (cpu : ℕ) → HasLow room → HasLow (idled room cpu)
+pub low_idled : (room : RoomState) (cpu : ℕ) → HasLow room → HasLow (run_idle room cpu)
 low_idled room cpu low =
     let none : 0 < 2 ^ 100 = omega arith in
     let idle : SiblingState = record (sibling_of room cpu) { run = None } in
@@ -30,7 +30,7 @@ low_idled room cpu low =
       snapshots = All-set (λ (s : SiblingState). s.snapshot < 2 ^ 100) room.siblings cpu idle (at_place (λ (s : SiblingState). s.snapshot < 2 ^ 100) room.siblings cpu none low.snapshots) low.snapshots;
     }
 
-pub low_dequeued : (room : RoomState) (task : Task) → task.vtime < 2 ^ 100 → HasLow room → HasLow (dequeued room task)
+pub low_dequeued : (room : RoomState) (task : Task) → task.vtime < 2 ^ 100 → HasLow room → HasLow (dequeue room task)
 low_dequeued room task here low = record {
   vtimes = All-replaced (λ (t : Task). t.vtime < 2 ^ 100) (record task { queued = false }) room.tasks here low.vtimes;
   leasts = low.leasts;

@@ -7,7 +7,7 @@ use Rattle.cs_types.specs.declared.reply.Reply.{Reply}
 use Rattle.cs_types.specs.declared.reply.Reply.TheVariants.{Picked}
 use Rattle.cs_types.specs.declared.task.Task.{Task}
 use Rattle.cs_types.specs.Room.{RoomState, has_pid, sibling_of, queued_on}
-use Rattle.cs_types.specs.Selection.{schedule, balanced, picked_anew, adopted_or_picked_anew}
+use Rattle.cs_types.specs.Selection.{schedule, balance, pick_anew, adopt_or_pick_anew}
 use Rattle.cs_types.specs.Accounting.{charge}
 use Rattle.cs_types.proofs.Accounts.{account_of, charged_up_to, charge-again}
 use Rattle.core_lanes.specs.declared.queue.SiblingQueue.{Ghosts}
@@ -76,18 +76,18 @@ knows_as pair task old pid cookie there fits = record {
 -- ---- a pick that adopts nothing
 
 pub schedule_not_adopted : (room : RoomState) (fresh : Bool) (cpu : ℕ) → None ≡ cond fresh (sibling_of room cpu).waiting None →
-    schedule room fresh cpu ≡ balanced cpu (picked_anew (charge room) cpu)
-schedule_not_adopted room fresh cpu none = ap (balanced cpu) (not_adopted fresh (sibling_of room cpu).waiting none) where
-  not_adopted : (b : Bool) (waiting : Option (Option ℕ)) → None ≡ cond b waiting None → adopted_or_picked_anew room b cpu waiting ≡ picked_anew (charge room) cpu
+    schedule room fresh cpu ≡ balance cpu (pick_anew (charge room) cpu)
+schedule_not_adopted room fresh cpu none = ap (balance cpu) (not_adopted fresh (sibling_of room cpu).waiting none) where
+  not_adopted : (b : Bool) (waiting : Option (Option ℕ)) → None ≡ cond b waiting None → adopt_or_pick_anew room b cpu waiting ≡ pick_anew (charge room) cpu
   not_adopted b None e = refl
   not_adopted false (Some run) e = refl
   not_adopted true (Some run) e = absurd cc
 
 -- the pick of a sibling whose open interval was charged, and whose task is gone since
 pub picked_charged : (charged gone : RoomState) (cpu : ℕ) → charged_up_to (account_of gone) ≡ gone.clock → charged ≡ gone →
-    balanced cpu (picked_anew charged cpu) ≡ schedule gone false cpu
+    balance cpu (pick_anew charged cpu) ≡ schedule gone false cpu
 picked_charged charged gone cpu now is =
-    ap (λ (room : RoomState). balanced cpu (picked_anew room cpu)) (is ∙ sym (charge-again gone now))
+    ap (λ (room : RoomState). balance cpu (pick_anew room cpu)) (is ∙ sym (charge-again gone now))
     ∙ sym (schedule_not_adopted gone false cpu refl)
 
 -- ---- a sibling that leaves or comes back

@@ -12,9 +12,9 @@ use Rattle.cs_types.specs.declared.reply.Reply.{Reply}
 use Rattle.cs_types.specs.declared.reply.Reply.TheVariants.{Zero, Value, NoCaller, Refused}
 use Rattle.cs_types.specs.Room.{RoomState, SiblingState, Interval}
 use Rattle.cs_types.specs.Selection.{is_run}
-use Rattle.cs_types.specs.Prctl.{Setting, is_set, runs_one, with_cookies, with_made, with_answer, makes_cookie, setting_of, prctl_answer}
+use Rattle.cs_types.specs.Prctl.{Setting, is_set, runs_one, set_cookies, with_made, with_answer, makes_cookie, setting_of, prctl_answer}
 use Rattle.cs_types.specs.Touches.{cookie_touches, setting_touches}
-use Rattle.cs_types.proofs.Settings.{with_cookies-none, with_cookies-cons, setting_touches-cons}
+use Rattle.cs_types.proofs.Settings.{set_cookies-none, set_cookies-cons, setting_touches-cons}
 use Rattle.cs_types.proofs.Numbers.{touches_of_tasks-le}
 use Rattle.cs_types.proofs.Spots.{replaced_by}
 use Rattle.task_table.specs.declared.group.Group.{Group}
@@ -84,12 +84,12 @@ flagged_core touches pid core =
 pub sets_one : (beside : Beside) (limit next touches : ℕ) (old new : BareCore) (before after : Table) (task : Task) (cookie : ℕ) →
     Rises before.tasks → IsOf before.tasks task → after ≡ record before { tasks = map (replaced_by (record task { cookie = cookie })) before.tasks } →
     limit ≡ beside.cookie_limit → next ≡ beside.next_cookie → new ≡ flagged_core touches task.spec.pid old →
-    room_by (record beside { cookie_limit = limit; next_cookie = next }) new after ≡ with_cookies (room_by beside old before) (setting (task ∷ []) cookie)
-sets_one beside limit next touches old new before after task cookie rises there changed limits serial flagged =
+    room_by (record beside { cookie_limit = limit; next_cookie = next }) new after ≡ set_cookies (room_by beside old before) (setting (task ∷ []) cookie)
+sets_one beside limit next touches old new before after task cookie rises there changed limits serial flag =
     let each = ap (λ (table : Table). table.tasks) changed ∙ set_each cookie before.tasks task rises there in
     let flags = flagged_alike task cookie old.siblings in
-    (λ i. room_by (record beside { cookie_limit = limits i; next_cookie = serial i }) (flagged i) (record { tasks = each i; limit = (changed i).limit }))
-    ∙ (λ i. record (with_cookies (room_by beside old before) (setting (task ∷ []) cookie)) { siblings = flags i })
+    (λ i. room_by (record beside { cookie_limit = limits i; next_cookie = serial i }) (flag i) (record { tasks = each i; limit = (changed i).limit }))
+    ∙ (λ i. record (set_cookies (room_by beside old before) (setting (task ∷ []) cookie)) { siblings = flags i })
 
 -- so often the queues are touched for it alone
 pub touches_alone : (task : Task) (cookie touches : ℕ) → touches ≡ cookie_touches cookie task → touches ≡ setting_touches (setting (task ∷ []) cookie)
@@ -98,13 +98,13 @@ touches_alone task cookie touches is = omega (arith, is, setting_touches-cons ta
 -- ---- a group whose members get a cookie, one after the other
 
 module _ {Q : Type 0} {g : Ghosts Q} (old now : State Q g) (cookie : ℕ) (left all : List Task)
-    (room : (intervals : List Interval) → with_cookies (room_with intervals now) (setting left cookie) ≡ with_cookies (room_with intervals old) (setting all cookie))
+    (room : (intervals : List Interval) → set_cookies (room_with intervals now) (setting left cookie) ≡ set_cookies (room_with intervals old) (setting all cookie))
     (numbers : touched (setting_touches (setting left cookie)) (numbers_of now.core) ≡ touched (setting_touches (setting all cookie)) (numbers_of old.core)) where
   -- none is left
   pub group_done : left ≡ [] → StaysBut cookie old now → SetsCookies old now all cookie
   group_done none stays = record {
-    room = λ intervals. sym (with_cookies-none (room_with intervals now) cookie)
-        ∙ ap (λ (tasks : List Task). with_cookies (room_with intervals now) (setting tasks cookie)) (sym none) ∙ room intervals;
+    room = λ intervals. sym (set_cookies-none (room_with intervals now) cookie)
+        ∙ ap (λ (tasks : List Task). set_cookies (room_with intervals now) (setting tasks cookie)) (sym none) ∙ room intervals;
     numbers = sym (touched_none (numbers_of now.core))
         ∙ ap (λ (tasks : List Task). touched (setting_touches (setting tasks cookie)) (numbers_of now.core)) (sym none) ∙ numbers;
     stays = stays;
@@ -114,11 +114,11 @@ module _ {Q : Type 0} {g : Ghosts Q} (old now : State Q g) (cookie : ℕ) (left 
 
   -- one more gets it
   pub group_room : (next : State Q g) (task : Task) (rest : List Task) → left ≡ task ∷ rest → SetsCookies now next (task ∷ []) cookie →
-      (intervals : List Interval) → with_cookies (room_with intervals next) (setting rest cookie) ≡ with_cookies (room_with intervals old) (setting all cookie)
+      (intervals : List Interval) → set_cookies (room_with intervals next) (setting rest cookie) ≡ set_cookies (room_with intervals old) (setting all cookie)
   group_room next task rest is sets intervals =
-      ap (λ (r : RoomState). with_cookies r (setting rest cookie)) (sets.room intervals)
-      ∙ with_cookies-cons (room_with intervals now) task rest cookie
-      ∙ ap (λ (tasks : List Task). with_cookies (room_with intervals now) (setting tasks cookie)) (sym is) ∙ room intervals
+      ap (λ (r : RoomState). set_cookies r (setting rest cookie)) (sets.room intervals)
+      ∙ set_cookies-cons (room_with intervals now) task rest cookie
+      ∙ ap (λ (tasks : List Task). set_cookies (room_with intervals now) (setting tasks cookie)) (sym is) ∙ room intervals
 
   pub group_numbers : (next : State Q g) (task : Task) (rest : List Task) → left ≡ task ∷ rest → SetsCookies now next (task ∷ []) cookie →
       touched (setting_touches (setting rest cookie)) (numbers_of next.core) ≡ touched (setting_touches (setting all cookie)) (numbers_of old.core)
@@ -173,8 +173,8 @@ module _ {Q : Type 0} {g : Ghosts Q} (intervals : List Interval) (old mid after 
     (new_numbers : numbers_of new.core ≡ numbers_of after.core) where
   -- the room after it, whatever it sets
   new_room : room_with intervals new
-      ≡ with_cookies (with_made (room_with intervals old) (makes_cookie (room_with intervals old) pid ask)) (setting (named decision.to old.tasks.tasks) decision.cookie)
-  new_room = new_is ∙ made.room intervals ∙ ap (λ (r : RoomState). with_cookies r (setting (named decision.to old.tasks.tasks) decision.cookie)) mid_is
+      ≡ set_cookies (with_made (room_with intervals old) (makes_cookie (room_with intervals old) pid ask)) (setting (named decision.to old.tasks.tasks) decision.cookie)
+  new_room = new_is ∙ made.room intervals ∙ ap (λ (r : RoomState). set_cookies r (setting (named decision.to old.tasks.tasks) decision.cookie)) mid_is
 
   all_numbers : numbers_of new.core ≡ touched (setting_touches (setting (named decision.to old.tasks.tasks) decision.cookie)) (numbers_of old.core)
   all_numbers = new_numbers ∙ made.numbers ∙ ap (touched (setting_touches (setting (named decision.to old.tasks.tasks) decision.cookie))) mid_numbers
@@ -187,7 +187,7 @@ module _ {Q : Type 0} {g : Ghosts Q} (intervals : List Interval) (old mid after 
         uncharged (record {
           reply = sym answer;
           room = new_room
-              ∙ ap (with_cookies (with_made (room_with intervals old) (makes_cookie (room_with intervals old) pid ask))) set
+              ∙ ap (set_cookies (with_made (room_with intervals old) (makes_cookie (room_with intervals old) pid ask))) set
               ∙ ap (with_answer (with_made (room_with intervals old) (makes_cookie (room_with intervals old) pid ask)) (setting_of (room_with intervals old) pid ask)) (sym is ∙ sym answer);
           numbers = all_numbers
               ∙ ap (λ (s : Setting). touched (setting_touches s) (numbers_of old.core)) set
@@ -199,8 +199,8 @@ module _ {Q : Type 0} {g : Ghosts Q} (intervals : List Interval) (old mid after 
         uncharged (record {
           reply = sym answer;
           room = new_room
-              ∙ ap (with_cookies (with_made (room_with intervals old) (makes_cookie (room_with intervals old) pid ask))) nobody
-              ∙ with_cookies-none (with_made (room_with intervals old) (makes_cookie (room_with intervals old) pid ask)) decision.cookie
+              ∙ ap (set_cookies (with_made (room_with intervals old) (makes_cookie (room_with intervals old) pid ask))) nobody
+              ∙ set_cookies-none (with_made (room_with intervals old) (makes_cookie (room_with intervals old) pid ask)) decision.cookie
               ∙ ap (with_answer (with_made (room_with intervals old) (makes_cookie (room_with intervals old) pid ask)) (setting_of (room_with intervals old) pid ask)) (sym is ∙ sym answer);
           numbers = all_numbers
               ∙ ap (λ (s : Setting). touched (setting_touches s) (numbers_of old.core)) nobody

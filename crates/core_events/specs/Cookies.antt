@@ -3,7 +3,7 @@ use Rattle.std.specs.Prelude.{◌≡◌, ℕ, ◌||◌, List, Some}
 use Rattle.cs_types.specs.declared.task.Task.{Task}
 use Rattle.cs_types.specs.Room.{SiblingState}
 use Rattle.cs_types.specs.Selection.{is_run}
-use Rattle.cs_types.specs.Prctl.{Setting, with_cookies}
+use Rattle.cs_types.specs.Prctl.{Setting, set_cookies}
 use Rattle.cs_types.specs.Touches.{setting_touches}
 use Rattle.core_lanes.specs.declared.queue.SiblingQueue.{Ghosts}
 use Rattle.core_lanes.specs.Numbers.{numbers_of, touched}
@@ -21,6 +21,6 @@ flagged_for pid sibling = record sibling { pending = sibling.pending || is_run s
 
 -- the new state is the old one once these tasks got the cookie
 pub record SetsCookies {Q : Type 0} {g : Ghosts Q} (old new : State Q g) (tasks : List Task) (cookie : ℕ) : Type 0 where
-  pub room : Becomes old new (λ room. with_cookies room (setting tasks cookie))
+  pub room : Becomes old new (λ room. set_cookies room (setting tasks cookie))
   pub numbers : numbers_of new.core ≡ touched (setting_touches (setting tasks cookie)) (numbers_of old.core)
   pub stays : StaysBut cookie old new

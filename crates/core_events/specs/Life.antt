@@ -15,12 +15,12 @@ use Rattle.core_events.specs.State.{Stays}
 use Rattle.core_events.specs.Steps.{Becomes}
 
 -- whether a fork by the task is refused
-abbrev pub is_refused : Table → Task → Bool
-is_refused table by = (length table.tasks == table.limit) || (class_of by.spec.policy == deadline_class)
+abbrev pub may_not_fork_in : Table → Task → Bool
+may_not_fork_in table by = (length table.tasks == table.limit) || (class_of by.spec.policy == deadline_class)
 
 -- the new state is the old one with this child, of this caller
 pub record IsBorn {Q : Type 0} {g : Ghosts Q} (old new : State Q g) (by : Task) (thread : Bool) (child : Task) : Type 0 where
-  pub allowed : is_refused old.tasks by ≡ false
+  pub allowed : may_not_fork_in old.tasks by ≡ false
   pub is : child ≡ child_of by thread old.next_pid
   pub there : IsOf new.tasks.tasks child
   pub room : Becomes old new (λ room. with_child room child)
@@ -32,4 +32,4 @@ abbrev pub MakesChild : {Q : Type 0} {g : Ghosts Q} → State Q g → State Q g 
 MakesChild old new caller thread (Ok child) = (by : Task) × (find (has_pid caller) old.tasks.tasks ≡ Some by) × IsBorn old new by thread child
 MakesChild old new caller thread (Err NoCaller) = (find (has_pid caller) old.tasks.tasks ≡ None) × (new ≡ old)
 MakesChild old new caller thread (Err Eagain) =
-    (by : Task) × (find (has_pid caller) old.tasks.tasks ≡ Some by) × (is_refused old.tasks by ≡ true) × (new ≡ old)
+    (by : Task) × (find (has_pid caller) old.tasks.tasks ≡ Some by) × (may_not_fork_in old.tasks by ≡ true) × (new ≡ old)

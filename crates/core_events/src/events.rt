@@ -2,7 +2,7 @@
 
 ghost use Rattle.std.specs.Prelude.{◌≡◌, ◌+◌, ◌^◌, ◌<◌, ◌≤◌, length};
 ghost use Rattle.cs_types.specs.Scenario.{IsPolicy, IsEvent};
-ghost use Rattle.cs_types.specs.Step.{child_at_home, requeued, with_policy};
+ghost use Rattle.cs_types.specs.Step.{child_at_home, requeue, with_policy};
 ghost use Rattle.task_table.specs.Table.{Table};
 ghost use Rattle.core_lanes.specs.Lanes.{Beside, at, room_of, Agree, KnowsApart};
 ghost use Rattle.core_events.specs.Moments.{TouchesAt};
@@ -85,7 +85,7 @@ fn requeue<Q: SiblingQueue, L: Ledger>(
     requires clock { now + 1000000000 < 2 ^ 56 }
     requires stamp { core.old.next_stamp + 1 < 2 ^ 64 }
     requires touches { core.old.task_number + 2 < 2 ^ 64 }
-    ensures { TouchesAt now 2 (core.old, table.old) (core.new, table.new) (λ room. requeued room task) }
+    ensures { TouchesAt now 2 (core.old, table.old) (core.new, table.new) (λ room. requeue room task) }
 {
     let runs = core.lanes[task.home as usize].runs(task.spec.pid);
     core.dequeue(table, task, steps);
@@ -125,7 +125,8 @@ impl<Q: SiblingQueue> State<Q> {
     }
 
     /// The running task goes to sleep, and its sibling takes the next. The open interval is charged while the
-    /// task still runs.
+    /// task still runs. The charge of a schedule, at the same moment, would record nothing, so the sibling only
+    /// picks anew.
     fn block<L: Ledger>(&mut self, cpu: Cpu, steps: &mut Steps<L>) -> Reply
         requires cpu { cpu < length self.old.core.lanes.items }
         requires ready { IsReady self.old }
@@ -139,14 +140,15 @@ impl<Q: SiblingQueue> State<Q> {
         };
         charge(&mut self.core, &self.tasks, self.clock);
         self.core.dequeue(&mut self.tasks, task, steps);
-        self.core.idle(cpu);
+        self.core.run_idle(cpu);
         Reply::Slept {
             pid: task.spec.pid,
             pick: pick_and_balance(&mut self.core, &mut self.tasks, cpu, self.clock, steps),
         }
     }
 
-    /// The running task ends, unless it leads others, and its sibling takes the next.
+    /// The running task ends, unless it leads others, and its sibling takes the next. The open interval is
+    /// charged as at a block.
     fn exit<L: Ledger>(&mut self, cpu: Cpu, steps: &mut Steps<L>) -> Reply
         requires cpu { cpu < length self.old.core.lanes.items }
         requires ready { IsReady self.old }
@@ -163,7 +165,7 @@ impl<Q: SiblingQueue> State<Q> {
         }
         charge(&mut self.core, &self.tasks, self.clock);
         self.end(task, steps);
-        self.core.idle(cpu);
+        self.core.run_idle(cpu);
         Reply::Ended {
             pid: task.spec.pid,
             pick: pick_and_balance(&mut self.core, &mut self.tasks, cpu, self.clock, steps),
@@ -243,7 +245,7 @@ impl<Q: SiblingQueue> State<Q> {
     }
 
     /// The sibling leaves the core, unless it is offline already or the last.
-    fn offline<L: Ledger>(&mut self, cpu: Cpu, steps: &mut Steps<L>) -> Reply
+    fn take_offline<L: Ledger>(&mut self, cpu: Cpu, steps: &mut Steps<L>) -> Reply
         requires cpu { cpu < length self.old.core.lanes.items }
         requires ready { IsReady self.old }
         ensures { Makes self.old self.new (Event.Offline cpu) result }
@@ -252,7 +254,7 @@ impl<Q: SiblingQueue> State<Q> {
     }
 
     /// The sibling comes back, unless it is online already.
-    fn online(&mut self, cpu: Cpu) -> Reply
+    fn bring_online(&mut self, cpu: Cpu) -> Reply
         requires cpu { cpu < length self.old.core.lanes.items }
         ensures { Makes self.old self.new (Event.Online cpu) result }
     {
@@ -276,8 +278,8 @@ impl<Q: SiblingQueue> State<Q> {
             Event::Fork { caller, thread } => self.fork(caller, thread, steps),
             Event::Prctl { caller, ask } => self.prctl(caller, ask, steps),
             Event::SetSched { pid, policy } => self.set_policy(pid, policy, steps),
-            Event::Offline(cpu) => self.offline(cpu, steps),
-            Event::Online(cpu) => self.online(cpu),
+            Event::Offline(cpu) => self.take_offline(cpu, steps),
+            Event::Online(cpu) => self.bring_online(cpu),
         }
     }
 }

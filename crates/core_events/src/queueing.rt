@@ -4,7 +4,7 @@
 ghost use Rattle.std.specs.Prelude.{◌≡◌, ◌+◌, ◌^◌, ◌<◌, length, map, All};
 ghost use Rattle.cs_types.specs.Scenario.{IsPolicy};
 ghost use Rattle.cs_types.specs.Room.{lowest_online};
-ghost use Rattle.cs_types.specs.Queueing.{online_home, rehomed, preempts, refreshed, queued_at_home};
+ghost use Rattle.cs_types.specs.Queueing.{online_home, rehomed, preempts, refreshed, queue_at_home};
 ghost use Rattle.task_table.specs.Table.{Table};
 ghost use Rattle.core_lanes.specs.Lanes.{Beside, at, lane_state, room_of, Agree, KnowsApart};
 ghost use Rattle.core_events.specs.Moments.{TouchesAt};
@@ -104,7 +104,7 @@ pub fn queue_at_home<Q: SiblingQueue, L: Ledger>(
     requires clock { now + 1000000000 < 2 ^ 56 }
     requires stamp { core.old.next_stamp + 1 < 2 ^ 64 }
     requires touches { core.old.task_number + 1 < 2 ^ 64 }
-    ensures { TouchesAt now 1 (core.old, table.old) (core.new, table.new) (λ room. queued_at_home room task) }
+    ensures { TouchesAt now 1 (core.old, table.old) (core.new, table.new) (λ room. queue_at_home room task) }
 {
     let fresh = refreshed(core, task, now);
     let preempts = preempts(core, table, &fresh);

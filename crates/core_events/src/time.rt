@@ -5,9 +5,9 @@ ghost use Rattle.std.specs.Prelude.{◌≡◌, ℕ, ◌+◌, ◌*◌, ◌^◌, �
 ghost use Rattle.cs_types.specs.declared.reply.Reply.TheVariants.{Ticked};
 ghost use Rattle.cs_types.specs.Scenario.{IsPolicy};
 ghost use Rattle.cs_types.specs.Room.{running_on};
-ghost use Rattle.cs_types.specs.Step.{ticked};
+ghost use Rattle.cs_types.specs.Step.{tick};
 ghost use Rattle.cs_types.specs.Time as time;
-ghost use Rattle.cs_types.specs.Time.{grown_by, grown, with_leasts, has_used_slice, rotates, is_overtaken, is_to_yield, asks_at_tick, sliced};
+ghost use Rattle.cs_types.specs.Time.{grown_by, grown, with_leasts, has_used_slice, rotates, is_overtaken, is_to_yield, asks_at_tick, begin_slice};
 ghost use Rattle.core_lanes.specs.Queued.{IsOf};
 ghost use Rattle.core_lanes.specs.Lanes.{Beside, at, lane_state, room_of, Agree};
 ghost use Rattle.core_lanes.specs.Changes.{Changes};
@@ -280,7 +280,7 @@ fn begin_slice<Q: SiblingQueue, L: Ledger>(
     requires agree { Agree (core.old, table.old) }
     requires stamp { core.old.next_stamp + 1 < 2 ^ 64 }
     ensures { (cpu : ℕ) → ((beside : Beside) → rotates ≡ time.rotates (room_of beside (core.old, table.old)) cpu task) →
-        Changes (core.old, table.old) (core.new, table.new) (λ room. sliced room cpu task) }
+        Changes (core.old, table.old) (core.new, table.new) (λ room. begin_slice room cpu task) }
 {
     if rotates {
         let stamp = core.next_stamp;
@@ -310,8 +310,8 @@ pub fn tick<Q: SiblingQueue, L: Ledger>(
     requires paid { IsPaid now core.old }
     requires stamp { core.old.next_stamp + 1 < 2 ^ 64 }
     ensures asks { (beside : Beside) → let room = room_of (at now beside) (core.old, table.old) in
-        Ticked result ≡ (ticked room cpu (running_on room cpu)).reply }
-    ensures charges { Charges now (core.old, table.old) (core.new, table.new) (λ room. (ticked room cpu (running_on room cpu)).room) }
+        Ticked result ≡ (tick room cpu (running_on room cpu)).reply }
+    ensures charges { Charges now (core.old, table.old) (core.new, table.new) (λ room. (tick room cpu (running_on room cpu)).room) }
 {
     charge(core, table, now);
     let Some(task) = core.running_on(table, cpu) else {

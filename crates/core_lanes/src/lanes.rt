@@ -1,11 +1,11 @@
 //! The core.
 
 ghost use Rattle.std.specs.Prelude.{◌≡◌, ℕ, [], ◌+◌, ◌^◌, ◌<◌, ◌≤◌, length, map, find, All, Some, IfOk, IfSome, slice_get, IsTrue, if◌then◌else◌};
-ghost use Rattle.cs_types.specs.Room.{has_pid, is_online, running_on, with_task, flagged};
+ghost use Rattle.cs_types.specs.Room.{has_pid, is_online, running_on, with_task, flag};
 ghost use Rattle.cs_types.specs.Selection.{first_on};
-ghost use Rattle.cs_types.specs.Step.{idled};
-ghost use Rattle.cs_types.specs.Steal.{with_place};
-ghost use Rattle.cs_types.specs.Queueing.{enqueued, dequeued, moved_to};
+ghost use Rattle.cs_types.specs.Step.{run_idle};
+ghost use Rattle.cs_types.specs.Steal.{set_place};
+ghost use Rattle.cs_types.specs.Queueing.{enqueue, dequeue, moved_to};
 ghost use Rattle.task_table.specs.Table.{Table, IsSound as IsTable};
 ghost use Rattle.core_lanes.specs.Queued.{IsOf};
 
@@ -127,9 +127,9 @@ impl<Q: SiblingQueue> Core<Q> {
     }
 
     /// The sibling runs idle.
-    pub fn idle(&mut self, cpu: Cpu)
+    pub fn run_idle(&mut self, cpu: Cpu)
         requires { cpu < length self.old.lanes.items }
-        ensures { (table : Table) → Changes (self.old, table) (self.new, table) (λ room. idled room cpu) }
+        ensures { (table : Table) → Changes (self.old, table) (self.new, table) (λ room. run_idle room cpu) }
     {
         self.lanes[cpu as usize].run = None;
     }
@@ -137,7 +137,7 @@ impl<Q: SiblingQueue> Core<Q> {
     /// The sibling is pending where it was, and where the test says so (`resched_curr`).
     pub fn flag(&mut self, cpu: Cpu, test: bool)
         requires { cpu < length self.old.lanes.items }
-        ensures { (table : Table) → Changes (self.old, table) (self.new, table) (λ room. flagged room cpu test) }
+        ensures { (table : Table) → Changes (self.old, table) (self.new, table) (λ room. flag room cpu test) }
     {
         self.lanes[cpu as usize].pending |= test;
     }
@@ -145,7 +145,7 @@ impl<Q: SiblingQueue> Core<Q> {
     /// The sibling's next try to steal is at this place.
     pub fn set_place(&mut self, cpu: Cpu, place: u32)
         requires { cpu < length self.old.lanes.items }
-        ensures { (table : Table) → Changes (self.old, table) (self.new, table) (λ room. with_place room cpu place) }
+        ensures { (table : Table) → Changes (self.old, table) (self.new, table) (λ room. set_place room cpu place) }
     {
         self.lanes[cpu as usize].place = place;
     }
@@ -211,7 +211,7 @@ impl<Q: SiblingQueue> Core<Q> {
         requires knows { KnowsApart (self.old, table.old) task }
         requires agree { Agree (self.old, table.old) }
         requires touches { self.old.task_number + 1 < 2 ^ 64 }
-        ensures { Touches 1 (self.old, table.old) (self.new, table.new) (λ room. dequeued room task) }
+        ensures { Touches 1 (self.old, table.old) (self.new, table.new) (λ room. dequeue room task) }
     {
         let asleep = Task {
             queued: false,
@@ -227,7 +227,7 @@ impl<Q: SiblingQueue> Core<Q> {
         requires agree { Agree (self.old, table.old) }
         requires stamp { self.old.next_stamp + 1 < 2 ^ 64 }
         requires touches { self.old.task_number + 1 < 2 ^ 64 }
-        ensures { Touches 1 (self.old, table.old) (self.new, table.new) (λ room. enqueued room task) }
+        ensures { Touches 1 (self.old, table.old) (self.new, table.new) (λ room. enqueue room task) }
     {
         let stamp = self.next_stamp;
         self.next_stamp += 1;

@@ -3,7 +3,7 @@ use Rattle.std.proofs.Common.{◌≡◌, ℕ, Bool, true, false, cond, refl, sub
 use Rattle.std.specs.Prelude.{Option, Some, None}
 use Rattle.cs_types.specs.declared.reply.Pick.{Pick}
 use Rattle.cs_types.specs.Room.{RoomState, sibling_of}
-use Rattle.cs_types.specs.Selection.{Scheduled, adopted, picked_anew, adopted_or_picked_anew}
+use Rattle.cs_types.specs.Selection.{Scheduled, adopt, pick_anew, adopt_or_pick_anew}
 use Rattle.cs_types.specs.Accounting.{charge}
 use Rattle.task_table.specs.Table.{Table}
 use Rattle.core_lanes.specs.declared.queue.SiblingQueue.{Ghosts}
@@ -16,21 +16,21 @@ use Rattle.core_pick.specs.Schedules.{Schedules, ChargesAndSchedules}
 
 -- nothing may be adopted, or this may
 pub is_not_adopted : (room : RoomState) (fresh : Bool) (cpu : ℕ) → None ≡ cond fresh (sibling_of room cpu).waiting None →
-    adopted_or_picked_anew room fresh cpu (sibling_of room cpu).waiting ≡ picked_anew (charge room) cpu
+    adopt_or_pick_anew room fresh cpu (sibling_of room cpu).waiting ≡ pick_anew (charge room) cpu
 is_not_adopted room fresh cpu none = go fresh (sibling_of room cpu).waiting none where
-  go : (b : Bool) (waiting : Option (Option ℕ)) → None ≡ cond b waiting None → adopted_or_picked_anew room b cpu waiting ≡ picked_anew (charge room) cpu
+  go : (b : Bool) (waiting : Option (Option ℕ)) → None ≡ cond b waiting None → adopt_or_pick_anew room b cpu waiting ≡ pick_anew (charge room) cpu
   go b None e = refl
   go false (Some run) e = refl
   go true (Some run) e = absurd cc
 
 pub is_adopted : (room : RoomState) (fresh : Bool) (cpu : ℕ) (run : Option ℕ) → Some run ≡ cond fresh (sibling_of room cpu).waiting None →
-    adopted_or_picked_anew room fresh cpu (sibling_of room cpu).waiting ≡ adopted room cpu run
+    adopt_or_pick_anew room fresh cpu (sibling_of room cpu).waiting ≡ adopt room cpu run
 is_adopted room fresh cpu run some = go fresh (sibling_of room cpu).waiting some where
-  go : (b : Bool) (waiting : Option (Option ℕ)) → Some run ≡ cond b waiting None → adopted_or_picked_anew room b cpu waiting ≡ adopted room cpu run
+  go : (b : Bool) (waiting : Option (Option ℕ)) → Some run ≡ cond b waiting None → adopt_or_pick_anew room b cpu waiting ≡ adopt room cpu run
   go true None e = absurd cc
   go false None e = absurd cc
   go false (Some other) e = absurd cc
-  go true (Some other) e = let same : other ≡ run = cc in ap (adopted room cpu) same
+  go true (Some other) e = let same : other ≡ run = cc in ap (adopt room cpu) same
 
 -- ---- one change by another
 

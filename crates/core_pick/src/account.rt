@@ -1,5 +1,5 @@
-//! What is charged for forced idle, and to whom. It is a file of its own since a tick, a sleep, an end and
-//! a schedule all charge.
+//! What is charged for forced idle, and to whom. It is a file of its own since a tick, a block, an exit, a
+//! sibling that leaves and a schedule all charge.
 
 ghost use Rattle.std.specs.Prelude.{◌≡◌, ℕ, ◌+◌, ◌^◌, ◌<◌, if◌then◌else◌, map, All, IsTrue};
 ghost use Rattle.std.specs.List.{list_any};

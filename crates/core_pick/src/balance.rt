@@ -3,7 +3,7 @@
 
 ghost use Rattle.std.specs.Prelude.{◌≡◌, ◌<◌, length, if◌then◌else◌};
 ghost use Rattle.cs_types.specs.Selection.{is_to_steal};
-ghost use Rattle.cs_types.specs.Steal.{with_place};
+ghost use Rattle.cs_types.specs.Steal.{set_place};
 ghost use Rattle.core_lanes.specs.Lanes.{Beside, room_of, Agree};
 ghost use Rattle.core_lanes.specs.Changes.{Changes};
 
@@ -41,7 +41,7 @@ pub fn balance<Q: SiblingQueue, L: Ledger>(
     requires cpu { cpu < length core.old.lanes.items }
     requires agree { Agree (core.old, table.now) }
     ensures { Changes (core.old, table.now) (core.new, table.now)
-        (λ room. with_place room cpu (if is_to_steal room cpu then 1 else 0)) }
+        (λ room. set_place room cpu (if is_to_steal room cpu then 1 else 0)) }
 {
     let place = u32::from(is_to_steal(core, table, cpu, steps));
     core.set_place(cpu, place);

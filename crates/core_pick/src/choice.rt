@@ -3,7 +3,7 @@
 
 ghost use Rattle.std.specs.Prelude.{◌≡◌, ℕ, ◌≤◌, ◌&&◌, count_by, is_some, length, map, find, Some, IfSome};
 ghost use Rattle.cs_types.specs.Room.{RoomState, has_pid};
-ghost use Rattle.cs_types.specs.Selection.{occupation_of, renews_snapshots, selected_room};
+ghost use Rattle.cs_types.specs.Selection.{occupation_of, renews_snapshots, select_for};
 ghost use Rattle.task_table.specs.Table.{IsSound as IsTable};
 ghost use Rattle.core_lanes.specs.Lanes.{lane_state};
 ghost use Rattle.core_pick.specs.Choice.{choices_of, chosen_task, task_after_choice, task_after_choices};
@@ -96,7 +96,7 @@ pub fn update_siblings<Q: Drop>(
     requires few { length lanes.old ≤ 16 }
     ensures states { (room : RoomState) (cookie : ℕ) → room.siblings ≡ map lane_state lanes.old → choices.now ≡ choices_of room cookie →
         occupation ≡ occupation_of room cookie → renews ≡ renews_snapshots room cookie →
-        map lane_state lanes.new ≡ (selected_room room selector cookie).siblings }
+        map lane_state lanes.new ≡ (select_for room selector cookie).siblings }
     ensures numbers { map (λ lane. lane.number) lanes.new ≡ map (λ lane. lane.number) lanes.old }
     ensures queues { map (λ lane. lane.queue) lanes.new ≡ map (λ lane. lane.queue) lanes.old }
 {

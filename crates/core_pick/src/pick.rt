@@ -2,7 +2,7 @@
 
 ghost use Rattle.std.specs.Prelude.{◌≡◌, ℕ, ◌+◌, ◌^◌, ◌<◌, length, ◌==◌, ◌&&◌, ◌||◌, is_some, None, IfSome, IfNone, if◌then◌else◌};
 ghost use Rattle.cs_types.specs.Room.{sibling_of, is_online};
-ghost use Rattle.cs_types.specs.Selection.{cookie_of, lead_from, pid_of, choice, forced_count, is_plain, adopted, plain, selected_room, selected, picked_anew, adopted_or_picked_anew, balanced, schedule};
+ghost use Rattle.cs_types.specs.Selection.{cookie_of, lead_from, pid_of, choice, forced_count, is_plain, adopt, pick_plain, select_for, select, pick_anew, adopt_or_pick_anew, balance, schedule};
 ghost use Rattle.task_table.specs.Table.{Table};
 ghost use Rattle.core_lanes.specs.Lanes.{Beside, at, room_of, Agree};
 ghost use Rattle.core_lanes.specs.Numbers.{numbers_of, is_fresh_by};
@@ -37,7 +37,7 @@ fn adoptable<Q: SiblingQueue>(core: &Core<Q>, cpu: Cpu) -> Option<Option<Pid>>
 /// The sibling runs what waits for it.
 fn adopt<Q: SiblingQueue>(core: &mut Core<Q>, cpu: Cpu, waiting: Option<Pid>) -> Pick
     requires { cpu < length core.old.lanes.items }
-    ensures { (now : ℕ) (table : Table) → Schedules now (core.old, table) (core.new, table) cpu result (λ room. adopted room cpu waiting) }
+    ensures { (now : ℕ) (table : Table) → Schedules now (core.old, table) (core.new, table) cpu result (λ room. adopt room cpu waiting) }
 {
     let lane = &mut core.lanes[cpu as usize];
     run(lane, waiting);
@@ -84,7 +84,7 @@ fn pick_plain<Q: SiblingQueue, L: Ledger>(
     requires cpu { cpu < length core.old.lanes.items }
     requires agree { Agree (core.old, table.now) }
     requires touches { core.old.task_number + 1 < 2 ^ 64 }
-    ensures { (now : ℕ) → Schedules now (core.old, table.now) (core.new, table.now) cpu result (λ room. plain room cpu) }
+    ensures { (now : ℕ) → Schedules now (core.old, table.now) (core.new, table.now) cpu result (λ room. pick_plain room cpu) }
 {
     let first = core.first_on(table, cpu, steps);
     let pid = pid_of(first);
@@ -124,7 +124,7 @@ fn select_for<Q: SiblingQueue, L: Ledger>(
     requires lead { (beside : Beside) → cookie ≡ cookie_of (lead_from (room_of beside (core.old, table.old)) cpu) }
     requires clock { now < 2 ^ 56 }
     ensures room { (beside : Beside) →
-        room_of (at now beside) (core.new, table.new) ≡ selected_room (room_of (at now beside) (core.old, table.old)) cpu cookie }
+        room_of (at now beside) (core.new, table.new) ≡ select_for (room_of (at now beside) (core.old, table.old)) cpu cookie }
     ensures numbers { numbers_of core.new ≡ numbers_of core.old }
     ensures stays { Stays (core.old, table.old) (core.new, table.new) }
     ensures run { (beside : Beside) → result ≡ pid_of (choice (room_of beside (core.old, table.old)) cookie cpu) }
@@ -152,7 +152,7 @@ fn select<Q: SiblingQueue, L: Ledger>(
 ) -> Pick
     requires cpu { cpu < length core.old.lanes.items }
     requires may { MayPick now (core.old, table.old) }
-    ensures { Schedules now (core.old, table.old) (core.new, table.new) cpu result (λ room. selected room cpu) }
+    ensures { Schedules now (core.old, table.old) (core.new, table.new) cpu result (λ room. select room cpu) }
 {
     let cookie = cookie_of(lead_from(core, table, cpu, steps));
     let run = select_for(core, table, cpu, cookie, now, steps);
@@ -179,7 +179,7 @@ fn pick_anew<Q: SiblingQueue, L: Ledger>(
 ) -> Pick
     requires cpu { cpu < length core.old.lanes.items }
     requires may { MayPick now (core.old, table.old) }
-    ensures { Schedules now (core.old, table.old) (core.new, table.new) cpu result (λ room. picked_anew room cpu) }
+    ensures { Schedules now (core.old, table.old) (core.new, table.new) cpu result (λ room. pick_anew room cpu) }
 {
     if is_plain(core, table, cpu, steps) {
         pick_plain(core, table, cpu, steps)
@@ -198,7 +198,7 @@ pub fn pick_and_balance<Q: SiblingQueue, L: Ledger>(
 ) -> Pick
     requires cpu { cpu < length core.old.lanes.items }
     requires may { MayPick now (core.old, table.old) }
-    ensures { Schedules now (core.old, table.old) (core.new, table.new) cpu result (λ room. balanced cpu (picked_anew room cpu)) }
+    ensures { Schedules now (core.old, table.old) (core.new, table.new) cpu result (λ room. balance cpu (pick_anew room cpu)) }
 {
     let pick = pick_anew(core, table, cpu, now, steps);
     balance(core, table, cpu, steps);
@@ -217,7 +217,7 @@ fn adopt_or_pick_anew<Q: SiblingQueue, L: Ledger>(
     requires cpu { cpu < length core.old.lanes.items }
     requires may { MaySchedule now (core.old, table.old) }
     ensures { ChargesAndSchedules now (core.old, table.old) (core.new, table.new) cpu result
-        (λ room. adopted_or_picked_anew room (is_fresh_by (numbers_of core.old)) cpu (sibling_of room cpu).waiting) }
+        (λ room. adopt_or_pick_anew room (is_fresh_by (numbers_of core.old)) cpu (sibling_of room cpu).waiting) }
 {
     match adoptable(core, cpu) {
         Some(waiting) => adopt(core, cpu, waiting),

@@ -7,13 +7,13 @@ use Rattle.cs_types.specs.declared.reply.Errno.TheVariants.{Ebusy}
 use Rattle.cs_types.specs.Room.{RoomState, is_online, online}
 use Rattle.cs_types.specs.Hotplug.{leave, with_sibling_back}
 use Rattle.cs_types.specs.Accounting.{charge}
-use Rattle.cs_types.specs.Step.{taken_offline, brought_online}
+use Rattle.cs_types.specs.Step.{take_offline, bring_online}
 use Rattle.forceidle_account.specs.Account.{Account}
-use Rattle.cpu_hotplug.specs.Leaves.{left, with_moves}
+use Rattle.cpu_hotplug.specs.Leaves.{left, move_off}
 
 -- a sibling is taken offline
 pub offline_step : (room : RoomState) (cpu : ℕ) (is_there alone : Bool) → is_online room cpu ≡ is_there → (length (online room) == 1) ≡ alone →
-    taken_offline room cpu
+    take_offline room cpu
     ≡ cond (not is_there) (record { reply = Already; room = room })
     (cond alone (record { reply = Refused Ebusy; room = room }) (record { reply = Done; room = leave room cpu }))
 offline_step room cpu is_there alone there_is alone_is =
@@ -22,7 +22,7 @@ offline_step room cpu is_there alone there_is alone_is =
 
 -- a sibling is brought back
 pub online_step : (room : RoomState) (cpu : ℕ) (is_there : Bool) → is_online room cpu ≡ is_there →
-    brought_online room cpu ≡ cond is_there (record { reply = Already; room = room }) (record { reply = Done; room = with_sibling_back room cpu })
+    bring_online room cpu ≡ cond is_there (record { reply = Already; room = room }) (record { reply = Done; room = with_sibling_back room cpu })
 online_step room cpu is_there there_is =
     λ i. cond (there_is i) (record { reply = Already; room = room }) (record { reply = Done; room = with_sibling_back room cpu })
 
@@ -39,6 +39,6 @@ closed_is room account count occupation started = λ i. record room { forced = c
 
 -- The interval is charged and closed, the tasks move, and the sibling is away: so it leaves.
 pub leave_is : (room : RoomState) (cpu : ℕ) →
-    record (with_moves (closed (charge room)) cpu) { siblings = map (left cpu) (enumerate_from 0 room.siblings) } ≡ leave room cpu
+    record (move_off (closed (charge room)) cpu) { siblings = map (left cpu) (enumerate_from 0 room.siblings) } ≡ leave room cpu
 unfolding leave
 leave_is room cpu = refl

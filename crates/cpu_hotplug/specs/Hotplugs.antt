@@ -3,7 +3,7 @@ use Rattle.std.specs.Prelude.{◌≡◌, ◌≢◌, ℕ, ◌*◌, length}
 use Rattle.cs_types.specs.declared.reply.Reply.{Reply}
 use Rattle.cs_types.specs.declared.reply.Reply.TheVariants as answer
 use Rattle.cs_types.specs.declared.reply.Errno.TheVariants.{Ebusy}
-use Rattle.cs_types.specs.Step.{taken_offline, brought_online}
+use Rattle.cs_types.specs.Step.{take_offline, bring_online}
 use Rattle.task_table.specs.Table.{Table}
 use Rattle.core_lanes.specs.declared.queue.SiblingQueue.{Ghosts}
 use Rattle.core_lanes.specs.declared.lanes.Core.{Core}
@@ -29,18 +29,18 @@ leave_touches Already queued = 0
 -- The new room and the answer are those of an ask at this moment that the sibling leaves. The open interval is charged
 -- where it does, and else nothing changes.
 pub record TakesOffline {Q : Type 0} {g : Ghosts Q} (now : ℕ) (old new : Core Q g × Table) (cpu : ℕ) (made : Hotplug) : Type 0 where
-  pub reply : (beside : Beside) → reply_of made ≡ (taken_offline (room_of (at now beside) old) cpu).reply
-  pub room : BecomesCharged now old new (λ room. (taken_offline room cpu).room)
+  pub reply : (beside : Beside) → reply_of made ≡ (take_offline (room_of (at now beside) old) cpu).reply
+  pub room : BecomesCharged now old new (λ room. (take_offline room cpu).room)
   pub numbers : (beside : Beside) → IsBooked (room_of (at now beside) old) old.0 →
       numbers_of new.0
-      ≡ touched (leave_touches made (length (queued_among old.1.tasks cpu))) (booked (taken_offline (room_of (at now beside) old) cpu).room (numbers_of old.0))
+      ≡ touched (leave_touches made (length (queued_among old.1.tasks cpu))) (booked (take_offline (room_of (at now beside) old) cpu).room (numbers_of old.0))
   pub unchanged : made ≢ Done → new ≡ old
   pub stays : Stays old new
 
 -- the new room and the answer are those of an ask that the sibling comes back, and where it does not nothing changes
 pub record BringsOnline {Q : Type 0} {g : Ghosts Q} (old new : Core Q g × Table) (cpu : ℕ) (made : Hotplug) : Type 0 where
-  pub reply : (beside : Beside) → reply_of made ≡ (brought_online (room_of beside old) cpu).reply
-  pub room : Becomes old new (λ room. (brought_online room cpu).room)
+  pub reply : (beside : Beside) → reply_of made ≡ (bring_online (room_of beside old) cpu).reply
+  pub room : Becomes old new (λ room. (bring_online room cpu).room)
   pub numbers : numbers_of new.0 ≡ numbers_of old.0
   pub unchanged : made ≢ Done → new ≡ old
   pub stays : Stays old new

@@ -12,8 +12,8 @@ abbrev pub left : ℕ → ℕ × SiblingState → SiblingState
 left cpu place = if place.0 == cpu then away place.1 else beside_one_that_leaves place.1
 
 -- the room once the tasks queued on the sibling moved to the lowest other online one
-abbrev pub with_moves : RoomState → ℕ → RoomState
-with_moves room cpu =
+abbrev pub move_off : RoomState → ℕ → RoomState
+move_off room cpu =
     record room {
       tasks = map (moved_off room cpu) room.tasks;
       next_stamp = room.next_stamp + length (queued_on room cpu);

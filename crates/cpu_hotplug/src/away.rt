@@ -34,7 +34,7 @@ pub fn lowest_other<Q: SiblingQueue>(core: &Core<Q>, cpu: Cpu) -> Cpu
 }
 
 /// The sibling is offline, and runs idle while it is.
-fn leave<Q: Drop>(lane: &mut Lane<Q>)
+fn set_away<Q: Drop>(lane: &mut Lane<Q>)
     ensures state { lane_state lane.new ≡ away (lane_state lane.old) }
     ensures number { lane.new.number ≡ lane.old.number }
     ensures queue { lane.new.queue ≡ lane.old.queue }
@@ -56,7 +56,7 @@ fn stand_by<Q: Drop>(lane: &mut Lane<Q>)
 }
 
 /// The sibling is away, and each other online one is pending.
-pub fn set_away<Q: Drop>(lanes: &mut [Lane<Q>], cpu: Cpu)
+pub fn set_one_away<Q: Drop>(lanes: &mut [Lane<Q>], cpu: Cpu)
     requires few { length lanes.old ≤ 16 }
     ensures states { map lane_state lanes.new ≡ map (left cpu) (enumerate_from 0 (map lane_state lanes.old)) }
     ensures numbers { map (λ lane. lane.number) lanes.new ≡ map (λ lane. lane.number) lanes.old }
@@ -64,7 +64,7 @@ pub fn set_away<Q: Drop>(lanes: &mut [Lane<Q>], cpu: Cpu)
 {
     for (other, lane) in lanes.iter_mut().enumerate() {
         if other == cpu as usize {
-            leave(lane);
+            set_away(lane);
         } else {
             stand_by(lane);
         }

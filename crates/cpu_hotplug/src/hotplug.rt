@@ -9,7 +9,7 @@ ghost use Rattle.core_lanes.specs.Lanes.{Agree, HasLowTimes};
 ghost use Rattle.core_pick.specs.Schedules.{IsPaid, ChargesAndTouches};
 ghost use Rattle.cpu_hotplug.specs.Hotplugs.{TakesOffline, BringsOnline};
 
-use crate::away::{online_count, set_away, set_back};
+use crate::away::{online_count, set_back, set_one_away};
 use crate::moves::move_off;
 use core_lanes::{Core, SiblingQueue};
 use core_pick::charge;
@@ -48,7 +48,7 @@ fn leave<Q: SiblingQueue, L: Ledger>(
     charge(core, table, now);
     core.account.close();
     move_off(core, table, cpu, steps);
-    set_away(&mut core.lanes, cpu);
+    set_one_away(&mut core.lanes, cpu);
 }
 
 /// The sibling leaves the core at `now`, in ns from the start, unless it is offline already or the last.

@@ -4,7 +4,7 @@ ghost use Rattle.std.specs.Prelude.{◌≡◌, ◌+◌, ◌*◌, ◌^◌, ◌<�
 ghost use Rattle.core_lanes.specs.Queued.{queued_among};
 ghost use Rattle.core_lanes.specs.Lanes.{room_of, Agree, HasLowTimes};
 ghost use Rattle.core_lanes.specs.Changes.{Touches};
-ghost use Rattle.cpu_hotplug.specs.Leaves.{with_moves};
+ghost use Rattle.cpu_hotplug.specs.Leaves.{move_off};
 
 use crate::away::lowest_other;
 use core_lanes::{Core, SiblingQueue};
@@ -24,7 +24,7 @@ pub fn move_off<Q: SiblingQueue, L: Ledger>(
     requires low { HasLowTimes (core.old, table.old) }
     requires stamp { core.old.next_stamp + length table.old.tasks < 2 ^ 64 }
     requires touches { core.old.task_number + 2 * length table.old.tasks < 2 ^ 64 }
-    ensures { Touches (2 * length (queued_among table.old.tasks cpu)) (core.old, table.old) (core.new, table.new) (λ room. with_moves room cpu) }
+    ensures { Touches (2 * length (queued_among table.old.tasks cpu)) (core.old, table.old) (core.new, table.new) (λ room. move_off room cpu) }
 {
     let to = lowest_other(core, cpu);
     let queue = &core.lanes[cpu as usize].queue;

@@ -20,17 +20,17 @@ use Rattle.cs_types.specs.declared.reply.Entry.{Entry}
 use Rattle.cs_types.specs.declared.scenario.Scenario.{Scenario}
 use Rattle.cs_types.specs.Scenario.{IsEvent}
 use Rattle.cs_types.specs.Room.{RoomState, Interval, idle, is_online, online, sibling_of, running_on, task_of}
-use Rattle.cs_types.specs.Selection.{Scheduled, is_forced, forced_count, occupation_of, lead_from, cookie_of, selected_room, selected, plain, is_plain, picked_anew, adopted_or_picked_anew, schedule}
+use Rattle.cs_types.specs.Selection.{Scheduled, is_forced, forced_count, occupation_of, lead_from, cookie_of, select_for, select, pick_plain, is_plain, pick_anew, adopt_or_pick_anew, schedule}
 use Rattle.cs_types.specs.Accounting.{share, charges, total_of, charged, up_to_now, open_interval, charge}
 use Rattle.cs_types.specs.Time.{advanced}
 use Rattle.cs_types.specs.Prctl.{Setting, setting_of, makes_cookie, with_made, with_answer, prctl_answer}
-use Rattle.cs_types.specs.Step.{Stepped, step, woken, turned, blocked, exited, forked, may_not_fork, ticked, without, has_threads, idled, try_steal, unless_offline, set_policy, taken_offline, brought_online}
-use Rattle.cs_types.specs.Queueing.{dequeued}
+use Rattle.cs_types.specs.Step.{Stepped, step, wake, turn, block, exit, fork, may_not_fork, tick, without, has_threads, run_idle, try_steal, unless_offline, set_policy, take_offline, bring_online}
+use Rattle.cs_types.specs.Queueing.{dequeue}
 use Rattle.cs_types.specs.Steal.{stolen}
 use Rattle.cs_types.specs.Hotplug.{leave}
 use Rattle.cs_types.specs.Touches.{is_fresh}
 use Rattle.cs_types.specs.History.{History, Moment, beginning, next, after, fold_of}
-use Rattle.cs_types.proofs.Siblings.{length-step, kept-idled, kept-without, length-alike}
+use Rattle.cs_types.proofs.Siblings.{length-step, kept-run_idle, kept-without, length-alike}
 use Rattle.cs_types.proofs.Selections.{occupied}
 
 -- ---- the account of a room
@@ -245,31 +245,31 @@ forced_count-le room core =
       length-range_with_len 0 (length room.siblings),
     )
 
-accounted-selected : (most entries : ℕ) (room : RoomState) (cpu : ℕ) → cpu < length room.siblings → length room.siblings ≤ most →
-    charged_up_to (account_of room) ≡ room.clock → IsAccounted most entries (account_of room) → IsAccounted most entries (account_of (selected room cpu).room)
-unfolding selected_room
-accounted-selected most entries room cpu below few now is =
+accounted-select : (most entries : ℕ) (room : RoomState) (cpu : ℕ) → cpu < length room.siblings → length room.siblings ≤ most →
+    charged_up_to (account_of room) ≡ room.clock → IsAccounted most entries (account_of room) → IsAccounted most entries (account_of (select room cpu).room)
+unfolding select_for
+accounted-select most entries room cpu below few now is =
     let core = cookie_of (lead_from room cpu) in
     accounted_anew most entries (account_of room) (forced_count room core) (occupation_of room core) core now
     (omega (arith, forced_count-le room core, few)) (occupied room cpu below) is
 
-accounted-picked_anew : (most entries : ℕ) (room : RoomState) (cpu : ℕ) → cpu < length room.siblings → length room.siblings ≤ most →
-    charged_up_to (account_of room) ≡ room.clock → IsAccounted most entries (account_of room) → IsAccounted most entries (account_of (picked_anew room cpu).room)
-accounted-picked_anew most entries room cpu below few now is =
-    cond_both (is_plain room cpu) (plain room cpu) (selected room cpu) (λ (made : Scheduled). IsAccounted most entries (account_of made.room))
+accounted-pick_anew : (most entries : ℕ) (room : RoomState) (cpu : ℕ) → cpu < length room.siblings → length room.siblings ≤ most →
+    charged_up_to (account_of room) ≡ room.clock → IsAccounted most entries (account_of room) → IsAccounted most entries (account_of (pick_anew room cpu).room)
+accounted-pick_anew most entries room cpu below few now is =
+    cond_both (is_plain room cpu) (pick_plain room cpu) (select room cpu) (λ (made : Scheduled). IsAccounted most entries (account_of made.room))
     (λ _. accounted_anew most entries (account_of room) 0 0 0 now (omega arith) (λ none. none) is)
-    (λ _. accounted-selected most entries room cpu below few now is)
+    (λ _. accounted-select most entries room cpu below few now is)
 
 -- after a charge the schedule records nothing more
 accounted-again : (most entries : ℕ) (old room : RoomState) (cpu : ℕ) → length room.siblings ≡ length old.siblings → cpu < length old.siblings → length old.siblings ≤ most →
     charged_up_to (account_of room) ≡ room.clock → IsAccounted most entries (account_of room) → IsAccounted most entries (account_of (schedule room false cpu).room)
 accounted-again most entries old room cpu same below few now is = go (sibling_of room cpu).waiting where
-  anew : IsAccounted most entries (account_of (picked_anew (charge room) cpu).room)
+  anew : IsAccounted most entries (account_of (pick_anew (charge room) cpu).room)
   anew =
-      subst (λ (paid : RoomState). IsAccounted most entries (account_of (picked_anew paid cpu).room)) (sym (charge-again room now))
-      (accounted-picked_anew most entries room cpu (omega (arith, same, below)) (omega (arith, same, few)) now is)
+      subst (λ (paid : RoomState). IsAccounted most entries (account_of (pick_anew paid cpu).room)) (sym (charge-again room now))
+      (accounted-pick_anew most entries room cpu (omega (arith, same, below)) (omega (arith, same, few)) now is)
 
-  go : (waiting : Option (Option ℕ)) → IsAccounted most entries (account_of (adopted_or_picked_anew room false cpu waiting).room)
+  go : (waiting : Option (Option ℕ)) → IsAccounted most entries (account_of (adopt_or_pick_anew room false cpu waiting).room)
   go None = anew
   go (Some run) = anew
 
@@ -288,10 +288,10 @@ module _ (most done : ℕ) (some : 1 ≤ most) (room : RoomState) (few : length 
 
   accounted-schedule : (may_adopt : Bool) (cpu : ℕ) → cpu < length room.siblings → IsAccounted most (done + 1) (account_of (schedule room may_adopt cpu).room)
   accounted-schedule may_adopt cpu below = go may_adopt (sibling_of room cpu).waiting where
-    anew : IsAccounted most (done + 1) (account_of (picked_anew (charge room) cpu).room)
-    anew = accounted-picked_anew most (done + 1) (charge room) cpu below few (now-charge room) paid
+    anew : IsAccounted most (done + 1) (account_of (pick_anew (charge room) cpu).room)
+    anew = accounted-pick_anew most (done + 1) (charge room) cpu below few (now-charge room) paid
 
-    go : (may_adopt : Bool) (waiting : Option (Option ℕ)) → IsAccounted most (done + 1) (account_of (adopted_or_picked_anew room may_adopt cpu waiting).room)
+    go : (may_adopt : Bool) (waiting : Option (Option ℕ)) → IsAccounted most (done + 1) (account_of (adopt_or_pick_anew room may_adopt cpu waiting).room)
     go may_adopt None = anew
     go true (Some run) = stays
     go false (Some run) = anew
@@ -300,35 +300,35 @@ module _ (most done : ℕ) (some : 1 ≤ most) (room : RoomState) (few : length 
   accounted-try_steal cpu None = stays
   accounted-try_steal cpu (Some task) = stays
 
-  accounted-turned : (may_adopt : Bool) (cpu : ℕ) → cpu < length room.siblings → GoesOn (turned room may_adopt cpu)
-  accounted-turned may_adopt cpu below =
+  accounted-turn : (may_adopt : Bool) (cpu : ℕ) → cpu < length room.siblings → GoesOn (turn room may_adopt cpu)
+  accounted-turn may_adopt cpu below =
       cond_both (sibling_of room cpu).pending _ _ GoesOn (λ _. accounted-schedule may_adopt cpu below)
       (λ _. cond_both ((sibling_of room cpu).place == 0) _ _ GoesOn (λ _. stays) (λ _. accounted-try_steal cpu (stolen room cpu)))
 
-  accounted-blocked : (cpu : ℕ) (task : Option Task) → cpu < length room.siblings → GoesOn (blocked room cpu task)
-  accounted-blocked cpu None below = stays
-  accounted-blocked cpu (Some task) below =
-      let gone = idled (dequeued (charge room) task) cpu in
-      accounted-again most (done + 1) room gone cpu (length-alike gone room (kept-idled (charge room) cpu task)) below few (now-charge room) paid
+  accounted-block : (cpu : ℕ) (task : Option Task) → cpu < length room.siblings → GoesOn (block room cpu task)
+  accounted-block cpu None below = stays
+  accounted-block cpu (Some task) below =
+      let gone = run_idle (dequeue (charge room) task) cpu in
+      accounted-again most (done + 1) room gone cpu (length-alike gone room (kept-run_idle (charge room) cpu task)) below few (now-charge room) paid
 
-  accounted-exited : (cpu : ℕ) (task : Option Task) → cpu < length room.siblings → GoesOn (exited room cpu task)
-  accounted-exited cpu None below = stays
-  accounted-exited cpu (Some task) below =
-      let gone = idled (without (charge room) task) cpu in
+  accounted-exit : (cpu : ℕ) (task : Option Task) → cpu < length room.siblings → GoesOn (exit room cpu task)
+  accounted-exit cpu None below = stays
+  accounted-exit cpu (Some task) below =
+      let gone = run_idle (without (charge room) task) cpu in
       cond_both (has_threads room task) _ _ GoesOn (λ _. stays)
       (λ _. accounted-again most (done + 1) room gone cpu (length-alike gone room (kept-without (charge room) cpu task)) below few (now-charge room) paid)
 
-  accounted-woken : (task : Option Task) → GoesOn (woken room task)
-  accounted-woken None = stays
-  accounted-woken (Some task) = cond_both task.queued _ _ GoesOn (λ _. stays) (λ _. stays)
+  accounted-wake : (task : Option Task) → GoesOn (wake room task)
+  accounted-wake None = stays
+  accounted-wake (Some task) = cond_both task.queued _ _ GoesOn (λ _. stays) (λ _. stays)
 
-  accounted-forked : (thread : Bool) (caller : Option Task) → GoesOn (forked room thread caller)
-  accounted-forked thread None = stays
-  accounted-forked thread (Some caller) = cond_both (may_not_fork room caller) _ _ GoesOn (λ _. stays) (λ _. stays)
+  accounted-fork : (thread : Bool) (caller : Option Task) → GoesOn (fork room thread caller)
+  accounted-fork thread None = stays
+  accounted-fork thread (Some caller) = cond_both (may_not_fork room caller) _ _ GoesOn (λ _. stays) (λ _. stays)
 
-  accounted-ticked : (cpu : ℕ) (task : Option Task) → GoesOn (ticked room cpu task)
-  accounted-ticked cpu None = paid
-  accounted-ticked cpu (Some task) = paid
+  accounted-tick : (cpu : ℕ) (task : Option Task) → GoesOn (tick room cpu task)
+  accounted-tick cpu None = paid
+  accounted-tick cpu (Some task) = paid
 
   -- time that goes on lengthens the open interval
   accounted-advanced : (delta : ℕ) → IsAccounted most (done + 1) (account_of (advanced room delta))
@@ -361,33 +361,33 @@ module _ (most done : ℕ) (some : 1 ≤ most) (room : RoomState) (few : length 
   accounted-set_policy policy (Some task) =
       cond_both task.queued _ _ (λ (new : RoomState). IsAccounted most (done + 1) (account_of new)) (λ _. stays) (λ _. stays)
 
-  accounted-taken_offline : (cpu : ℕ) → GoesOn (taken_offline room cpu)
+  accounted-take_offline : (cpu : ℕ) → GoesOn (take_offline room cpu)
   unfolding leave
-  accounted-taken_offline cpu =
+  accounted-take_offline cpu =
       cond_both (not (is_online room cpu)) _ _ GoesOn (λ _. stays)
       (λ _. cond_both (length (online room) == 1) _ _ GoesOn (λ _. stays)
       (λ _. accounted_anew most (done + 1) (account_of (charge room)) 0 0 0 (now-charge room) (omega arith) (λ none. none) paid))
 
-  accounted-brought_online : (cpu : ℕ) → GoesOn (brought_online room cpu)
-  accounted-brought_online cpu = cond_both (is_online room cpu) _ _ GoesOn (λ _. stays) (λ _. stays)
+  accounted-bring_online : (cpu : ℕ) → GoesOn (bring_online room cpu)
+  accounted-bring_online cpu = cond_both (is_online room cpu) _ _ GoesOn (λ _. stays) (λ _. stays)
 
   accounted-unless_offline : (cpu : ℕ) (stepped : Stepped) → GoesOn stepped → GoesOn (unless_offline room cpu stepped)
   accounted-unless_offline cpu stepped made = cond_both (is_online room cpu) _ _ GoesOn (λ _. made) (λ _. stays)
 
   accounted-step : (may_adopt : Bool) (event : Event) → IsEvent (length room.siblings) event → GoesOn (step room may_adopt event)
-  accounted-step may_adopt (Turn cpu) below = accounted-unless_offline cpu _ (accounted-turned may_adopt cpu below)
+  accounted-step may_adopt (Turn cpu) below = accounted-unless_offline cpu _ (accounted-turn may_adopt cpu below)
   accounted-step may_adopt (Resched cpu) below = accounted-unless_offline cpu _ (accounted-schedule may_adopt cpu below)
-  accounted-step may_adopt (Block cpu) below = accounted-unless_offline cpu _ (accounted-blocked cpu (running_on room cpu) below)
-  accounted-step may_adopt (Exit cpu) below = accounted-unless_offline cpu _ (accounted-exited cpu (running_on room cpu) below)
-  accounted-step may_adopt (Tick cpu) below = accounted-unless_offline cpu _ (accounted-ticked cpu (running_on room cpu))
-  accounted-step may_adopt (Wake pid) limits = accounted-woken (task_of room pid)
+  accounted-step may_adopt (Block cpu) below = accounted-unless_offline cpu _ (accounted-block cpu (running_on room cpu) below)
+  accounted-step may_adopt (Exit cpu) below = accounted-unless_offline cpu _ (accounted-exit cpu (running_on room cpu) below)
+  accounted-step may_adopt (Tick cpu) below = accounted-unless_offline cpu _ (accounted-tick cpu (running_on room cpu))
+  accounted-step may_adopt (Wake pid) limits = accounted-wake (task_of room pid)
   accounted-step may_adopt (Advance delta) limits = accounted-advanced delta
-  accounted-step may_adopt (Fork caller thread) limits = accounted-forked thread (task_of room caller)
+  accounted-step may_adopt (Fork caller thread) limits = accounted-fork thread (task_of room caller)
   accounted-step may_adopt (Prctl caller ask) limits =
       accounted-with_answer (makes_cookie room caller ask) (setting_of room caller ask) (prctl_answer room caller ask)
   accounted-step may_adopt (SetSched pid policy) limits = accounted-set_policy policy (task_of room pid)
-  accounted-step may_adopt (Offline cpu) below = accounted-taken_offline cpu
-  accounted-step may_adopt (Online cpu) below = accounted-brought_online cpu
+  accounted-step may_adopt (Offline cpu) below = accounted-take_offline cpu
+  accounted-step may_adopt (Online cpu) below = accounted-bring_online cpu
 
 -- ---- after a history
 

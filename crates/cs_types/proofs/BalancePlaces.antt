@@ -12,14 +12,14 @@ use Rattle.cs_types.specs.declared.reply.Reply.{Reply}
 use Rattle.cs_types.specs.declared.reply.Reply.TheVariants.{Zero}
 use Rattle.cs_types.specs.declared.reply.Entry.{Entry}
 use Rattle.cs_types.specs.declared.scenario.Scenario.{Scenario}
-use Rattle.cs_types.specs.Room.{RoomState, SiblingState, idle, online, is_online, sibling_of, running_on, task_of, with_sibling, flagged, absent}
-use Rattle.cs_types.specs.Selection.{selected_room, selected, plain, is_plain, picked_anew, adopted_or_picked_anew, schedule, is_to_steal}
+use Rattle.cs_types.specs.Room.{RoomState, SiblingState, idle, online, is_online, sibling_of, running_on, task_of, with_sibling, flag, absent}
+use Rattle.cs_types.specs.Selection.{select_for, select, pick_plain, is_plain, pick_anew, adopt_or_pick_anew, schedule, is_to_steal}
 use Rattle.cs_types.specs.Accounting.{charge}
 use Rattle.cs_types.specs.Time.{least_of, with_growth, advanced}
 use Rattle.cs_types.specs.Prctl.{Setting, setting_of, makes_cookie, with_made, with_answer, prctl_answer}
-use Rattle.cs_types.specs.Step.{Stepped, step, woken, turned, try_steal, idled, blocked, without, has_threads, exited, may_not_fork, forked, ticked, unless_offline, set_policy, taken_offline, brought_online}
-use Rattle.cs_types.specs.Queueing.{dequeued, moved}
-use Rattle.cs_types.specs.Steal.{source_of, stolen, with_place, next_place}
+use Rattle.cs_types.specs.Step.{Stepped, step, wake, turn, try_steal, run_idle, block, without, has_threads, exit, may_not_fork, fork, tick, unless_offline, set_policy, take_offline, bring_online}
+use Rattle.cs_types.specs.Queueing.{dequeue, moved}
+use Rattle.cs_types.specs.Steal.{source_of, stolen, set_place, next_place}
 use Rattle.cs_types.specs.Hotplug.{away, leave}
 use Rattle.cs_types.specs.Touches.{is_fresh}
 use Rattle.cs_types.specs.History.{History, Moment, beginning, next, after, fold_of}
@@ -47,36 +47,36 @@ low_at most room cpu low = all_get (Low most) room.siblings cpu absent (omega ar
 low-with_sibling : (most : ℕ) (room : RoomState) (cpu : ℕ) (sibling : SiblingState) → sibling.place ≤ most → AreLow most room → AreLow most (with_sibling room cpu sibling)
 low-with_sibling most room cpu sibling is low = all_set (Low most) room.siblings cpu sibling is low
 
-low-flagged : (most : ℕ) (room : RoomState) (cpu : ℕ) (test : Bool) → AreLow most room → AreLow most (flagged room cpu test)
-low-flagged most room cpu test low = low-with_sibling most room cpu _ (low_at most room cpu low) low
+low-flag : (most : ℕ) (room : RoomState) (cpu : ℕ) (test : Bool) → AreLow most room → AreLow most (flag room cpu test)
+low-flag most room cpu test low = low-with_sibling most room cpu _ (low_at most room cpu low) low
 
-low-idled : (most : ℕ) (room : RoomState) (cpu : ℕ) → AreLow most room → AreLow most (idled room cpu)
-low-idled most room cpu low = low-with_sibling most room cpu _ (low_at most room cpu low) low
+low-run_idle : (most : ℕ) (room : RoomState) (cpu : ℕ) → AreLow most room → AreLow most (run_idle room cpu)
+low-run_idle most room cpu low = low-with_sibling most room cpu _ (low_at most room cpu low) low
 
 -- ---- a schedule
 
 -- A selection leaves each balance place.
-low-selected_room : (most : ℕ) (room : RoomState) (cpu core : ℕ) → AreLow most room → AreLow most (selected_room room cpu core)
-unfolding selected_room
-low-selected_room most room cpu core low =
+low-select_for : (most : ℕ) (room : RoomState) (cpu core : ℕ) → AreLow most room → AreLow most (select_for room cpu core)
+unfolding select_for
+low-select_for most room cpu core low =
     all_enumerated (Low most) _ (λ other sibling is. cond_both sibling.online _ sibling (Low most) (λ _. is) (λ _. is)) 0 room.siblings low
 
-low-picked_anew : (most : ℕ) (room : RoomState) (cpu : ℕ) → AreLow most room → AreLow most (picked_anew room cpu).room
-low-picked_anew most room cpu low =
-    cond_both (is_plain room cpu) (plain room cpu) (selected room cpu) (λ made. AreLow most made.room)
-    (λ _. all_set (Low most) room.siblings cpu _ (low_at most room cpu low) low) (λ _. low-selected_room most room cpu _ low)
+low-pick_anew : (most : ℕ) (room : RoomState) (cpu : ℕ) → AreLow most room → AreLow most (pick_anew room cpu).room
+low-pick_anew most room cpu low =
+    cond_both (is_plain room cpu) (pick_plain room cpu) (select room cpu) (λ made. AreLow most made.room)
+    (λ _. all_set (Low most) room.siblings cpu _ (low_at most room cpu low) low) (λ _. low-select_for most room cpu _ low)
 
-low-adopted_or_picked_anew : (most : ℕ) (room : RoomState) (fresh : Bool) (cpu : ℕ) (waiting : Option (Option ℕ)) → AreLow most room → AreLow most (adopted_or_picked_anew room fresh cpu waiting).room
-low-adopted_or_picked_anew most room fresh cpu None low = low-picked_anew most (charge room) cpu low
-low-adopted_or_picked_anew most room true cpu (Some run) low = low-with_sibling most room cpu _ (low_at most room cpu low) low
-low-adopted_or_picked_anew most room false cpu (Some run) low = low-picked_anew most (charge room) cpu low
+low-adopt_or_pick_anew : (most : ℕ) (room : RoomState) (fresh : Bool) (cpu : ℕ) (waiting : Option (Option ℕ)) → AreLow most room → AreLow most (adopt_or_pick_anew room fresh cpu waiting).room
+low-adopt_or_pick_anew most room fresh cpu None low = low-pick_anew most (charge room) cpu low
+low-adopt_or_pick_anew most room true cpu (Some run) low = low-with_sibling most room cpu _ (low_at most room cpu low) low
+low-adopt_or_pick_anew most room false cpu (Some run) low = low-pick_anew most (charge room) cpu low
 
 -- After a schedule the place is 1 at most.
 low-schedule : (most : ℕ) (room : RoomState) (fresh : Bool) (cpu : ℕ) → AreLow most room → AreLow (most + 1) (schedule room fresh cpu).room
 low-schedule most room fresh cpu low =
-    let made = (adopted_or_picked_anew room fresh cpu (sibling_of room cpu).waiting).room in
+    let made = (adopt_or_pick_anew room fresh cpu (sibling_of room cpu).waiting).room in
     low-with_sibling (most + 1) made cpu _ (cond_both (is_to_steal made cpu) 1 0 (λ n. n ≤ most + 1) (λ _. omega arith) (λ _. omega arith))
-    (higher most _ (low-adopted_or_picked_anew most room fresh cpu (sibling_of room cpu).waiting low))
+    (higher most _ (low-adopt_or_pick_anew most room fresh cpu (sibling_of room cpu).waiting low))
 
 -- ---- a turn
 
@@ -89,30 +89,30 @@ low-try_steal most room cpu None low =
     low-with_sibling (most + 1) room cpu _ on (higher most _ low)
 low-try_steal most room cpu (Some task) low =
     let ended = low-with_sibling (most + 1) (moved room cpu task) cpu (record (sibling_of (moved room cpu task) cpu) { place = 0 }) (omega arith) (higher most _ low) in
-    low-flagged (most + 1) (flagged (with_place (moved room cpu task) cpu 0) cpu true) (source_of room cpu) _
-    (low-flagged (most + 1) (with_place (moved room cpu task) cpu 0) cpu true ended)
+    low-flag (most + 1) (flag (set_place (moved room cpu task) cpu 0) cpu true) (source_of room cpu) _
+    (low-flag (most + 1) (set_place (moved room cpu task) cpu 0) cpu true ended)
 
-low-turned : (most : ℕ) (room : RoomState) (fresh : Bool) (cpu : ℕ) → AreLow most room → AreLow (most + 1) (turned room fresh cpu).room
-low-turned most room fresh cpu low =
+low-turn : (most : ℕ) (room : RoomState) (fresh : Bool) (cpu : ℕ) → AreLow most room → AreLow (most + 1) (turn room fresh cpu).room
+low-turn most room fresh cpu low =
     cond_both (sibling_of room cpu).pending _ _ (λ (made : Stepped). AreLow (most + 1) made.room) (λ _. low-schedule most room fresh cpu low)
     (λ _. cond_both ((sibling_of room cpu).place == 0) _ _ (λ (made : Stepped). AreLow (most + 1) made.room) (λ _. higher most _ low)
     (λ _. low-try_steal most room cpu (stolen room cpu) low))
 
 -- ---- the other events of a sibling
 
-low-blocked : (most : ℕ) (room : RoomState) (cpu : ℕ) (task : Option Task) → AreLow most room → AreLow (most + 1) (blocked room cpu task).room
-low-blocked most room cpu None low = higher most _ low
-low-blocked most room cpu (Some task) low = low-schedule most (idled (dequeued (charge room) task) cpu) false cpu (low-idled most (dequeued (charge room) task) cpu low)
+low-block : (most : ℕ) (room : RoomState) (cpu : ℕ) (task : Option Task) → AreLow most room → AreLow (most + 1) (block room cpu task).room
+low-block most room cpu None low = higher most _ low
+low-block most room cpu (Some task) low = low-schedule most (run_idle (dequeue (charge room) task) cpu) false cpu (low-run_idle most (dequeue (charge room) task) cpu low)
 
-low-exited : (most : ℕ) (room : RoomState) (cpu : ℕ) (task : Option Task) → AreLow most room → AreLow (most + 1) (exited room cpu task).room
-low-exited most room cpu None low = higher most _ low
-low-exited most room cpu (Some task) low =
+low-exit : (most : ℕ) (room : RoomState) (cpu : ℕ) (task : Option Task) → AreLow most room → AreLow (most + 1) (exit room cpu task).room
+low-exit most room cpu None low = higher most _ low
+low-exit most room cpu (Some task) low =
     cond_both (has_threads room task) _ _ (λ (made : Stepped). AreLow (most + 1) made.room) (λ _. higher most _ low)
-    (λ _. low-schedule most (idled (without (charge room) task) cpu) false cpu (low-idled most (without (charge room) task) cpu low))
+    (λ _. low-schedule most (run_idle (without (charge room) task) cpu) false cpu (low-run_idle most (without (charge room) task) cpu low))
 
-low-ticked : (most : ℕ) (room : RoomState) (cpu : ℕ) (task : Option Task) → AreLow most room → AreLow most (ticked room cpu task).room
-low-ticked most room cpu None low = low
-low-ticked most room cpu (Some task) low = low-flagged most room cpu _ low
+low-tick : (most : ℕ) (room : RoomState) (cpu : ℕ) (task : Option Task) → AreLow most room → AreLow most (tick room cpu task).room
+low-tick most room cpu None low = low
+low-tick most room cpu (Some task) low = low-flag most room cpu _ low
 
 low-unless_offline : (most : ℕ) (room : RoomState) (cpu : ℕ) (stepped : Stepped) → AreLow most room → AreLow most stepped.room → AreLow most (unless_offline room cpu stepped).room
 low-unless_offline most room cpu stepped was now =
@@ -120,20 +120,20 @@ low-unless_offline most room cpu stepped was now =
 
 -- ---- the other events
 
-low-woken : (most : ℕ) (room : RoomState) (task : Option Task) → AreLow most room → AreLow most (woken room task).room
-low-woken most room None low = low
-low-woken most room (Some task) low =
-    cond_both task.queued _ _ (λ (made : Stepped). AreLow most made.room) (λ _. low) (λ _. low-flagged most room _ _ low)
+low-wake : (most : ℕ) (room : RoomState) (task : Option Task) → AreLow most room → AreLow most (wake room task).room
+low-wake most room None low = low
+low-wake most room (Some task) low =
+    cond_both task.queued _ _ (λ (made : Stepped). AreLow most made.room) (λ _. low) (λ _. low-flag most room _ _ low)
 
-low-forked : (most : ℕ) (room : RoomState) (thread : Bool) (caller : Option Task) → AreLow most room → AreLow most (forked room thread caller).room
-low-forked most room thread None low = low
-low-forked most room thread (Some caller) low =
-    cond_both (may_not_fork room caller) _ _ (λ (made : Stepped). AreLow most made.room) (λ _. low) (λ _. low-flagged most room _ _ low)
+low-fork : (most : ℕ) (room : RoomState) (thread : Bool) (caller : Option Task) → AreLow most room → AreLow most (fork room thread caller).room
+low-fork most room thread None low = low
+low-fork most room thread (Some caller) low =
+    cond_both (may_not_fork room caller) _ _ (λ (made : Stepped). AreLow most made.room) (λ _. low) (λ _. low-flag most room _ _ low)
 
 low-set_policy : (most : ℕ) (room : RoomState) (policy : Policy) (task : Option Task) → AreLow most room → AreLow most (set_policy room policy task).room
 low-set_policy most room policy None low = low
 low-set_policy most room policy (Some task) low =
-    cond_both task.queued _ _ (AreLow most) (λ _. low-flagged most (flagged room _ _) _ _ (low-flagged most room _ _ low)) (λ _. low)
+    cond_both task.queued _ _ (AreLow most) (λ _. low-flag most (flag room _ _) _ _ (low-flag most room _ _ low)) (λ _. low)
 
 low-with_answer : (most : ℕ) (room : RoomState) (set : Setting) (answer : Reply) → AreLow most room → AreLow most (with_answer room set answer)
 low-with_answer most room set Zero low = all_map (Low most) _ room.siblings low
@@ -151,34 +151,34 @@ unfolding leave
 low-leave most room cpu low =
     all_enumerated (Low most) _ (λ other sibling is. cond_both (other == cpu) (away sibling) _ (Low most) (λ _. omega arith) (λ _. is)) 0 room.siblings low
 
-low-taken_offline : (most : ℕ) (room : RoomState) (cpu : ℕ) → AreLow most room → AreLow most (taken_offline room cpu).room
-low-taken_offline most room cpu low =
+low-take_offline : (most : ℕ) (room : RoomState) (cpu : ℕ) → AreLow most room → AreLow most (take_offline room cpu).room
+low-take_offline most room cpu low =
     cond_both (not (is_online room cpu)) _ _ (λ (made : Stepped). AreLow most made.room) (λ _. low)
     (λ _. cond_both (length (online room) == 1) _ _ (λ (made : Stepped). AreLow most made.room) (λ _. low) (λ _. low-leave most room cpu low))
 
 -- and one that comes back begins with none
-low-brought_online : (most : ℕ) (room : RoomState) (cpu : ℕ) → AreLow most room → AreLow most (brought_online room cpu).room
-low-brought_online most room cpu low =
+low-bring_online : (most : ℕ) (room : RoomState) (cpu : ℕ) → AreLow most room → AreLow most (bring_online room cpu).room
+low-bring_online most room cpu low =
     cond_both (is_online room cpu) _ _ (λ (made : Stepped). AreLow most made.room) (λ _. low) (λ _. low-with_sibling most room cpu _ (omega arith) low)
 
 -- ---- every event, and a history
 
 -- At a step no place goes further than one sibling on.
 pub low-step : (most : ℕ) (room : RoomState) (fresh : Bool) (event : Event) → AreLow most room → AreLow (most + 1) (step room fresh event).room
-low-step most room fresh (Turn cpu) low = low-unless_offline (most + 1) room cpu _ (higher most _ low) (low-turned most room fresh cpu low)
+low-step most room fresh (Turn cpu) low = low-unless_offline (most + 1) room cpu _ (higher most _ low) (low-turn most room fresh cpu low)
 low-step most room fresh (Resched cpu) low = low-unless_offline (most + 1) room cpu _ (higher most _ low) (low-schedule most room fresh cpu low)
-low-step most room fresh (Block cpu) low = low-unless_offline (most + 1) room cpu _ (higher most _ low) (low-blocked most room cpu (running_on room cpu) low)
-low-step most room fresh (Exit cpu) low = low-unless_offline (most + 1) room cpu _ (higher most _ low) (low-exited most room cpu (running_on room cpu) low)
+low-step most room fresh (Block cpu) low = low-unless_offline (most + 1) room cpu _ (higher most _ low) (low-block most room cpu (running_on room cpu) low)
+low-step most room fresh (Exit cpu) low = low-unless_offline (most + 1) room cpu _ (higher most _ low) (low-exit most room cpu (running_on room cpu) low)
 low-step most room fresh (Tick cpu) low =
-    higher most _ (low-unless_offline most room cpu _ low (low-ticked most room cpu (running_on room cpu) low))
-low-step most room fresh (Wake pid) low = higher most _ (low-woken most room (task_of room pid) low)
+    higher most _ (low-unless_offline most room cpu _ low (low-tick most room cpu (running_on room cpu) low))
+low-step most room fresh (Wake pid) low = higher most _ (low-wake most room (task_of room pid) low)
 low-step most room fresh (Advance delta) low = higher most _ (low-advanced most room delta low)
-low-step most room fresh (Fork caller thread) low = higher most _ (low-forked most room thread (task_of room caller) low)
+low-step most room fresh (Fork caller thread) low = higher most _ (low-fork most room thread (task_of room caller) low)
 low-step most room fresh (Prctl caller ask) low =
     higher most _ (low-with_answer most (with_made room (makes_cookie room caller ask)) (setting_of room caller ask) (prctl_answer room caller ask) low)
 low-step most room fresh (SetSched pid policy) low = higher most _ (low-set_policy most room policy (task_of room pid) low)
-low-step most room fresh (Offline cpu) low = higher most _ (low-taken_offline most room cpu low)
-low-step most room fresh (Online cpu) low = higher most _ (low-brought_online most room cpu low)
+low-step most room fresh (Offline cpu) low = higher most _ (low-take_offline most room cpu low)
+low-step most room fresh (Online cpu) low = higher most _ (low-bring_online most room cpu low)
 
 low_after : (most : ℕ) (moment : Moment) (entries : List Entry) → AreLow most moment.room → AreLow (most + length entries) (after moment entries).room
 low_after most moment [] low = subst (λ n. AreLow n moment.room) (omega arith) low

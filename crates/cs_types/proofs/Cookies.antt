@@ -13,14 +13,14 @@ use Rattle.cs_types.specs.declared.event.Event.TheVariants.{Prctl}
 use Rattle.cs_types.specs.declared.reply.Reply.{Reply}
 use Rattle.cs_types.specs.declared.reply.Reply.TheVariants.{Zero}
 use Rattle.cs_types.specs.Room.{RoomState, SiblingState, Waiting, has_pid, sibling_of, task_of}
-use Rattle.cs_types.specs.Prctl.{Setting, setting_by, setting_of, target_of, is_share_from, is_in_scope, is_set, runs_one, with_cookies, makes_cookie, with_made, with_answer, prctl_answer, prctl_room}
+use Rattle.cs_types.specs.Prctl.{Setting, setting_by, setting_of, target_of, is_share_from, is_in_scope, is_set, runs_one, set_cookies, makes_cookie, with_made, with_answer, prctl_answer, prctl_room}
 use Rattle.cs_types.specs.Touches.{cookie_touches, setting_touches, selection_of}
 use Rattle.cs_types.proofs.Filtered.{each-filter}
 use Rattle.cs_types.proofs.Tasks.{found_again}
 use Rattle.cs_types.proofs.Rising.{AreRising}
 use Rattle.cs_types.proofs.Selections.{prctl_selects_nothing}
 use Rattle.cs_types.proofs.Spots.{Spot, spot_of, spot_at, each_is_found}
-use Rattle.cs_types.proofs.Moves.{spot_set, spots-with_cookies}
+use Rattle.cs_types.proofs.Moves.{spot_set, spots-set_cookies}
 use Rattle.cs_types.proofs.Places.{mapped_at}
 use Rattle.cs_types.proofs.Fits.{IsAt, cookie_at, Fits, SiblingFits, AllFit, fits_where, fits_absent, all_later}
 use Rattle.cs_types.proofs.Freshness.{fresh_after, fresh_before}
@@ -87,9 +87,9 @@ same_cookie room set found none cpu pid here = go (spot_at room pid) refl here w
 -- ---- the siblings after a setting
 
 set_fits : (room : RoomState) (fresh later : Bool) (set : Setting) → AreFound room set.tasks → (later ≡ true → (setting_touches set ≡ 0) × (fresh ≡ true)) → AllFit room fresh →
-    AllFit (with_cookies room set) later
+    AllFit (set_cookies room set) later
 set_fits room fresh later set found old fits cpu =
-    subst (λ at. SiblingFits at room.core_cookie later cpu (sibling_of (with_cookies room set) cpu)) (λ i pid. sym (spots-with_cookies room set pid) i)
+    subst (λ at. SiblingFits at room.core_cookie later cpu (sibling_of (set_cookies room set) cpu)) (λ i pid. sym (spots-set_cookies room set pid) i)
     (mapped_at (SiblingFits now room.core_cookie later cpu) (λ sibling. record sibling { pending = sibling.pending || runs_one set sibling }) room.siblings cpu
     (fits_absent now room.core_cookie later cpu)
     (go sibling.online sibling.run sibling.pending sibling.waiting sibling.place (fits cpu))) where

@@ -15,7 +15,7 @@ use Rattle.cs_types.specs.declared.scenario.Scenario.{Scenario}
 use Rattle.cs_types.specs.Scenario.{is_actor, IsEvent}
 use Rattle.cs_types.specs.Room.{RoomState, Waiting, sibling_of, is_online, online}
 use Rattle.cs_types.specs.Touches.{is_adopted, is_fresh}
-use Rattle.cs_types.specs.Selection.{selected, is_plain, plain, picked_anew, adopted_or_picked_anew, schedule}
+use Rattle.cs_types.specs.Selection.{select, is_plain, pick_plain, pick_anew, adopt_or_pick_anew, schedule}
 use Rattle.cs_types.specs.Accounting.{charge}
 use Rattle.cs_types.specs.History.{History, Moment, beginning, step_at, next, after, moment_of, IsLegal, events_by, entry_of, made_from, history_of, fold_of, AreEvents}
 use Rattle.cs_types.specs.Drain.{pending, is_ready, lowest, next_to_schedule, entry_by_end, IsEndFrom, IsDrained}
@@ -102,11 +102,11 @@ next_is_lowest moment cpu other found held alike =
 -- A sibling's schedule is an adoption exactly where it is ready.
 pub ready_adopts : (moment : Moment) (cpu : ℕ) → is_adopted (schedule moment.room (is_fresh moment.ledger) cpu).pick.kind ≡ is_ready moment cpu
 ready_adopts moment cpu = go (is_fresh moment.ledger) (sibling_of moment.room cpu).waiting where
-  none_adopted : is_adopted (picked_anew (charge moment.room) cpu).pick.kind ≡ false
+  none_adopted : is_adopted (pick_anew (charge moment.room) cpu).pick.kind ≡ false
   none_adopted =
-      cond_both (is_plain moment.room cpu) (plain (charge moment.room) cpu) (selected (charge moment.room) cpu) (λ made. is_adopted made.pick.kind ≡ false) (λ _. refl) (λ _. refl)
+      cond_both (is_plain moment.room cpu) (pick_plain (charge moment.room) cpu) (select (charge moment.room) cpu) (λ made. is_adopted made.pick.kind ≡ false) (λ _. refl) (λ _. refl)
 
-  go : (fresh : Bool) (waiting : Waiting) → is_adopted (adopted_or_picked_anew moment.room fresh cpu waiting).pick.kind ≡ (fresh && is_some waiting)
+  go : (fresh : Bool) (waiting : Waiting) → is_adopted (adopt_or_pick_anew moment.room fresh cpu waiting).pick.kind ≡ (fresh && is_some waiting)
   go fresh None = none_adopted ∙ sym (and_right fresh false refl)
   go true (Some run) = refl
   go false (Some run) = none_adopted

@@ -4,9 +4,9 @@ use Rattle.std.specs.Prelude.{◌⊎◌, ◌==◌, ◌||◌}
 use Rattle.std.specs.Option.{IfSome}
 use Rattle.std.proofs.lemmas.Bool.{cond_both, or_parts, eqb-true, true_from_ne_false, both_ways}
 use Rattle.std.proofs.lemmas.Option.{IfSome_then}
-use Rattle.cs_types.specs.Room.{RoomState, SiblingState, Waiting, absent, sibling_of, is_online, flagged}
+use Rattle.cs_types.specs.Room.{RoomState, SiblingState, Waiting, absent, sibling_of, is_online, flag}
 use Rattle.cs_types.specs.Selection.{is_run}
-use Rattle.cs_types.specs.Steal.{with_place}
+use Rattle.cs_types.specs.Steal.{set_place}
 use Rattle.cs_types.proofs.Spots.{Spot, spot_at}
 use Rattle.cs_types.proofs.Places.{with_sibling_either}
 
@@ -174,14 +174,14 @@ all_later room fresh later old fits cpu =
     fits_same (spot_at room) (spot_at room) room.core_cookie fresh later cpu sibling.online sibling.run sibling.pending sibling.waiting sibling.place (λ pid has here. refl) old (fits cpu)
 
 -- one that is online becomes pending
-pub all_flagged : (room : RoomState) (fresh : Bool) (cpu : ℕ) (test : Bool) → is_online room cpu ≡ true → AllFit room fresh → AllFit (flagged room cpu test) fresh
+pub all_flagged : (room : RoomState) (fresh : Bool) (cpu : ℕ) (test : Bool) → is_online room cpu ≡ true → AllFit room fresh → AllFit (flag room cpu test) fresh
 all_flagged room fresh cpu test on fits =
     let sibling = sibling_of room cpu in
     with_sibling_either (SiblingFits (spot_at room) room.core_cookie fresh) room cpu (record sibling { pending = sibling.pending || test })
     (fits_flagged (spot_at room) room.core_cookie fresh cpu sibling.online sibling.run sibling.pending sibling.waiting sibling.place test on (fits cpu)) fits
 
 -- or gets another place
-pub all_placed : (room : RoomState) (fresh : Bool) (cpu place : ℕ) → is_online room cpu ≡ true → AllFit room fresh → AllFit (with_place room cpu place) fresh
+pub all_placed : (room : RoomState) (fresh : Bool) (cpu place : ℕ) → is_online room cpu ≡ true → AllFit room fresh → AllFit (set_place room cpu place) fresh
 all_placed room fresh cpu place on fits =
     let sibling = sibling_of room cpu in
     with_sibling_either (SiblingFits (spot_at room) room.core_cookie fresh) room cpu (record sibling { place = place })

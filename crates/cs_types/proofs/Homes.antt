@@ -17,9 +17,9 @@ use Rattle.cs_types.specs.Scenario.{IsEvent}
 use Rattle.cs_types.specs.Room.{RoomState, SiblingState, absent, has_pid, sibling_of, running_on, is_online, online, lowest_online, task_of, queued_on}
 use Rattle.cs_types.specs.Order.{first_of}
 use Rattle.cs_types.specs.Selection.{schedule, queued_with}
-use Rattle.cs_types.specs.Prctl.{Setting, setting_of, is_set, makes_cookie, with_made, with_answer, prctl_answer, with_cookies}
-use Rattle.cs_types.specs.Step.{Stepped, step, woken, blocked, exited, forked, turned, without, has_threads, child_of, child_at_home, may_not_fork, with_child, ticked, idled, try_steal, unless_offline, set_policy, taken_offline, brought_online}
-use Rattle.cs_types.specs.Queueing.{dequeued, moved_to, rehomed, queued_at_home}
+use Rattle.cs_types.specs.Prctl.{Setting, setting_of, is_set, makes_cookie, with_made, with_answer, prctl_answer, set_cookies}
+use Rattle.cs_types.specs.Step.{Stepped, step, wake, block, exit, fork, turn, without, has_threads, child_of, child_at_home, may_not_fork, with_child, tick, run_idle, try_steal, unless_offline, set_policy, take_offline, bring_online}
+use Rattle.cs_types.specs.Queueing.{dequeue, moved_to, rehomed, queue_at_home}
 use Rattle.cs_types.specs.Steal.{source_of, stolen, may_steal}
 use Rattle.cs_types.specs.Hotplug.{away, back, lowest_other, leave, with_sibling_back}
 use Rattle.cs_types.specs.Accounting.{charge}
@@ -29,10 +29,10 @@ use Rattle.cs_types.proofs.Filtered.{each-filter, each_found}
 use Rattle.cs_types.proofs.Inserted.{found-inserted}
 use Rattle.cs_types.proofs.Tasks.{found_again}
 use Rattle.cs_types.proofs.Rising.{AreRising}
-use Rattle.cs_types.proofs.Siblings.{map-enumerate_alike, map-map_alike, get_or-map_default, kept, kept-schedule, kept-try_steal, kept-idled, kept-without, kept-queued_at_home, kept-ticked, kept-with_answer, kept-set_policy, length-alike, is_online-alike, length-step}
+use Rattle.cs_types.proofs.Siblings.{map-enumerate_alike, map-map_alike, get_or-map_default, kept, kept-schedule, kept-try_steal, kept-run_idle, kept-without, kept-queue_at_home, kept-tick, kept-with_answer, kept-set_policy, length-alike, is_online-alike, length-step}
 use Rattle.cs_types.proofs.Selections.{each_both}
 use Rattle.cs_types.proofs.Spots.{Spot, spot_at, each_is_found}
-use Rattle.cs_types.proofs.Moves.{spots-schedule, spots-advanced, spots-ticked_room, spots-queued_at_home, spots-dequeued, spots-without, spots-moved, spots-with_child, spots-with_policy_set, spot_off, spots-leave, spot_set, spots-with_cookies}
+use Rattle.cs_types.proofs.Moves.{spots-schedule, spots-advanced, spots-ticked_room, spots-queue_at_home, spots-dequeue, spots-without, spots-moved, spots-with_child, spots-with_policy_set, spot_off, spots-leave, spot_set, spots-set_cookies}
 use Rattle.cs_types.proofs.Places.{with_sibling_either, mapped_at, enumerated_at, lowest_online_is, lowest_other_is}
 
 -- ---- homes
@@ -125,8 +125,8 @@ housed-try_steal room cpu (Some task) up rises made housed =
     housed_by room (try_steal room cpu (Some task)).room (kept-try_steal room cpu (Some task))
     (λ pid. home_at room _ pid task.spec.pid _ (spots-moved room cpu task (stolen_is room cpu task rises made).0.found pid) (λ _. up) housed) housed
 
-housed-turned : (room : RoomState) (fresh : Bool) (cpu : ℕ) → is_online room cpu ≡ true → AreRising room → IsHoused room → IsHoused (turned room fresh cpu).room
-housed-turned room fresh cpu up rises housed =
+housed-turn : (room : RoomState) (fresh : Bool) (cpu : ℕ) → is_online room cpu ≡ true → AreRising room → IsHoused room → IsHoused (turn room fresh cpu).room
+housed-turn room fresh cpu up rises housed =
     cond_both (sibling_of room cpu).pending _ _ (λ (made : Stepped). IsHoused made.room) (λ _. housed-schedule room fresh cpu housed)
     (λ _. cond_both ((sibling_of room cpu).place == 0) _ _ (λ (made : Stepped). IsHoused made.room) (λ _. housed)
     (λ _. housed-try_steal room cpu (stolen room cpu) up rises refl housed))
@@ -140,26 +140,26 @@ running_is_found room cpu task runs = go (sibling_of room cpu).run runs where
   go (Some pid) runs =
       (ap Some (sym (eqb-true task.spec.pid pid (find_passes (has_pid pid) room.tasks task runs))), found_again pid room.tasks task runs)
 
-housed-blocked : (room : RoomState) (cpu : ℕ) (task : Option Task) → running_on room cpu ≡ task → IsHoused room → IsHoused (blocked room cpu task).room
-housed-blocked room cpu None runs housed = housed
-housed-blocked room cpu (Some task) runs housed =
-    housed-schedule (idled (dequeued (charge room) task) cpu) false cpu
-    (housed_by room (idled (dequeued (charge room) task) cpu) (kept-idled (charge room) cpu task)
-    (λ pid. home_at room _ pid task.spec.pid _ (spots-dequeued room task (running_is_found room cpu task runs).1 pid) (λ queued. absurd cc) housed) housed)
+housed-block : (room : RoomState) (cpu : ℕ) (task : Option Task) → running_on room cpu ≡ task → IsHoused room → IsHoused (block room cpu task).room
+housed-block room cpu None runs housed = housed
+housed-block room cpu (Some task) runs housed =
+    housed-schedule (run_idle (dequeue (charge room) task) cpu) false cpu
+    (housed_by room (run_idle (dequeue (charge room) task) cpu) (kept-run_idle (charge room) cpu task)
+    (λ pid. home_at room _ pid task.spec.pid _ (spots-dequeue room task (running_is_found room cpu task runs).1 pid) (λ queued. absurd cc) housed) housed)
 
-housed-exited : (room : RoomState) (cpu : ℕ) (task : Option Task) → IsHoused room → IsHoused (exited room cpu task).room
-housed-exited room cpu None housed = housed
-housed-exited room cpu (Some task) housed =
+housed-exit : (room : RoomState) (cpu : ℕ) (task : Option Task) → IsHoused room → IsHoused (exit room cpu task).room
+housed-exit room cpu None housed = housed
+housed-exit room cpu (Some task) housed =
     cond_both (has_threads room task) _ _ (λ (made : Stepped). IsHoused made.room) (λ _. housed)
-    (λ _. housed-schedule (idled (without (charge room) task) cpu) false cpu
-    (housed_by room (idled (without (charge room) task) cpu) (kept-without (charge room) cpu task)
+    (λ _. housed-schedule (run_idle (without (charge room) task) cpu) false cpu
+    (housed_by room (run_idle (without (charge room) task) cpu) (kept-without (charge room) cpu task)
     (λ pid. home_at room _ pid task.spec.pid None (spots-without room task pid) tt housed) housed))
 
-housed-queued_at_home : (room : RoomState) (task old : Task) → find (has_pid task.spec.pid) room.tasks ≡ Some old → is_online room task.home ≡ true →
-    IsHoused room → IsHoused (queued_at_home room task)
-housed-queued_at_home room task old found up housed =
-    housed_by room (queued_at_home room task) (kept-queued_at_home room task)
-    (λ pid. home_at room _ pid task.spec.pid _ (spots-queued_at_home room task old found pid) (λ _. up) housed) housed
+housed-queue_at_home : (room : RoomState) (task old : Task) → find (has_pid task.spec.pid) room.tasks ≡ Some old → is_online room task.home ≡ true →
+    IsHoused room → IsHoused (queue_at_home room task)
+housed-queue_at_home room task old found up housed =
+    housed_by room (queue_at_home room task) (kept-queue_at_home room task)
+    (λ pid. home_at room _ pid task.spec.pid _ (spots-queue_at_home room task old found pid) (λ _. up) housed) housed
 
 -- a task that woke is at home on an online sibling
 pub rehomed_is_online : (room : RoomState) (task : Task) → IsHoused room → is_online room (rehomed room task).home ≡ true
@@ -171,11 +171,11 @@ pub rehomed_is_found : (room : RoomState) (task : Task) → task_of room task.sp
 rehomed_is_found room task found =
     cond_both (is_online room task.home) task (moved_to room (lowest_online room) task) (λ (t : Task). task_of room t.spec.pid ≡ Some task) (λ _. found) (λ _. found)
 
-housed-woken : (room : RoomState) (pid : ℕ) (task : Option Task) → task_of room pid ≡ task → IsHoused room → IsHoused (woken room task).room
-housed-woken room pid None found housed = housed
-housed-woken room pid (Some task) found housed =
+housed-wake : (room : RoomState) (pid : ℕ) (task : Option Task) → task_of room pid ≡ task → IsHoused room → IsHoused (wake room task).room
+housed-wake room pid None found housed = housed
+housed-wake room pid (Some task) found housed =
     cond_both task.queued _ _ (λ (made : Stepped). IsHoused made.room) (λ _. housed)
-    (λ _. housed-queued_at_home room (rehomed room task) task (rehomed_is_found room task (found_again pid room.tasks task found)) (rehomed_is_online room task housed) housed)
+    (λ _. housed-queue_at_home room (rehomed room task) task (rehomed_is_found room task (found_again pid room.tasks task found)) (rehomed_is_online room task housed) housed)
 
 -- so is a child, which is found by its pid
 pub child_at_home_is_online : (room : RoomState) (child : Task) → IsHoused room → is_online room (child_at_home room child).home ≡ true
@@ -187,19 +187,19 @@ pub child_is_found : (room : RoomState) (caller : Task) (thread : Bool) →
     task_of (with_child room (child_of caller thread room.next_pid)) room.next_pid ≡ Some (child_of caller thread room.next_pid)
 child_is_found room caller thread = found-inserted (child_of caller thread room.next_pid) room.tasks
 
-housed-forked : (room : RoomState) (thread : Bool) (caller : Option Task) → IsHoused room → IsHoused (forked room thread caller).room
-housed-forked room thread None housed = housed
-housed-forked room thread (Some caller) housed =
+housed-fork : (room : RoomState) (thread : Bool) (caller : Option Task) → IsHoused room → IsHoused (fork room thread caller).room
+housed-fork room thread None housed = housed
+housed-fork room thread (Some caller) housed =
     let child = child_of caller thread room.next_pid in
     let born = with_child room child in
     let held : IsHoused born = housed_by room born refl (λ pid. home_at room _ pid room.next_pid _ (spots-with_child room caller thread pid) (λ queued. absurd cc) housed) housed in
     cond_both (may_not_fork room caller) _ _ (λ (made : Stepped). IsHoused made.room) (λ _. housed)
-    (λ _. housed-queued_at_home born (child_at_home room child) child (child_is_found room caller thread) (child_at_home_is_online room child housed) held)
+    (λ _. housed-queue_at_home born (child_at_home room child) child (child_is_found room caller thread) (child_at_home_is_online room child housed) held)
 
-housed-ticked : (room : RoomState) (cpu : ℕ) (task : Option Task) → running_on room cpu ≡ task → IsHoused room → IsHoused (ticked room cpu task).room
-housed-ticked room cpu None runs housed = housed_same room (charge room) refl (λ pid. refl) housed
-housed-ticked room cpu (Some task) runs housed =
-    housed_same room (ticked room cpu (Some task)).room (kept-ticked room cpu (Some task))
+housed-tick : (room : RoomState) (cpu : ℕ) (task : Option Task) → running_on room cpu ≡ task → IsHoused room → IsHoused (tick room cpu task).room
+housed-tick room cpu None runs housed = housed_same room (charge room) refl (λ pid. refl) housed
+housed-tick room cpu (Some task) runs housed =
+    housed_same room (tick room cpu (Some task)).room (kept-tick room cpu (Some task))
     (spots-ticked_room (charge room) cpu task (running_is_found room cpu task runs).1) housed
 
 -- what a sibling is after an advance
@@ -231,8 +231,8 @@ housed-advanced room delta housed =
 
 housed-with_answer : (room : RoomState) (set : Setting) (answer : Reply) → IsHoused room → IsHoused (with_answer room set answer)
 housed-with_answer room set Zero housed =
-    housed_by room (with_cookies room set) (kept-with_answer room set Zero)
-    (λ pid. subst (IsHome room) (sym (spots-with_cookies room set pid)) (go pid (spot_at room pid) (housed.homes pid))) housed where
+    housed_by room (set_cookies room set) (kept-with_answer room set Zero)
+    (λ pid. subst (IsHome room) (sym (spots-set_cookies room set pid)) (go pid (spot_at room pid) (housed.homes pid))) housed where
       go : (pid : ℕ) (one : Option Spot) → IsHome room one → IsHome room (option_map (spot_set set pid) one)
       go pid None home = tt
       go pid (Some spot) home =
@@ -280,14 +280,14 @@ housed-leave room cpu below up more housed =
           (λ _ queued. still (lowest_other room cpu) other.2 other.1)
           (λ off queued. still spot.home (eqb-false spot.home cpu (sym (ap (λ b. b && (spot.home == cpu)) queued) ∙ off)) (home queued))
 
-housed-taken_offline : (room : RoomState) (cpu : ℕ) → cpu < length room.siblings → IsHoused room → IsHoused (taken_offline room cpu).room
-housed-taken_offline room cpu below housed =
+housed-take_offline : (room : RoomState) (cpu : ℕ) → cpu < length room.siblings → IsHoused room → IsHoused (take_offline room cpu).room
+housed-take_offline room cpu below housed =
     cond_both (not (is_online room cpu)) _ _ (λ (made : Stepped). IsHoused made.room) (λ _. housed)
     (λ up. cond_both (length (online room) == 1) _ _ (λ (made : Stepped). IsHoused made.room) (λ _. housed)
     (λ more. housed-leave room cpu below (not-false (is_online room cpu) up) (eqb-false (length (online room)) 1 more) housed))
 
-housed-brought_online : (room : RoomState) (cpu : ℕ) → IsHoused room → IsHoused (brought_online room cpu).room
-housed-brought_online room cpu housed =
+housed-bring_online : (room : RoomState) (cpu : ℕ) → IsHoused room → IsHoused (bring_online room cpu).room
+housed-bring_online room cpu housed =
     cond_both (is_online room cpu) _ _ (λ (made : Stepped). IsHoused made.room) (λ _. housed)
     (λ _. housed_more room (with_sibling_back room cpu) (length-set room.siblings cpu (back (sibling_of room cpu)))
     (λ other up. back_is other up) housed.homes housed) where
@@ -299,17 +299,17 @@ housed-unless_offline : (room : RoomState) (cpu : ℕ) (stepped : Stepped) → I
 housed-unless_offline room cpu stepped housed now = cond_both (is_online room cpu) _ _ (λ (made : Stepped). IsHoused made.room) now (λ _. housed)
 
 pub housed-step : (room : RoomState) (fresh : Bool) (event : Event) → IsEvent (length room.siblings) event → AreRising room → IsHoused room → IsHoused (step room fresh event).room
-housed-step room fresh (Turn cpu) limits rises housed = housed-unless_offline room cpu _ housed (λ up. housed-turned room fresh cpu up rises housed)
+housed-step room fresh (Turn cpu) limits rises housed = housed-unless_offline room cpu _ housed (λ up. housed-turn room fresh cpu up rises housed)
 housed-step room fresh (Resched cpu) limits rises housed = housed-unless_offline room cpu _ housed (λ _. housed-schedule room fresh cpu housed)
-housed-step room fresh (Block cpu) limits rises housed = housed-unless_offline room cpu _ housed (λ _. housed-blocked room cpu (running_on room cpu) refl housed)
-housed-step room fresh (Exit cpu) limits rises housed = housed-unless_offline room cpu _ housed (λ _. housed-exited room cpu (running_on room cpu) housed)
-housed-step room fresh (Tick cpu) limits rises housed = housed-unless_offline room cpu _ housed (λ _. housed-ticked room cpu (running_on room cpu) refl housed)
-housed-step room fresh (Wake pid) limits rises housed = housed-woken room pid (task_of room pid) refl housed
+housed-step room fresh (Block cpu) limits rises housed = housed-unless_offline room cpu _ housed (λ _. housed-block room cpu (running_on room cpu) refl housed)
+housed-step room fresh (Exit cpu) limits rises housed = housed-unless_offline room cpu _ housed (λ _. housed-exit room cpu (running_on room cpu) housed)
+housed-step room fresh (Tick cpu) limits rises housed = housed-unless_offline room cpu _ housed (λ _. housed-tick room cpu (running_on room cpu) refl housed)
+housed-step room fresh (Wake pid) limits rises housed = housed-wake room pid (task_of room pid) refl housed
 housed-step room fresh (Advance delta) limits rises housed = housed-advanced room delta housed
-housed-step room fresh (Fork caller thread) limits rises housed = housed-forked room thread (task_of room caller) housed
+housed-step room fresh (Fork caller thread) limits rises housed = housed-fork room thread (task_of room caller) housed
 housed-step room fresh (Prctl caller ask) limits rises housed =
     housed-with_answer (with_made room (makes_cookie room caller ask)) (setting_of room caller ask) (prctl_answer room caller ask)
     (record { some = housed.some; homes = housed.homes })
 housed-step room fresh (SetSched pid policy) limits rises housed = housed-set_policy room policy pid (task_of room pid) refl housed
-housed-step room fresh (Offline cpu) limits rises housed = housed-taken_offline room cpu limits housed
-housed-step room fresh (Online cpu) limits rises housed = housed-brought_online room cpu housed
+housed-step room fresh (Offline cpu) limits rises housed = housed-take_offline room cpu limits housed
+housed-step room fresh (Online cpu) limits rises housed = housed-bring_online room cpu housed

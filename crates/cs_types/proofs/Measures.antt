@@ -12,14 +12,14 @@ use Rattle.cs_types.specs.declared.event.Event.TheVariants.{Resched}
 use Rattle.cs_types.specs.declared.reply.Reply.TheVariants.{Picked}
 use Rattle.cs_types.specs.Room.{RoomState, SiblingState, Waiting, absent, sibling_of, is_online, online}
 use Rattle.cs_types.specs.Touches.{is_selection, LedgerEntry, Ledger, ledger_entry, is_fresh}
-use Rattle.cs_types.specs.Selection.{cookie_of, pid_of, lead_from, choice, is_run, selected, Scheduled, adopted, is_plain, plain, picked_anew, adopted_or_picked_anew, balanced, schedule, sibling_after_selection}
+use Rattle.cs_types.specs.Selection.{cookie_of, pid_of, lead_from, choice, is_run, select, Scheduled, adopt, is_plain, pick_plain, pick_anew, adopt_or_pick_anew, balance, schedule, sibling_after_selection}
 use Rattle.cs_types.specs.Accounting.{charge}
 use Rattle.cs_types.specs.Step.{Stepped, picked}
 use Rattle.cs_types.specs.History.{Moment, step_at, next}
 use Rattle.cs_types.specs.Drain.{pending, is_ready, next_to_schedule, entry_by_end}
 use Rattle.cs_types.proofs.Siblings.{length-step}
 use Rattle.cs_types.proofs.Filtered.{Contains-filter, Contains-filter_parts, Contains-range}
-use Rattle.cs_types.proofs.Selections.{online_parts, sibling_of-selected_room, selected_keeps_law, get_or-set_alike}
+use Rattle.cs_types.proofs.Selections.{online_parts, sibling_of-select_for, selected_keeps_law, get_or-set_alike}
 use Rattle.cs_types.proofs.Numbers.{untouched, untouched-cons}
 use Rattle.cs_types.proofs.Drains.{next_is_pending}
 
@@ -198,8 +198,8 @@ moment_after moment cpu made =
     }
 
 -- the next place of a steal try makes no difference
-looks-balanced : (cpu : ℕ) (made : Scheduled) (other : ℕ) → looks (sibling_of (balanced cpu made).room other) ≡ looks (sibling_of made.room other)
-looks-balanced cpu made other = get_or-set_alike looks made.room.siblings cpu _ other absent refl
+looks-balance : (cpu : ℕ) (made : Scheduled) (other : ℕ) → looks (sibling_of (balance cpu made).room other) ≡ looks (sibling_of made.room other)
+looks-balance cpu made other = get_or-set_alike looks made.room.siblings cpu _ other absent refl
 
 -- ---- the selection after an entry
 
@@ -245,15 +245,15 @@ passed_before room now cpu test was gone alike other weaker passes =
     ]
 
 adopted_falls : (moment : Moment) (cpu : ℕ) (run : Option ℕ) → cpu < length moment.room.siblings → is_fresh moment.ledger ≡ true → would_adopt moment cpu ≡ true →
-    let now = moment_after moment cpu (picked Picked (balanced cpu (adopted moment.room cpu run))) in
+    let now = moment_after moment cpu (picked Picked (balance cpu (adopt moment.room cpu run))) in
     length now.room.siblings ≡ length moment.room.siblings → measure now < measure moment
 adopted_falls moment cpu run below fresh adopts same =
-    let made = adopted moment.room cpu run in
-    let now = moment_after moment cpu (picked Picked (balanced cpu made)) in
+    let made = adopt moment.room cpu run in
+    let now = moment_after moment cpu (picked Picked (balance cpu made)) in
     let as_before = fresh_untouched (ledger_entry moment.room (record { actor = End; event = Resched cpu; reply = Picked made.pick })) moment.ledger refl refl in
     let gone : (looks (sibling_of now.room cpu)).1 ≡ false =
-    ap (λ (look : Bool × Bool × Bool). look.1) (looks-balanced cpu made cpu ∙ looks_there moment.room cpu _ below) in
-    let alike = λ (other : ℕ) (apart : other ≡ cpu → ⊥). looks-balanced cpu made other ∙ looks_elsewhere moment.room cpu _ other apart in
+    ap (λ (look : Bool × Bool × Bool). look.1) (looks-balance cpu made cpu ∙ looks_there moment.room cpu _ below) in
+    let alike = λ (other : ℕ) (apart : other ≡ cpu → ⊥). looks-balance cpu made other ∙ looks_elsewhere moment.room cpu _ other apart in
     falls_by_adopting moment now cpu same below
     (λ other high. passed_before moment.room now.room cpu (stuck_by (is_fresh now.ledger)) (stuck_by (is_fresh moment.ledger))
     (not_stuck (is_fresh now.ledger) (looks (sibling_of now.room cpu)) gone) alike other
@@ -267,14 +267,14 @@ adopted_falls moment cpu run below fresh adopts same =
 
 plain_falls : (moment : Moment) (cpu : ℕ) → cpu < length moment.room.siblings → is_pending moment.room cpu ≡ true →
     ((other : ℕ) → other < length moment.room.siblings → would_adopt moment other ≡ false) →
-    let now = moment_after moment cpu (picked Picked (balanced cpu (plain moment.room cpu))) in
+    let now = moment_after moment cpu (picked Picked (balance cpu (pick_plain moment.room cpu))) in
     length now.room.siblings ≡ length moment.room.siblings → measure now < measure moment
 plain_falls moment cpu below due none same =
-    let made = plain moment.room cpu in
-    let now = moment_after moment cpu (picked Picked (balanced cpu made)) in
+    let made = pick_plain moment.room cpu in
+    let now = moment_after moment cpu (picked Picked (balance cpu made)) in
     let gone : (looks (sibling_of now.room cpu)).1 ≡ false =
-    ap (λ (look : Bool × Bool × Bool). look.1) (looks-balanced cpu made cpu ∙ looks_there moment.room cpu _ below) in
-    let alike = λ (other : ℕ) (apart : other ≡ cpu → ⊥). looks-balanced cpu made other ∙ looks_elsewhere moment.room cpu _ other apart in
+    ap (λ (look : Bool × Bool × Bool). look.1) (looks-balance cpu made cpu ∙ looks_there moment.room cpu _ below) in
+    let alike = λ (other : ℕ) (apart : other ≡ cpu → ⊥). looks-balance cpu made other ∙ looks_elsewhere moment.room cpu _ other apart in
     falls_by_touching moment now cpu same below
     (λ other high. passed_before moment.room now.room cpu (stuck_by (is_fresh now.ledger)) (stuck_by (is_fresh moment.ledger))
     (not_stuck (is_fresh now.ledger) (looks (sibling_of now.room cpu)) gone) alike other
@@ -301,21 +301,21 @@ stuck_after_selection room core selector cpu sibling =
 
 selected_falls : (moment : Moment) (cpu : ℕ) → cpu < length moment.room.siblings → is_pending moment.room cpu ≡ true →
     ((other : ℕ) → other < length moment.room.siblings → would_adopt moment other ≡ false) →
-    let now = moment_after moment cpu (picked Picked (balanced cpu (selected moment.room cpu))) in
+    let now = moment_after moment cpu (picked Picked (balance cpu (select moment.room cpu))) in
     length now.room.siblings ≡ length moment.room.siblings → measure now < measure moment
 selected_falls moment cpu below due none same =
-    let made = selected moment.room cpu in
+    let made = select moment.room cpu in
     let core = cookie_of (lead_from moment.room cpu) in
-    let now = moment_after moment cpu (picked Picked (balanced cpu made)) in
+    let now = moment_after moment cpu (picked Picked (balance cpu made)) in
     let is_new = fresh_selected (ledger_entry moment.room (record { actor = End; event = Resched cpu; reply = Picked made.pick })) moment.ledger refl in
     let up = (and_parts (is_online moment.room cpu) _ due).0 in
     let gone : (looks (sibling_of now.room cpu)).1 ≡ false =
-    ap (λ (look : Bool × Bool × Bool). look.1) (looks-balanced cpu made cpu) ∙ (selected_keeps_law moment.room cpu below up).selector.not_pending in
+    ap (λ (look : Bool × Bool × Bool). look.1) (looks-balance cpu made cpu) ∙ (selected_keeps_law moment.room cpu below up).selector.not_pending in
     falls_by_touching moment now cpu same below
     (λ other high passes.
     stuck_else (is_pending moment.room other) (is_ready moment other)
     (stuck_after_selection moment.room core cpu other (sibling_of moment.room other)
-    (sym (λ i. stuck_by (is_new i) ((looks-balanced cpu made other ∙ ap looks (sibling_of-selected_room moment.room cpu core other high)) i)) ∙ passes))
+    (sym (λ i. stuck_by (is_new i) ((looks-balance cpu made other ∙ ap looks (sibling_of-select_for moment.room cpu core other high)) i)) ∙ passes))
     (none other high))
     (not_stuck (is_fresh now.ledger) (looks (sibling_of now.room cpu)) gone)
     (stuck_else (is_pending moment.room cpu) (is_ready moment cpu) due (none cpu below))
@@ -325,13 +325,13 @@ selected_falls moment cpu below due none same =
 
 rescheduled_falls : (moment : Moment) (cpu : ℕ) → cpu < length moment.room.siblings → is_pending moment.room cpu ≡ true →
     ((other : ℕ) → other < length moment.room.siblings → would_adopt moment other ≡ false) →
-    let now = moment_after moment cpu (picked Picked (balanced cpu (picked_anew (charge moment.room) cpu))) in
+    let now = moment_after moment cpu (picked Picked (balance cpu (pick_anew (charge moment.room) cpu))) in
     length now.room.siblings ≡ length moment.room.siblings → measure now < measure moment
 rescheduled_falls moment cpu below due none =
     let paid : Moment = record moment { room = charge moment.room } in
-    cond_both (is_plain paid.room cpu) (plain paid.room cpu) (selected paid.room cpu)
-    (λ made. length (balanced cpu made).room.siblings ≡ length moment.room.siblings →
-    measure (moment_after moment cpu (picked Picked (balanced cpu made))) < measure moment)
+    cond_both (is_plain paid.room cpu) (pick_plain paid.room cpu) (select paid.room cpu)
+    (λ made. length (balance cpu made).room.siblings ≡ length moment.room.siblings →
+    measure (moment_after moment cpu (picked Picked (balance cpu made))) < measure moment)
     (λ _. plain_falls paid cpu below due none) (λ _. selected_falls paid cpu below due none)
 
 -- where no pending sibling is ready, none would adopt
@@ -355,7 +355,7 @@ pending_parts room cpu held =
 
 scheduled_falls : (moment : Moment) (cpu : ℕ) (fresh : Bool) (waiting : Waiting) → is_fresh moment.ledger ≡ fresh → (sibling_of moment.room cpu).waiting ≡ waiting →
     Contains (pending moment.room) cpu → (is_ready moment cpu ≡ true) ⊎ (filter (is_ready moment) (pending moment.room) ≡ []) →
-    let now = moment_after moment cpu (picked Picked (balanced cpu (adopted_or_picked_anew moment.room fresh cpu waiting))) in
+    let now = moment_after moment cpu (picked Picked (balance cpu (adopt_or_pick_anew moment.room fresh cpu waiting))) in
     length now.room.siblings ≡ length moment.room.siblings → measure now < measure moment
 scheduled_falls moment cpu fresh None is_new waits held (inl ready) same =
     absurd (both_ways (is_some (sibling_of moment.room cpu).waiting) (ap is_some waits) (and_parts (is_fresh moment.ledger) _ ready).1)

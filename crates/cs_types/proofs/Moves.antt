@@ -7,36 +7,36 @@ use Rattle.cs_types.specs.declared.task.Task.{Task}
 use Rattle.cs_types.specs.declared.task.Policy.{Policy}
 use Rattle.cs_types.specs.declared.task.Policy.TheVariants.{Stop, Deadline, Fifo, Rr, Fair}
 use Rattle.cs_types.specs.Room.{RoomState, has_pid, task_of, sibling_of, with_task}
-use Rattle.cs_types.specs.Selection.{selected_room, selected, plain, is_plain, picked_anew, adopted_or_picked_anew, schedule, task_after_selection}
+use Rattle.cs_types.specs.Selection.{select_for, select, pick_plain, is_plain, pick_anew, adopt_or_pick_anew, schedule, task_after_selection}
 use Rattle.cs_types.specs.Accounting.{charge}
-use Rattle.cs_types.specs.Queueing.{refreshed_by, refreshed, dequeued, moved, moved_to, queued_at_home}
+use Rattle.cs_types.specs.Queueing.{refreshed_by, refreshed, dequeue, moved, moved_to, queue_at_home}
 use Rattle.cs_types.specs.Step.{without, with_child, child_of, with_policy, with_policy_set}
 use Rattle.cs_types.specs.Time.{is_running, grown, grown_by, advanced, ticked_room, has_used_slice, rotates}
 use Rattle.cs_types.specs.Hotplug.{lowest_other, moved_off, leave}
-use Rattle.cs_types.specs.Prctl.{Setting, is_set, with_cookies}
+use Rattle.cs_types.specs.Prctl.{Setting, is_set, set_cookies}
 use Rattle.cs_types.proofs.Foremost.{find_passes}
 use Rattle.cs_types.proofs.Rising.{pid-grown_by}
 use Rattle.cs_types.proofs.Spots.{Spot, spot_of, spot_at, find-map, spot_in-map, spot_in-replaced, find-replaced, spot_in-alike, spot_in-without, spot_in-inserted}
 
 -- ---- a schedule moves no task
 
-pub spots-selected_room : (room : RoomState) (cpu core pid : ℕ) → spot_at (selected_room room cpu core) pid ≡ spot_at room pid
-unfolding selected_room
-spots-selected_room room cpu core pid =
+pub spots-select_for : (room : RoomState) (cpu core pid : ℕ) → spot_at (select_for room cpu core) pid ≡ spot_at room pid
+unfolding select_for
+spots-select_for room cpu core pid =
     spot_in-map (task_after_selection room core) (λ task. refl) (λ task. refl) room.tasks pid
 
-pub spots-picked_anew : (room : RoomState) (cpu pid : ℕ) → spot_at (picked_anew room cpu).room pid ≡ spot_at room pid
-spots-picked_anew room cpu pid =
-    cond_both (is_plain room cpu) (plain room cpu) (selected room cpu) (λ made. spot_at made.room pid ≡ spot_at room pid) (λ _. refl)
-    (λ _. spots-selected_room room cpu _ pid)
+pub spots-pick_anew : (room : RoomState) (cpu pid : ℕ) → spot_at (pick_anew room cpu).room pid ≡ spot_at room pid
+spots-pick_anew room cpu pid =
+    cond_both (is_plain room cpu) (pick_plain room cpu) (select room cpu) (λ made. spot_at made.room pid ≡ spot_at room pid) (λ _. refl)
+    (λ _. spots-select_for room cpu _ pid)
 
-pub spots-adopted_or_picked_anew : (room : RoomState) (fresh : Bool) (cpu : ℕ) (waiting : Option (Option ℕ)) (pid : ℕ) → spot_at (adopted_or_picked_anew room fresh cpu waiting).room pid ≡ spot_at room pid
-spots-adopted_or_picked_anew room fresh cpu None pid = spots-picked_anew (charge room) cpu pid
-spots-adopted_or_picked_anew room true cpu (Some run) pid = refl
-spots-adopted_or_picked_anew room false cpu (Some run) pid = spots-picked_anew (charge room) cpu pid
+pub spots-adopt_or_pick_anew : (room : RoomState) (fresh : Bool) (cpu : ℕ) (waiting : Option (Option ℕ)) (pid : ℕ) → spot_at (adopt_or_pick_anew room fresh cpu waiting).room pid ≡ spot_at room pid
+spots-adopt_or_pick_anew room fresh cpu None pid = spots-pick_anew (charge room) cpu pid
+spots-adopt_or_pick_anew room true cpu (Some run) pid = refl
+spots-adopt_or_pick_anew room false cpu (Some run) pid = spots-pick_anew (charge room) cpu pid
 
 pub spots-schedule : (room : RoomState) (fresh : Bool) (cpu pid : ℕ) → spot_at (schedule room fresh cpu).room pid ≡ spot_at room pid
-spots-schedule room fresh cpu pid = spots-adopted_or_picked_anew room fresh cpu (sibling_of room cpu).waiting pid
+spots-schedule room fresh cpu pid = spots-adopt_or_pick_anew room fresh cpu (sibling_of room cpu).waiting pid
 
 -- ---- nor do an advance and a tick
 
@@ -82,9 +82,9 @@ spot-refreshed_by room (Fair nice) task = refl
 abbrev pub queued_spot : Task → Spot
 queued_spot task = record { queued = true; home = task.home; cookie = task.cookie }
 
-pub spots-queued_at_home : (room : RoomState) (task old : Task) → find (has_pid task.spec.pid) room.tasks ≡ Some old → (pid : ℕ) →
-    spot_at (queued_at_home room task) pid ≡ cond (pid == task.spec.pid) (Some (queued_spot task)) (spot_at room pid)
-spots-queued_at_home room task old found pid =
+pub spots-queue_at_home : (room : RoomState) (task old : Task) → find (has_pid task.spec.pid) room.tasks ≡ Some old → (pid : ℕ) →
+    spot_at (queue_at_home room task) pid ≡ cond (pid == task.spec.pid) (Some (queued_spot task)) (spot_at room pid)
+spots-queue_at_home room task old found pid =
     let fresh = refreshed room task in
     let same = pid-refreshed_by room task.spec.policy task in
     let spot = spot-refreshed_by room task.spec.policy task in
@@ -92,9 +92,9 @@ spots-queued_at_home room task old found pid =
     ∙ (ap (λ n. cond (pid == n) (Some (queued_spot fresh)) (spot_at room pid)) same
     ∙ ap (λ (s : Spot). cond (pid == task.spec.pid) (Some (record s { queued = true })) (spot_at room pid)) spot)
 
-pub spots-dequeued : (room : RoomState) (task : Task) → task_of room task.spec.pid ≡ Some task → (pid : ℕ) →
-    spot_at (dequeued room task) pid ≡ cond (pid == task.spec.pid) (Some (record (spot_of task) { queued = false })) (spot_at room pid)
-spots-dequeued room task found pid = spot_in-replaced (record task { queued = false }) task room.tasks found pid
+pub spots-dequeue : (room : RoomState) (task : Task) → task_of room task.spec.pid ≡ Some task → (pid : ℕ) →
+    spot_at (dequeue room task) pid ≡ cond (pid == task.spec.pid) (Some (record (spot_of task) { queued = false })) (spot_at room pid)
+spots-dequeue room task found pid = spot_in-replaced (record task { queued = false }) task room.tasks found pid
 
 pub spots-without : (room : RoomState) (task : Task) (pid : ℕ) → spot_at (without room task) pid ≡ cond (pid == task.spec.pid) None (spot_at room pid)
 spots-without room task pid = spot_in-without task.spec.pid room.tasks pid
@@ -119,11 +119,11 @@ pub spots-with_policy : (room : RoomState) (policy : Policy) (task : Task) → t
     spot_at (with_task room (with_policy policy task)) pid ≡ spot_at room pid
 spots-with_policy room policy task found pid = spot_in-alike (with_policy policy task) task room.tasks found refl pid
 
-pub spots-requeued : (room : RoomState) (policy : Policy) (task : Task) → task_of room task.spec.pid ≡ Some task → task.queued ≡ true → (pid : ℕ) →
-    spot_at (queued_at_home (dequeued room (with_policy policy task)) (with_policy policy task)) pid ≡ spot_at room pid
-spots-requeued room policy task found is pid =
-    spots-queued_at_home (dequeued room changed) changed gone found_then pid
-    ∙ cond_both (pid == task.spec.pid) (Some (queued_spot changed)) (spot_at (dequeued room changed) pid) (λ one. one ≡ spot_at room pid)
+pub spots-requeue : (room : RoomState) (policy : Policy) (task : Task) → task_of room task.spec.pid ≡ Some task → task.queued ≡ true → (pid : ℕ) →
+    spot_at (queue_at_home (dequeue room (with_policy policy task)) (with_policy policy task)) pid ≡ spot_at room pid
+spots-requeue room policy task found is pid =
+    spots-queue_at_home (dequeue room changed) changed gone found_then pid
+    ∙ cond_both (pid == task.spec.pid) (Some (queued_spot changed)) (spot_at (dequeue room changed) pid) (λ one. one ≡ spot_at room pid)
     (λ same. sym (ap (spot_at room) (eqb-true pid task.spec.pid same) ∙ (ap (option_map spot_of) found
     ∙ ap (λ b. Some (record (spot_of task) { queued = b })) is)))
     (λ other. spot_in-replaced gone task room.tasks found pid ∙ cond-false (pid == task.spec.pid) _ _ other) where
@@ -133,14 +133,14 @@ spots-requeued room policy task found is pid =
       gone : Task
       gone = record changed { queued = false }
 
-      found_then : find (has_pid task.spec.pid) (dequeued room changed).tasks ≡ Some gone
+      found_then : find (has_pid task.spec.pid) (dequeue room changed).tasks ≡ Some gone
       found_then = find-replaced gone task room.tasks found task.spec.pid ∙ cond-true (task.spec.pid == task.spec.pid) _ _ (eq-eqb _ _ refl)
 
 pub spots-with_policy_set : (room : RoomState) (policy : Policy) (task : Task) → task_of room task.spec.pid ≡ Some task → (pid : ℕ) →
     spot_at (with_policy_set room policy task) pid ≡ spot_at room pid
 spots-with_policy_set room policy task found pid =
     cond_both task.queued _ _ (λ (made : RoomState). spot_at made pid ≡ spot_at room pid)
-    (λ is. spots-requeued room policy task found is pid) (λ _. spots-with_policy room policy task found pid)
+    (λ is. spots-requeue room policy task found is pid) (λ _. spots-with_policy room policy task found pid)
 
 -- ---- a sibling that leaves
 
@@ -170,9 +170,9 @@ spots-leave room cpu pid =
 abbrev pub spot_set : Setting → ℕ → Spot → Spot
 spot_set set pid spot = cond (is_set set pid) (record spot { cookie = set.cookie }) spot
 
-pub spots-with_cookies : (room : RoomState) (set : Setting) (pid : ℕ) →
-    spot_at (with_cookies room set) pid ≡ option_map (spot_set set pid) (spot_at room pid)
-spots-with_cookies room set pid =
+pub spots-set_cookies : (room : RoomState) (set : Setting) (pid : ℕ) →
+    spot_at (set_cookies room set) pid ≡ option_map (spot_set set pid) (spot_at room pid)
+spots-set_cookies room set pid =
     ap (option_map spot_of) (find-map given
     (λ task. cond_both (is_set set task.spec.pid) (record task { cookie = set.cookie }) task (λ (t : Task). t.spec.pid ≡ task.spec.pid) (λ _. refl) (λ _. refl)) pid room.tasks)
     ∙ go (task_of room pid) refl where

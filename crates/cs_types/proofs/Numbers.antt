@@ -21,13 +21,13 @@ use Rattle.cs_types.specs.declared.reply.Reply.TheVariants.{Picked, Slept, Ended
 use Rattle.cs_types.specs.declared.reply.Entry.{Entry}
 use Rattle.cs_types.specs.declared.scenario.Scenario.{Scenario}
 use Rattle.cs_types.specs.Room.{RoomState, first_pid, queued_on, sibling_of, running_on, is_online, online, task_of}
-use Rattle.cs_types.specs.Selection.{selected_room, selected, plain, is_plain, picked_anew, adopted_or_picked_anew, schedule}
+use Rattle.cs_types.specs.Selection.{select_for, select, pick_plain, is_plain, pick_anew, adopt_or_pick_anew, schedule}
 use Rattle.cs_types.specs.Accounting.{charge}
 use Rattle.cs_types.specs.Prctl.{Setting, target_of, setting_by, setting_of, is_share_from, is_in_scope, makes_cookie, with_made, with_answer, prctl_answer, prctl_room}
-use Rattle.cs_types.specs.Step.{Stepped, step, woken, blocked, exited, forked, may_not_fork, ticked, turned, without, has_threads, idled, try_steal, unless_offline, set_policy, taken_offline, brought_online}
+use Rattle.cs_types.specs.Step.{Stepped, step, wake, block, exit, fork, may_not_fork, tick, turn, without, has_threads, run_idle, try_steal, unless_offline, set_policy, take_offline, bring_online}
 use Rattle.cs_types.specs.Steal.{stolen}
 use Rattle.cs_types.specs.Hotplug.{leave}
-use Rattle.cs_types.specs.Queueing.{dequeued}
+use Rattle.cs_types.specs.Queueing.{dequeue}
 use Rattle.cs_types.specs.Time.{advanced, rotates}
 use Rattle.cs_types.specs.Touches.{is_selected, is_adopted, pick_touches, cookie_touches, set_touches, selection_of, is_selection, policy_touches, policy_set_touches, leaving_touches, touches_by, LedgerEntry, Ledger, ledger_entry, back_to, task_number, pick_number, own_number, is_taken_by, is_fresh}
 use Rattle.cs_types.specs.History.{History, Moment, next, after, fold_of, ledger_of, beginning}
@@ -227,23 +227,23 @@ task_number-ledger_of scenario history few low =
 abbrev pub draws : RoomState → ℕ × ℕ × ℕ × ℕ
 draws room = (room.next_stamp, room.next_cookie, room.next_pid, length room.ended)
 
-draws-selected_room : (room : RoomState) (cpu core : ℕ) → draws (selected_room room cpu core) ≡ draws room
-unfolding selected_room
-draws-selected_room room cpu core = refl
+draws-select_for : (room : RoomState) (cpu core : ℕ) → draws (select_for room cpu core) ≡ draws room
+unfolding select_for
+draws-select_for room cpu core = refl
 
-draws-picked_anew : (room : RoomState) (cpu : ℕ) → draws (picked_anew room cpu).room ≡ draws room
-draws-picked_anew room cpu =
-    cond_both (is_plain room cpu) (plain room cpu) (selected room cpu) (λ made. draws made.room ≡ draws room) (λ _. refl)
-    (λ _. draws-selected_room room cpu _)
+draws-pick_anew : (room : RoomState) (cpu : ℕ) → draws (pick_anew room cpu).room ≡ draws room
+draws-pick_anew room cpu =
+    cond_both (is_plain room cpu) (pick_plain room cpu) (select room cpu) (λ made. draws made.room ≡ draws room) (λ _. refl)
+    (λ _. draws-select_for room cpu _)
 
-draws-adopted_or_picked_anew : (room : RoomState) (fresh : Bool) (cpu : ℕ) (waiting : Option (Option ℕ)) → draws (adopted_or_picked_anew room fresh cpu waiting).room ≡ draws room
-draws-adopted_or_picked_anew room fresh cpu None = draws-picked_anew (charge room) cpu
-draws-adopted_or_picked_anew room true cpu (Some run) = refl
-draws-adopted_or_picked_anew room false cpu (Some run) = draws-picked_anew (charge room) cpu
+draws-adopt_or_pick_anew : (room : RoomState) (fresh : Bool) (cpu : ℕ) (waiting : Option (Option ℕ)) → draws (adopt_or_pick_anew room fresh cpu waiting).room ≡ draws room
+draws-adopt_or_pick_anew room fresh cpu None = draws-pick_anew (charge room) cpu
+draws-adopt_or_pick_anew room true cpu (Some run) = refl
+draws-adopt_or_pick_anew room false cpu (Some run) = draws-pick_anew (charge room) cpu
 
 -- A schedule draws nothing.
 draws-schedule : (room : RoomState) (fresh : Bool) (cpu : ℕ) → draws (schedule room fresh cpu).room ≡ draws room
-draws-schedule room fresh cpu = draws-adopted_or_picked_anew room fresh cpu (sibling_of room cpu).waiting
+draws-schedule room fresh cpu = draws-adopt_or_pick_anew room fresh cpu (sibling_of room cpu).waiting
 
 -- at most one more of each was drawn, and of the stamps one more than there were tasks
 pub record DrawsOne (tasks : ℕ) (old new : ℕ × ℕ × ℕ × ℕ) : Type 0 where
@@ -264,44 +264,44 @@ draws-try_steal : (room : RoomState) (cpu : ℕ) (task : Option Task) → DrawsO
 draws-try_steal room cpu None = draws_none _ _ _ refl
 draws-try_steal room cpu (Some task) = record { stamp = omega arith; cookie = omega arith; pid = omega arith; ended = omega arith }
 
-draws-turned : (room : RoomState) (fresh : Bool) (cpu : ℕ) → DrawsOne (length room.tasks) (draws room) (draws (turned room fresh cpu).room)
-draws-turned room fresh cpu =
+draws-turn : (room : RoomState) (fresh : Bool) (cpu : ℕ) → DrawsOne (length room.tasks) (draws room) (draws (turn room fresh cpu).room)
+draws-turn room fresh cpu =
     cond_both (sibling_of room cpu).pending _ _ (λ (made : Stepped). DrawsOne (length room.tasks) (draws room) (draws made.room))
     (λ _. draws_none _ _ _ (draws-schedule room fresh cpu))
     (λ _. cond_both ((sibling_of room cpu).place == 0) _ _ (λ (made : Stepped). DrawsOne (length room.tasks) (draws room) (draws made.room)) (λ _. draws_none _ _ _ refl)
     (λ _. draws-try_steal room cpu (stolen room cpu)))
 
-draws-blocked : (room : RoomState) (cpu : ℕ) (task : Option Task) → draws (blocked room cpu task).room ≡ draws room
-draws-blocked room cpu None = refl
-draws-blocked room cpu (Some task) = draws-schedule (idled (dequeued (charge room) task) cpu) false cpu
+draws-block : (room : RoomState) (cpu : ℕ) (task : Option Task) → draws (block room cpu task).room ≡ draws room
+draws-block room cpu None = refl
+draws-block room cpu (Some task) = draws-schedule (run_idle (dequeue (charge room) task) cpu) false cpu
 
-draws-woken : (room : RoomState) (task : Option Task) → DrawsOne (length room.tasks) (draws room) (draws (woken room task).room)
-draws-woken room None = draws_none _ _ _ refl
-draws-woken room (Some task) =
+draws-wake : (room : RoomState) (task : Option Task) → DrawsOne (length room.tasks) (draws room) (draws (wake room task).room)
+draws-wake room None = draws_none _ _ _ refl
+draws-wake room (Some task) =
     cond_both task.queued _ _ (λ (made : Stepped). DrawsOne (length room.tasks) (draws room) (draws made.room)) (λ _. draws_none _ _ _ refl)
     (λ _. record { stamp = omega arith; cookie = omega arith; pid = omega arith; ended = omega arith })
 
-draws-exited : (room : RoomState) (cpu : ℕ) (task : Option Task) → DrawsOne (length room.tasks) (draws room) (draws (exited room cpu task).room)
-draws-exited room cpu None = draws_none _ _ _ refl
-draws-exited room cpu (Some task) =
+draws-exit : (room : RoomState) (cpu : ℕ) (task : Option Task) → DrawsOne (length room.tasks) (draws room) (draws (exit room cpu task).room)
+draws-exit room cpu None = draws_none _ _ _ refl
+draws-exit room cpu (Some task) =
     cond_both (has_threads room task) _ _ (λ (made : Stepped). DrawsOne (length room.tasks) (draws room) (draws made.room)) (λ _. draws_none _ _ _ refl)
-    (λ _. subst (DrawsOne (length room.tasks) (draws room)) (sym (draws-schedule (idled (without (charge room) task) cpu) false cpu)) (record {
+    (λ _. subst (DrawsOne (length room.tasks) (draws room)) (sym (draws-schedule (run_idle (without (charge room) task) cpu) false cpu)) (record {
       stamp = omega arith;
       cookie = omega arith;
       pid = omega arith;
       ended = omega (arith, length-append room.ended (task.spec.pid ∷ []));
     }))
 
-draws-forked : (room : RoomState) (thread : Bool) (caller : Option Task) → DrawsOne (length room.tasks) (draws room) (draws (forked room thread caller).room)
-draws-forked room thread None = draws_none _ _ _ refl
-draws-forked room thread (Some caller) =
+draws-fork : (room : RoomState) (thread : Bool) (caller : Option Task) → DrawsOne (length room.tasks) (draws room) (draws (fork room thread caller).room)
+draws-fork room thread None = draws_none _ _ _ refl
+draws-fork room thread (Some caller) =
     cond_both (may_not_fork room caller) _ _ (λ (made : Stepped). DrawsOne (length room.tasks) (draws room) (draws made.room)) (λ _. draws_none _ _ _ refl)
     (λ _. record { stamp = omega arith; cookie = omega arith; pid = omega arith; ended = omega arith })
 
 -- a rotation draws a stamp
-draws-ticked : (room : RoomState) (cpu : ℕ) (task : Option Task) → DrawsOne (length room.tasks) (draws room) (draws (ticked room cpu task).room)
-draws-ticked room cpu None = draws_none _ _ _ refl
-draws-ticked room cpu (Some task) =
+draws-tick : (room : RoomState) (cpu : ℕ) (task : Option Task) → DrawsOne (length room.tasks) (draws room) (draws (tick room cpu task).room)
+draws-tick room cpu None = draws_none _ _ _ refl
+draws-tick room cpu (Some task) =
     record {
       stamp = cond_both (rotates room cpu task) (room.next_stamp + 1) room.next_stamp (λ n. n ≤ room.next_stamp + length room.tasks + 1) (λ _. omega arith) (λ _. omega arith);
       cookie = omega arith;
@@ -343,32 +343,32 @@ draws-set_policy room policy (Some task) =
     (λ _. record { stamp = omega arith; cookie = omega arith; pid = omega arith; ended = omega arith }) (λ _. draws_none _ _ _ refl)
 
 -- a sibling that leaves draws a stamp for each task that moves
-draws-taken_offline : (room : RoomState) (cpu : ℕ) → DrawsOne (length room.tasks) (draws room) (draws (taken_offline room cpu).room)
+draws-take_offline : (room : RoomState) (cpu : ℕ) → DrawsOne (length room.tasks) (draws room) (draws (take_offline room cpu).room)
 unfolding leave
-draws-taken_offline room cpu =
+draws-take_offline room cpu =
     cond_both (not (is_online room cpu)) _ _ (λ (made : Stepped). DrawsOne (length room.tasks) (draws room) (draws made.room)) (λ _. draws_none _ _ _ refl)
     (λ _. cond_both (length (online room) == 1) _ _ (λ (made : Stepped). DrawsOne (length room.tasks) (draws room) (draws made.room)) (λ _. draws_none _ _ _ refl)
     (λ _. record { stamp = omega (arith, queued_on-le room cpu); cookie = omega arith; pid = omega arith; ended = omega arith }))
 
-draws-brought_online : (room : RoomState) (cpu : ℕ) → DrawsOne (length room.tasks) (draws room) (draws (brought_online room cpu).room)
-draws-brought_online room cpu =
+draws-bring_online : (room : RoomState) (cpu : ℕ) → DrawsOne (length room.tasks) (draws room) (draws (bring_online room cpu).room)
+draws-bring_online room cpu =
     cond_both (is_online room cpu) _ _ (λ (made : Stepped). DrawsOne (length room.tasks) (draws room) (draws made.room)) (λ _. draws_none _ _ _ refl)
     (λ _. draws_none _ _ _ refl)
 
 -- A step draws at most one of each, and stamps for the tasks that move.
 pub draws-step : (room : RoomState) (fresh : Bool) (event : Event) → DrawsOne (length room.tasks) (draws room) (draws (step room fresh event).room)
-draws-step room fresh (Turn cpu) = draws-unless_offline room cpu _ (draws-turned room fresh cpu)
+draws-step room fresh (Turn cpu) = draws-unless_offline room cpu _ (draws-turn room fresh cpu)
 draws-step room fresh (Resched cpu) = draws-unless_offline room cpu _ (draws_none _ _ _ (draws-schedule room fresh cpu))
-draws-step room fresh (Block cpu) = draws-unless_offline room cpu _ (draws_none _ _ _ (draws-blocked room cpu (running_on room cpu)))
-draws-step room fresh (Exit cpu) = draws-unless_offline room cpu _ (draws-exited room cpu (running_on room cpu))
-draws-step room fresh (Tick cpu) = draws-unless_offline room cpu _ (draws-ticked room cpu (running_on room cpu))
-draws-step room fresh (Wake pid) = draws-woken room (task_of room pid)
+draws-step room fresh (Block cpu) = draws-unless_offline room cpu _ (draws_none _ _ _ (draws-block room cpu (running_on room cpu)))
+draws-step room fresh (Exit cpu) = draws-unless_offline room cpu _ (draws-exit room cpu (running_on room cpu))
+draws-step room fresh (Tick cpu) = draws-unless_offline room cpu _ (draws-tick room cpu (running_on room cpu))
+draws-step room fresh (Wake pid) = draws-wake room (task_of room pid)
 draws-step room fresh (Advance delta) = draws_none _ _ _ (draws-advanced room delta)
-draws-step room fresh (Fork caller thread) = draws-forked room thread (task_of room caller)
+draws-step room fresh (Fork caller thread) = draws-fork room thread (task_of room caller)
 draws-step room fresh (Prctl caller ask) = draws-prctl_room room caller ask
 draws-step room fresh (SetSched pid policy) = draws-set_policy room policy (task_of room pid)
-draws-step room fresh (Offline cpu) = draws-taken_offline room cpu
-draws-step room fresh (Online cpu) = draws-brought_online room cpu
+draws-step room fresh (Offline cpu) = draws-take_offline room cpu
+draws-step room fresh (Online cpu) = draws-bring_online room cpu
 
 draws_after : (moment : Moment) (entries : List Entry) → length moment.room.tasks ≤ moment.room.task_limit → moment.room.task_limit ≤ 256 →
     let room = (after moment entries).room in

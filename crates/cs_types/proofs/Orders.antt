@@ -8,20 +8,20 @@ use Rattle.cs_types.specs.declared.task.Policy.{Policy}
 use Rattle.cs_types.specs.declared.event.Event.{Event}
 use Rattle.cs_types.specs.declared.event.Event.TheVariants.{Turn, Block, Exit, Tick, Wake, Fork, SetSched, Offline, Online}
 use Rattle.cs_types.specs.declared.reply.Reply.TheVariants.{Picked, Set, Done}
-use Rattle.cs_types.specs.Room.{RoomState, Waiting, absent, has_pid, sibling_of, running_on, is_online, online, task_of, with_task, flagged}
+use Rattle.cs_types.specs.Room.{RoomState, Waiting, absent, has_pid, sibling_of, running_on, is_online, online, task_of, with_task, flag}
 use Rattle.cs_types.specs.Selection.{schedule, is_run}
-use Rattle.cs_types.specs.Queueing.{dequeued, enqueued, refreshed, moved, rehomed, preempts, queued_at_home}
-use Rattle.cs_types.specs.Step.{Stepped, picked, woken, blocked, exited, forked, turned, without, has_threads, child_of, child_at_home, may_not_fork, with_child, ticked, idled, try_steal, with_policy, set_policy, with_policy_set, taken_offline, brought_online}
-use Rattle.cs_types.specs.Steal.{source_of, may_steal, stolen, with_place, next_place}
+use Rattle.cs_types.specs.Queueing.{dequeue, enqueue, refreshed, moved, rehomed, preempts, queue_at_home}
+use Rattle.cs_types.specs.Step.{Stepped, picked, wake, block, exit, fork, turn, without, has_threads, child_of, child_at_home, may_not_fork, with_child, tick, run_idle, try_steal, with_policy, set_policy, with_policy_set, take_offline, bring_online}
+use Rattle.cs_types.specs.Steal.{source_of, may_steal, stolen, set_place, next_place}
 use Rattle.cs_types.specs.Hotplug.{back, lowest_other, leave}
 use Rattle.cs_types.specs.Accounting.{charge}
-use Rattle.cs_types.specs.Time.{sliced, asks_at_tick, advanced}
+use Rattle.cs_types.specs.Time.{begin_slice, asks_at_tick, advanced}
 use Rattle.cs_types.proofs.Foremost.{find_none, each_weaker}
 use Rattle.cs_types.proofs.Tasks.{found_again}
-use Rattle.cs_types.proofs.Rising.{AreRising, below_high, rising-dequeued, rising-without}
-use Rattle.cs_types.proofs.Siblings.{kept, kept-with_sibling, kept-idled, kept-without, length-alike, is_online-alike}
+use Rattle.cs_types.proofs.Rising.{AreRising, below_high, rising-dequeue, rising-without}
+use Rattle.cs_types.proofs.Siblings.{kept, kept-with_sibling, kept-run_idle, kept-without, length-alike, is_online-alike}
 use Rattle.cs_types.proofs.Spots.{Spot, spot_of, spot_at}
-use Rattle.cs_types.proofs.Moves.{spots-advanced, spots-ticked_room, spots-queued_at_home, spots-dequeued, spots-without, spots-moved, spots-with_child, spots-with_policy, spots-requeued, spot_off, spots-leave}
+use Rattle.cs_types.proofs.Moves.{spots-advanced, spots-ticked_room, spots-queue_at_home, spots-dequeue, spots-without, spots-moved, spots-with_child, spots-with_policy, spots-requeue, spot_off, spots-leave}
 use Rattle.cs_types.proofs.Places.{with_sibling_at, with_sibling_either}
 use Rattle.cs_types.proofs.Homes.{IsHoused, IsQueuedOn, stolen_is, running_is_found, rehomed_is_online, rehomed_is_found, child_at_home_is_online, child_is_found, sibling_of-advanced, sibling_of-without}
 use Rattle.cs_types.proofs.Fits.{IsAt, cookie_at, Fits, SiblingFits, AllFit, Has, fits_where, fits_moved, fits_running, fits_away, fits_absent, all_same, all_later, all_flagged, all_placed}
@@ -67,10 +67,10 @@ try_steal-fits room fresh cpu (Some task) up rises housed made fits =
       is = stolen_is room cpu task rises made
 
       placed : RoomState
-      placed = with_place (moved room cpu task) cpu 0
+      placed = set_place (moved room cpu task) cpu 0
 
       after : RoomState
-      after = flagged placed cpu true
+      after = flag placed cpu true
 
       kept_placed : kept placed ≡ kept room
       kept_placed = kept-with_sibling (moved room cpu task) cpu _ refl
@@ -103,9 +103,9 @@ try_steal-fits room fresh cpu (Some task) up rises housed made fits =
       hasnt : (other : ℕ) → Has (sibling_of room other).run (sibling_of room other).waiting task.spec.pid → IsAt other (spot_at room task.spec.pid) → ⊥
       hasnt other has here = at_source other has (sym (subst (IsAt other) (ap (option_map spot_of) is.0.found) here).1 ∙ is.0.home)
 
-pub turned-fits : (room : RoomState) (fresh : Bool) (cpu : ℕ) → cpu < length room.siblings → is_online room cpu ≡ true → AreRising room → IsHoused room → AllFit room fresh →
-    StepFits room fresh (Turn cpu) (turned room fresh cpu)
-turned-fits room fresh cpu below up rises housed fits =
+pub turn-fits : (room : RoomState) (fresh : Bool) (cpu : ℕ) → cpu < length room.siblings → is_online room cpu ≡ true → AreRising room → IsHoused room → AllFit room fresh →
+    StepFits room fresh (Turn cpu) (turn room fresh cpu)
+turn-fits room fresh cpu below up rises housed fits =
     cond_both (sibling_of room cpu).pending _ _ (StepFits room fresh (Turn cpu)) (λ _. resched-fits room fresh (Turn cpu) cpu below up rises fits)
     (λ _. cond_both ((sibling_of room cpu).place == 0) _ _ (StepFits room fresh (Turn cpu)) (λ _. fits) (λ _. try_steal-fits room fresh cpu (stolen room cpu) up rises housed refl fits))
 
@@ -122,7 +122,7 @@ runs_alone room cpu other task found here differ there = go (spot_at room task.s
 -- the other siblings have what fits them in the room without it
 others_fit : (room gone : RoomState) (fresh : Bool) (cpu : ℕ) (task : Task) (spot : Option Spot) → cpu < length room.siblings → running_on room cpu ≡ Some task →
     gone.siblings ≡ room.siblings → gone.core_cookie ≡ room.core_cookie → ((pid : ℕ) → spot_at gone pid ≡ cond (pid == task.spec.pid) spot (spot_at room pid)) →
-    AllFit room fresh → OthersFit (idled gone cpu) fresh cpu
+    AllFit room fresh → OthersFit (run_idle gone cpu) fresh cpu
 others_fit room gone fresh cpu task spot below runs same core moved fits other differ =
     with_sibling_at (λ n s. n ≢ cpu → SiblingFits (spot_at gone) gone.core_cookie fresh n s) gone cpu (record (sibling_of gone cpu) { run = None })
     (subst (λ ss. cpu < length ss) (sym same) below) (λ isnt. absurd (isnt refl)) (λ n _. there n) other differ where
@@ -138,21 +138,21 @@ others_fit room gone fresh cpu task spot below runs same core moved fits other d
           (fits_moved (spot_at room) (spot_at gone) room.core_cookie fresh fresh n sibling.online sibling.run sibling.pending sibling.waiting sibling.place task.spec.pid spot moved
           (λ has there. runs_alone room cpu n task found.1 here differ there) (λ e. e) (fits n)))
 
-pub blocked-fits : (room : RoomState) (fresh : Bool) (cpu : ℕ) (task : Option Task) → cpu < length room.siblings → is_online room cpu ≡ true → AreRising room → running_on room cpu ≡ task →
-    AllFit room fresh → StepFits room fresh (Block cpu) (blocked room cpu task)
-blocked-fits room fresh cpu None below up rises runs fits = fits
-blocked-fits room fresh cpu (Some task) below up rises runs fits =
-    let gone = idled (dequeued (charge room) task) cpu in
-    let same = kept-idled (charge room) cpu task in
+pub block-fits : (room : RoomState) (fresh : Bool) (cpu : ℕ) (task : Option Task) → cpu < length room.siblings → is_online room cpu ≡ true → AreRising room → running_on room cpu ≡ task →
+    AllFit room fresh → StepFits room fresh (Block cpu) (block room cpu task)
+block-fits room fresh cpu None below up rises runs fits = fits
+block-fits room fresh cpu (Some task) below up rises runs fits =
+    let gone = run_idle (dequeue (charge room) task) cpu in
+    let same = kept-run_idle (charge room) cpu task in
     again_fits gone fresh _ cpu (subst (λ n. cpu < n) (sym (length-alike gone room same)) below) (is_online-alike gone room same cpu ∙ up)
-    (rising-dequeued room task rises) (slept_fresh room fresh (Block cpu) task.spec.pid (schedule gone false cpu).pick)
-    (others_fit room (dequeued (charge room) task) fresh cpu task _ below runs refl refl (spots-dequeued room task (running_is_found room cpu task runs).1) fits)
+    (rising-dequeue room task rises) (slept_fresh room fresh (Block cpu) task.spec.pid (schedule gone false cpu).pick)
+    (others_fit room (dequeue (charge room) task) fresh cpu task _ below runs refl refl (spots-dequeue room task (running_is_found room cpu task runs).1) fits)
 
-pub exited-fits : (room : RoomState) (fresh : Bool) (cpu : ℕ) (task : Option Task) → cpu < length room.siblings → is_online room cpu ≡ true → AreRising room → running_on room cpu ≡ task →
-    AllFit room fresh → StepFits room fresh (Exit cpu) (exited room cpu task)
-exited-fits room fresh cpu None below up rises runs fits = fits
-exited-fits room fresh cpu (Some task) below up rises runs fits =
-    let gone = idled (without (charge room) task) cpu in
+pub exit-fits : (room : RoomState) (fresh : Bool) (cpu : ℕ) (task : Option Task) → cpu < length room.siblings → is_online room cpu ≡ true → AreRising room → running_on room cpu ≡ task →
+    AllFit room fresh → StepFits room fresh (Exit cpu) (exit room cpu task)
+exit-fits room fresh cpu None below up rises runs fits = fits
+exit-fits room fresh cpu (Some task) below up rises runs fits =
+    let gone = run_idle (without (charge room) task) cpu in
     let same = kept-without (charge room) cpu task in
     cond_both (has_threads room task) _ _ (StepFits room fresh (Exit cpu)) (λ _. fits)
     (λ _. again_fits gone fresh _ cpu (subst (λ n. cpu < n) (sym (length-alike gone room same)) below) (is_online-alike gone room same cpu ∙ up)
@@ -168,22 +168,22 @@ asleep_nowhere room task cpu pid found asleep here =
 
 -- so it may be queued at an online home
 queued-fits : (room : RoomState) (fresh : Bool) (task old : Task) → find (has_pid task.spec.pid) room.tasks ≡ Some old → old.queued ≡ false → is_online room task.home ≡ true →
-    AllFit room fresh → AllFit (queued_at_home room task) false
+    AllFit room fresh → AllFit (queue_at_home room task) false
 queued-fits room fresh task old found asleep up fits =
-    all_flagged (enqueued room (refreshed room task)) false task.home (preempts room (refreshed room task)) up
-    (all_moved room (enqueued room (refreshed room task)) fresh false task.spec.pid _ refl refl (spots-queued_at_home room task old found)
+    all_flagged (enqueue room (refreshed room task)) false task.home (preempts room (refreshed room task)) up
+    (all_moved room (enqueue room (refreshed room task)) fresh false task.spec.pid _ refl refl (spots-queue_at_home room task old found)
     (λ cpu has here. asleep_nowhere room old cpu task.spec.pid found asleep here) (λ e. absurd cc) fits)
 
-pub woken-fits : (room : RoomState) (fresh : Bool) (pid : ℕ) (task : Option Task) → task_of room pid ≡ task → IsHoused room → AllFit room fresh → StepFits room fresh (Wake pid) (woken room task)
-woken-fits room fresh pid None found housed fits = fits
-woken-fits room fresh pid (Some task) found housed fits =
+pub wake-fits : (room : RoomState) (fresh : Bool) (pid : ℕ) (task : Option Task) → task_of room pid ≡ task → IsHoused room → AllFit room fresh → StepFits room fresh (Wake pid) (wake room task)
+wake-fits room fresh pid None found housed fits = fits
+wake-fits room fresh pid (Some task) found housed fits =
     cond_both task.queued _ _ (StepFits room fresh (Wake pid)) (λ _. fits)
     (λ asleep. queued-fits room fresh (rehomed room task) task (rehomed_is_found room task (found_again pid room.tasks task found)) asleep (rehomed_is_online room task housed) fits)
 
-pub forked-fits : (room : RoomState) (fresh : Bool) (pid : ℕ) (thread : Bool) (caller : Option Task) → AreRising room → IsHoused room → AllFit room fresh →
-    StepFits room fresh (Fork pid thread) (forked room thread caller)
-forked-fits room fresh pid thread None rises housed fits = fits
-forked-fits room fresh pid thread (Some caller) rises housed fits =
+pub fork-fits : (room : RoomState) (fresh : Bool) (pid : ℕ) (thread : Bool) (caller : Option Task) → AreRising room → IsHoused room → AllFit room fresh →
+    StepFits room fresh (Fork pid thread) (fork room thread caller)
+fork-fits room fresh pid thread None rises housed fits = fits
+fork-fits room fresh pid thread (Some caller) rises housed fits =
     let child = child_of caller thread room.next_pid in
     let born = with_child room child in
     let nobody : task_of room room.next_pid ≡ None =
@@ -196,13 +196,13 @@ forked-fits room fresh pid thread (Some caller) rises housed fits =
 
 -- ---- tick and advance
 
-pub ticked-fits : (room : RoomState) (fresh : Bool) (cpu : ℕ) (task : Option Task) → is_online room cpu ≡ true → running_on room cpu ≡ task → AllFit room fresh →
-    StepFits room fresh (Tick cpu) (ticked room cpu task)
-ticked-fits room fresh cpu None up runs fits = fits
-ticked-fits room fresh cpu (Some task) up runs fits =
+pub tick-fits : (room : RoomState) (fresh : Bool) (cpu : ℕ) (task : Option Task) → is_online room cpu ≡ true → running_on room cpu ≡ task → AllFit room fresh →
+    StepFits room fresh (Tick cpu) (tick room cpu task)
+tick-fits room fresh cpu None up runs fits = fits
+tick-fits room fresh cpu (Some task) up runs fits =
     let then = charge room in
-    all_flagged (sliced then cpu task) fresh cpu (asks_at_tick then cpu task) up
-    (all_same (spot_at room) (spot_at (sliced then cpu task)) room.core_cookie fresh (sibling_of room) (spots-ticked_room then cpu task (running_is_found room cpu task runs).1) fits)
+    all_flagged (begin_slice then cpu task) fresh cpu (asks_at_tick then cpu task) up
+    (all_same (spot_at room) (spot_at (begin_slice then cpu task)) room.core_cookie fresh (sibling_of room) (spots-ticked_room then cpu task (running_is_found room cpu task runs).1) fits)
 
 pub advanced-fits : (room : RoomState) (fresh : Bool) (delta : ℕ) → AllFit room fresh → AllFit (advanced room delta) fresh
 unfolding advanced
@@ -225,17 +225,17 @@ set_policy-fits room fresh pid policy (Some task) found housed fits =
       its : task_of room task.spec.pid ≡ Some task
       its = found_again pid room.tasks task found
 
-      queued : task.queued ≡ true → AllFit (flagged (queued_at_home (dequeued room changed) changed) task.home (is_run (sibling_of room task.home).run (Some task.spec.pid))) fresh
+      queued : task.queued ≡ true → AllFit (flag (queue_at_home (dequeue room changed) changed) task.home (is_run (sibling_of room task.home).run (Some task.spec.pid))) fresh
       queued is =
           let home : is_online room task.home ≡ true =
           subst (λ one. IfSome one (λ (spot : Spot). spot.queued ≡ true → is_online room spot.home ≡ true)) (ap (option_map spot_of) its) (housed.homes task.spec.pid) is in
-          let gone = dequeued room changed in
-          let again = enqueued gone (refreshed gone changed) in
+          let gone = dequeue room changed in
+          let again = enqueue gone (refreshed gone changed) in
           let first = preempts gone (refreshed gone changed) in
-          all_flagged (flagged again task.home first) fresh task.home (is_run (sibling_of room task.home).run (Some task.spec.pid))
-          (is_online-alike (flagged again task.home first) room (kept-with_sibling again task.home _ refl) task.home ∙ home)
+          all_flagged (flag again task.home first) fresh task.home (is_run (sibling_of room task.home).run (Some task.spec.pid))
+          (is_online-alike (flag again task.home first) room (kept-with_sibling again task.home _ refl) task.home ∙ home)
           (all_flagged again fresh task.home first home
-          (all_same (spot_at room) (spot_at again) room.core_cookie fresh (sibling_of room) (spots-requeued room policy task its is) fits))
+          (all_same (spot_at room) (spot_at again) room.core_cookie fresh (sibling_of room) (spots-requeue room policy task its is) fits))
 
 -- ---- leaving and coming back
 
@@ -268,14 +268,14 @@ without-fits room fresh cpu fits other =
           (λ calm. ((or_parts pending up calm).0, λ pid runs here. ap cookie_at (stays differ pid here)))
           (λ off. or_from pending up (its.away off).1 off) its
 
-pub taken_offline-fits : (room : RoomState) (fresh : Bool) (cpu : ℕ) → AllFit room fresh → StepFits room fresh (Offline cpu) (taken_offline room cpu)
-taken_offline-fits room fresh cpu fits =
+pub take_offline-fits : (room : RoomState) (fresh : Bool) (cpu : ℕ) → AllFit room fresh → StepFits room fresh (Offline cpu) (take_offline room cpu)
+take_offline-fits room fresh cpu fits =
     cond_both (not (is_online room cpu)) _ _ (StepFits room fresh (Offline cpu)) (λ _. fits)
     (λ _. cond_both (length (online room) == 1) _ _ (StepFits room fresh (Offline cpu)) (λ _. fits)
     (λ _. all_later (leave room cpu) fresh _ (λ later. (fresh_before room fresh (Offline cpu) Done refl later).1) (without-fits room fresh cpu fits)))
 
-pub brought_online-fits : (room : RoomState) (fresh : Bool) (cpu : ℕ) → AllFit room fresh → StepFits room fresh (Online cpu) (brought_online room cpu)
-brought_online-fits room fresh cpu fits =
+pub bring_online-fits : (room : RoomState) (fresh : Bool) (cpu : ℕ) → AllFit room fresh → StepFits room fresh (Online cpu) (bring_online room cpu)
+bring_online-fits room fresh cpu fits =
     cond_both (is_online room cpu) _ _ (StepFits room fresh (Online cpu)) (λ _. fits)
     (λ _. with_sibling_either (SiblingFits (spot_at room) room.core_cookie fresh) room cpu (back (sibling_of room cpu))
     (fits_running (spot_at room) room.core_cookie fresh cpu true None true 0 refl tt tt) fits)

@@ -150,10 +150,10 @@ foremost-map {X} {Y} lt f xs = found xs where
 
 -- ---- the top of a map that was made of a list
 
-is_lt-turned : (r : Ordering) → is_lt (ordering_reverse r) ≡ is_gt r
-is_lt-turned Less = refl
-is_lt-turned Equal = refl
-is_lt-turned Greater = refl
+is_lt-turn : (r : Ordering) → is_lt (ordering_reverse r) ≡ is_gt r
+is_lt-turn Less = refl
+is_lt-turn Equal = refl
+is_lt-turn Greater = refl
 
 module _ {K X : Type 0} {R : K → K → Ordering} (o : IsTotalOrder R) where
   -- whether an entry's key is less than another's
@@ -176,14 +176,14 @@ module _ {K X : Type 0} {R : K → K → Ordering} (o : IsTotalOrder R) where
   BeginsAs-put e (f ∷ fs) None h = absurd (let bad = h.1 in cc)
   BeginsAs-put e (f ∷ fs) (Some c) (b, is, tie, same) =
       let there : c ≡ b = cc in
-      let turned : precedes c e ≡ is_gt (R e.0 f.0) =
-      ap (λ d. precedes d e) there ∙ ap is_lt (o.antisymm b.0 e.0) ∙ is_lt-turned (R e.0 b.0) ∙ ap is_gt (sym (alike_right o f.0 b.0 e.0 tie)) in
+      let turn : precedes c e ≡ is_gt (R e.0 f.0) =
+      ap (λ d. precedes d e) there ∙ ap is_lt (o.antisymm b.0 e.0) ∙ is_lt-turn (R e.0 b.0) ∙ ap is_gt (sym (alike_right o f.0 b.0 e.0 tie)) in
       elim (R e.0 f.0) as (λ r. R e.0 f.0 ≡ r → precedes c e ≡ is_gt r →
       BeginsAs (by_order r ((e.0, e.1) ∷ f ∷ fs) ((f.0, e.1) ∷ fs) (f ∷ put R e.0 e.1 fs)) (Some (cond (precedes c e) c e))) [
         | Less ↦ λ p later. (e, ap Some (cond-false _ c e later), tied_itself o e.0, refl)
         | Equal ↦ λ p later. (e, ap Some (cond-false _ c e later), tied_back o e.0 f.0 p, refl)
         | Greater ↦ λ p earlier. (b, ap Some (cond-true _ c e earlier ∙ there), tie, same)
-      ] refl turned
+      ] refl turn
 
   no_entries : (es : List (K × X)) → length es ≡ 0 → BeginsAs es None
   no_entries [] h = refl
@@ -266,9 +266,9 @@ higher_by-classes c d e f p q v w differ = grind (arith, nat_tests)
 -- among equal classes, or different ones
 by_stamp : (c d r s t u : ℕ) (ab ba : Bool) → (c ≢ d → ab ≡ ltb c d) → (c ≢ d → ba ≡ ltb d c) → (c ≡ d → ab ≡ ltb r s) → (c ≡ d → ba ≡ ltb s r) →
     (ltb c d || (eqb c d && (ltb r s || (eqb r s && ltb t u)))) ≡ (ab || (not ba && ltb t u))
-by_stamp c d r s t u ab ba apart back same turned =
+by_stamp c d r s t u ab ba apart back same turn =
     elim (cases_eq c d) [
-      | inl equal ↦ let one = same equal in let two = turned equal in grind (arith, nat_tests)
+      | inl equal ↦ let one = same equal in let two = turn equal in grind (arith, nat_tests)
       | inr differ ↦ let one = apart differ in let two = back differ in grind (arith, nat_tests)
     ]
 

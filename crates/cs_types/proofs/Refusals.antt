@@ -15,7 +15,7 @@ use Rattle.cs_types.specs.declared.scenario.Scenario.{Scenario}
 use Rattle.cs_types.specs.Room.{RoomState, sibling_of, running_on, is_online, online, task_of}
 use Rattle.cs_types.specs.Prctl.{is_create, rows_before_making, makes_cookie, with_made, with_answer, setting_of, prctl_answer}
 use Rattle.cs_types.specs.Steal.{stolen}
-use Rattle.cs_types.specs.Step.{Stepped, step, woken, turned, try_steal, unless_offline, blocked, exited, has_threads, forked, may_not_fork, ticked, set_policy, taken_offline, brought_online}
+use Rattle.cs_types.specs.Step.{Stepped, step, wake, turn, try_steal, unless_offline, block, exit, has_threads, fork, may_not_fork, tick, set_policy, take_offline, bring_online}
 use Rattle.cs_types.specs.History.{History, step_at, moment_of, fold_of, reply_to}
 use Rattle.cs_types.specs.Laws.{is_refused, LeavesTheRoom}
 use Rattle.cs_types.proofs.Histories.{moment_of-push}
@@ -36,33 +36,33 @@ try_steal-refusal : (room : RoomState) (event : Event) (cpu : ℕ) (task : Optio
 try_steal-refusal room event cpu None refused = absurd cc
 try_steal-refusal room event cpu (Some task) refused = absurd cc
 
-turned-refusal : (room : RoomState) (may_adopt : Bool) (cpu : ℕ) → IsRefusal room (Turn cpu) (turned room may_adopt cpu)
-turned-refusal room may_adopt cpu =
+turn-refusal : (room : RoomState) (may_adopt : Bool) (cpu : ℕ) → IsRefusal room (Turn cpu) (turn room may_adopt cpu)
+turn-refusal room may_adopt cpu =
     cond_both (sibling_of room cpu).pending _ _ (IsRefusal room (Turn cpu)) (λ _ refused. absurd cc)
     (λ _. cond_both ((sibling_of room cpu).place == 0) _ _ (IsRefusal room (Turn cpu)) (λ _ refused. absurd cc)
     (λ _. try_steal-refusal room (Turn cpu) cpu (stolen room cpu)))
 
-blocked-refusal : (room : RoomState) (cpu : ℕ) (task : Option Task) → IsRefusal room (Block cpu) (blocked room cpu task)
-blocked-refusal room cpu None refused = as_it_was room (Block cpu)
-blocked-refusal room cpu (Some task) refused = absurd cc
+block-refusal : (room : RoomState) (cpu : ℕ) (task : Option Task) → IsRefusal room (Block cpu) (block room cpu task)
+block-refusal room cpu None refused = as_it_was room (Block cpu)
+block-refusal room cpu (Some task) refused = absurd cc
 
-exited-refusal : (room : RoomState) (cpu : ℕ) (task : Option Task) → IsRefusal room (Exit cpu) (exited room cpu task)
-exited-refusal room cpu None = λ _. as_it_was room (Exit cpu)
-exited-refusal room cpu (Some task) =
+exit-refusal : (room : RoomState) (cpu : ℕ) (task : Option Task) → IsRefusal room (Exit cpu) (exit room cpu task)
+exit-refusal room cpu None = λ _. as_it_was room (Exit cpu)
+exit-refusal room cpu (Some task) =
     cond_both (has_threads room task) _ _ (IsRefusal room (Exit cpu)) (λ _ _. as_it_was room (Exit cpu)) (λ _ refused. absurd cc)
 
-ticked-refusal : (room : RoomState) (cpu : ℕ) (task : Option Task) → IsRefusal room (Tick cpu) (ticked room cpu task)
-ticked-refusal room cpu None refused = absurd cc
-ticked-refusal room cpu (Some task) refused = absurd cc
+tick-refusal : (room : RoomState) (cpu : ℕ) (task : Option Task) → IsRefusal room (Tick cpu) (tick room cpu task)
+tick-refusal room cpu None refused = absurd cc
+tick-refusal room cpu (Some task) refused = absurd cc
 
-woken-refusal : (room : RoomState) (pid : ℕ) (task : Option Task) → IsRefusal room (Wake pid) (woken room task)
-woken-refusal room pid None = λ _. as_it_was room (Wake pid)
-woken-refusal room pid (Some task) =
+wake-refusal : (room : RoomState) (pid : ℕ) (task : Option Task) → IsRefusal room (Wake pid) (wake room task)
+wake-refusal room pid None = λ _. as_it_was room (Wake pid)
+wake-refusal room pid (Some task) =
     cond_both task.queued _ _ (IsRefusal room (Wake pid)) (λ _ _. as_it_was room (Wake pid)) (λ _ refused. absurd cc)
 
-forked-refusal : (room : RoomState) (pid : ℕ) (thread : Bool) (caller : Option Task) → IsRefusal room (Fork pid thread) (forked room thread caller)
-forked-refusal room pid thread None = λ _. as_it_was room (Fork pid thread)
-forked-refusal room pid thread (Some caller) =
+fork-refusal : (room : RoomState) (pid : ℕ) (thread : Bool) (caller : Option Task) → IsRefusal room (Fork pid thread) (fork room thread caller)
+fork-refusal room pid thread None = λ _. as_it_was room (Fork pid thread)
+fork-refusal room pid thread (Some caller) =
     cond_both (may_not_fork room caller) _ _ (IsRefusal room (Fork pid thread)) (λ _ _. as_it_was room (Fork pid thread)) (λ _ refused. absurd cc)
 
 -- A refused CREATE may have made its cookie already.
@@ -84,29 +84,29 @@ set_policy-refusal : (room : RoomState) (pid : ℕ) (policy : Policy) (task : Op
 set_policy-refusal room pid policy None refused = as_it_was room (SetSched pid policy)
 set_policy-refusal room pid policy (Some task) refused = absurd cc
 
-taken_offline-refusal : (room : RoomState) (cpu : ℕ) → IsRefusal room (Offline cpu) (taken_offline room cpu)
-taken_offline-refusal room cpu =
+take_offline-refusal : (room : RoomState) (cpu : ℕ) → IsRefusal room (Offline cpu) (take_offline room cpu)
+take_offline-refusal room cpu =
     cond_both (not (is_online room cpu)) _ _ (IsRefusal room (Offline cpu)) (λ _ _. as_it_was room (Offline cpu))
     (λ _. cond_both (length (online room) == 1) _ _ (IsRefusal room (Offline cpu)) (λ _ _. as_it_was room (Offline cpu)) (λ _ refused. absurd cc))
 
-brought_online-refusal : (room : RoomState) (cpu : ℕ) → IsRefusal room (Online cpu) (brought_online room cpu)
-brought_online-refusal room cpu = cond_both (is_online room cpu) _ _ (IsRefusal room (Online cpu)) (λ _ _. as_it_was room (Online cpu)) (λ _ refused. absurd cc)
+bring_online-refusal : (room : RoomState) (cpu : ℕ) → IsRefusal room (Online cpu) (bring_online room cpu)
+bring_online-refusal room cpu = cond_both (is_online room cpu) _ _ (IsRefusal room (Online cpu)) (λ _ _. as_it_was room (Online cpu)) (λ _ refused. absurd cc)
 
 -- ---- every event
 
 step-refusal : (room : RoomState) (may_adopt : Bool) (event : Event) → IsRefusal room event (step room may_adopt event)
-step-refusal room may_adopt (Turn cpu) = unless_offline-refusal room (Turn cpu) cpu _ (turned-refusal room may_adopt cpu)
+step-refusal room may_adopt (Turn cpu) = unless_offline-refusal room (Turn cpu) cpu _ (turn-refusal room may_adopt cpu)
 step-refusal room may_adopt (Resched cpu) = unless_offline-refusal room (Resched cpu) cpu _ (λ refused. absurd cc)
-step-refusal room may_adopt (Block cpu) = unless_offline-refusal room (Block cpu) cpu _ (blocked-refusal room cpu (running_on room cpu))
-step-refusal room may_adopt (Exit cpu) = unless_offline-refusal room (Exit cpu) cpu _ (exited-refusal room cpu (running_on room cpu))
-step-refusal room may_adopt (Tick cpu) = unless_offline-refusal room (Tick cpu) cpu _ (ticked-refusal room cpu (running_on room cpu))
-step-refusal room may_adopt (Wake pid) = woken-refusal room pid (task_of room pid)
+step-refusal room may_adopt (Block cpu) = unless_offline-refusal room (Block cpu) cpu _ (block-refusal room cpu (running_on room cpu))
+step-refusal room may_adopt (Exit cpu) = unless_offline-refusal room (Exit cpu) cpu _ (exit-refusal room cpu (running_on room cpu))
+step-refusal room may_adopt (Tick cpu) = unless_offline-refusal room (Tick cpu) cpu _ (tick-refusal room cpu (running_on room cpu))
+step-refusal room may_adopt (Wake pid) = wake-refusal room pid (task_of room pid)
 step-refusal room may_adopt (Advance delta) = λ refused. absurd cc
-step-refusal room may_adopt (Fork caller thread) = forked-refusal room caller thread (task_of room caller)
+step-refusal room may_adopt (Fork caller thread) = fork-refusal room caller thread (task_of room caller)
 step-refusal room may_adopt (Prctl caller ask) = called-refusal room caller ask (prctl_answer room caller ask)
 step-refusal room may_adopt (SetSched pid policy) = set_policy-refusal room pid policy (task_of room pid)
-step-refusal room may_adopt (Offline cpu) = taken_offline-refusal room cpu
-step-refusal room may_adopt (Online cpu) = brought_online-refusal room cpu
+step-refusal room may_adopt (Offline cpu) = take_offline-refusal room cpu
+step-refusal room may_adopt (Online cpu) = bring_online-refusal room cpu
 
 -- An entry whose reply refuses its event leaves the room.
 pub refused_leaves : (scenario : Scenario) (history : History) (entry : Entry) → entry.reply ≡ reply_to scenario history entry.event →

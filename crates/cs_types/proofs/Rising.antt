@@ -17,10 +17,10 @@ use Rattle.cs_types.specs.declared.reply.Entry.{Entry}
 use Rattle.cs_types.specs.declared.scenario.Scenario.{Scenario}
 use Rattle.cs_types.specs.Scenario.{AreDistinct}
 use Rattle.cs_types.specs.Room.{RoomState, has_pid, sibling_of, running_on, is_online, online, task_of, asleep, inserted, first_pid, with_task}
-use Rattle.cs_types.specs.Selection.{task_after_selection, selected_room, selected, plain, is_plain, picked_anew, adopted_or_picked_anew, schedule}
+use Rattle.cs_types.specs.Selection.{task_after_selection, select_for, select, pick_plain, is_plain, pick_anew, adopt_or_pick_anew, schedule}
 use Rattle.cs_types.specs.Prctl.{Setting, setting_of, is_set, makes_cookie, with_made, with_answer, prctl_answer}
-use Rattle.cs_types.specs.Step.{Stepped, step, woken, blocked, exited, forked, turned, without, has_threads, child_of, child_at_home, may_not_fork, with_child, ticked, idled, try_steal, unless_offline, with_policy, set_policy, taken_offline, brought_online}
-use Rattle.cs_types.specs.Queueing.{refreshed, dequeued, moved_to, rehomed, queued_at_home}
+use Rattle.cs_types.specs.Step.{Stepped, step, wake, block, exit, fork, turn, without, has_threads, child_of, child_at_home, may_not_fork, with_child, tick, run_idle, try_steal, unless_offline, with_policy, set_policy, take_offline, bring_online}
+use Rattle.cs_types.specs.Queueing.{refreshed, dequeue, moved_to, rehomed, queue_at_home}
 use Rattle.cs_types.specs.Steal.{stolen}
 use Rattle.cs_types.specs.Hotplug.{moved_off, leave}
 use Rattle.cs_types.specs.Accounting.{charge}
@@ -171,57 +171,57 @@ rising-with_task room task rises =
     (λ other. cond_both (has_pid task.spec.pid other) task other (λ (t : Task). t.spec.pid ≡ other.spec.pid) (λ is. sym (eqb-true other.spec.pid task.spec.pid is)) (λ _. refl))
     0 room.next_pid room.tasks rises
 
-rising-picked_anew : (room : RoomState) (cpu : ℕ) → AreRising room → AreRising (picked_anew room cpu).room
-unfolding selected_room
-rising-picked_anew room cpu rises =
-    cond_both (is_plain room cpu) (plain room cpu) (selected room cpu) (λ made. AreRising made.room) (λ _. rises)
+rising-pick_anew : (room : RoomState) (cpu : ℕ) → AreRising room → AreRising (pick_anew room cpu).room
+unfolding select_for
+rising-pick_anew room cpu rises =
+    cond_both (is_plain room cpu) (pick_plain room cpu) (select room cpu) (λ made. AreRising made.room) (λ _. rises)
     (λ _. rises-map (task_after_selection room _) (λ task. refl) 0 room.next_pid room.tasks rises)
 
-rising-adopted_or_picked_anew : (room : RoomState) (fresh : Bool) (cpu : ℕ) (waiting : Option (Option ℕ)) → AreRising room → AreRising (adopted_or_picked_anew room fresh cpu waiting).room
-rising-adopted_or_picked_anew room fresh cpu None rises = rising-picked_anew (charge room) cpu rises
-rising-adopted_or_picked_anew room true cpu (Some run) rises = rises
-rising-adopted_or_picked_anew room false cpu (Some run) rises = rising-picked_anew (charge room) cpu rises
+rising-adopt_or_pick_anew : (room : RoomState) (fresh : Bool) (cpu : ℕ) (waiting : Option (Option ℕ)) → AreRising room → AreRising (adopt_or_pick_anew room fresh cpu waiting).room
+rising-adopt_or_pick_anew room fresh cpu None rises = rising-pick_anew (charge room) cpu rises
+rising-adopt_or_pick_anew room true cpu (Some run) rises = rises
+rising-adopt_or_pick_anew room false cpu (Some run) rises = rising-pick_anew (charge room) cpu rises
 
 rising-schedule : (room : RoomState) (fresh : Bool) (cpu : ℕ) → AreRising room → AreRising (schedule room fresh cpu).room
-rising-schedule room fresh cpu rises = rising-adopted_or_picked_anew room fresh cpu (sibling_of room cpu).waiting rises
+rising-schedule room fresh cpu rises = rising-adopt_or_pick_anew room fresh cpu (sibling_of room cpu).waiting rises
 
 rising-try_steal : (room : RoomState) (cpu : ℕ) (task : Option Task) → AreRising room → AreRising (try_steal room cpu task).room
 rising-try_steal room cpu None rises = rises
 rising-try_steal room cpu (Some task) rises =
     rising-with_task room (record (moved_to room cpu task) { queued = true; stamp = room.next_stamp }) rises
 
-rising-turned : (room : RoomState) (fresh : Bool) (cpu : ℕ) → AreRising room → AreRising (turned room fresh cpu).room
-rising-turned room fresh cpu rises =
+rising-turn : (room : RoomState) (fresh : Bool) (cpu : ℕ) → AreRising room → AreRising (turn room fresh cpu).room
+rising-turn room fresh cpu rises =
     cond_both (sibling_of room cpu).pending _ _ (λ (made : Stepped). AreRising made.room) (λ _. rising-schedule room fresh cpu rises)
     (λ _. cond_both ((sibling_of room cpu).place == 0) _ _ (λ (made : Stepped). AreRising made.room) (λ _. rises)
     (λ _. rising-try_steal room cpu (stolen room cpu) rises))
 
-pub rising-dequeued : (room : RoomState) (task : Task) → AreRising room → AreRising (dequeued room task)
-rising-dequeued room task rises = rising-with_task room (record task { queued = false }) rises
+pub rising-dequeue : (room : RoomState) (task : Task) → AreRising room → AreRising (dequeue room task)
+rising-dequeue room task rises = rising-with_task room (record task { queued = false }) rises
 
 pub rising-without : (room : RoomState) (task : Task) → AreRising room → AreRising (without room task)
 rising-without room task rises = rises-filter (λ other. not (has_pid task.spec.pid other)) 0 room.next_pid room.tasks rises
 
-rising-blocked : (room : RoomState) (cpu : ℕ) (task : Option Task) → AreRising room → AreRising (blocked room cpu task).room
-rising-blocked room cpu None rises = rises
-rising-blocked room cpu (Some task) rises =
-    rising-schedule (idled (dequeued (charge room) task) cpu) false cpu (rising-dequeued room task rises)
+rising-block : (room : RoomState) (cpu : ℕ) (task : Option Task) → AreRising room → AreRising (block room cpu task).room
+rising-block room cpu None rises = rises
+rising-block room cpu (Some task) rises =
+    rising-schedule (run_idle (dequeue (charge room) task) cpu) false cpu (rising-dequeue room task rises)
 
-rising-exited : (room : RoomState) (cpu : ℕ) (task : Option Task) → AreRising room → AreRising (exited room cpu task).room
-rising-exited room cpu None rises = rises
-rising-exited room cpu (Some task) rises =
+rising-exit : (room : RoomState) (cpu : ℕ) (task : Option Task) → AreRising room → AreRising (exit room cpu task).room
+rising-exit room cpu None rises = rises
+rising-exit room cpu (Some task) rises =
     cond_both (has_threads room task) _ _ (λ (made : Stepped). AreRising made.room) (λ _. rises)
-    (λ _. rising-schedule (idled (without (charge room) task) cpu) false cpu (rising-without room task rises))
+    (λ _. rising-schedule (run_idle (without (charge room) task) cpu) false cpu (rising-without room task rises))
 
-rising-queued_at_home : (room : RoomState) (task : Task) → AreRising room → AreRising (queued_at_home room task)
-rising-queued_at_home room task rises =
+rising-queue_at_home : (room : RoomState) (task : Task) → AreRising room → AreRising (queue_at_home room task)
+rising-queue_at_home room task rises =
     rising-with_task room (record (refreshed room task) { queued = true; stamp = room.next_stamp }) rises
 
-rising-woken : (room : RoomState) (task : Option Task) → AreRising room → AreRising (woken room task).room
-rising-woken room None rises = rises
-rising-woken room (Some task) rises =
+rising-wake : (room : RoomState) (task : Option Task) → AreRising room → AreRising (wake room task).room
+rising-wake room None rises = rises
+rising-wake room (Some task) rises =
     cond_both task.queued _ _ (λ (made : Stepped). AreRising made.room) (λ _. rises)
-    (λ _. rising-queued_at_home room (rehomed room task) rises)
+    (λ _. rising-queue_at_home room (rehomed room task) rises)
 
 -- a child with the next pid is the last
 rising-with_child : (room : RoomState) (caller : Task) (thread : Bool) → AreRising room → AreRising (with_child room (child_of caller thread room.next_pid))
@@ -230,16 +230,16 @@ rising-with_child room caller thread rises =
     rises-inserted (child_of caller thread room.next_pid) 0 (room.next_pid + 1) room.tasks bound.0 (omega arith) bound.1
     (rises_wider 0 0 room.next_pid (room.next_pid + 1) room.tasks (omega arith) (omega arith) rises)
 
-rising-forked : (room : RoomState) (thread : Bool) (caller : Option Task) → AreRising room → AreRising (forked room thread caller).room
-rising-forked room thread None rises = rises
-rising-forked room thread (Some caller) rises =
+rising-fork : (room : RoomState) (thread : Bool) (caller : Option Task) → AreRising room → AreRising (fork room thread caller).room
+rising-fork room thread None rises = rises
+rising-fork room thread (Some caller) rises =
     let born = with_child room (child_of caller thread room.next_pid) in
     cond_both (may_not_fork room caller) _ _ (λ (made : Stepped). AreRising made.room) (λ _. rises)
-    (λ _. rising-queued_at_home born (child_at_home room (child_of caller thread room.next_pid)) (rising-with_child room caller thread rises))
+    (λ _. rising-queue_at_home born (child_at_home room (child_of caller thread room.next_pid)) (rising-with_child room caller thread rises))
 
-rising-ticked : (room : RoomState) (cpu : ℕ) (task : Option Task) → AreRising room → AreRising (ticked room cpu task).room
-rising-ticked room cpu None rises = rises
-rising-ticked room cpu (Some task) rises = rising-with_task (charge room) (record task { used = _; stamp = _ }) rises
+rising-tick : (room : RoomState) (cpu : ℕ) (task : Option Task) → AreRising room → AreRising (tick room cpu task).room
+rising-tick room cpu None rises = rises
+rising-tick room cpu (Some task) rises = rising-with_task (charge room) (record task { used = _; stamp = _ }) rises
 
 pub pid-grown_by : (delta : ℕ) (policy : Policy) (task : Task) → (grown_by delta policy task).spec.pid ≡ task.spec.pid
 pid-grown_by delta Stop task = refl
@@ -271,34 +271,34 @@ rising-set_policy room policy None rises = rises
 rising-set_policy room policy (Some task) rises =
     let changed = with_policy policy task in
     cond_both task.queued _ _ AreRising
-    (λ _. rising-queued_at_home (dequeued room changed) changed (rising-with_task room (record changed { queued = false }) rises))
+    (λ _. rising-queue_at_home (dequeue room changed) changed (rising-with_task room (record changed { queued = false }) rises))
     (λ _. rising-with_task room changed rises)
 
-rising-taken_offline : (room : RoomState) (cpu : ℕ) → AreRising room → AreRising (taken_offline room cpu).room
+rising-take_offline : (room : RoomState) (cpu : ℕ) → AreRising room → AreRising (take_offline room cpu).room
 unfolding leave
-rising-taken_offline room cpu rises =
+rising-take_offline room cpu rises =
     cond_both (not (is_online room cpu)) _ _ (λ (made : Stepped). AreRising made.room) (λ _. rises)
     (λ _. cond_both (length (online room) == 1) _ _ (λ (made : Stepped). AreRising made.room) (λ _. rises)
     (λ _. rises-map (moved_off room cpu)
     (λ task. cond_both (task.queued && (task.home == cpu)) _ _ (λ (t : Task). t.spec.pid ≡ task.spec.pid) (λ _. refl) (λ _. refl))
     0 room.next_pid room.tasks rises))
 
-rising-brought_online : (room : RoomState) (cpu : ℕ) → AreRising room → AreRising (brought_online room cpu).room
-rising-brought_online room cpu rises =
+rising-bring_online : (room : RoomState) (cpu : ℕ) → AreRising room → AreRising (bring_online room cpu).room
+rising-bring_online room cpu rises =
     cond_both (is_online room cpu) _ _ (λ (made : Stepped). AreRising made.room) (λ _. rises) (λ _. rises)
 
 pub rising-step : (room : RoomState) (fresh : Bool) (event : Event) → AreRising room → AreRising (step room fresh event).room
-rising-step room fresh (Turn cpu) rises = rising-unless_offline room cpu _ rises (rising-turned room fresh cpu rises)
+rising-step room fresh (Turn cpu) rises = rising-unless_offline room cpu _ rises (rising-turn room fresh cpu rises)
 rising-step room fresh (Resched cpu) rises = rising-unless_offline room cpu _ rises (rising-schedule room fresh cpu rises)
-rising-step room fresh (Block cpu) rises = rising-unless_offline room cpu _ rises (rising-blocked room cpu (running_on room cpu) rises)
-rising-step room fresh (Exit cpu) rises = rising-unless_offline room cpu _ rises (rising-exited room cpu (running_on room cpu) rises)
-rising-step room fresh (Tick cpu) rises = rising-unless_offline room cpu _ rises (rising-ticked room cpu (running_on room cpu) rises)
+rising-step room fresh (Block cpu) rises = rising-unless_offline room cpu _ rises (rising-block room cpu (running_on room cpu) rises)
+rising-step room fresh (Exit cpu) rises = rising-unless_offline room cpu _ rises (rising-exit room cpu (running_on room cpu) rises)
+rising-step room fresh (Tick cpu) rises = rising-unless_offline room cpu _ rises (rising-tick room cpu (running_on room cpu) rises)
 rising-step room fresh (SetSched pid policy) rises = rising-set_policy room policy (task_of room pid) rises
-rising-step room fresh (Offline cpu) rises = rising-taken_offline room cpu rises
-rising-step room fresh (Online cpu) rises = rising-brought_online room cpu rises
-rising-step room fresh (Wake pid) rises = rising-woken room (task_of room pid) rises
+rising-step room fresh (Offline cpu) rises = rising-take_offline room cpu rises
+rising-step room fresh (Online cpu) rises = rising-bring_online room cpu rises
+rising-step room fresh (Wake pid) rises = rising-wake room (task_of room pid) rises
 rising-step room fresh (Advance delta) rises = rising-advanced room delta rises
-rising-step room fresh (Fork caller thread) rises = rising-forked room thread (task_of room caller) rises
+rising-step room fresh (Fork caller thread) rises = rising-fork room thread (task_of room caller) rises
 rising-step room fresh (Prctl caller ask) rises =
     rising-with_answer (with_made room (makes_cookie room caller ask)) (setting_of room caller ask) (prctl_answer room caller ask) rises
 

@@ -6,15 +6,15 @@ use Rattle.std.proofs.lemmas.Bool.{cond_both, and_parts, eqb-true, eqb-false, bo
 use Rattle.cs_types.specs.declared.task.Task.{Task}
 use Rattle.cs_types.specs.Room.{RoomState, SiblingState, Waiting, queued_on, sibling_of, is_online, with_sibling}
 use Rattle.cs_types.specs.Order.{first_of}
-use Rattle.cs_types.specs.Selection.{first_on, queued_with, cookie_of, pid_of, choice, lead_from, is_run, running, selected_room, selected, plain, is_plain, picked_anew, adopted_or_picked_anew, schedule, adopted, sibling_after_selection}
+use Rattle.cs_types.specs.Selection.{first_on, queued_with, cookie_of, pid_of, choice, lead_from, is_run, running, select_for, select, pick_plain, is_plain, pick_anew, adopt_or_pick_anew, schedule, adopt, sibling_after_selection}
 use Rattle.cs_types.specs.Accounting.{charge}
 use Rattle.cs_types.specs.Touches.{is_selected}
 use Rattle.cs_types.proofs.Filtered.{each-filter, each_found}
 use Rattle.cs_types.proofs.Rising.{AreRising}
 use Rattle.cs_types.proofs.Selections.{choice_matches, is_run_same, numbered_after_selection}
-use Rattle.cs_types.proofs.Siblings.{kept-adopted_or_picked_anew, is_online-alike}
+use Rattle.cs_types.proofs.Siblings.{kept-adopt_or_pick_anew, is_online-alike}
 use Rattle.cs_types.proofs.Spots.{spot_of, spot_at}
-use Rattle.cs_types.proofs.Moves.{spots-selected_room}
+use Rattle.cs_types.proofs.Moves.{spots-select_for}
 use Rattle.cs_types.proofs.Places.{with_sibling_at, enumerated_at}
 use Rattle.cs_types.proofs.Homes.{IsQueuedOn, each_queued}
 use Rattle.cs_types.proofs.Fits.{Fits, IsAt, cookie_at, SiblingFits, AllFit, fits_same, fits_running, fits_waiting, fits_away, all_same, all_placed, fits_absent}
@@ -58,7 +58,7 @@ abbrev pub OthersFit : RoomState → Bool → ℕ → Type 0
 OthersFit room fresh cpu = (other : ℕ) → other ≢ cpu → SiblingFits (spot_at room) room.core_cookie fresh other (sibling_of room other)
 
 plain_fits : (room : RoomState) (fresh later : Bool) (cpu : ℕ) → cpu < length room.siblings → is_online room cpu ≡ true → AreRising room → is_plain room cpu ≡ true →
-    (later ≡ true → ⊥) → OthersFit room fresh cpu → AllFit (plain room cpu).room later
+    (later ≡ true → ⊥) → OthersFit room fresh cpu → AllFit (pick_plain room cpu).room later
 plain_fits room fresh later cpu below up rises is old fits =
     with_sibling_at (SiblingFits (spot_at room) room.core_cookie later) (record room { forced = 0; occupation = 0; started = None }) cpu
     _ below
@@ -109,10 +109,10 @@ sibling_after_selection_fits room core fresh later selector cpu up rises fits =
       by_tests false false other runs =
           fits_waiting (spot_at room) core later cpu sibling.online sibling.run run sibling.place up (fits (eqb-false cpu selector other)).runs here same runs
 
-selected_fits : (room : RoomState) (fresh later : Bool) (cpu : ℕ) → is_online room cpu ≡ true → AreRising room → OthersFit room fresh cpu → AllFit (selected room cpu).room later
-unfolding selected_room
+selected_fits : (room : RoomState) (fresh later : Bool) (cpu : ℕ) → is_online room cpu ≡ true → AreRising room → OthersFit room fresh cpu → AllFit (select room cpu).room later
+unfolding select_for
 selected_fits room fresh later cpu up rises fits =
-    all_same (spot_at room) (spot_at (selected_room room cpu core)) core later (sibling_of (selected_room room cpu core)) (spots-selected_room room cpu core) each where
+    all_same (spot_at room) (spot_at (select_for room cpu core)) core later (sibling_of (select_for room cpu core)) (spots-select_for room cpu core) each where
       core : ℕ
       core = cookie_of (lead_from room cpu)
 
@@ -124,7 +124,7 @@ selected_fits room fresh later cpu up rises fits =
           (λ off. fits_away (spot_at room) core later other sibling.online sibling.run sibling.pending sibling.waiting sibling.place off
           ((fits other (λ e. both_ways sibling.online off (subst (λ n. is_online room n ≡ true) (sym e) up))).away off))
 
-      each : (other : ℕ) → SiblingFits (spot_at room) core later other (sibling_of (selected_room room cpu core) other)
+      each : (other : ℕ) → SiblingFits (spot_at room) core later other (sibling_of (select_for room cpu core) other)
       each other =
           enumerated_at (SiblingFits (spot_at room) core later other) (numbered_after_selection room core cpu) 0 room.siblings other (λ _. fits_absent (spot_at room) core later other)
           (subst (λ n. SiblingFits (spot_at room) core later other (numbered_after_selection room core cpu (n, sibling_of room other))) (omega arith) (one other))
@@ -132,20 +132,20 @@ selected_fits room fresh later cpu up rises fits =
 -- ---- every schedule
 
 -- a schedule that adopts nothing is a selection where it leaves one fresh
-rescheduled_selects : (room : RoomState) (fresh : Bool) (cpu : ℕ) → freshened (picked_anew room cpu).pick.kind fresh ≡ true → is_selected (picked_anew room cpu).pick.kind ≡ true
+rescheduled_selects : (room : RoomState) (fresh : Bool) (cpu : ℕ) → freshened (pick_anew room cpu).pick.kind fresh ≡ true → is_selected (pick_anew room cpu).pick.kind ≡ true
 rescheduled_selects room fresh cpu old =
-    cond_both (is_plain room cpu) (plain room cpu) (selected room cpu) (λ made. freshened made.pick.kind fresh ≡ true → is_selected made.pick.kind ≡ true)
+    cond_both (is_plain room cpu) (pick_plain room cpu) (select room cpu) (λ made. freshened made.pick.kind fresh ≡ true → is_selected made.pick.kind ≡ true)
     (λ _ e. e) (λ _ _. refl) old
 
 rescheduled_fits : (room : RoomState) (fresh later : Bool) (cpu : ℕ) → cpu < length room.siblings → is_online room cpu ≡ true → AreRising room →
-    (later ≡ true → is_selected (picked_anew room cpu).pick.kind ≡ true) → OthersFit room fresh cpu → AllFit (picked_anew room cpu).room later
+    (later ≡ true → is_selected (pick_anew room cpu).pick.kind ≡ true) → OthersFit room fresh cpu → AllFit (pick_anew room cpu).room later
 rescheduled_fits room fresh later cpu below up rises old fits =
-    cond_both (is_plain room cpu) (plain room cpu) (selected room cpu) (λ made. (later ≡ true → is_selected made.pick.kind ≡ true) → AllFit made.room later)
+    cond_both (is_plain room cpu) (pick_plain room cpu) (select room cpu) (λ made. (later ≡ true → is_selected made.pick.kind ≡ true) → AllFit made.room later)
     (λ is old. plain_fits room fresh later cpu below up rises is (λ e. let bad = old e in absurd cc) fits)
     (λ _ _. selected_fits room fresh later cpu up rises fits) old
 
 adopted_fits : (room : RoomState) (later : Bool) (cpu : ℕ) (run : Option ℕ) → cpu < length room.siblings → is_online room cpu ≡ true →
-    (sibling_of room cpu).waiting ≡ Some run → AllFit room true → AllFit (adopted room cpu run).room later
+    (sibling_of room cpu).waiting ≡ Some run → AllFit room true → AllFit (adopt room cpu run).room later
 adopted_fits room later cpu run below up waits fits =
     let sibling = sibling_of room cpu in
     let its = fits cpu in
@@ -158,8 +158,8 @@ adopted_fits room later cpu run below up waits fits =
     fits_same (spot_at room) (spot_at room) room.core_cookie true later other one.online one.run one.pending one.waiting one.place (λ pid has here. refl) (λ _. refl) (fits other))
 
 scheduled_fits : (room : RoomState) (fresh later : Bool) (cpu : ℕ) (waiting : Waiting) → cpu < length room.siblings → is_online room cpu ≡ true → AreRising room →
-    (sibling_of room cpu).waiting ≡ waiting → (later ≡ true → freshened (adopted_or_picked_anew room fresh cpu waiting).pick.kind fresh ≡ true) → AllFit room fresh →
-    AllFit (adopted_or_picked_anew room fresh cpu waiting).room later
+    (sibling_of room cpu).waiting ≡ waiting → (later ≡ true → freshened (adopt_or_pick_anew room fresh cpu waiting).pick.kind fresh ≡ true) → AllFit room fresh →
+    AllFit (adopt_or_pick_anew room fresh cpu waiting).room later
 scheduled_fits room fresh later cpu None below up rises waits old fits =
     rescheduled_fits (charge room) fresh later cpu below up rises (λ e. rescheduled_selects (charge room) fresh cpu (old e)) (λ other differ. fits other)
 scheduled_fits room true later cpu (Some run) below up rises waits old fits = adopted_fits room later cpu run below up waits fits
@@ -168,11 +168,11 @@ scheduled_fits room false later cpu (Some run) below up rises waits old fits =
 
 -- the sibling's next place of a steal try makes no difference
 balanced_fits : (room : RoomState) (fresh later : Bool) (cpu : ℕ) (waiting : Waiting) (place : ℕ) → is_online room cpu ≡ true →
-    AllFit (adopted_or_picked_anew room fresh cpu waiting).room later →
-    AllFit (with_sibling (adopted_or_picked_anew room fresh cpu waiting).room cpu (record (sibling_of (adopted_or_picked_anew room fresh cpu waiting).room cpu) { place = place })) later
+    AllFit (adopt_or_pick_anew room fresh cpu waiting).room later →
+    AllFit (with_sibling (adopt_or_pick_anew room fresh cpu waiting).room cpu (record (sibling_of (adopt_or_pick_anew room fresh cpu waiting).room cpu) { place = place })) later
 balanced_fits room fresh later cpu waiting place up fits =
-    all_placed (adopted_or_picked_anew room fresh cpu waiting).room later cpu place
-    (is_online-alike (adopted_or_picked_anew room fresh cpu waiting).room room (kept-adopted_or_picked_anew room fresh cpu waiting) cpu ∙ up) fits
+    all_placed (adopt_or_pick_anew room fresh cpu waiting).room later cpu place
+    (is_online-alike (adopt_or_pick_anew room fresh cpu waiting).room room (kept-adopt_or_pick_anew room fresh cpu waiting) cpu ∙ up) fits
 
 -- After a schedule of an online sibling every one has what fits it.
 pub schedule_fits : (room : RoomState) (fresh later : Bool) (cpu : ℕ) → cpu < length room.siblings → is_online room cpu ≡ true → AreRising room →
@@ -186,6 +186,6 @@ pub again_fits : (room : RoomState) (fresh later : Bool) (cpu : ℕ) → cpu < l
     (later ≡ true → freshened (schedule room false cpu).pick.kind false ≡ true) → OthersFit room fresh cpu → AllFit (schedule room false cpu).room later
 again_fits room fresh later cpu below up rises old fits =
     balanced_fits room false later cpu (sibling_of room cpu).waiting _ up (go (sibling_of room cpu).waiting old) where
-      go : (waiting : Waiting) → (later ≡ true → freshened (adopted_or_picked_anew room false cpu waiting).pick.kind false ≡ true) → AllFit (adopted_or_picked_anew room false cpu waiting).room later
+      go : (waiting : Waiting) → (later ≡ true → freshened (adopt_or_pick_anew room false cpu waiting).pick.kind false ≡ true) → AllFit (adopt_or_pick_anew room false cpu waiting).room later
       go None old = rescheduled_fits (charge room) fresh later cpu below up rises (λ e. rescheduled_selects (charge room) false cpu (old e)) fits
       go (Some run) old = rescheduled_fits (charge room) fresh later cpu below up rises (λ e. rescheduled_selects (charge room) false cpu (old e)) fits

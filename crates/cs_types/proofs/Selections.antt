@@ -22,20 +22,20 @@ use Rattle.cs_types.specs.declared.scenario.Scenario.{Scenario}
 use Rattle.cs_types.specs.Scenario.{IsEvent}
 use Rattle.cs_types.specs.Room.{RoomState, SiblingState, idle, queued_on, sibling_of, is_online, online, online_from, running_on, task_of, to_run, with_sibling, absent}
 use Rattle.cs_types.specs.Order.{foremost, is_higher_here, outranks, goes_before, first_of}
-use Rattle.cs_types.specs.Selection.{first_on, cookie_of, pid_of, snapshot_of, lead_from, choice, eligible, is_forced, forced_count, is_run, occupation_of, selected_room, selected, Scheduled, is_plain, plain, picked_anew, adopted_or_picked_anew, schedule, sibling_after_selection}
+use Rattle.cs_types.specs.Selection.{first_on, cookie_of, pid_of, snapshot_of, lead_from, choice, eligible, is_forced, forced_count, is_run, occupation_of, select_for, select, Scheduled, is_plain, pick_plain, pick_anew, adopt_or_pick_anew, schedule, sibling_after_selection}
 use Rattle.cs_types.specs.Accounting.{charge}
 use Rattle.cs_types.specs.Prctl.{Row, first_answer, rows_before_making, rows_after_making, prctl_answer}
 use Rattle.cs_types.specs.Touches.{selection_of, is_fresh}
-use Rattle.cs_types.specs.Step.{Stepped, step, picked, turned, try_steal, unless_offline, blocked, woken, idled, exited, forked, may_not_fork, ticked, without, has_threads, set_policy, taken_offline, brought_online}
+use Rattle.cs_types.specs.Step.{Stepped, step, picked, turn, try_steal, unless_offline, block, wake, run_idle, exit, fork, may_not_fork, tick, without, has_threads, set_policy, take_offline, bring_online}
 use Rattle.cs_types.specs.Steal.{stolen}
-use Rattle.cs_types.specs.Queueing.{dequeued}
+use Rattle.cs_types.specs.Queueing.{dequeue}
 use Rattle.cs_types.specs.History.{History, moment_of, fold_of, ledger_of, reply_to, step_at}
 use Rattle.cs_types.specs.Laws.{RunsItsChoice, AwaitsItsChoice, SelectsForTheCore, scheduling_room, cpu_of}
 use Rattle.cs_types.proofs.Foremost.{each_weaker, foremost_none, foremost_one}
 use Rattle.cs_types.proofs.First.{goes_before_is_order, outranks_is_order, higher_at_home}
 use Rattle.cs_types.proofs.Filtered.{each_of_map, each_found, foremost_least, foremost-filter, Contains-filter, Contains-filter_parts, Contains-range, Contains-range_within}
 use Rattle.cs_types.proofs.Histories.{moment_of-push}
-use Rattle.cs_types.proofs.Siblings.{kept-idled, kept-without, length-alike, is_online-alike, length-fold_of}
+use Rattle.cs_types.proofs.Siblings.{kept-run_idle, kept-without, length-alike, is_online-alike, length-fold_of}
 
 -- ---- the first of a list of tasks
 
@@ -219,20 +219,20 @@ numbered_after_selection room core selector numbered =
     cond numbered.1.online (sibling_after_selection room core selector numbered.0 numbered.1) numbered.1
 
 -- a sibling of the room after a selection
-pub sibling_of-selected_room : (room : RoomState) (cpu core other : ℕ) → other < length room.siblings →
-    sibling_of (selected_room room cpu core) other
+pub sibling_of-select_for : (room : RoomState) (cpu core other : ℕ) → other < length room.siblings →
+    sibling_of (select_for room cpu core) other
     ≡ numbered_after_selection room core cpu (other, sibling_of room other)
-unfolding selected_room
-sibling_of-selected_room room cpu core other below =
+unfolding select_for
+sibling_of-select_for room cpu core other below =
     let after = numbered_after_selection room core cpu in
     get_or-map after (enumerate_from 0 room.siblings) other (0, absent) absent (omega (arith, length-enumerate_from 0 room.siblings))
     ∙ ap after (get_or-enumerate_from 0 room.siblings other (0, absent) below ∙ ap (λ n. (n, sibling_of room other)) (omega arith))
 
 -- one that is online
 online_after_selection : (room : RoomState) (cpu core other : ℕ) → other < length room.siblings → is_online room other ≡ true →
-    sibling_of (selected_room room cpu core) other ≡ sibling_after_selection room core cpu other (sibling_of room other)
+    sibling_of (select_for room cpu core) other ≡ sibling_after_selection room core cpu other (sibling_of room other)
 online_after_selection room cpu core other below up =
-    sibling_of-selected_room room cpu core other below ∙ cond-true (is_online room other) _ (sibling_of room other) up
+    sibling_of-select_for room cpu core other below ∙ cond-true (is_online room other) _ (sibling_of room other) up
 
 -- An online sibling is to run its choice.
 to_run-sibling_after_selection : (room : RoomState) (core selector cpu : ℕ) (sibling : SiblingState) →
@@ -377,8 +377,8 @@ occupied room cpu below forced = go (lead_from room cpu) refl where
 
 -- A selection for the core that an online sibling makes keeps its law.
 pub selected_keeps_law : (room : RoomState) (cpu : ℕ) → cpu < length room.siblings → is_online room cpu ≡ true →
-    SelectsForTheCore room cpu (selected room cpu).pick (selected room cpu).room
-unfolding selected_room
+    SelectsForTheCore room cpu (select room cpu).pick (select room cpu).room
+unfolding select_for
 selected_keeps_law room cpu below up =
     let core = cookie_of (lead_from room cpu) in
     record {
@@ -410,12 +410,12 @@ selected_keeps_law room cpu below up =
 abbrev pub KeepsLaw : RoomState → ℕ → Scheduled → Type 0
 KeepsLaw room cpu made = IfSome (selection_of (Picked made.pick)) (λ pick. SelectsForTheCore room cpu pick made.room)
 
-rescheduled_keeps_law : (room : RoomState) (cpu : ℕ) → cpu < length room.siblings → is_online room cpu ≡ true → KeepsLaw room cpu (picked_anew room cpu)
+rescheduled_keeps_law : (room : RoomState) (cpu : ℕ) → cpu < length room.siblings → is_online room cpu ≡ true → KeepsLaw room cpu (pick_anew room cpu)
 rescheduled_keeps_law room cpu below up =
-    cond_both (is_plain room cpu) (plain room cpu) (selected room cpu) (KeepsLaw room cpu) (λ _. tt) (λ _. selected_keeps_law room cpu below up)
+    cond_both (is_plain room cpu) (pick_plain room cpu) (select room cpu) (KeepsLaw room cpu) (λ _. tt) (λ _. selected_keeps_law room cpu below up)
 
 scheduled_keeps_law : (room : RoomState) (fresh : Bool) (cpu : ℕ) (waiting : Option (Option ℕ)) →
-    cpu < length room.siblings → is_online room cpu ≡ true → KeepsLaw (charge room) cpu (adopted_or_picked_anew room fresh cpu waiting)
+    cpu < length room.siblings → is_online room cpu ≡ true → KeepsLaw (charge room) cpu (adopt_or_pick_anew room fresh cpu waiting)
 scheduled_keeps_law room fresh cpu None below up = rescheduled_keeps_law (charge room) cpu below up
 scheduled_keeps_law room true cpu (Some run) below up = tt
 scheduled_keeps_law room false cpu (Some run) below up = rescheduled_keeps_law (charge room) cpu below up
@@ -463,7 +463,7 @@ balanced_keeps_law room cpu pick now place law =
 -- Every schedule of an online sibling keeps the law.
 pub schedule_keeps_law : (room : RoomState) (fresh : Bool) (cpu : ℕ) → cpu < length room.siblings → is_online room cpu ≡ true → KeepsLaw room cpu (schedule room fresh cpu)
 schedule_keeps_law room fresh cpu below up =
-    let made = adopted_or_picked_anew room fresh cpu (sibling_of room cpu).waiting in
+    let made = adopt_or_pick_anew room fresh cpu (sibling_of room cpu).waiting in
     go (selection_of (Picked made.pick)) made.room _ (scheduled_keeps_law room fresh cpu (sibling_of room cpu).waiting below up) where
       go : (pick : Option Pick) (now : RoomState) (place : ℕ) → IfSome pick (λ pick. SelectsForTheCore (charge room) cpu pick now) →
           IfSome pick (λ pick. SelectsForTheCore room cpu pick (with_sibling now cpu (record (sibling_of now cpu) { place = place })))
@@ -479,44 +479,44 @@ try_steal_keeps_law room cpu None = tt
 try_steal_keeps_law room cpu (Some task) = tt
 
 turned_keeps_law : (room : RoomState) (fresh : Bool) (cpu : ℕ) → cpu < length room.siblings → is_online room cpu ≡ true →
-    StepKeepsLaw room (Turn cpu) (turned room fresh cpu)
+    StepKeepsLaw room (Turn cpu) (turn room fresh cpu)
 turned_keeps_law room fresh cpu below up =
     cond_both (sibling_of room cpu).pending _ _ (StepKeepsLaw room (Turn cpu)) (λ _. schedule_keeps_law room fresh cpu below up)
     (λ _. cond_both ((sibling_of room cpu).place == 0) _ _ (StepKeepsLaw room (Turn cpu)) (λ _. tt) (λ _. try_steal_keeps_law room cpu (stolen room cpu)))
 
 -- a sibling that blocks schedules in the room without the task that went to sleep, where the same siblings are online
 blocked_keeps_law : (room : RoomState) (cpu : ℕ) (task : Option Task) → cpu < length room.siblings → is_online room cpu ≡ true →
-    IfSome (selection_of (blocked room cpu task).reply)
-    (λ pick. SelectsForTheCore (option_map_or (λ task. idled (dequeued (charge room) task) cpu) task room) cpu pick (blocked room cpu task).room)
+    IfSome (selection_of (block room cpu task).reply)
+    (λ pick. SelectsForTheCore (option_map_or (λ task. run_idle (dequeue (charge room) task) cpu) task room) cpu pick (block room cpu task).room)
 blocked_keeps_law room cpu None below up = tt
 blocked_keeps_law room cpu (Some task) below up =
-    let room_then = idled (dequeued (charge room) task) cpu in
-    let same = kept-idled (charge room) cpu task in
+    let room_then = run_idle (dequeue (charge room) task) cpu in
+    let same = kept-run_idle (charge room) cpu task in
     schedule_keeps_law room_then false cpu (subst (λ n. cpu < n) (sym (length-alike room_then room same)) below)
     (is_online-alike room_then room same cpu ∙ up)
 
 exited_keeps_law : (room : RoomState) (cpu : ℕ) (task : Option Task) → cpu < length room.siblings → is_online room cpu ≡ true →
-    IfSome (selection_of (exited room cpu task).reply)
-    (λ pick. SelectsForTheCore (option_map_or (λ task. idled (without (charge room) task) cpu) task room) cpu pick (exited room cpu task).room)
+    IfSome (selection_of (exit room cpu task).reply)
+    (λ pick. SelectsForTheCore (option_map_or (λ task. run_idle (without (charge room) task) cpu) task room) cpu pick (exit room cpu task).room)
 exited_keeps_law room cpu None below up = tt
 exited_keeps_law room cpu (Some task) below up =
-    let room_then = idled (without (charge room) task) cpu in
+    let room_then = run_idle (without (charge room) task) cpu in
     let same = kept-without (charge room) cpu task in
     cond_both (has_threads room task) _ _ (λ (made : Stepped). IfSome (selection_of made.reply) (λ pick. SelectsForTheCore room_then cpu pick made.room))
     (λ _. tt)
     (λ _. schedule_keeps_law room_then false cpu (subst (λ n. cpu < n) (sym (length-alike room_then room same)) below)
     (is_online-alike room_then room same cpu ∙ up))
 
-forked_keeps_law : (room : RoomState) (pid : ℕ) (thread : Bool) (caller : Option Task) → StepKeepsLaw room (Fork pid thread) (forked room thread caller)
+forked_keeps_law : (room : RoomState) (pid : ℕ) (thread : Bool) (caller : Option Task) → StepKeepsLaw room (Fork pid thread) (fork room thread caller)
 forked_keeps_law room pid thread None = tt
 forked_keeps_law room pid thread (Some caller) =
     cond_both (may_not_fork room caller) _ _ (StepKeepsLaw room (Fork pid thread)) (λ _. tt) (λ _. tt)
 
-woken_keeps_law : (room : RoomState) (pid : ℕ) (task : Option Task) → StepKeepsLaw room (Wake pid) (woken room task)
+woken_keeps_law : (room : RoomState) (pid : ℕ) (task : Option Task) → StepKeepsLaw room (Wake pid) (wake room task)
 woken_keeps_law room pid None = tt
 woken_keeps_law room pid (Some task) = cond_both task.queued _ _ (StepKeepsLaw room (Wake pid)) (λ _. tt) (λ _. tt)
 
-ticked_keeps_law : (room : RoomState) (cpu : ℕ) (task : Option Task) → StepKeepsLaw room (Tick cpu) (ticked room cpu task)
+ticked_keeps_law : (room : RoomState) (cpu : ℕ) (task : Option Task) → StepKeepsLaw room (Tick cpu) (tick room cpu task)
 ticked_keeps_law room cpu None = tt
 ticked_keeps_law room cpu (Some task) = tt
 
@@ -547,25 +547,25 @@ set_policy_keeps_law : (room : RoomState) (pid : ℕ) (policy : Policy) (task : 
 set_policy_keeps_law room pid policy None = tt
 set_policy_keeps_law room pid policy (Some task) = tt
 
-taken_offline_keeps_law : (room : RoomState) (cpu : ℕ) → StepKeepsLaw room (Offline cpu) (taken_offline room cpu)
+taken_offline_keeps_law : (room : RoomState) (cpu : ℕ) → StepKeepsLaw room (Offline cpu) (take_offline room cpu)
 taken_offline_keeps_law room cpu =
     cond_both (not (is_online room cpu)) _ _ (StepKeepsLaw room (Offline cpu)) (λ _. tt)
     (λ _. cond_both (length (online room) == 1) _ _ (StepKeepsLaw room (Offline cpu)) (λ _. tt) (λ _. tt))
 
-brought_online_keeps_law : (room : RoomState) (cpu : ℕ) → StepKeepsLaw room (Online cpu) (brought_online room cpu)
+brought_online_keeps_law : (room : RoomState) (cpu : ℕ) → StepKeepsLaw room (Online cpu) (bring_online room cpu)
 brought_online_keeps_law room cpu = cond_both (is_online room cpu) _ _ (StepKeepsLaw room (Online cpu)) (λ _. tt) (λ _. tt)
 
 -- Every step of an online sibling keeps the law, and the other steps select nothing.
 pub step_keeps_law : (room : RoomState) (fresh : Bool) (event : Event) → IsEvent (length room.siblings) event → StepKeepsLaw room event (step room fresh event)
-step_keeps_law room fresh (Turn cpu) below = offline_keeps_law room (Turn cpu) cpu (turned room fresh cpu) (turned_keeps_law room fresh cpu below)
+step_keeps_law room fresh (Turn cpu) below = offline_keeps_law room (Turn cpu) cpu (turn room fresh cpu) (turned_keeps_law room fresh cpu below)
 step_keeps_law room fresh (Resched cpu) below =
     offline_keeps_law room (Resched cpu) cpu (picked Picked (schedule room fresh cpu)) (schedule_keeps_law room fresh cpu below)
 step_keeps_law room fresh (Block cpu) below =
-    offline_keeps_law room (Block cpu) cpu (blocked room cpu (running_on room cpu)) (blocked_keeps_law room cpu (running_on room cpu) below)
+    offline_keeps_law room (Block cpu) cpu (block room cpu (running_on room cpu)) (blocked_keeps_law room cpu (running_on room cpu) below)
 step_keeps_law room fresh (Exit cpu) below =
-    offline_keeps_law room (Exit cpu) cpu (exited room cpu (running_on room cpu)) (exited_keeps_law room cpu (running_on room cpu) below)
+    offline_keeps_law room (Exit cpu) cpu (exit room cpu (running_on room cpu)) (exited_keeps_law room cpu (running_on room cpu) below)
 step_keeps_law room fresh (Tick cpu) limits =
-    offline_keeps_law room (Tick cpu) cpu (ticked room cpu (running_on room cpu)) (λ _. ticked_keeps_law room cpu (running_on room cpu))
+    offline_keeps_law room (Tick cpu) cpu (tick room cpu (running_on room cpu)) (λ _. ticked_keeps_law room cpu (running_on room cpu))
 step_keeps_law room fresh (Wake pid) limits = woken_keeps_law room pid (task_of room pid)
 step_keeps_law room fresh (Advance delta) limits = tt
 step_keeps_law room fresh (Fork caller thread) limits = forked_keeps_law room caller thread (task_of room caller)

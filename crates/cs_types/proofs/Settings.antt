@@ -5,7 +5,7 @@ use Rattle.std.specs.Option.{option_map_or}
 use Rattle.std.proofs.lemmas.List.Sums.{sum_by-cons}
 use Rattle.cs_types.specs.declared.task.Task.{Task}
 use Rattle.cs_types.specs.Room.{RoomState, SiblingState, has_pid}
-use Rattle.cs_types.specs.Prctl.{Setting, is_set, runs_one, with_cookies}
+use Rattle.cs_types.specs.Prctl.{Setting, is_set, runs_one, set_cookies}
 use Rattle.cs_types.specs.Touches.{cookie_touches, setting_touches}
 
 -- ---- tasks
@@ -89,15 +89,15 @@ siblings-none cookie (sibling ∷ siblings) =
 -- ---- rooms
 
 -- A setting of no tasks changes nothing.
-pub with_cookies-none : (room : RoomState) (cookie : ℕ) → with_cookies room (record { tasks = []; cookie = cookie }) ≡ room
-with_cookies-none room cookie =
+pub set_cookies-none : (room : RoomState) (cookie : ℕ) → set_cookies room (record { tasks = []; cookie = cookie }) ≡ room
+set_cookies-none room cookie =
     λ i. record room { tasks = tasks-none cookie room.tasks i; siblings = siblings-none cookie room.siblings i }
 
 -- One of several is one of the first, and then of the others.
-pub with_cookies-cons : (room : RoomState) (first : Task) (rest : List Task) (cookie : ℕ) →
-    with_cookies (with_cookies room (record { tasks = first ∷ []; cookie = cookie })) (record { tasks = rest; cookie = cookie })
-    ≡ with_cookies room (record { tasks = first ∷ rest; cookie = cookie })
-with_cookies-cons room first rest cookie =
+pub set_cookies-cons : (room : RoomState) (first : Task) (rest : List Task) (cookie : ℕ) →
+    set_cookies (set_cookies room (record { tasks = first ∷ []; cookie = cookie })) (record { tasks = rest; cookie = cookie })
+    ≡ set_cookies room (record { tasks = first ∷ rest; cookie = cookie })
+set_cookies-cons room first rest cookie =
     λ i. record room { tasks = tasks-cons first rest cookie room.tasks i; siblings = siblings-cons first rest cookie room.siblings i }
 
 -- and so are its touches

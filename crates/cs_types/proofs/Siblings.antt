@@ -15,15 +15,15 @@ use Rattle.cs_types.specs.declared.reply.Reply.{Reply}
 use Rattle.cs_types.specs.declared.reply.Reply.TheVariants.{Zero}
 use Rattle.cs_types.specs.declared.reply.Entry.{Entry}
 use Rattle.cs_types.specs.declared.scenario.Scenario.{Scenario}
-use Rattle.cs_types.specs.Room.{RoomState, SiblingState, idle, sibling_of, running_on, is_online, online, task_of, with_sibling, flagged, absent}
-use Rattle.cs_types.specs.Selection.{selected_room, selected, plain, is_plain, picked_anew, adopted_or_picked_anew, schedule}
+use Rattle.cs_types.specs.Room.{RoomState, SiblingState, idle, sibling_of, running_on, is_online, online, task_of, with_sibling, flag, absent}
+use Rattle.cs_types.specs.Selection.{select_for, select, pick_plain, is_plain, pick_anew, adopt_or_pick_anew, schedule}
 use Rattle.cs_types.specs.Accounting.{charge}
 use Rattle.cs_types.specs.Prctl.{Setting, setting_of, runs_one, makes_cookie, with_made, with_answer, prctl_answer, prctl_room}
-use Rattle.cs_types.specs.Step.{Stepped, step, woken, blocked, exited, forked, may_not_fork, child_at_home, ticked, turned, without, has_threads, child_of, with_child, idled, try_steal, unless_offline, with_policy, set_policy, taken_offline, brought_online}
-use Rattle.cs_types.specs.Queueing.{refreshed, dequeued, enqueued, moved, rehomed, queued_at_home}
-use Rattle.cs_types.specs.Steal.{source_of, stolen, with_place}
+use Rattle.cs_types.specs.Step.{Stepped, step, wake, block, exit, fork, may_not_fork, child_at_home, tick, turn, without, has_threads, child_of, with_child, run_idle, try_steal, unless_offline, with_policy, set_policy, take_offline, bring_online}
+use Rattle.cs_types.specs.Queueing.{refreshed, dequeue, enqueue, moved, rehomed, queue_at_home}
+use Rattle.cs_types.specs.Steal.{source_of, stolen, set_place}
 use Rattle.cs_types.specs.Hotplug.{leave}
-use Rattle.cs_types.specs.Time.{with_growth, advanced, sliced}
+use Rattle.cs_types.specs.Time.{with_growth, advanced, begin_slice}
 use Rattle.cs_types.specs.Touches.{is_fresh}
 use Rattle.cs_types.specs.History.{History, Moment, beginning, next, after, fold_of}
 
@@ -60,83 +60,83 @@ pub kept-with_sibling : (room : RoomState) (cpu : ℕ) (sibling : SiblingState) 
 kept-with_sibling room cpu sibling same = map-set_alike parts_of room.siblings cpu sibling absent same
 
 -- a selection leaves these parts of each
-pub kept-selected_room : (room : RoomState) (cpu core : ℕ) → kept (selected_room room cpu core) ≡ kept room
-unfolding selected_room
-kept-selected_room room cpu core =
+pub kept-select_for : (room : RoomState) (cpu core : ℕ) → kept (select_for room cpu core) ≡ kept room
+unfolding select_for
+kept-select_for room cpu core =
     map-enumerate_alike parts_of _
     (λ numbered. cond_both numbered.1.online _ _ (λ (s : SiblingState). parts_of s ≡ parts_of numbered.1) (λ _. refl) (λ _. refl)) 0 room.siblings
 
 -- ---- what each step keeps
 
-pub kept-picked_anew : (room : RoomState) (cpu : ℕ) → kept (picked_anew room cpu).room ≡ kept room
-kept-picked_anew room cpu =
-    cond_both (is_plain room cpu) (plain room cpu) (selected room cpu) (λ made. kept made.room ≡ kept room)
-    (λ _. kept-with_sibling room cpu _ refl) (λ _. kept-selected_room room cpu _)
+pub kept-pick_anew : (room : RoomState) (cpu : ℕ) → kept (pick_anew room cpu).room ≡ kept room
+kept-pick_anew room cpu =
+    cond_both (is_plain room cpu) (pick_plain room cpu) (select room cpu) (λ made. kept made.room ≡ kept room)
+    (λ _. kept-with_sibling room cpu _ refl) (λ _. kept-select_for room cpu _)
 
-pub kept-adopted_or_picked_anew : (room : RoomState) (fresh : Bool) (cpu : ℕ) (waiting : Option (Option ℕ)) → kept (adopted_or_picked_anew room fresh cpu waiting).room ≡ kept room
-kept-adopted_or_picked_anew room fresh cpu None = kept-picked_anew (charge room) cpu
-kept-adopted_or_picked_anew room true cpu (Some run) = kept-with_sibling room cpu _ refl
-kept-adopted_or_picked_anew room false cpu (Some run) = kept-picked_anew (charge room) cpu
+pub kept-adopt_or_pick_anew : (room : RoomState) (fresh : Bool) (cpu : ℕ) (waiting : Option (Option ℕ)) → kept (adopt_or_pick_anew room fresh cpu waiting).room ≡ kept room
+kept-adopt_or_pick_anew room fresh cpu None = kept-pick_anew (charge room) cpu
+kept-adopt_or_pick_anew room true cpu (Some run) = kept-with_sibling room cpu _ refl
+kept-adopt_or_pick_anew room false cpu (Some run) = kept-pick_anew (charge room) cpu
 
 pub kept-schedule : (room : RoomState) (fresh : Bool) (cpu : ℕ) → kept (schedule room fresh cpu).room ≡ kept room
 kept-schedule room fresh cpu =
-    kept-with_sibling (adopted_or_picked_anew room fresh cpu (sibling_of room cpu).waiting).room cpu _ refl ∙ kept-adopted_or_picked_anew room fresh cpu (sibling_of room cpu).waiting
+    kept-with_sibling (adopt_or_pick_anew room fresh cpu (sibling_of room cpu).waiting).room cpu _ refl ∙ kept-adopt_or_pick_anew room fresh cpu (sibling_of room cpu).waiting
 
 pub kept-try_steal : (room : RoomState) (cpu : ℕ) (task : Option Task) → kept (try_steal room cpu task).room ≡ kept room
 kept-try_steal room cpu None = kept-with_sibling room cpu _ refl
 kept-try_steal room cpu (Some task) =
-    let inserted = with_place (moved room cpu task) cpu 0 in
-    let asked = flagged inserted cpu true in
+    let inserted = set_place (moved room cpu task) cpu 0 in
+    let asked = flag inserted cpu true in
     kept-with_sibling asked (source_of room cpu) _ refl ∙ (kept-with_sibling inserted cpu _ refl ∙ kept-with_sibling (moved room cpu task) cpu _ refl)
 
-pub kept-turned : (room : RoomState) (fresh : Bool) (cpu : ℕ) → kept (turned room fresh cpu).room ≡ kept room
-kept-turned room fresh cpu =
+pub kept-turn : (room : RoomState) (fresh : Bool) (cpu : ℕ) → kept (turn room fresh cpu).room ≡ kept room
+kept-turn room fresh cpu =
     cond_both (sibling_of room cpu).pending _ _ (λ (made : Stepped). kept made.room ≡ kept room) (λ _. kept-schedule room fresh cpu)
     (λ _. cond_both ((sibling_of room cpu).place == 0) _ _ (λ (made : Stepped). kept made.room ≡ kept room) (λ _. refl)
     (λ _. kept-try_steal room cpu (stolen room cpu)))
 
 -- the task that a sibling runs goes to sleep, and the sibling runs idle
-pub kept-idled : (room : RoomState) (cpu : ℕ) (task : Task) → kept (idled (dequeued room task) cpu) ≡ kept room
-kept-idled room cpu task = kept-with_sibling (dequeued room task) cpu _ refl
+pub kept-run_idle : (room : RoomState) (cpu : ℕ) (task : Task) → kept (run_idle (dequeue room task) cpu) ≡ kept room
+kept-run_idle room cpu task = kept-with_sibling (dequeue room task) cpu _ refl
 
-pub kept-blocked : (room : RoomState) (cpu : ℕ) (task : Option Task) → kept (blocked room cpu task).room ≡ kept room
-kept-blocked room cpu None = refl
-kept-blocked room cpu (Some task) = kept-schedule (idled (dequeued (charge room) task) cpu) false cpu ∙ kept-idled (charge room) cpu task
+pub kept-block : (room : RoomState) (cpu : ℕ) (task : Option Task) → kept (block room cpu task).room ≡ kept room
+kept-block room cpu None = refl
+kept-block room cpu (Some task) = kept-schedule (run_idle (dequeue (charge room) task) cpu) false cpu ∙ kept-run_idle (charge room) cpu task
 
-pub kept-queued_at_home : (room : RoomState) (task : Task) → kept (queued_at_home room task) ≡ kept room
-kept-queued_at_home room task = kept-with_sibling (enqueued room (refreshed room task)) task.home _ refl
+pub kept-queue_at_home : (room : RoomState) (task : Task) → kept (queue_at_home room task) ≡ kept room
+kept-queue_at_home room task = kept-with_sibling (enqueue room (refreshed room task)) task.home _ refl
 
-pub kept-woken : (room : RoomState) (task : Option Task) → kept (woken room task).room ≡ kept room
-kept-woken room None = refl
-kept-woken room (Some task) =
+pub kept-wake : (room : RoomState) (task : Option Task) → kept (wake room task).room ≡ kept room
+kept-wake room None = refl
+kept-wake room (Some task) =
     cond_both task.queued _ _ (λ (made : Stepped). kept made.room ≡ kept room) (λ _. refl)
-    (λ _. kept-queued_at_home room (rehomed room task))
+    (λ _. kept-queue_at_home room (rehomed room task))
 
 -- a change of every sibling that keeps whether it is online
 pub map-map_alike : {X Y : Type 0} (f : X → Y) (g : X → X) → ((x : X) → f (g x) ≡ f x) → (xs : List X) → map f (map g xs) ≡ map f xs
 map-map_alike f g same [] = refl
 map-map_alike f g same (x ∷ xs) = cc (same x, map-map_alike f g same xs)
 
-pub kept-without : (room : RoomState) (cpu : ℕ) (task : Task) → kept (idled (without room task) cpu) ≡ kept room
+pub kept-without : (room : RoomState) (cpu : ℕ) (task : Task) → kept (run_idle (without room task) cpu) ≡ kept room
 kept-without room cpu task = kept-with_sibling (without room task) cpu _ refl
 
-pub kept-exited : (room : RoomState) (cpu : ℕ) (task : Option Task) → kept (exited room cpu task).room ≡ kept room
-kept-exited room cpu None = refl
-kept-exited room cpu (Some task) =
+pub kept-exit : (room : RoomState) (cpu : ℕ) (task : Option Task) → kept (exit room cpu task).room ≡ kept room
+kept-exit room cpu None = refl
+kept-exit room cpu (Some task) =
     cond_both (has_threads room task) _ _ (λ (made : Stepped). kept made.room ≡ kept room) (λ _. refl)
-    (λ _. kept-schedule (idled (without (charge room) task) cpu) false cpu ∙ kept-without (charge room) cpu task)
+    (λ _. kept-schedule (run_idle (without (charge room) task) cpu) false cpu ∙ kept-without (charge room) cpu task)
 
-pub kept-forked : (room : RoomState) (thread : Bool) (caller : Option Task) → kept (forked room thread caller).room ≡ kept room
-kept-forked room thread None = refl
-kept-forked room thread (Some caller) =
+pub kept-fork : (room : RoomState) (thread : Bool) (caller : Option Task) → kept (fork room thread caller).room ≡ kept room
+kept-fork room thread None = refl
+kept-fork room thread (Some caller) =
     let child = child_at_home room (child_of caller thread room.next_pid) in
     let born = with_child room (child_of caller thread room.next_pid) in
     cond_both (may_not_fork room caller) _ _ (λ (made : Stepped). kept made.room ≡ kept room) (λ _. refl)
-    (λ _. kept-queued_at_home born child)
+    (λ _. kept-queue_at_home born child)
 
-pub kept-ticked : (room : RoomState) (cpu : ℕ) (task : Option Task) → kept (ticked room cpu task).room ≡ kept room
-kept-ticked room cpu None = refl
-kept-ticked room cpu (Some task) = kept-with_sibling (sliced room cpu task) cpu _ refl
+pub kept-tick : (room : RoomState) (cpu : ℕ) (task : Option Task) → kept (tick room cpu task).room ≡ kept room
+kept-tick room cpu None = refl
+kept-tick room cpu (Some task) = kept-with_sibling (begin_slice room cpu task) cpu _ refl
 
 pub kept-with_answer : (room : RoomState) (set : Setting) (answer : Reply) → kept (with_answer room set answer) ≡ kept room
 kept-with_answer room set Zero =
@@ -155,9 +155,9 @@ pub kept-set_policy : (room : RoomState) (policy : Policy) (task : Option Task) 
 kept-set_policy room policy None = refl
 kept-set_policy room policy (Some task) =
     let changed = with_policy policy task in
-    let queued = queued_at_home (dequeued room changed) changed in
+    let queued = queue_at_home (dequeue room changed) changed in
     cond_both task.queued _ _ (λ (made : RoomState). kept made ≡ kept room)
-    (λ _. kept-with_sibling queued task.home _ refl ∙ kept-queued_at_home (dequeued room changed) changed) (λ _. refl)
+    (λ _. kept-with_sibling queued task.home _ refl ∙ kept-queue_at_home (dequeue room changed) changed) (λ _. refl)
 
 -- ---- what is read from whether the siblings are online
 
@@ -182,15 +182,15 @@ least-alike room other same cpu = ap (λ (p : Bool × ℕ). p.1) (parts-alike ro
 
 -- ---- how many siblings there are
 
-length-taken_offline : (room : RoomState) (cpu : ℕ) → length (taken_offline room cpu).room.siblings ≡ length room.siblings
+length-take_offline : (room : RoomState) (cpu : ℕ) → length (take_offline room cpu).room.siblings ≡ length room.siblings
 unfolding leave
-length-taken_offline room cpu =
+length-take_offline room cpu =
     cond_both (not (is_online room cpu)) _ _ (λ (made : Stepped). length made.room.siblings ≡ length room.siblings) (λ _. refl)
     (λ _. cond_both (length (online room) == 1) _ _ (λ (made : Stepped). length made.room.siblings ≡ length room.siblings) (λ _. refl)
     (λ _. length-map (enumerate_from 0 room.siblings) _ ∙ length-enumerate_from 0 room.siblings))
 
-length-brought_online : (room : RoomState) (cpu : ℕ) → length (brought_online room cpu).room.siblings ≡ length room.siblings
-length-brought_online room cpu =
+length-bring_online : (room : RoomState) (cpu : ℕ) → length (bring_online room cpu).room.siblings ≡ length room.siblings
+length-bring_online room cpu =
     cond_both (is_online room cpu) _ _ (λ (made : Stepped). length made.room.siblings ≡ length room.siblings) (λ _. refl)
     (λ _. length-set room.siblings cpu _)
 
@@ -201,18 +201,18 @@ length-advanced room delta =
 
 -- No step adds a sibling or takes one from the room.
 pub length-step : (room : RoomState) (fresh : Bool) (event : Event) → length (step room fresh event).room.siblings ≡ length room.siblings
-length-step room fresh (Turn cpu) = length-alike (step room fresh (Turn cpu)).room room (kept-unless_offline room cpu _ (kept-turned room fresh cpu))
+length-step room fresh (Turn cpu) = length-alike (step room fresh (Turn cpu)).room room (kept-unless_offline room cpu _ (kept-turn room fresh cpu))
 length-step room fresh (Resched cpu) = length-alike (step room fresh (Resched cpu)).room room (kept-unless_offline room cpu _ (kept-schedule room fresh cpu))
-length-step room fresh (Block cpu) = length-alike (step room fresh (Block cpu)).room room (kept-unless_offline room cpu _ (kept-blocked room cpu (running_on room cpu)))
-length-step room fresh (Exit cpu) = length-alike (step room fresh (Exit cpu)).room room (kept-unless_offline room cpu _ (kept-exited room cpu (running_on room cpu)))
-length-step room fresh (Tick cpu) = length-alike (step room fresh (Tick cpu)).room room (kept-unless_offline room cpu _ (kept-ticked room cpu (running_on room cpu)))
-length-step room fresh (Wake pid) = length-alike (step room fresh (Wake pid)).room room (kept-woken room (task_of room pid))
+length-step room fresh (Block cpu) = length-alike (step room fresh (Block cpu)).room room (kept-unless_offline room cpu _ (kept-block room cpu (running_on room cpu)))
+length-step room fresh (Exit cpu) = length-alike (step room fresh (Exit cpu)).room room (kept-unless_offline room cpu _ (kept-exit room cpu (running_on room cpu)))
+length-step room fresh (Tick cpu) = length-alike (step room fresh (Tick cpu)).room room (kept-unless_offline room cpu _ (kept-tick room cpu (running_on room cpu)))
+length-step room fresh (Wake pid) = length-alike (step room fresh (Wake pid)).room room (kept-wake room (task_of room pid))
 length-step room fresh (Advance delta) = length-advanced room delta
-length-step room fresh (Fork caller thread) = length-alike (step room fresh (Fork caller thread)).room room (kept-forked room thread (task_of room caller))
+length-step room fresh (Fork caller thread) = length-alike (step room fresh (Fork caller thread)).room room (kept-fork room thread (task_of room caller))
 length-step room fresh (Prctl caller ask) = length-alike (step room fresh (Prctl caller ask)).room room (kept-prctl_room room caller ask)
 length-step room fresh (SetSched pid policy) = length-alike (step room fresh (SetSched pid policy)).room room (kept-set_policy room policy (task_of room pid))
-length-step room fresh (Offline cpu) = length-taken_offline room cpu
-length-step room fresh (Online cpu) = length-brought_online room cpu
+length-step room fresh (Offline cpu) = length-take_offline room cpu
+length-step room fresh (Online cpu) = length-bring_online room cpu
 
 -- ---- after a history
 

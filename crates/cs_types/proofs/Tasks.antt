@@ -18,10 +18,10 @@ use Rattle.cs_types.specs.declared.reply.Errno.TheVariants.{Eagain}
 use Rattle.cs_types.specs.declared.reply.Entry.{Entry}
 use Rattle.cs_types.specs.declared.scenario.Scenario.{Scenario}
 use Rattle.cs_types.specs.Room.{RoomState, first_pid, has_pid, sibling_of, running_on, is_online, online, task_of, with_task, asleep, inserted, asleep_tasks}
-use Rattle.cs_types.specs.Selection.{task_after_selection, selected_room, selected, plain, is_plain, picked_anew, adopted_or_picked_anew, schedule}
+use Rattle.cs_types.specs.Selection.{task_after_selection, select_for, select, pick_plain, is_plain, pick_anew, adopt_or_pick_anew, schedule}
 use Rattle.cs_types.specs.Prctl.{Setting, setting_of, makes_cookie, with_made, with_answer, prctl_answer, prctl_room}
-use Rattle.cs_types.specs.Step.{Stepped, step, woken, blocked, exited, forked, turned, without, has_threads, child_of, child_at_home, may_not_fork, with_child, ticked, idled, try_steal, unless_offline, with_policy, set_policy, taken_offline, brought_online}
-use Rattle.cs_types.specs.Queueing.{dequeued, queued_at_home, rehomed}
+use Rattle.cs_types.specs.Step.{Stepped, step, wake, block, exit, fork, turn, without, has_threads, child_of, child_at_home, may_not_fork, with_child, tick, run_idle, try_steal, unless_offline, with_policy, set_policy, take_offline, bring_online}
+use Rattle.cs_types.specs.Queueing.{dequeue, queue_at_home, rehomed}
 use Rattle.cs_types.specs.Steal.{stolen}
 use Rattle.cs_types.specs.Hotplug.{moved_off, leave, with_sibling_back}
 use Rattle.cs_types.specs.Accounting.{charge}
@@ -66,65 +66,65 @@ few-trans old mid new one two = record {
   few = λ few. subst (λ n. length new.tasks ≤ n) one.limit (two.few (subst (λ n. length mid.tasks ≤ n) (sym one.limit) (one.few few)));
 }
 
-few-picked_anew : (room : RoomState) (cpu : ℕ) → KeepsFew room (picked_anew room cpu).room
-unfolding selected_room
-few-picked_anew room cpu =
-    cond_both (is_plain room cpu) (plain room cpu) (selected room cpu) (λ made. KeepsFew room made.room)
-    (λ _. as_many room (plain room cpu).room refl refl)
-    (λ _. as_many room (selected room cpu).room refl (length-map room.tasks (task_after_selection room _)))
+few-pick_anew : (room : RoomState) (cpu : ℕ) → KeepsFew room (pick_anew room cpu).room
+unfolding select_for
+few-pick_anew room cpu =
+    cond_both (is_plain room cpu) (pick_plain room cpu) (select room cpu) (λ made. KeepsFew room made.room)
+    (λ _. as_many room (pick_plain room cpu).room refl refl)
+    (λ _. as_many room (select room cpu).room refl (length-map room.tasks (task_after_selection room _)))
 
-few-adopted_or_picked_anew : (room : RoomState) (fresh : Bool) (cpu : ℕ) (waiting : Option (Option ℕ)) → KeepsFew room (adopted_or_picked_anew room fresh cpu waiting).room
-few-adopted_or_picked_anew room fresh cpu None = let made = few-picked_anew (charge room) cpu in record { limit = made.limit; few = made.few }
-few-adopted_or_picked_anew room true cpu (Some run) = as_many room (adopted_or_picked_anew room true cpu (Some run)).room refl refl
-few-adopted_or_picked_anew room false cpu (Some run) = let made = few-picked_anew (charge room) cpu in record { limit = made.limit; few = made.few }
+few-adopt_or_pick_anew : (room : RoomState) (fresh : Bool) (cpu : ℕ) (waiting : Option (Option ℕ)) → KeepsFew room (adopt_or_pick_anew room fresh cpu waiting).room
+few-adopt_or_pick_anew room fresh cpu None = let made = few-pick_anew (charge room) cpu in record { limit = made.limit; few = made.few }
+few-adopt_or_pick_anew room true cpu (Some run) = as_many room (adopt_or_pick_anew room true cpu (Some run)).room refl refl
+few-adopt_or_pick_anew room false cpu (Some run) = let made = few-pick_anew (charge room) cpu in record { limit = made.limit; few = made.few }
 
 few-schedule : (room : RoomState) (fresh : Bool) (cpu : ℕ) → KeepsFew room (schedule room fresh cpu).room
 few-schedule room fresh cpu =
-    let made = few-adopted_or_picked_anew room fresh cpu (sibling_of room cpu).waiting in record { limit = made.limit; few = made.few }
+    let made = few-adopt_or_pick_anew room fresh cpu (sibling_of room cpu).waiting in record { limit = made.limit; few = made.few }
 
 few-try_steal : (room : RoomState) (cpu : ℕ) (task : Option Task) → KeepsFew room (try_steal room cpu task).room
 few-try_steal room cpu None = as_many room (try_steal room cpu None).room refl refl
 few-try_steal room cpu (Some task) = as_many room (try_steal room cpu (Some task)).room refl (length-map room.tasks _)
 
-few-turned : (room : RoomState) (fresh : Bool) (cpu : ℕ) → KeepsFew room (turned room fresh cpu).room
-few-turned room fresh cpu =
+few-turn : (room : RoomState) (fresh : Bool) (cpu : ℕ) → KeepsFew room (turn room fresh cpu).room
+few-turn room fresh cpu =
     cond_both (sibling_of room cpu).pending _ _ (λ (made : Stepped). KeepsFew room made.room)
     (λ _. few-schedule room fresh cpu)
     (λ _. cond_both ((sibling_of room cpu).place == 0) _ _ (λ (made : Stepped). KeepsFew room made.room) (λ _. as_many room room refl refl)
     (λ _. few-try_steal room cpu (stolen room cpu)))
 
-few-blocked : (room : RoomState) (cpu : ℕ) (task : Option Task) → KeepsFew room (blocked room cpu task).room
-few-blocked room cpu None = as_many room room refl refl
-few-blocked room cpu (Some task) =
-    few-trans room (idled (dequeued (charge room) task) cpu) (blocked room cpu (Some task)).room
-    (as_many room (idled (dequeued (charge room) task) cpu) refl (length-map room.tasks _)) (few-schedule (idled (dequeued (charge room) task) cpu) false cpu)
+few-block : (room : RoomState) (cpu : ℕ) (task : Option Task) → KeepsFew room (block room cpu task).room
+few-block room cpu None = as_many room room refl refl
+few-block room cpu (Some task) =
+    few-trans room (run_idle (dequeue (charge room) task) cpu) (block room cpu (Some task)).room
+    (as_many room (run_idle (dequeue (charge room) task) cpu) refl (length-map room.tasks _)) (few-schedule (run_idle (dequeue (charge room) task) cpu) false cpu)
 
-few-exited : (room : RoomState) (cpu : ℕ) (task : Option Task) → KeepsFew room (exited room cpu task).room
-few-exited room cpu None = as_many room room refl refl
-few-exited room cpu (Some task) =
+few-exit : (room : RoomState) (cpu : ℕ) (task : Option Task) → KeepsFew room (exit room cpu task).room
+few-exit room cpu None = as_many room room refl refl
+few-exit room cpu (Some task) =
     cond_both (has_threads room task) _ _ (λ (made : Stepped). KeepsFew room made.room) (λ _. as_many room room refl refl)
-    (λ _. few-trans room (idled (without (charge room) task) cpu) (schedule (idled (without (charge room) task) cpu) false cpu).room
+    (λ _. few-trans room (run_idle (without (charge room) task) cpu) (schedule (run_idle (without (charge room) task) cpu) false cpu).room
     (record {
       limit = refl;
       few = λ few. omega (arith, few, length-filter_both (λ other. not (has_pid task.spec.pid other)) (λ other. not (not (has_pid task.spec.pid other))) (λ other. refl) room.tasks);
     })
-    (few-schedule (idled (without (charge room) task) cpu) false cpu))
+    (few-schedule (run_idle (without (charge room) task) cpu) false cpu))
 
-few-woken : (room : RoomState) (task : Option Task) → KeepsFew room (woken room task).room
-few-woken room None = as_many room room refl refl
-few-woken room (Some task) =
+few-wake : (room : RoomState) (task : Option Task) → KeepsFew room (wake room task).room
+few-wake room None = as_many room room refl refl
+few-wake room (Some task) =
     cond_both task.queued _ _ (λ (made : Stepped). KeepsFew room made.room) (λ _. as_many room room refl refl)
-    (λ _. as_many room (queued_at_home room (rehomed room task)) refl (length-map room.tasks _))
+    (λ _. as_many room (queue_at_home room (rehomed room task)) refl (length-map room.tasks _))
 
 -- a child comes only below the limit
-few-forked : (room : RoomState) (thread : Bool) (caller : Option Task) → KeepsFew room (forked room thread caller).room
-few-forked room thread None = as_many room room refl refl
-few-forked room thread (Some caller) =
+few-fork : (room : RoomState) (thread : Bool) (caller : Option Task) → KeepsFew room (fork room thread caller).room
+few-fork room thread None = as_many room room refl refl
+few-fork room thread (Some caller) =
     by_limit (child_of caller thread room.next_pid) (may_not_fork room caller) refl where
       made : Bool → Task → Stepped
-      made test child = cond test (record { reply = Refused Eagain; room = room }) (record { reply = Child child.spec.pid; room = queued_at_home (with_child room child) (child_at_home room child) })
+      made test child = cond test (record { reply = Refused Eagain; room = room }) (record { reply = Child child.spec.pid; room = queue_at_home (with_child room child) (child_at_home room child) })
 
-      length_queued : (born : RoomState) (task : Task) → length (queued_at_home born task).tasks ≡ length born.tasks
+      length_queued : (born : RoomState) (task : Task) → length (queue_at_home born task).tasks ≡ length born.tasks
       length_queued born task = length-map born.tasks _
 
       by_limit : (child : Task) (test : Bool) → may_not_fork room caller ≡ test → KeepsFew room (made test child).room
@@ -136,9 +136,9 @@ few-forked room thread (Some caller) =
             few = λ few. omega (arith, few, free, length_queued (with_child room child) (child_at_home room child), length-inserted child room.tasks);
           }
 
-few-ticked : (room : RoomState) (cpu : ℕ) (task : Option Task) → KeepsFew room (ticked room cpu task).room
-few-ticked room cpu None = as_many room (charge room) refl refl
-few-ticked room cpu (Some task) = as_many room (ticked_room (charge room) cpu task) refl (length-map room.tasks _)
+few-tick : (room : RoomState) (cpu : ℕ) (task : Option Task) → KeepsFew room (tick room cpu task).room
+few-tick room cpu None = as_many room (charge room) refl refl
+few-tick room cpu (Some task) = as_many room (ticked_room (charge room) cpu task) refl (length-map room.tasks _)
 
 few-advanced : (room : RoomState) (delta : ℕ) → KeepsFew room (advanced room delta)
 unfolding advanced
@@ -157,33 +157,33 @@ few-set_policy room policy None = as_many room room refl refl
 few-set_policy room policy (Some task) =
     let changed = with_policy policy task in
     cond_both task.queued _ _ (λ (made : RoomState). KeepsFew room made)
-    (λ _. as_many room _ refl (length-map (dequeued room changed).tasks _ ∙ length-map room.tasks _)) (λ _. as_many room (with_task room changed) refl (length-map room.tasks _))
+    (λ _. as_many room _ refl (length-map (dequeue room changed).tasks _ ∙ length-map room.tasks _)) (λ _. as_many room (with_task room changed) refl (length-map room.tasks _))
 
-few-taken_offline : (room : RoomState) (cpu : ℕ) → KeepsFew room (taken_offline room cpu).room
+few-take_offline : (room : RoomState) (cpu : ℕ) → KeepsFew room (take_offline room cpu).room
 unfolding leave
-few-taken_offline room cpu =
+few-take_offline room cpu =
     cond_both (not (is_online room cpu)) _ _ (λ (made : Stepped). KeepsFew room made.room) (λ _. as_many room room refl refl)
     (λ _. cond_both (length (online room) == 1) _ _ (λ (made : Stepped). KeepsFew room made.room) (λ _. as_many room room refl refl)
     (λ _. as_many room (leave room cpu) refl (length-map room.tasks (moved_off room cpu))))
 
-few-brought_online : (room : RoomState) (cpu : ℕ) → KeepsFew room (brought_online room cpu).room
-few-brought_online room cpu =
+few-bring_online : (room : RoomState) (cpu : ℕ) → KeepsFew room (bring_online room cpu).room
+few-bring_online room cpu =
     cond_both (is_online room cpu) _ _ (λ (made : Stepped). KeepsFew room made.room) (λ _. as_many room room refl refl)
     (λ _. as_many room (with_sibling_back room cpu) refl refl)
 
 -- No step goes beyond the limit.
 pub few-step : (room : RoomState) (fresh : Bool) (event : Event) → KeepsFew room (step room fresh event).room
-few-step room fresh (Turn cpu) = few-unless_offline room cpu _ (few-turned room fresh cpu)
+few-step room fresh (Turn cpu) = few-unless_offline room cpu _ (few-turn room fresh cpu)
 few-step room fresh (Resched cpu) = few-unless_offline room cpu _ (few-schedule room fresh cpu)
-few-step room fresh (Block cpu) = few-unless_offline room cpu _ (few-blocked room cpu (running_on room cpu))
-few-step room fresh (Exit cpu) = few-unless_offline room cpu _ (few-exited room cpu (running_on room cpu))
-few-step room fresh (Tick cpu) = few-unless_offline room cpu _ (few-ticked room cpu (running_on room cpu))
+few-step room fresh (Block cpu) = few-unless_offline room cpu _ (few-block room cpu (running_on room cpu))
+few-step room fresh (Exit cpu) = few-unless_offline room cpu _ (few-exit room cpu (running_on room cpu))
+few-step room fresh (Tick cpu) = few-unless_offline room cpu _ (few-tick room cpu (running_on room cpu))
 few-step room fresh (SetSched pid policy) = few-set_policy room policy (task_of room pid)
-few-step room fresh (Offline cpu) = few-taken_offline room cpu
-few-step room fresh (Online cpu) = few-brought_online room cpu
-few-step room fresh (Wake pid) = few-woken room (task_of room pid)
+few-step room fresh (Offline cpu) = few-take_offline room cpu
+few-step room fresh (Online cpu) = few-bring_online room cpu
+few-step room fresh (Wake pid) = few-wake room (task_of room pid)
 few-step room fresh (Advance delta) = few-advanced room delta
-few-step room fresh (Fork caller thread) = few-forked room thread (task_of room caller)
+few-step room fresh (Fork caller thread) = few-fork room thread (task_of room caller)
 few-step room fresh (Prctl caller ask) =
     few-trans room (with_made room (makes_cookie room caller ask)) (prctl_room room caller ask)
     (as_many room (with_made room (makes_cookie room caller ask)) refl refl)

@@ -19,15 +19,15 @@ use Rattle.cs_types.specs.declared.reply.Reply.TheVariants.{Zero}
 use Rattle.cs_types.specs.declared.reply.Entry.{Entry}
 use Rattle.cs_types.specs.declared.scenario.Scenario.{Scenario}
 use Rattle.cs_types.specs.Scenario.{IsEvent}
-use Rattle.cs_types.specs.Room.{RoomState, SiblingState, idle, absent, asleep, inserted, has_pid, start, online, is_online, lowest_online, queued_on, sibling_of, running_on, task_of, with_sibling, with_task, flagged}
+use Rattle.cs_types.specs.Room.{RoomState, SiblingState, idle, absent, asleep, inserted, has_pid, start, online, is_online, lowest_online, queued_on, sibling_of, running_on, task_of, with_sibling, with_task, flag}
 use Rattle.cs_types.specs.Order.{foremost, is_fair, first_of}
-use Rattle.cs_types.specs.Selection.{sibling_after_selection, task_after_selection, selected_room, selected, plain, is_plain, picked_anew, adopted_or_picked_anew, schedule}
-use Rattle.cs_types.specs.Time.{weights, weight_of, weight_index, growth, grown_by, is_running, grown, with_growth, fair_times, least_of, with_leasts, advanced, has_used_slice, sliced}
+use Rattle.cs_types.specs.Selection.{sibling_after_selection, task_after_selection, select_for, select, pick_plain, is_plain, pick_anew, adopt_or_pick_anew, schedule}
+use Rattle.cs_types.specs.Time.{weights, weight_of, weight_index, growth, grown_by, is_running, grown, with_growth, fair_times, least_of, with_leasts, advanced, has_used_slice, begin_slice}
 use Rattle.cs_types.proofs.Timely.{IsTimelyTask, IsTimelySibling, IsTimely}
 use Rattle.cs_types.specs.Prctl.{Setting, setting_of, is_set, makes_cookie, with_made, with_answer, prctl_answer}
-use Rattle.cs_types.specs.Step.{Stepped, step, woken, turned, try_steal, idled, blocked, without, has_threads, exited, child_of, child_at_home, with_child, may_not_fork, forked, ticked, unless_offline, with_policy, set_policy, taken_offline, brought_online}
-use Rattle.cs_types.specs.Queueing.{refreshed_by, refreshed, enqueued, queued_at_home, dequeued, moved_to, moved, rehomed}
-use Rattle.cs_types.specs.Steal.{source_of, stolen, with_place}
+use Rattle.cs_types.specs.Step.{Stepped, step, wake, turn, try_steal, run_idle, block, without, has_threads, exit, child_of, child_at_home, with_child, may_not_fork, fork, tick, unless_offline, with_policy, set_policy, take_offline, bring_online}
+use Rattle.cs_types.specs.Queueing.{refreshed_by, refreshed, enqueue, queue_at_home, dequeue, moved_to, moved, rehomed}
+use Rattle.cs_types.specs.Steal.{source_of, stolen, set_place}
 use Rattle.cs_types.specs.Hotplug.{lowest_other, moved_off, away, leave, with_sibling_back}
 use Rattle.cs_types.specs.Accounting.{charge}
 use Rattle.cs_types.specs.Touches.{is_fresh}
@@ -36,7 +36,7 @@ use Rattle.cs_types.specs.View.{task_after, task_view, task_view_after}
 use Rattle.cs_types.proofs.Foremost.{each_of_all, each_weaker}
 use Rattle.cs_types.proofs.Filtered.{each-filter, each_found}
 use Rattle.cs_types.proofs.Inserted.{each-inserted}
-use Rattle.cs_types.proofs.Siblings.{map-set_alike, map-enumerate_alike, map-map_alike, get_or-map_default, kept-with_answer, parts_of, kept, kept-with_sibling, kept-selected_room, least-alike}
+use Rattle.cs_types.proofs.Siblings.{map-set_alike, map-enumerate_alike, map-map_alike, get_or-map_default, kept-with_answer, parts_of, kept, kept-with_sibling, kept-select_for, least-alike}
 
 -- ---- lists
 
@@ -135,10 +135,10 @@ sibling_after_selection_is_timely most clock room core selector cpu sibling is =
   ran = cond_both (cpu == selector) 0 sibling.ran (λ n. n ≤ clock) (λ _. omega arith) (λ _. is.ran);
 }
 
-timely-selected_room : (most : ℕ) (room : RoomState) (cpu core : ℕ) → Timely most room → Timely most (selected_room room cpu core)
-unfolding selected_room
-timely-selected_room most room cpu core timely = record {
-  tasks = kept_timely room (selected_room room cpu core) (map (task_after_selection room core) room.tasks) refl (kept-selected_room room cpu core)
+timely-select_for : (most : ℕ) (room : RoomState) (cpu core : ℕ) → Timely most room → Timely most (select_for room cpu core)
+unfolding select_for
+timely-select_for most room cpu core timely = record {
+  tasks = kept_timely room (select_for room cpu core) (map (task_after_selection room core) room.tasks) refl (kept-select_for room cpu core)
       (all_map (IsTimelyTask room) (task_after_selection room core) room.tasks
       (each_weaker (IsTimelyTask room) (λ task. IsTimelyTask room (task_after_selection room core task)) room.tasks
       (λ task is. record { vtime = is.vtime; used = is.used }) timely.tasks));
@@ -172,32 +172,32 @@ same_core most old new clock tasks siblings timely =
       siblings = subst (AllByRecursion (IsTimelySibling most new.clock)) (sym siblings) two;
     }
 
-timely-plain : (most : ℕ) (room : RoomState) (cpu : ℕ) → Timely most room → Timely most (plain room cpu).room
-timely-plain most room cpu timely =
+timely-pick_plain : (most : ℕ) (room : RoomState) (cpu : ℕ) → Timely most room → Timely most (pick_plain room cpu).room
+timely-pick_plain most room cpu timely =
     let is = sibling_is_timely most room cpu timely in
     let closed : RoomState = record room { forced = 0; occupation = 0; started = None } in
     timely-with_sibling most closed cpu _ refl
     (record { least = is.least; snapshot = snapshot-le most room.clock _ (sibling_of room cpu) is; ran = omega arith })
     (same_core most room closed refl refl refl timely)
 
-timely-picked_anew : (most : ℕ) (room : RoomState) (cpu : ℕ) → Timely most room → Timely most (picked_anew room cpu).room
-timely-picked_anew most room cpu timely =
-    cond_both (is_plain room cpu) (plain room cpu) (selected room cpu) (λ made. Timely most made.room) (λ _. timely-plain most room cpu timely)
-    (λ _. timely-selected_room most room cpu _ timely)
+timely-pick_anew : (most : ℕ) (room : RoomState) (cpu : ℕ) → Timely most room → Timely most (pick_anew room cpu).room
+timely-pick_anew most room cpu timely =
+    cond_both (is_plain room cpu) (pick_plain room cpu) (select room cpu) (λ made. Timely most made.room) (λ _. timely-pick_plain most room cpu timely)
+    (λ _. timely-select_for most room cpu _ timely)
 
 timely-charge : (most : ℕ) (room : RoomState) → Timely most room → Timely most (charge room)
 timely-charge most room timely = same_core most room (charge room) refl refl refl timely
 
-timely-adopted_or_picked_anew : (most : ℕ) (room : RoomState) (fresh : Bool) (cpu : ℕ) (waiting : Option (Option ℕ)) → Timely most room → Timely most (adopted_or_picked_anew room fresh cpu waiting).room
-timely-adopted_or_picked_anew most room fresh cpu None timely = timely-picked_anew most (charge room) cpu (timely-charge most room timely)
-timely-adopted_or_picked_anew most room true cpu (Some run) timely =
+timely-adopt_or_pick_anew : (most : ℕ) (room : RoomState) (fresh : Bool) (cpu : ℕ) (waiting : Option (Option ℕ)) → Timely most room → Timely most (adopt_or_pick_anew room fresh cpu waiting).room
+timely-adopt_or_pick_anew most room fresh cpu None timely = timely-pick_anew most (charge room) cpu (timely-charge most room timely)
+timely-adopt_or_pick_anew most room true cpu (Some run) timely =
     timely-with_sibling most room cpu _ refl (like most room cpu _ refl refl (omega arith) timely) timely
-timely-adopted_or_picked_anew most room false cpu (Some run) timely = timely-picked_anew most (charge room) cpu (timely-charge most room timely)
+timely-adopt_or_pick_anew most room false cpu (Some run) timely = timely-pick_anew most (charge room) cpu (timely-charge most room timely)
 
 timely-schedule : (most : ℕ) (room : RoomState) (fresh : Bool) (cpu : ℕ) → Timely most room → Timely most (schedule room fresh cpu).room
 timely-schedule most room fresh cpu timely =
-    let made = adopted_or_picked_anew room fresh cpu (sibling_of room cpu).waiting in
-    let is = timely-adopted_or_picked_anew most room fresh cpu (sibling_of room cpu).waiting timely in
+    let made = adopt_or_pick_anew room fresh cpu (sibling_of room cpu).waiting in
+    let is = timely-adopt_or_pick_anew most room fresh cpu (sibling_of room cpu).waiting timely in
     timely-with_sibling most made.room cpu _ refl (like most made.room cpu _ refl refl (omega arith) is) is
 
 -- ---- changes of one task or one sibling
@@ -214,18 +214,18 @@ timely-with_task most room task is timely = record {
   siblings = timely.siblings;
 }
 
-timely-flagged : (most : ℕ) (room : RoomState) (cpu : ℕ) (test : Bool) → Timely most room → Timely most (flagged room cpu test)
-timely-flagged most room cpu test timely =
+timely-flag : (most : ℕ) (room : RoomState) (cpu : ℕ) (test : Bool) → Timely most room → Timely most (flag room cpu test)
+timely-flag most room cpu test timely =
     timely-with_sibling most room cpu _ refl (like most room cpu _ refl refl (omega arith) timely) timely
 
 -- The running task goes to sleep, and its sibling runs idle.
-timely-slept : (most : ℕ) (room : RoomState) (cpu : ℕ) (task : Task) → IsTimelyTask room task → Timely most room → Timely most (idled (dequeued room task) cpu)
+timely-slept : (most : ℕ) (room : RoomState) (cpu : ℕ) (task : Task) → IsTimelyTask room task → Timely most room → Timely most (run_idle (dequeue room task) cpu)
 timely-slept most room cpu task is timely =
     let asleep = timely-with_task most room (record task { queued = false }) (record { vtime = is.vtime; used = is.used }) timely in
-    timely-with_sibling most (dequeued room task) cpu _ refl (like most (dequeued room task) cpu _ refl refl (omega arith) asleep) asleep
+    timely-with_sibling most (dequeue room task) cpu _ refl (like most (dequeue room task) cpu _ refl refl (omega arith) asleep) asleep
 
 -- or it ends
-timely-gone : (most : ℕ) (room : RoomState) (cpu : ℕ) (task : Task) → Timely most room → Timely most (idled (without room task) cpu)
+timely-gone : (most : ℕ) (room : RoomState) (cpu : ℕ) (task : Task) → Timely most room → Timely most (run_idle (without room task) cpu)
 timely-gone most room cpu task timely =
     let gone : Timely most (without room task) = record {
       tasks = kept_timely room (without room task) (without room task).tasks refl refl (each-filter (IsTimelyTask room) _ room.tasks timely.tasks);
@@ -233,16 +233,16 @@ timely-gone most room cpu task timely =
     } in
     timely-with_sibling most (without room task) cpu _ refl (like most (without room task) cpu _ refl refl (omega arith) gone) gone
 
-timely-blocked : (most : ℕ) (room : RoomState) (cpu : ℕ) (task : Option Task) → IfSome task (IsTimelyTask room) → Timely most room → Timely most (blocked room cpu task).room
-timely-blocked most room cpu None is timely = timely
-timely-blocked most room cpu (Some task) is timely =
-    timely-schedule most (idled (dequeued (charge room) task) cpu) false cpu (timely-slept most (charge room) cpu task (record { vtime = is.vtime; used = is.used }) (timely-charge most room timely))
+timely-block : (most : ℕ) (room : RoomState) (cpu : ℕ) (task : Option Task) → IfSome task (IsTimelyTask room) → Timely most room → Timely most (block room cpu task).room
+timely-block most room cpu None is timely = timely
+timely-block most room cpu (Some task) is timely =
+    timely-schedule most (run_idle (dequeue (charge room) task) cpu) false cpu (timely-slept most (charge room) cpu task (record { vtime = is.vtime; used = is.used }) (timely-charge most room timely))
 
-timely-exited : (most : ℕ) (room : RoomState) (cpu : ℕ) (task : Option Task) → Timely most room → Timely most (exited room cpu task).room
-timely-exited most room cpu None timely = timely
-timely-exited most room cpu (Some task) timely =
+timely-exit : (most : ℕ) (room : RoomState) (cpu : ℕ) (task : Option Task) → Timely most room → Timely most (exit room cpu task).room
+timely-exit most room cpu None timely = timely
+timely-exit most room cpu (Some task) timely =
     cond_both (has_threads room task) _ _ (λ (made : Stepped). Timely most made.room) (λ _. timely)
-    (λ _. timely-schedule most (idled (without (charge room) task) cpu) false cpu (timely-gone most (charge room) cpu task (timely-charge most room timely)))
+    (λ _. timely-schedule most (run_idle (without (charge room) task) cpu) false cpu (timely-gone most (charge room) cpu task (timely-charge most room timely)))
 
 -- ---- a task is queued or moves
 
@@ -266,26 +266,26 @@ refreshed_is_timely room (Rr priority) task is = is
 timely-stamped : (most : ℕ) (room : RoomState) (stamp : ℕ) → Timely most room → Timely most (record room { next_stamp = stamp })
 timely-stamped most room stamp timely = same_core most room (record room { next_stamp = stamp }) refl refl refl timely
 
-timely-enqueued : (most : ℕ) (room : RoomState) (task : Task) → IsTimelyTask room task → Timely most room → Timely most (enqueued room task)
-timely-enqueued most room task is timely =
+timely-enqueue : (most : ℕ) (room : RoomState) (task : Task) → IsTimelyTask room task → Timely most room → Timely most (enqueue room task)
+timely-enqueue most room task is timely =
     timely-stamped most (with_task room (record task { queued = true; stamp = room.next_stamp })) (room.next_stamp + 1)
     (timely-with_task most room (record task { queued = true; stamp = room.next_stamp }) (record { vtime = is.vtime; used = is.used }) timely)
 
-timely-queued_at_home : (most : ℕ) (room : RoomState) (task : Task) → IsTimelyTask room task → Timely most room → Timely most (queued_at_home room task)
-timely-queued_at_home most room task is timely =
+timely-queue_at_home : (most : ℕ) (room : RoomState) (task : Task) → IsTimelyTask room task → Timely most room → Timely most (queue_at_home room task)
+timely-queue_at_home most room task is timely =
     let fresh = refreshed room task in
-    timely-flagged most (enqueued room fresh) task.home _
-    (timely-enqueued most room fresh (refreshed_is_timely room task.spec.policy task is) timely)
+    timely-flag most (enqueue room fresh) task.home _
+    (timely-enqueue most room fresh (refreshed_is_timely room task.spec.policy task is) timely)
 
-timely-woken : (most : ℕ) (room : RoomState) (task : Option Task) → IfSome task (IsTimelyTask room) → Timely most room → Timely most (woken room task).room
-timely-woken most room None is timely = timely
-timely-woken most room (Some task) is timely =
+timely-wake : (most : ℕ) (room : RoomState) (task : Option Task) → IfSome task (IsTimelyTask room) → Timely most room → Timely most (wake room task).room
+timely-wake most room None is timely = timely
+timely-wake most room (Some task) is timely =
     cond_both task.queued _ _ (λ (made : Stepped). Timely most made.room) (λ _. timely)
-    (λ _. timely-queued_at_home most room (rehomed room task) (rehomed_is_timely room task is) timely)
+    (λ _. timely-queue_at_home most room (rehomed room task) (rehomed_is_timely room task is) timely)
 
-timely-forked : (most : ℕ) (room : RoomState) (thread : Bool) (caller : Option Task) → Timely most room → Timely most (forked room thread caller).room
-timely-forked most room thread None timely = timely
-timely-forked most room thread (Some caller) timely =
+timely-fork : (most : ℕ) (room : RoomState) (thread : Bool) (caller : Option Task) → Timely most room → Timely most (fork room thread caller).room
+timely-fork most room thread None timely = timely
+timely-fork most room thread (Some caller) timely =
     let child = child_of caller thread room.next_pid in
     let is : IsTimelyTask (with_child room child) (child_at_home room child) = record { vtime = omega arith; used = omega arith } in
     let born : Timely most (with_child room child) = record {
@@ -294,31 +294,31 @@ timely-forked most room thread (Some caller) timely =
       siblings = timely.siblings;
     } in
     cond_both (may_not_fork room caller) _ _ (λ (made : Stepped). Timely most made.room) (λ _. timely)
-    (λ _. timely-queued_at_home most (with_child room child) (child_at_home room child) is born)
+    (λ _. timely-queue_at_home most (with_child room child) (child_at_home room child) is born)
 
 timely-set_policy : (most : ℕ) (room : RoomState) (policy : Policy) (task : Option Task) → IfSome task (IsTimelyTask room) → Timely most room → Timely most (set_policy room policy task).room
 timely-set_policy most room policy None is timely = timely
 timely-set_policy most room policy (Some task) is timely =
     let changed = with_policy policy task in
     let changed_is : IsTimelyTask room changed = record { vtime = is.vtime; used = omega arith } in
-    let left = dequeued room changed in
+    let left = dequeue room changed in
     let left_is = timely-with_task most room (record changed { queued = false }) (record { vtime = is.vtime; used = omega arith }) timely in
     cond_both task.queued _ _ (Timely most)
-    (λ _. timely-flagged most (queued_at_home left changed) task.home _
-    (timely-queued_at_home most left changed (record { vtime = is.vtime; used = omega arith }) left_is))
+    (λ _. timely-flag most (queue_at_home left changed) task.home _
+    (timely-queue_at_home most left changed (record { vtime = is.vtime; used = omega arith }) left_is))
     (λ _. timely-with_task most room changed changed_is timely)
 
-timely-with_place : (most : ℕ) (room : RoomState) (cpu place : ℕ) → Timely most room → Timely most (with_place room cpu place)
-timely-with_place most room cpu place timely =
+timely-set_place : (most : ℕ) (room : RoomState) (cpu place : ℕ) → Timely most room → Timely most (set_place room cpu place)
+timely-set_place most room cpu place timely =
     timely-with_sibling most room cpu _ refl (like most room cpu _ refl refl (omega arith) timely) timely
 
 timely-try_steal : (most : ℕ) (room : RoomState) (cpu : ℕ) (task : Option Task) → IfSome task (IsTimelyTask room) → Timely most room → Timely most (try_steal room cpu task).room
-timely-try_steal most room cpu None is timely = timely-with_place most room cpu _ timely
+timely-try_steal most room cpu None is timely = timely-set_place most room cpu _ timely
 timely-try_steal most room cpu (Some task) is timely =
-    let came = timely-enqueued most room (moved_to room cpu task) (moved_is_timely room cpu task is) timely in
-    let inserted = timely-with_place most (moved room cpu task) cpu 0 came in
-    timely-flagged most (flagged (with_place (moved room cpu task) cpu 0) cpu true) (source_of room cpu) _
-    (timely-flagged most (with_place (moved room cpu task) cpu 0) cpu true inserted)
+    let came = timely-enqueue most room (moved_to room cpu task) (moved_is_timely room cpu task is) timely in
+    let inserted = timely-set_place most (moved room cpu task) cpu 0 came in
+    timely-flag most (flag (set_place (moved room cpu task) cpu 0) cpu true) (source_of room cpu) _
+    (timely-flag most (set_place (moved room cpu task) cpu 0) cpu true inserted)
 
 -- what is stolen is a task of the room
 stolen_is_timely : (most : ℕ) (room : RoomState) (cpu : ℕ) → Timely most room → IfSome (stolen room cpu) (IsTimelyTask room)
@@ -332,8 +332,8 @@ stolen_is_timely most room cpu timely =
         go None found = tt
         go (Some task) found = each_found (IsTimelyTask room) _ tasks task found all
 
-timely-turned : (most : ℕ) (room : RoomState) (fresh : Bool) (cpu : ℕ) → Timely most room → Timely most (turned room fresh cpu).room
-timely-turned most room fresh cpu timely =
+timely-turn : (most : ℕ) (room : RoomState) (fresh : Bool) (cpu : ℕ) → Timely most room → Timely most (turn room fresh cpu).room
+timely-turn most room fresh cpu timely =
     cond_both (sibling_of room cpu).pending _ _ (λ (made : Stepped). Timely most made.room) (λ _. timely-schedule most room fresh cpu timely)
     (λ _. cond_both ((sibling_of room cpu).place == 0) _ _ (λ (made : Stepped). Timely most made.room) (λ _. timely)
     (λ _. timely-try_steal most room cpu (stolen room cpu) (stolen_is_timely most room cpu timely) timely))
@@ -378,13 +378,13 @@ timely-unless_offline : (most : ℕ) (room : RoomState) (cpu : ℕ) (stepped : S
 timely-unless_offline most room cpu stepped was now =
     cond_both (is_online room cpu) _ _ (λ (made : Stepped). Timely most made.room) (λ _. now) (λ _. was)
 
-timely-taken_offline : (most : ℕ) (room : RoomState) (cpu : ℕ) → Timely most room → Timely most (taken_offline room cpu).room
-timely-taken_offline most room cpu timely =
+timely-take_offline : (most : ℕ) (room : RoomState) (cpu : ℕ) → Timely most room → Timely most (take_offline room cpu).room
+timely-take_offline most room cpu timely =
     cond_both (not (is_online room cpu)) _ _ (λ (made : Stepped). Timely most made.room) (λ _. timely)
     (λ _. cond_both (length (online room) == 1) _ _ (λ (made : Stepped). Timely most made.room) (λ _. timely) (λ _. left_is_timely most room cpu timely))
 
-timely-brought_online : (most : ℕ) (room : RoomState) (cpu : ℕ) → Timely most room → Timely most (brought_online room cpu).room
-timely-brought_online most room cpu timely =
+timely-bring_online : (most : ℕ) (room : RoomState) (cpu : ℕ) → Timely most room → Timely most (bring_online room cpu).room
+timely-bring_online most room cpu timely =
     cond_both (is_online room cpu) _ _ (λ (made : Stepped). Timely most made.room) (λ _. timely) (λ _. back_is_timely most room cpu timely)
 
 -- ---- a call
@@ -520,15 +520,15 @@ timely-advanced : (most : ℕ) (room : RoomState) (delta : ℕ) → Timely most 
 unfolding advanced
 timely-advanced most room delta timely = timely-with_leasts most (with_growth room delta) (timely-with_growth most room delta timely)
 
-timely-ticked : (most : ℕ) (room : RoomState) (cpu : ℕ) (task : Option Task) → IfSome task (IsTimelyTask room) → Timely most room → Timely most (ticked room cpu task).room
-timely-ticked most room cpu None is timely = timely-charge most room timely
-timely-ticked most room cpu (Some task) is timely =
+timely-tick : (most : ℕ) (room : RoomState) (cpu : ℕ) (task : Option Task) → IfSome task (IsTimelyTask room) → Timely most room → Timely most (tick room cpu task).room
+timely-tick most room cpu None is timely = timely-charge most room timely
+timely-tick most room cpu (Some task) is timely =
     let paid = charge room in
     let used : cond (has_used_slice task) 0 task.used ≤ room.clock =
     cond_both (has_used_slice task) 0 task.used (λ n. n ≤ room.clock) (λ _. omega arith) (λ _. is.used) in
-    let rested : Timely most (sliced paid cpu task) =
+    let rested : Timely most (begin_slice paid cpu task) =
     timely-stamped most (with_task paid _) _ (timely-with_task most paid _ (record { vtime = is.vtime; used = used }) (timely-charge most room timely)) in
-    timely-flagged most (sliced paid cpu task) cpu _ rested
+    timely-flag most (begin_slice paid cpu task) cpu _ rested
 
 -- ---- every step
 
@@ -563,54 +563,54 @@ weaker entries room new clock timely =
 
 -- ---- the clock
 
-clock-selected_room : (room : RoomState) (cpu core : ℕ) → (selected_room room cpu core).clock ≡ room.clock
-unfolding selected_room
-clock-selected_room room cpu core = refl
+clock-select_for : (room : RoomState) (cpu core : ℕ) → (select_for room cpu core).clock ≡ room.clock
+unfolding select_for
+clock-select_for room cpu core = refl
 
-clock-picked_anew : (room : RoomState) (cpu : ℕ) → (picked_anew room cpu).room.clock ≡ room.clock
-clock-picked_anew room cpu =
-    cond_both (is_plain room cpu) (plain room cpu) (selected room cpu) (λ made. made.room.clock ≡ room.clock) (λ _. refl)
-    (λ _. clock-selected_room room cpu _)
+clock-pick_anew : (room : RoomState) (cpu : ℕ) → (pick_anew room cpu).room.clock ≡ room.clock
+clock-pick_anew room cpu =
+    cond_both (is_plain room cpu) (pick_plain room cpu) (select room cpu) (λ made. made.room.clock ≡ room.clock) (λ _. refl)
+    (λ _. clock-select_for room cpu _)
 
-clock-adopted_or_picked_anew : (room : RoomState) (fresh : Bool) (cpu : ℕ) (waiting : Option (Option ℕ)) → (adopted_or_picked_anew room fresh cpu waiting).room.clock ≡ room.clock
-clock-adopted_or_picked_anew room fresh cpu None = clock-picked_anew (charge room) cpu
-clock-adopted_or_picked_anew room true cpu (Some run) = refl
-clock-adopted_or_picked_anew room false cpu (Some run) = clock-picked_anew (charge room) cpu
+clock-adopt_or_pick_anew : (room : RoomState) (fresh : Bool) (cpu : ℕ) (waiting : Option (Option ℕ)) → (adopt_or_pick_anew room fresh cpu waiting).room.clock ≡ room.clock
+clock-adopt_or_pick_anew room fresh cpu None = clock-pick_anew (charge room) cpu
+clock-adopt_or_pick_anew room true cpu (Some run) = refl
+clock-adopt_or_pick_anew room false cpu (Some run) = clock-pick_anew (charge room) cpu
 
 clock-schedule : (room : RoomState) (fresh : Bool) (cpu : ℕ) → (schedule room fresh cpu).room.clock ≡ room.clock
-clock-schedule room fresh cpu = clock-adopted_or_picked_anew room fresh cpu (sibling_of room cpu).waiting
+clock-schedule room fresh cpu = clock-adopt_or_pick_anew room fresh cpu (sibling_of room cpu).waiting
 
 clock-try_steal : (room : RoomState) (cpu : ℕ) (task : Option Task) → (try_steal room cpu task).room.clock ≡ room.clock
 clock-try_steal room cpu None = refl
 clock-try_steal room cpu (Some task) = refl
 
-clock-turned : (room : RoomState) (fresh : Bool) (cpu : ℕ) → (turned room fresh cpu).room.clock ≡ room.clock
-clock-turned room fresh cpu =
+clock-turn : (room : RoomState) (fresh : Bool) (cpu : ℕ) → (turn room fresh cpu).room.clock ≡ room.clock
+clock-turn room fresh cpu =
     cond_both (sibling_of room cpu).pending _ _ (λ (made : Stepped). made.room.clock ≡ room.clock) (λ _. clock-schedule room fresh cpu)
     (λ _. cond_both ((sibling_of room cpu).place == 0) _ _ (λ (made : Stepped). made.room.clock ≡ room.clock) (λ _. refl) (λ _. clock-try_steal room cpu (stolen room cpu)))
 
-clock-blocked : (room : RoomState) (cpu : ℕ) (task : Option Task) → (blocked room cpu task).room.clock ≡ room.clock
-clock-blocked room cpu None = refl
-clock-blocked room cpu (Some task) = clock-schedule (idled (dequeued (charge room) task) cpu) false cpu
+clock-block : (room : RoomState) (cpu : ℕ) (task : Option Task) → (block room cpu task).room.clock ≡ room.clock
+clock-block room cpu None = refl
+clock-block room cpu (Some task) = clock-schedule (run_idle (dequeue (charge room) task) cpu) false cpu
 
-clock-exited : (room : RoomState) (cpu : ℕ) (task : Option Task) → (exited room cpu task).room.clock ≡ room.clock
-clock-exited room cpu None = refl
-clock-exited room cpu (Some task) =
+clock-exit : (room : RoomState) (cpu : ℕ) (task : Option Task) → (exit room cpu task).room.clock ≡ room.clock
+clock-exit room cpu None = refl
+clock-exit room cpu (Some task) =
     cond_both (has_threads room task) _ _ (λ (made : Stepped). made.room.clock ≡ room.clock) (λ _. refl)
-    (λ _. clock-schedule (idled (without (charge room) task) cpu) false cpu)
+    (λ _. clock-schedule (run_idle (without (charge room) task) cpu) false cpu)
 
-clock-woken : (room : RoomState) (task : Option Task) → (woken room task).room.clock ≡ room.clock
-clock-woken room None = refl
-clock-woken room (Some task) = cond_both task.queued _ _ (λ (made : Stepped). made.room.clock ≡ room.clock) (λ _. refl) (λ _. refl)
+clock-wake : (room : RoomState) (task : Option Task) → (wake room task).room.clock ≡ room.clock
+clock-wake room None = refl
+clock-wake room (Some task) = cond_both task.queued _ _ (λ (made : Stepped). made.room.clock ≡ room.clock) (λ _. refl) (λ _. refl)
 
-clock-forked : (room : RoomState) (thread : Bool) (caller : Option Task) → (forked room thread caller).room.clock ≡ room.clock
-clock-forked room thread None = refl
-clock-forked room thread (Some caller) =
+clock-fork : (room : RoomState) (thread : Bool) (caller : Option Task) → (fork room thread caller).room.clock ≡ room.clock
+clock-fork room thread None = refl
+clock-fork room thread (Some caller) =
     cond_both (may_not_fork room caller) _ _ (λ (made : Stepped). made.room.clock ≡ room.clock) (λ _. refl) (λ _. refl)
 
-clock-ticked : (room : RoomState) (cpu : ℕ) (task : Option Task) → (ticked room cpu task).room.clock ≡ room.clock
-clock-ticked room cpu None = refl
-clock-ticked room cpu (Some task) = refl
+clock-tick : (room : RoomState) (cpu : ℕ) (task : Option Task) → (tick room cpu task).room.clock ≡ room.clock
+clock-tick room cpu None = refl
+clock-tick room cpu (Some task) = refl
 
 clock-advanced : (room : RoomState) (delta : ℕ) → (advanced room delta).clock ≡ room.clock + delta
 unfolding advanced
@@ -628,14 +628,14 @@ clock-set_policy : (room : RoomState) (policy : Policy) (task : Option Task) →
 clock-set_policy room policy None = refl
 clock-set_policy room policy (Some task) = cond_both task.queued _ _ (λ (made : RoomState). made.clock ≡ room.clock) (λ _. refl) (λ _. refl)
 
-clock-taken_offline : (room : RoomState) (cpu : ℕ) → (taken_offline room cpu).room.clock ≡ room.clock
+clock-take_offline : (room : RoomState) (cpu : ℕ) → (take_offline room cpu).room.clock ≡ room.clock
 unfolding leave
-clock-taken_offline room cpu =
+clock-take_offline room cpu =
     cond_both (not (is_online room cpu)) _ _ (λ (made : Stepped). made.room.clock ≡ room.clock) (λ _. refl)
     (λ _. cond_both (length (online room) == 1) _ _ (λ (made : Stepped). made.room.clock ≡ room.clock) (λ _. refl) (λ _. refl))
 
-clock-brought_online : (room : RoomState) (cpu : ℕ) → (brought_online room cpu).room.clock ≡ room.clock
-clock-brought_online room cpu = cond_both (is_online room cpu) _ _ (λ (made : Stepped). made.room.clock ≡ room.clock) (λ _. refl) (λ _. refl)
+clock-bring_online : (room : RoomState) (cpu : ℕ) → (bring_online room cpu).room.clock ≡ room.clock
+clock-bring_online room cpu = cond_both (is_online room cpu) _ _ (λ (made : Stepped). made.room.clock ≡ room.clock) (λ _. refl) (λ _. refl)
 
 clock_by : (old new : ℕ) → new ≡ old → new ≤ old + 1000000000
 clock_by old new same = omega (arith, same)
@@ -643,19 +643,19 @@ clock_by old new same = omega (arith, same)
 -- At a step the clock goes on by one second at most.
 pub clock-step : (room : RoomState) (fresh : Bool) (event : Event) (siblings : ℕ) → IsEvent siblings event →
     (step room fresh event).room.clock ≤ room.clock + 1000000000
-clock-step room fresh (Turn cpu) siblings is = clock_by _ _ (clock-unless_offline room cpu _ (clock-turned room fresh cpu))
+clock-step room fresh (Turn cpu) siblings is = clock_by _ _ (clock-unless_offline room cpu _ (clock-turn room fresh cpu))
 clock-step room fresh (Resched cpu) siblings is = clock_by _ _ (clock-unless_offline room cpu _ (clock-schedule room fresh cpu))
-clock-step room fresh (Block cpu) siblings is = clock_by _ _ (clock-unless_offline room cpu _ (clock-blocked room cpu (running_on room cpu)))
-clock-step room fresh (Exit cpu) siblings is = clock_by _ _ (clock-unless_offline room cpu _ (clock-exited room cpu (running_on room cpu)))
-clock-step room fresh (Tick cpu) siblings is = clock_by _ _ (clock-unless_offline room cpu _ (clock-ticked room cpu (running_on room cpu)))
-clock-step room fresh (Wake pid) siblings is = clock_by _ _ (clock-woken room (task_of room pid))
+clock-step room fresh (Block cpu) siblings is = clock_by _ _ (clock-unless_offline room cpu _ (clock-block room cpu (running_on room cpu)))
+clock-step room fresh (Exit cpu) siblings is = clock_by _ _ (clock-unless_offline room cpu _ (clock-exit room cpu (running_on room cpu)))
+clock-step room fresh (Tick cpu) siblings is = clock_by _ _ (clock-unless_offline room cpu _ (clock-tick room cpu (running_on room cpu)))
+clock-step room fresh (Wake pid) siblings is = clock_by _ _ (clock-wake room (task_of room pid))
 clock-step room fresh (Advance delta) siblings is = omega (arith, clock-advanced room delta, is.1)
-clock-step room fresh (Fork caller thread) siblings is = clock_by _ _ (clock-forked room thread (task_of room caller))
+clock-step room fresh (Fork caller thread) siblings is = clock_by _ _ (clock-fork room thread (task_of room caller))
 clock-step room fresh (Prctl caller ask) siblings is =
     clock_by _ _ (clock-with_answer (with_made room (makes_cookie room caller ask)) (setting_of room caller ask) (prctl_answer room caller ask))
 clock-step room fresh (SetSched pid policy) siblings is = clock_by _ _ (clock-set_policy room policy (task_of room pid))
-clock-step room fresh (Offline cpu) siblings is = clock_by _ _ (clock-taken_offline room cpu)
-clock-step room fresh (Online cpu) siblings is = clock_by _ _ (clock-brought_online room cpu)
+clock-step room fresh (Offline cpu) siblings is = clock_by _ _ (clock-take_offline room cpu)
+clock-step room fresh (Online cpu) siblings is = clock_by _ _ (clock-bring_online room cpu)
 
 -- an advance raises what is most by as much as the clock shows then
 advanced_is_timely : (entries : ℕ) (room : RoomState) (delta : ℕ) → Timely (entries * (69 * room.clock)) room → IsTimely (entries + 1) (advanced room delta)
@@ -673,43 +673,43 @@ advanced_is_timely entries room delta timely =
 
 timely-step : (entries : ℕ) (room : RoomState) (fresh : Bool) (event : Event) → Timely (entries * (69 * room.clock)) room → IsTimely (entries + 1) (step room fresh event).room
 timely-step entries room fresh (Turn cpu) timely =
-    weaker entries room _ (clock-unless_offline room cpu _ (clock-turned room fresh cpu)) (timely-unless_offline _ room cpu _ timely (timely-turned _ room fresh cpu timely))
+    weaker entries room _ (clock-unless_offline room cpu _ (clock-turn room fresh cpu)) (timely-unless_offline _ room cpu _ timely (timely-turn _ room fresh cpu timely))
 timely-step entries room fresh (Resched cpu) timely =
     weaker entries room _ (clock-unless_offline room cpu _ (clock-schedule room fresh cpu)) (timely-unless_offline _ room cpu _ timely (timely-schedule _ room fresh cpu timely))
 timely-step entries room fresh (Block cpu) timely =
-    weaker entries room _ (clock-unless_offline room cpu _ (clock-blocked room cpu (running_on room cpu)))
-    (timely-unless_offline _ room cpu _ timely (timely-blocked _ room cpu (running_on room cpu) (running_is_timely _ room cpu timely) timely))
+    weaker entries room _ (clock-unless_offline room cpu _ (clock-block room cpu (running_on room cpu)))
+    (timely-unless_offline _ room cpu _ timely (timely-block _ room cpu (running_on room cpu) (running_is_timely _ room cpu timely) timely))
 timely-step entries room fresh (Exit cpu) timely =
-    weaker entries room _ (clock-unless_offline room cpu _ (clock-exited room cpu (running_on room cpu)))
-    (timely-unless_offline _ room cpu _ timely (timely-exited _ room cpu (running_on room cpu) timely))
+    weaker entries room _ (clock-unless_offline room cpu _ (clock-exit room cpu (running_on room cpu)))
+    (timely-unless_offline _ room cpu _ timely (timely-exit _ room cpu (running_on room cpu) timely))
 timely-step entries room fresh (Tick cpu) timely =
-    weaker entries room _ (clock-unless_offline room cpu _ (clock-ticked room cpu (running_on room cpu)))
-    (timely-unless_offline _ room cpu _ timely (timely-ticked _ room cpu (running_on room cpu) (running_is_timely _ room cpu timely) timely))
+    weaker entries room _ (clock-unless_offline room cpu _ (clock-tick room cpu (running_on room cpu)))
+    (timely-unless_offline _ room cpu _ timely (timely-tick _ room cpu (running_on room cpu) (running_is_timely _ room cpu timely) timely))
 timely-step entries room fresh (Wake pid) timely =
-    weaker entries room _ (clock-woken room (task_of room pid)) (timely-woken _ room (task_of room pid) (task_of_is_timely _ room pid timely) timely)
+    weaker entries room _ (clock-wake room (task_of room pid)) (timely-wake _ room (task_of room pid) (task_of_is_timely _ room pid timely) timely)
 timely-step entries room fresh (Advance delta) timely = advanced_is_timely entries room delta timely
 timely-step entries room fresh (Fork caller thread) timely =
-    weaker entries room _ (clock-forked room thread (task_of room caller)) (timely-forked _ room thread (task_of room caller) timely)
+    weaker entries room _ (clock-fork room thread (task_of room caller)) (timely-fork _ room thread (task_of room caller) timely)
 timely-step entries room fresh (Prctl caller ask) timely =
     let made = with_made room (makes_cookie room caller ask) in
     weaker entries room _ (clock-with_answer made (setting_of room caller ask) (prctl_answer room caller ask))
     (timely-with_answer _ made (setting_of room caller ask) (prctl_answer room caller ask) (same_core _ room made refl refl refl timely))
 timely-step entries room fresh (SetSched pid policy) timely =
     weaker entries room _ (clock-set_policy room policy (task_of room pid)) (timely-set_policy _ room policy (task_of room pid) (task_of_is_timely _ room pid timely) timely)
-timely-step entries room fresh (Offline cpu) timely = weaker entries room _ (clock-taken_offline room cpu) (timely-taken_offline _ room cpu timely)
-timely-step entries room fresh (Online cpu) timely = weaker entries room _ (clock-brought_online room cpu) (timely-brought_online _ room cpu timely)
+timely-step entries room fresh (Offline cpu) timely = weaker entries room _ (clock-take_offline room cpu) (timely-take_offline _ room cpu timely)
+timely-step entries room fresh (Online cpu) timely = weaker entries room _ (clock-bring_online room cpu) (timely-bring_online _ room cpu timely)
 
 -- ---- what a machine asks between two changes of one step
 
-pub IsTimely-slept : (entries : ℕ) (room : RoomState) (cpu : ℕ) (task : Task) → running_on room cpu ≡ Some task → IsTimely entries room → IsTimely entries (idled (dequeued room task) cpu)
+pub IsTimely-slept : (entries : ℕ) (room : RoomState) (cpu : ℕ) (task : Task) → running_on room cpu ≡ Some task → IsTimely entries room → IsTimely entries (run_idle (dequeue room task) cpu)
 IsTimely-slept entries room cpu task runs timely =
     let parts = parts_timely entries room timely in
-    timely_parts entries (idled (dequeued room task) cpu)
+    timely_parts entries (run_idle (dequeue room task) cpu)
     (timely-slept _ room cpu task (subst (λ one. IfSome one (IsTimelyTask room)) runs (running_is_timely _ room cpu parts)) parts)
 
-pub IsTimely-gone : (entries : ℕ) (room : RoomState) (cpu : ℕ) (task : Task) → IsTimely entries room → IsTimely entries (idled (without room task) cpu)
+pub IsTimely-gone : (entries : ℕ) (room : RoomState) (cpu : ℕ) (task : Task) → IsTimely entries room → IsTimely entries (run_idle (without room task) cpu)
 IsTimely-gone entries room cpu task timely =
-    timely_parts entries (idled (without room task) cpu) (timely-gone _ room cpu task (parts_timely entries room timely))
+    timely_parts entries (run_idle (without room task) cpu) (timely-gone _ room cpu task (parts_timely entries room timely))
 
 -- ---- after a history
 

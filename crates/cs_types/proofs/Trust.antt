@@ -31,7 +31,7 @@ use Rattle.cs_types.proofs.Spots.{spot_of, spot_at, each_is_found}
 use Rattle.cs_types.proofs.Homes.{IsHome, IsHoused, housed-step}
 use Rattle.cs_types.proofs.Fits.{IsAt, cookie_at, SiblingFits, AllFit, fits_running, fits_absent, waiting_then}
 use Rattle.cs_types.proofs.Freshness.{fresh_after, is_fresh-ledger_entry}
-use Rattle.cs_types.proofs.Orders.{StepFits, resched-fits, turned-fits, blocked-fits, exited-fits, woken-fits, forked-fits, ticked-fits, advanced-fits, set_policy-fits, taken_offline-fits, brought_online-fits}
+use Rattle.cs_types.proofs.Orders.{StepFits, resched-fits, turn-fits, block-fits, exit-fits, wake-fits, fork-fits, tick-fits, advanced-fits, set_policy-fits, take_offline-fits, bring_online-fits}
 use Rattle.cs_types.proofs.Cookies.{prctl-fits}
 
 -- ---- at every step
@@ -44,22 +44,22 @@ unless_offline-fits room fresh event cpu stepped now off = cond_both (is_online 
 step-fits : (room : RoomState) (fresh : Bool) (event : Event) → IsEvent (length room.siblings) event → AreRising room → IsHoused room → AllFit room fresh →
     StepFits room fresh event (step room fresh event)
 step-fits room fresh (Turn cpu) limits rises housed fits =
-    unless_offline-fits room fresh (Turn cpu) cpu _ (λ up. turned-fits room fresh cpu limits up rises housed fits) fits
+    unless_offline-fits room fresh (Turn cpu) cpu _ (λ up. turn-fits room fresh cpu limits up rises housed fits) fits
 step-fits room fresh (Resched cpu) limits rises housed fits =
     unless_offline-fits room fresh (Resched cpu) cpu _ (λ up. resched-fits room fresh (Resched cpu) cpu limits up rises fits) fits
 step-fits room fresh (Block cpu) limits rises housed fits =
-    unless_offline-fits room fresh (Block cpu) cpu _ (λ up. blocked-fits room fresh cpu (running_on room cpu) limits up rises refl fits) fits
+    unless_offline-fits room fresh (Block cpu) cpu _ (λ up. block-fits room fresh cpu (running_on room cpu) limits up rises refl fits) fits
 step-fits room fresh (Exit cpu) limits rises housed fits =
-    unless_offline-fits room fresh (Exit cpu) cpu _ (λ up. exited-fits room fresh cpu (running_on room cpu) limits up rises refl fits) fits
+    unless_offline-fits room fresh (Exit cpu) cpu _ (λ up. exit-fits room fresh cpu (running_on room cpu) limits up rises refl fits) fits
 step-fits room fresh (Tick cpu) limits rises housed fits =
-    unless_offline-fits room fresh (Tick cpu) cpu _ (λ up. ticked-fits room fresh cpu (running_on room cpu) up refl fits) fits
-step-fits room fresh (Wake pid) limits rises housed fits = woken-fits room fresh pid (task_of room pid) refl housed fits
+    unless_offline-fits room fresh (Tick cpu) cpu _ (λ up. tick-fits room fresh cpu (running_on room cpu) up refl fits) fits
+step-fits room fresh (Wake pid) limits rises housed fits = wake-fits room fresh pid (task_of room pid) refl housed fits
 step-fits room fresh (Advance delta) limits rises housed fits = advanced-fits room fresh delta fits
-step-fits room fresh (Fork caller thread) limits rises housed fits = forked-fits room fresh caller thread (task_of room caller) rises housed fits
+step-fits room fresh (Fork caller thread) limits rises housed fits = fork-fits room fresh caller thread (task_of room caller) rises housed fits
 step-fits room fresh (Prctl caller ask) limits rises housed fits = prctl-fits room fresh caller ask rises fits
 step-fits room fresh (SetSched pid policy) limits rises housed fits = set_policy-fits room fresh pid policy (task_of room pid) refl housed fits
-step-fits room fresh (Offline cpu) limits rises housed fits = taken_offline-fits room fresh cpu fits
-step-fits room fresh (Online cpu) limits rises housed fits = brought_online-fits room fresh cpu fits
+step-fits room fresh (Offline cpu) limits rises housed fits = take_offline-fits room fresh cpu fits
+step-fits room fresh (Online cpu) limits rises housed fits = bring_online-fits room fresh cpu fits
 
 -- ---- at every moment
 

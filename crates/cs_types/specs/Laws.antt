@@ -13,8 +13,8 @@ use Rattle.cs_types.specs.declared.reply.Reply.TheVariants.{Offline, Idle, HasTh
 use Rattle.cs_types.specs.Prctl.{is_create}
 use Rattle.cs_types.specs.Touches.{scheduler_of, is_fresh}
 use Rattle.cs_types.specs.History.{Moment}
-use Rattle.cs_types.specs.Step.{without, idled}
-use Rattle.cs_types.specs.Queueing.{dequeued}
+use Rattle.cs_types.specs.Step.{without, run_idle}
+use Rattle.cs_types.specs.Queueing.{dequeue}
 use Rattle.cs_types.specs.Accounting.{charge}
 
 -- the sibling that an event makes schedule
@@ -23,8 +23,8 @@ cpu_of event = unwrap_or (scheduler_of event) 0
 
 -- the room in which a sibling picks: at a block and at an exit it is the charged one without the task that went
 abbrev pub scheduling_room : RoomState → Event → RoomState
-scheduling_room room (Block cpu) = option_map_or (λ task. idled (dequeued (charge room) task) cpu) (running_on room cpu) room
-scheduling_room room (Exit cpu) = option_map_or (λ task. idled (without (charge room) task) cpu) (running_on room cpu) room
+scheduling_room room (Block cpu) = option_map_or (λ task. run_idle (dequeue (charge room) task) cpu) (running_on room cpu) room
+scheduling_room room (Exit cpu) = option_map_or (λ task. run_idle (without (charge room) task) cpu) (running_on room cpu) room
 scheduling_room room event = room
 
 -- what a sibling that made a selection has after it, where this is its choice

@@ -161,8 +161,8 @@ runs_one set sibling = option_map_or (is_set set) sibling.run false
 
 -- The tasks have the cookie. Each sibling that runs one of them becomes pending, also where the cookie is the same
 -- (`sched_core_update_cookie`).
-abbrev pub with_cookies : RoomState → Setting → RoomState
-with_cookies room set =
+abbrev pub set_cookies : RoomState → Setting → RoomState
+set_cookies room set =
     record room {
       tasks = map (λ (task : Task). if is_set set task.spec.pid then record task { cookie = set.cookie } else task) room.tasks;
       siblings = map (λ (sibling : SiblingState). record sibling { pending = sibling.pending || runs_one set sibling }) room.siblings;
@@ -174,7 +174,7 @@ with_made room makes = record room { next_cookie = if makes then room.next_cooki
 
 -- the room after a call that was answered so
 abbrev pub with_answer : RoomState → Setting → Reply → RoomState
-with_answer room set Zero = with_cookies room set
+with_answer room set Zero = set_cookies room set
 with_answer room set answer = room
 
 abbrev pub prctl_room : RoomState → ℕ → Ask → RoomState

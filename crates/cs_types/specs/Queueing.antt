@@ -5,19 +5,19 @@ use Rattle.std.specs.Option.{option_map_or}
 use Rattle.cs_types.specs.declared.task.Task.{Task}
 use Rattle.cs_types.specs.declared.task.Policy.{Policy}
 use Rattle.cs_types.specs.declared.task.Policy.TheVariants.{Deadline, Fair}
-use Rattle.cs_types.specs.Room.{RoomState, is_online, lowest_online, sibling_of, running_on, with_task, flagged}
+use Rattle.cs_types.specs.Room.{RoomState, is_online, lowest_online, sibling_of, running_on, with_task, flag}
 use Rattle.cs_types.specs.Order.{is_higher_here}
 
 -- ---- into a queue and out of it
 
 -- An enqueue gives the task the next stamp (`enqueue_task`; the stamp is this project's rule).
-abbrev pub enqueued : RoomState → Task → RoomState
-enqueued room task =
+abbrev pub enqueue : RoomState → Task → RoomState
+enqueue room task =
     record (with_task room (record task { queued = true; stamp = room.next_stamp })) { next_stamp = room.next_stamp + 1 }
 
 -- The task is no longer queued (`dequeue_task`).
-abbrev pub dequeued : RoomState → Task → RoomState
-dequeued room task = with_task room (record task { queued = false })
+abbrev pub dequeue : RoomState → Task → RoomState
+dequeue room task = with_task room (record task { queued = false })
 
 -- ---- to another sibling
 
@@ -32,7 +32,7 @@ moved_to room cpu task =
 
 -- It leaves the one queue and enters the other.
 abbrev pub moved : RoomState → ℕ → Task → RoomState
-moved room cpu task = enqueued room (moved_to room cpu task)
+moved room cpu task = enqueue room (moved_to room cpu task)
 
 -- where a task of this sibling is at home while that is offline: on the lowest online one
 abbrev pub online_home : RoomState → ℕ → ℕ
@@ -60,6 +60,6 @@ abbrev pub refreshed : RoomState → Task → Task
 refreshed room task = refreshed_by room task.spec.policy task
 
 -- The task is refreshed and queued at its home, which may become pending (after `ttwu_do_activate`; this project's rule).
-abbrev pub queued_at_home : RoomState → Task → RoomState
-queued_at_home room task =
-    let fresh = refreshed room task in flagged (enqueued room fresh) task.home (preempts room fresh)
+abbrev pub queue_at_home : RoomState → Task → RoomState
+queue_at_home room task =
+    let fresh = refreshed room task in flag (enqueue room fresh) task.home (preempts room fresh)

@@ -196,6 +196,6 @@ with_task room task =
     record room { tasks = map (λ other. if has_pid task.spec.pid other then task else other) room.tasks }
 
 -- the sibling is pending where it was, and where the test says so
-abbrev pub flagged : RoomState → ℕ → Bool → RoomState
-flagged room cpu test =
+abbrev pub flag : RoomState → ℕ → Bool → RoomState
+flag room cpu test =
     with_sibling room cpu (record (sibling_of room cpu) { pending = (sibling_of room cpu).pending || test })

@@ -95,8 +95,8 @@ running sibling run = record sibling { run = run; pending = false; waiting = Non
 -- ---- adopted
 
 -- The sibling runs what waits for it, which an earlier selection of another sibling chose.
-abbrev pub adopted : RoomState → ℕ → Option ℕ → Scheduled
-adopted room cpu run =
+abbrev pub adopt : RoomState → ℕ → Option ℕ → Scheduled
+adopt room cpu run =
     record {
       pick = record { kind = Adopted; run = unwrap_or run 0; core = room.core_cookie; forced = room.forced };
       room = with_sibling room cpu (running (sibling_of room cpu) run);
@@ -110,8 +110,8 @@ is_plain room cpu = (room.core_cookie == 0) && (room.forced == 0) && (cookie_of 
 
 -- The sibling runs its first, and its snapshot becomes its least where that is fair (`se_fi_update`,
 -- kernel/sched/fair.c).
-abbrev pub plain : RoomState → ℕ → Scheduled
-plain room cpu =
+abbrev pub pick_plain : RoomState → ℕ → Scheduled
+pick_plain room cpu =
     let first = first_on room cpu in
     let sibling = sibling_of room cpu in
     record {
@@ -163,8 +163,8 @@ task_after_selection room core task =
 
 -- the room once the online siblings have their choices for this core cookie. An interval of forced idle opens where some
 -- sibling is forced idle and the core has a cookie (that it needs one is 5.19's rule, and no longer 6.0's).
-unfoldable pub selected_room : RoomState → ℕ → ℕ → RoomState
-selected_room room cpu core =
+unfoldable pub select_for : RoomState → ℕ → ℕ → RoomState
+select_for room cpu core =
     record room {
       tasks = map (task_after_selection room core) room.tasks;
       siblings = map (λ numbered.
@@ -178,8 +178,8 @@ selected_room room cpu core =
     }
 
 -- The core's cookie becomes the lead's, and each online sibling gets its choice for it.
-abbrev pub selected : RoomState → ℕ → Scheduled
-selected room cpu =
+abbrev pub select : RoomState → ℕ → Scheduled
+select room cpu =
     let core = cookie_of (lead_from room cpu) in
     record {
       pick = record {
@@ -188,22 +188,22 @@ selected room cpu =
         core = core;
         forced = forced_count room core;
       };
-      room = selected_room room cpu core;
+      room = select_for room cpu core;
     }
 
 -- ---- every case
 
 -- a pick that adopts nothing
-abbrev pub picked_anew : RoomState → ℕ → Scheduled
-picked_anew room cpu = if is_plain room cpu then plain room cpu else selected room cpu
+abbrev pub pick_anew : RoomState → ℕ → Scheduled
+pick_anew room cpu = if is_plain room cpu then pick_plain room cpu else select room cpu
 
 -- A waiting pick is adopted where it may be: nothing was touched since the last selection for the core, and this event has
 -- dequeued no task. Else the open interval is charged, and the sibling picks anew (`sched_core_account_forceidle` in
 -- `pick_next_task`).
-abbrev pub adopted_or_picked_anew : RoomState → Bool → ℕ → Waiting → Scheduled
-adopted_or_picked_anew room may_adopt cpu None = picked_anew (charge room) cpu
-adopted_or_picked_anew room may_adopt cpu (Some run) =
-    if may_adopt then adopted room cpu run else picked_anew (charge room) cpu
+abbrev pub adopt_or_pick_anew : RoomState → Bool → ℕ → Waiting → Scheduled
+adopt_or_pick_anew room may_adopt cpu None = pick_anew (charge room) cpu
+adopt_or_pick_anew room may_adopt cpu (Some run) =
+    if may_adopt then adopt room cpu run else pick_anew (charge room) cpu
 
 -- A sibling is to try to steal where some sibling is forced idle, it runs idle itself, the core has a cookie, and a task
 -- is queued on it (the end of `pick_next_task`, and `queue_core_balance`).
@@ -212,8 +212,8 @@ is_to_steal room cpu =
     not (room.forced == 0) && is_none (sibling_of room cpu).run && not (room.core_cookie == 0) && is_some (first_on room cpu)
 
 -- After each schedule the sibling's tries begin at the next sibling, or it makes none.
-abbrev pub balanced : ℕ → Scheduled → Scheduled
-balanced cpu made =
+abbrev pub balance : ℕ → Scheduled → Scheduled
+balance cpu made =
     record made {
       room = with_sibling made.room cpu
           (record (sibling_of made.room cpu) { place = if is_to_steal made.room cpu then 1 else 0 });
@@ -221,4 +221,4 @@ balanced cpu made =
 
 -- a schedule
 abbrev pub schedule : RoomState → Bool → ℕ → Scheduled
-schedule room may_adopt cpu = balanced cpu (adopted_or_picked_anew room may_adopt cpu (sibling_of room cpu).waiting)
+schedule room may_adopt cpu = balance cpu (adopt_or_pick_anew room may_adopt cpu (sibling_of room cpu).waiting)

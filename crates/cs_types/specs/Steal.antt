@@ -2,7 +2,7 @@
 -- (`sched_core_balance`, `steal_cookie_task` and `try_steal_cookie`, kernel/sched/core.c).
 use Rattle.std.specs.Prelude.{ℕ, ◌+◌, ◌%◌, Bool, true, ◌==◌, ◌&&◌, ◌||◌, not, nat_lt, if◌then◌else◌, length, filter, Option, Some, None, is_none, is_some, unwrap_or}
 use Rattle.cs_types.specs.declared.task.Task.{Task}
-use Rattle.cs_types.specs.Room.{RoomState, SiblingState, sibling_of, with_sibling, flagged}
+use Rattle.cs_types.specs.Room.{RoomState, SiblingState, sibling_of, with_sibling, flag}
 use Rattle.cs_types.specs.Order.{first_of}
 use Rattle.cs_types.specs.Selection.{first_on, queued_with, is_run}
 use Rattle.cs_types.specs.Queueing.{moved}
@@ -29,16 +29,16 @@ stolen room thief =
     (queued_with room room.core_cookie (source_of room thief)))
 
 -- the room with the sibling's next try at this place
-abbrev pub with_place : RoomState → ℕ → ℕ → RoomState
-with_place room cpu place = with_sibling room cpu (record (sibling_of room cpu) { place = place })
+abbrev pub set_place : RoomState → ℕ → ℕ → RoomState
+set_place room cpu place = with_sibling room cpu (record (sibling_of room cpu) { place = place })
 
 -- The thief is pending, and makes no more tries. The source is pending too where this was its last task, it runs idle, and
 -- some sibling is forced idle (`resched_curr` in `sched_core_dequeue`).
-abbrev pub with_stolen : RoomState → ℕ → Task → RoomState
-with_stolen room thief task =
+abbrev pub steal : RoomState → ℕ → Task → RoomState
+steal room thief task =
     let source = source_of room thief in
-    let after = flagged (with_place (moved room thief task) thief 0) thief true in
-    flagged after source (is_none (first_on after source) && is_none (sibling_of after source).run && not (after.forced == 0))
+    let after = flag (set_place (moved room thief task) thief 0) thief true in
+    flag after source (is_none (first_on after source) && is_none (sibling_of after source).run && not (after.forced == 0))
 
 -- Where nothing was found, the next try goes one sibling on, and after the last there is none.
 abbrev pub next_place : RoomState → ℕ → ℕ

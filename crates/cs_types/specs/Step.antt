@@ -11,13 +11,13 @@ use Rattle.cs_types.specs.declared.reply.Reply.TheVariants.{Picked, Nothing, Sto
 use Rattle.cs_types.specs.declared.reply.Reply.TheVariants as answer
 use Rattle.cs_types.specs.declared.reply.Errno.TheVariants.{Eagain, Ebusy}
 use Rattle.cs_types.specs.declared.reply.Pick.{Pick}
-use Rattle.cs_types.specs.Room.{RoomState, asleep, inserted, has_pid, task_of, sibling_of, running_on, is_online, online, with_sibling, with_task, flagged}
+use Rattle.cs_types.specs.Room.{RoomState, asleep, inserted, has_pid, task_of, sibling_of, running_on, is_online, online, with_sibling, with_task, flag}
 use Rattle.cs_types.specs.Order.{deadline_class, class_of}
 use Rattle.cs_types.specs.Accounting.{charge}
 use Rattle.cs_types.specs.Time.{advanced, ticked_room, asks_at_tick}
 use Rattle.cs_types.specs.Selection.{Scheduled, schedule, is_run}
-use Rattle.cs_types.specs.Queueing.{dequeued, online_home, rehomed, queued_at_home}
-use Rattle.cs_types.specs.Steal.{source_of, stolen, with_stolen, with_place, next_place}
+use Rattle.cs_types.specs.Queueing.{dequeue, online_home, rehomed, queue_at_home}
+use Rattle.cs_types.specs.Steal.{source_of, stolen, steal, set_place, next_place}
 use Rattle.cs_types.specs.Hotplug.{leave, with_sibling_back}
 use Rattle.cs_types.specs.Prctl.{prctl_answer, prctl_room}
 
@@ -30,12 +30,12 @@ pub record Stepped : Type 0 where
 
 -- There is no such task, or it is awake already, or it is queued at its home, or at another where that is offline
 -- (`try_to_wake_up`, `select_fallback_rq`).
-abbrev pub woken : RoomState → Option Task → Stepped
-woken room None = record { reply = NoTask; room = room }
-woken room (Some task) =
+abbrev pub wake : RoomState → Option Task → Stepped
+wake room None = record { reply = NoTask; room = room }
+wake room (Some task) =
     if task.queued
     then record { reply = Awake; room = room }
-    else record { reply = Woken (rehomed room task).home; room = queued_at_home room (rehomed room task) }
+    else record { reply = Woken (rehomed room task).home; room = queue_at_home room (rehomed room task) }
 
 -- ---- turn and resched (`__schedule`, kernel/sched/core.c)
 
@@ -45,9 +45,9 @@ picked answer scheduled = record { reply = answer scheduled.pick; room = schedul
 
 -- A steal try: a task is stolen, or none is found (`try_steal_cookie`).
 abbrev pub try_steal : RoomState → ℕ → Option Task → Stepped
-try_steal room cpu None = record { reply = Missed (source_of room cpu); room = with_place room cpu (next_place room cpu) }
+try_steal room cpu None = record { reply = Missed (source_of room cpu); room = set_place room cpu (next_place room cpu) }
 try_steal room cpu (Some task) =
-    record { reply = Stole task.spec.pid (source_of room cpu); room = with_stolen room cpu task }
+    record { reply = Stole task.spec.pid (source_of room cpu); room = steal room cpu task }
 
 -- A sibling that is offline does nothing.
 abbrev pub unless_offline : RoomState → ℕ → Stepped → Stepped
@@ -55,8 +55,8 @@ unless_offline room cpu stepped = if is_online room cpu then stepped else record
 
 -- A pending reschedule is taken (`TIF_NEED_RESCHED` is set). Else the sibling tries to steal where it is to, and else
 -- there is nothing to do.
-abbrev pub turned : RoomState → Bool → ℕ → Stepped
-turned room may_adopt cpu =
+abbrev pub turn : RoomState → Bool → ℕ → Stepped
+turn room may_adopt cpu =
     if (sibling_of room cpu).pending
     then picked Picked (schedule room may_adopt cpu)
     else (
@@ -68,15 +68,15 @@ turned room may_adopt cpu =
 -- ---- block (`deactivate_task` in `__schedule`, kernel/sched/core.c)
 
 -- The sibling runs idle.
-abbrev pub idled : RoomState → ℕ → RoomState
-idled room cpu = with_sibling room cpu (record (sibling_of room cpu) { run = None })
+abbrev pub run_idle : RoomState → ℕ → RoomState
+run_idle room cpu = with_sibling room cpu (record (sibling_of room cpu) { run = None })
 
 -- The sibling runs idle already. Or the open interval is charged, its running task is dequeued, and then it schedules (the
 -- charge before the dequeue is this project's rule). The dequeue touched, so that schedule adopts nothing. It charges at
 -- the same moment again, which records nothing.
-abbrev pub blocked : RoomState → ℕ → Option Task → Stepped
-blocked room cpu None = record { reply = Idle; room = room }
-blocked room cpu (Some task) = picked (Slept task.spec.pid) (schedule (idled (dequeued (charge room) task) cpu) false cpu)
+abbrev pub block : RoomState → ℕ → Option Task → Stepped
+block room cpu None = record { reply = Idle; room = room }
+block room cpu (Some task) = picked (Slept task.spec.pid) (schedule (run_idle (dequeue (charge room) task) cpu) false cpu)
 
 -- ---- exit (`do_exit`, kernel/exit.c, and `sched_core_free`, kernel/sched/core_sched.c)
 
@@ -97,12 +97,12 @@ without room task =
 -- The sibling runs idle, or its running task leads others. Or the open interval is charged, the task ends, and then the
 -- sibling schedules (the charge before the dequeue is this project's rule). The dequeue touched, so that schedule adopts
 -- nothing. It charges at the same moment again, which records nothing.
-abbrev pub exited : RoomState → ℕ → Option Task → Stepped
-exited room cpu None = record { reply = Idle; room = room }
-exited room cpu (Some task) =
+abbrev pub exit : RoomState → ℕ → Option Task → Stepped
+exit room cpu None = record { reply = Idle; room = room }
+exit room cpu (Some task) =
     if has_threads room task
     then record { reply = HasThreads; room = room }
-    else picked (Ended task.spec.pid) (schedule (idled (without (charge room) task) cpu) false cpu)
+    else picked (Ended task.spec.pid) (schedule (run_idle (without (charge room) task) cpu) false cpu)
 
 -- ---- fork (`copy_process`, kernel/fork.c, and `sched_core_fork`, kernel/sched/core_sched.c)
 
@@ -140,27 +140,27 @@ may_not_fork room caller = (length room.tasks == room.task_limit) || (class_of c
 
 -- There is no such caller, or it may not fork, or the child is among the living and queued at its home
 -- (`wake_up_new_task`).
-abbrev pub forked : RoomState → Bool → Option Task → Stepped
-forked room thread None = record { reply = NoCaller; room = room }
-forked room thread (Some caller) =
+abbrev pub fork : RoomState → Bool → Option Task → Stepped
+fork room thread None = record { reply = NoCaller; room = room }
+fork room thread (Some caller) =
     if may_not_fork room caller
     then record { reply = Refused Eagain; room = room }
     else (
     let child = child_of caller thread room.next_pid in
-    record { reply = Child child.spec.pid; room = queued_at_home (with_child room child) (child_at_home room child) }
+    record { reply = Child child.spec.pid; room = queue_at_home (with_child room child) (child_at_home room child) }
     )
 
 -- ---- advance and tick (`update_curr`, `scheduler_tick`)
 
 -- The clock goes on.
-abbrev pub advancing : RoomState → ℕ → Stepped
-advancing room delta = record { reply = Now (room.clock + delta); room = advanced room delta }
+abbrev pub advance : RoomState → ℕ → Stepped
+advance room delta = record { reply = Now (room.clock + delta); room = advanced room delta }
 
 -- The open interval is charged (`sched_core_tick`; that it comes first is this project's rule). Then the sibling runs idle, or
 -- its running task is asked to leave or not.
-abbrev pub ticked : RoomState → ℕ → Option Task → Stepped
-ticked room cpu None = record { reply = Ticked false; room = charge room }
-ticked room cpu (Some task) =
+abbrev pub tick : RoomState → ℕ → Option Task → Stepped
+tick room cpu None = record { reply = Ticked false; room = charge room }
+tick room cpu (Some task) =
     record { reply = Ticked (asks_at_tick room cpu task); room = ticked_room (charge room) cpu task }
 
 -- ---- setsched (`__sched_setscheduler`; this project's rule)
@@ -170,14 +170,14 @@ abbrev pub with_policy : Policy → Task → Task
 with_policy policy task = record task { spec = record task.spec { policy = policy }; used = 0 }
 
 -- A queued task leaves its queue and enters it again, and its sibling becomes pending where it runs.
-abbrev pub requeued : RoomState → Task → RoomState
-requeued room task =
-    flagged (queued_at_home (dequeued room task) task) task.home (is_run (sibling_of room task.home).run (Some task.spec.pid))
+abbrev pub requeue : RoomState → Task → RoomState
+requeue room task =
+    flag (queue_at_home (dequeue room task) task) task.home (is_run (sibling_of room task.home).run (Some task.spec.pid))
 
 -- An asleep task has the policy. A queued one has it and is queued anew.
 abbrev pub with_policy_set : RoomState → Policy → Task → RoomState
 with_policy_set room policy task =
-    let changed = with_policy policy task in if task.queued then requeued room changed else with_task room changed
+    let changed = with_policy policy task in if task.queued then requeue room changed else with_task room changed
 
 -- There is no such task, or it has the policy.
 abbrev pub set_policy : RoomState → Policy → Option Task → Stepped
@@ -187,8 +187,8 @@ set_policy room policy (Some task) = record { reply = Set; room = with_policy_se
 -- ---- leaving and coming back
 
 -- It is offline already, or it is the last, or it leaves.
-abbrev pub taken_offline : RoomState → ℕ → Stepped
-taken_offline room cpu =
+abbrev pub take_offline : RoomState → ℕ → Stepped
+take_offline room cpu =
     if not (is_online room cpu)
     then record { reply = Already; room = room }
     else (
@@ -198,8 +198,8 @@ taken_offline room cpu =
     )
 
 -- It is online already, or it comes back.
-abbrev pub brought_online : RoomState → ℕ → Stepped
-brought_online room cpu =
+abbrev pub bring_online : RoomState → ℕ → Stepped
+bring_online room cpu =
     if is_online room cpu
     then record { reply = Already; room = room }
     else record { reply = Done; room = with_sibling_back room cpu }
@@ -208,16 +208,16 @@ brought_online room cpu =
 
 -- what each event does, where the test says whether a waiting pick may be adopted
 abbrev pub step : RoomState → Bool → Event → Stepped
-step room may_adopt (Turn cpu) = unless_offline room cpu (turned room may_adopt cpu)
+step room may_adopt (Turn cpu) = unless_offline room cpu (turn room may_adopt cpu)
 step room may_adopt (Resched cpu) = unless_offline room cpu (picked Picked (schedule room may_adopt cpu))
-step room may_adopt (Block cpu) = unless_offline room cpu (blocked room cpu (running_on room cpu))
-step room may_adopt (Exit cpu) = unless_offline room cpu (exited room cpu (running_on room cpu))
-step room may_adopt (Tick cpu) = unless_offline room cpu (ticked room cpu (running_on room cpu))
-step room may_adopt (Wake pid) = woken room (task_of room pid)
-step room may_adopt (Advance delta) = advancing room delta
-step room may_adopt (Fork caller thread) = forked room thread (task_of room caller)
+step room may_adopt (Block cpu) = unless_offline room cpu (block room cpu (running_on room cpu))
+step room may_adopt (Exit cpu) = unless_offline room cpu (exit room cpu (running_on room cpu))
+step room may_adopt (Tick cpu) = unless_offline room cpu (tick room cpu (running_on room cpu))
+step room may_adopt (Wake pid) = wake room (task_of room pid)
+step room may_adopt (Advance delta) = advance room delta
+step room may_adopt (Fork caller thread) = fork room thread (task_of room caller)
 step room may_adopt (Prctl caller ask) =
     record { reply = prctl_answer room caller ask; room = prctl_room room caller ask }
 step room may_adopt (SetSched pid policy) = set_policy room policy (task_of room pid)
-step room may_adopt (Offline cpu) = taken_offline room cpu
-step room may_adopt (Online cpu) = brought_online room cpu
+step room may_adopt (Offline cpu) = take_offline room cpu
+step room may_adopt (Online cpu) = bring_online room cpu

@@ -6,7 +6,7 @@ use Rattle.std.specs.Option.{option_map_or}
 use Rattle.cs_types.specs.declared.task.Task.{Task}
 use Rattle.cs_types.specs.declared.task.Policy.{Policy}
 use Rattle.cs_types.specs.declared.task.Policy.TheVariants.{Rr, Fair}
-use Rattle.cs_types.specs.Room.{RoomState, SiblingState, has_pid, queued_on, sibling_of, with_task, flagged}
+use Rattle.cs_types.specs.Room.{RoomState, SiblingState, has_pid, queued_on, sibling_of, with_task, flag}
 use Rattle.cs_types.specs.Order.{foremost, real_time_class, class_of, is_fair, priority_of}
 use Rattle.cs_types.specs.Selection.{is_run}
 
@@ -129,8 +129,8 @@ abbrev pub asks_at_tick : RoomState → ℕ → Task → Bool
 asks_at_tick room cpu task = rotates room cpu task || is_overtaken room cpu task || is_to_yield room cpu task
 
 -- An RR task that has used its slice begins a new one, and with it has the next stamp where it rotates.
-abbrev pub sliced : RoomState → ℕ → Task → RoomState
-sliced room cpu task =
+abbrev pub begin_slice : RoomState → ℕ → Task → RoomState
+begin_slice room cpu task =
     record (with_task room (record task {
       used = if has_used_slice task then 0 else task.used;
       stamp = if rotates room cpu task then room.next_stamp else task.stamp;
@@ -138,4 +138,4 @@ sliced room cpu task =
 
 -- the room after a tick of a sibling that runs the task
 abbrev pub ticked_room : RoomState → ℕ → Task → RoomState
-ticked_room room cpu task = flagged (sliced room cpu task) cpu (asks_at_tick room cpu task)
+ticked_room room cpu task = flag (begin_slice room cpu task) cpu (asks_at_tick room cpu task)

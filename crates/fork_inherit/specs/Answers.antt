@@ -9,8 +9,8 @@ use Rattle.fork_inherit.specs.declared.forking.ForkFault.{ForkFault}
 use Rattle.fork_inherit.specs.declared.forking.ForkFault.TheVariants.{NoCaller, Eagain}
 use Rattle.fork_inherit.specs.declared.ending.HasThreads.{HasThreads}
 
--- There is no such caller, or as many tasks live as may or the caller is a deadline task (`sched_fork`,
--- kernel/sched/core.c), or the caller has a child (`copy_process`, kernel/fork.c).
+-- There is no such caller. Or it may not fork: as many tasks live as may, or it is a deadline task (`sched_fork`,
+-- kernel/sched/core.c). Else it has a child (`copy_process`, kernel/fork.c).
 abbrev pub fork_answer : Table → Option Task → Result (Unit {0}) ForkFault
 fork_answer table None = Err NoCaller
 fork_answer table (Some caller) =

@@ -37,8 +37,8 @@ abbrev apart : {K : Type 0} → (K → K → Ordering) → K → K → Bool
 apart R key other = not (eq_by_cmp R key other)
 
 -- a comparison the other way round
-turned : {K : Type 0} {R : K → K → Ordering} (o : IsTotalOrder R) (a b : K) (r : Ordering) → R a b ≡ r → R b a ≡ ordering_reverse r
-turned o a b r is = o.antisymm b a ∙ ap ordering_reverse is
+turn : {K : Type 0} {R : K → K → Ordering} (o : IsTotalOrder R) (a b : K) (r : Ordering) → R a b ≡ r → R b a ≡ ordering_reverse r
+turn o a b r is = o.antisymm b a ∙ ap ordering_reverse is
 
 module _ {K X : Type 0} {R : K → K → Ordering} (o : IsTotalOrder R) where
   -- ---- the order of the entries
@@ -81,8 +81,8 @@ module _ {K X : Type 0} {R : K → K → Ordering} (o : IsTotalOrder R) where
       IsSplit-higher is low high split = record {
         before = λ k d lt. elim (cases_lt k middle) [
           | inl earlier ↦
-              turned o (get_or es k d).0 key Less (o.trans (get_or es k d).0 (get_or es middle d).0 key
-              (rising_pairs es rising k middle d earlier in_range) (turned o key (get_or es middle d).0 Greater (at_any is d)))
+              turn o (get_or es k d).0 key Less (o.trans (get_or es k d).0 (get_or es middle d).0 key
+              (rising_pairs es rising k middle d earlier in_range) (turn o key (get_or es middle d).0 Greater (at_any is d)))
           | inr same ↦ let here : k ≡ middle = omega arith in subst (λ m. R key (get_or es m d).0 ≡ Greater) (sym here) (at_any is d)
         ];
         behind = split.behind;
@@ -95,7 +95,7 @@ module _ {K X : Type 0} {R : K → K → Ordering} (o : IsTotalOrder R) where
         others = record {
           before = λ k d lt.
               o.congr key (get_or es middle d).0 (get_or es k d).0 (at_any is d)
-              ∙ turned o (get_or es k d).0 (get_or es middle d).0 Less (rising_pairs es rising k middle d lt in_range);
+              ∙ turn o (get_or es k d).0 (get_or es middle d).0 Less (rising_pairs es rising k middle d lt in_range);
           behind = λ k d le lt.
               o.congr key (get_or es middle d).0 (get_or es k d).0 (at_any is d) ∙ rising_pairs es rising middle k d (omega arith) lt;
         };

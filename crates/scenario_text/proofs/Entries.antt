@@ -195,7 +195,7 @@ record IsCut (words : List Word) : Type 0 where
   no_feed : lacks 10 (spaced words) ≡ true
 
 cut_words : (word : Word) (words : List Word) → AllByRecursion IsPlain (word ∷ words) → IsCut (word ∷ words)
-cut_words word words plain = record { again = words_in-spaced word words plain; no_feed = spaced_lacks word words plain }
+cut_words word words pick_plain = record { again = words_in-spaced word words pick_plain; no_feed = spaced_lacks word words pick_plain }
 
 plain_kind : (kind : Kind) → IsPlain (kind_word kind)
 plain_kind Selected = plain_word _ refl refl

@@ -28,7 +28,7 @@ use Rattle.scenario_text.proofs.Tasks.{nice_is}
 use Rattle.scenario_text.proofs.Steps.{by, pid_is, sibling_within, caller_within}
 use Rattle.scenario_text.proofs.Heads.{IsHead, head_lines, each_head, head_again}
 use Rattle.scenario_text.proofs.Building.{IsPlan, plan_lines, end_lines, has_first, each_plan, plan_again}
-use Rattle.scenario_text.proofs.Texts.{IsPlain, ArePlain, plain_word, plain_decimal, plain_signed, plain-append, ArePlain-append, lines_in-flat_map, text_is}
+use Rattle.scenario_text.proofs.Texts.{IsPlain, ArePlain, plain_word, plain_decimal, plain_signed, pick_plain-append, ArePlain-append, lines_in-flat_map, text_is}
 
 -- ---- the lines of a scenario
 
@@ -130,13 +130,13 @@ plain_flag false = plain_word _ refl refl
 plain_policy : (policy : Policy) → IsPolicy policy → IsPlain (policy_word policy)
 plain_policy Stop is = plain_word _ refl refl
 plain_policy (Deadline relative) is =
-    plain-append (codes "dl:") (decimal relative) (plain_word _ refl refl) (plain_decimal relative (omega arith))
+    pick_plain-append (codes "dl:") (decimal relative) (plain_word _ refl refl) (plain_decimal relative (omega arith))
 plain_policy (Fifo priority) is =
-    plain-append (codes "fifo:") (decimal priority) (plain_word _ refl refl) (plain_decimal priority (omega arith))
+    pick_plain-append (codes "fifo:") (decimal priority) (plain_word _ refl refl) (plain_decimal priority (omega arith))
 plain_policy (Rr priority) is =
-    plain-append (codes "rr:") (decimal priority) (plain_word _ refl refl) (plain_decimal priority (omega arith))
+    pick_plain-append (codes "rr:") (decimal priority) (plain_word _ refl refl) (plain_decimal priority (omega arith))
 plain_policy (Fair nice) is =
-    plain-append (codes "fair:") (signed_decimal nice) (plain_word _ refl refl) (plain_signed 20 19 nice (omega arith) (omega arith) ((nice_is nice).1 is))
+    pick_plain-append (codes "fair:") (signed_decimal nice) (plain_word _ refl refl) (plain_signed 20 19 nice (omega arith) (omega arith) ((nice_is nice).1 is))
 
 plain_task : (siblings : ℕ) (task : TaskSpec) → siblings < 256 → IsTask siblings task → AllByRecursion IsPlain (task_words task)
 plain_task siblings task few is =
@@ -149,10 +149,10 @@ plain_task siblings task few is =
 plain_actor : (siblings : ℕ) (actor : Actor) (event : Event) → siblings < 256 → IsStep siblings (by actor event) → IsPlain (actor_word actor)
 plain_actor siblings (Sibling i) event few is =
     let within = sibling_within siblings i event is in
-    plain-append (codes "s") (decimal i) (plain_word _ refl refl) (plain_decimal i (omega arith))
+    pick_plain-append (codes "s") (decimal i) (plain_word _ refl refl) (plain_decimal i (omega arith))
 plain_actor siblings (Caller j) event few is =
     let within = caller_within siblings j event is in
-    plain-append (codes "c") (decimal j) (plain_word _ refl refl) (plain_decimal j (omega arith))
+    pick_plain-append (codes "c") (decimal j) (plain_word _ refl refl) (plain_decimal j (omega arith))
 plain_actor siblings End event few is = absurd is.actor
 
 plain_ask : (ask : Ask) → IsAsk ask → AllByRecursion IsPlain (ask_words ask)

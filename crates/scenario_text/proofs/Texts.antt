@@ -60,14 +60,14 @@ pub plain_decimal : (n : ℕ) → n < 2 ^ 64 → IsPlain (decimal n)
 plain_decimal n fits =
     record { no_feed = decimal_lacks 10 n (inl (omega arith)) fits; no_space = decimal_lacks 32 n (inl (omega arith)) fits }
 
-pub plain-append : (a b : Word) → IsPlain a → IsPlain b → IsPlain (a ++ b)
-plain-append a b h k =
+pub pick_plain-append : (a b : Word) → IsPlain a → IsPlain b → IsPlain (a ++ b)
+pick_plain-append a b h k =
     record { no_feed = lacks-append 10 a b h.no_feed k.no_feed; no_space = lacks-append 32 a b h.no_space k.no_space }
 
 pub plain_signed : (below above : ℕ) (z : ℤ) → below < 2 ^ 64 → above < 2 ^ 64 → IsSignedWithin below above z → IsPlain (signed_decimal z)
 plain_signed below above (pos n) small few is = plain_decimal n (omega arith)
 plain_signed below above (negsuc n) small few is =
-    plain-append (codes "-") (decimal (suc n)) (plain_word _ refl refl) (plain_decimal (suc n) (omega arith))
+    pick_plain-append (codes "-") (decimal (suc n)) (plain_word _ refl refl) (plain_decimal (suc n) (omega arith))
 
 -- ---- lines
 

@@ -1,9 +1,9 @@
 use Rattle.std.proofs.Common.{ℕ, ◌≡◌, ◌<◌, ◌^◌, true, ap, ◌∙◌, refl, subst, sym, arith}
 use Rattle.std.specs.Prelude.{length}
 use Rattle.cs_types.specs.declared.task.Task.{Task}
-use Rattle.cs_types.specs.Room.{RoomState, flagged}
-use Rattle.cs_types.specs.Queueing.{moved_to, moved, enqueued}
-use Rattle.cs_types.specs.Steal.{with_place}
+use Rattle.cs_types.specs.Room.{RoomState, flag}
+use Rattle.cs_types.specs.Queueing.{moved_to, moved, enqueue}
+use Rattle.cs_types.specs.Steal.{set_place}
 use Rattle.core_lanes.specs.Lanes.{room_of, IsFit, KnowsApart}
 use Rattle.core_lanes.specs.Numbers.{Numbers, numbers_of, touched}
 use Rattle.core_lanes.specs.Changes.{Kept}
@@ -80,26 +80,26 @@ returns g c =
     let table = c.args.table.now in
     let touch = c.touch.ensures table in
     let place = c.set_place.ensures c.enqueue.new.table in
-    let flag = c.flag.ensures c.enqueue.new.table in
+    let raised = c.flag.ensures c.enqueue.new.table in
     let last = c.flag-2.ensures c.enqueue.new.table in
     record {
       room = λ beside.
           let room = room_of beside (c.args.core.now, table) in
           let thief = c.args.thief in
-          let at : RoomState → RoomState = λ now. flagged (with_place now thief 0) thief true in
+          let at : RoomState → RoomState = λ now. flag (set_place now thief 0) thief true in
           let after = at (moved room thief c.args.task) in
           let mid : room_of beside (c.flag.new.self, c.enqueue.new.table) ≡ after =
-          flag.room beside
-          ∙ ap (λ (now : RoomState). flagged now thief true) (place.room beside)
+          raised.room beside
+          ∙ ap (λ (now : RoomState). flag now thief true) (place.room beside)
           ∙ ap at (c.enqueue.ensures.room beside)
-          ∙ ap (λ (now : RoomState). at (enqueued now c.moved_to-moved.result)) (touch.room beside)
-          ∙ ap (λ (task : Task). at (enqueued room task)) (c.moved_to-moved.ensures beside table) in
+          ∙ ap (λ (now : RoomState). at (enqueue now c.moved_to-moved.result)) (touch.room beside)
+          ∙ ap (λ (task : Task). at (enqueue room task)) (c.moved_to-moved.ensures beside table) in
           last.room beside
-          ∙ ap (flagged (room_of beside (c.flag.new.self, c.enqueue.new.table)) c.args.source) (c.is_left_idle-idles.ensures beside)
-          ∙ ap (λ (now : RoomState). flagged now c.args.source (is_left now c.args.source)) mid
-          ∙ ap (λ (source : ℕ). flagged after source (is_left after source)) (c.requires.source beside);
+          ∙ ap (flag (room_of beside (c.flag.new.self, c.enqueue.new.table)) c.args.source) (c.is_left_idle-idles.ensures beside)
+          ∙ ap (λ (now : RoomState). flag now c.args.source (is_left now c.args.source)) mid
+          ∙ ap (λ (source : ℕ). flag after source (is_left after source)) (c.requires.source beside);
       numbers =
-          last.numbers ∙ flag.numbers ∙ place.numbers ∙ c.enqueue.ensures.numbers ∙ ap (touched 1) touch.numbers
+          last.numbers ∙ raised.numbers ∙ place.numbers ∙ c.enqueue.ensures.numbers ∙ ap (touched 1) touch.numbers
           ∙ ap (λ (n : ℕ). let numbers : Numbers = record (numbers_of c.args.core.now) { task = n } in numbers) (omega arith);
-      stays = both_stay touch.stays (both_stay c.enqueue.ensures.stays (both_stay place.stays (both_stay flag.stays last.stays)));
+      stays = both_stay touch.stays (both_stay c.enqueue.ensures.stays (both_stay place.stays (both_stay raised.stays last.stays)));
     }

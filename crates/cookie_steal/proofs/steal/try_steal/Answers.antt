@@ -4,7 +4,7 @@ use Rattle.std.proofs.lemmas.Bool.{ne_eqb, cond-false}
 use Rattle.cs_types.specs.declared.task.Task.{Task}
 use Rattle.cs_types.specs.declared.reply.Reply.TheVariants.{Stole, Missed, Nothing}
 use Rattle.cs_types.specs.Room.{RoomState, SiblingState, sibling_of}
-use Rattle.cs_types.specs.Steal.{with_place, stolen}
+use Rattle.cs_types.specs.Steal.{set_place, stolen}
 use Rattle.cs_types.specs.Step.{Stepped, try_steal}
 use Rattle.core_lanes.specs.Lanes.{room_of}
 use Rattle.core_lanes.specs.Numbers.{Numbers, numbers_of}
@@ -65,7 +65,7 @@ returns-in-None g c =
           ∙ ap (λ (made : Stepped). made.reply) (it_tries room c.args.cpu _ at c.if-index-eq0.false);
       room = λ beside.
           let room = room_of beside (c.args.core.now, c.args.table.now) in
-          place.room beside ∙ ap (with_place room c.args.cpu) (c.next_place-place.ensures beside c.args.table.now)
+          place.room beside ∙ ap (set_place room c.args.cpu) (c.next_place-place.ensures beside c.args.table.now)
           ∙ ap (λ (found : Option Task). (try_steal room c.args.cpu found).room) (c.in-None.ensures.stolen beside)
           ∙ ap (λ (made : Stepped). made.room) (it_tries room c.args.cpu _ at c.if-index-eq0.false);
       numbers =

@@ -1,9 +1,9 @@
 use Rattle.std.proofs.Common.{ℕ, ◌∙◌, ap, sym, refl, subst, arith, false, Some}
 use Rattle.cs_types.specs.declared.task.Task.{Task}
-use Rattle.cs_types.specs.Room.{RoomState, SiblingState, flagged}
+use Rattle.cs_types.specs.Room.{RoomState, SiblingState, flag}
 use Rattle.core_lanes.specs.Queued.{IsOf}
 use Rattle.cs_types.specs.Selection.{is_run}
-use Rattle.cs_types.specs.Queueing.{dequeued, queued_at_home}
+use Rattle.cs_types.specs.Queueing.{dequeue, queue_at_home}
 use Rattle.core_lanes.specs.Lanes.{at, room_of}
 use Rattle.core_lanes.specs.Numbers.{Numbers, numbers_of, touched}
 use Rattle.core_lanes.proofs.Stays.{both_stay, lane_at, some_beside}
@@ -37,18 +37,18 @@ flag-requires g c = still_below (both_stay c.dequeue.ensures.stays c.queue_at_ho
 pub returns : goal.returns
 returns g c =
     let task = c.args.task in
-    let flag = c.flag.ensures c.queue_at_home.new.table in
+    let raised = c.flag.ensures c.queue_at_home.new.table in
     record {
       room = λ beside.
           let here = at c.args.now beside in
           let room = room_of here (c.args.core.now, c.args.table.now) in
           let lane = lane_at c.args.core.now.lanes.items task.home c.index.result.now c.requires.knows.apart.fits.home c.index.ensures in
           let runs = c.runs-runs.ensures ∙ ap (λ (s : SiblingState). is_run s.run (Some task.spec.pid)) (sym lane) in
-          flag.room here
-          ∙ ap (λ (now : RoomState). flagged now task.home c.runs-runs.result)
-          (c.queue_at_home.ensures.room beside ∙ ap (λ (now : RoomState). queued_at_home now task) (c.dequeue.ensures.room here))
-          ∙ ap (flagged (queued_at_home (dequeued room task) task) task.home) runs;
-      numbers = flag.numbers ∙ c.queue_at_home.ensures.numbers ∙ ap (touched 1) c.dequeue.ensures.numbers
+          raised.room here
+          ∙ ap (λ (now : RoomState). flag now task.home c.runs-runs.result)
+          (c.queue_at_home.ensures.room beside ∙ ap (λ (now : RoomState). queue_at_home now task) (c.dequeue.ensures.room here))
+          ∙ ap (flag (queue_at_home (dequeue room task) task) task.home) runs;
+      numbers = raised.numbers ∙ c.queue_at_home.ensures.numbers ∙ ap (touched 1) c.dequeue.ensures.numbers
           ∙ ap (λ (n : ℕ). let numbers : Numbers = record (numbers_of c.args.core.now) { task = n } in numbers) (omega arith);
-      stays = both_stay c.dequeue.ensures.stays (both_stay c.queue_at_home.ensures.stays flag.stays);
+      stays = both_stay c.dequeue.ensures.stays (both_stay c.queue_at_home.ensures.stays raised.stays);
     }

@@ -3,8 +3,8 @@ use Rattle.std.specs.Prelude.{find, Some, ◌≡◌}
 use Rattle.cs_types.specs.declared.task.Task.{Task}
 use Rattle.cs_types.specs.declared.task.TaskSpec.{TaskSpec}
 use Rattle.cs_types.specs.Scenario.{IsPolicy}
-use Rattle.cs_types.specs.Room.{RoomState, flagged, has_pid}
-use Rattle.cs_types.specs.Queueing.{enqueued, preempts}
+use Rattle.cs_types.specs.Room.{RoomState, flag, has_pid}
+use Rattle.cs_types.specs.Queueing.{enqueue, preempts}
 use Rattle.core_lanes.specs.Lanes.{at, room_of}
 use Rattle.core_lanes.proofs.Stays.{both_stay}
 use Rattle.core_events.proofs.Changes.{still_below}
@@ -34,14 +34,14 @@ enqueue-requires-clause-knows g c =
 
 pub returns : goal.returns
 returns g c =
-    let flag = c.flag.ensures c.enqueue.new.table in
+    let raised = c.flag.ensures c.enqueue.new.table in
     record {
       room = λ beside.
           let room = room_of (at c.args.now beside) (c.args.core.now, c.args.table.now) in
-          flag.room (at c.args.now beside)
-          ∙ ap (λ (now : RoomState). flagged now c.args.task.home c.preempts-preempts.result) (c.enqueue.ensures.room (at c.args.now beside))
-          ∙ ap (flagged (enqueued room c.refreshed-fresh.result) c.args.task.home) (c.preempts-preempts.ensures (at c.args.now beside))
-          ∙ ap (λ (fresh : Task). flagged (enqueued room fresh) c.args.task.home (preempts room fresh)) (c.refreshed-fresh.ensures.refreshed beside c.args.table.now);
-      numbers = flag.numbers ∙ c.enqueue.ensures.numbers;
-      stays = both_stay c.enqueue.ensures.stays flag.stays;
+          raised.room (at c.args.now beside)
+          ∙ ap (λ (now : RoomState). flag now c.args.task.home c.preempts-preempts.result) (c.enqueue.ensures.room (at c.args.now beside))
+          ∙ ap (flag (enqueue room c.refreshed-fresh.result) c.args.task.home) (c.preempts-preempts.ensures (at c.args.now beside))
+          ∙ ap (λ (fresh : Task). flag (enqueue room fresh) c.args.task.home (preempts room fresh)) (c.refreshed-fresh.ensures.refreshed beside c.args.table.now);
+      numbers = raised.numbers ∙ c.enqueue.ensures.numbers;
+      stays = both_stay c.enqueue.ensures.stays raised.stays;
     }

@@ -1,10 +1,10 @@
 use Rattle.std.proofs.Common.{◌≡◌, ◌∙◌, ap, subst, refl, Option, Some, None, ◌+◌, ◌<◌, ◌^◌, sym}
 use Rattle.cs_types.specs.declared.task.Task.{Task}
 use Rattle.cs_types.specs.declared.reply.Reply.TheVariants.{Ticked}
-use Rattle.cs_types.specs.Room.{RoomState, flagged, running_on}
+use Rattle.cs_types.specs.Room.{RoomState, flag, running_on}
 use Rattle.cs_types.specs.Accounting.{charge}
-use Rattle.cs_types.specs.Time.{sliced, asks_at_tick}
-use Rattle.cs_types.specs.Step.{ticked}
+use Rattle.cs_types.specs.Time.{begin_slice, asks_at_tick}
+use Rattle.cs_types.specs.Step.{tick}
 use Rattle.task_table.specs.Table.{Table}
 use Rattle.core_lanes.specs.declared.queue.SiblingQueue.{Ghosts}
 use Rattle.core_lanes.specs.declared.lanes.Core.{Core}
@@ -52,17 +52,17 @@ returns-in_default-clause-asks g c beside =
     let paid = beside_after (at c.args.now beside) (charge room) in
     let charged = c.charge.ensures.charges.room beside in
     let found : None ≡ running_on room cpu = c.in_default.ensures.task paid ∙ ap (λ (now : RoomState). running_on now cpu) charged in
-    ap (λ (found : Option Task). (ticked room cpu found).reply) found
+    ap (λ (found : Option Task). (tick room cpu found).reply) found
 
 pub returns-in_default-clause-charges : goal.returns-in_default-clause-charges
 returns-in_default-clause-charges g c =
     let cpu = c.args.cpu in
-    let made : (beside : Beside) → let room = room_of (at c.args.now beside) (c.args.core.now, c.args.table.now) in charge room ≡ (ticked room cpu (running_on room cpu)).room =
+    let made : (beside : Beside) → let room = room_of (at c.args.now beside) (c.args.core.now, c.args.table.now) in charge room ≡ (tick room cpu (running_on room cpu)).room =
     λ beside.
     let room = room_of (at c.args.now beside) (c.args.core.now, c.args.table.now) in
     let paid = beside_after (at c.args.now beside) (charge room) in
     let charged = c.charge.ensures.charges.room beside in
-    ap (λ (found : Option Task). (ticked room cpu found).room) (c.in_default.ensures.task paid ∙ ap (λ (now : RoomState). running_on now cpu) charged) in
+    ap (λ (found : Option Task). (tick room cpu found).room) (c.in_default.ensures.task paid ∙ ap (λ (now : RoomState). running_on now cpu) charged) in
     record {
       room = λ beside. subst (λ (room : RoomState). room_of (beside_after (at c.args.now beside) room) (c.charge.new.core, c.args.table.now) ≡ room) (made beside)
           (c.charge.ensures.charges.room beside);
@@ -80,7 +80,7 @@ returns-clause-asks g c beside =
     let found : Some task ≡ running_on room cpu = c.in-Some.ensures.task paid ∙ ap (λ (now : RoomState). running_on now cpu) charged in
     let asks : c.asks_at_tick-asks.result ≡ asks_at_tick room cpu task =
     c.asks_at_tick-asks.ensures paid ∙ ap (λ (now : RoomState). asks_at_tick now cpu task) charged in
-    ap Ticked asks ∙ ap (λ (found : Option Task). (ticked room cpu found).reply) found
+    ap Ticked asks ∙ ap (λ (found : Option Task). (tick room cpu found).reply) found
 
 pub returns-clause-charges : goal.returns-clause-charges
 returns-clause-charges g c =
@@ -88,7 +88,7 @@ returns-clause-charges g c =
     let task = c.in-Some.task in
     let table = c.begin_slice.new.table in
     let slice = c.begin_slice.ensures cpu c.rotates-rotates.ensures in
-    let flag = c.flag.ensures table in
+    let raised = c.flag.ensures table in
     record {
       room = λ beside.
           let room = room_of (at c.args.now beside) (c.args.core.now, c.args.table.now) in
@@ -97,17 +97,17 @@ returns-clause-charges g c =
           let found : Some task ≡ running_on room cpu = c.in-Some.ensures.task paid ∙ ap (λ (now : RoomState). running_on now cpu) charged in
           let asks : c.asks_at_tick-asks.result ≡ asks_at_tick room cpu task =
           c.asks_at_tick-asks.ensures paid ∙ ap (λ (now : RoomState). asks_at_tick now cpu task) charged in
-          stands paid (c.flag.new.self, table) (ticked room cpu (running_on room cpu)).room
-          (flag.room paid
-          ∙ ap (λ (now : RoomState). flagged now cpu c.asks_at_tick-asks.result) (slice.room paid ∙ ap (λ (now : RoomState). sliced now cpu task) charged)
-          ∙ ap (flagged (sliced (charge room) cpu task) cpu) asks
-          ∙ ap (λ (found : Option Task). (ticked room cpu found).room) found);
+          stands paid (c.flag.new.self, table) (tick room cpu (running_on room cpu)).room
+          (raised.room paid
+          ∙ ap (λ (now : RoomState). flag now cpu c.asks_at_tick-asks.result) (slice.room paid ∙ ap (λ (now : RoomState). begin_slice now cpu task) charged)
+          ∙ ap (flag (begin_slice (charge room) cpu task) cpu) asks
+          ∙ ap (λ (found : Option Task). (tick room cpu found).room) found);
       numbers = λ beside kept.
           let room = room_of (at c.args.now beside) (c.args.core.now, c.args.table.now) in
           let paid = beside_after (at c.args.now beside) (charge room) in
           let charged = c.charge.ensures.charges.room beside in
           let found : Some task ≡ running_on room cpu = c.in-Some.ensures.task paid ∙ ap (λ (now : RoomState). running_on now cpu) charged in
-          flag.numbers ∙ slice.numbers ∙ c.charge.ensures.charges.numbers beside kept
-          ∙ ap (λ (found : Option Task). booked (ticked room cpu found).room (numbers_of c.args.core.now)) found;
-      stays = both_stay c.charge.ensures.charges.stays (both_stay slice.stays flag.stays);
+          raised.numbers ∙ slice.numbers ∙ c.charge.ensures.charges.numbers beside kept
+          ∙ ap (λ (found : Option Task). booked (tick room cpu found).room (numbers_of c.args.core.now)) found;
+      stays = both_stay c.charge.ensures.charges.stays (both_stay slice.stays raised.stays);
     }

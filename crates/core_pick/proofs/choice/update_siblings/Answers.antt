@@ -4,7 +4,7 @@ use Rattle.std.proofs.lemmas.Bool.{cond-true, cond-false}
 use Rattle.std.proofs.lemmas.List.{append-nil, map-set, length-map, get_or-map}
 use Rattle.std.proofs.Math.Seq.{take-length, drop-length}
 use Rattle.cs_types.specs.Room.{RoomState, SiblingState, idle}
-use Rattle.cs_types.specs.Selection.{occupation_of, renews_snapshots, sibling_after_selection, selected_room}
+use Rattle.cs_types.specs.Selection.{occupation_of, renews_snapshots, sibling_after_selection, select_for}
 use Rattle.cs_types.proofs.Selections.{numbered_after_selection}
 use Rattle.core_lanes.specs.Lanes.{lane_state}
 use Rattle.core_pick.specs.Choice.{choices_of}
@@ -70,7 +70,7 @@ loop-cpu-preserved g c =
     ]
 
 pub returns-clause-states : goal.returns-clause-states
-unfolding selected_room
+unfolding select_for
 returns-clause-states g c room core is each occupation renews =
     let states = map lane_state c.args.lanes.now in
     let all : c.loop-cpu.cpu ≡ length states = omega (arith, length-map c.args.lanes.now lane_state, c.loop-cpu-test.false, c.loop-cpu.auto.cpu-end) in

@@ -1,6 +1,6 @@
 use Rattle.std.proofs.Common.{◌≡◌, ◌∙◌, ◌+◌, ◌<◌, ◌^◌, ap, sym, subst}
 use Rattle.cs_types.specs.Room.{RoomState, sibling_of}
-use Rattle.cs_types.specs.Selection.{adopted, picked_anew, adopted_or_picked_anew}
+use Rattle.cs_types.specs.Selection.{adopt, pick_anew, adopt_or_pick_anew}
 use Rattle.cs_types.specs.Accounting.{charge}
 use Rattle.core_lanes.specs.Lanes.{Beside, BareCore, AreLow, at, beside_after, room_of}
 use Rattle.core_lanes.specs.Numbers.{Numbers, numbers_of, booked, took, is_fresh_by}
@@ -30,7 +30,7 @@ returns-in-Some g c =
     let fresh = is_fresh_by (numbers_of c.args.core.now) in
     let adopts = c.adopt.ensures now c.args.table.now in
     ChargesAndSchedules-same now (c.args.core.now, c.args.table.now) (c.adopt.new.core, c.args.table.now) cpu c.adopt.result
-    (λ room. adopted room cpu c.in-Some.waiting) (λ room. adopted_or_picked_anew room fresh cpu (sibling_of room cpu).waiting)
+    (λ room. adopt room cpu c.in-Some.waiting) (λ room. adopt_or_pick_anew room fresh cpu (sibling_of room cpu).waiting)
     (λ beside. is_adopted (room_of (at now beside) (c.args.core.now, c.args.table.now)) fresh cpu c.in-Some.waiting (c.in-Some.ensures (at now beside) c.args.table.now))
     (record {
       pick = adopts.pick;
@@ -47,13 +47,13 @@ returns-in-None g c =
     let picked = c.pick_anew.ensures in
     let paid : Beside → Beside = λ beside. beside_after (at now beside) (charge (room_of (at now beside) (c.args.core.now, c.args.table.now))) in
     let room : (beside : Beside) → room_of (paid beside) (c.pick_anew.new.core, c.pick_anew.new.table)
-    ≡ (picked_anew (charge (room_of (at now beside) (c.args.core.now, c.args.table.now))) cpu).room =
-    λ beside. picked.room (paid beside) ∙ ap (λ (r : RoomState). (picked_anew r cpu).room) (c.charge.ensures.charges.room beside) in
+    ≡ (pick_anew (charge (room_of (at now beside) (c.args.core.now, c.args.table.now))) cpu).room =
+    λ beside. picked.room (paid beside) ∙ ap (λ (r : RoomState). (pick_anew r cpu).room) (c.charge.ensures.charges.room beside) in
     ChargesAndSchedules-same now (c.args.core.now, c.args.table.now) (c.pick_anew.new.core, c.pick_anew.new.table) cpu c.pick_anew.result
-    (λ room. picked_anew (charge room) cpu) (λ room. adopted_or_picked_anew room fresh cpu (sibling_of room cpu).waiting)
+    (λ room. pick_anew (charge room) cpu) (λ room. adopt_or_pick_anew room fresh cpu (sibling_of room cpu).waiting)
     (λ beside. is_not_adopted (room_of (at now beside) (c.args.core.now, c.args.table.now)) fresh cpu (c.in-None.ensures (at now beside) c.args.table.now))
     (record {
-      pick = λ beside. picked.pick (paid beside) ∙ ap (λ (r : RoomState). (picked_anew r cpu).pick) (c.charge.ensures.charges.room beside);
+      pick = λ beside. picked.pick (paid beside) ∙ ap (λ (r : RoomState). (pick_anew r cpu).pick) (c.charge.ensures.charges.room beside);
       room = λ beside. stands {Q = g.row.Q.Denot} {g = g.Q.SiblingQueue} (paid beside) (c.pick_anew.new.core, c.pick_anew.new.table) _ (room beside);
       numbers = λ beside kept. picked.numbers
           ∙ ap (λ (numbers : Numbers). took cpu c.pick_anew.result numbers)

@@ -2,7 +2,7 @@ use Rattle.std.proofs.Common.{◌∙◌, ap}
 use Rattle.std.specs.Prelude.{if◌then◌else◌}
 use Rattle.cs_types.specs.Room.{RoomState}
 use Rattle.cs_types.specs.Selection.{is_to_steal}
-use Rattle.cs_types.specs.Steal.{with_place}
+use Rattle.cs_types.specs.Steal.{set_place}
 use Rattle.core_lanes.specs.Lanes.{at}
 use Rattle.core_lanes.proofs.Stays.{both_stay}
 use Rattle.core_pick.proofs.pick.pick_and_balance.Goals as goal
@@ -11,7 +11,7 @@ pub returns : goal.returns
 returns g c = record {
   pick = c.pick_anew-pick.ensures.pick;
   room = λ beside. c.balance.ensures.room (at c.args.now beside)
-      ∙ ap (λ (room : RoomState). with_place room c.args.cpu (if is_to_steal room c.args.cpu then 1 else 0)) (c.pick_anew-pick.ensures.room beside);
+      ∙ ap (λ (room : RoomState). set_place room c.args.cpu (if is_to_steal room c.args.cpu then 1 else 0)) (c.pick_anew-pick.ensures.room beside);
   numbers = c.balance.ensures.numbers ∙ c.pick_anew-pick.ensures.numbers;
   stays = both_stay c.pick_anew-pick.ensures.stays c.balance.ensures.stays;
 }

@@ -1,8 +1,8 @@
 use Rattle.std.proofs.Common.{◌∙◌, ◌<◌, ap, sym, subst}
 use Rattle.std.specs.Prelude.{if◌then◌else◌}
 use Rattle.cs_types.specs.Room.{RoomState, sibling_of}
-use Rattle.cs_types.specs.Selection.{adopted_or_picked_anew, is_to_steal}
-use Rattle.cs_types.specs.Steal.{with_place}
+use Rattle.cs_types.specs.Selection.{adopt_or_pick_anew, is_to_steal}
+use Rattle.cs_types.specs.Steal.{set_place}
 use Rattle.core_lanes.specs.Lanes.{at, beside_after, room_of}
 use Rattle.core_lanes.specs.Numbers.{numbers_of, is_fresh_by}
 use Rattle.core_lanes.specs.Changes.{Kept}
@@ -24,9 +24,9 @@ returns-clause-schedules g c =
       pick = picked.pick;
       room = λ beside.
           let old = room_of (at now beside) (c.args.core.now, c.args.table.now) in
-          let made = (adopted_or_picked_anew old (is_fresh_by (numbers_of c.args.core.now)) cpu (sibling_of old cpu).waiting).room in
+          let made = (adopt_or_pick_anew old (is_fresh_by (numbers_of c.args.core.now)) cpu (sibling_of old cpu).waiting).room in
           c.balance.ensures.room (beside_after (at now beside) made)
-          ∙ ap (λ (room : RoomState). with_place room cpu (if is_to_steal room cpu then 1 else 0)) (picked.room beside);
+          ∙ ap (λ (room : RoomState). set_place room cpu (if is_to_steal room cpu then 1 else 0)) (picked.room beside);
       numbers = λ beside kept. c.balance.ensures.numbers ∙ picked.numbers beside kept;
       stays = both_stay picked.stays c.balance.ensures.stays;
     }

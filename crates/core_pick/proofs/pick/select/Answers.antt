@@ -6,7 +6,7 @@ use Rattle.std.proofs.Math.Seq.{map-set_same}
 use Rattle.cs_types.specs.declared.reply.Kind.TheVariants.{Selected}
 use Rattle.cs_types.specs.declared.reply.Pick.{Pick}
 use Rattle.cs_types.specs.Room.{RoomState}
-use Rattle.cs_types.specs.Selection.{cookie_of, pid_of, choice, forced_count, selected_room}
+use Rattle.cs_types.specs.Selection.{cookie_of, pid_of, choice, forced_count, select_for}
 use Rattle.core_lanes.specs.declared.lane.Lane.{Lane}
 use Rattle.core_lanes.specs.Lanes.{at, lane_state, room_of}
 use Rattle.core_lanes.specs.Numbers.{Numbers, numbers_of, touched}
@@ -56,7 +56,7 @@ returns g c =
           (λ i. record (room_of (at now beside) (touched_core, c.select_for-run.new.table)) { siblings = same i })
           ∙ touch.room (at now beside)
           ∙ c.select_for-run.ensures.room beside
-          ∙ ap (selected_room room cpu) core;
+          ∙ ap (select_for room cpu) core;
       numbers = (λ i. record (numbers_of touched_core) { pick = touched_core.task_number; own = map-set number_of lanes cpu numbered i })
           ∙ ap (λ (n : Numbers). record n { pick = n.task; own = set n.own cpu n.task }) (touch.numbers ∙ ap (touched 1) c.select_for-run.ensures.numbers);
       stays = both_stay c.select_for-run.ensures.stays

@@ -1,7 +1,7 @@
 use Rattle.std.proofs.Common.{◌∙◌, ◌<◌, ◌≤◌, ap, sym, subst, refl, cond, map, arith, length, get_or}
 use Rattle.std.specs.Prelude.{Some, None, ◌||◌, ◌==◌, List}
 use Rattle.std.proofs.lemmas.List.{length-map}
-use Rattle.cs_types.specs.Selection.{selected_room, forced_count, occupation_of, cookie_of, lead_from}
+use Rattle.cs_types.specs.Selection.{select_for, forced_count, occupation_of, cookie_of, lead_from}
 use Rattle.cs_types.proofs.Selections.{occupied}
 use Rattle.core_lanes.specs.Lanes.{at, lane_state, room_of}
 use Rattle.core_lanes.specs.Numbers.{numbers_of}
@@ -36,7 +36,7 @@ returns-clause-forced g c beside =
     c.begin.ensures.count ∙ forced_is room c.args.cookie _ _ c.forced_count-forced.ensures are
 
 pub returns-clause-room : goal.returns-clause-room
-unfolding selected_room
+unfolding select_for
 returns-clause-room g c beside =
     let now = at c.args.now beside in
     let room = room_of now (c.args.core.now, c.args.table.now) in

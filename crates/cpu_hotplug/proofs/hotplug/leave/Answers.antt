@@ -11,7 +11,7 @@ use Rattle.core_lanes.specs.Changes.{Kept}
 use Rattle.core_lanes.specs.Lanes.{AreLow, BareCore, at, beside_after, lane_state, room_of}
 use Rattle.core_lanes.specs.Numbers.{Numbers, numbers_of, touched}
 use Rattle.core_lanes.proofs.Stays.{number_of, queue_of, both_stay, alike_stays}
-use Rattle.cpu_hotplug.specs.Leaves.{left, with_moves}
+use Rattle.cpu_hotplug.specs.Leaves.{left, move_off}
 use Rattle.cpu_hotplug.proofs.Steps.{closed, with_account, closed_is, leave_is}
 use Rattle.cpu_hotplug.proofs.hotplug.leave.Goals as goal
 
@@ -33,8 +33,8 @@ move_off-requires-clause-stamp g c = omega (arith, c.requires.stamp, ap (λ (cor
 pub move_off-requires-clause-touches : goal.move_off-requires-clause-touches
 move_off-requires-clause-touches g c = omega (arith, c.requires.touches, ap (λ (core : BareCore). core.task_number) c.charge.ensures.rest)
 
-pub set_away-requires : goal.set_away-requires
-set_away-requires g c = record { few = subst (λ (lanes : List (Lane g.row.Q.Denot)). length lanes ≤ 16) (sym c.deref_mut.ensures.value) c.move_off.new.core.few }
+pub set_one_away-requires : goal.set_one_away-requires
+set_one_away-requires g c = record { few = subst (λ (lanes : List (Lane g.row.Q.Denot)). length lanes ≤ 16) (sym c.deref_mut.ensures.value) c.move_off.new.core.few }
 
 pub invariant_of-core : goal.invariant_of-core
 invariant_of-core g c = record { few = c.charge.new.core.few }
@@ -42,8 +42,8 @@ invariant_of-core g c = record { few = c.charge.new.core.few }
 pub invariant_of-core-2 : goal.invariant_of-core-2
 invariant_of-core-2 g c =
     let moved = c.move_off.new.core in
-    let kept = with_items_is moved.lanes c.set_away.new.lanes (c.set_away.auto.lanes ∙ ap length c.deref_mut.ensures.value ∙ sym moved.lanes.ok.0) in
-    record { few = omega (arith, ap length kept, c.set_away.auto.lanes, ap length c.deref_mut.ensures.value, moved.few) }
+    let kept = with_items_is moved.lanes c.set_one_away.new.lanes (c.set_one_away.auto.lanes ∙ ap length c.deref_mut.ensures.value ∙ sym moved.lanes.ok.0) in
+    record { few = omega (arith, ap length kept, c.set_one_away.auto.lanes, ap length c.deref_mut.ensures.value, moved.few) }
 
 -- ---- the room
 
@@ -53,16 +53,16 @@ returns g c =
     let cpu = c.args.cpu in
     let moved = c.move_off.new.core in
     let account = c.close.new.self in
-    let kept = with_items_is moved.lanes c.set_away.new.lanes (c.set_away.auto.lanes ∙ ap length c.deref_mut.ensures.value ∙ sym moved.lanes.ok.0) in
+    let kept = with_items_is moved.lanes c.set_one_away.new.lanes (c.set_one_away.auto.lanes ∙ ap length c.deref_mut.ensures.value ∙ sym moved.lanes.ok.0) in
     record {
       room = λ beside.
           let room = room_of (at c.args.now beside) (c.args.core.now, c.args.table.now) in
           let paid = beside_after (at c.args.now beside) (charge room) in
           let shut : room_of paid (c.charge.new.core, c.args.table.now) ≡ charge room = c.charge.ensures.charges.room beside in
           let before = ap (λ (r : RoomState). with_account r account) shut ∙ closed_is (charge room) account c.close.ensures.count c.close.ensures.occupation c.close.ensures.started in
-          let after : room_of paid (moved, c.move_off.new.table) ≡ with_moves (closed (charge room)) cpu = c.move_off.ensures.room paid ∙ ap (λ (r : RoomState). with_moves r cpu) before in
-          let states : map lane_state c.set_away.new.lanes ≡ map (left cpu) (enumerate_from 0 room.siblings) =
-          c.set_away.ensures.states
+          let after : room_of paid (moved, c.move_off.new.table) ≡ move_off (closed (charge room)) cpu = c.move_off.ensures.room paid ∙ ap (λ (r : RoomState). move_off r cpu) before in
+          let states : map lane_state c.set_one_away.new.lanes ≡ map (left cpu) (enumerate_from 0 room.siblings) =
+          c.set_one_away.ensures.states
           ∙ ap (λ (lanes : List (Lane g.row.Q.Denot)). map (left cpu) (enumerate_from 0 (map lane_state lanes))) c.deref_mut.ensures.value
           ∙ ap (λ (r : RoomState). map (left cpu) (enumerate_from 0 r.siblings)) after in
           ap (λ (lanes : List (Lane g.row.Q.Denot)). let next : RoomState = record (room_of paid (moved, c.move_off.new.table)) { siblings = map lane_state lanes } in next) kept
@@ -70,7 +70,7 @@ returns g c =
           ∙ leave_is room cpu;
       numbers = λ beside booked_before.
           let room = room_of (at c.args.now beside) (c.args.core.now, c.args.table.now) in
-          let own : map number_of c.set_away.new.lanes ≡ map number_of moved.lanes.items = c.set_away.ensures.numbers ∙ ap (map number_of) c.deref_mut.ensures.value in
+          let own : map number_of c.set_one_away.new.lanes ≡ map number_of moved.lanes.items = c.set_one_away.ensures.numbers ∙ ap (map number_of) c.deref_mut.ensures.value in
           let charged =
           ap (λ n. let next : Numbers = record (numbers_of c.charge.new.core) { intervals = n } in next) c.close.ensures.intervals
           ∙ c.charge.ensures.charges.numbers beside booked_before in
@@ -82,5 +82,5 @@ returns g c =
           both_stay c.charge.ensures.charges.stays
           (both_stay (alike_stays _ _ refl refl refl refl)
           (both_stay c.move_off.ensures.stays
-          (alike_stays _ _ (ap (map queue_of) kept ∙ c.set_away.ensures.queues ∙ ap (map queue_of) c.deref_mut.ensures.value) refl refl refl)));
+          (alike_stays _ _ (ap (map queue_of) kept ∙ c.set_one_away.ensures.queues ∙ ap (map queue_of) c.deref_mut.ensures.value) refl refl refl)));
     }

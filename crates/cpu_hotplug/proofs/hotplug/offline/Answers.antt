@@ -1,7 +1,7 @@
 use Rattle.std.proofs.Common.{◌≡◌, ◌∙◌, ap, sym, subst, refl, length, true, false, arith, eq-eqb, ne_eqb}
 use Rattle.std.specs.Prelude.{◌==◌}
 use Rattle.cs_types.specs.Room.{RoomState, online}
-use Rattle.cs_types.specs.Step.{Stepped, taken_offline}
+use Rattle.cs_types.specs.Step.{Stepped, take_offline}
 use Rattle.task_table.specs.Table.{Table}
 use Rattle.core_lanes.specs.declared.queue.SiblingQueue.{Ghosts}
 use Rattle.core_lanes.specs.declared.lanes.Core.{Core}
@@ -36,10 +36,10 @@ returns-then-not-is_online g c =
       reply = λ beside. ap (λ (made : Stepped). made.reply) (step beside);
       room = λ beside.
           let room = room_of (at c.args.now beside) (c.args.core.now, c.args.table.now) in
-          stands (at c.args.now beside) (c.args.core.now, c.args.table.now) (taken_offline room c.args.cpu).room (ap (λ (made : Stepped). made.room) (step beside));
+          stands (at c.args.now beside) (c.args.core.now, c.args.table.now) (take_offline room c.args.cpu).room (ap (λ (made : Stepped). made.room) (step beside));
       numbers = λ beside kept.
           let room = room_of (at c.args.now beside) (c.args.core.now, c.args.table.now) in
-          still_booked (c.args.core.now, c.args.table.now) room (taken_offline room c.args.cpu).room (ap (λ (made : Stepped). made.room) (step beside)) kept;
+          still_booked (c.args.core.now, c.args.table.now) room (take_offline room c.args.cpu).room (ap (λ (made : Stepped). made.room) (step beside)) kept;
       unchanged = λ not_done. refl;
       stays = same_stays;
     }
@@ -54,10 +54,10 @@ returns-then-online_count-eq1 g c =
       reply = λ beside. ap (λ (made : Stepped). made.reply) (step beside);
       room = λ beside.
           let room = room_of (at c.args.now beside) (c.args.core.now, c.args.table.now) in
-          stands (at c.args.now beside) (c.args.core.now, c.args.table.now) (taken_offline room c.args.cpu).room (ap (λ (made : Stepped). made.room) (step beside));
+          stands (at c.args.now beside) (c.args.core.now, c.args.table.now) (take_offline room c.args.cpu).room (ap (λ (made : Stepped). made.room) (step beside));
       numbers = λ beside kept.
           let room = room_of (at c.args.now beside) (c.args.core.now, c.args.table.now) in
-          still_booked (c.args.core.now, c.args.table.now) room (taken_offline room c.args.cpu).room (ap (λ (made : Stepped). made.room) (step beside)) kept;
+          still_booked (c.args.core.now, c.args.table.now) room (take_offline room c.args.cpu).room (ap (λ (made : Stepped). made.room) (step beside)) kept;
       unchanged = λ not_done. refl;
       stays = same_stays;
     }

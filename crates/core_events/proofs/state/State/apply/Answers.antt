@@ -42,10 +42,10 @@ pub returns-in-SetSched : goal.returns-in-SetSched
 returns-in-SetSched g c = by_event c.in-SetSched.is c.set_policy.ensures
 
 pub returns-in-Offline : goal.returns-in-Offline
-returns-in-Offline g c = by_event c.in-Offline.is c.offline.ensures
+returns-in-Offline g c = by_event c.in-Offline.is c.take_offline.ensures
 
 pub returns-in-Online : goal.returns-in-Online
-returns-in-Online g c = by_event c.in-Online.is c.online.ensures
+returns-in-Online g c = by_event c.in-Online.is c.bring_online.ensures
 
 pub turn-requires : goal.turn-requires
 turn-requires g c = record { cpu = subst (IsEvent (length c.args.self.now.core.lanes.items)) c.in-Turn.is c.requires.event; ready = c.requires.ready }
@@ -62,11 +62,11 @@ exit-requires g c = record { cpu = subst (IsEvent (length c.args.self.now.core.l
 pub tick-requires : goal.tick-requires
 tick-requires g c = record { cpu = subst (IsEvent (length c.args.self.now.core.lanes.items)) c.in-Tick.is c.requires.event; ready = c.requires.ready }
 
-pub offline-requires : goal.offline-requires
-offline-requires g c = record { cpu = subst (IsEvent (length c.args.self.now.core.lanes.items)) c.in-Offline.is c.requires.event; ready = c.requires.ready }
+pub take_offline-requires : goal.take_offline-requires
+take_offline-requires g c = record { cpu = subst (IsEvent (length c.args.self.now.core.lanes.items)) c.in-Offline.is c.requires.event; ready = c.requires.ready }
 
-pub online-requires : goal.online-requires
-online-requires g c = record { cpu = subst (IsEvent (length c.args.self.now.core.lanes.items)) c.in-Online.is c.requires.event }
+pub bring_online-requires : goal.bring_online-requires
+bring_online-requires g c = record { cpu = subst (IsEvent (length c.args.self.now.core.lanes.items)) c.in-Online.is c.requires.event }
 
 pub advance-requires : goal.advance-requires
 advance-requires g c =

@@ -5,8 +5,8 @@ use Rattle.cs_types.specs.declared.task.Task.{Task}
 use Rattle.cs_types.specs.Room.{RoomState, SiblingState, running_on}
 use Rattle.cs_types.specs.Selection.{Scheduled}
 use Rattle.cs_types.specs.Accounting.{charge}
-use Rattle.cs_types.specs.Queueing.{dequeued}
-use Rattle.cs_types.specs.Step.{Stepped, idled, blocked}
+use Rattle.cs_types.specs.Queueing.{dequeue}
+use Rattle.cs_types.specs.Step.{Stepped, run_idle, block}
 use Rattle.cs_types.proofs.Accounts.{now-charge}
 use Rattle.core_lanes.specs.Lanes.{BareCore, AreLow, beside_after, room_of}
 use Rattle.core_lanes.specs.Numbers.{Numbers, numbers_of, booked, took, touched}
@@ -24,12 +24,12 @@ pub dequeue-requires-clause-touches : goal.dequeue-requires-clause-touches
 dequeue-requires-clause-touches g c =
     subst (λ n. n + 1 < 2 ^ 64) (sym (ap (λ (b : BareCore). b.task_number) c.charge.ensures.rest)) (may_pick c.args.self.now c.requires.ready).touches
 
-pub idle-requires : goal.idle-requires
-idle-requires g c = still_below (both_stay c.charge.ensures.charges.stays c.dequeue.ensures.stays) c.requires.cpu
+pub run_idle-requires : goal.run_idle-requires
+run_idle-requires g c = still_below (both_stay c.charge.ensures.charges.stays c.dequeue.ensures.stays) c.requires.cpu
 
 pub pick_and_balance-requires-clause-cpu : goal.pick_and_balance-requires-clause-cpu
 pick_and_balance-requires-clause-cpu g c =
-    still_below (both_stay c.charge.ensures.charges.stays (both_stay c.dequeue.ensures.stays (c.idle.ensures c.dequeue.new.table).stays)) c.requires.cpu
+    still_below (both_stay c.charge.ensures.charges.stays (both_stay c.dequeue.ensures.stays (c.run_idle.ensures c.dequeue.new.table).stays)) c.requires.cpu
 
 pub dequeue-requires-clause-knows : goal.dequeue-requires-clause-knows
 dequeue-requires-clause-knows g c =
@@ -47,47 +47,47 @@ pick_and_balance-requires-clause-may g c =
     let task = c.in-Some.task in
     let first = low_times old c.requires.ready.time in
     let low : task.vtime < 2 ^ 100 = found_in (λ (t : Task). t.vtime < 2 ^ 100) task.spec.pid old.tasks.tasks task first.vtimes c.in-Some.ensures.there in
-    let idle = c.idle.ensures c.dequeue.new.table in
+    let idle = c.run_idle.ensures c.dequeue.new.table in
     let rest = c.charge.ensures.rest in
     let paid : HasLow (room_of some_beside (c.charge.new.core, old.tasks)) =
     subst (λ (siblings : List SiblingState). AreLow siblings old.tasks.tasks) (sym (ap (λ (b : BareCore). b.siblings) rest)) first in
     record {
       agree = idle.stays.agree (c.dequeue.ensures.stays.agree (c.charge.ensures.charges.stays.agree c.requires.ready.sound.agree));
       low = subst HasLow
-          (sym (idle.room some_beside ∙ ap (λ (r : RoomState). idled r c.args.cpu) (c.dequeue.ensures.room some_beside)))
-          (low_idled (dequeued (room_of some_beside (c.charge.new.core, old.tasks)) task) c.args.cpu (low_dequeued (room_of some_beside (c.charge.new.core, old.tasks)) task low paid));
+          (sym (idle.room some_beside ∙ ap (λ (r : RoomState). run_idle r c.args.cpu) (c.dequeue.ensures.room some_beside)))
+          (low_idled (dequeue (room_of some_beside (c.charge.new.core, old.tasks)) task) c.args.cpu (low_dequeued (room_of some_beside (c.charge.new.core, old.tasks)) task low paid));
       clock = (may_pick old c.requires.ready).clock;
-      touches = may_touch_after old c.requires.ready (numbers_of c.charge.new.core) (numbers_of c.idle.new.self)
+      touches = may_touch_after old c.requires.ready (numbers_of c.charge.new.core) (numbers_of c.run_idle.new.self)
           (ap (λ (b : BareCore). b.task_number) rest) (idle.numbers ∙ c.dequeue.ensures.numbers);
     }
 
 pub returns-then-not-is_online : goal.returns-then-not-is_online
 returns-then-not-is_online g c = leaves_all c.args.self.now (Block c.args.cpu) Offline (λ intervals. untouched (numbers_of c.args.self.now.core)) (λ intervals.
     let room = room_with intervals c.args.self.now in
-    when_offline room c.args.cpu (blocked room c.args.cpu (running_on room c.args.cpu)) (sym (c.is_online.ensures (beside_of intervals c.args.self.now) c.args.self.now.tasks) ∙ c.if-not-is_online.true))
+    when_offline room c.args.cpu (block room c.args.cpu (running_on room c.args.cpu)) (sym (c.is_online.ensures (beside_of intervals c.args.self.now) c.args.self.now.tasks) ∙ c.if-not-is_online.true))
 
 pub returns-in_default : goal.returns-in_default
 returns-in_default g c = leaves_all c.args.self.now (Block c.args.cpu) Idle (λ intervals. untouched (numbers_of c.args.self.now.core)) (λ intervals.
     let room = room_with intervals c.args.self.now in
     let beside = beside_of intervals c.args.self.now in
-    when_running room c.args.cpu (blocked room c.args.cpu) None (c.in_default.ensures.task beside) (sym (c.is_online.ensures beside c.args.self.now.tasks) ∙ c.if-not-is_online.false))
+    when_running room c.args.cpu (block room c.args.cpu) None (c.in_default.ensures.task beside) (sym (c.is_online.ensures beside c.args.self.now.tasks) ∙ c.if-not-is_online.false))
 
 pub returns : goal.returns
 returns g c =
     let old = c.args.self.now in
     let cpu = c.args.cpu in
     let task = c.in-Some.task in
-    let idle = c.idle.ensures c.dequeue.new.table in
+    let idle = c.run_idle.ensures c.dequeue.new.table in
     record {
       step = λ intervals.
           let room = room_with intervals old in
           let beside = beside_of intervals old in
           let paid = beside_after beside (charge room) in
-          let gone = idled (dequeued (charge room) task) cpu in
-          let is : room_of paid (c.idle.new.self, c.dequeue.new.table) ≡ gone =
-          idle.room paid ∙ ap (λ (r : RoomState). idled r cpu) (c.dequeue.ensures.room paid ∙ ap (λ (r : RoomState). dequeued r task) (c.charge.ensures.charges.room beside)) in
-          let scheduled = picked_charged (room_of paid (c.idle.new.self, c.dequeue.new.table)) gone cpu (now-charge room) is in
-          let up = when_running room cpu (blocked room cpu) (Some task) (c.in-Some.ensures.task beside) (sym (c.is_online.ensures beside old.tasks) ∙ c.if-not-is_online.false) in
+          let gone = run_idle (dequeue (charge room) task) cpu in
+          let is : room_of paid (c.run_idle.new.self, c.dequeue.new.table) ≡ gone =
+          idle.room paid ∙ ap (λ (r : RoomState). run_idle r cpu) (c.dequeue.ensures.room paid ∙ ap (λ (r : RoomState). dequeue r task) (c.charge.ensures.charges.room beside)) in
+          let scheduled = picked_charged (room_of paid (c.run_idle.new.self, c.dequeue.new.table)) gone cpu (now-charge room) is in
+          let up = when_running room cpu (block room cpu) (Some task) (c.in-Some.ensures.task beside) (sym (c.is_online.ensures beside old.tasks) ∙ c.if-not-is_online.false) in
           once_charged (record {
             reply = ap (Slept task.spec.pid) (c.pick_and_balance.ensures.pick paid ∙ ap (λ (made : Scheduled). made.pick) scheduled) ∙ ap (λ (m : Stepped). m.reply) up;
             room = c.pick_and_balance.ensures.room paid ∙ ap (λ (made : Scheduled). made.room) scheduled ∙ ap (λ (m : Stepped). m.room) up;

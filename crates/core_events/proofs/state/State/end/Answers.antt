@@ -4,7 +4,7 @@ use Rattle.std.specs.Result.{IsOk}
 use Rattle.std.proofs.lemmas.List.Elements.{All-filter}
 use Rattle.cs_types.specs.declared.task.Task.{Task}
 use Rattle.cs_types.specs.Room.{RoomState, has_pid}
-use Rattle.cs_types.specs.Queueing.{dequeued}
+use Rattle.cs_types.specs.Queueing.{dequeue}
 use Rattle.cs_types.specs.Step.{has_threads}
 use Rattle.task_table.specs.Table.{Table, IsSound as IsTable}
 use Rattle.core_lanes.specs.declared.queue.SiblingQueue.{Ghosts}
@@ -18,7 +18,7 @@ use Rattle.core_events.proofs.States.{lifted, both_stay}
 use Rattle.core_events.proofs.Lives.{but, but-changed, find-changed, any-changed, agree-but}
 use Rattle.core_events.proofs.state.State.end.Goals as goal
 
-module _ {Q : Type 0} {g : Ghosts Q} (old new : Core Q g × Table) (task : Task) (becomes : Becomes old new (λ room. dequeued room task)) where
+module _ {Q : Type 0} {g : Ghosts Q} (old new : Core Q g × Table) (task : Task) (becomes : Becomes old new (λ room. dequeue room task)) where
   -- a dequeued task is found among the tasks
   found : IsOf old.1.tasks task → find (has_pid task.spec.pid) new.1.tasks ≡ Some (record task { queued = false })
   found there =

@@ -4,7 +4,7 @@ use Rattle.cs_types.specs.declared.reply.Reply.TheVariants.{Ended, HasThreads, I
 use Rattle.cs_types.specs.Room.{RoomState, SiblingState, running_on}
 use Rattle.cs_types.specs.Selection.{Scheduled, schedule}
 use Rattle.cs_types.specs.Accounting.{charge}
-use Rattle.cs_types.specs.Step.{Stepped, idled, exited, without, has_threads, picked}
+use Rattle.cs_types.specs.Step.{Stepped, run_idle, exit, without, has_threads, picked}
 use Rattle.cs_types.proofs.Accounts.{now-charge}
 use Rattle.core_lanes.specs.Lanes.{BareCore, AreLow, room_of}
 use Rattle.core_lanes.specs.Numbers.{Numbers, numbers_of, booked, took, touched}
@@ -20,12 +20,12 @@ use Rattle.core_events.proofs.Readies.{may_pick, may_touch_after, picked_charged
 use Rattle.core_events.proofs.Changes.{still_below}
 use Rattle.core_events.proofs.state.State.exit.Goals as goal
 
-pub idle-requires : goal.idle-requires
-idle-requires g c = subst (λ n. c.args.cpu < n) (sym c.end.ensures.stays.siblings) (still_below c.charge.ensures.charges.stays c.requires.cpu)
+pub run_idle-requires : goal.run_idle-requires
+run_idle-requires g c = subst (λ n. c.args.cpu < n) (sym c.end.ensures.stays.siblings) (still_below c.charge.ensures.charges.stays c.requires.cpu)
 
 pub pick_and_balance-requires-clause-cpu : goal.pick_and_balance-requires-clause-cpu
 pick_and_balance-requires-clause-cpu g c =
-    still_below (c.idle.ensures c.end.new.self.tasks).stays (subst (λ n. c.args.cpu < n) (sym c.end.ensures.stays.siblings) (still_below c.charge.ensures.charges.stays c.requires.cpu))
+    still_below (c.run_idle.ensures c.end.new.self.tasks).stays (subst (λ n. c.args.cpu < n) (sym c.end.ensures.stays.siblings) (still_below c.charge.ensures.charges.stays c.requires.cpu))
 
 pub end-requires-clause-there : goal.end-requires-clause-there
 end-requires-clause-there g c = c.in-Some.ensures.there
@@ -47,7 +47,7 @@ pick_and_balance-requires-clause-may g c =
     let task = c.in-Some.task in
     let first = low_times old c.requires.ready.time in
     let ended = c.end.new.self in
-    let idle = c.idle.ensures ended.tasks in
+    let idle = c.run_idle.ensures ended.tasks in
     let rest = c.charge.ensures.rest in
     let mid = room_with [] (record old { core = c.charge.new.core }) in
     let paid : HasLow mid = subst (λ (siblings : List SiblingState). AreLow siblings old.tasks.tasks) (sym (ap (λ (b : BareCore). b.siblings) rest)) first in
@@ -55,23 +55,23 @@ pick_and_balance-requires-clause-may g c =
     record {
       agree = idle.stays.agree sound.agree;
       low = subst HasLow
-          (sym (idle.room (beside_of [] ended) ∙ ap (λ (r : RoomState). idled r c.args.cpu) (c.end.ensures.room [])))
+          (sym (idle.room (beside_of [] ended) ∙ ap (λ (r : RoomState). run_idle r c.args.cpu) (c.end.ensures.room [])))
           (low_idled (without mid task) c.args.cpu (low_without mid task paid));
       clock = subst (λ n. n < 2 ^ 56) (sym (ap (λ (r : RoomState). r.clock) (c.end.ensures.room []))) (may_pick old c.requires.ready).clock;
-      touches = may_touch_after old c.requires.ready (numbers_of c.charge.new.core) (numbers_of c.idle.new.self)
+      touches = may_touch_after old c.requires.ready (numbers_of c.charge.new.core) (numbers_of c.run_idle.new.self)
           (ap (λ (b : BareCore). b.task_number) rest) (idle.numbers ∙ c.end.ensures.numbers);
     }
 
 pub returns-then-not-is_online : goal.returns-then-not-is_online
 returns-then-not-is_online g c = leaves_all c.args.self.now (Exit c.args.cpu) Offline (λ intervals. untouched (numbers_of c.args.self.now.core)) (λ intervals.
     let room = room_with intervals c.args.self.now in
-    when_offline room c.args.cpu (exited room c.args.cpu (running_on room c.args.cpu)) (sym (c.is_online.ensures (beside_of intervals c.args.self.now) c.args.self.now.tasks) ∙ c.if-not-is_online.true))
+    when_offline room c.args.cpu (exit room c.args.cpu (running_on room c.args.cpu)) (sym (c.is_online.ensures (beside_of intervals c.args.self.now) c.args.self.now.tasks) ∙ c.if-not-is_online.true))
 
 pub returns-in_default : goal.returns-in_default
 returns-in_default g c = leaves_all c.args.self.now (Exit c.args.cpu) Idle (λ intervals. untouched (numbers_of c.args.self.now.core)) (λ intervals.
     let room = room_with intervals c.args.self.now in
     let beside = beside_of intervals c.args.self.now in
-    when_running room c.args.cpu (exited room c.args.cpu) None (c.in_default.ensures.task beside) (sym (c.is_online.ensures beside c.args.self.now.tasks) ∙ c.if-not-is_online.false))
+    when_running room c.args.cpu (exit room c.args.cpu) None (c.in_default.ensures.task beside) (sym (c.is_online.ensures beside c.args.self.now.tasks) ∙ c.if-not-is_online.false))
 
 pub returns-then-has_threads : goal.returns-then-has_threads
 returns-then-has_threads g c = leaves_all c.args.self.now (Exit c.args.cpu) HasThreads (λ intervals. untouched (numbers_of c.args.self.now.core)) (λ intervals.
@@ -79,9 +79,9 @@ returns-then-has_threads g c = leaves_all c.args.self.now (Exit c.args.cpu) HasT
     let beside = beside_of intervals c.args.self.now in
     let task = c.in-Some.task in
     let leads = sym (c.has_threads.ensures room refl) ∙ c.if-has_threads.true in
-    let goes : Stepped = picked (Ended task.spec.pid) (schedule (idled (without (charge room) task) c.args.cpu) false c.args.cpu) in
+    let goes : Stepped = picked (Ended task.spec.pid) (schedule (run_idle (without (charge room) task) c.args.cpu) false c.args.cpu) in
     sym (cond-true (has_threads room task) (record { reply = HasThreads; room = room }) goes leads)
-    ∙ when_running room c.args.cpu (exited room c.args.cpu) (Some task) (c.in-Some.ensures.task beside) (sym (c.is_online.ensures beside c.args.self.now.tasks) ∙ c.if-not-is_online.false))
+    ∙ when_running room c.args.cpu (exit room c.args.cpu) (Some task) (c.in-Some.ensures.task beside) (sym (c.is_online.ensures beside c.args.self.now.tasks) ∙ c.if-not-is_online.false))
 
 pub returns : goal.returns
 returns g c =
@@ -89,23 +89,23 @@ returns g c =
     let cpu = c.args.cpu in
     let task = c.in-Some.task in
     let ended = c.end.new.self in
-    let idle = c.idle.ensures ended.tasks in
+    let idle = c.run_idle.ensures ended.tasks in
     record {
       step = λ intervals.
           let room = room_with intervals old in
           let beside = beside_of intervals old in
           let alone = sym (c.has_threads.ensures room refl) ∙ c.if-has_threads.false in
-          let goes : Stepped = picked (Ended task.spec.pid) (schedule (idled (without (charge room) task) cpu) false cpu) in
+          let goes : Stepped = picked (Ended task.spec.pid) (schedule (run_idle (without (charge room) task) cpu) false cpu) in
           let stays : Stepped = record { reply = HasThreads; room = room } in
           let up = sym (cond-false (has_threads room task) stays goes alone)
-          ∙ when_running room cpu (exited room cpu) (Some task) (c.in-Some.ensures.task beside) (sym (c.is_online.ensures beside old.tasks) ∙ c.if-not-is_online.false) in
+          ∙ when_running room cpu (exit room cpu) (Some task) (c.in-Some.ensures.task beside) (sym (c.is_online.ensures beside old.tasks) ∙ c.if-not-is_online.false) in
           let after = (charge room).intervals in
           let paid = beside_of after ended in
-          let gone = idled (without (charge room) task) cpu in
-          let is : room_of paid (c.idle.new.self, ended.tasks) ≡ gone =
-          idle.room paid ∙ ap (λ (r : RoomState). idled r cpu) (c.end.ensures.room after ∙ ap (λ (r : RoomState). without r task) (c.charge.ensures.charges.room beside)) in
+          let gone = run_idle (without (charge room) task) cpu in
+          let is : room_of paid (c.run_idle.new.self, ended.tasks) ≡ gone =
+          idle.room paid ∙ ap (λ (r : RoomState). run_idle r cpu) (c.end.ensures.room after ∙ ap (λ (r : RoomState). without r task) (c.charge.ensures.charges.room beside)) in
           let clock : ended.clock ≡ old.clock = ap (λ (r : RoomState). r.clock) (c.end.ensures.room after) in
-          let scheduled = picked_charged (room_of paid (c.idle.new.self, ended.tasks)) gone cpu (now-charge room) is in
+          let scheduled = picked_charged (room_of paid (c.run_idle.new.self, ended.tasks)) gone cpu (now-charge room) is in
           once_charged (record {
             reply = ap (Ended task.spec.pid) (c.pick_and_balance.ensures.pick paid ∙ ap (λ (made : Scheduled). made.pick) scheduled) ∙ ap (λ (m : Stepped). m.reply) up;
             room = c.pick_and_balance.ensures.room paid ∙ ap (λ (made : Scheduled). made.room) scheduled ∙ ap (λ (m : Stepped). m.room) up;

@@ -5,8 +5,8 @@ use Rattle.cs_types.specs.declared.reply.Reply.TheVariants.{Child, NoCaller, Ref
 use Rattle.cs_types.specs.declared.task.Task.{Task}
 use Rattle.cs_types.specs.Scenario.{IsPolicy}
 use Rattle.cs_types.specs.Room.{RoomState}
-use Rattle.cs_types.specs.Queueing.{queued_at_home}
-use Rattle.cs_types.specs.Step.{Stepped, forked, child_at_home, child_of, with_child}
+use Rattle.cs_types.specs.Queueing.{queue_at_home}
+use Rattle.cs_types.specs.Step.{Stepped, fork, child_at_home, child_of, with_child}
 use Rattle.core_lanes.specs.Numbers.{Numbers, touched, numbers_of}
 use Rattle.core_lanes.proofs.Stays.{some_beside}
 use Rattle.core_events.specs.State.{beside_of, both, room_with}
@@ -67,15 +67,15 @@ returns-in-Ok g c =
       step = λ intervals.
           let room = room_with intervals old in
           let beside = beside_of intervals after in
-          let made : Task → Stepped = λ task. record { reply = Child task.spec.pid; room = queued_at_home (with_child room task) (child_at_home room task) } in
-          let is : made child ≡ forked room c.args.thread (Some makes.0) =
+          let made : Task → Stepped = λ task. record { reply = Child task.spec.pid; room = queue_at_home (with_child room task) (child_at_home room task) } in
+          let is : made child ≡ fork room c.args.thread (Some makes.0) =
           ap made born.is ∙ sym (cond-false _ _ (made (child_of makes.0 c.args.thread room.next_pid)) born.allowed) in
-          let whole = is ∙ ap (forked room c.args.thread) (sym makes.1) in
+          let whole = is ∙ ap (fork room c.args.thread) (sym makes.1) in
           uncharged (record {
             reply = ap (λ (m : Stepped). m.reply) whole;
             room = queued.room beside
-                ∙ ap (λ (now : RoomState). queued_at_home now c.child_at_home-task.result) (born.room intervals)
-                ∙ ap (queued_at_home (with_child room child))
+                ∙ ap (λ (now : RoomState). queue_at_home now c.child_at_home-task.result) (born.room intervals)
+                ∙ ap (queue_at_home (with_child room child))
                 (c.child_at_home-task.ensures.child_at_home beside after.tasks ∙ ap (λ (now : RoomState). child_at_home now child) (born.room intervals))
                 ∙ ap (λ (m : Stepped). m.room) whole;
             numbers = queued.numbers ∙ ap (λ (numbers : Numbers). touched 1 numbers) born.numbers;
@@ -89,7 +89,7 @@ returns-in-Err-NoCaller g c =
     let makes = rw c.in-Err-NoCaller.field-0-is at c.in-Err-NoCaller.ensures in
     subst (λ (new : State _ _). Makes old new (Fork c.args.caller c.args.thread) NoCaller) (sym makes.1)
     (leaves_all old (Fork c.args.caller c.args.thread) NoCaller (λ intervals. untouched (numbers_of old.core)) (λ intervals.
-    ap (forked (room_with intervals old) c.args.thread) (sym makes.0)))
+    ap (fork (room_with intervals old) c.args.thread) (sym makes.0)))
 
 pub returns-in-Err-Eagain : goal.returns-in-Err-Eagain
 returns-in-Err-Eagain g c =
@@ -98,4 +98,4 @@ returns-in-Err-Eagain g c =
     subst (λ (new : State _ _). Makes old new (Fork c.args.caller c.args.thread) (Refused Eagain)) (sym makes.3)
     (leaves_all old (Fork c.args.caller c.args.thread) (Refused Eagain) (λ intervals. untouched (numbers_of old.core)) (λ intervals.
     let room = room_with intervals old in
-    sym (cond-true _ (record { reply = Refused Eagain; room = room }) _ makes.2) ∙ ap (forked room c.args.thread) (sym makes.1)))
+    sym (cond-true _ (record { reply = Refused Eagain; room = room }) _ makes.2) ∙ ap (fork room c.args.thread) (sym makes.1)))

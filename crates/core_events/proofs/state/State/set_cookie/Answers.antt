@@ -56,10 +56,10 @@ returns g c =
     let mid = c.replace.new.self in
     let same : bare mid ≡ bare old.core = c.replace.ensures.bare in
     let table = c.replace.ensures.table in
-    let flagged = c.flag_runners.new.lanes in
+    let raised = c.flag_runners.new.lanes in
     let as_many = c.flag_runners.auto.lanes ∙ ap length c.deref_mut.ensures.value in
-    let after = (with_items mid.lanes flagged).items in
-    let kept : after ≡ flagged = with_items_is mid.lanes flagged (as_many ∙ sym mid.lanes.ok.0) in
+    let after = (with_items mid.lanes raised).items in
+    let kept : after ≡ raised = with_items_is mid.lanes raised (as_many ∙ sym mid.lanes.ok.0) in
     let flags : map lane_state after ≡ map (flagged_for pid) (map lane_state mid.lanes.items) =
     ap (map lane_state) kept ∙ c.flag_runners.ensures.states ∙ ap (λ lanes. map (flagged_for pid) (map lane_state lanes)) c.deref_mut.ensures.value in
     let own : map number_of after ≡ map number_of mid.lanes.items =

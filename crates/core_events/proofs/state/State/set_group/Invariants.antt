@@ -1,6 +1,6 @@
 use Rattle.std.proofs.Common.{◌≡◌, ◌+◌, ◌≤◌, List, length}
 use Rattle.cs_types.specs.Room.{Interval}
-use Rattle.cs_types.specs.Prctl.{with_cookies}
+use Rattle.cs_types.specs.Prctl.{set_cookies}
 use Rattle.cs_types.specs.Touches.{setting_touches}
 use Rattle.task_table.specs.Group.{group_above}
 use Rattle.core_lanes.specs.Numbers.{numbers_of, touched}
@@ -14,7 +14,7 @@ invariant-loop g l =
     let all = group_above l.group 0 l.initial.self.tasks.tasks in
     record {
       stays : StaysBut l.cookie l.initial.self l.self;
-      room : (intervals : List Interval) → with_cookies (room_with intervals l.self) (setting left l.cookie) ≡ with_cookies (room_with intervals l.initial.self) (setting all l.cookie);
+      room : (intervals : List Interval) → set_cookies (room_with intervals l.self) (setting left l.cookie) ≡ set_cookies (room_with intervals l.initial.self) (setting all l.cookie);
       numbers : touched (setting_touches (setting left l.cookie)) (numbers_of l.self.core) ≡ touched (setting_touches (setting all l.cookie)) (numbers_of l.initial.self.core);
       left : length left + l.counter ≤ l.end;
     }

@@ -2,7 +2,7 @@ use Rattle.std.proofs.Common.{◌≡◌, ◌+◌, ◌∙◌, ap, sym, cond, Bool
 use Rattle.std.specs.Prelude.{Option, Some}
 use Rattle.cs_types.specs.declared.task.Task.{Task}
 use Rattle.cs_types.specs.Room.{with_task}
-use Rattle.cs_types.specs.Step.{with_policy, set_policy, requeued}
+use Rattle.cs_types.specs.Step.{with_policy, set_policy, requeue}
 use Rattle.cs_types.specs.Touches.{policy_touches}
 use Rattle.core_lanes.specs.Lanes.{Knows, KnowsApart}
 use Rattle.core_lanes.specs.Numbers.{Numbers, numbers_of}
@@ -53,7 +53,7 @@ returns-else-task g c =
           uncharged (record {
             reply = ap (λ found. (set_policy room c.args.policy found).reply) c.in-Some.ensures.task;
             room = c.change.ensures.room beside ∙ ap (with_task room) c.with_policy-changed.ensures
-                ∙ ap (λ b. cond b (requeued room changed) (with_task room changed)) (sym c.if-task.false)
+                ∙ ap (λ b. cond b (requeue room changed) (with_task room changed)) (sym c.if-task.false)
                 ∙ ap (λ found. (set_policy room c.args.policy found).room) c.in-Some.ensures.task;
             numbers = c.change.ensures.numbers ∙ untouched (numbers_of old.core)
                 ∙ found_numbers (numbers_of old.core) task _ false c.in-Some.ensures.task c.if-task.false;
@@ -72,8 +72,8 @@ returns-then-task g c =
           let changed = with_policy c.args.policy task in
           uncharged (record {
             reply = ap (λ found. (set_policy room c.args.policy found).reply) c.in-Some.ensures.task;
-            room = c.requeue.ensures.room beside ∙ ap (requeued room) c.with_policy-changed.ensures
-                ∙ ap (λ b. cond b (requeued room changed) (with_task room changed)) (sym c.if-task.true)
+            room = c.requeue.ensures.room beside ∙ ap (requeue room) c.with_policy-changed.ensures
+                ∙ ap (λ b. cond b (requeue room changed) (with_task room changed)) (sym c.if-task.true)
                 ∙ ap (λ found. (set_policy room c.args.policy found).room) c.in-Some.ensures.task;
             numbers = c.requeue.ensures.numbers
                 ∙ found_numbers (numbers_of old.core) task _ true c.in-Some.ensures.task c.if-task.true;

@@ -2,7 +2,7 @@ use Rattle.std.proofs.Common.{◌∙◌, sym, subst}
 use Rattle.cs_types.specs.declared.event.Event.TheVariants.{Tick}
 use Rattle.cs_types.specs.declared.reply.Reply.TheVariants.{Offline}
 use Rattle.cs_types.specs.Room.{running_on}
-use Rattle.cs_types.specs.Step.{ticked}
+use Rattle.cs_types.specs.Step.{tick}
 use Rattle.core_lanes.specs.Numbers.{numbers_of, booked}
 use Rattle.core_events.specs.State.{beside_of, room_with}
 use Rattle.core_events.specs.Steps.{MakesStep}
@@ -13,7 +13,7 @@ use Rattle.core_events.proofs.state.State.tick.Goals as goal
 pub returns-then-not-is_online : goal.returns-then-not-is_online
 returns-then-not-is_online g c = leaves_all c.args.self.now (Tick c.args.cpu) Offline (λ intervals. untouched (numbers_of c.args.self.now.core)) (λ intervals.
     let room = room_with intervals c.args.self.now in
-    when_offline room c.args.cpu (ticked room c.args.cpu (running_on room c.args.cpu)) (sym (c.is_online.ensures (beside_of intervals c.args.self.now) c.args.self.now.tasks) ∙ c.if-not-is_online.true))
+    when_offline room c.args.cpu (tick room c.args.cpu (running_on room c.args.cpu)) (sym (c.is_online.ensures (beside_of intervals c.args.self.now) c.args.self.now.tasks) ∙ c.if-not-is_online.true))
 
 pub returns : goal.returns
 returns g c =
@@ -24,7 +24,7 @@ returns g c =
       step = λ intervals.
           let room = room_with intervals old in
           let beside = beside_of intervals old in
-          let made = ticked room cpu (running_on room cpu) in
+          let made = tick room cpu (running_on room cpu) in
           let up = when_online room cpu made (sym (c.is_online.ensures beside old.tasks) ∙ c.if-not-is_online.false) in
           subst (MakesStep intervals old _ _ _) up (record {
             reply = c.tick.ensures.asks beside;

@@ -4,7 +4,7 @@ use Rattle.cs_types.specs.declared.reply.Reply.TheVariants.{Picked, Nothing, Off
 use Rattle.cs_types.specs.Room.{RoomState, SiblingState, sibling_of}
 use Rattle.cs_types.specs.Selection.{schedule}
 use Rattle.cs_types.specs.Steal.{stolen}
-use Rattle.cs_types.specs.Step.{Stepped, step, turned, try_steal, picked, unless_offline}
+use Rattle.cs_types.specs.Step.{Stepped, step, turn, try_steal, picked, unless_offline}
 use Rattle.core_lanes.specs.Numbers.{numbers_of, booked, is_fresh_by}
 use Rattle.core_lanes.proofs.Stays.{lane_at}
 use Rattle.core_events.specs.State.{beside_of, room_with}
@@ -33,7 +33,7 @@ turn_by room fresh cpu pending =
 pub returns-then-not-is_online : goal.returns-then-not-is_online
 returns-then-not-is_online g c = leaves_all c.args.self.now (Turn c.args.cpu) Offline (λ intervals. untouched (numbers_of c.args.self.now.core)) (λ intervals.
     let room = room_with intervals c.args.self.now in
-    when_offline room c.args.cpu (turned room (is_fresh_by (numbers_of c.args.self.now.core)) c.args.cpu)
+    when_offline room c.args.cpu (turn room (is_fresh_by (numbers_of c.args.self.now.core)) c.args.cpu)
     (sym (c.is_online.ensures (beside_of intervals c.args.self.now) c.args.self.now.tasks) ∙ c.if-not-is_online.true))
 
 pub returns-then-index : goal.returns-then-index
@@ -47,7 +47,7 @@ returns-then-index g c =
           let room = room_with intervals old in
           let at = lane_at old.core.lanes.items cpu c.index.result.now c.requires.cpu c.index.ensures in
           let pends : (sibling_of room cpu).pending ≡ true = ap (λ (s : SiblingState). s.pending) at ∙ c.if-index.true in
-          let is : picked Picked (schedule room fresh cpu) ≡ turned room fresh cpu = ap (turn_by room fresh cpu) (sym pends) in
+          let is : picked Picked (schedule room fresh cpu) ≡ turn room fresh cpu = ap (turn_by room fresh cpu) (sym pends) in
           let same : step room fresh (Resched cpu) ≡ step room fresh (Turn cpu) = ap (unless_offline room cpu) is in
           let here = made.step intervals in
           let up = when_online room cpu (picked Picked (schedule room fresh cpu)) (sym (c.is_online.ensures (beside_of intervals old) old.tasks) ∙ c.if-not-is_online.false) in
@@ -75,7 +75,7 @@ returns g c =
           let at = lane_at old.core.lanes.items cpu c.index.result.now c.requires.cpu c.index.ensures in
           let idle : (sibling_of room cpu).pending ≡ false = ap (λ (s : SiblingState). s.pending) at ∙ c.if-index.false in
           let made = ap (turn_by room fresh cpu) (sym idle)
-          ∙ when_online room cpu (turned room fresh cpu) (sym (c.is_online.ensures beside old.tasks) ∙ c.if-not-is_online.false) in
+          ∙ when_online room cpu (turn room fresh cpu) (sym (c.is_online.ensures beside old.tasks) ∙ c.if-not-is_online.false) in
           uncharged (record {
             reply = c.steal_reply.ensures ∙ tried.reply beside ∙ ap (λ (m : Stepped). m.reply) made;
             room = tried.room beside ∙ ap (λ (m : Stepped). m.room) made;

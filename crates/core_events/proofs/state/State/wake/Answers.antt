@@ -6,8 +6,8 @@ use Rattle.cs_types.specs.declared.task.TaskSpec.{TaskSpec}
 use Rattle.cs_types.specs.declared.reply.Reply.TheVariants.{Woken, NoTask, Awake}
 use Rattle.cs_types.specs.Scenario.{IsPolicy}
 use Rattle.cs_types.specs.Room.{RoomState, is_online, lowest_online}
-use Rattle.cs_types.specs.Queueing.{moved_to, rehomed, queued_at_home}
-use Rattle.cs_types.specs.Step.{Stepped, woken}
+use Rattle.cs_types.specs.Queueing.{moved_to, rehomed, queue_at_home}
+use Rattle.cs_types.specs.Step.{Stepped, wake}
 use Rattle.core_lanes.specs.Lanes.{room_of}
 use Rattle.core_lanes.proofs.Stays.{found_in, some_beside}
 use Rattle.core_events.specs.State.{beside_of, both, room_with}
@@ -55,12 +55,12 @@ returns g c =
       step = λ intervals.
           let room = room_with intervals old in
           let beside = beside_of intervals old in
-          let made : Task → Stepped = λ moved. record { reply = Woken moved.home; room = queued_at_home room moved } in
-          let is : made c.rehomed-task.result ≡ woken room (Some task) =
+          let made : Task → Stepped = λ moved. record { reply = Woken moved.home; room = queue_at_home room moved } in
+          let is : made c.rehomed-task.result ≡ wake room (Some task) =
           ap made (c.rehomed-task.ensures.rehomed beside old.tasks) ∙ sym (cond-false task.queued _ (made (rehomed room task)) c.if-task.false) in
           uncharged (record {
-            reply = ap (λ (m : Stepped). m.reply) is ∙ ap (λ found. (woken room found).reply) c.in-Some.ensures.task;
-            room = queued.room beside ∙ ap (λ (m : Stepped). m.room) is ∙ ap (λ found. (woken room found).room) c.in-Some.ensures.task;
+            reply = ap (λ (m : Stepped). m.reply) is ∙ ap (λ found. (wake room found).reply) c.in-Some.ensures.task;
+            room = queued.room beside ∙ ap (λ (m : Stepped). m.room) is ∙ ap (λ found. (wake room found).room) c.in-Some.ensures.task;
             numbers = queued.numbers;
           });
       stays = lifted old (c.queue_at_home.new.core, c.queue_at_home.new.table) queued.stays;
@@ -68,9 +68,9 @@ returns g c =
 
 pub returns-in_default : goal.returns-in_default
 returns-in_default g c = leaves_all c.args.self.now (Wake c.args.pid) NoTask (λ intervals. untouched (numbers_of c.args.self.now.core)) (λ intervals.
-    ap (woken (room_with intervals c.args.self.now)) c.in_default.ensures.task)
+    ap (wake (room_with intervals c.args.self.now)) c.in_default.ensures.task)
 
 pub returns-then-task : goal.returns-then-task
 returns-then-task g c = leaves_all c.args.self.now (Wake c.args.pid) Awake (λ intervals. untouched (numbers_of c.args.self.now.core)) (λ intervals.
     let room = room_with intervals c.args.self.now in
-    sym (cond-true c.in-Some.task.queued (record { reply = Awake; room = room }) _ c.if-task.true) ∙ ap (woken room) c.in-Some.ensures.task)
+    sym (cond-true c.in-Some.task.queued (record { reply = Awake; room = room }) _ c.if-task.true) ∙ ap (wake room) c.in-Some.ensures.task)

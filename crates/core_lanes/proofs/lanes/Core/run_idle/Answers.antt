@@ -3,7 +3,7 @@ use Rattle.std.specs.Prelude.{None}
 use Rattle.std.proofs.lemmas.List.{map-set}
 use Rattle.core_lanes.specs.Lanes.{lane_state}
 use Rattle.core_lanes.proofs.Stays.{lane_at, numbers_kept, queues_kept, alike_stays}
-use Rattle.core_lanes.proofs.lanes.Core.idle.Goals as goal
+use Rattle.core_lanes.proofs.lanes.Core.run_idle.Goals as goal
 
 pub returns : goal.returns
 returns g c table =

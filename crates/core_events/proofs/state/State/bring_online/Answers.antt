@@ -5,7 +5,7 @@ use Rattle.core_events.specs.State.{beside_of, room_with}
 use Rattle.core_events.specs.Steps.{numbers_after}
 use Rattle.core_events.proofs.States.{uncharged, lifted}
 use Rattle.core_events.proofs.Readies.{online_touches}
-use Rattle.core_events.proofs.state.State.online.Goals as goal
+use Rattle.core_events.proofs.state.State.bring_online.Goals as goal
 
 pub returns : goal.returns
 returns g c =

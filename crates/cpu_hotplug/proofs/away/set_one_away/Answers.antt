@@ -9,8 +9,8 @@ use Rattle.core_lanes.specs.Lanes.{lane_state}
 use Rattle.core_lanes.proofs.Lists.{placed_more}
 use Rattle.core_lanes.proofs.Stays.{number_of, queue_of, numbers_kept, queues_kept}
 use Rattle.cpu_hotplug.specs.Leaves.{left, beside_one_that_leaves}
-use Rattle.cpu_hotplug.proofs.away.set_away.Goals as goal
-use Rattle.cpu_hotplug.proofs.away.set_away.Goals.{then-other-cpu, else-other-cpu}
+use Rattle.cpu_hotplug.proofs.away.set_one_away.Goals as goal
+use Rattle.cpu_hotplug.proofs.away.set_one_away.Goals.{then-other-cpu, else-other-cpu}
 
 pub loop-other-init : goal.loop-other-init
 loop-other-init g c = record { states = refl; numbers = refl; queues = refl }
@@ -29,15 +29,15 @@ loop-other-preserved g c =
     let at = get_or-map lane_state lanes other read absent inside in
     elim c.if-other-cpu.branch [
       | then-other-cpu w ↦
-          let now = w.leave.new.lane in
+          let now = w.set_away.new.lane in
           let made : lane_state now ≡ left cpu (other, lane_state old) =
-          w.leave.ensures.state ∙ sym (cond-true (eqb other cpu) (away (lane_state old)) (beside_one_that_leaves (lane_state old)) (eq-eqb other cpu w.if-other-cpu.true)) in
+          w.set_away.ensures.state ∙ sym (cond-true (eqb other cpu) (away (lane_state old)) (beside_one_that_leaves (lane_state old)) (eq-eqb other cpu w.if-other-cpu.true)) in
           record {
             states = ap (map lane_state) w.lanes-is ∙ map-set lane_state lanes other now
                 ∙ placed_more (left cpu) states (map lane_state lanes) other (lane_state now) absent within c.loop-other.invariant.states
                 (made ∙ ap (λ (state : SiblingState). left cpu (other, state)) (sym at));
-            numbers = ap (map number_of) w.lanes-is ∙ numbers_kept lanes other read now is (w.leave.ensures.number ∙ ap number_of (sym is)) ∙ c.loop-other.invariant.numbers;
-            queues = ap (map queue_of) w.lanes-is ∙ queues_kept lanes other read now is (w.leave.ensures.queue ∙ ap queue_of (sym is)) ∙ c.loop-other.invariant.queues;
+            numbers = ap (map number_of) w.lanes-is ∙ numbers_kept lanes other read now is (w.set_away.ensures.number ∙ ap number_of (sym is)) ∙ c.loop-other.invariant.numbers;
+            queues = ap (map queue_of) w.lanes-is ∙ queues_kept lanes other read now is (w.set_away.ensures.queue ∙ ap queue_of (sym is)) ∙ c.loop-other.invariant.queues;
           }
       | else-other-cpu w ↦
           let now = w.stand_by.new.lane in
