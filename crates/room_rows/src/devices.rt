@@ -23,12 +23,17 @@ fn expect_read(rt: &impl Abort, source: &mut MemSource, bytes: &[u8]) {
     assert!(rt; &buf[..count] == bytes, "not {bytes:?}");
 }
 
+/// Expects that the source fails.
+fn expect_read_fault(rt: &impl Abort, source: &mut MemSource) {
+    assert!(rt; source.read(&mut [0; 3]).is_err());
+}
+
 #[test]
 fn source_fails_where_it_is_told(rt: HostRuntime) {
     let bytes = b"abcde".to_vec(rt.alloc()).expect(&rt, "room");
     let mut source = MemSource::of(bytes, 2, second(&rt));
     expect_read(&rt, &mut source, b"ab");
-    assert!(rt; source.read(&mut [0; 3]).is_err());
+    expect_read_fault(&rt, &mut source);
     expect_read(&rt, &mut source, b"cd");
     expect_read(&rt, &mut source, b"e");
     expect_read(&rt, &mut source, b"");
@@ -110,12 +115,20 @@ impl Read for Halting {
     }
 }
 
+/// Expects that a part of the piece is written or not.
+fn expect_write_some(rt: &impl Abort, device: &mut Halting, piece: &[u8], is_written: bool) {
+    assert!(rt;
+        write_some(device, piece).is_ok() == is_written,
+        "at {piece:?}"
+    );
+}
+
 #[test]
 fn interrupted_write_is_made_again(rt: HostRuntime) {
     let mut device = Halting::with_room(rt.alloc(), 2);
-    assert!(rt; write_some(&mut device, b"ab").is_ok());
-    assert!(rt; write_some(&mut device, b"b").is_ok());
-    assert!(rt; write_some(&mut device, b"c").is_err());
+    expect_write_some(&rt, &mut device, b"ab", true);
+    expect_write_some(&rt, &mut device, b"b", true);
+    expect_write_some(&rt, &mut device, b"c", false);
     assert!(rt; device.moved.as_slice() == b"ab".as_slice());
 }
 

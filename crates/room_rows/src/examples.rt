@@ -264,33 +264,51 @@ fn played<R: AllocGlobal + Abort>(rt: &R, script: Script) -> PlainRoom
     room
 }
 
-/// Expects the output of the first example and a part of its report, in pieces of 7 bytes at most. The
-/// second line of the report needs two, and the sink fails at the second of these.
-fn expect_texts<R: AllocGlobal + Abort>(rt: &R, room: &PlainRoom) {
-    let mut whole = sink_of(rt, 7, Vec::new(rt.alloc()));
-    output(room, &mut whole).expect(rt, "a sink that takes all");
-    assert!(rt; whole.bytes() == output_of(rt, FORCED_IDLE).as_slice());
-    let mut cut = sink_of(rt, 7, only(rt, 3));
-    assert!(rt; report(room, &mut cut).is_err());
-    assert!(rt; cut.bytes() == b"report\nclock 1".as_slice());
+/// Expects the output of the first example, in pieces of 7 bytes at most.
+fn expect_output<R: AllocGlobal + Abort>(rt: &R, room: &PlainRoom) {
+    let mut sink = sink_of(rt, 7, Vec::new(rt.alloc()));
+    output(room, &mut sink).expect(rt, "a sink that takes all");
+    assert!(rt; sink.bytes() == output_of(rt, FORCED_IDLE).as_slice());
+}
+
+/// Expects a part of the report of the first example. Its second line needs two pieces, and the sink
+/// fails at the second of these.
+fn expect_cut_report<R: AllocGlobal + Abort>(rt: &R, room: &PlainRoom) {
+    let mut sink = sink_of(rt, 7, only(rt, 3));
+    assert!(rt; report(room, &mut sink).is_err());
+    assert!(rt; sink.bytes() == b"report\nclock 1".as_slice());
+}
+
+/// Expects the output of the first example, and a part of its report.
+fn expect_texts<R: AllocGlobal + Abort>(rt: &R) {
+    let room = played(rt, FORCED_IDLE);
+    expect_output(rt, &room);
+    expect_cut_report(rt, &room);
 }
 
 #[test]
 fn texts_of_a_machine(rt: HostRuntime) {
-    expect_texts(&rt, &played(&rt, FORCED_IDLE));
+    expect_texts(&rt);
 }
 
-/// Expects what is common to the siblings, and each of them: what it runs, its own number, and whether it
-/// is pending.
-fn expect_core(rt: &impl Abort, room: &PlainRoom) {
-    assert!(rt; room.clock() == 6_000_000);
-    assert!(rt; room.numbers() == (7, 7));
+/// Expects what is common to the siblings.
+fn expect_common(rt: &impl Abort, room: &PlainRoom) {
+    assert!(rt; room.clock() == 6_000_000 && room.numbers() == (7, 7));
     let core = room.core();
     assert!(rt; (core.cookie, core.forced, core.occupation, core.intervals) == (0, 1, 1, 1));
-    for (place, wanted) in [(0, (0, 7, false)), (1, (0, 6, true))] {
-        let cpu = room.cpu(place).expect(rt, "a sibling");
-        assert!(rt; cpu.online && (cpu.run, cpu.number, cpu.pending) == wanted);
-    }
+}
+
+/// Expects a sibling that is online: what it runs, its own number, and whether it is pending.
+fn expect_cpu(rt: &impl Abort, room: &PlainRoom, place: Cpu, wanted: (Pid, u64, bool)) {
+    let cpu = room.cpu(place).expect(rt, "a sibling");
+    assert!(rt; cpu.online && (cpu.run, cpu.number, cpu.pending) == wanted);
+}
+
+/// Expects what is common to the siblings, and each of them.
+fn expect_core(rt: &impl Abort, room: &PlainRoom) {
+    expect_common(rt, room);
+    expect_cpu(rt, room, 0, (0, 7, false));
+    expect_cpu(rt, room, 1, (0, 6, true));
     assert!(rt; room.cpu(2).is_none());
 }
 
@@ -334,12 +352,17 @@ fn expect_tasks(rt: &impl Abort, room: &PlainRoom) {
     assert!(rt; room.task_after(2).is_none());
 }
 
+/// Expects the siblings, the tasks and the end of an example.
+fn expect_views<R: AllocGlobal + Abort>(rt: &R) {
+    let mut room = played(rt, FORCED_IDLE_TICK);
+    expect_core(rt, &room);
+    expect_tasks(rt, &room);
+    expect_end(rt, &mut room);
+}
+
 #[test]
 fn views_of_a_machine(rt: HostRuntime) {
-    let mut room = played(&rt, FORCED_IDLE_TICK);
-    expect_core(&rt, &room);
-    expect_tasks(&rt, &room);
-    expect_end(&rt, &mut room);
+    expect_views(&rt);
 }
 
 /// Expects this task at the place of its end: its pid, and its total of forced idle in ns.
@@ -348,22 +371,51 @@ fn expect_ended(rt: &impl Abort, room: &PlainRoom, place: u64, wanted: (Pid, u64
     assert!(rt; (ended.pid, ended.forced) == wanted);
 }
 
-/// Expects that two children ended and are no tasks any more, and that the one that lives has its cookie
-/// still.
-fn expect_children(rt: &impl Abort, room: &PlainRoom) {
-    expect_ended(rt, room, 0, (2, 0));
-    expect_ended(rt, room, 1, (3, 0));
-    assert!(rt; room.ended(2).is_none());
-    expect_task(rt, room, 0, false, (1, 0, 1, 0, 0));
-    assert!(rt; room.task_after(1).is_none());
+/// Expects that the tasks with these pids and totals have ended, in this order, and no more.
+fn expect_ends(rt: &impl Abort, room: &PlainRoom, wanted: &[(Pid, u64)]) {
+    for (place, ended) in wanted.iter().enumerate() {
+        expect_ended(rt, room, place as u64, *ended);
+    }
+    assert!(rt; room.ended(wanted.len() as u64).is_none());
 }
 
+/// Expects this task, as `expect_task` does, and no other.
+fn expect_one_task(
+    rt: &impl Abort,
+    room: &PlainRoom,
+    is_queued: bool,
+    wanted: (Pid, Cpu, Cookie, u64, u128),
+) {
+    expect_task(rt, room, 0, is_queued, wanted);
+    assert!(rt; room.task_after(wanted.0).is_none());
+}
+
+/// Expects that these tasks of a script have ended, and are no tasks any more, and that this one lives.
+fn expect_one_alive<R: AllocGlobal + Abort>(
+    rt: &R,
+    script: Script,
+    ended: &[(Pid, u64)],
+    is_queued: bool,
+    task: (Pid, Cpu, Cookie, u64, u128),
+) {
+    let room = played(rt, script);
+    expect_ends(rt, &room, ended);
+    expect_one_task(rt, &room, is_queued, task);
+}
+
+// The one that lives has its cookie still.
 #[test]
 fn children_that_ended(rt: HostRuntime) {
-    expect_children(&rt, &played(&rt, FORK_AND_EXIT));
+    expect_one_alive(
+        &rt,
+        FORK_AND_EXIT,
+        &[(2, 0), (3, 0)],
+        false,
+        (1, 0, 1, 0, 0),
+    );
 }
 
 #[test]
 fn task_that_ended(rt: HostRuntime) {
-    expect_ended(&rt, &played(&rt, CHARGED_AT_EXIT), 0, (1, 10));
+    expect_one_alive(&rt, CHARGED_AT_EXIT, &[(1, 10)], true, (2, 1, 2, 0, 0));
 }

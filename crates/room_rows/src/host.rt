@@ -1,8 +1,10 @@
 //! A host as one would find it: two guests of four tasks each, each guest under one cookie, and a task that
 //! keeps house, over 220 rounds in which each sibling ticks and takes its turn.
 
+ghost use Rattle.std.specs.Prelude.{◌≡◌};
+
 use crate::commands::{source_of, words_of};
-use cs_outside::MemSink;
+use cs_outside::{MemSink, MemSource};
 use scenario_runner::{Status, run};
 use std::alloc::{AllocError, Global};
 use std::process::Abort;
@@ -59,14 +61,28 @@ fn expect_host(rt: &impl Abort, output: &str) {
     assert!(rt; report.starts_with("clock 220000000\n"));
 }
 
+/// Expects that a replay over these devices is done.
+fn expect_done<R: AllocGlobal + Abort>(rt: &R, source: &mut MemSource, sink: &mut MemSink)
+    requires source { source.old.faults ≡ 0 }
+    requires sink { sink.old.faults ≡ 0 }
+{
+    let words = words_of(rt.alloc(), &["replay"]).expect(rt, "room");
+    assert!(rt; run(rt, &words, source, sink) == Status::Done);
+}
+
+/// The sink of a replay of the host's text.
+fn replayed<R: AllocGlobal + Abort>(rt: &R) -> MemSink {
+    let text = text_of_host(rt.alloc()).expect(rt, "room");
+    let mut source = source_of(rt, &text, 65_536, Vec::new(rt.alloc()));
+    let mut sink = MemSink::of(rt.alloc(), 131_072, 131_072, Vec::new(rt.alloc())).expect(
+        rt, "room",
+    );
+    expect_done(rt, &mut source, &mut sink);
+    sink
+}
+
 #[test]
 fn host_of_two_guests(rt: HostRuntime) {
-    let text = text_of_host(rt.alloc()).expect(&rt, "room");
-    let mut source = source_of(&rt, &text, 65_536, Vec::new(rt.alloc()));
-    let mut sink = MemSink::of(rt.alloc(), 131_072, 131_072, Vec::new(rt.alloc())).expect(
-        &rt, "room",
-    );
-    let words = words_of(rt.alloc(), &["replay"]).expect(&rt, "room");
-    assert!(rt; run(&rt, &words, &mut source, &mut sink) == Status::Done);
+    let sink = replayed(&rt);
     expect_host(&rt, str::from_utf8(sink.bytes()).expect(&rt, "a text"));
 }

@@ -1,6 +1,7 @@
 //! The lines of entries: whole, in one piece, and up to a fault.
 
 use crate::commands::{only, sink_of};
+use cs_outside::MemSink;
 use cs_types::{Actor, Ask, Cookie, Entry, Errno, Event, Kind, Pick, Pid, Reply};
 use scenario_text::entry_text;
 use std::process::Abort;
@@ -274,12 +275,22 @@ fn lines_of_forks(rt: HostRuntime) {
     );
 }
 
+/// Expects that the entry's line is written whole or not, and that the sink then has this text.
+fn expect_written(
+    rt: &impl Abort,
+    sink: &mut MemSink,
+    entry: &Entry,
+    is_written: bool,
+    text: &str,
+) {
+    let is_whole = entry_text(entry, sink).is_ok();
+    assert!(rt; is_whole == is_written && sink.bytes() == text.as_bytes());
+}
+
 #[test]
 fn fails_where_the_sink_does(rt: HostRuntime) {
     let mut sink = sink_of(&rt, 7, only(&rt, 2));
     let entry = wake(0, 1, Reply::Woken(0));
-    assert!(rt; entry_text(&entry, &mut sink).is_err());
-    assert!(rt; sink.bytes() == b"c0 wake".as_slice());
-    assert!(rt; entry_text(&entry, &mut sink).is_ok());
-    assert!(rt; sink.bytes() == b"c0 wakec0 wake 1: Woken 0\n".as_slice());
+    expect_written(&rt, &mut sink, &entry, false, "c0 wake");
+    expect_written(&rt, &mut sink, &entry, true, "c0 wakec0 wake 1: Woken 0\n");
 }

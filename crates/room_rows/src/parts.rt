@@ -67,54 +67,27 @@ fn three_tasks<R: AllocGlobal + Abort>(rt: &R) -> TaskTable
     table
 }
 
-#[test]
-fn tasks_of_a_table(rt: HostRuntime) {
-    let table = three_tasks(&rt);
+/// Expects the pids of the three tasks, in their order.
+fn expect_pids(rt: &impl Abort, table: &TaskTable) {
     assert!(rt; table.len() == 3);
     assert!(rt; table.iter().map(|task| task.spec.pid).eq([1, 2, 3]));
 }
 
-#[test]
-fn task_that_was_added(rt: HostRuntime) {
-    let table = three_tasks(&rt);
-    let task = table.find(2).expect(&rt, "a task");
+/// Expects task 2 as it was added.
+fn expect_added(rt: &impl Abort, table: &TaskTable) {
+    let task = table.find(2).expect(rt, "a task");
     assert!(rt; (task.spec.tgid, task.home, task.queued) == (1, 1, false));
     assert!(rt; (task.cookie, task.stamp, task.occupation) == (0, 0, 0));
 }
 
-#[test]
-fn tasks_by_their_places(rt: HostRuntime) {
-    let table = three_tasks(&rt);
-    assert!(rt; table.at(2).expect(&rt, "the last").spec.pid == 3);
+/// Expects that the last place is the third.
+fn expect_last(rt: &impl Abort, table: &TaskTable) {
+    assert!(rt; table.at(2).expect(rt, "the last").spec.pid == 3);
     assert!(rt; table.at(3).is_none());
 }
 
-#[test]
-fn tasks_that_are_not_added(rt: HostRuntime) {
-    let mut table = three_tasks(&rt);
-    let twice = table.add(spec(2, 2, 2));
-    assert!(rt; matches!(twice, Err(AddFault::Twice(2))));
-    let full = table.add(spec(4, 4, 4));
-    assert!(rt; matches!(full, Err(AddFault::Full(3))));
-    assert!(rt; table.len() == 3);
-}
-
-#[test]
-fn tasks_that_change(rt: HostRuntime) {
-    let mut table = three_tasks(&rt);
-    let task = *table.find(2).expect(&rt, "a task");
-    let old = table.change(Task { cookie: 7, ..task });
-    assert!(rt; matches!(old, Some(Task { cookie: 0, .. })));
-    let removed = table.remove(2);
-    assert!(rt; matches!(removed, Some(Task { cookie: 7, .. })));
-    assert!(rt; table.find(2).is_none());
-    assert!(rt; table.remove(2).is_none());
-    assert!(rt; table.len() == 2);
-}
-
-#[test]
-fn tasks_of_a_group(rt: HostRuntime) {
-    let table = three_tasks(&rt);
+/// Expects the next task of each group.
+fn expect_groups(rt: &impl Abort, table: &TaskTable) {
     for (group, after, next) in [
         (Group::All, 0, Some(1)),
         (Group::All, 2, Some(3)),
@@ -125,6 +98,48 @@ fn tasks_of_a_group(rt: HostRuntime) {
     ] {
         assert!(rt; table.next_in(group, after) == next, "after {after}");
     }
+}
+
+#[test]
+fn tasks_of_a_table(rt: HostRuntime) {
+    let table = three_tasks(&rt);
+    expect_pids(&rt, &table);
+    expect_added(&rt, &table);
+    expect_last(&rt, &table);
+    expect_groups(&rt, &table);
+}
+
+/// Expects that no second task 2 is added, and none beyond the limit.
+fn expect_not_added(rt: &impl Abort, table: &mut TaskTable) {
+    let twice = table.add(spec(2, 2, 2));
+    assert!(rt; matches!(twice, Err(AddFault::Twice(2))));
+    let full = table.add(spec(4, 4, 4));
+    assert!(rt; matches!(full, Err(AddFault::Full(3))));
+    assert!(rt; table.len() == 3);
+}
+
+/// Expects that task 2 changes.
+fn expect_changed(rt: &impl Abort, table: &mut TaskTable) {
+    let task = *table.find(2).expect(rt, "a task");
+    let old = table.change(Task { cookie: 7, ..task });
+    assert!(rt; matches!(old, Some(Task { cookie: 0, .. })));
+}
+
+/// Expects that task 2 is removed as it was changed.
+fn expect_removed(rt: &impl Abort, table: &mut TaskTable) {
+    let removed = table.remove(2);
+    assert!(rt; matches!(removed, Some(Task { cookie: 7, .. })));
+    assert!(rt; table.find(2).is_none());
+    assert!(rt; table.remove(2).is_none());
+    assert!(rt; table.len() == 2);
+}
+
+#[test]
+fn tasks_that_change(rt: HostRuntime) {
+    let mut table = three_tasks(&rt);
+    expect_not_added(&rt, &mut table);
+    expect_changed(&rt, &mut table);
+    expect_removed(&rt, &mut table);
 }
 
 /// Expects that the fault is told by this text.
@@ -223,16 +238,23 @@ fn parts<R: AllocGlobal + Abort>(rt: &R) -> (TaskTable, CookieRefs)
     (table, refs)
 }
 
+/// The plan of a call of task 1 where no cookie lives yet, how many live then, and the references to
+/// cookie 1.
+fn planned<R: AllocGlobal + Abort>(rt: &R, ask: Ask) -> (Planned, u16, u32) {
+    let (table, mut refs) = parts(rt);
+    let planned = plan(&table, &mut refs, &mut Guards::none(), 2, 65_536, 1, &ask);
+    (planned, refs.live(), refs.count(1))
+}
+
 #[test]
 fn plan_of_a_create(rt: HostRuntime) {
-    let (table, mut refs) = parts(&rt);
     let ask = Ask {
         cmd: 1,
         pid: 0,
         scope: 1,
         addr: 0,
     };
-    let planned = plan(&table, &mut refs, &mut Guards::none(), 2, 65_536, 1, &ask);
+    let (planned, _, references) = planned(&rt, ask);
     assert!(rt;
         matches!(
             planned,
@@ -243,19 +265,18 @@ fn plan_of_a_create(rt: HostRuntime) {
             })
         )
     );
-    assert!(rt; refs.count(1) == 1);
+    assert!(rt; references == 1);
 }
 
 #[test]
 fn plan_of_a_get(rt: HostRuntime) {
-    let (table, mut refs) = parts(&rt);
     let ask = Ask {
         cmd: 0,
         pid: 3,
         scope: 0,
         addr: 4096,
     };
-    let planned = plan(&table, &mut refs, &mut Guards::none(), 2, 65_536, 1, &ask);
+    let (planned, ..) = planned(&rt, ask);
     assert!(rt;
         matches!(
             planned,
@@ -270,16 +291,15 @@ fn plan_of_a_get(rt: HostRuntime) {
 
 #[test]
 fn plan_without_a_target(rt: HostRuntime) {
-    let (table, mut refs) = parts(&rt);
     let ask = Ask {
         cmd: 1,
         pid: 9,
         scope: 0,
         addr: 0,
     };
-    let planned = plan(&table, &mut refs, &mut Guards::none(), 2, 65_536, 1, &ask);
+    let (planned, live, _) = planned(&rt, ask);
     assert!(rt; matches!(planned, Planned::Answer(Reply::Refused(Errno::Esrch))));
-    assert!(rt; refs.live() == 0);
+    assert!(rt; live == 0);
 }
 
 /// What comes of a fork of a thread with this pid, which no task has.
@@ -319,26 +339,43 @@ fn end_task<R: AllocGlobal + Abort>(
     end(table, refs, pid)
 }
 
-#[test]
-fn tasks_that_end(rt: HostRuntime) {
-    let (mut table, mut refs) = parts(&rt);
-    let full = fork_thread(&rt, &mut table, &mut refs, 1, 4);
+/// Expects that task 1 forks none at the limit and does not end, and that task 3 does.
+fn expect_end<R: AllocGlobal + Abort>(rt: &R, table: &mut TaskTable, refs: &mut CookieRefs)
+    requires agree { Agree refs.old table.old.tasks }
+    requires limit { table.old.limit ≡ 3 }
+    ensures agree { Agree refs.new table.new.tasks }
+    ensures limit { table.new.limit ≡ 3 }
+{
+    let full = fork_thread(rt, table, refs, 1, 4);
     assert!(rt; matches!(full, Err(ForkFault::Eagain)));
-    let led = end_task(&rt, &mut table, &mut refs, 1);
+    let led = end_task(rt, table, refs, 1);
     assert!(rt; matches!(led, Err(HasThreads)));
-    let ended = end_task(&rt, &mut table, &mut refs, 3).expect(&rt, "an end");
+    let ended = end_task(rt, table, refs, 3).expect(rt, "an end");
     assert!(rt; ended.spec.pid == 3 && table.len() == 2);
 }
 
-#[test]
-fn tasks_that_fork(rt: HostRuntime) {
-    let (mut table, mut refs) = parts(&rt);
-    end_task(&rt, &mut table, &mut refs, 3).expect(&rt, "an end");
-    let nobody = fork_thread(&rt, &mut table, &mut refs, 3, 4);
+/// Expects that task 3, which has ended, forks none, and that task 2 does.
+fn expect_child<R: AllocGlobal + Abort>(rt: &R, table: &mut TaskTable, refs: &mut CookieRefs)
+    requires agree { Agree refs.old table.old.tasks }
+    requires limit { table.old.limit ≡ 3 }
+{
+    let nobody = fork_thread(rt, table, refs, 3, 4);
     assert!(rt; matches!(nobody, Err(ForkFault::NoCaller)));
-    fork_thread(&rt, &mut table, &mut refs, 2, 4).expect(&rt, "a child");
-    let child = table.find(4).expect(&rt, "the child");
+    fork_thread(rt, table, refs, 2, 4).expect(rt, "a child");
+    let child = table.find(4).expect(rt, "the child");
     assert!(rt; (child.spec.tgid, child.home, child.queued) == (1, 1, false));
+}
+
+#[test]
+fn tasks_that_end_and_fork(rt: HostRuntime) {
+    let (mut table, mut refs) = parts(&rt);
+    expect_end(&rt, &mut table, &mut refs);
+    expect_child(&rt, &mut table, &mut refs);
+}
+
+/// Expects this account: how many siblings are forced idle, and how many run a task.
+fn expect_account(rt: &impl Abort, account: &ForceIdle, count: u8, occupation: u8) {
+    assert!(rt; account.count() == count && account.occupation() == occupation);
 }
 
 /// Expects this share of an interval that begins at 0 and is charged at `now`, in ns. None is charged
@@ -356,11 +393,11 @@ fn expect_share(
 {
     let mut account = ForceIdle::closed();
     account.begin(core, count, occupation, 0);
-    assert!(rt; account.count() == count && account.occupation() == occupation);
+    expect_account(rt, &account, count, occupation);
     assert!(rt; account.charge(now) == wanted);
     assert!(rt; account.intervals() == wanted.is_some() as u64);
     account.close();
-    assert!(rt; account.count() == 0 && account.occupation() == 0);
+    expect_account(rt, &account, 0, 0);
     assert!(rt; account.charge(now).is_none());
 }
 

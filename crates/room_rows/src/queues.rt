@@ -42,22 +42,38 @@ fn ranks(rt: HostRuntime) {
     assert!(rt; fair_queue::rank(3056) == 3056);
 }
 
+/// Puts two tasks in a queue without tasks, the one of the greater rank first.
+fn put_two<L: Ledger, R: Abort, Q: ClassQueue>(rt: &R, queue: &mut Q, steps: &mut Steps<L>)
+    requires { Q.members queue.old ≡ empty }
+{
+    queue.reserve(2).expect(rt, "room");
+    queue.put(20, 1, 7, steps);
+    queue.put(10, 2, 8, steps);
+}
+
+/// Expects that the task with this pid is the first, and takes it out from the key.
+fn expect_top<L: Ledger, R: Abort, Q: ClassQueue>(
+    rt: &R,
+    queue: &mut Q,
+    (rank, stamp): (u128, u64),
+    pid: Pid,
+    steps: &mut Steps<L>,
+) {
+    assert!(rt; queue.top(steps) == Some(pid));
+    assert!(rt; queue.take(rank, stamp, steps));
+    assert!(rt; !queue.take(rank, stamp, steps));
+}
+
 /// Expects that a queue without tasks takes two, has the one of the smaller rank before the earlier one,
 /// and gives both back.
 fn expect_two<L: Ledger, R: Abort, Q: ClassQueue>(rt: &R, mut queue: Q, steps: &mut Steps<L>)
     requires { Q.members queue ≡ empty }
 {
-    queue.reserve(2).expect(rt, "room");
-    queue.put(20, 1, 7, steps);
-    queue.put(10, 2, 8, steps);
+    put_two(rt, &mut queue, steps);
     assert!(rt; queue.len() == 2);
-    assert!(rt; queue.top(steps) == Some(8));
-    assert!(rt; queue.take(10, 2, steps));
-    assert!(rt; !queue.take(10, 2, steps));
-    assert!(rt; queue.top(steps) == Some(7));
-    assert!(rt; queue.take(20, 1, steps));
-    assert!(rt; queue.top(steps).is_none());
-    assert!(rt; queue.len() == 0);
+    expect_top(rt, &mut queue, (10, 2), 8, steps);
+    expect_top(rt, &mut queue, (20, 1), 7, steps);
+    assert!(rt; queue.top(steps).is_none() && queue.len() == 0);
 }
 
 /// A task with this pid, of this class, at rank 5, whose stamp is its pid.
@@ -74,35 +90,45 @@ fn queued(pid: Pid, class: u8) -> Queued
     }
 }
 
-/// Expects that this task is the first, and takes it out.
-fn expect_first<L: Ledger, R: Abort>(
+/// A run queue with a task of each class, the lowest class first.
+fn queue_of_each_class<L: Ledger, R: AllocGlobal + Abort>(
     rt: &R,
-    queue: &mut RunQueue,
-    task: Queued,
     steps: &mut Steps<L>,
-)
-    requires { task.class ≤ fair_class }
-{
-    assert!(rt; queue.first(steps) == Some(task.pid));
-    assert!(rt; queue.dequeue(&task, steps));
-    assert!(rt; !queue.dequeue(&task, steps));
-}
-
-/// Expects that a run queue gives a task of each class back, the highest class first.
-fn expect_each_class<L: Ledger, R: AllocGlobal + Abort>(rt: &R, steps: &mut Steps<L>) {
+) -> RunQueue {
     let mut queue = RunQueue::empty(rt.alloc());
     queue.reserve(4).expect(rt, "room");
     queue.enqueue(queued(1, Queued::FAIR), steps);
     queue.enqueue(queued(2, Queued::REAL_TIME), steps);
     queue.enqueue(queued(3, Queued::DEADLINE), steps);
     queue.enqueue(queued(4, Queued::STOP), steps);
+    queue
+}
+
+/// Expects that the task with this pid, of this class, is the first, and takes it out.
+fn expect_first<L: Ledger, R: Abort>(
+    rt: &R,
+    queue: &mut RunQueue,
+    pid: Pid,
+    class: u8,
+    steps: &mut Steps<L>,
+)
+    requires { class ≤ fair_class }
+{
+    let task = queued(pid, class);
+    assert!(rt; queue.first(steps) == Some(pid));
+    assert!(rt; queue.dequeue(&task, steps));
+    assert!(rt; !queue.dequeue(&task, steps));
+}
+
+/// Expects that a run queue gives a task of each class back, the highest class first.
+fn expect_each_class<L: Ledger, R: AllocGlobal + Abort>(rt: &R, steps: &mut Steps<L>) {
+    let mut queue = queue_of_each_class(rt, steps);
     assert!(rt; queue.count() == 4);
-    expect_first(rt, &mut queue, queued(4, Queued::STOP), steps);
-    expect_first(rt, &mut queue, queued(3, Queued::DEADLINE), steps);
-    expect_first(rt, &mut queue, queued(2, Queued::REAL_TIME), steps);
-    expect_first(rt, &mut queue, queued(1, Queued::FAIR), steps);
-    assert!(rt; queue.first(steps).is_none());
-    assert!(rt; queue.count() == 0);
+    expect_first(rt, &mut queue, 4, Queued::STOP, steps);
+    expect_first(rt, &mut queue, 3, Queued::DEADLINE, steps);
+    expect_first(rt, &mut queue, 2, Queued::REAL_TIME, steps);
+    expect_first(rt, &mut queue, 1, Queued::FAIR, steps);
+    assert!(rt; queue.first(steps).is_none() && queue.count() == 0);
 }
 
 /// Expects that each queue does so. The ledger of the blank is the one in which their steps are counted.

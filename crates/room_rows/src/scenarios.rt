@@ -9,6 +9,17 @@ use std::process::Abort;
 const TEXT: &[u8] =
     b"coresched 1\nsiblings 2\nlimits 8 8 65536\ntask 1 1 1 0 fifo:10 1000 1000 1000 1000 1000 1000 0 1 1\ntask 2 2 2 0 fifo:10 1000 1000 1000 1000 1000 1000 0 1 1\ntask 3 3 3 0 fifo:20 1000 1000 1000 1000 1000 1000 0 1 1\nstep c0 wake 1\nstep c0 wake 2\nstep s0 turn\nstep c0 wake 3\nstep s0 turn\nstep s0 block\nend\n";
 
+/// How many tasks and how many steps the scenario of a text has. The name says which text it is.
+fn counts_of<R: AllocGlobal + Abort>(rt: &R, text: &[u8], name: &str) -> (usize, usize) {
+    let scenario = read(rt.alloc(), text).expect(rt, name);
+    (scenario.tasks.items().len(), scenario.steps.items().len())
+}
+
+#[test]
+fn counts_of_a_scenario(rt: HostRuntime) {
+    assert!(rt; counts_of(&rt, TEXT, "a scenario") == (3, 6));
+}
+
 #[test]
 fn reads_a_scenario(rt: HostRuntime) {
     let scenario = read(rt.alloc(), TEXT).expect(&rt, "a scenario");
@@ -24,8 +35,6 @@ fn reads_a_scenario(rt: HostRuntime) {
             }
         )
     );
-    assert!(rt; scenario.tasks.items().len() == 3);
-    assert!(rt; scenario.steps.items().len() == 6);
 }
 
 // What is written to the items of a list stays in it.
@@ -158,24 +167,24 @@ fn text_of(alloc: Global, head: &str, rest: &str) -> Result<Vec<u8>, AllocError>
     Ok(text)
 }
 
-/// The scenario of the head, one line and an end.
-fn read_line<R: AllocGlobal + Abort>(rt: &R, line: &str) -> Scenario {
+/// How many tasks and how many steps the scenario of the head, one line and an end has.
+fn counts_with<R: AllocGlobal + Abort>(rt: &R, line: &str) -> (usize, usize) {
     let mut text = text_of(rt.alloc(), HEAD, line).expect(rt, "room");
     text.extend_from_slice(b"\nend\n").expect(rt, "room");
-    read(rt.alloc(), &text).expect(rt, line)
+    counts_of(rt, &text, line)
 }
 
 #[test]
 fn reads_steps(rt: HostRuntime) {
     for line in STEPS.lines() {
-        assert!(rt; read_line(&rt, line).steps.items().len() == 1);
+        assert!(rt; counts_with(&rt, line).1 == 1);
     }
 }
 
 #[test]
 fn reads_policies(rt: HostRuntime) {
     for line in POLICIES.lines() {
-        assert!(rt; read_line(&rt, line).tasks.items().len() == 2);
+        assert!(rt; counts_with(&rt, line).0 == 2);
     }
 }
 
@@ -189,12 +198,17 @@ fn is_refused(alloc: Global, text: &[u8]) -> bool {
     )
 }
 
-/// Expects that each of these texts is refused behind the head. Before its colon stands the rule that it breaks.
+/// Expects that a text is refused behind the head. Before its colon stands the rule that it breaks.
+fn expect_refused_line<R: AllocGlobal + Abort>(rt: &R, head: &str, line: &str) {
+    let (rule, rest) = line.split_once(':').expect(rt, line);
+    let text = text_of(rt.alloc(), head, rest).expect(rt, "room");
+    assert!(rt; is_refused(rt.alloc(), &text), "{rule}");
+}
+
+/// Expects that each of these texts is refused behind the head.
 fn expect_refused<R: AllocGlobal + Abort>(rt: &R, head: &str, texts: &str) {
     for line in texts.lines() {
-        let (rule, rest) = line.split_once(':').expect(rt, line);
-        let text = text_of(rt.alloc(), head, rest).expect(rt, "room");
-        assert!(rt; is_refused(rt.alloc(), &text), "{rule}");
+        expect_refused_line(rt, head, line);
     }
 }
 
@@ -218,8 +232,7 @@ fn text_of_steps(alloc: Global, count: usize) -> Result<Vec<u8>, AllocError> {
 #[test]
 fn reads_100000_steps(rt: HostRuntime) {
     let text = text_of_steps(rt.alloc(), 100_000).expect(&rt, "room");
-    let scenario = read(rt.alloc(), &text).expect(&rt, "a scenario");
-    assert!(rt; scenario.steps.items().len() == 100_000);
+    assert!(rt; counts_of(&rt, &text, "a scenario").1 == 100_000);
 }
 
 #[test]

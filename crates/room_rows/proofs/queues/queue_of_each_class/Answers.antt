@@ -1,7 +1,7 @@
 use Rattle.std.specs.FinMap.{get-empty, get-insert}
 use Rattle.cs_types.specs.Queue.{seat_cmp}
 use Rattle.cs_types.proofs.Queues.{seat_total}
-use Rattle.room_rows.proofs.queues.expect_each_class.Goals as goal
+use Rattle.room_rows.proofs.queues.queue_of_each_class.Goals as goal
 
 pub enqueue-requires-clause-free : goal.enqueue-requires-clause-free
 enqueue-requires-clause-free g c = rw (c.reserve.ensures.tasks, c.empty-queue.ensures.tasks) (get-empty seat_cmp _)

@@ -1,7 +1,7 @@
 use Rattle.std.specs.FinMap.{get-empty, get-insert}
 use Rattle.cs_types.specs.Queue.{key_cmp}
 use Rattle.cs_types.proofs.Queues.{key_total}
-use Rattle.room_rows.proofs.queues.expect_two.Goals as goal
+use Rattle.room_rows.proofs.queues.put_two.Goals as goal
 
 pub put-requires-clause-free : goal.put-requires-clause-free
 put-requires-clause-free g c = rw (c.reserve.ensures.members, c.requires) (get-empty key_cmp (20, 1))
