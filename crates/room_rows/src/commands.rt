@@ -99,12 +99,6 @@ pub fn sink_of<R: AllocGlobal + Abort>(rt: &R, most: usize, fails: Vec<u64>) -> 
     MemSink::of(rt.alloc(), 4096, most, fails).expect(rt, "room")
 }
 
-/// Expects that a command ended so, and wrote these bytes.
-fn expect_end(rt: &impl Abort, status: Status, wanted: Status, sink: &MemSink, output: &[u8]) {
-    assert!(rt; status == wanted);
-    assert!(rt; sink.bytes() == output);
-}
-
 /// Expects that `run` ends so over these devices, and has written these bytes.
 fn expect_run<R: AllocGlobal + Abort>(
     rt: &R,
@@ -118,8 +112,8 @@ fn expect_run<R: AllocGlobal + Abort>(
     requires sink { sink.old.faults ≡ 0 }
 {
     let words = words_of(rt.alloc(), texts).expect(rt, "room");
-    let status = run(rt, &words, source, sink);
-    expect_end(rt, status, wanted, sink, output);
+    assert!(rt; run(rt, &words, source, sink) == wanted);
+    assert!(rt; sink.bytes() == output);
 }
 
 /// Expects that the stored run is written whole, in this many calls that take at most `most` bytes.
@@ -159,9 +153,8 @@ fn expect_replay<R: AllocGlobal + Abort>(
     let mut source = source_of(rt, INPUT.as_bytes(), 1, only(rt, read));
     let mut sink = sink_of(rt, 4096, only(rt, write));
     let words = words_of(rt.alloc(), &["replay"]).expect(rt, "room");
-    let status = replay(rt.alloc(), &words, &mut source, &mut sink);
-    let output = joined(rt.alloc(), lines).expect(rt, "room");
-    expect_end(rt, status, wanted, &sink, &output);
+    assert!(rt; replay(rt.alloc(), &words, &mut source, &mut sink) == wanted);
+    assert!(rt; sink.bytes() == joined(rt.alloc(), lines).expect(rt, "room").as_slice());
 }
 
 #[test]

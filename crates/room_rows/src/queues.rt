@@ -64,16 +64,22 @@ fn expect_top<L: Ledger, R: Abort, Q: ClassQueue>(
     assert!(rt; !queue.take(rank, stamp, steps));
 }
 
+/// Expects the two tasks of a queue, the one of the smaller rank before the earlier one, and takes both
+/// out.
+fn expect_both<L: Ledger, R: Abort, Q: ClassQueue>(rt: &R, queue: &mut Q, steps: &mut Steps<L>) {
+    assert!(rt; queue.len() == 2);
+    expect_top(rt, queue, (10, 2), 8, steps);
+    expect_top(rt, queue, (20, 1), 7, steps);
+    assert!(rt; queue.top(steps).is_none() && queue.len() == 0);
+}
+
 /// Expects that a queue without tasks takes two, has the one of the smaller rank before the earlier one,
 /// and gives both back.
 fn expect_two<L: Ledger, R: Abort, Q: ClassQueue>(rt: &R, mut queue: Q, steps: &mut Steps<L>)
     requires { Q.members queue ≡ empty }
 {
     put_two(rt, &mut queue, steps);
-    assert!(rt; queue.len() == 2);
-    expect_top(rt, &mut queue, (10, 2), 8, steps);
-    expect_top(rt, &mut queue, (20, 1), 7, steps);
-    assert!(rt; queue.top(steps).is_none() && queue.len() == 0);
+    expect_both(rt, &mut queue, steps);
 }
 
 /// A task with this pid, of this class, at rank 5, whose stamp is its pid.
@@ -120,15 +126,20 @@ fn expect_first<L: Ledger, R: Abort>(
     assert!(rt; !queue.dequeue(&task, steps));
 }
 
+/// Expects the tasks of such a run queue, the highest class first, and takes them out.
+fn expect_classes<L: Ledger, R: Abort>(rt: &R, queue: &mut RunQueue, steps: &mut Steps<L>) {
+    assert!(rt; queue.count() == 4);
+    expect_first(rt, queue, 4, Queued::STOP, steps);
+    expect_first(rt, queue, 3, Queued::DEADLINE, steps);
+    expect_first(rt, queue, 2, Queued::REAL_TIME, steps);
+    expect_first(rt, queue, 1, Queued::FAIR, steps);
+    assert!(rt; queue.first(steps).is_none() && queue.count() == 0);
+}
+
 /// Expects that a run queue gives a task of each class back, the highest class first.
 fn expect_each_class<L: Ledger, R: AllocGlobal + Abort>(rt: &R, steps: &mut Steps<L>) {
     let mut queue = queue_of_each_class(rt, steps);
-    assert!(rt; queue.count() == 4);
-    expect_first(rt, &mut queue, 4, Queued::STOP, steps);
-    expect_first(rt, &mut queue, 3, Queued::DEADLINE, steps);
-    expect_first(rt, &mut queue, 2, Queued::REAL_TIME, steps);
-    expect_first(rt, &mut queue, 1, Queued::FAIR, steps);
-    assert!(rt; queue.first(steps).is_none() && queue.count() == 0);
+    expect_classes(rt, &mut queue, steps);
 }
 
 /// Expects that each queue does so. The ledger of the blank is the one in which their steps are counted.
