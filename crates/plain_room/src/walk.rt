@@ -1,9 +1,7 @@
 //! The queue that is none: each question is answered by a walk over the table.
 
-ghost use Rattle.std.specs.Prelude.{◌≡◌, ◌≤◌, ◌==◌, ◌&&◌, true, length};
-ghost use Rattle.std.specs.Option.{option_map_or};
-ghost use Rattle.cs_types.specs.Order.{goes_before, first_of};
-ghost use Rattle.core_lanes.specs.Queued.{queued_among, with_cookie, behind, is_peer_of, count_before};
+ghost use Rattle.std.specs.Prelude.{◌≡◌, ◌≤◌, ◌==◌, ◌&&◌, length};
+ghost use Rattle.core_lanes.specs.Queued.{queued_among, is_peer_of, count_before};
 
 use core_lanes::{SiblingQueue, Stamps, goes_before, is_fair, priority_of};
 use cs_types::{Cookie, Cpu, OutOfMemory, Steps, Task};
@@ -21,45 +19,6 @@ fn is_peer_of(task: &Task, other: &Task) -> bool
 {
     task.spec.policy.class().number() == other.spec.policy.class().number()
         && priority_of(task.spec.policy) == priority_of(other.spec.policy)
-}
-
-/// Whether the task has the cookie and stands behind the other task, where these are given.
-fn is_asked(task: &Task, cookie: Option<Cookie>, ahead: Option<Task>) -> bool
-    ensures { result ≡ (option_map_or (λ cookie. task.now.cookie == cookie) cookie true
-        && option_map_or (λ other. goes_before other task.now) ahead true) }
-{
-    if let Some(cookie) = cookie {
-        if task.cookie != cookie {
-            return false;
-        }
-    }
-    match ahead {
-        Some(ahead) => goes_before(&ahead, task),
-        None => true,
-    }
-}
-
-/// The first of the tasks queued on the sibling that have the cookie and stand behind the other task, where these
-/// are given.
-fn first_asked(
-    table: &TaskTable,
-    cpu: Cpu,
-    cookie: Option<Cookie>,
-    ahead: Option<Task>,
-) -> Option<Task>
-    ensures { let queued = queued_among table.now.tasks cpu in
-        let asked = option_map_or (λ cookie. with_cookie cookie queued) cookie queued in
-        result ≡ first_of (option_map_or (λ other. behind other asked) ahead asked) }
-{
-    table
-        .iter()
-        .copied()
-        .filter(|task| task.queued && task.home == cpu && is_asked(task, cookie, ahead))
-        .reduce(|first, task| if goes_before(&task, &first) {
-            task
-        } else {
-            first
-        })
 }
 
 /// How many of the tasks queued on the sibling have a smaller stamp than this one.
@@ -97,7 +56,15 @@ impl SiblingQueue for Walk {
     ) {}
 
     fn first<L: Ledger>(&self, table: &TaskTable, cpu: Cpu, _steps: &mut Steps<L>) -> Option<Task> {
-        first_asked(table, cpu, None, None)
+        table
+            .iter()
+            .copied()
+            .filter(|task| task.queued && task.home == cpu)
+            .reduce(|first, task| if goes_before(&task, &first) {
+                task
+            } else {
+                first
+            })
     }
 
     fn first_with<L: Ledger>(
@@ -107,7 +74,15 @@ impl SiblingQueue for Walk {
         cpu: Cpu,
         _steps: &mut Steps<L>,
     ) -> Option<Task> {
-        first_asked(table, cpu, Some(cookie), None)
+        table
+            .iter()
+            .copied()
+            .filter(|task| task.queued && task.home == cpu && task.cookie == cookie)
+            .reduce(|first, task| if goes_before(&task, &first) {
+                task
+            } else {
+                first
+            })
     }
 
     fn next_with<L: Ledger>(
@@ -117,7 +92,18 @@ impl SiblingQueue for Walk {
         cpu: Cpu,
         _steps: &mut Steps<L>,
     ) -> Option<Task> {
-        first_asked(table, cpu, Some(task.cookie), Some(*task))
+        table
+            .iter()
+            .copied()
+            .filter(|other| other.queued
+                && other.home == cpu
+                && other.cookie == task.cookie
+                && goes_before(task, other))
+            .reduce(|first, other| if goes_before(&other, &first) {
+                other
+            } else {
+                first
+            })
     }
 
     fn smallest_vtime<L: Ledger>(
@@ -128,9 +114,10 @@ impl SiblingQueue for Walk {
     ) -> Option<u128> {
         table
             .iter()
+            .copied()
             .filter(|task| task.queued && task.home == cpu && is_fair(task))
             .map(|task| task.vtime)
-            .min()
+            .reduce(|smallest, vtime| if vtime < smallest { vtime } else { smallest })
     }
 
     fn has_peer<L: Ledger>(
