@@ -18,3 +18,4 @@ pub mod View
 pub mod Laws
 pub mod Lending
 pub mod Queue
+pub mod Comparisons

@@ -1,0 +1,41 @@
+-- Nodes over two trees: what holds of them, and the lists that turning them keeps.
+use Rattle.std.proofs.Common.{◌≡◌, ℕ, ◌+◌, ◌≤◌, true, List, ◌∷◌, ◌++◌, length, max, sym, ap, ◌∙◌, subst, append_assoc, arith, length-append}
+use Rattle.std.proofs.lemmas.Bool.{and_parts}
+use Rattle.std.specs.Prelude.{IsTrue}
+use Rattle.std.specs.FinMap.{is_sorted}
+use Rattle.order_tree.specs.Order.{Entry, key_cmp}
+use Rattle.order_tree.specs.Branch.{Branch}
+use Rattle.order_tree.specs.Balance.{joined, fewest, DifferBy, IsFork}
+use Rattle.order_tree.proofs.Entries.{is_sorted-front, is_sorted-back}
+use Rattle.order_tree.proofs.Heights.{fewest-fork}
+use Rattle.order_tree.proofs.Keys.{key_total}
+
+pub IsFork-from : (left : Branch) (entry : Entry) (right : Branch) (levels : ℕ) →
+    IsTrue (is_sorted key_cmp (joined left entry right)) → DifferBy 1 left.height right.height → levels ≡ max left.height right.height + 1 →
+    fewest left.height ≤ length left.entries → fewest right.height ≤ length right.entries → IsFork left entry levels right
+IsFork-from left entry right levels rising even one_more many_left many_right =
+    let enough = fewest-fork left.height right.height (length left.entries) (length right.entries) even many_left many_right in
+    let count = length-append left.entries (entry ∷ right.entries) in
+    let all : fewest (max left.height right.height + 1) ≤ length (joined left entry right) = omega arith in record {
+      rising = rising;
+      one_more = one_more;
+      even = even;
+      many = subst (λ h. fewest h ≤ length (joined left entry right)) (sym one_more) all;
+    }
+
+-- ---- the parts of entries that rise
+
+abbrev Rising : List Entry → Type 0
+Rising es = is_sorted key_cmp es ≡ true
+
+-- beside an entry of the left side, what stands to the right of it
+pub rising-right : (whole x : List Entry) (j : Entry) (y : List Entry) (k : Entry) (z : List Entry) → whole ≡ x ++ j ∷ y → Rising (whole ++ k ∷ z) → Rising (y ++ k ∷ z)
+rising-right whole x j y k z is rising =
+    let parted : Rising (x ++ j ∷ (y ++ k ∷ z)) = subst Rising (ap (λ l. l ++ k ∷ z) is ∙ append_assoc x (j ∷ y) (k ∷ z)) rising in
+    (and_parts _ _ (is_sorted-back key_total x (j ∷ (y ++ k ∷ z)) parted)).1
+
+-- beside an entry of the right side, what stands to the left of it
+pub rising-left : (whole x : List Entry) (j : Entry) (y : List Entry) (k : Entry) (z : List Entry) → whole ≡ y ++ k ∷ z → Rising (x ++ j ∷ whole) → Rising (x ++ j ∷ y)
+rising-left whole x j y k z is rising =
+    let parted : Rising ((x ++ j ∷ y) ++ k ∷ z) = subst Rising (ap (λ l. x ++ j ∷ l) is ∙ sym (append_assoc x (j ∷ y) (k ∷ z))) rising in
+    is_sorted-front key_total (x ++ j ∷ y) (k ∷ z) parted

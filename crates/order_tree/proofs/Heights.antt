@@ -1,0 +1,58 @@
+-- How many entries a tree of some height has, and so how high a tree of some entries is.
+use Rattle.std.proofs.Common.{◌≡◌, ℕ, zero, suc, ◌+◌, ◌*◌, ◌/◌, ◌^◌, ◌<◌, ◌≤◌, max, length, inl, inr, sym, subst, ◌∙◌, arith}
+use Rattle.std.proofs.lemmas.Bool.{cases_lt, cases_order}
+use Rattle.std.specs.Int.Digits.{digits_of}
+use Rattle.std.proofs.lemmas.Int.Digits.{length-digits_of-le, length-digits_of_step}
+use Rattle.cs_types.specs.Comparisons.{digits}
+use Rattle.order_tree.specs.Balance.{fewest, DifferBy}
+
+fewest-suc : (h : ℕ) → fewest h ≤ fewest (suc h)
+fewest-suc zero = omega arith
+fewest-suc (suc h) = omega arith
+
+-- a node over a tree that is one higher than the other, or as high
+fewest-over : (l r nl nr : ℕ) → r ≤ l → l ≤ r + 1 → fewest l ≤ nl → fewest r ≤ nr → fewest (suc l) ≤ nl + nr + 1
+fewest-over zero r nl nr le near left right = omega arith
+fewest-over (suc l) r nl nr le near left right =
+    elim (cases_lt l r) [
+      | inl more ↦
+          let same : r ≡ suc l = omega arith in
+          let most = subst (λ n. fewest n ≤ nr) same right in
+          omega (arith, fewest-suc l)
+      | inr less ↦ let same : r ≡ l = omega arith in let least = subst (λ n. fewest n ≤ nr) same right in omega arith
+    ]
+
+-- a node over trees with enough entries has enough of them
+pub fewest-fork : (l r nl nr : ℕ) → DifferBy 1 l r → fewest l ≤ nl → fewest r ≤ nr → fewest (max l r + 1) ≤ nl + suc nr
+fewest-fork l r nl nr even left right =
+    elim (cases_lt l r) [
+      | inl less ↦
+          let same : suc r ≡ max l r + 1 = omega arith in
+          let here : fewest (suc r) ≤ nl + suc nr = omega (arith, fewest-over r l nr nl (omega arith) (omega arith) right left) in
+          subst (λ n. fewest n ≤ nl + suc nr) same here
+      | inr more ↦
+          let same : suc l ≡ max l r + 1 = omega arith in
+          let here : fewest (suc l) ≤ nl + suc nr = omega (arith, fewest-over l r nl nr (omega arith) (omega arith) left right) in
+          subst (λ n. fewest n ≤ nl + suc nr) same here
+    ]
+
+digits-step : (n : ℕ) → 0 < n → digits n ≡ digits (n / 2) + 1
+unfolding digits
+digits-step n more = length-digits_of_step 2 n (omega arith) more
+
+-- two levels more have twice as many entries
+pub height-le : (h n : ℕ) → fewest h ≤ n → h ≤ 2 * digits n
+height-le zero n many = omega arith
+height-le (suc zero) n many = omega (arith, digits-step n many)
+height-le (suc (suc h)) n many =
+    let below = fewest-suc h in
+    let half : fewest h ≤ n / 2 = omega arith in
+    omega (arith, height-le h (n / 2) half, digits-step n (omega arith))
+
+digits-le : (n : ℕ) → n < 2 ^ 32 → digits n ≤ 32
+unfolding digits
+digits-le n few = length-digits_of-le 2 32 n (omega arith) few
+
+-- no tree is higher than this
+pub height-fits : (h n : ℕ) → fewest h ≤ n → n < 2 ^ 32 → h ≤ 64
+height-fits h n many few = omega (arith, height-le h n many, digits-le n few)

@@ -1,0 +1,4 @@
+pub mod Entries
+pub mod Keys
+pub mod Heights
+pub mod Forks

@@ -1,0 +1,14 @@
+use Rattle.order_tree.specs.Balance.{entry_in}
+use Rattle.order_tree.proofs.Forks.{rising-left, rising-right}
+use Rattle.order_tree.proofs.tree.lean_left.Goals as goal
+
+pub fork-inner-requires-clause-rising : goal.fork-inner-requires-clause-rising
+fork-inner-requires-clause-rising c = rising-right _ _ _ _ _ _ c.in-Some.ensures.parts.entries c.requires.rising
+
+pub fork-low-requires-clause-rising : goal.fork-low-requires-clause-rising
+fork-low-requires-clause-rising c =
+    rising-left _ c.in-Some.outer.left.entries (entry_in c.in-Some.outer.node.value) _ _ _ c.in-Some-open.ensures.parts.entries c.in-Some.ensures.parts.fork.rising
+
+pub fork-high-requires-clause-rising : goal.fork-high-requires-clause-rising
+fork-high-requires-clause-rising c =
+    rising-right _ _ _ _ _ _ c.in-Some-open.ensures.parts.entries (rising-right _ _ _ _ _ _ c.in-Some.ensures.parts.entries c.requires.rising)

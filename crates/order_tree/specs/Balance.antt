@@ -1,0 +1,54 @@
+-- Balance: what a node stands for, and what always holds of one. No public clause cites this module.
+use Rattle.std.specs.Prelude.{◌≡◌, ℕ, zero, suc, ◌+◌, ◌≤◌, max, List, [], ◌∷◌, ◌++◌, length, IsTrue, Option, Some, None}
+use Rattle.std.specs.FinMap.{is_sorted}
+use Rattle.order_tree.specs.Order.{Entry, key_cmp}
+use Rattle.order_tree.specs.Branch.{Branch}
+use Rattle.order_tree.specs.declared.tree.Node.{Node}
+use Rattle.order_tree.specs.declared.tree.Parts.{Parts}
+use Rattle.std.specs.declared.alloc.Global.{Global}
+use Rattle.std.specs.Prelude.{Box}
+
+-- the entry of a node
+abbrev pub entry_in : Node → Entry
+entry_in node = (node.key, node.pid)
+
+-- the entries of the two sides with one between them
+abbrev pub joined : Branch → Entry → Branch → List Entry
+joined left entry right = left.entries ++ entry ∷ right.entries
+
+-- what a tree with this root stands for
+abbrev pub branch_of : Option (Box Node Global) → Branch
+branch_of None = record { entries = []; height = 0 }
+branch_of (Some node) = record { entries = joined node.value.left (entry_in node.value) node.value.right; height = node.value.height }
+
+-- the fewest entries that a balanced tree of this height has
+abbrev pub fewest : ℕ → ℕ
+fewest zero = 0
+fewest (suc zero) = 1
+fewest (suc (suc height)) = fewest (suc height) + fewest height + 1
+
+-- neither number is more than this above the other
+abbrev pub DifferBy : ℕ → ℕ → ℕ → Type 0
+DifferBy most a b = (a ≤ b + most) × (b ≤ a + most)
+
+-- The keys rise, the height is the right one, and the sides are nearly as high as each other, so that there are many entries.
+pub record IsFork (left : Branch) (entry : Entry) (levels : ℕ) (right : Branch) : Type 0 where
+  pub rising : IsTrue (is_sorted key_cmp (joined left entry right))
+  pub one_more : levels ≡ max left.height right.height + 1
+  pub even : DifferBy 1 left.height right.height
+  pub many : fewest levels ≤ length (joined left entry right)
+
+abbrev pub IsBalanced : Option (Box Node Global) → Type 0
+IsBalanced None = Unit {0}
+IsBalanced (Some node) = IsFork node.value.left (entry_in node.value) node.value.height node.value.right
+
+-- what the parts of a tree are: its entries, and the sides of its root
+pub record IsOpened (whole : Branch) (parts : Parts) : Type 0 where
+  pub entries : whole.entries ≡ joined parts.left (entry_in parts.node.value) parts.right
+  pub fork : IsFork parts.left (entry_in parts.node.value) whole.height parts.right
+
+-- the height that a node settles to with sides of these heights
+pub record IsSettled (left right settled : ℕ) : Type 0 where
+  pub not_lower : max left right ≤ settled
+  pub at_most_one_higher : settled ≤ max left right + 1
+  pub one_higher : DifferBy 1 left right → settled ≡ max left right + 1

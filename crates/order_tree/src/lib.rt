@@ -1,0 +1,8 @@
+//! An ordered tree of small height, whose nodes are reserved before they are used. The run queues of a
+//! sibling stand on it.
+#![tactic(auto)]
+
+mod key;
+mod tree;
+
+pub use key::Key;

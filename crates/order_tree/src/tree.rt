@@ -1,0 +1,193 @@
+//! The tree: its nodes, and how they keep in balance.
+
+ghost use Rattle.std.specs.Prelude.{◌≡◌, ◌+◌, ◌^◌, ◌<◌, ◌≤◌, [], ◌∷◌, length, IsTrue, None, MatchOption, is_some, slice_get};
+ghost use Rattle.std.specs.List as list;
+ghost use Rattle.std.specs.FinMap.{find, put, is_sorted};
+ghost use Rattle.order_tree.specs.Order.{key_cmp};
+ghost use Rattle.order_tree.specs.Branch.{without, reaches};
+ghost use Rattle.order_tree.specs.Balance.{entry_in, joined, fewest, DifferBy, IsOpened, IsSettled};
+
+use crate::key::Key;
+use cs_types::{Pid, Steps};
+use std::cmp::Ordering;
+use std::marker::Model;
+use std::mem;
+use std::sync::ledger::Ledger;
+
+/// A tree, or a part of one. The two sides of a node differ in height by one at most.
+#[cycle(tree)]
+#[derive(Drop)]
+pub struct Tree {
+    root: Option<Box<Node>>,
+}
+
+/// An entry, and the trees of the lesser and of the greater keys.
+#[cycle(tree)]
+#[derive(Drop)]
+pub struct Node {
+    left: Tree,
+    key: Key,
+    pid: Pid,
+    /// The number of levels from here on.
+    height: u8,
+    right: Tree,
+}
+
+/// A tree that was taken apart at its root. What the node holds beside its entry counts no more.
+#[derive(Drop)]
+pub struct Parts {
+    left: Tree,
+    node: Box<Node>,
+    right: Tree,
+}
+
+impl Model for Tree {
+    ghost use Rattle.order_tree.specs.Branch.{Branch, branch_code};
+
+    ghost Value = { Branch };
+
+    ghost coded = { branch_code };
+
+    ghost use Rattle.order_tree.specs.Balance.{branch_of, IsBalanced};
+
+    ghost view = { λ tree. branch_of tree.root };
+
+    ghost invariant = { λ tree. IsBalanced tree.root };
+
+    ghost use Rattle.std.specs.Prelude.{length};
+
+    ghost size = { λ branch. length branch.entries };
+
+    ghost use Rattle.std.proofs.Common.{arith, length-append};
+
+    ghost size_decreases = { λ a h. Prim.grind (arith, length-append) };
+}
+
+impl Node {
+    /// A node of one entry that stands in no tree.
+    pub fn new(key: Key, pid: Pid) -> Node
+        ensures { entry_in result ≡ (key, pid) }
+    {
+        Node {
+            left: Tree::empty(),
+            key,
+            pid,
+            height: 1,
+            right: Tree::empty(),
+        }
+    }
+}
+
+impl Tree {
+    /// A tree with no entry. It takes no memory.
+    pub fn empty() -> Tree
+        ensures entries { result.entries ≡ [] }
+        ensures height { result.height ≡ 0 }
+    {
+        Tree { root: None }
+    }
+
+    /// The number of levels. A tree of many levels has many entries.
+    fn height(&self) -> u8
+        ensures height { result ≡ self.now.height }
+        ensures many { fewest self.now.height ≤ length self.now.entries }
+    {
+        match &self.root {
+            None => 0,
+            Some(node) => node.height,
+        }
+    }
+
+    /// The two sides of the root, and the root.
+    fn open(self) -> Option<Parts>
+        ensures none { result ≡ None → self.height ≡ 0 }
+        ensures parts { MatchOption result (self.entries ≡ []) (λ parts. IsOpened self parts) }
+    {
+        let mut node = self.root?;
+        let left = mem::replace(&mut node.left, Tree::empty());
+        let right = mem::replace(&mut node.right, Tree::empty());
+        Some(Parts { left, node, right })
+    }
+}
+
+/// The tree of a node over two trees of nearly the same height.
+fn fork(left: Tree, mut node: Box<Node>, right: Tree) -> Tree
+    requires rising { IsTrue (is_sorted key_cmp (joined left (entry_in node.value) right)) }
+    requires even { DifferBy 1 left.height right.height }
+    requires fits { length (joined left (entry_in node.value) right) < 2 ^ 32 }
+    ensures entries { result.entries ≡ joined left (entry_in node.value) right }
+    ensures settled { IsSettled left.height right.height result.height }
+{
+    let height = left.height().max(right.height()) + 1;
+    let root = &mut *node;
+    root.left = left;
+    root.height = height;
+    root.right = right;
+    Tree { root: Some(node) }
+}
+
+/// The tree of a node whose left side is two levels higher than its right: its left side is turned up.
+fn lean_left(left: Tree, node: Box<Node>, right: Tree) -> Tree
+    requires rising { IsTrue (is_sorted key_cmp (joined left (entry_in node.value) right)) }
+    requires two_higher { left.height ≡ right.height + 2 }
+    requires fits { length (joined left (entry_in node.value) right) < 2 ^ 32 }
+    ensures entries { result.entries ≡ joined left (entry_in node.value) right }
+    ensures not_lower { left.height ≤ result.height }
+    ensures at_most_one_higher { result.height ≤ left.height + 1 }
+{
+    let Some(outer) = left.open() else {
+        unreachable!()
+    };
+    if outer.left.height() >= outer.right.height() {
+        let inner = fork(outer.right, node, right);
+        return fork(outer.left, outer.node, inner);
+    }
+    let Some(middle) = outer.right.open() else {
+        unreachable!()
+    };
+    let low = fork(outer.left, outer.node, middle.left);
+    let high = fork(middle.right, node, right);
+    fork(low, middle.node, high)
+}
+
+/// The tree of a node whose right side is two levels higher than its left: its right side is turned up.
+fn lean_right(left: Tree, node: Box<Node>, right: Tree) -> Tree
+    requires rising { IsTrue (is_sorted key_cmp (joined left (entry_in node.value) right)) }
+    requires two_higher { right.height ≡ left.height + 2 }
+    requires fits { length (joined left (entry_in node.value) right) < 2 ^ 32 }
+    ensures entries { result.entries ≡ joined left (entry_in node.value) right }
+    ensures not_lower { right.height ≤ result.height }
+    ensures at_most_one_higher { result.height ≤ right.height + 1 }
+{
+    let Some(outer) = right.open() else {
+        unreachable!()
+    };
+    if outer.right.height() >= outer.left.height() {
+        let inner = fork(left, node, outer.left);
+        return fork(inner, outer.node, outer.right);
+    }
+    let Some(middle) = outer.left.open() else {
+        unreachable!()
+    };
+    let low = fork(left, node, middle.left);
+    let high = fork(middle.right, outer.node, outer.right);
+    fork(low, middle.node, high)
+}
+
+/// The tree of a node over two trees whose heights differ by two at most.
+fn balance(left: Tree, node: Box<Node>, right: Tree) -> Tree
+    requires rising { IsTrue (is_sorted key_cmp (joined left (entry_in node.value) right)) }
+    requires uneven { DifferBy 2 left.height right.height }
+    requires fits { length (joined left (entry_in node.value) right) < 2 ^ 32 }
+    ensures entries { result.entries ≡ joined left (entry_in node.value) right }
+    ensures settled { IsSettled left.height right.height result.height }
+{
+    let (left_height, right_height) = (left.height(), right.height());
+    if left_height > right_height + 1 {
+        lean_left(left, node, right)
+    } else if right_height > left_height + 1 {
+        lean_right(left, node, right)
+    } else {
+        fork(left, node, right)
+    }
+}
