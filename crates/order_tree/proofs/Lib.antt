@@ -2,3 +2,4 @@ pub mod Entries
 pub mod Keys
 pub mod Heights
 pub mod Forks
+pub mod Placed

@@ -4,7 +4,6 @@ use Rattle.std.specs.FinMap.{is_sorted}
 use Rattle.order_tree.specs.Order.{Entry, key_cmp}
 use Rattle.order_tree.specs.Branch.{Branch}
 use Rattle.order_tree.specs.declared.tree.Node.{Node}
-use Rattle.order_tree.specs.declared.tree.Parts.{Parts}
 use Rattle.std.specs.declared.alloc.Global.{Global}
 use Rattle.std.specs.Prelude.{Box}
 
@@ -42,10 +41,10 @@ abbrev pub IsBalanced : Option (Box Node Global) → Type 0
 IsBalanced None = Unit {0}
 IsBalanced (Some node) = IsFork node.value.left (entry_in node.value) node.value.height node.value.right
 
--- what the parts of a tree are: its entries, and the sides of its root
-pub record IsOpened (whole : Branch) (parts : Parts) : Type 0 where
-  pub entries : whole.entries ≡ joined parts.left (entry_in parts.node.value) parts.right
-  pub fork : IsFork parts.left (entry_in parts.node.value) whole.height parts.right
+-- a tree with this entry at its root, over these two sides
+pub record IsRoot (whole left : Branch) (entry : Entry) (right : Branch) : Type 0 where
+  pub entries : whole.entries ≡ joined left entry right
+  pub fork : IsFork left entry whole.height right
 
 -- the height that a node settles to with sides of these heights
 pub record IsSettled (left right settled : ℕ) : Type 0 where

@@ -5,7 +5,7 @@ ghost use Rattle.std.specs.List as list;
 ghost use Rattle.std.specs.FinMap.{find, put, is_sorted};
 ghost use Rattle.order_tree.specs.Order.{key_cmp};
 ghost use Rattle.order_tree.specs.Branch.{without, reaches};
-ghost use Rattle.order_tree.specs.Balance.{entry_in, joined, fewest, DifferBy, IsOpened, IsSettled};
+ghost use Rattle.order_tree.specs.Balance.{entry_in, joined, fewest, DifferBy, IsRoot, IsSettled};
 
 use crate::key::Key;
 use cs_types::{Pid, Steps};
@@ -101,12 +101,74 @@ impl Tree {
     /// The two sides of the root, and the root.
     fn open(self) -> Option<Parts>
         ensures none { result ≡ None → self.height ≡ 0 }
-        ensures parts { MatchOption result (self.entries ≡ []) (λ parts. IsOpened self parts) }
+        ensures parts { MatchOption result (self.entries ≡ []) (λ parts. IsRoot self parts.left (entry_in parts.node.value) parts.right) }
     {
         let mut node = self.root?;
         let left = mem::replace(&mut node.left, Tree::empty());
         let right = mem::replace(&mut node.right, Tree::empty());
         Some(Parts { left, node, right })
+    }
+
+    /// The first entry of all. It compares no key.
+    pub fn first(&self) -> Option<(Key, Pid)>
+        ensures { result ≡ slice_get self.now.entries 0 }
+    {
+        match &self.root {
+            None => None,
+            Some(node) => match node.left.first() {
+                None => Some((node.key, node.pid)),
+                found => found,
+            },
+        }
+    }
+
+    /// The first entry whose key is above this one, or also at it where `at` is true.
+    pub fn seek<L: Ledger>(&self, key: &Key, at: bool, steps: &mut Steps<L>) -> Option<(Key, Pid)>
+        ensures found { result ≡ list.find (λ entry. reaches at (key_cmp entry.0 key.now)) self.now.entries }
+        ensures counted { steps.new ≤ steps.old + self.now.height }
+    {
+        let Some(node) = &self.root else {
+            return None;
+        };
+        steps.tick();
+        if !reaches(node.key.cmp(key), at) {
+            return node.right.seek(key, at, steps);
+        }
+        match node.left.seek(key, at, steps) {
+            None => Some((node.key, node.pid)),
+            found => found,
+        }
+    }
+
+    /// The tree with the node in its place. No entry has its key.
+    pub fn insert<L: Ledger>(self, node: Box<Node>, steps: &mut Steps<L>) -> Tree
+        requires free { find key_cmp node.value.key self.entries ≡ None }
+        requires fits { length self.entries + 1 < 2 ^ 32 }
+        ensures entries { result.entries ≡ put key_cmp node.value.key node.value.pid self.entries }
+        ensures not_lower { self.height ≤ result.height }
+        ensures at_most_one_higher { result.height ≤ self.height + 1 }
+        ensures counted { steps.new ≤ steps.old + self.height }
+    {
+        let Some(parts) = self.open() else {
+            return fork(Tree::empty(), node, Tree::empty());
+        };
+        steps.tick();
+        match node.key.cmp(&parts.node.key) {
+            Ordering::Less => balance(parts.left.insert(node, steps), parts.node, parts.right),
+            Ordering::Equal => unreachable!(),
+            Ordering::Greater => balance(parts.left, parts.node, parts.right.insert(node, steps)),
+        }
+    }
+}
+
+/// Whether a key that compares so with another is above it, or at it where `at` is true.
+fn reaches(order: Ordering, at: bool) -> bool
+    ensures { result ≡ reaches at order }
+{
+    match order {
+        Ordering::Less => false,
+        Ordering::Equal => at,
+        Ordering::Greater => true,
     }
 }
 

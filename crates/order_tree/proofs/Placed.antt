@@ -1,0 +1,109 @@
+-- A tree that was taken apart: where a key goes, and what a change of a side makes of the whole.
+use Rattle.std.proofs.Common.{◌≡◌, ℕ, ◌+◌, ◌<◌, ◌≤◌, Bool, true, false, cond, List, ◌∷◌, ◌++◌, Box, Option, None, Some, length, refl, sym, ap, ◌∙◌, subst, arith, length-append}
+use Rattle.std.specs.Prelude.{is_some}
+use Rattle.std.specs.FinMap.{find, put, is_sorted}
+use Rattle.std.specs.FinMap.Entries.{length-put}
+use Rattle.std.specs.declared.cmp.Ordering.{Ordering}
+use Rattle.std.specs.declared.cmp.Ordering.TheVariants.{Less, Equal, Greater}
+use Rattle.cs_types.proofs.Queues.{said}
+use Rattle.order_tree.specs.Order.{Entry, key_cmp}
+use Rattle.std.specs.List as list
+use Rattle.std.specs.Option.{option_or}
+use Rattle.std.specs.declared.alloc.Global.{Global}
+use Rattle.order_tree.specs.Branch.{Branch, without, reaches}
+use Rattle.order_tree.specs.Balance.{entry_in, joined, branch_of, IsFork, IsBalanced, IsRoot}
+use Rattle.order_tree.specs.declared.key.Key.{Key}
+use Rattle.order_tree.specs.declared.tree.Node.{Node}
+use Rattle.order_tree.proofs.Entries.{find-left, find-right, find-middle, put-left, put-right, is_sorted-put_of, find_passes-left, find_passes-right}
+use Rattle.order_tree.proofs.Keys.{key_total}
+
+-- the first entry above a key, or also at it
+abbrev pub sought : Key → Bool → List Entry → Option Entry
+sought key at es = list.find (λ (e : Entry). reaches at (key_cmp e.0 key)) es
+
+-- how the keys of two nodes compare, where their copies were compared
+pub compared : {a node b other : Node} {r : Ordering} → a ≡ node → b ≡ other → r ≡ key_cmp a.key b.key → key_cmp node.key other.key ≡ r
+compared a_is b_is is = (λ i. key_cmp (sym a_is i).key (sym b_is i).key) ∙ sym is
+
+-- whether a node's key is above another, where a copy of it was compared
+pub reached : (key : Key) (at : Bool) {a node : Node} {r : Ordering} {b : Bool} → a ≡ node → r ≡ key_cmp a.key key → b ≡ reaches at r →
+    reaches at (key_cmp node.key key) ≡ b
+reached key at a_is is said = (λ i. reaches at (key_cmp (sym a_is i).key key)) ∙ ap (reaches at) (sym is) ∙ sym said
+
+-- entries with one more in its place
+pub record IsPut (before : List Entry) (key : Key) (pid : ℕ) (after : List Entry) : Type 0 where
+  pub entries : after ≡ put key_cmp key pid before
+  pub rising : is_sorted key_cmp after ≡ true
+  pub count : length after ≡ length before + 1
+
+pub IsPut-from : (before : List Entry) (key : Key) (pid : ℕ) (after : List Entry) → is_sorted key_cmp before ≡ true → find key_cmp key before ≡ None →
+    after ≡ put key_cmp key pid before → IsPut before key pid after
+IsPut-from before key pid after rising free is = record {
+  entries = is;
+  rising = ap (is_sorted key_cmp) is ∙ is_sorted-put_of key_total key pid before rising;
+  count =
+      ap length is ∙ length-put key_cmp key_total key pid before (said rising)
+      ∙ ap (λ (o : Option ℕ). cond (is_some o) (length before) (length before + 1)) free;
+}
+
+-- what a tree stands for, by its root
+pub IsRoot-from : {root : Option (Box Node Global)} {whole : Branch} {node : Box Node Global} → branch_of root ≡ whole → IsBalanced root → root ≡ Some node →
+    IsRoot whole node.value.left (entry_in node.value) node.value.right
+IsRoot-from {root} {whole} {node} view_is balanced is =
+    let seen : branch_of (Some node) ≡ whole = ap branch_of (sym is) ∙ view_is in record {
+      entries = ap (λ (b : Branch). b.entries) (sym seen);
+      fork =
+          subst (λ h. IsFork node.value.left (entry_in node.value) h node.value.right) (ap (λ (b : Branch). b.height) seen)
+          (subst IsBalanced is balanced);
+    }
+
+module _ {whole left : Branch} {entry : Entry} {right : Branch} (root : IsRoot whole left entry right) where
+  pub rising_of : is_sorted key_cmp whole.entries ≡ true
+  rising_of = ap (is_sorted key_cmp) root.entries ∙ root.fork.rising
+
+  pub sides_shorter : (length left.entries < length whole.entries) × (length right.entries < length whole.entries)
+  sides_shorter = let count = ap length root.entries ∙ length-append left.entries (entry ∷ right.entries) in (omega arith, omega arith)
+
+  module _ (key : Key) where
+    pub find-left_of : key_cmp key entry.0 ≡ Less → find key_cmp key whole.entries ≡ find key_cmp key left.entries
+    find-left_of less = ap (find key_cmp key) root.entries ∙ find-left key_total key left.entries entry right.entries root.fork.rising less
+
+    pub find-right_of : key_cmp key entry.0 ≡ Greater → find key_cmp key whole.entries ≡ find key_cmp key right.entries
+    find-right_of more = ap (find key_cmp key) root.entries ∙ find-right key_total key left.entries entry right.entries root.fork.rising more
+
+    pub find-at_root : key_cmp key entry.0 ≡ Equal → find key_cmp key whole.entries ≡ Some entry.1
+    find-at_root same = ap (find key_cmp key) root.entries ∙ find-middle key_total key left.entries entry right.entries root.fork.rising same
+
+    module _ (pid : ℕ) (free : find key_cmp key whole.entries ≡ None) (side : Branch) where
+      pub IsPut-left : key_cmp key entry.0 ≡ Less → side.entries ≡ put key_cmp key pid left.entries → IsPut whole.entries key pid (joined side entry right)
+      IsPut-left less is =
+          IsPut-from _ _ _ _ rising_of free
+          (ap (λ l. l ++ entry ∷ right.entries) is
+          ∙ sym (put-left key_total key pid left.entries entry right.entries less)
+          ∙ ap (put key_cmp key pid) (sym root.entries))
+
+      pub IsPut-right : key_cmp key entry.0 ≡ Greater → side.entries ≡ put key_cmp key pid right.entries → IsPut whole.entries key pid (joined left entry side)
+      IsPut-right more is =
+          IsPut-from _ _ _ _ rising_of free
+          (ap (λ r. left.entries ++ entry ∷ r) is
+          ∙ sym (put-right key_total key pid left.entries entry right.entries root.fork.rising more)
+          ∙ ap (put key_cmp key pid) (sym root.entries))
+
+    -- ---- a search for the first key above a given one, or at it
+
+    module _ (at : Bool) where
+      seek-left : reaches at (key_cmp entry.0 key) ≡ true → sought key at whole.entries ≡ option_or (sought key at left.entries) (Some entry)
+      seek-left pass = ap (sought key at) root.entries ∙ find_passes-left key_total key (reaches at) left.entries entry right.entries pass
+
+      pub seek-root : reaches at (key_cmp entry.0 key) ≡ true → sought key at left.entries ≡ None → sought key at whole.entries ≡ Some entry
+      seek-root pass none = seek-left pass ∙ ap (λ found. option_or found (Some entry)) none
+
+      pub seek-lower : reaches at (key_cmp entry.0 key) ≡ true → (found : Option Entry) → found ≡ sought key at left.entries → (found ≡ None → ⊥) →
+          found ≡ sought key at whole.entries
+      seek-lower pass None is some = absurd (some refl)
+      seek-lower pass (Some e) is some = sym (seek-left pass ∙ ap (λ found. option_or found (Some entry)) (sym is))
+
+      pub seek-right : reaches at (key_cmp entry.0 key) ≡ false → sought key at whole.entries ≡ sought key at right.entries
+      seek-right fail =
+          ap (sought key at) root.entries
+          ∙ find_passes-right key_total key (reaches at) left.entries entry right.entries root.fork.rising refl refl fail
