@@ -2,7 +2,7 @@
 use Rattle.std.proofs.Common.{◌≡◌, ℕ, ◌+◌, ◌<◌, ◌≤◌, Bool, true, false, cond, List, ◌∷◌, ◌++◌, Box, Option, None, Some, length, refl, sym, ap, ◌∙◌, subst, arith, length-append}
 use Rattle.std.specs.Prelude.{is_some}
 use Rattle.std.specs.FinMap.{find, put, is_sorted}
-use Rattle.std.specs.FinMap.Entries.{length-put}
+use Rattle.std.specs.FinMap.Entries.{length-put, length_without}
 use Rattle.std.specs.declared.cmp.Ordering.{Ordering}
 use Rattle.std.specs.declared.cmp.Ordering.TheVariants.{Less, Equal, Greater}
 use Rattle.cs_types.proofs.Queues.{said}
@@ -14,7 +14,7 @@ use Rattle.order_tree.specs.Branch.{Branch, without, reaches}
 use Rattle.order_tree.specs.Balance.{entry_in, joined, branch_of, IsFork, IsBalanced, IsRoot}
 use Rattle.order_tree.specs.declared.key.Key.{Key}
 use Rattle.order_tree.specs.declared.tree.Node.{Node}
-use Rattle.order_tree.proofs.Entries.{find-left, find-right, find-middle, put-left, put-right, is_sorted-put_of, find_passes-left, find_passes-right}
+use Rattle.order_tree.proofs.Entries.{find-left, find-right, find-middle, put-left, put-right, is_sorted-put_of, where_key-left, where_key-right, where_key-middle, is_sorted-without, find_passes-left, find_passes-right}
 use Rattle.order_tree.proofs.Keys.{key_total}
 
 -- the first entry above a key, or also at it
@@ -24,6 +24,9 @@ sought key at es = list.find (λ (e : Entry). reaches at (key_cmp e.0 key)) es
 -- how the keys of two nodes compare, where their copies were compared
 pub compared : {a node b other : Node} {r : Ordering} → a ≡ node → b ≡ other → r ≡ key_cmp a.key b.key → key_cmp node.key other.key ≡ r
 compared a_is b_is is = (λ i. key_cmp (sym a_is i).key (sym b_is i).key) ∙ sym is
+
+pub compared_key : (key : Key) {b other : Node} {r : Ordering} → b ≡ other → r ≡ key_cmp key b.key → key_cmp key other.key ≡ r
+compared_key key b_is is = (λ i. key_cmp key (sym b_is i).key) ∙ sym is
 
 -- whether a node's key is above another, where a copy of it was compared
 pub reached : (key : Key) (at : Bool) {a node : Node} {r : Ordering} {b : Bool} → a ≡ node → r ≡ key_cmp a.key key → b ≡ reaches at r →
@@ -45,6 +48,21 @@ IsPut-from before key pid after rising free is = record {
       ap length is ∙ length-put key_cmp key_total key pid before (said rising)
       ∙ ap (λ (o : Option ℕ). cond (is_some o) (length before) (length before + 1)) free;
 }
+
+-- entries without those of a key
+pub record IsCut (before : List Entry) (key : Key) (after : List Entry) : Type 0 where
+  pub entries : after ≡ without key before
+  pub rising : is_sorted key_cmp after ≡ true
+  pub count : length after ≤ length before
+
+pub IsCut-from : (before : List Entry) (key : Key) (after : List Entry) → is_sorted key_cmp before ≡ true → after ≡ without key before → IsCut before key after
+IsCut-from before key after rising is =
+    let fewer = length_without key_cmp key_total key before (said rising) in
+    let same = ap length is in record {
+      entries = is;
+      rising = ap (is_sorted key_cmp) is ∙ is_sorted-without key_total key before rising;
+      count = omega arith;
+    }
 
 -- what a tree stands for, by its root
 pub IsRoot-from : {root : Option (Box Node Global)} {whole : Branch} {node : Box Node Global} → branch_of root ≡ whole → IsBalanced root → root ≡ Some node →
@@ -88,6 +106,26 @@ module _ {whole left : Branch} {entry : Entry} {right : Branch} (root : IsRoot w
           (ap (λ r. left.entries ++ entry ∷ r) is
           ∙ sym (put-right key_total key pid left.entries entry right.entries root.fork.rising more)
           ∙ ap (put key_cmp key pid) (sym root.entries))
+
+    module _ (side : Branch) where
+      pub IsCut-left : key_cmp key entry.0 ≡ Less → side.entries ≡ without key left.entries → IsCut whole.entries key (joined side entry right)
+      IsCut-left less is =
+          IsCut-from _ _ _ rising_of
+          (ap (λ l. l ++ entry ∷ right.entries) is
+          ∙ sym (where_key-left key_total key left.entries entry right.entries root.fork.rising less)
+          ∙ ap (without key) (sym root.entries))
+
+      pub IsCut-right : key_cmp key entry.0 ≡ Greater → side.entries ≡ without key right.entries → IsCut whole.entries key (joined left entry side)
+      IsCut-right more is =
+          IsCut-from _ _ _ rising_of
+          (ap (λ r. left.entries ++ entry ∷ r) is
+          ∙ sym (where_key-right key_total key left.entries entry right.entries root.fork.rising more)
+          ∙ ap (without key) (sym root.entries))
+
+    pub IsCut-root : key_cmp key entry.0 ≡ Equal → IsCut whole.entries key (left.entries ++ right.entries)
+    IsCut-root same =
+        IsCut-from _ _ _ rising_of
+        (sym (where_key-middle key_total key left.entries entry right.entries root.fork.rising same) ∙ ap (without key) (sym root.entries))
 
     -- ---- a search for the first key above a given one, or at it
 

@@ -51,3 +51,9 @@ pub record IsSettled (left right settled : ℕ) : Type 0 where
   pub not_lower : max left right ≤ settled
   pub at_most_one_higher : settled ≤ max left right + 1
   pub one_higher : DifferBy 1 left right → settled ≡ max left right + 1
+
+-- a tree as its first entry and the tree of the others, which is as high or one level lower
+pub record IsFirst (whole : Branch) (entry : Entry) (others : Branch) : Type 0 where
+  pub entries : whole.entries ≡ entry ∷ others.entries
+  pub not_higher : others.height ≤ whole.height
+  pub at_most_one_lower : whole.height ≤ others.height + 1

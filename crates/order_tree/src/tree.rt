@@ -1,11 +1,11 @@
 //! The tree: its nodes, and how they keep in balance.
 
-ghost use Rattle.std.specs.Prelude.{◌≡◌, ◌+◌, ◌^◌, ◌<◌, ◌≤◌, [], ◌∷◌, length, IsTrue, None, MatchOption, is_some, slice_get};
+ghost use Rattle.std.specs.Prelude.{◌≡◌, ◌+◌, ◌^◌, ◌<◌, ◌≤◌, [], ◌++◌, length, max, IsTrue, None, MatchOption, is_some, slice_get};
 ghost use Rattle.std.specs.List as list;
 ghost use Rattle.std.specs.FinMap.{find, put, is_sorted};
 ghost use Rattle.order_tree.specs.Order.{key_cmp};
 ghost use Rattle.order_tree.specs.Branch.{without, reaches};
-ghost use Rattle.order_tree.specs.Balance.{entry_in, joined, fewest, DifferBy, IsRoot, IsSettled};
+ghost use Rattle.order_tree.specs.Balance.{entry_in, joined, fewest, DifferBy, IsRoot, IsSettled, IsFirst};
 
 use crate::key::Key;
 use cs_types::{Pid, Steps};
@@ -159,6 +159,46 @@ impl Tree {
             Ordering::Greater => balance(parts.left, parts.node, parts.right.insert(node, steps)),
         }
     }
+
+    /// The node of the first entry, and the tree of the others. It compares no key.
+    fn take_first(self) -> Option<(Box<Node>, Tree)>
+        requires fits { length self.entries < 2 ^ 32 }
+        ensures none { result ≡ None → self.height ≡ 0 }
+        ensures first { MatchOption result (self.entries ≡ []) (λ taken. IsFirst self (entry_in taken.0.value) taken.1) }
+    {
+        let parts = self.open()?;
+        match parts.left.take_first() {
+            None => Some((parts.node, parts.right)),
+            Some((first, left)) => Some((first, balance(left, parts.node, parts.right))),
+        }
+    }
+
+    /// The tree without the entry at the key, and the node in which that stood. `None` comes exactly
+    /// where no entry has the key.
+    pub fn remove<L: Ledger>(self, key: &Key, steps: &mut Steps<L>) -> (Tree, Option<Box<Node>>)
+        requires fits { length self.entries < 2 ^ 32 }
+        ensures entries { result.0.entries ≡ without key.now self.entries }
+        ensures taken { is_some result.1 ≡ is_some (find key_cmp key.now self.entries) }
+        ensures not_higher { result.0.height ≤ self.height }
+        ensures at_most_one_lower { self.height ≤ result.0.height + 1 }
+        ensures counted { steps.new ≤ steps.old + self.height }
+    {
+        let Some(parts) = self.open() else {
+            return (Tree::empty(), None);
+        };
+        steps.tick();
+        match key.cmp(&parts.node.key) {
+            Ordering::Less => {
+                let (left, taken) = parts.left.remove(key, steps);
+                (balance(left, parts.node, parts.right), taken)
+            }
+            Ordering::Equal => (join(parts.left, parts.right), Some(parts.node)),
+            Ordering::Greater => {
+                let (right, taken) = parts.right.remove(key, steps);
+                (balance(parts.left, parts.node, right), taken)
+            }
+        }
+    }
 }
 
 /// Whether a key that compares so with another is above it, or at it where `at` is true.
@@ -251,5 +291,20 @@ fn balance(left: Tree, node: Box<Node>, right: Tree) -> Tree
         lean_right(left, node, right)
     } else {
         fork(left, node, right)
+    }
+}
+
+/// The tree of the two sides of a node, without it.
+fn join(left: Tree, right: Tree) -> Tree
+    requires rising { IsTrue (is_sorted key_cmp (left.entries ++ right.entries)) }
+    requires even { DifferBy 1 left.height right.height }
+    requires fits { length (left.entries ++ right.entries) < 2 ^ 32 }
+    ensures entries { result.entries ≡ left.entries ++ right.entries }
+    ensures not_lower { max left.height right.height ≤ result.height }
+    ensures at_most_one_higher { result.height ≤ max left.height right.height + 1 }
+{
+    match right.take_first() {
+        None => left,
+        Some((first, right)) => balance(left, first, right),
     }
 }
