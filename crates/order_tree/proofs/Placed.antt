@@ -1,5 +1,5 @@
 -- A tree that was taken apart: where a key goes, and what a change of a side makes of the whole.
-use Rattle.std.proofs.Common.{◌≡◌, ℕ, ◌+◌, ◌<◌, ◌≤◌, Bool, true, false, cond, List, ◌∷◌, ◌++◌, Box, Option, None, Some, length, refl, sym, ap, ◌∙◌, subst, arith, length-append}
+use Rattle.std.proofs.Common.{◌≡◌, ℕ, ◌+◌, ◌*◌, ◌<◌, ◌≤◌, Bool, true, false, cond, List, ◌∷◌, ◌++◌, Box, Option, None, Some, length, refl, sym, ap, ◌∙◌, subst, arith, length-append}
 use Rattle.std.specs.Prelude.{is_some}
 use Rattle.std.specs.FinMap.{find, put, is_sorted}
 use Rattle.std.specs.FinMap.Entries.{length-put, length_without}
@@ -11,11 +11,13 @@ use Rattle.std.specs.List as list
 use Rattle.std.specs.Option.{option_or}
 use Rattle.std.specs.declared.alloc.Global.{Global}
 use Rattle.order_tree.specs.Branch.{Branch, without, reaches}
-use Rattle.order_tree.specs.Balance.{entry_in, joined, branch_of, IsFork, IsBalanced, IsRoot}
+use Rattle.order_tree.specs.Balance.{entry_in, joined, branch_of, fewest, IsFork, IsBalanced, IsRoot}
 use Rattle.order_tree.specs.declared.key.Key.{Key}
 use Rattle.order_tree.specs.declared.tree.Node.{Node}
 use Rattle.order_tree.proofs.Entries.{find-left, find-right, find-middle, put-left, put-right, is_sorted-put_of, where_key-left, where_key-right, where_key-middle, is_sorted-without, find_passes-left, find_passes-right}
+use Rattle.order_tree.proofs.Heights.{height-le}
 use Rattle.order_tree.proofs.Keys.{key_total}
+use Rattle.cs_types.specs.Comparisons.{digits}
 
 -- the first entry above a key, or also at it
 abbrev pub sought : Key → Bool → List Entry → Option Entry
@@ -81,6 +83,10 @@ module _ {whole left : Branch} {entry : Entry} {right : Branch} (root : IsRoot w
 
   pub sides_shorter : (length left.entries < length whole.entries) × (length right.entries < length whole.entries)
   sides_shorter = let count = ap length root.entries ∙ length-append left.entries (entry ∷ right.entries) in (omega arith, omega arith)
+
+  -- a tree is as high as its number of entries lets it be
+  pub shallow_of : whole.height ≤ 2 * digits (length whole.entries)
+  shallow_of = height-le whole.height (length whole.entries) (subst (λ n. fewest whole.height ≤ n) (sym (ap length root.entries)) root.fork.many)
 
   module _ (key : Key) where
     pub find-left_of : key_cmp key entry.0 ≡ Less → find key_cmp key whole.entries ≡ find key_cmp key left.entries

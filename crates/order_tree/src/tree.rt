@@ -1,8 +1,9 @@
 //! The tree: its nodes, and how they keep in balance.
 
-ghost use Rattle.std.specs.Prelude.{◌≡◌, ◌+◌, ◌^◌, ◌<◌, ◌≤◌, [], ◌++◌, length, max, IsTrue, None, MatchOption, is_some, slice_get};
+ghost use Rattle.std.specs.Prelude.{◌≡◌, ◌+◌, ◌*◌, ◌^◌, ◌<◌, ◌≤◌, [], ◌++◌, length, max, IsTrue, None, MatchOption, is_some, slice_get};
 ghost use Rattle.std.specs.List as list;
 ghost use Rattle.std.specs.FinMap.{find, put, is_sorted};
+ghost use Rattle.cs_types.specs.Comparisons.{digits};
 ghost use Rattle.order_tree.specs.Order.{key_cmp};
 ghost use Rattle.order_tree.specs.Branch.{without, reaches};
 ghost use Rattle.order_tree.specs.Balance.{entry_in, joined, fewest, DifferBy, IsRoot, IsSettled, IsFirst};
@@ -101,6 +102,7 @@ impl Tree {
     /// The two sides of the root, and the root.
     fn open(self) -> Option<Parts>
         ensures none { result ≡ None → self.height ≡ 0 }
+        ensures shallow { self.height ≤ 2 * digits (length self.entries) }
         ensures parts { MatchOption result (self.entries ≡ []) (λ parts. IsRoot self parts.left (entry_in parts.node.value) parts.right) }
     {
         let mut node = self.root?;
@@ -125,6 +127,7 @@ impl Tree {
     /// The first entry whose key is above this one, or also at it where `at` is true.
     pub fn seek<L: Ledger>(&self, key: &Key, at: bool, steps: &mut Steps<L>) -> Option<(Key, Pid)>
         ensures found { result ≡ list.find (λ entry. reaches at (key_cmp entry.0 key.now)) self.now.entries }
+        ensures shallow { self.now.height ≤ 2 * digits (length self.now.entries) }
         ensures counted { steps.new ≤ steps.old + self.now.height }
     {
         let Some(node) = &self.root else {
@@ -147,6 +150,7 @@ impl Tree {
         ensures entries { result.entries ≡ put key_cmp node.value.key node.value.pid self.entries }
         ensures not_lower { self.height ≤ result.height }
         ensures at_most_one_higher { result.height ≤ self.height + 1 }
+        ensures shallow { self.height ≤ 2 * digits (length self.entries) }
         ensures counted { steps.new ≤ steps.old + self.height }
     {
         let Some(parts) = self.open() else {
@@ -181,6 +185,7 @@ impl Tree {
         ensures taken { is_some result.1 ≡ is_some (find key_cmp key.now self.entries) }
         ensures not_higher { result.0.height ≤ self.height }
         ensures at_most_one_lower { self.height ≤ result.0.height + 1 }
+        ensures shallow { self.height ≤ 2 * digits (length self.entries) }
         ensures counted { steps.new ≤ steps.old + self.height }
     {
         let Some(parts) = self.open() else {
