@@ -3,3 +3,4 @@ pub mod Keys
 pub mod Heights
 pub mod Forks
 pub mod Placed
+pub mod Members

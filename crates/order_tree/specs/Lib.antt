@@ -1,3 +1,4 @@
 pub mod Order
 pub mod Branch
 pub mod Balance
+pub mod Inside

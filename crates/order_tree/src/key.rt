@@ -8,3 +8,13 @@ pub struct Key {
     pub rank: u128,
     pub stamp: u64,
 }
+
+impl Key {
+    /// What a node holds that stands for no key.
+    pub const BLANK: Key = Key {
+        group: 0,
+        class: 0,
+        rank: 0,
+        stamp: 0,
+    };
+}

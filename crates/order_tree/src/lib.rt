@@ -3,6 +3,8 @@
 #![tactic(auto)]
 
 mod key;
+mod order;
 mod tree;
 
 pub use key::Key;
+pub use order::OrderTree;

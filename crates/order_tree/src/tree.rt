@@ -65,17 +65,23 @@ impl Model for Tree {
 }
 
 impl Node {
-    /// A node of one entry that stands in no tree.
-    pub fn new(key: Key, pid: Pid) -> Node
-        ensures { entry_in result ≡ (key, pid) }
-    {
+    /// A node that stands in no tree.
+    pub fn blank() -> Node {
         Node {
             left: Tree::empty(),
-            key,
-            pid,
-            height: 1,
+            key: Key::BLANK,
+            pid: 0,
+            height: 0,
             right: Tree::empty(),
         }
+    }
+
+    /// Writes an entry over the node's.
+    pub fn hold(&mut self, key: Key, pid: Pid)
+        ensures { entry_in self.new ≡ (key, pid) }
+    {
+        self.key = key;
+        self.pid = pid;
     }
 }
 

@@ -1,0 +1,53 @@
+use Rattle.std.proofs.Common.{◌≡◌, ◌+◌, List, ◌++◌, length, Option, Some, ap, ◌∙◌, arith, length-append}
+use Rattle.std.specs.Option.{option_to_list}
+use Rattle.std.specs.FinMap.{find, put}
+use Rattle.order_tree.specs.Order.{Entry, Ordered, key_cmp}
+use Rattle.order_tree.specs.Branch.{Branch}
+use Rattle.order_tree.proofs.Placed.{IsPut, IsPut-from}
+use Rattle.order_tree.proofs.Members.{find-free, map_of-put, within}
+use Rattle.order_tree.proofs.order.OrderTree.insert.Given as given
+use Rattle.order_tree.proofs.order.OrderTree.insert.Goals as goal
+use Rattle.order_tree.proofs.order.OrderTree.insert.Goals.{After-insert}
+
+-- what is left where the last one was taken
+popped : {A : Type 0} (before after : List A) (o : Option A) (x : A) → before ≡ after ++ option_to_list o → o ≡ Some x → length before ≡ length after + 1
+popped before after o x is some = ap length is ∙ length-append after (option_to_list o) ∙ ap (λ p. length after + length (option_to_list p)) some
+
+pub insert-requires-clause-free : goal.insert-requires-clause-free
+insert-requires-clause-free g c =
+    ap (λ (e : Entry). find key_cmp e.0 c.replace.result.entries) c.hold.ensures
+    ∙ ap (λ (b : Branch). find key_cmp c.args.key b.entries) c.replace.ensures.value
+    ∙ find-free c.self.inside.tree.entries c.self.invariant.rising _ (ap (λ (o : Ordered). o.members) c.self.view_is) c.args.key c.requires.free
+
+enters : (g : given.Over) (c : After-insert g) → IsPut c.self.inside.tree.entries c.args.key c.args.pid c.insert.result.entries
+enters g c =
+    IsPut-from _ _ _ _ c.self.invariant.rising
+    (find-free c.self.inside.tree.entries c.self.invariant.rising _ (ap (λ (o : Ordered). o.members) c.self.view_is) c.args.key c.requires.free)
+    (c.insert.ensures.entries
+    ∙ ap (λ (e : Entry). put key_cmp e.0 e.1 c.replace.result.entries) c.hold.ensures
+    ∙ ap (λ (b : Branch). put key_cmp c.args.key c.args.pid b.entries) c.replace.ensures.value)
+
+pub invariant_of-self : goal.invariant_of-self
+invariant_of-self g c =
+    let sound = c.self.invariant in
+    let put = enters g (goal.at.invariant_of-self g c).After-insert in
+    let count = put.count in
+    let nodes = popped _ _ _ _ c.pop.ensures.items c.unwrap-node.ensures in
+    let capacity = c.pop.ensures.capacity in
+    let spare = rw (← c.self.view_is) at c.requires.spare in record {
+      rising = put.rising;
+      counted = omega arith;
+      nodes = omega arith;
+      places = omega arith;
+      few = omega arith;
+    }
+
+pub returns-clause-members : goal.returns-clause-members
+returns-clause-members g c =
+    map_of-put c.self.inside.tree.entries c.self.invariant.rising _ (ap (λ (o : Ordered). o.members) c.self.view_is) c.args.key c.args.pid _
+    (enters g (goal.at.returns-clause-members g c).After-insert).entries
+
+pub returns-clause-counted : goal.returns-clause-counted
+returns-clause-counted g c =
+    rw (← c.self.view_is)
+    (within c.self.inside.tree.entries c.self.invariant.rising _ _ c.self.inside.tree.height (rw c.replace.ensures.value at c.insert.ensures.counted) (rw c.replace.ensures.value at c.insert.ensures.shallow))

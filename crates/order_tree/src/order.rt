@@ -1,0 +1,159 @@
+//! The tree with the nodes that are spare. It is apart since here alone memory is taken.
+
+ghost use Rattle.std.specs.Prelude.{◌≡◌, ◌+◌, ◌<◌, ◌≤◌, max, None, OnOk, OnErr, if◌then◌else◌, length, vec_capacity};
+ghost use Rattle.std.specs.FinMap as map;
+ghost use Rattle.cs_types.specs.Comparisons.{most_comparisons};
+ghost use Rattle.order_tree.specs.Order.{first_of, first_from, next_of};
+
+use crate::key::Key;
+use crate::tree::{Node, Tree};
+use cs_types::{OutOfMemory, Pid, Steps};
+use std::alloc::Global;
+use std::marker::Model;
+use std::mem;
+use std::sync::ledger::Ledger;
+
+/// Pids at keys, in rising order of the keys. A call that looks for a key counts each comparison of two
+/// keys, and among n keys makes at most twice the number of binary digits of n, and two more.
+#[derive(Drop)]
+pub struct OrderTree {
+    tree: Tree,
+    /// Nodes that stand for no key, as many as are spare or more.
+    nodes: Vec<Box<Node>>,
+    /// How many keys there are.
+    count: u32,
+    /// How many more there may be.
+    spare: u32,
+    alloc: Global,
+}
+
+impl Model for OrderTree {
+    ghost use Rattle.order_tree.specs.Order.{Ordered};
+    ghost use Rattle.order_tree.specs.Branch.{ordered_code};
+
+    ghost Value = { Ordered };
+
+    ghost coded = { ordered_code };
+
+    ghost use Rattle.order_tree.specs.Inside.{ordered_of, IsSound};
+
+    ghost view = { ordered_of };
+
+    ghost invariant = { IsSound };
+}
+
+impl OrderTree {
+    /// No key, and no spare node. It takes no memory.
+    pub fn empty(alloc: Global) -> OrderTree
+        ensures members { result.members ≡ map.empty }
+        ensures spare { result.spare ≡ 0 }
+    {
+        OrderTree {
+            tree: Tree::empty(),
+            nodes: Vec::new(alloc),
+            count: 0,
+            spare: 0,
+            alloc,
+        }
+    }
+
+    /// Raises `spare` to `n` keys where it is below. This call alone takes memory. An `Err`, for want of
+    /// it or where there would be more than 4294967295 keys, changes nothing.
+    pub fn reserve(&mut self, n: u32) -> Result<(), OutOfMemory>
+        ensures members { self.new.members ≡ self.old.members }
+        ensures spare { OnOk result (self.new.spare ≡ max n self.old.spare) }
+        ensures err { OnErr result (self.new.spare ≡ self.old.spare) }
+    {
+        if n <= self.spare {
+            return Ok(());
+        }
+        if self.count.checked_add(n).is_none() {
+            return Err(OutOfMemory);
+        }
+        let places = self.count as usize + n as usize;
+        self.nodes.reserve(places.saturating_sub(self.nodes.len()))?;
+        fill(&mut self.nodes, n as usize, self.alloc)?;
+        self.spare = n;
+        Ok(())
+    }
+
+    /// Puts a pid at a key where none is.
+    pub fn insert<L: Ledger>(&mut self, key: Key, pid: Pid, steps: &mut Steps<L>)
+        requires spare { 0 < self.old.spare }
+        requires free { map.get self.old.members key ≡ None }
+        ensures members { self.new.members ≡ map.insert self.old.members key pid }
+        ensures spare { self.new.spare + 1 ≡ self.old.spare }
+        ensures counted { steps.new ≤ steps.old + most_comparisons (map.len self.old.members) }
+    {
+        let mut node = self.nodes.pop().unwrap();
+        node.hold(key, pid);
+        self.tree = mem::replace(&mut self.tree, Tree::empty()).insert(node, steps);
+        self.count += 1;
+        self.spare -= 1;
+    }
+
+    /// Takes out the pid at a key. `false` comes exactly where none is there, and then nothing changes.
+    pub fn remove<L: Ledger>(&mut self, key: &Key, steps: &mut Steps<L>) -> bool
+        ensures found { result ≡ map.contains_key self.old.members key.now }
+        ensures members { self.new.members ≡ map.remove self.old.members key.now }
+        ensures spare { self.new.spare ≡ self.old.spare + (if result then 1 else 0) }
+        ensures counted { steps.new ≤ steps.old + most_comparisons (map.len self.old.members) }
+    {
+        let (tree, taken) = mem::replace(&mut self.tree, Tree::empty()).remove(key, steps);
+        self.tree = tree;
+        let Some(node) = taken else {
+            return false;
+        };
+        self.nodes.push(node).unwrap();
+        self.count -= 1;
+        self.spare += 1;
+        true
+    }
+
+    /// The least key, and the pid there. `None` exactly where there is no key.
+    pub fn first<L: Ledger>(&self, steps: &mut Steps<L>) -> Option<(Key, Pid)>
+        ensures first { result ≡ first_of self.now.members }
+        ensures counted { steps.new ≡ steps.old }
+    {
+        let _ = steps;
+        self.tree.first()
+    }
+
+    /// The least key that is not below this one, and the pid there. `None` exactly where each key is
+    /// below it.
+    pub fn first_from<L: Ledger>(&self, key: &Key, steps: &mut Steps<L>) -> Option<(Key, Pid)>
+        ensures first { result ≡ first_from self.now.members key.now }
+        ensures counted { steps.new ≤ steps.old + most_comparisons (map.len self.now.members) }
+    {
+        self.tree.seek(key, true, steps)
+    }
+
+    /// The least key that is above this one, and the pid there. `None` exactly where no key is above it.
+    pub fn next<L: Ledger>(&self, key: &Key, steps: &mut Steps<L>) -> Option<(Key, Pid)>
+        ensures next { result ≡ next_of self.now.members key.now }
+        ensures counted { steps.new ≤ steps.old + most_comparisons (map.len self.now.members) }
+    {
+        self.tree.seek(key, false, steps)
+    }
+
+    /// How many keys there are.
+    pub fn len(&self) -> u32
+        ensures { result ≡ map.len self.now.members }
+    {
+        self.count
+    }
+}
+
+/// Adds nodes until there are `n`. There are places for as many.
+fn fill(nodes: &mut Vec<Box<Node>>, n: usize, alloc: Global) -> Result<(), OutOfMemory>
+    requires places { n ≤ vec_capacity nodes.old }
+    ensures enough { OnOk result (n ≤ length nodes.new.items) }
+    ensures no_fewer { length nodes.old.items ≤ length nodes.new.items }
+    ensures no_more { length nodes.new.items ≤ max n (length nodes.old.items) }
+    ensures capacity { vec_capacity nodes.new ≡ vec_capacity nodes.old }
+{
+    while nodes.len() < n {
+        nodes.push(Box::new(alloc, Node::blank())?).unwrap();
+    }
+    Ok(())
+}
