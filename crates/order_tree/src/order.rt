@@ -150,7 +150,7 @@ fn fill(nodes: &mut Vec<Box<Node>>, n: usize, alloc: Global) -> Result<(), OutOf
     ensures enough { OnOk result (n ≤ length nodes.new.items) }
     ensures no_fewer { length nodes.old.items ≤ length nodes.new.items }
     ensures no_more { length nodes.new.items ≤ max n (length nodes.old.items) }
-    ensures capacity { vec_capacity nodes.new ≡ vec_capacity nodes.old }
+    ensures capacity { vec_capacity nodes.old ≤ vec_capacity nodes.new }
 {
     while nodes.len() < n {
         nodes.push(Box::new(alloc, Node::blank())?).unwrap();
