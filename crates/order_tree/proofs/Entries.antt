@@ -1,16 +1,15 @@
 -- Entries that rise by key, parted by one of them: what a search, a put and a removal do to the parts.
-use Rattle.std.proofs.Common.{◌≡◌, Bool, true, false, not, cond, List, [], ◌∷◌, ◌++◌, refl, sym, ap, ◌∙◌, subst, Option, Some, None}
-use Rattle.std.specs.Prelude.{◌&&◌, is_some, filter}
+use Rattle.std.proofs.Common.{◌≡◌, Bool, true, false, not, cond, List, [], ◌∷◌, ◌++◌, refl, sym, ap, ◌∙◌, Option, Some, None}
 use lib.Dec.{T}
 use Rattle.std.specs.Option.{option_or}
 use Rattle.std.specs.List as list
 use Rattle.std.specs.List.{list_all}
-use Rattle.std.specs.Cmp.{IsTotalOrder, eq_by_cmp_equiv, alike_right, tied_itself}
+use Rattle.std.specs.Cmp.{IsTotalOrder, eq_by_cmp_equiv, alike_right}
 use Rattle.std.specs.Ordering.{ordering_reverse, is_lt, is_eq, eq_by_cmp}
 use Rattle.std.specs.declared.cmp.Ordering.{Ordering}
 use Rattle.std.specs.declared.cmp.Ordering.TheVariants.{Less, Equal, Greater}
 use Rattle.std.specs.FinMap as fin
-use Rattle.std.specs.FinMap.{FinMap, IsAntisymmetric, get, from_sorted, find, put, is_sorted, entries-from_sorted, entries-insert, same_entries_map, same_map, get-from_sorted, get-remove, contains_key}
+use Rattle.std.specs.FinMap.{IsAntisymmetric, from_sorted, find, put, is_sorted, entries-from_sorted, entries-insert, same_entries_map, same_map, get-from_sorted, get-remove}
 use Rattle.std.specs.FinMap.Entries.{below_all, where_key, by_order, find-where_key, is_sorted-put, is_sorted-where_key}
 use Rattle.std.proofs.lemmas.Bool.{and_parts, and_from, cond-true, cond-false}
 use Rattle.std.proofs.lemmas.List.Elements.{filter-append}

@@ -1,5 +1,5 @@
 -- The map that a tree's entries are, and what is asked of it.
-use Rattle.std.proofs.Common.{◌≡◌, ℕ, ◌+◌, ◌*◌, ◌≤◌, Bool, true, false, not, cond, List, length, Option, Some, None, refl, sym, ap, ◌∙◌, subst, arith}
+use Rattle.std.proofs.Common.{◌≡◌, ℕ, ◌+◌, ◌*◌, ◌≤◌, true, false, not, cond, List, length, None, refl, sym, ap, ◌∙◌, subst, arith}
 use Rattle.std.specs.Prelude.{slice_get, find, is_some}
 use Rattle.std.specs.Ordering.{is_lt, is_gt}
 use Rattle.std.specs.declared.cmp.Ordering.{Ordering}
@@ -11,7 +11,7 @@ use Rattle.cs_types.specs.Comparisons.{digits, most_comparisons}
 use Rattle.cs_types.proofs.Queues.{said, len-from_sorted}
 use Rattle.cs_types.proofs.Foremost.{find_same}
 use Rattle.order_tree.specs.Order.{Entry, Members, key_cmp, first_of, first_from, next_of}
-use Rattle.order_tree.specs.Branch.{Branch, without, reaches}
+use Rattle.order_tree.specs.Branch.{without, reaches}
 use Rattle.order_tree.specs.declared.key.Key.{Key}
 use Rattle.order_tree.proofs.Entries.{from_sorted-put, from_sorted-without}
 use Rattle.order_tree.proofs.Keys.{key_total, key_cmp-IsAntisymmetric}

@@ -1,6 +1,5 @@
 use Rattle.std.proofs.Common.{rules, ◌≡◌, ◌+◌, ◌<◌, ◌^◌, None, length, sym, ◌∙◌, arith}
 use Rattle.std.specs.FinMap.{find}
-use Rattle.std.specs.declared.cmp.Ordering.TheVariants.{Less, Equal, Greater}
 use Rattle.order_tree.specs.Order.{key_cmp}
 use Rattle.order_tree.specs.Balance.{entry_in, joined}
 use Rattle.order_tree.proofs.Placed.{compared, sides_shorter, find-left_of, find-right_of, find-at_root, IsPut, IsPut-left, IsPut-right}

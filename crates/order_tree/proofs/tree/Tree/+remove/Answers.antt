@@ -1,4 +1,4 @@
-use Rattle.std.proofs.Common.{◌≡◌, ◌++◌, sym, ap, ◌∙◌, arith}
+use Rattle.std.proofs.Common.{◌++◌, sym, ap, ◌∙◌, arith}
 use Rattle.std.specs.Prelude.{is_some}
 use Rattle.order_tree.specs.Balance.{entry_in, joined}
 use Rattle.order_tree.proofs.Placed.{compared_key, find-left_of, find-right_of, find-at_root, IsCut, IsCut-left, IsCut-right, IsCut-root}

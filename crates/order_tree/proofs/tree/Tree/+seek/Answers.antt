@@ -1,4 +1,4 @@
-use Rattle.std.proofs.Common.{◌≡◌, sym, ap, ◌∙◌}
+use Rattle.std.proofs.Common.{sym, ap, ◌∙◌}
 use Rattle.order_tree.specs.declared.tree.Node.{Node}
 use Rattle.order_tree.proofs.Placed.{sought, IsRoot-from, reached, shallow_of, seek-root, seek-lower, seek-right}
 use Rattle.order_tree.proofs.tree.Tree.+seek.Goals as goal
