@@ -1,5 +1,5 @@
 -- Nodes over two trees: what holds of them, and the lists that turning them keeps.
-use Rattle.std.proofs.Common.{◌≡◌, ℕ, ◌+◌, ◌≤◌, true, List, ◌∷◌, ◌++◌, length, max, sym, ap, ◌∙◌, subst, append_assoc, arith, length-append}
+use Rattle.std.proofs.Common.{◌≡◌, ℕ, ◌+◌, ◌^◌, ◌<◌, ◌≤◌, true, List, ◌∷◌, ◌++◌, length, max, sym, ap, ◌∙◌, subst, append_assoc, arith, length-append}
 use Rattle.std.proofs.lemmas.Bool.{and_parts}
 use Rattle.std.specs.Prelude.{IsTrue}
 use Rattle.std.specs.FinMap.{is_sorted}
@@ -7,7 +7,7 @@ use Rattle.order_tree.specs.Order.{Entry, key_cmp}
 use Rattle.order_tree.specs.Branch.{Branch}
 use Rattle.order_tree.specs.Balance.{joined, fewest, DifferBy, IsFork}
 use Rattle.order_tree.proofs.Entries.{is_sorted-front, is_sorted-back}
-use Rattle.order_tree.proofs.Heights.{fewest-fork}
+use Rattle.order_tree.proofs.Heights.{fewest-fork, height-fits}
 use Rattle.order_tree.proofs.Keys.{key_total}
 
 pub IsFork-from : (left : Branch) (entry : Entry) (right : Branch) (levels : ℕ) →
@@ -22,6 +22,13 @@ IsFork-from left entry right levels rising even one_more many_left many_right =
       even = even;
       many = subst (λ h. fewest h ≤ length (joined left entry right)) (sym one_more) all;
     }
+
+-- no side is so high that a level more would not fit
+pub heights-fit : (left : Branch) (entry : Entry) (right : Branch) → fewest left.height ≤ length left.entries → fewest right.height ≤ length right.entries →
+    length (joined left entry right) < 2 ^ 32 → (left.height ≤ 64) × (right.height ≤ 64)
+heights-fit left entry right many_left many_right few =
+    let count = length-append left.entries (entry ∷ right.entries) in
+    (height-fits left.height (length left.entries) many_left (omega arith), height-fits right.height (length right.entries) many_right (omega arith))
 
 -- ---- the parts of entries that rise
 
