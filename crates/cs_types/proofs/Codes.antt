@@ -2,7 +2,7 @@
 use Rattle.std.specs.Prelude.{ℕ, refl}
 use Rattle.std.specs.FinMap.{code}
 use Rattle.std.specs.Coded.{Coded, code_by, coded×, coded_ℕ}
-use Rattle.cs_types.specs.Queue.{Members, Ranked, Seats, Seated}
+use Rattle.cs_types.specs.Queue.{Members, Ranked, Seats, Seated, Spots, Spotted}
 
 abbrev pub ranked_code : Coded Ranked
 ranked_code =
@@ -12,4 +12,9 @@ ranked_code =
 abbrev pub seated_code : Coded Seated
 seated_code =
     code_by (Seats × ℕ) (coded× (code (coded× coded_ℕ (coded× coded_ℕ coded_ℕ)) coded_ℕ) coded_ℕ) (λ queue. (queue.tasks, queue.spare))
+    (λ parts. record { tasks = parts.0; spare = parts.1 }) (λ _. refl)
+
+abbrev pub spotted_code : Coded Spotted
+spotted_code =
+    code_by (Spots × ℕ) (coded× (code (coded× coded_ℕ (coded× coded_ℕ (coded× coded_ℕ coded_ℕ))) coded_ℕ) coded_ℕ) (λ queue. (queue.tasks, queue.spare))
     (λ parts. record { tasks = parts.0; spare = parts.1 }) (λ _. refl)

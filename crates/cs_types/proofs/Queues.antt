@@ -19,7 +19,7 @@ use Rattle.cs_types.specs.declared.task.Policy.{Policy}
 use Rattle.cs_types.specs.declared.task.Policy.TheVariants.{Stop, Deadline, Fifo, Rr, Fair}
 use Rattle.cs_types.specs.declared.task.Task.{Task}
 use Rattle.cs_types.specs.Order.{foremost, class_of, priority_of, goes_before, first_of}
-use Rattle.cs_types.specs.Queue.{top_of, Key, key_cmp, Seat, seat_cmp, rank_by, entry_of, queue_of}
+use Rattle.cs_types.specs.Queue.{top_of, Key, key_cmp, Seat, seat_cmp, Spot, spot_cmp, rank_by, entry_of, queue_of}
 use Rattle.cs_types.proofs.Foremost.{find_passes, find_narrower, find_same, each_of_all, all_of_each, each_weaker, foremost_none, not_before_itself}
 
 -- ---- the orders
@@ -29,6 +29,9 @@ key_total = then_total (on_total (λ (key : Key). key.0) nat_cmp_total) (on_tota
 
 pub seat_total : IsTotalOrder seat_cmp
 seat_total = then_total (on_total (λ (seat : Seat). seat.0) nat_cmp_total) (on_total (λ (seat : Seat). seat.1) key_total)
+
+pub spot_total : IsTotalOrder spot_cmp
+spot_total = then_total (on_total (λ (spot : Spot). spot.0) nat_cmp_total) (on_total (λ (spot : Spot). spot.1) seat_total)
 
 -- only equal pairs tie, where only equal parts do
 same_pair : {A B : Type 0} {R : A → A → Ordering} {S : B → B → Ordering} → IsAntisymmetric R → IsAntisymmetric S →
@@ -45,6 +48,9 @@ key_cmp-IsAntisymmetric = same_pair nat_cmp-IsAntisymmetric nat_cmp-IsAntisymmet
 
 pub seat_cmp-IsAntisymmetric : IsAntisymmetric seat_cmp
 seat_cmp-IsAntisymmetric = same_pair nat_cmp-IsAntisymmetric key_cmp-IsAntisymmetric
+
+pub spot_cmp-IsAntisymmetric : IsAntisymmetric spot_cmp
+spot_cmp-IsAntisymmetric = same_pair nat_cmp-IsAntisymmetric seat_cmp-IsAntisymmetric
 
 -- ---- a map that is made of sorted entries
 

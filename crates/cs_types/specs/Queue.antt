@@ -1,14 +1,15 @@
 -- Queue: the key of a queued task in its class and its seat on its sibling, and what a class's queue and a sibling's run
 -- queue stand for (`struct rq`, and the queues of the classes in it; ties by the queue stamp are this project's rule).
-use Rattle.std.specs.Prelude.{ℕ, ◌-◌, Option, List, map, slice_get}
-use Rattle.std.specs.Ordering.{ordering_then, nat_cmp}
+use Rattle.std.specs.Prelude.{◌≡◌, ℕ, ◌-◌, ◌≤◌, ◌==◌, ◌&&◌, Option, List, map, find, slice_get}
+use Rattle.std.specs.Option.{option_map}
+use Rattle.std.specs.Ordering.{ordering_then, nat_cmp, is_lt}
 use Rattle.std.specs.declared.cmp.Ordering.{Ordering}
-use Rattle.std.specs.FinMap.{FinMap, from_entries, values}
+use Rattle.std.specs.FinMap.{FinMap, entries, from_entries, values}
 use Rattle.cs_types.specs.declared.queue.Queued.{Queued}
 use Rattle.cs_types.specs.declared.task.Policy.{Policy}
 use Rattle.cs_types.specs.declared.task.Policy.TheVariants.{Stop, Deadline, Fifo, Rr, Fair}
 use Rattle.cs_types.specs.declared.task.Task.{Task}
-use Rattle.cs_types.specs.Order.{class_of}
+use Rattle.cs_types.specs.Order.{stop_class, fair_class, class_of}
 
 -- the value at the least key of a map, none where it is empty. The values stand by rising key
 abbrev pub top_of : {K X : Type 0} {R : K → K → Ordering} → FinMap R X → Option X
@@ -53,6 +54,48 @@ pub record Seated : Type 0 where
 -- the seat of a queued task
 abbrev pub seat_of : Queued → Seat
 seat_of task = (task.class, (task.rank, task.stamp))
+
+-- ---- among the tasks of a sibling that have a cookie
+
+-- a task's spot: its cookie, and then its seat. Tasks with one cookie stand together, the highest first
+-- (`__sched_core_less`)
+abbrev pub Spot : Type 0
+Spot = ℕ × Seat
+
+abbrev pub spot_cmp : Spot → Spot → Ordering
+spot_cmp a b = ordering_then (nat_cmp a.0 b.0) (seat_cmp a.1 b.1)
+
+-- the queued tasks of a sibling that have a cookie: the pid at each spot
+abbrev pub Spots : Type 0
+Spots = FinMap spot_cmp ℕ
+
+-- a sibling's tasks with cookies, and how many more there may be
+pub record Spotted : Type 0 where
+  pub tasks : Spots
+  pub spare : ℕ
+
+-- the spot of a queued task
+abbrev pub spot_of : Queued → Spot
+spot_of task = (task.cookie, seat_of task)
+
+-- the task of this pid at a spot
+abbrev pub queued_in : Spot → ℕ → Queued
+queued_in spot pid = record { pid = pid; class = spot.1.0; rank = spot.1.1.0; stamp = spot.1.1.1; cookie = spot.0 }
+
+-- the highest task with the cookie (`sched_core_find`)
+abbrev pub first_with : Spots → ℕ → Option Queued
+first_with tasks cookie = option_map (λ entry. queued_in entry.0 entry.1) (find (λ entry. entry.0.0 == cookie) (entries tasks))
+
+-- the highest task with the cookie of this one that is lower than it (`sched_core_next`)
+abbrev pub next_with : Spots → Queued → Option Queued
+next_with tasks task =
+    option_map (λ entry. queued_in entry.0 entry.1)
+    (find (λ entry. entry.0.0 == task.cookie && is_lt (seat_cmp (seat_of task) entry.0.1)) (entries tasks))
+
+-- The class is one of the four, and the rank of a stop task is 0.
+pub record IsRanked (task : Queued) : Type 0 where
+  pub class : task.class ≤ fair_class
+  pub stop : task.class ≡ stop_class → task.rank ≡ 0
 
 -- ---- the tasks of a room in a run queue
 

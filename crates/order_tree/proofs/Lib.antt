@@ -4,3 +4,4 @@ pub mod Heights
 pub mod Forks
 pub mod Placed
 pub mod Members
+pub mod Renamed

@@ -2,3 +2,4 @@ pub mod Order
 pub mod Branch
 pub mod Balance
 pub mod Inside
+pub mod Renamed

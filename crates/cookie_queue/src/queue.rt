@@ -1,0 +1,136 @@
+//! The queue: an ordered tree, whose keys are grouped by cookie.
+
+ghost use Rattle.std.specs.Prelude.{◌≡◌, ◌≢◌, ◌+◌, ◌<◌, ◌≤◌, max, None, OnOk, OnErr, IfSome, if◌then◌else◌};
+ghost use Rattle.std.specs.FinMap as map;
+ghost use Rattle.cs_types.specs.Comparisons.{most_comparisons};
+ghost use Rattle.cs_types.specs.Queue.{IsRanked, spot_of, first_with, next_with};
+ghost use Rattle.cookie_queue.specs.Inside.{key_at, with_cookie};
+
+use cs_types::{Cookie, OutOfMemory, Pid, Queued, Steps};
+use order_tree::{Key, OrderTree};
+use std::alloc::Global;
+use std::marker::Model;
+use std::sync::ledger::Ledger;
+
+/// The queued tasks of one sibling that have a cookie. A call that looks for a task counts its
+/// comparisons, and among n tasks makes at most twice the number of binary digits of n, and two more.
+#[derive(Drop)]
+pub struct CookieQueue {
+    tree: OrderTree,
+}
+
+impl Model for CookieQueue {
+    ghost use Rattle.cs_types.specs.Queue.{Spotted};
+    ghost use Rattle.cs_types.proofs.Codes.{spotted_code};
+
+    ghost Value = { Spotted };
+
+    ghost coded = { spotted_code };
+
+    ghost use Rattle.cookie_queue.specs.Inside.{spotted_of};
+
+    ghost view = { λ queue. spotted_of queue.tree };
+}
+
+impl CookieQueue {
+    /// No task, and nothing reserved. It takes no memory.
+    pub fn empty(alloc: Global) -> CookieQueue
+        ensures tasks { result.tasks ≡ map.empty }
+        ensures spare { result.spare ≡ 0 }
+    {
+        CookieQueue {
+            tree: OrderTree::empty(alloc),
+        }
+    }
+
+    /// Raises `spare` to `n` tasks where it is below. This call alone takes memory. An `Err`, for want of
+    /// it or where there would be more than 4294967295 tasks, changes nothing.
+    pub fn reserve(&mut self, n: u32) -> Result<(), OutOfMemory>
+        ensures tasks { self.new.tasks ≡ self.old.tasks }
+        ensures spare { OnOk result (self.new.spare ≡ max n self.old.spare) }
+        ensures err { OnErr result (self.new.spare ≡ self.old.spare) }
+    {
+        self.tree.reserve(n)
+    }
+
+    /// Puts a task, which has a cookie, where none has its cookie, class, rank and stamp
+    /// (`sched_core_enqueue`).
+    pub fn put<L: Ledger>(&mut self, task: Queued, steps: &mut Steps<L>)
+        requires spare { 0 < self.old.spare }
+        requires ranked { IsRanked task }
+        requires cookie { task.cookie ≢ 0 }
+        requires free { map.get self.old.tasks (spot_of task) ≡ None }
+        ensures tasks { self.new.tasks ≡ map.insert self.old.tasks (spot_of task) task.pid }
+        ensures spare { self.new.spare + 1 ≡ self.old.spare }
+        ensures counted { steps.new ≤ steps.old + most_comparisons (map.len self.old.tasks) }
+    {
+        self.tree.insert(key_of(&task), task.pid, steps);
+    }
+
+    /// Takes a task out (`sched_core_dequeue`). `false` comes exactly where it is not there, and then
+    /// nothing changes.
+    pub fn take<L: Ledger>(&mut self, task: &Queued, steps: &mut Steps<L>) -> bool
+        requires ranked { IsRanked task.now }
+        requires same { IfSome (map.get self.old.tasks (spot_of task.now)) (λ pid. pid ≡ task.now.pid) }
+        ensures found { result ≡ map.contains_key self.old.tasks (spot_of task.now) }
+        ensures tasks { self.new.tasks ≡ map.remove self.old.tasks (spot_of task.now) }
+        ensures spare { self.new.spare ≡ self.old.spare + (if result then 1 else 0) }
+        ensures counted { steps.new ≤ steps.old + most_comparisons (map.len self.old.tasks) }
+    {
+        self.tree.remove(&key_of(task), steps)
+    }
+
+    /// The highest task with the cookie (`sched_core_find`, kernel/sched/core.c). `None` exactly where no
+    /// task has it.
+    pub fn first_of<L: Ledger>(&self, cookie: Cookie, steps: &mut Steps<L>) -> Option<Queued>
+        ensures first { result ≡ first_with self.now.tasks cookie }
+        ensures counted { steps.new ≤ steps.old + most_comparisons (map.len self.now.tasks) }
+    {
+        let least = Key {
+            group: cookie,
+            class: 0,
+            rank: 0,
+            stamp: 0,
+        };
+        queued_with(cookie, self.tree.first_from(&least, steps))
+    }
+
+    /// The highest task with the cookie of this one that is lower than it (`sched_core_next`,
+    /// kernel/sched/core.c). `None` exactly where no task with the cookie is lower.
+    pub fn next_of<L: Ledger>(&self, task: &Queued, steps: &mut Steps<L>) -> Option<Queued>
+        requires { IsRanked task.now }
+        ensures next { result ≡ next_with self.now.tasks task.now }
+        ensures counted { steps.new ≤ steps.old + most_comparisons (map.len self.now.tasks) }
+    {
+        queued_with(task.cookie, self.tree.next(&key_of(task), steps))
+    }
+}
+
+/// The key of a task: its cookie, and then its class, its rank and its stamp.
+fn key_of(task: &Queued) -> Key
+    ensures { result ≡ key_at (spot_of task.now) }
+{
+    Key {
+        group: task.cookie,
+        class: task.class,
+        rank: task.rank,
+        stamp: task.stamp,
+    }
+}
+
+/// The task of an entry, where that has the cookie.
+fn queued_with(cookie: Cookie, entry: Option<(Key, Pid)>) -> Option<Queued>
+    ensures { result ≡ with_cookie cookie entry }
+{
+    let (key, pid) = entry?;
+    if key.group != cookie {
+        return None;
+    }
+    Some(Queued {
+        pid,
+        class: key.class,
+        rank: key.rank,
+        stamp: key.stamp,
+        cookie,
+    })
+}
