@@ -30,3 +30,4 @@ pub mod Shown
 pub mod BalancePlaces
 pub mod Codes
 pub mod Refusals
+pub mod Comparisons

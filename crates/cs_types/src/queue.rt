@@ -1,7 +1,8 @@
 //! A queued task, and the contract of a scheduling class's queue on one sibling.
 
-ghost use Rattle.std.specs.Prelude.{◌≡◌, ◌+◌, ◌<◌, ℕ, max, if◌then◌else◌, OnOk, OnErr};
+ghost use Rattle.std.specs.Prelude.{◌≡◌, ◌+◌, ◌<◌, ◌≤◌, ℕ, max, if◌then◌else◌, OnOk, OnErr};
 ghost use Rattle.std.specs.FinMap as map;
+ghost use Rattle.cs_types.specs.Comparisons.{most_comparisons};
 ghost use Rattle.cs_types.specs.Queue.{Members, top_of};
 
 use crate::memory::OutOfMemory;
@@ -37,7 +38,8 @@ impl Queued {
 /// The queue of a scheduling class on one sibling. Whatever it keeps, it stands for the pids of its
 /// tasks, each at the key that its rank and its stamp are, and how many more it can take.
 ///
-/// A call that looks for a key counts its comparisons.
+/// A call that looks for a key counts its comparisons, and among n keys makes at most twice the number of
+/// binary digits of n, and two more.
 pub trait ClassQueue: Drop {
     /// The pid at each key.
     ghost members: { Self → Members };
@@ -57,19 +59,22 @@ pub trait ClassQueue: Drop {
         requires spare { 0 < spare self.old }
         requires free { map.get (members self.old) (rank, stamp) ≡ None }
         ensures members { members self.new ≡ map.insert (members self.old) (rank, stamp) pid }
-        ensures spare { spare self.new + 1 ≡ spare self.old };
+        ensures spare { spare self.new + 1 ≡ spare self.old }
+        ensures counted { steps.new ≤ steps.old + most_comparisons (map.len (members self.old)) };
 
     /// Takes the task at a key out. `false` comes exactly where none is there, and then nothing
     /// changes.
     fn take<L: Ledger>(&mut self, rank: u128, stamp: u64, steps: &mut Steps<L>) -> bool
         ensures found { result ≡ map.contains_key (members self.old) (rank, stamp) }
         ensures members { members self.new ≡ map.remove (members self.old) (rank, stamp) }
-        ensures spare { spare self.new ≡ spare self.old + (if result then 1 else 0) };
+        ensures spare { spare self.new ≡ spare self.old + (if result then 1 else 0) }
+        ensures counted { steps.new ≤ steps.old + most_comparisons (map.len (members self.old)) };
 
     /// The task with the least rank, and among those with the least stamp. `None` exactly where there
     /// is no task.
     fn top<L: Ledger>(&self, steps: &mut Steps<L>) -> Option<Pid>
-        ensures { result ≡ top_of (members self.now) };
+        ensures top { result ≡ top_of (members self.now) }
+        ensures counted { steps.new ≤ steps.old + most_comparisons (map.len (members self.now)) };
 
     /// How many tasks there are.
     fn len(&self) -> u32

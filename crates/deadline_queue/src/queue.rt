@@ -4,10 +4,10 @@ ghost use Rattle.std.specs.Prelude.{◌≡◌, ℕ};
 ghost use Rattle.cs_types.specs.declared.task.Policy.TheVariants.{Deadline};
 ghost use Rattle.cs_types.specs.Queue.{rank_by};
 
-use rank_queue::RankQueue;
+use order_tree::RankTree;
 
 /// The deadline tasks of one sibling.
-pub type DeadlineQueue = RankQueue;
+pub type DeadlineQueue = RankTree;
 
 /// The rank of a deadline task: its absolute deadline, in ns of the clock. The earlier deadline goes
 /// first, and of equal ones the earlier enqueue.

@@ -4,10 +4,10 @@ ghost use Rattle.std.specs.Prelude.{◌≡◌, ℕ};
 ghost use Rattle.cs_types.specs.declared.task.Policy.TheVariants.{Fair};
 ghost use Rattle.cs_types.specs.Queue.{rank_by};
 
-use rank_queue::RankQueue;
+use order_tree::RankTree;
 
 /// The fair tasks of one sibling.
-pub type FairQueue = RankQueue;
+pub type FairQueue = RankTree;
 
 /// The rank of a fair task: its virtual time, in ns. The smaller one goes first, and of equal ones the
 /// earlier enqueue.

@@ -1,8 +1,9 @@
 -- How many entries a tree of some height has, and so how high a tree of some entries is.
 use Rattle.std.proofs.Common.{◌≡◌, ℕ, zero, suc, ◌+◌, ◌*◌, ◌/◌, ◌^◌, ◌<◌, ◌≤◌, max, inl, inr, subst, arith}
 use Rattle.std.proofs.lemmas.Bool.{cases_lt}
-use Rattle.std.proofs.lemmas.Int.Digits.{length-digits_of-le, length-digits_of_step}
+use Rattle.std.proofs.lemmas.Int.Digits.{length-digits_of-le}
 use Rattle.cs_types.specs.Comparisons.{digits}
+use Rattle.cs_types.proofs.Comparisons.{digits-step}
 use Rattle.order_tree.specs.Balance.{fewest, DifferBy}
 
 fewest-suc : (h : ℕ) → fewest h ≤ fewest (suc h)
@@ -34,10 +35,6 @@ fewest-fork l r nl nr even left right =
           let here : fewest (suc l) ≤ nl + suc nr = omega (arith, fewest-over l r nl nr (omega arith) (omega arith) left right) in
           subst (λ n. fewest n ≤ nl + suc nr) same here
     ]
-
-digits-step : (n : ℕ) → 0 < n → digits n ≡ digits (n / 2) + 1
-unfolding digits
-digits-step n more = length-digits_of_step 2 n (omega arith) more
 
 -- two levels more have twice as many entries
 pub height-le : (h n : ℕ) → fewest h ≤ n → h ≤ 2 * digits n

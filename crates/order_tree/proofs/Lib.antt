@@ -5,3 +5,4 @@ pub mod Forks
 pub mod Placed
 pub mod Members
 pub mod Renamed
+pub mod Ranks

@@ -3,3 +3,4 @@ pub mod Branch
 pub mod Balance
 pub mod Inside
 pub mod Renamed
+pub mod Rank

@@ -4,7 +4,9 @@
 
 mod key;
 mod order;
+mod rank;
 mod tree;
 
 pub use key::Key;
 pub use order::OrderTree;
+pub use rank::RankTree;

@@ -8,7 +8,7 @@ ghost use Rattle.cs_types.specs.Queue.{seat_of};
 use cs_types::{ClassQueue, Pid, Queued, Steps};
 use deadline_queue::DeadlineQueue;
 use fair_queue::{FairQueue, grow, weight};
-use rank_queue::RankQueue;
+use order_tree::RankTree;
 use rt_queue::RtQueue;
 use run_queue::RunQueue;
 use std::marker::Brand;
@@ -149,7 +149,7 @@ fn expect_queues<L: Ledger, R: AllocGlobal + Abort>(rt: &R, blank: Blank)
     requires some { 0 < blank.parts }
 {
     let mut steps = Steps::<L>::start(blank);
-    expect_two(rt, RankQueue::empty(rt.alloc()), &mut steps);
+    expect_two(rt, RankTree::empty(rt.alloc()), &mut steps);
     expect_two(rt, RtQueue::empty(rt.alloc()), &mut steps);
     expect_two(rt, DeadlineQueue::empty(rt.alloc()), &mut steps);
     expect_two(rt, FairQueue::empty(rt.alloc()), &mut steps);

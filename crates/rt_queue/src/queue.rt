@@ -4,10 +4,10 @@ ghost use Rattle.std.specs.Prelude.{◌≡◌, ℕ, ◌≤◌};
 ghost use Rattle.cs_types.specs.declared.task.Policy.TheVariants.{Fifo, Rr};
 ghost use Rattle.cs_types.specs.Queue.{rank_by};
 
-use rank_queue::RankQueue;
+use order_tree::RankTree;
 
 /// The real-time tasks of one sibling.
-pub type RtQueue = RankQueue;
+pub type RtQueue = RankTree;
 
 /// The rank of a real-time task of this priority, 1 to 99: 98 to 0. The greater priority goes first, and
 /// of equal ones the earlier enqueue.

@@ -10,7 +10,7 @@ ghost use Rattle.cs_types.specs.Queue.{seat_of, queue_of, top_of};
 use cs_types::{ClassQueue, OutOfMemory, Pid, Queued, Steps};
 use deadline_queue::DeadlineQueue;
 use fair_queue::FairQueue;
-use rank_queue::RankQueue;
+use order_tree::RankTree;
 use rt_queue::RtQueue;
 use std::alloc::Global;
 use std::marker::Model;
@@ -20,7 +20,7 @@ use std::sync::ledger::Ledger;
 /// sibling is idle where there is none.
 #[derive(Drop)]
 pub struct RunQueue {
-    stop: RankQueue,
+    stop: RankTree,
     deadline: DeadlineQueue,
     real_time: RtQueue,
     fair: FairQueue,
@@ -50,7 +50,7 @@ impl RunQueue {
         ensures spare { result.spare ≡ 0 }
     {
         RunQueue {
-            stop: RankQueue::empty(alloc),
+            stop: RankTree::empty(alloc),
             deadline: DeadlineQueue::empty(alloc),
             real_time: RtQueue::empty(alloc),
             fair: FairQueue::empty(alloc),

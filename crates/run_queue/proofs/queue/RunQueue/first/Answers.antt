@@ -14,14 +14,14 @@ model : (queued : Seats) (first : Option ℕ) → first ≡ top_of queued → (t
 model queued first is tasks same low = is ∙ ap top_of same ∙ top_of-queue_of tasks low
 
 pub returns-in-Some-clause-first : goal.returns-in-Some-clause-first
-returns-in-Some-clause-first g c = rw (← c.self.view_is) (sym (top_of-stop c.self.inside.stop.members c.self.inside.deadline.members c.self.inside.real_time.members c.self.inside.fair.members c.in-Some.pid (sym c.in-Some.ensures)))
+returns-in-Some-clause-first g c = rw (← c.self.view_is) (sym (top_of-stop c.self.inside.stop.members c.self.inside.deadline.members c.self.inside.real_time.members c.self.inside.fair.members c.in-Some.pid (sym c.in-Some.ensures.top)))
 
 pub returns-in-Some-clause-model : goal.returns-in-Some-clause-model
 returns-in-Some-clause-model g c = model _ _ (returns-in-Some-clause-first g c)
 
 pub returns-in-Some-top-clause-first : goal.returns-in-Some-top-clause-first
 returns-in-Some-top-clause-first g c =
-    rw (← c.self.view_is) (sym (top_of-deadline c.self.inside.stop.members c.self.inside.deadline.members c.self.inside.real_time.members c.self.inside.fair.members c.in-Some-top.pid (sym c.in_default.ensures) (sym c.in-Some-top.ensures)))
+    rw (← c.self.view_is) (sym (top_of-deadline c.self.inside.stop.members c.self.inside.deadline.members c.self.inside.real_time.members c.self.inside.fair.members c.in-Some-top.pid (sym c.in_default.ensures.top) (sym c.in-Some-top.ensures.top)))
 
 pub returns-in-Some-top-clause-model : goal.returns-in-Some-top-clause-model
 returns-in-Some-top-clause-model g c = model _ _ (returns-in-Some-top-clause-first g c)
@@ -29,7 +29,7 @@ returns-in-Some-top-clause-model g c = model _ _ (returns-in-Some-top-clause-fir
 pub returns-in-Some-top-2-clause-first : goal.returns-in-Some-top-2-clause-first
 returns-in-Some-top-2-clause-first g c =
     rw (← c.self.view_is)
-    (sym (top_of-real_time c.self.inside.stop.members c.self.inside.deadline.members c.self.inside.real_time.members c.self.inside.fair.members c.in-Some-top-2.pid (sym c.in_default.ensures) (sym c.in_default-top.ensures) (sym c.in-Some-top-2.ensures)))
+    (sym (top_of-real_time c.self.inside.stop.members c.self.inside.deadline.members c.self.inside.real_time.members c.self.inside.fair.members c.in-Some-top-2.pid (sym c.in_default.ensures.top) (sym c.in_default-top.ensures.top) (sym c.in-Some-top-2.ensures.top)))
 
 pub returns-in-Some-top-2-clause-model : goal.returns-in-Some-top-2-clause-model
 returns-in-Some-top-2-clause-model g c = model _ _ (returns-in-Some-top-2-clause-first g c)
@@ -37,7 +37,7 @@ returns-in-Some-top-2-clause-model g c = model _ _ (returns-in-Some-top-2-clause
 pub returns-clause-first : goal.returns-clause-first
 returns-clause-first g c =
     rw (← c.self.view_is)
-    (sym (top_of-fair c.self.inside.stop.members c.self.inside.deadline.members c.self.inside.real_time.members c.self.inside.fair.members c.top-4.result (sym c.in_default.ensures) (sym c.in_default-top.ensures) (sym c.in_default-top-2.ensures) (sym c.top-4.ensures)))
+    (sym (top_of-fair c.self.inside.stop.members c.self.inside.deadline.members c.self.inside.real_time.members c.self.inside.fair.members c.top-4.result (sym c.in_default.ensures.top) (sym c.in_default-top.ensures.top) (sym c.in_default-top-2.ensures.top) (sym c.top-4.ensures.top)))
 
 pub returns-clause-model : goal.returns-clause-model
 returns-clause-model g c = model _ _ (returns-clause-first g c)

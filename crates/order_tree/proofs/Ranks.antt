@@ -1,0 +1,98 @@
+-- A tree in which all keys are of one group and one class, as the queue of a scheduling class.
+use Rattle.std.proofs.Common.{◌≡◌, ℕ, Bool, true, false, cond, List, [], ◌∷◌, map, Option, None, Some, inl, inr, refl, sym, ap, ◌∙◌, subst}
+use Rattle.std.specs.Prelude.{is_some, slice_get}
+use Rattle.std.specs.List.{AllByRecursion}
+use Rattle.std.specs.Option.{option_map}
+use Rattle.std.specs.Ordering.{ordering_then, nat_cmp, is_eq, eq_by_cmp}
+use Rattle.std.specs.Cmp.{nat_cmp_is}
+use Rattle.std.specs.declared.cmp.Ordering.{Ordering}
+use Rattle.std.specs.declared.cmp.Ordering.TheVariants.{Less, Equal, Greater}
+use Rattle.std.specs.FinMap as fin
+use Rattle.std.specs.FinMap.{FinMap, entries, get, contains_key, len, empty, empty_of_len, len-empty, get-empty, get-entries, get-insert, get-remove}
+use Rattle.std.proofs.lemmas.Bool.{cases_Bool, cond-true, cond-false}
+use Rattle.cs_types.specs.Queue as queue
+use Rattle.cs_types.proofs.Queues as queues
+use Rattle.order_tree.specs.Order.{Entry, Members, key_cmp, first_of}
+use Rattle.order_tree.specs.Renamed.{renamed, map_renamed}
+use Rattle.order_tree.specs.Rank.{rank_at, key_at, IsRankKey, IsOfClass}
+use Rattle.order_tree.specs.declared.key.Key.{Key}
+use Rattle.order_tree.proofs.Keys.{key_total, key_cmp-IsAntisymmetric}
+use Rattle.order_tree.proofs.Renamed.{IsRenaming, all_of_found, entries-map_renamed, get-map_renamed, len-map_renamed, map_renamed-insert, map_renamed-remove}
+
+equal_by : (r : Ordering) → is_eq r ≡ true → r ≡ Equal
+equal_by Less h = absurd cc
+equal_by Equal h = refl
+equal_by Greater h = absurd cc
+
+-- among such keys the ranks and the stamps decide
+pub ranks : IsRenaming key_cmp queue.key_cmp IsRankKey rank_at key_at
+ranks = record {
+  back = λ place. refl;
+  meant = λ place. (refl, refl);
+  same = λ a b p q.
+      let group = nat_cmp_is a.group b.group Equal (p.0 ∙ sym q.0) in
+      let class = nat_cmp_is a.class b.class Equal (p.1 ∙ sym q.1) in
+      λ i. ordering_then (group i) (ordering_then (class i) (queue.key_cmp (rank_at a) (rank_at b)));
+}
+
+pub IsOfClass-empty : (members : Members) → members ≡ empty → IsOfClass members
+IsOfClass-empty members is key there =
+    let none : is_some (get members key) ≡ false = ap (λ (m : Members). is_some (get m key)) is ∙ ap is_some (get-empty key_cmp key) in
+    let both = sym there ∙ none in
+    absurd cc
+
+module _ (members : Members) (of_class : IsOfClass members) where
+  abbrev Each : List Entry → Type 0
+  Each es = AllByRecursion (λ (e : Entry). IsRankKey e.0) es
+
+  each : Each (entries members)
+  each = all_of_found key_total IsRankKey (entries members) (λ key there. of_class key (ap is_some (get-entries members key) ∙ there))
+
+  -- the queue's tasks
+  abbrev ranked : queue.Members
+  ranked = map_renamed queue.key_cmp rank_at members
+
+  pub get-ranked : (place : queue.Key) → get ranked place ≡ get members (key_at place)
+  get-ranked place = get-map_renamed ranks members each place
+
+  pub len-ranked : len ranked ≡ len members
+  len-ranked = len-map_renamed ranks members each
+
+  pub top_of-ranked : queue.top_of ranked ≡ option_map (λ (e : Entry). e.1) (first_of members)
+  top_of-ranked =
+      ap (λ (es : List (queue.Key × ℕ)). slice_get (map (λ (e : queue.Key × ℕ). e.1) es) 0) (entries-map_renamed ranks members each) ∙ first (entries members) where
+        first : (es : List Entry) → slice_get (map (λ (e : queue.Key × ℕ). e.1) (renamed rank_at es)) 0 ≡ option_map (λ (e : Entry). e.1) (slice_get es 0)
+        first [] = refl
+        first (e ∷ es) = refl
+
+  module _ (after : Members) (place : queue.Key) where
+    pub IsOfClass-insert : (pid : ℕ) → after ≡ fin.insert members (key_at place) pid → IsOfClass after
+    IsOfClass-insert pid is key there =
+        let found : is_some (cond (eq_by_cmp key_cmp key (key_at place)) (Some pid) (get members key)) ≡ true =
+        ap is_some (sym (get-insert key_total members (key_at place) pid key)) ∙ ap (λ (m : Members). is_some (get m key)) (sym is) ∙ there in
+        elim (cases_Bool (eq_by_cmp key_cmp key (key_at place))) [
+          | inl tie ↦ subst IsRankKey (sym (key_cmp-IsAntisymmetric key (key_at place) (equal_by _ tie))) (refl, refl)
+          | inr apart ↦ of_class key (ap is_some (sym (cond-false _ (Some pid) (get members key) apart)) ∙ found)
+        ]
+
+    pub IsOfClass-remove : after ≡ fin.remove members (key_at place) → IsOfClass after
+    IsOfClass-remove is key there =
+        let found : is_some (cond (eq_by_cmp key_cmp key (key_at place)) None (get members key)) ≡ true =
+        ap is_some (sym (get-remove key_total members (key_at place) key)) ∙ ap (λ (m : Members). is_some (get m key)) (sym is) ∙ there in
+        elim (cases_Bool (eq_by_cmp key_cmp key (key_at place))) [
+          | inl tie ↦ let none : false ≡ true = ap is_some (sym (cond-true _ None (get members key) tie)) ∙ found in absurd cc
+          | inr apart ↦ of_class key (ap is_some (sym (cond-false _ None (get members key) apart)) ∙ found)
+        ]
+
+    pub ranked-insert : (pid : ℕ) → after ≡ fin.insert members (key_at place) pid → map_renamed queue.key_cmp rank_at after ≡ fin.insert ranked place pid
+    ranked-insert pid is =
+        map_renamed-insert ranks key_total queues.key_total queues.key_cmp-IsAntisymmetric members after each
+        (all_of_found key_total IsRankKey (entries after) (λ key there. IsOfClass-insert pid is key (ap is_some (get-entries after key) ∙ there))) place pid is
+
+    pub ranked-remove : after ≡ fin.remove members (key_at place) → map_renamed queue.key_cmp rank_at after ≡ fin.remove ranked place
+    ranked-remove is =
+        map_renamed-remove ranks key_total queues.key_total queues.key_cmp-IsAntisymmetric members after each
+        (all_of_found key_total IsRankKey (entries after) (λ key there. IsOfClass-remove is key (ap is_some (get-entries after key) ∙ there))) place is
+
+pub no_ranked : (members : Members) → members ≡ empty → map_renamed queue.key_cmp rank_at members ≡ empty
+no_ranked members is = empty_of_len _ (len-ranked members (IsOfClass-empty members is) ∙ ap len is ∙ len-empty key_cmp ℕ)

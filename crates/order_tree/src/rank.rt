@@ -1,0 +1,85 @@
+//! The queue of a scheduling class: an ordered tree in which all keys are of one group and one class. It is
+//! apart since the classes keep their tasks alike.
+
+ghost use Rattle.std.specs.Prelude.{◌≡◌};
+ghost use Rattle.std.specs.FinMap.{empty};
+ghost use Rattle.order_tree.specs.Rank.{key_at};
+
+use crate::key::Key;
+use crate::order::OrderTree;
+use cs_types::{ClassQueue, OutOfMemory, Pid, Steps};
+use std::alloc::Global;
+use std::marker::Model;
+use std::sync::ledger::Ledger;
+
+/// The tasks of a scheduling class on one sibling, by rising rank and then by rising stamp.
+#[derive(Drop)]
+pub struct RankTree {
+    tree: OrderTree,
+}
+
+impl Model for RankTree {
+    ghost use Rattle.cs_types.specs.Queue.{Ranked};
+    ghost use Rattle.cs_types.proofs.Codes.{ranked_code};
+
+    ghost Value = { Ranked };
+
+    ghost coded = { ranked_code };
+
+    ghost use Rattle.order_tree.specs.Rank.{ranked_of, IsOfClass};
+
+    ghost view = { λ queue. ranked_of queue.tree };
+
+    ghost invariant = { λ queue. IsOfClass queue.tree.members };
+}
+
+impl RankTree {
+    /// No task, and nothing reserved. It takes no memory.
+    pub fn empty(alloc: Global) -> RankTree
+        ensures members { result.members ≡ empty }
+        ensures spare { result.spare ≡ 0 }
+    {
+        RankTree {
+            tree: OrderTree::empty(alloc),
+        }
+    }
+}
+
+impl ClassQueue for RankTree {
+    ghost members = { λ queue. queue.members };
+
+    ghost spare = { λ queue. queue.spare };
+
+    fn reserve(&mut self, n: u32) -> Result<(), OutOfMemory> {
+        self.tree.reserve(n)
+    }
+
+    fn put<L: Ledger>(&mut self, rank: u128, stamp: u64, pid: Pid, steps: &mut Steps<L>) {
+        self.tree.insert(key(rank, stamp), pid, steps);
+    }
+
+    fn take<L: Ledger>(&mut self, rank: u128, stamp: u64, steps: &mut Steps<L>) -> bool {
+        self.tree.remove(&key(rank, stamp), steps)
+    }
+
+    fn top<L: Ledger>(&self, steps: &mut Steps<L>) -> Option<Pid> {
+        let first = self.tree.first(steps)?;
+        Some(first.1)
+    }
+
+    fn len(&self) -> u32 {
+        self.tree.len()
+    }
+}
+
+/// The key of a rank and a stamp.
+fn key(rank: u128, stamp: u64) -> Key
+    ensures { result ≡ key_at (rank, stamp) }
+{
+    Key {
+        group: 0,
+        class: 0,
+        rank,
+        stamp,
+    }
+}
