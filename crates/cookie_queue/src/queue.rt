@@ -104,6 +104,13 @@ impl CookieQueue {
     {
         queued_with(task.cookie, self.tree.next(&key_of(task), steps))
     }
+
+    /// How many tasks there are.
+    pub fn len(&self) -> u32
+        ensures { result ≡ map.len self.now.tasks }
+    {
+        self.tree.len()
+    }
 }
 
 /// The key of a task: its cookie, and then its class, its rank and its stamp.

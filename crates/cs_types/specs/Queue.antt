@@ -46,7 +46,7 @@ seat_cmp a b = ordering_then (nat_cmp a.0 b.0) (key_cmp a.1 b.1)
 abbrev pub Seats : Type 0
 Seats = FinMap seat_cmp ℕ
 
--- a sibling's run queue: its tasks, and how many more it can take
+-- a sibling's tasks by class, and how many more there may be
 pub record Seated : Type 0 where
   pub tasks : Seats
   pub spare : ℕ
@@ -72,6 +72,12 @@ Spots = FinMap spot_cmp ℕ
 -- a sibling's tasks with cookies, and how many more there may be
 pub record Spotted : Type 0 where
   pub tasks : Spots
+  pub spare : ℕ
+
+-- a sibling's run queue: its tasks, those of them that have a cookie, and how many more it can take
+pub record RunQueued : Type 0 where
+  pub tasks : Seats
+  pub cookies : Spots
   pub spare : ℕ
 
 -- the spot of a queued task

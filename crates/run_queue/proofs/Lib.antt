@@ -1,2 +1,3 @@
 mod Seats
 mod Runs
+mod Ties

@@ -4,10 +4,12 @@ use Rattle.std.specs.Prelude.{is_some}
 use Rattle.std.specs.FinMap as fin
 use Rattle.std.specs.FinMap.{get, entries, find, get-entries, get-insert, get-remove, contains_key, len, len-entries, len-insert, len-remove}
 use Rattle.cs_types.specs.Queue.{Key, key_cmp, Members, Ranked, Seat}
+use Rattle.cs_types.specs.Comparisons.{most_comparisons}
+use Rattle.cs_types.proofs.Comparisons.{most_comparisons-le}
 use Rattle.cs_types.proofs.Queues.{key_total}
-use Rattle.run_queue.specs.declared.queue.RunQueue.TheInside.{Inside}
-use Rattle.run_queue.specs.Inside.{count, seated_of, Holds, IsSound}
-use Rattle.run_queue.proofs.Seats.{get-joined, SetsTo, insert-SetsTo, remove-SetsTo, SetsTo-stop, SetsTo-deadline, SetsTo-real_time, SetsTo-fair}
+use Rattle.run_queue.specs.declared.classes.Classes.TheInside.{Inside}
+use Rattle.run_queue.specs.Classes.{count, seated_of, Holds, IsSound}
+use Rattle.run_queue.proofs.Seats.{len-joined, get-joined, SetsTo, insert-SetsTo, remove-SetsTo, SetsTo-stop, SetsTo-deadline, SetsTo-real_time, SetsTo-fair}
 
 -- ---- the queue of a class
 
@@ -38,6 +40,15 @@ get-ranked_in run (suc zero) low key = get-joined run.stop.members run.deadline.
 get-ranked_in run (suc (suc zero)) low key = get-joined run.stop.members run.deadline.members run.real_time.members run.fair.members (2, key)
 get-ranked_in run (suc (suc (suc zero))) low key = get-joined run.stop.members run.deadline.members run.real_time.members run.fair.members (3, key)
 get-ranked_in run (suc (suc (suc (suc class)))) low key = absurd (omega arith)
+
+-- a class has no more tasks than there are, and so no higher bound on comparisons
+pub most_comparisons-ranked_in : (run : Inside) (class : ℕ) → most_comparisons (len (ranked_in run class).members) ≤ most_comparisons (len (seated_of run).tasks)
+most_comparisons-ranked_in run class = most_comparisons-le _ _ (by_class class) where
+  by_class : (class : ℕ) → len (ranked_in run class).members ≤ len (seated_of run).tasks
+  by_class zero = let all = len-joined run.stop.members run.deadline.members run.real_time.members run.fair.members in omega arith
+  by_class (suc zero) = let all = len-joined run.stop.members run.deadline.members run.real_time.members run.fair.members in omega arith
+  by_class (suc (suc zero)) = let all = len-joined run.stop.members run.deadline.members run.real_time.members run.fair.members in omega arith
+  by_class (suc (suc (suc class))) = let all = len-joined run.stop.members run.deadline.members run.real_time.members run.fair.members in omega arith
 
 -- ---- a change of it
 

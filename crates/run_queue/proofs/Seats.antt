@@ -16,7 +16,7 @@ use Rattle.std.proofs.lemmas.Bool.{and_parts, and_from, eqb-true}
 use Rattle.std.proofs.lemmas.List.{length-map}
 use Rattle.cs_types.specs.Queue.{top_of, Key, key_cmp, Members, Seat, seat_cmp, Seats}
 use Rattle.cs_types.proofs.Queues.{said, seat_total, seat_cmp-IsAntisymmetric, top_of-from_sorted, len-from_sorted}
-use Rattle.run_queue.specs.Inside.{seats_in, joined}
+use Rattle.run_queue.specs.Classes.{seats_in, joined}
 
 -- ---- comparisons of seats
 

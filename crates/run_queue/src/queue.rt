@@ -1,44 +1,42 @@
-//! The run queue: a queue for each class, and one limit for all.
+//! The run queue: the queues of the classes, and beside them the tasks with cookies.
 
-ghost use Rattle.std.specs.Prelude.{◌≡◌, ◌+◌, ◌<◌, ◌≤◌, max, if◌then◌else◌, OnOk, OnErr, List, All};
+ghost use Rattle.std.specs.Prelude.{◌≡◌, ℕ, ◌+◌, ◌*◌, ◌<◌, ◌≤◌, ◌==◌, max, if◌then◌else◌, None, OnOk, OnErr, IfSome, IsTrue, List, All};
 ghost use Rattle.std.specs.FinMap as map;
 ghost use Rattle.std.specs.Option.{option_map};
 ghost use Rattle.cs_types.specs.declared.task.Task.{Task};
-ghost use Rattle.cs_types.specs.Order.{fair_class, priority_of, first_of};
-ghost use Rattle.cs_types.specs.Queue.{seat_of, queue_of, top_of};
+ghost use Rattle.cs_types.specs.Comparisons.{most_comparisons};
+ghost use Rattle.cs_types.specs.Order.{priority_of, first_of};
+ghost use Rattle.cs_types.specs.Queue.{IsRanked, seat_of, spot_of, queue_of, top_of, first_with, next_with};
 
-use cs_types::{ClassQueue, OutOfMemory, Pid, Queued, Steps};
-use deadline_queue::DeadlineQueue;
-use fair_queue::FairQueue;
-use order_tree::RankTree;
-use rt_queue::RtQueue;
+use crate::classes::Classes;
+use cookie_queue::CookieQueue;
+use cs_types::{Cookie, OutOfMemory, Pid, Queued, Steps};
 use std::alloc::Global;
 use std::marker::Model;
 use std::sync::ledger::Ledger;
 
-/// The queued tasks of one sibling, by class, in a class by rank, and at equal ranks by stamp. The
-/// sibling is idle where there is none.
+/// The queued tasks of one sibling, by class, in a class by rank, and at equal ranks by stamp, and those of
+/// them that have a cookie. The sibling is idle where there is none.
+///
+/// With n tasks a call of the ordered tree makes at most twice the number of binary digits of n
+/// comparisons, and two more. The calls here make a small multiple of that.
 #[derive(Drop)]
 pub struct RunQueue {
-    stop: RankTree,
-    deadline: DeadlineQueue,
-    real_time: RtQueue,
-    fair: FairQueue,
-    /// How many tasks it can take in all, whatever their classes are.
-    limit: u32,
+    classes: Classes,
+    cookies: CookieQueue,
 }
 
 impl Model for RunQueue {
-    ghost use Rattle.cs_types.specs.Queue.{Seated};
-    ghost use Rattle.cs_types.proofs.Codes.{seated_code};
+    ghost use Rattle.cs_types.specs.Queue.{RunQueued};
+    ghost use Rattle.cs_types.proofs.Codes.{run_queued_code};
 
-    ghost Value = { Seated };
+    ghost Value = { RunQueued };
 
-    ghost coded = { seated_code };
+    ghost coded = { run_queued_code };
 
-    ghost use Rattle.run_queue.specs.Inside.{seated_of, IsSound};
+    ghost use Rattle.run_queue.specs.Run.{run_of, IsSound};
 
-    ghost view = { seated_of };
+    ghost view = { run_of };
 
     ghost invariant = { IsSound };
 }
@@ -47,14 +45,12 @@ impl RunQueue {
     /// No task, and nothing reserved. It takes no memory.
     pub fn empty(alloc: Global) -> RunQueue
         ensures tasks { result.tasks ≡ map.empty }
+        ensures cookies { result.cookies ≡ map.empty }
         ensures spare { result.spare ≡ 0 }
     {
         RunQueue {
-            stop: RankTree::empty(alloc),
-            deadline: DeadlineQueue::empty(alloc),
-            real_time: RtQueue::empty(alloc),
-            fair: FairQueue::empty(alloc),
-            limit: 0,
+            classes: Classes::empty(alloc),
+            cookies: CookieQueue::empty(alloc),
         }
     }
 
@@ -62,50 +58,53 @@ impl RunQueue {
     /// An `Err`, for want of it or where there would be more than 4294967295 tasks, changes nothing.
     pub fn reserve(&mut self, n: u32) -> Result<(), OutOfMemory>
         ensures tasks { self.new.tasks ≡ self.old.tasks }
+        ensures cookies { self.new.cookies ≡ self.old.cookies }
         ensures spare { OnOk result (self.new.spare ≡ max n self.old.spare) }
         ensures err { OnErr result (self.new.spare ≡ self.old.spare) }
     {
-        let Some(limit) = self.count().checked_add(n) else {
+        let Some(limit) = self.classes.count().checked_add(n) else {
             return Err(OutOfMemory);
         };
-        self.stop.reserve(limit - self.stop.len())?;
-        self.deadline.reserve(limit - self.deadline.len())?;
-        self.real_time.reserve(limit - self.real_time.len())?;
-        self.fair.reserve(limit - self.fair.len())?;
-        self.limit = self.limit.max(limit);
-        Ok(())
+        self.cookies.reserve(limit - self.cookies.len())?;
+        self.classes.reserve(n)
     }
 
     /// Puts a task at a seat where none is.
     pub fn enqueue<L: Ledger>(&mut self, task: Queued, steps: &mut Steps<L>)
         requires spare { 0 < self.old.spare }
-        requires class { task.class ≤ fair_class }
+        requires ranked { IsRanked task }
         requires free { map.get self.old.tasks (seat_of task) ≡ None }
         ensures tasks { self.new.tasks ≡ map.insert self.old.tasks (seat_of task) task.pid }
+        ensures cookies { self.new.cookies
+            ≡ (if task.cookie == 0 then self.old.cookies else map.insert self.old.cookies (spot_of task) task.pid) }
         ensures spare { self.new.spare + 1 ≡ self.old.spare }
+        ensures counted { steps.new ≤ steps.old + 2 * most_comparisons (map.len self.old.tasks) }
     {
-        match task.class {
-            Queued::STOP => self.stop.put(task.rank, task.stamp, task.pid, steps),
-            Queued::DEADLINE => self.deadline.put(task.rank, task.stamp, task.pid, steps),
-            Queued::REAL_TIME => self.real_time.put(task.rank, task.stamp, task.pid, steps),
-            _ => self.fair.put(task.rank, task.stamp, task.pid, steps),
+        self.classes.enqueue(task, steps);
+        if task.cookie != 0 {
+            self.cookies.put(task, steps);
         }
     }
 
-    /// Takes the task at the seat of this one out. `false` comes exactly where none is there, and then
-    /// nothing changes.
+    /// Takes the task at the seat of this one out, which has its pid and its cookie. `false` comes exactly
+    /// where none is there, and then nothing changes.
     pub fn dequeue<L: Ledger>(&mut self, task: &Queued, steps: &mut Steps<L>) -> bool
-        requires class { task.now.class ≤ fair_class }
+        requires ranked { IsRanked task.now }
+        requires same { IfSome (map.get self.old.cookies (spot_of task.now)) (λ pid. pid ≡ task.now.pid) }
+        requires cookie { (cookie : ℕ) → IsTrue (map.contains_key self.old.cookies (cookie, seat_of task.now)) →
+            cookie ≡ task.now.cookie }
         ensures found { result ≡ map.contains_key self.old.tasks (seat_of task.now) }
         ensures tasks { self.new.tasks ≡ map.remove self.old.tasks (seat_of task.now) }
+        ensures cookies { self.new.cookies
+            ≡ (if task.now.cookie == 0 then self.old.cookies else map.remove self.old.cookies (spot_of task.now)) }
         ensures spare { self.new.spare ≡ self.old.spare + (if result then 1 else 0) }
+        ensures counted { steps.new ≤ steps.old + 2 * most_comparisons (map.len self.old.tasks) }
     {
-        match task.class {
-            Queued::STOP => self.stop.take(task.rank, task.stamp, steps),
-            Queued::DEADLINE => self.deadline.take(task.rank, task.stamp, steps),
-            Queued::REAL_TIME => self.real_time.take(task.rank, task.stamp, steps),
-            _ => self.fair.take(task.rank, task.stamp, steps),
+        let found = self.classes.dequeue(task, steps);
+        if task.cookie != 0 {
+            self.cookies.take(task, steps);
         }
+        found
     }
 
     /// The pid of the first task: the one of the highest class, in that of the least rank, and among
@@ -117,23 +116,34 @@ impl RunQueue {
         ensures model { (tasks : List Task) → self.now.tasks ≡ queue_of tasks →
             All (λ task. priority_of task.spec.policy ≤ 99) tasks →
             result ≡ option_map (λ task. task.spec.pid) (first_of tasks) }
+        ensures counted { steps.new ≤ steps.old + 4 * most_comparisons (map.len self.now.tasks) }
     {
-        if let Some(pid) = self.stop.top(steps) {
-            return Some(pid);
-        }
-        if let Some(pid) = self.deadline.top(steps) {
-            return Some(pid);
-        }
-        if let Some(pid) = self.real_time.top(steps) {
-            return Some(pid);
-        }
-        self.fair.top(steps)
+        self.classes.first(steps)
+    }
+
+    /// The highest task with the cookie (`sched_core_find`, kernel/sched/core.c). `None` exactly where no
+    /// task has it.
+    pub fn first_of<L: Ledger>(&self, cookie: Cookie, steps: &mut Steps<L>) -> Option<Queued>
+        ensures first { result ≡ first_with self.now.cookies cookie }
+        ensures counted { steps.new ≤ steps.old + most_comparisons (map.len self.now.tasks) }
+    {
+        self.cookies.first_of(cookie, steps)
+    }
+
+    /// The highest task with the cookie of this one that is lower than it (`sched_core_next`,
+    /// kernel/sched/core.c). `None` exactly where no task with the cookie is lower.
+    pub fn next_of<L: Ledger>(&self, task: &Queued, steps: &mut Steps<L>) -> Option<Queued>
+        requires { IsRanked task.now }
+        ensures next { result ≡ next_with self.now.cookies task.now }
+        ensures counted { steps.new ≤ steps.old + most_comparisons (map.len self.now.tasks) }
+    {
+        self.cookies.next_of(task, steps)
     }
 
     /// How many tasks there are.
     pub fn count(&self) -> u32
         ensures { result ≡ map.len self.now.tasks }
     {
-        self.stop.len() + self.deadline.len() + self.real_time.len() + self.fair.len()
+        self.classes.count()
     }
 }

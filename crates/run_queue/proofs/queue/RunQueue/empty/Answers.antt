@@ -1,31 +1,12 @@
-use Rattle.std.proofs.Common.{◌≡◌, ℕ, ap, ◌∙◌, arith}
-use Rattle.std.specs.FinMap.{empty, len, len-empty, empty_of_len}
-use Rattle.cs_types.specs.Queue.{Members, key_cmp}
-use Rattle.run_queue.proofs.Seats.{len-joined}
+use Rattle.std.proofs.Common.{ℕ, ap, ◌∙◌, arith}
+use Rattle.std.specs.FinMap.{len, len-empty}
+use Rattle.cs_types.specs.Queue.{seat_cmp}
+use Rattle.run_queue.proofs.Ties.{IsTied-empty}
 use Rattle.run_queue.proofs.queue.RunQueue.empty.Goals as goal
-
-none : (members : Members) → members ≡ empty → len members ≡ 0
-none members is = ap len is ∙ len-empty key_cmp ℕ
 
 pub invariant_of-result : goal.invariant_of-result
 invariant_of-result c =
-    let stop = none c.empty.result.members c.empty.ensures.members in
-    let deadline = none c.empty-2.result.members c.empty-2.ensures.members in
-    let real_time = none c.empty-3.result.members c.empty-3.ensures.members in
-    let fair = none c.empty-4.result.members c.empty-4.ensures.members in record {
-      few = omega arith;
-      limit_fits = omega arith;
-      stop = omega arith;
-      deadline = omega arith;
-      real_time = omega arith;
-      fair = omega arith;
+    let tasks = ap len c.empty.ensures.tasks ∙ len-empty seat_cmp ℕ in record {
+      room = omega arith;
+      tied = IsTied-empty c.empty.result.tasks c.empty-2.result.tasks c.empty-2.ensures.tasks;
     }
-
-pub returns-clause-tasks : goal.returns-clause-tasks
-returns-clause-tasks c =
-    let all = len-joined c.empty.result.members c.empty-2.result.members c.empty-3.result.members c.empty-4.result.members in
-    let stop = none c.empty.result.members c.empty.ensures.members in
-    let deadline = none c.empty-2.result.members c.empty-2.ensures.members in
-    let real_time = none c.empty-3.result.members c.empty-3.ensures.members in
-    let fair = none c.empty-4.result.members c.empty-4.ensures.members in
-    empty_of_len _ (omega arith)

@@ -1,12 +1,13 @@
-use Rattle.std.proofs.Common.{◌≡◌, ◌≤◌, ◌∙◌, sym, ap, Option, List, ℕ}
+use Rattle.std.proofs.Common.{◌≡◌, ◌≤◌, ◌∙◌, sym, ap, Option, List, ℕ, arith}
 use Rattle.std.specs.List.{All}
 use Rattle.std.specs.Option.{option_map}
 use Rattle.cs_types.specs.declared.task.Task.{Task}
 use Rattle.cs_types.specs.Order.{priority_of, first_of}
 use Rattle.cs_types.specs.Queue.{top_of, Seats, queue_of}
 use Rattle.cs_types.proofs.Queues.{top_of-queue_of}
+use Rattle.run_queue.proofs.Runs.{most_comparisons-ranked_in}
 use Rattle.run_queue.proofs.Seats.{top_of-stop, top_of-deadline, top_of-real_time, top_of-fair}
-use Rattle.run_queue.proofs.queue.RunQueue.first.Goals as goal
+use Rattle.run_queue.proofs.classes.Classes.first.Goals as goal
 
 -- the top of the queue of some tasks is the first of them
 model : (queued : Seats) (first : Option ℕ) → first ≡ top_of queued → (tasks : List Task) → queued ≡ queue_of tasks →
@@ -41,3 +42,29 @@ returns-clause-first g c =
 
 pub returns-clause-model : goal.returns-clause-model
 returns-clause-model g c = model _ _ (returns-clause-first g c)
+
+pub returns-in-Some-clause-counted : goal.returns-in-Some-clause-counted
+returns-in-Some-clause-counted g c =
+    let most_0 = most_comparisons-ranked_in c.self.inside 0 in
+    rw (← c.self.view_is) (omega (arith, c.top.ensures.counted))
+
+pub returns-in-Some-top-clause-counted : goal.returns-in-Some-top-clause-counted
+returns-in-Some-top-clause-counted g c =
+    let most_0 = most_comparisons-ranked_in c.self.inside 0 in
+    let most_1 = most_comparisons-ranked_in c.self.inside 1 in
+    rw (← c.self.view_is) (omega (arith, c.top.ensures.counted, c.top-2.ensures.counted))
+
+pub returns-in-Some-top-2-clause-counted : goal.returns-in-Some-top-2-clause-counted
+returns-in-Some-top-2-clause-counted g c =
+    let most_0 = most_comparisons-ranked_in c.self.inside 0 in
+    let most_1 = most_comparisons-ranked_in c.self.inside 1 in
+    let most_2 = most_comparisons-ranked_in c.self.inside 2 in
+    rw (← c.self.view_is) (omega (arith, c.top.ensures.counted, c.top-2.ensures.counted, c.top-3.ensures.counted))
+
+pub returns-clause-counted : goal.returns-clause-counted
+returns-clause-counted g c =
+    let most_0 = most_comparisons-ranked_in c.self.inside 0 in
+    let most_1 = most_comparisons-ranked_in c.self.inside 1 in
+    let most_2 = most_comparisons-ranked_in c.self.inside 2 in
+    let most_3 = most_comparisons-ranked_in c.self.inside 3 in
+    rw (← c.self.view_is) (omega (arith, c.top.ensures.counted, c.top-2.ensures.counted, c.top-3.ensures.counted, c.top-4.ensures.counted))

@@ -1,6 +1,6 @@
 use Rattle.std.proofs.Common.{arith}
 use Rattle.run_queue.proofs.Seats.{len-joined}
-use Rattle.run_queue.proofs.queue.RunQueue.count.Goals as goal
+use Rattle.run_queue.proofs.classes.Classes.count.Goals as goal
 
 pub returns : goal.returns
 returns c =

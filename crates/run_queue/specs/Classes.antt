@@ -1,8 +1,8 @@
--- Inside: how a run queue is stored, and what always holds of it.
+-- Classes: how the tasks of all classes are stored, and what always holds of them.
 use Rattle.std.specs.Prelude.{ℕ, ◌+◌, ◌-◌, ◌^◌, ◌<◌, ◌≤◌, List, [], ◌++◌, map}
 use Rattle.std.specs.FinMap.{entries, from_sorted, len}
 use Rattle.cs_types.specs.Queue.{Members, Ranked, Seat, Seated}
-use Rattle.run_queue.specs.declared.queue.RunQueue.TheInside.{Inside}
+use Rattle.run_queue.specs.declared.classes.Classes.TheInside.{Inside}
 
 -- the tasks of a class by rising key, each at its seat
 abbrev pub seats_in : ℕ → Members → List (Seat × ℕ)

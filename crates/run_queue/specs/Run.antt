@@ -1,0 +1,20 @@
+-- Run: how a run queue is stored, and what always holds of it.
+use Rattle.std.specs.Prelude.{◌≡◌, ◌≢◌, ◌+◌, ◌≤◌, IsTrue}
+use Rattle.std.specs.FinMap.{contains_key, len}
+use Rattle.cs_types.specs.Queue.{RunQueued, Seats, Spot, Spots}
+use Rattle.run_queue.specs.declared.queue.RunQueue.TheInside.{Inside}
+
+-- what contracts see of it
+abbrev pub run_of : Inside → RunQueued
+run_of run = record { tasks = run.classes.tasks; cookies = run.cookies.tasks; spare = run.classes.spare }
+
+-- Each task with a cookie is one of the tasks, its cookie is not 0, and it has no other.
+pub record IsTied (tasks : Seats) (cookies : Spots) : Type 0 where
+  pub seated : (spot : Spot) → IsTrue (contains_key cookies spot) → IsTrue (contains_key tasks spot.1)
+  pub cookie : (spot : Spot) → IsTrue (contains_key cookies spot) → spot.0 ≢ 0
+  pub one : (spot other : Spot) → IsTrue (contains_key cookies spot) → IsTrue (contains_key cookies other) → spot.1 ≡ other.1 → spot.0 ≡ other.0
+
+-- There is room for the cookie of each task that there may be.
+pub record IsSound (run : Inside) : Type 0 where
+  pub room : run.classes.spare + len run.classes.tasks ≤ run.cookies.spare + len run.cookies.tasks
+  pub tied : IsTied run.classes.tasks run.cookies.tasks

@@ -1,0 +1,143 @@
+//! The queues of the classes, with one limit for all. They are apart since tasks with and without a cookie
+//! stand in them alike.
+
+ghost use Rattle.std.specs.Prelude.{◌≡◌, ◌+◌, ◌*◌, ◌<◌, ◌≤◌, max, if◌then◌else◌, OnOk, OnErr, List, All};
+ghost use Rattle.std.specs.FinMap as map;
+ghost use Rattle.std.specs.Option.{option_map};
+ghost use Rattle.cs_types.specs.declared.task.Task.{Task};
+ghost use Rattle.cs_types.specs.Comparisons.{most_comparisons};
+ghost use Rattle.cs_types.specs.Order.{fair_class, priority_of, first_of};
+ghost use Rattle.cs_types.specs.Queue.{seat_of, queue_of, top_of};
+
+use cs_types::{ClassQueue, OutOfMemory, Pid, Queued, Steps};
+use deadline_queue::DeadlineQueue;
+use fair_queue::FairQueue;
+use order_tree::RankTree;
+use rt_queue::RtQueue;
+use std::alloc::Global;
+use std::marker::Model;
+use std::sync::ledger::Ledger;
+
+/// The queued tasks of one sibling, by class, in a class by rank, and at equal ranks by stamp.
+#[derive(Drop)]
+pub struct Classes {
+    stop: RankTree,
+    deadline: DeadlineQueue,
+    real_time: RtQueue,
+    fair: FairQueue,
+    /// How many tasks it can take in all, whatever their classes are.
+    limit: u32,
+}
+
+impl Model for Classes {
+    ghost use Rattle.cs_types.specs.Queue.{Seated};
+    ghost use Rattle.cs_types.proofs.Codes.{seated_code};
+
+    ghost Value = { Seated };
+
+    ghost coded = { seated_code };
+
+    ghost use Rattle.run_queue.specs.Classes.{seated_of, IsSound};
+
+    ghost view = { seated_of };
+
+    ghost invariant = { IsSound };
+}
+
+impl Classes {
+    /// No task, and nothing reserved. It takes no memory.
+    pub fn empty(alloc: Global) -> Classes
+        ensures tasks { result.tasks ≡ map.empty }
+        ensures spare { result.spare ≡ 0 }
+    {
+        Classes {
+            stop: RankTree::empty(alloc),
+            deadline: DeadlineQueue::empty(alloc),
+            real_time: RtQueue::empty(alloc),
+            fair: FairQueue::empty(alloc),
+            limit: 0,
+        }
+    }
+
+    /// Raises `spare` to `n` tasks of any class where it is below. This call alone takes memory.
+    /// An `Err`, for want of it or where there would be more than 4294967295 tasks, changes nothing.
+    pub fn reserve(&mut self, n: u32) -> Result<(), OutOfMemory>
+        ensures tasks { self.new.tasks ≡ self.old.tasks }
+        ensures spare { OnOk result (self.new.spare ≡ max n self.old.spare) }
+        ensures err { OnErr result (self.new.spare ≡ self.old.spare) }
+    {
+        let Some(limit) = self.count().checked_add(n) else {
+            return Err(OutOfMemory);
+        };
+        self.stop.reserve(limit - self.stop.len())?;
+        self.deadline.reserve(limit - self.deadline.len())?;
+        self.real_time.reserve(limit - self.real_time.len())?;
+        self.fair.reserve(limit - self.fair.len())?;
+        self.limit = self.limit.max(limit);
+        Ok(())
+    }
+
+    /// Puts a task at a seat where none is.
+    pub fn enqueue<L: Ledger>(&mut self, task: Queued, steps: &mut Steps<L>)
+        requires spare { 0 < self.old.spare }
+        requires class { task.class ≤ fair_class }
+        requires free { map.get self.old.tasks (seat_of task) ≡ None }
+        ensures tasks { self.new.tasks ≡ map.insert self.old.tasks (seat_of task) task.pid }
+        ensures spare { self.new.spare + 1 ≡ self.old.spare }
+        ensures counted { steps.new ≤ steps.old + most_comparisons (map.len self.old.tasks) }
+    {
+        match task.class {
+            Queued::STOP => self.stop.put(task.rank, task.stamp, task.pid, steps),
+            Queued::DEADLINE => self.deadline.put(task.rank, task.stamp, task.pid, steps),
+            Queued::REAL_TIME => self.real_time.put(task.rank, task.stamp, task.pid, steps),
+            _ => self.fair.put(task.rank, task.stamp, task.pid, steps),
+        }
+    }
+
+    /// Takes the task at the seat of this one out. `false` comes exactly where none is there, and then
+    /// nothing changes.
+    pub fn dequeue<L: Ledger>(&mut self, task: &Queued, steps: &mut Steps<L>) -> bool
+        requires class { task.now.class ≤ fair_class }
+        ensures found { result ≡ map.contains_key self.old.tasks (seat_of task.now) }
+        ensures tasks { self.new.tasks ≡ map.remove self.old.tasks (seat_of task.now) }
+        ensures spare { self.new.spare ≡ self.old.spare + (if result then 1 else 0) }
+        ensures counted { steps.new ≤ steps.old + most_comparisons (map.len self.old.tasks) }
+    {
+        match task.class {
+            Queued::STOP => self.stop.take(task.rank, task.stamp, steps),
+            Queued::DEADLINE => self.deadline.take(task.rank, task.stamp, steps),
+            Queued::REAL_TIME => self.real_time.take(task.rank, task.stamp, steps),
+            _ => self.fair.take(task.rank, task.stamp, steps),
+        }
+    }
+
+    /// The pid of the first task: the one of the highest class, in that of the least rank, and among
+    /// those with the least stamp. `None` exactly where there is no task.
+    pub fn first<L: Ledger>(&self, steps: &mut Steps<L>) -> Option<Pid>
+        ensures first { result ≡ top_of self.now.tasks }
+
+        // Where this is the queue of some tasks of a room, it is the first of them.
+        ensures model { (tasks : List Task) → self.now.tasks ≡ queue_of tasks →
+            All (λ task. priority_of task.spec.policy ≤ 99) tasks →
+            result ≡ option_map (λ task. task.spec.pid) (first_of tasks) }
+        ensures counted { steps.new ≤ steps.old + 4 * most_comparisons (map.len self.now.tasks) }
+    {
+        if let Some(pid) = self.stop.top(steps) {
+            return Some(pid);
+        }
+        if let Some(pid) = self.deadline.top(steps) {
+            return Some(pid);
+        }
+        if let Some(pid) = self.real_time.top(steps) {
+            return Some(pid);
+        }
+        self.fair.top(steps)
+    }
+
+    /// How many tasks there are.
+    pub fn count(&self) -> u32
+        ensures { result ≡ map.len self.now.tasks }
+    {
+        self.stop.len() + self.deadline.len() + self.real_time.len() + self.fair.len()
+    }
+}
