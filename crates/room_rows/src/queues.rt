@@ -3,12 +3,12 @@
 ghost use Rattle.std.specs.Prelude.{◌≡◌, ◌<◌, ◌≤◌};
 ghost use Rattle.std.specs.FinMap.{empty};
 ghost use Rattle.cs_types.specs.Order.{fair_class};
-ghost use Rattle.cs_types.specs.Queue.{seat_of};
+ghost use Rattle.cs_types.specs.Queue.{IsRanked};
 
-use cs_types::{ClassQueue, Pid, Queued, Steps};
+use cs_types::{ClassQueue, Cookie, Pid, Queued, Steps};
 use deadline_queue::DeadlineQueue;
 use fair_queue::{FairQueue, grow, weight};
-use order_tree::RankTree;
+use order_tree::{Key, OrderTree, RankTree};
 use rt_queue::RtQueue;
 use run_queue::RunQueue;
 use std::marker::Brand;
@@ -82,17 +82,18 @@ fn expect_two<L: Ledger, R: Abort, Q: ClassQueue>(rt: &R, mut queue: Q, steps: &
     expect_both(rt, &mut queue, steps);
 }
 
-/// A task with this pid, of this class, at rank 5, whose stamp is its pid.
-fn queued(pid: Pid, class: u8) -> Queued
-    ensures class { result.class ≡ class }
-    ensures seat { seat_of result ≡ (class, (5, pid)) }
+/// A task with this pid, of this class, at rank 0, whose stamp is its pid, with this cookie.
+fn queued(pid: Pid, class: u8, cookie: Cookie) -> Queued
+    requires { class ≤ fair_class }
+    ensures is { result ≡ record { pid = pid; class = class; rank = 0; stamp = pid; cookie = cookie } }
+    ensures ranked { IsRanked result }
 {
     Queued {
         pid,
         class,
-        rank: 5,
+        rank: 0,
         stamp: pid as u64,
-        cookie: 0,
+        cookie,
     }
 }
 
@@ -100,13 +101,15 @@ fn queued(pid: Pid, class: u8) -> Queued
 fn queue_of_each_class<L: Ledger, R: AllocGlobal + Abort>(
     rt: &R,
     steps: &mut Steps<L>,
-) -> RunQueue {
+) -> RunQueue
+    ensures { result.cookies ≡ empty }
+{
     let mut queue = RunQueue::empty(rt.alloc());
     queue.reserve(4).expect(rt, "room");
-    queue.enqueue(queued(1, Queued::FAIR), steps);
-    queue.enqueue(queued(2, Queued::REAL_TIME), steps);
-    queue.enqueue(queued(3, Queued::DEADLINE), steps);
-    queue.enqueue(queued(4, Queued::STOP), steps);
+    queue.enqueue(queued(1, Queued::FAIR, 0), steps);
+    queue.enqueue(queued(2, Queued::REAL_TIME, 0), steps);
+    queue.enqueue(queued(3, Queued::DEADLINE, 0), steps);
+    queue.enqueue(queued(4, Queued::STOP, 0), steps);
     queue
 }
 
@@ -118,16 +121,20 @@ fn expect_first<L: Ledger, R: Abort>(
     class: u8,
     steps: &mut Steps<L>,
 )
-    requires { class ≤ fair_class }
+    requires class { class ≤ fair_class }
+    requires cookies { queue.old.cookies ≡ empty }
+    ensures { queue.new.cookies ≡ empty }
 {
-    let task = queued(pid, class);
+    let task = queued(pid, class, 0);
     assert!(rt; queue.first(steps) == Some(pid));
     assert!(rt; queue.dequeue(&task, steps));
     assert!(rt; !queue.dequeue(&task, steps));
 }
 
 /// Expects the tasks of such a run queue, the highest class first, and takes them out.
-fn expect_classes<L: Ledger, R: Abort>(rt: &R, queue: &mut RunQueue, steps: &mut Steps<L>) {
+fn expect_classes<L: Ledger, R: Abort>(rt: &R, queue: &mut RunQueue, steps: &mut Steps<L>)
+    requires { queue.old.cookies ≡ empty }
+{
     assert!(rt; queue.count() == 4);
     expect_first(rt, queue, 4, Queued::STOP, steps);
     expect_first(rt, queue, 3, Queued::DEADLINE, steps);
@@ -142,6 +149,52 @@ fn expect_each_class<L: Ledger, R: AllocGlobal + Abort>(rt: &R, steps: &mut Step
     expect_classes(rt, &mut queue, steps);
 }
 
+/// Expects of a run queue that it tells the tasks of a cookie, the higher first, until they are taken out.
+fn expect_cookies<L: Ledger, R: AllocGlobal + Abort>(rt: &R, steps: &mut Steps<L>) {
+    let mut queue = RunQueue::empty(rt.alloc());
+    queue.reserve(2).expect(rt, "room");
+    let low = queued(1, Queued::FAIR, 7);
+    let high = queued(2, Queued::REAL_TIME, 7);
+    queue.enqueue(low, steps);
+    queue.enqueue(high, steps);
+    assert!(rt; queue.first_of(7, steps).is_some_and(|task| task.pid == 2));
+    assert!(rt; queue.next_of(&high, steps).is_some_and(|task| task.pid == 1));
+    assert!(rt; queue.next_of(&low, steps).is_none());
+    assert!(rt; queue.first_of(6, steps).is_none() && queue.first_of(8, steps).is_none());
+    assert!(rt; queue.dequeue(&high, steps));
+    assert!(rt; queue.first_of(7, steps).is_some_and(|task| task.pid == 1));
+}
+
+/// Expects of a tree that it tells its keys in order, and gives them back.
+fn expect_keys<L: Ledger, R: AllocGlobal + Abort>(rt: &R, steps: &mut Steps<L>) {
+    let mut tree = OrderTree::empty(rt.alloc());
+    tree.reserve(2).expect(rt, "room");
+    let low = key(3);
+    let high = key(5);
+    tree.insert(high, 50, steps);
+    tree.insert(low, 30, steps);
+    assert!(rt; tree.len() == 2);
+    assert!(rt; tree.first(steps) == Some((low, 30)));
+    assert!(rt; tree.first_from(&key(4), steps) == Some((high, 50)));
+    assert!(rt; tree.first_from(&high, steps) == Some((high, 50)));
+    assert!(rt; tree.next(&low, steps) == Some((high, 50)));
+    assert!(rt; tree.next(&high, steps).is_none());
+    assert!(rt; tree.remove(&low, steps) && !tree.remove(&low, steps));
+    assert!(rt; tree.first(steps) == Some((high, 50)) && tree.len() == 1);
+}
+
+/// The key of this stamp.
+fn key(stamp: u64) -> Key
+    ensures { result ≡ record { group = 1; class = 2; rank = 9; stamp = stamp } }
+{
+    Key {
+        group: 1,
+        class: 2,
+        rank: 9,
+        stamp,
+    }
+}
+
 /// Expects that each queue does so. The ledger of the blank is the one in which their steps are counted.
 fn expect_queues<L: Ledger, R: AllocGlobal + Abort>(rt: &R, blank: Blank)
     requires name { blank.name ≡ L.name }
@@ -154,6 +207,8 @@ fn expect_queues<L: Ledger, R: AllocGlobal + Abort>(rt: &R, blank: Blank)
     expect_two(rt, DeadlineQueue::empty(rt.alloc()), &mut steps);
     expect_two(rt, FairQueue::empty(rt.alloc()), &mut steps);
     expect_each_class(rt, &mut steps);
+    expect_cookies(rt, &mut steps);
+    expect_keys(rt, &mut steps);
 }
 
 #[test]
