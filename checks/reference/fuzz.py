@@ -73,7 +73,7 @@ class Gen:
         count = r.choice([0, 1, 2, 3, 3, 4, 4, 5, 5, 6, 8, 10, 14, 20])
         if self.profile == 'steal':
             count = max(count, 5)
-        if self.profile == 'access':
+        if self.profile in ('access', 'guards'):
             count = max(count, 4)
         limit = min(256, max(1, count + r.choice([0, 1, 2, 4, 8, 60])))
         cookies = r.choice([1, 2, 3, 8, 256])
@@ -81,13 +81,13 @@ class Gen:
             cookies = max(cookies, 3)
         self.top = r.choice([8192, 8192, 8200, 8191 + r.randint(1, 10000), 65536, 2**63 - 1])
         lines = ['coresched 1', 'siblings %d' % n, 'limits %d %d %d' % (limit, cookies, self.top)]
-        return lines + self.task_lines(count)
+        return lines + self.task_lines(count) + self.teach_lines()
 
     def task_lines(self, count):
         r = self.r
         self.policies = self.palette()
-        many_ids = r.random() < (.9 if self.profile == 'access' else .2)
-        uids = [0, 1000, 2000] if many_ids else [1000]
+        many_ids = r.random() < (.9 if self.profile in ('access', 'guards') else .2)
+        uids = self.uids = [0, 1000, 2000] if many_ids else [1000]
         pids = r.sample(range(1, 30) if r.random() < .8 else range(9970, 10000), count)
         if r.random() < .5:
             pids.sort()
@@ -107,6 +107,25 @@ class Gen:
                 pid, tgid, pgid, cpu, r.choice(self.policies), ' '.join(map(str, ids)), ' '.join(map(str, flags))))
         return lines
 
+    def teach_lines(self):
+        """What the guards refuse, most of it pairs that the tasks have. Now and then a guard is not there, or is full."""
+        r = self.r
+        often = self.profile in ('access', 'guards')
+        count = r.choice([0, 1, 1, 2, 3, 4, 6, 8, 14, 40, 64]) if often else r.choice([0, 0, 0, 1, 2, 3])
+        users = self.uids + [65535] * (r.random() < .1)
+        past = r.random() < .03
+        left = [16] * 4
+        lines = []
+        for _ in range(count):
+            free = [k for k in range(4) if left[k]]
+            index = r.randrange(16) if past else r.randrange(4) if r.random() < .01 else r.choice(free)
+            if index < 4 and left[index]:
+                left[index] -= 1
+            rare = [r.randint(0, 65535), r.randint(0, 65535)]
+            pair = [r.choice(users), r.choice(users)] if r.random() < (.3 if count > 8 else .8) else rare
+            lines.append('teach %d %d %d' % (index, *pair))
+        return lines
+
     def credentials(self, uids):
         r = self.r
         u, g = r.choice(uids), r.choice(uids)
@@ -116,6 +135,9 @@ class Gen:
             ids = [uids[-1]] * 6
         if r.random() < (.5 if self.profile == 'access' else .2):
             ids[r.randrange(6)] = r.choice(uids + [65535])
+        if self.profile == 'guards' and r.random() < .6:
+            # the guards are the only ones that refuse
+            flags = [1, 1, 1] if r.random() < .5 else [0, 1, 1]
         return ids, flags
 
     def advance(self):
@@ -146,7 +168,7 @@ class Gen:
             # a target in the caller's reach more often than not
             target = r.choice(living + [0])
         kind = r.random()
-        if self.profile == 'access':
+        if self.profile in ('access', 'guards'):
             kind = kind * .9 + .1
         if kind < .35:
             cmd, scope, addr = 1, r.choice([0, 0, 0, 1, 2]), 0
@@ -201,15 +223,34 @@ class Gen:
         if kind == 'setsched':
             pol = r.choice(self.policies) if r.random() < .7 else Gen(r, 'all').palette()[0]
             return 'setsched %d %s' % (self.any_pid(living), pol)
+        if kind in ('load', 'unload'):
+            return '%s %d' % (kind, self.guard_for(kind))
         on = [x.i for x in self.room.sib if x.online]
         off = [x.i for x in self.room.sib if not x.online]
         if kind == 'offline':
             return 'offline %d' % (r.choice(on) if r.random() < .9 else s)
         return 'online %d' % (r.choice(off) if off and r.random() < .95 else s)
 
+    def guard_for(self, kind):
+        """The number of a guard that can be loaded or unloaded more often than not."""
+        r = self.r
+        wanted = 'bench' if kind == 'load' else 'active'
+        fit = [k for k, guard in enumerate(self.room.guards) if guard.place == wanted]
+        if fit and r.random() < .8:
+            return r.choice(fit)
+        return r.choice([0, 1, 2, 3, 3, 4, 15, r.randrange(16)])
+
+    def opened(self, lines):
+        """The room of the scenario. Where its guards cannot be taught, one with more of them plays on."""
+        s = reference.read(('\n'.join(lines) + '\nend\n').encode())
+        try:
+            return reference.Room(s, check=False)
+        except reference.BadGuard:
+            return reference.Room(s, check=False, caps=(64,) * 16)
+
     def make(self):
         lines = self.head()
-        self.room = reference.Room(reference.read(('\n'.join(lines) + '\nend\n').encode()), check=False)
+        self.room = self.opened(lines)
         steps = self.opening() if self.room.tasks and self.r.random() < .6 else []
         made = 0
         while made < self.steps:
@@ -233,7 +274,7 @@ class Gen:
             return self.burst()
         if r.random() < .15:
             return self.aimed() or [self.event()]
-        if self.profile not in ('few', 'access') and r.random() < .03:
+        if self.profile not in ('few', 'access', 'guards') and r.random() < .03:
             return self.recookie()
         if self.profile == 'rr' and r.random() < .2:
             s = r.randrange(self.n)
@@ -332,9 +373,10 @@ class Gen:
         return out
 
 
-BASE = dict(turn=30, resched=8, block=8, exit=1, tick=9, wake=18, advance=10, fork=2, prctl=10, setsched=4, offline=2, online=2)
-PROFILES = ['all', 'all', 'all', 'fair', 'snapshot', 'snapshot', 'rt', 'rr', 'rr', 'dl', 'access', 'access', 'life', 'steal', 'steal',
-            'hotplug', 'few', 'equal']
+BASE = dict(turn=30, resched=8, block=8, exit=1, tick=9, wake=18, advance=10, fork=2, prctl=10, setsched=4, offline=2, online=2,
+            load=.7, unload=.3)
+PROFILES = ['all', 'all', 'all', 'fair', 'snapshot', 'snapshot', 'rt', 'rr', 'rr', 'dl', 'access', 'access', 'guards', 'guards', 'life',
+            'steal', 'steal', 'hotplug', 'few', 'equal']
 WEIGHTS = {
     'all': BASE,
     'fair': dict(BASE, advance=16, tick=14, block=5),
@@ -342,7 +384,8 @@ WEIGHTS = {
     'rt': BASE,
     'rr': dict(BASE, advance=18, tick=22, block=4, prctl=3, exit=0.3, setsched=7),
     'dl': dict(BASE, advance=14, wake=24, block=14),
-    'access': dict(BASE, prctl=60),
+    'access': dict(BASE, prctl=60, load=3, unload=1),
+    'guards': dict(BASE, turn=12, prctl=60, load=12, unload=4, fork=4),
     'life': dict(BASE, fork=14, exit=10, block=6),
     'steal': dict(BASE, setsched=1, offline=0.3, online=0.5, prctl=14, wake=26, block=4, exit=0.3),
     'hotplug': dict(BASE, offline=8, online=8, wake=24, block=10),
@@ -373,8 +416,9 @@ LINES = [b'', b' ', b'end', b'end ', b' end', b'End', b'end\r', b'task', b'step'
          b'step s0 turn ', b' step s0 turn', b'step  s0 turn', b'step s0 turn 1', b'step s0 wake 1', b'step c0 turn', b'step c0 wake',
          b'step c0 wake 1 2', b'step c0 fork 1', b'step c0 fork 1 both', b'step c0 fork x thread', b'step c9 turn', b'step s9 wake 1',
          b'step c9 wake 1', b'step s9 turn', b'step c0 advance 0', b'step c0 advance 1000000001', b'step c0 prctl 1 0 0 0',
-         b'step c0 prctl 1 0 -0 0 0', b'step c0 load 0', b'step c0 unload 16', b'step c0 setsched 1 fair:0', b'step c0 offline 0',
-         b'step c0 online 9', b'step s0 offline 0', b'step s0 load 0', b'teach 0 1 2', b'teach 0 1', b'teach 16 0 0', b'coresched 1', b'coresched 2',
+         b'step c0 prctl 1 0 -0 0 0', b'step c0 load 0', b'step c0 load 15', b'step c0 load 16', b'step c0 unload 16', b'step c0 load', b'step c0 unload 0 0', b'step c0 setsched 1 fair:0', b'step c0 offline 0',
+         b'step c0 online 9', b'step s0 offline 0', b'step s0 load 0', b'teach 0 1 2', b'teach 0 1', b'teach 0 1 2 3',
+         b'teach 16 0 0', b'teach 15 0 65535', b'teach 3 65536 0', b'teach 00 1 2', b'teach  0 1 2', b'coresched 1', b'coresched 2',
          b'siblings 2', b'limits 8 8 65536', b'task 1 1 1 0 fifo:1 ' + IDS.encode(), b'task 1 1 1 0 fifo:1 ' + IDS.encode() + b' 0',
          b'budget 1 1 1', b'#', b'\x00', b'\xff\xfe', b'user']
 
@@ -487,12 +531,26 @@ def change_limits(rng, data):
     return b'\n'.join(lines)
 
 
+def change_teaches(rng, data):
+    """More teach lines where they may stand, or near it: one, or so many that a guard or the text is full."""
+    lines = data.split(b'\n')
+    place = sum(1 for x in lines if not x.startswith(b'step ') and x not in (b'end', b'')) + rng.choice([0, 0, 0, 0, -1, 1])
+    count = rng.choice([1, 1, 2, 4, 15, 16, 17, 60, 64, 65])
+    index = rng.choice([0, 0, 1, 3, 3, 4, 15, 16])
+    ends = [b'0', b'1', b'1000', b'65535', b'65535', b'65536']
+    more = [b'teach %d %s %s' % (index if count < 20 else k % 4, rng.choice(ends[:5]), rng.choice(ends[:5])) for k in range(count)]
+    if rng.random() < .2:
+        more[-1] = b'teach %d %s %s' % (index, rng.choice(ends), rng.choice(ends))
+    return b'\n'.join(lines[:place] + more + lines[place:])
+
+
 CHANGES = [change_byte] * 4 + [change_word] * 6 + [change_digit] * 2 + [change_line] * 5 + [change_end, change_group, change_limits]
+CHANGES += [change_teaches] * 2
 
 
 def mutate(rng, data):
     for _ in range(rng.choice([1, 1, 1, 2, 3])):
-        data = CHANGES[rng.randrange(20)](rng, data)
+        data = rng.choice(CHANGES)(rng, data)
     return data
 
 
@@ -504,8 +562,8 @@ POLICIES = ['stop', 'stop:', 'stop:1', 'idle', 'fifo', 'fifo:', 'fifo:0', 'fifo:
             'fair:-20', 'fair:-1', 'fair:0', 'fair:-0', 'fair:19', 'fair:20', 'fair:+1', 'fair:01', 'FIFO:1', 'rr', 'dl', 'fair']
 
 
-def text_with(head='coresched 1', siblings='siblings 2', limits='limits 8 8 65536', tasks=(TASK,), steps=(), end='end\n'):
-    return ('\n'.join([head, siblings, limits, *tasks, *steps]) + '\n' + end).encode('latin-1')
+def text_with(head='coresched 1', siblings='siblings 2', limits='limits 8 8 65536', tasks=(TASK,), teaches=(), steps=(), end='end\n'):
+    return ('\n'.join([head, siblings, limits, *tasks, *teaches, *steps]) + '\n' + end).encode('latin-1')
 
 
 def spread(low, high):
@@ -567,8 +625,45 @@ def limits_of_steps():
         for i in (n - 1, n):
             yield 'cpu %d of %d' % (i, n), text_with(siblings='siblings %d' % n, tasks=(with_word(TASK, 3, str(i)),))
             yield 'actor %d of %d' % (i, n), text_with(siblings='siblings %d' % n, steps=('step s%d turn' % i,))
-    for line in ['teach 0 1 2', 'step c0 load 0', 'step c0 unload 0']:
+    for v in spread(0, 15):
+        yield 'load ' + v, text_with(steps=('step c0 load ' + v,))
+        yield 'unload ' + v, text_with(steps=('step c0 unload ' + v,))
+    for line in ['step c0 load', 'step c0 load 0 0', 'step s0 load 0', 'step s0 unload 0']:
         yield line, text_with(steps=(line,))
+
+
+def limits_of_teaches():
+    for k, (low, high) in enumerate([(0, 15), (0, 65535), (0, 65535)]):
+        for v in spread(low, high) + ['3', '4']:
+            yield 'teach %d %s' % (k, v), text_with(teaches=(with_word('teach 0 1 2', k, v),))
+    for line in ['teach', 'teach 0', 'teach 0 1', 'teach 0 1 2 3', 'teach 0  1 2', 'teach 0 1 2 ', 'teaches 0 1 2']:
+        yield line, text_with(teaches=(line,))
+    for count in (1, 16, 17):
+        for index in (0, 3):
+            yield '%d for guard %d' % (count, index), text_with(teaches=('teach %d 1 2' % index,) * count)
+    each = tuple('teach %d 1000 %d' % (k % 4, k) for k in range(65))
+    yield '64 teach lines', text_with(teaches=each[:64])
+    yield '65 teach lines', text_with(teaches=each)
+    yield '65th with a faulty number', text_with(teaches=each[:64] + ('teach 16 1 2',))
+    yield '64 teach lines, the first past the guards', text_with(teaches=('teach 4 1 2',) + each[1:64])
+    yield 'a full guard before one that is not there', text_with(teaches=('teach 0 1 2',) * 17 + ('teach 9 1 2',))
+    yield 'teach before the tasks', text_with(tasks=('teach 0 1 2', TASK))
+    yield 'teach between tasks', text_with(tasks=(TASK, 'teach 0 1 2', 'task 2 2 2 0 fifo:1 ' + IDS))
+    yield 'teach and no task', text_with(tasks=('teach 0 1 2',))
+    yield 'teach after a step', text_with(steps=('step s0 turn', 'teach 0 1 2'))
+    yield 'teach after the end', text_with(end='end\nteach 0 1 2\n')
+    yield 'teach in place of the end', text_with(end='teach 0 1 2\n')
+    yield from asked_often()
+
+
+def asked_often():
+    """Guards that are asked about one target, about a group, and not at all."""
+    pair = (TASK, 'task 2 2 1 0 fifo:1 ' + IDS)
+    share, group, get = ('step c0 prctl 1 %s' % rest for rest in ('2 2 0 0', '2 2 2 0', '0 2 0 4096'))
+    for teaches in [('teach 0 1 2',), ('teach 0 1000 1000',), ('teach 1 1000 1000', 'teach 0 1000 1001'), ()]:
+        for steps in [(share, group, get), ('step c0 load 0', share, group, get), ('step c0 load 1', 'step c0 load 0', share, group, get),
+                      ('step c0 load 0', share, 'step c7 unload 0', 'step c7 unload 0', 'step c7 load 0', share)]:
+            yield 'asked: %s %s' % (teaches, steps), text_with(tasks=pair, teaches=teaches, steps=steps)
 
 
 def limits_of_ends():
@@ -634,7 +729,8 @@ def limits_of_length():
 
 def limit_texts():
     """Pairs (name, text) at and past each limit of the format."""
-    for texts_of in (limits_of_heads, limits_of_tasks, limits_of_steps, limits_of_ends, limits_of_many, limits_of_length):
+    for texts_of in (limits_of_heads, limits_of_tasks, limits_of_teaches, limits_of_steps, limits_of_ends, limits_of_many,
+                     limits_of_length):
         yield from texts_of()
 
 
@@ -690,7 +786,7 @@ class Compare:
 
     def wanted(self, data):
         status, out, err = reference.replay(data, self.stats)
-        if not self.tells_kinds and err.startswith(b'coresched: line '):
+        if not self.tells_kinds and err.startswith(b'coresched: line ') and b': guard ' not in err:
             err = b'coresched: line 0: Unbuilt\n'
         return status, out, err
 
@@ -792,7 +888,7 @@ def alone(a):
         data = scenario(rng)
         try:
             status, _, err = reference.replay(data, stats)
-            assert status == 0, err
+            assert status == 0 or b': guard ' in err, err
         except AssertionError as e:
             name = kept('self-%d-%d' % (a.seed, k)) + '.scenario'
             write(name, data)

@@ -2,8 +2,9 @@
 """The rules of coresched once more, in Python over plain lists. It shares no code with the program.
 
 It writes what `coresched replay` writes, and ends as that does. Of a text that is no scenario it tells the first line
-that is wrong, and the kind of what is wrong there: Shape, Number, Twice, Leader, Full, After or Cut. While it plays, it
-asserts what is proved of the program.
+that is wrong, and the kind of what is wrong there: Shape, Number, Twice, Leader, Full, After or Cut. Of a scenario whose
+guards cannot be taught it tells the first such line, and why: NoGuard or Full. While it plays, it asserts what is proved
+of the program.
 
 Usage: reference.py < SCENARIO
 """
@@ -12,6 +13,8 @@ from collections import Counter
 
 MAX_INPUT = 16777216
 MAX_STEPS = 100000
+MAX_TEACHES = 64
+GUARDS = (16, 16, 16, 16)       # the guards of the program: of each how many pairs it can be taught
 WEIGHT = [88761, 71755, 56483, 46273, 36291, 29154, 23254, 18705, 14949, 11916, 9548, 7620, 6100,
           4904, 3906, 3121, 2501, 1991, 1586, 1277, 1024, 820, 655, 526, 423, 335, 272, 215, 172,
           137, 110, 87, 70, 56, 45, 36, 29, 23, 18, 15]
@@ -28,6 +31,13 @@ class Bad(Exception):
     """What is wrong with a text: its kind, and the line, from 1."""
 
     def __init__(self, kind, line=None):
+        self.line, self.kind = line, kind
+
+
+class BadGuard(Exception):
+    """A line that no guard can be taught: its number, and why."""
+
+    def __init__(self, line, kind):
         self.line, self.kind = line, kind
 
 
@@ -80,6 +90,7 @@ def policy_value(shape):
 
 SIBLING_EVENTS = {b'turn', b'resched', b'block', b'exit', b'tick'}
 PID = (1, 999999)
+GUARD = (0, 15)
 # name: the words behind it. A pair is a number's range, 'n' is a sibling, 'policy', 'how'
 CALLER_EVENTS = {
     b'wake': [PID],
@@ -89,6 +100,8 @@ CALLER_EVENTS = {
     b'setsched': [PID, 'policy'],
     b'offline': ['n'],
     b'online': ['n'],
+    b'load': [GUARD],
+    b'unload': [GUARD],
 }
 
 
@@ -96,16 +109,18 @@ class Scenario:
     def __init__(self):
         self.siblings = self.limit = self.cookies = self.top = 0
         self.tasks = []         # tuples, in the file's order
+        self.teaches = []       # (line, guard, from, to)
         self.steps = []         # (actor text, event tuple, text of the step)
 
 
 class Reader:
-    """Takes a text line by line. `take` is what the next line is taken by."""
+    """Takes a text line by line. `take` is what the next line is taken by, and `place` the number of that line."""
 
     def __init__(self):
         self.s = Scenario()
         self.groups = {}            # of each pid its thread group and its process group
         self.has_steps = False
+        self.place = 0
         self.take = self.take_version
 
     def take_version(self, line):
@@ -136,8 +151,10 @@ class Reader:
         words = words_of(line)
         if words == [b'end']:
             self.take = self.take_nothing
-        elif words[0] == b'task' and not self.has_steps:
+        elif words[0] == b'task' and not self.s.teaches and not self.has_steps:
             self.add_task(words)
+        elif words[0] == b'teach' and not self.has_steps:
+            self.add_teach(words)
         elif words[0] == b'step':
             self.has_steps = True
             step = self.step(words)
@@ -172,6 +189,16 @@ class Reader:
             raise Bad('Full')
         self.groups[pid] = (tgid, pgid)
         self.s.tasks.append(tuple(got))
+
+    def add_teach(self, words):
+        if len(words) != 4:
+            raise Bad('Shape')
+        got = [number(words[1], *GUARD), number(words[2], 0, 65535), number(words[3], 0, 65535)]
+        if None in got:
+            raise Bad('Number')
+        if len(self.s.teaches) >= MAX_TEACHES:
+            raise Bad('Full')
+        self.s.teaches.append((self.place, *got))
 
     def step(self, words):
         """The actor's text, the event, and the text of the step."""
@@ -224,6 +251,7 @@ def read(data):
     rest = lines.pop()
     reader = Reader()
     for place, line in enumerate(lines, 1):
+        reader.place = place
         try:
             reader.take(line)
         except Bad as bad:
@@ -252,6 +280,25 @@ class Task:
     @property
     def cls(self):
         return CLASS[self.policy[0]]
+
+
+class Guard:
+    def __init__(self, pairs):
+        self.place = 'bench'
+        self.pairs = pairs          # (caller's real user, target's real user)
+        self.asked = 0
+
+
+def taught(s, caps):
+    """The guards, each with what the teach lines have for it, or raises BadGuard."""
+    guards = [Guard([]) for _ in caps]
+    for line, index, frm, to in s.teaches:
+        if index >= len(guards):
+            raise BadGuard(line, 'NoGuard')
+        if len(guards[index].pairs) == caps[index]:
+            raise BadGuard(line, 'Full')
+        guards[index].pairs.append((frm, to))
+    return guards
 
 
 class Sibling:
@@ -285,8 +332,10 @@ def first_of(tasks):
 class Room:
     """The core, its tasks, and what was played. Where `check` is set, each entry asserts what is proved."""
 
-    def __init__(self, s, stats=None, check=True):
+    def __init__(self, s, stats=None, check=True, caps=GUARDS):
         self.s, self.check = s, check
+        self.guards = taught(s, caps)
+        self.active = []            # the active ones, in the order of loading
         self.stats = Counter() if stats is None else stats
         self.n = s.siblings
         self.clock = 0
@@ -571,7 +620,21 @@ class Room:
         if t.flags[0] and not c.flags[0]:
             st['access: refused capability module'] += 1
             return False
+        if not self.guards_allow(c.ids[0], t.ids[0]):
+            return False
         st['access: allowed' + ('' if same else ' by capability')] += 1
+        return True
+
+    def guards_allow(self, frm, to):
+        """Asks the active guards one after the other, up to one that refuses."""
+        for place, guard in enumerate(self.active):
+            assert guard.place == 'active'
+            guard.asked += 1
+            if (frm, to) in guard.pairs:
+                self.stats['access: refused by guard' + (' behind another' if place else '')] += 1
+                return False
+        if self.active:
+            self.stats['access: allowed by guards'] += 1
         return True
 
     def prctl(self, p, cmd, target, scope, addr):
@@ -805,6 +868,24 @@ class Room:
         x.online, x.run, x.pending, x.waiting, x.place = True, None, True, NONE, 0
         return 'Done'
 
+    def do_load(self, index):
+        guard = self.guards[index] if index < len(self.guards) else None
+        if guard is None or guard.place != 'bench':
+            self.stats['load refused: ' + ('no such guard' if guard is None else guard.place)] += 1
+            return 'NoGuard'
+        guard.place = 'active'
+        self.active.append(guard)
+        return 'Loaded'
+
+    def do_unload(self, index):
+        guard = self.guards[index] if index < len(self.guards) else None
+        if guard is None or guard.place != 'active':
+            self.stats['unload refused: ' + ('no such guard' if guard is None else guard.place)] += 1
+            return 'NoGuard'
+        guard.place, guard.pairs = 'dropped', []
+        self.active.remove(guard)
+        return 'Dropped'
+
     def steal(self, i):
         x = self.sib[i]
         j = (i + x.place) % self.n
@@ -839,6 +920,7 @@ class Room:
         self.note_touches = 0
         self.dirty = False
         self.pick_kind = None
+        counts = [g.asked for g in self.guards]
         reply = self.step(event)
         touches = self.note_touches + (1 if self.pick_kind in ('Selected', 'Plain') else 0)
         self.dirty = False
@@ -849,7 +931,16 @@ class Room:
         self.stats['reply ' + reply_kind(reply)] += 1
         if self.check:
             self.assert_laws()
+            self.assert_asked(event, counts)
         return reply
+
+    def assert_asked(self, event, counts):
+        """A call of prctl asks the active guards, once for its target and once for each member of its group."""
+        for guard, before in zip(self.guards, counts):
+            most = len(self.tasks) + 1 if event[0] == 'prctl' and guard.place == 'active' else 0
+            assert before <= guard.asked <= before + most, 'a guard is asked at most once for each task, and once more'
+            assert guard.place != 'bench' or guard.asked == 0, 'a guard on the bench is never asked'
+        assert all((g.place == 'active') == (g in self.active) for g in self.guards)
 
     def assert_laws(self):
         fresh = self.fresh()
@@ -922,6 +1013,8 @@ class Room:
                 pid, t.home, 'queued' if t.queued else 'asleep', t.cookie, t.total, t.v))
         for t in self.ended:
             out.append('ended %d forced %d' % (t.pid, t.total))
+        for index, guard in enumerate(self.guards):
+            out.append('guard %d %s asked %d' % (index, guard.place, guard.asked))
         out.append('done')
         return out
 
@@ -937,8 +1030,8 @@ def reply_kind(reply):
     return words[0]
 
 
-def output(s, stats=None, check=True):
-    room = Room(s, stats, check)
+def output(s, stats=None, check=True, caps=GUARDS):
+    room = Room(s, stats, check, caps)
     for _, event, text in s.steps:
         room.apply(event, text)
     room.drain()
@@ -947,15 +1040,16 @@ def output(s, stats=None, check=True):
     return ''.join(line + '\n' for line in room.entries + room.report()).encode()
 
 
-def replay(data, stats=None, check=True):
+def replay(data, stats=None, check=True, caps=GUARDS):
     """(status, standard output, standard error) of `coresched replay`, with the line and the kind of a bad text."""
     try:
-        s = read(data)
+        return 0, output(read(data), stats, check, caps), b''
     except TooLong:
         return 2, b'', b'coresched: input too long\n'
     except Bad as bad:
         return 2, b'', ('coresched: line %d: %s\n' % (bad.line, bad.kind)).encode()
-    return 0, output(s, stats, check), b''
+    except BadGuard as bad:
+        return 2, b'', ('coresched: line %d: guard %s\n' % (bad.line, bad.kind)).encode()
 
 
 def main():

@@ -8,14 +8,14 @@ use Rattle.std.proofs.lemmas.List.{map_push}
 use Rattle.std.proofs.lemmas.List.Elements.{All-head, All-tail, All-weaker}
 use Rattle.std.proofs.lemmas.Bool.{cond-true, cond-false, eq-eqb, ne_eqb}
 use Rattle.cs_types.specs.declared.event.Event.{Event}
-use Rattle.cs_types.specs.declared.event.Event.TheVariants.{Turn, Resched, Block, Exit, Tick, Wake, Advance, Fork, Prctl, SetSched, Offline, Online}
+use Rattle.cs_types.specs.declared.event.Event.TheVariants.{Turn, Resched, Block, Exit, Tick, Wake, Advance, Fork, Prctl, SetSched, Offline, Online, Load, Unload}
 use Rattle.cs_types.specs.declared.event.Step.{Step}
 use Rattle.cs_types.specs.declared.reply.Pick.{Pick}
 use Rattle.cs_types.specs.declared.reply.Reply.{Reply}
 use Rattle.cs_types.specs.declared.reply.Entry.{Entry}
 use Rattle.cs_types.specs.declared.scenario.Scenario.{Scenario}
 use Rattle.cs_types.specs.Scenario.{IsEvent}
-use Rattle.cs_types.specs.Room.{RoomState, SiblingState, Interval}
+use Rattle.cs_types.specs.Room.{Opening, RoomState, SiblingState, Interval}
 use Rattle.cs_types.specs.Step.{Stepped, step}
 use Rattle.cs_types.specs.Touches.{is_selected, is_adopted, pick_of, is_selection, scheduler_of, is_fresh, LedgerEntry, Ledger, ledger_entry, task_number, pick_number, own_number}
 use Rattle.cs_types.specs.History.{History, Moment, moment_of, fold_of, ledger_of, reply_to, entry_of, history_of, step_at, next}
@@ -31,7 +31,7 @@ use Rattle.core_lanes.specs.Changes.{IsBooked}
 use Rattle.core_events.specs.State.{room_with}
 use Rattle.core_events.specs.Steps.{numbers_at, numbers_after, own_after, MakesWith}
 use Rattle.core_events.specs.Drain.{next_by}
-use Rattle.core_events.specs.Inside.{steps_of, IsFold}
+use Rattle.core_events.specs.Inside.{opening_of, steps_of, IsFold}
 use Rattle.core_events.specs.declared.room.CoreRoom.TheInside.{Inside}
 use Rattle.core_events.specs.declared.state.State.{State}
 
@@ -41,15 +41,15 @@ abbrev step_of : Entry → Step
 step_of entry = record { actor = entry.actor; event = entry.event }
 
 -- the entries are the history of their steps, with one more entry too
-pub history_more : (scenario : Scenario) (entries : History) (entry : Entry) →
-    entries ≡ history_of scenario (steps_of entries) → entry.reply ≡ reply_to scenario entries entry.event →
-    entries ++ entry ∷ [] ≡ history_of scenario (steps_of (entries ++ entry ∷ []))
-history_more scenario entries entry so_far reply =
-    let same : entry ≡ entry_of (moment_of scenario entries) (step_of entry) = ap (λ r. record { actor = entry.actor; event = entry.event; reply = r }) reply in
+pub history_more : (opening : Opening) (entries : History) (entry : Entry) →
+    entries ≡ history_of opening (steps_of entries) → entry.reply ≡ reply_to opening entries entry.event →
+    entries ++ entry ∷ [] ≡ history_of opening (steps_of (entries ++ entry ∷ []))
+history_more opening entries entry so_far reply =
+    let same : entry ≡ entry_of (moment_of opening entries) (step_of entry) = ap (λ r. record { actor = entry.actor; event = entry.event; reply = r }) reply in
     ap (λ (e : Entry). entries ++ e ∷ []) same
-    ∙ sym (ap (history_of scenario) (map_push step_of entries entry)
-    ∙ history_of-push scenario (steps_of entries) (step_of entry)
-    ∙ ap (λ (h : History). h ++ entry_of (moment_of scenario h) (step_of entry) ∷ []) (sym so_far))
+    ∙ sym (ap (history_of opening) (map_push step_of entries entry)
+    ∙ history_of-push opening (steps_of entries) (step_of entry)
+    ∙ ap (λ (h : History). h ++ entry_of (moment_of opening h) (step_of entry) ∷ []) (sym so_far))
 
 -- ---- each sibling's own number
 
@@ -113,6 +113,8 @@ scheduler_below n (Prctl caller ask) limits = tt
 scheduler_below n (SetSched pid policy) limits = tt
 scheduler_below n (Offline cpu) limits = tt
 scheduler_below n (Online cpu) limits = tt
+scheduler_below n (Load index) limits = tt
+scheduler_below n (Unload index) limits = tt
 
 own_more : (n : ℕ) (note : LedgerEntry) (ledger : Ledger) → IsEvent n note.entry.event →
     map (λ cpu. own_number cpu (note ∷ ledger)) (range_with_len 0 n)
@@ -125,65 +127,65 @@ own_more n note ledger limits =
 -- ---- the numbers
 
 -- the numbers of a moment with one more entry
-numbers-next : (scenario : Scenario) (moment : Moment) (entry : Entry) → IsEvent scenario.siblings entry.event →
-    numbers_at scenario (next moment entry) ≡ numbers_after moment.room entry.event entry.reply (booked (next moment entry).room (numbers_at scenario moment))
-numbers-next scenario moment entry limits =
+numbers-next : (opening : Opening) (moment : Moment) (entry : Entry) → IsEvent opening.scenario.siblings entry.event →
+    numbers_at opening (next moment entry) ≡ numbers_after moment.room entry.event entry.reply (booked (next moment entry).room (numbers_at opening moment))
+numbers-next opening moment entry limits =
     let note = ledger_entry moment.room entry in
     let ledger = moment.ledger in
     let task : task_number (note ∷ ledger) ≡ task_number ledger + note.touches = task_number-cons note ledger ∙ omega arith in
     let pick : pick_number (note ∷ ledger) ≡ cond (is_selection entry) (task_number ledger + note.touches) (pick_number ledger) =
     pick_number-cons note ledger ∙ ap (λ n. cond (is_selection entry) n (pick_number ledger)) task in
-    let own = own_more scenario.siblings note ledger limits ∙ ap (λ p. own_after entry.event entry.reply p (numbers_at scenario moment).own) pick in
-    λ i. record { task = task i; pick = pick i; own = own i; intervals = (numbers_at scenario (next moment entry)).intervals; totals = (numbers_at scenario (next moment entry)).totals }
+    let own = own_more opening.scenario.siblings note ledger limits ∙ ap (λ p. own_after entry.event entry.reply p (numbers_at opening moment).own) pick in
+    λ i. record { task = task i; pick = pick i; own = own i; intervals = (numbers_at opening (next moment entry)).intervals; totals = (numbers_at opening (next moment entry)).totals }
 
 -- ---- one step of the machine
 
 -- the state is the fold of the entries, and its numbers are those of their moment
-pub record Folds {Q : Type 0} {g : Ghosts Q} (scenario : Scenario) (state : State Q g) (entries : History) : Type 0 where
-  pub fold : room_with (fold_of scenario entries).intervals state ≡ fold_of scenario entries
-  pub numbers : numbers_of state.core ≡ numbers_at scenario (moment_of scenario entries)
+pub record Folds {Q G : Type 0} {g : Ghosts Q} (opening : Opening) (state : State Q G g) (entries : History) : Type 0 where
+  pub fold : room_with (fold_of opening entries).intervals state ≡ fold_of opening entries
+  pub numbers : numbers_of state.core ≡ numbers_at opening (moment_of opening entries)
 
 -- the state's step is that of the moment after the entries
-step_of_moment : {Q : Type 0} {g : Ghosts Q} (scenario : Scenario) (state : State Q g) (entries : History) (event : Event) → Folds scenario state entries →
-    step (room_with (fold_of scenario entries).intervals state) (is_fresh_by (numbers_of state.core)) event ≡ step_at (moment_of scenario entries) event
-step_of_moment {Q} {g} scenario state entries event so_far =
-    let fresh : is_fresh_by (numbers_of state.core) ≡ is_fresh (ledger_of scenario entries) =
-    ap is_fresh_by so_far.numbers ∙ sym (fresh-ledger_of scenario entries) in
+step_of_moment : {Q G : Type 0} {g : Ghosts Q} (opening : Opening) (state : State Q G g) (entries : History) (event : Event) → Folds opening state entries →
+    step (room_with (fold_of opening entries).intervals state) (is_fresh_by (numbers_of state.core)) event ≡ step_at (moment_of opening entries) event
+step_of_moment {Q} {g} opening state entries event so_far =
+    let fresh : is_fresh_by (numbers_of state.core) ≡ is_fresh (ledger_of opening entries) =
+    ap is_fresh_by so_far.numbers ∙ sym (fresh-ledger_of opening entries) in
     λ i. step (so_far.fold i) (fresh i) event
 
-pub reply_more : {Q : Type 0} {g : Ghosts Q} (scenario : Scenario) (old new : State Q g) (entries : History) (event : Event) (reply : Reply) →
-    Folds scenario old entries → MakesWith (fold_of scenario entries).intervals old new event reply → reply ≡ reply_to scenario entries event
-reply_more {Q} {g} scenario old new entries event reply so_far makes =
-    makes.reply ∙ ap (λ (made : Stepped). made.reply) (step_of_moment scenario old entries event so_far)
+pub reply_more : {Q G : Type 0} {g : Ghosts Q} (opening : Opening) (old new : State Q G g) (entries : History) (event : Event) (reply : Reply) →
+    Folds opening old entries → MakesWith (fold_of opening entries).intervals old new event reply → reply ≡ reply_to opening entries event
+reply_more {Q} {g} opening old new entries event reply so_far makes =
+    makes.reply ∙ ap (λ (made : Stepped). made.reply) (step_of_moment opening old entries event so_far)
 
-pub folds_more : {Q : Type 0} {g : Ghosts Q} (scenario : Scenario) (old new : State Q g) (entries : History) (entry : Entry) → IsEvent scenario.siblings entry.event →
-    Folds scenario old entries → MakesWith (fold_of scenario entries).intervals old new entry.event entry.reply → Folds scenario new (entries ++ entry ∷ [])
-folds_more {Q} {g} scenario old new entries entry limits so_far makes =
-    let more = sym (moment_of-push scenario entries entry) in
-    let made = step_of_moment scenario old entries entry.event so_far in
-    let kept : IsBooked (fold_of scenario entries) old.core =
-    subst (λ numbers. numbers ≡ booked (fold_of scenario entries) numbers) (sym so_far.numbers) refl in
+pub folds_more : {Q G : Type 0} {g : Ghosts Q} (opening : Opening) (old new : State Q G g) (entries : History) (entry : Entry) → IsEvent opening.scenario.siblings entry.event →
+    Folds opening old entries → MakesWith (fold_of opening entries).intervals old new entry.event entry.reply → Folds opening new (entries ++ entry ∷ [])
+folds_more {Q} {g} opening old new entries entry limits so_far makes =
+    let more = sym (moment_of-push opening entries entry) in
+    let made = step_of_moment opening old entries entry.event so_far in
+    let kept : IsBooked (fold_of opening entries) old.core =
+    subst (λ numbers. numbers ≡ booked (fold_of opening entries) numbers) (sym so_far.numbers) refl in
     record {
       fold = subst (λ (room : RoomState). room_with room.intervals new ≡ room)
           (ap (λ (m : Stepped). m.room) made ∙ ap (λ (moment : Moment). moment.room) more) makes.room;
       numbers = makes.numbers kept
           ∙ (λ i. numbers_after (so_far.fold i) entry.event entry.reply (booked (made i).room (so_far.numbers i)))
-          ∙ sym (numbers-next scenario (moment_of scenario entries) entry limits)
-          ∙ ap (numbers_at scenario) more;
+          ∙ sym (numbers-next opening (moment_of opening entries) entry limits)
+          ∙ ap (numbers_at opening) more;
     }
 
 -- who schedules next at the end of a run is the same
-pub next_of : {Q : Type 0} {g : Ghosts Q} (scenario : Scenario) (state : State Q g) (entries : History) → Folds scenario state entries →
-    next_by (room_with (fold_of scenario entries).intervals state) (is_fresh_by (numbers_of state.core)) ≡ next_to_schedule (moment_of scenario entries)
-next_of scenario state entries so_far =
-    let fresh : is_fresh_by (numbers_of state.core) ≡ is_fresh (ledger_of scenario entries) =
-    ap is_fresh_by so_far.numbers ∙ sym (fresh-ledger_of scenario entries) in
+pub next_of : {Q G : Type 0} {g : Ghosts Q} (opening : Opening) (state : State Q G g) (entries : History) → Folds opening state entries →
+    next_by (room_with (fold_of opening entries).intervals state) (is_fresh_by (numbers_of state.core)) ≡ next_to_schedule (moment_of opening entries)
+next_of opening state entries so_far =
+    let fresh : is_fresh_by (numbers_of state.core) ≡ is_fresh (ledger_of opening entries) =
+    ap is_fresh_by so_far.numbers ∙ sym (fresh-ledger_of opening entries) in
     λ i. next_by (so_far.fold i) (fresh i)
 
 -- ---- of a machine
 
 -- the state of a machine is the fold of its entries
-pub folds_of : {Q : Type 0} {g : Ghosts Q} (a : Inside Q g) → IsFold a → Folds a.scenario a.state a.entries.items
+pub folds_of : {Q G : Type 0} {g : Ghosts Q} (a : Inside Q G g) → IsFold a → Folds (opening_of a) a.state a.entries.items
 folds_of a invariant = record { fold = invariant.fold; numbers = invariant.numbers }
 
 -- the times of a room do not depend on the recorded intervals

@@ -9,7 +9,7 @@ use Rattle.cs_types.proofs.Tasks.{first_pid-le}
 use Rattle.cs_types.specs.History.{AreEvents, history_of}
 use Rattle.core_lanes.specs.declared.queue.SiblingQueue.{Ghosts}
 use Rattle.core_events.specs.Machine.{Machine}
-use Rattle.core_events.specs.Inside.{machine_of, most_entries, IsFold}
+use Rattle.core_events.specs.Inside.{opening_of, machine_of, most_entries, IsFold}
 use Rattle.core_events.specs.declared.room.CoreRoom.TheInside.{Inside}
 
 -- the entries that a machine may make are few
@@ -25,10 +25,10 @@ first_pid-low scenario playable =
 -- ---- of a machine
 
 -- its scenario can be played, and what the events of its history name keeps its limits
-pub playable_of : {Q : Type 0} {g : Ghosts Q} (a : Inside Q g) (invariant : IsFold a) (m : Machine) → machine_of a ≡ m → IsPlayable m.scenario
-playable_of a invariant m view_is = subst (λ (other : Machine). IsPlayable other.scenario) view_is invariant.playable
+pub playable_of : {Q G : Type 0} {g : Ghosts Q} (a : Inside Q G g) (invariant : IsFold a) (m : Machine) → machine_of a ≡ m → IsPlayable m.opening.scenario
+playable_of a invariant m view_is = subst (λ (other : Machine). IsPlayable other.opening.scenario) view_is invariant.playable
 
-pub events_of : {Q : Type 0} {g : Ghosts Q} (a : Inside Q g) (invariant : IsFold a) (m : Machine) → machine_of a ≡ m → AreEvents m.scenario (history_of m.scenario m.steps)
+pub events_of : {Q G : Type 0} {g : Ghosts Q} (a : Inside Q G g) (invariant : IsFold a) (m : Machine) → machine_of a ≡ m → AreEvents m.opening (history_of m.opening m.steps)
 events_of a invariant m view_is =
-    subst (λ (other : Machine). AreEvents other.scenario (history_of other.scenario other.steps)) view_is
-    (subst (AreEvents a.scenario) invariant.history invariant.events)
+    subst (λ (other : Machine). AreEvents other.opening (history_of other.opening other.steps)) view_is
+    (subst (AreEvents (opening_of a)) invariant.history invariant.events)

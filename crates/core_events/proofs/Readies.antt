@@ -31,7 +31,7 @@ use Rattle.core_events.proofs.States.{low_times}
 use Rattle.core_events.proofs.Onlines.{untouched}
 
 -- a state that is ready may schedule
-pub may_pick : {Q : Type 0} {g : Ghosts Q} (state : State Q g) → IsReady state → MayPick state.clock (both state)
+pub may_pick : {Q G : Type 0} {g : Ghosts Q} (state : State Q G g) → IsReady state → MayPick state.clock (both state)
 may_pick state ready = record {
   agree = ready.sound.agree;
   low = low_times state ready.time;
@@ -39,11 +39,11 @@ may_pick state ready = record {
   touches = omega (arith, ready.spares.touches);
 }
 
-pub may_schedule : {Q : Type 0} {g : Ghosts Q} (state : State Q g) → IsReady state → MaySchedule state.clock (both state)
+pub may_schedule : {Q G : Type 0} {g : Ghosts Q} (state : State Q G g) → IsReady state → MaySchedule state.clock (both state)
 may_schedule state ready = record { picks = may_pick state ready; paid = ready.paid }
 
 -- also where the queues were touched since
-pub may_touch_after : {Q : Type 0} {g : Ghosts Q} (state : State Q g) → IsReady state → (paid now : Numbers) → paid.task ≡ state.core.task_number → now ≡ touched 1 paid →
+pub may_touch_after : {Q G : Type 0} {g : Ghosts Q} (state : State Q G g) → IsReady state → (paid now : Numbers) → paid.task ≡ state.core.task_number → now ≡ touched 1 paid →
     now.task + 1 < 2 ^ 64
 may_touch_after state ready paid now same is = omega (arith, ready.spares.touches, same, ap (λ (numbers : Numbers). numbers.task) is)
 

@@ -12,7 +12,7 @@ use Rattle.cs_types.specs.declared.reply.Reply.{Reply}
 use Rattle.cs_types.specs.declared.reply.Reply.TheVariants.{Zero, Value, NoCaller, Refused}
 use Rattle.cs_types.specs.Room.{RoomState, SiblingState, Interval}
 use Rattle.cs_types.specs.Selection.{is_run}
-use Rattle.cs_types.specs.Prctl.{Setting, is_set, runs_one, set_cookies, with_made, with_answer, makes_cookie, setting_of, prctl_answer}
+use Rattle.cs_types.specs.Prctl.{Setting, is_set, runs_one, set_cookies, with_used, asked_by_call, with_answer, makes_cookie, setting_of, prctl_answer}
 use Rattle.cs_types.specs.Touches.{cookie_touches, setting_touches}
 use Rattle.cs_types.proofs.Settings.{set_cookies-none, set_cookies-cons, setting_touches-cons}
 use Rattle.cs_types.proofs.Numbers.{touches_of_tasks-le}
@@ -97,7 +97,7 @@ touches_alone task cookie touches is = omega (arith, is, setting_touches-cons ta
 
 -- ---- a group whose members get a cookie, one after the other
 
-module _ {Q : Type 0} {g : Ghosts Q} (old now : State Q g) (cookie : ℕ) (left all : List Task)
+module _ {Q G : Type 0} {g : Ghosts Q} (old now : State Q G g) (cookie : ℕ) (left all : List Task)
     (room : (intervals : List Interval) → set_cookies (room_with intervals now) (setting left cookie) ≡ set_cookies (room_with intervals old) (setting all cookie))
     (numbers : touched (setting_touches (setting left cookie)) (numbers_of now.core) ≡ touched (setting_touches (setting all cookie)) (numbers_of old.core)) where
   -- none is left
@@ -113,14 +113,14 @@ module _ {Q : Type 0} {g : Ghosts Q} (old now : State Q g) (cookie : ℕ) (left 
     touched_none n = ap (λ m. record n { task = m }) (add-zero n.task)
 
   -- one more gets it
-  pub group_room : (next : State Q g) (task : Task) (rest : List Task) → left ≡ task ∷ rest → SetsCookies now next (task ∷ []) cookie →
+  pub group_room : (next : State Q G g) (task : Task) (rest : List Task) → left ≡ task ∷ rest → SetsCookies now next (task ∷ []) cookie →
       (intervals : List Interval) → set_cookies (room_with intervals next) (setting rest cookie) ≡ set_cookies (room_with intervals old) (setting all cookie)
   group_room next task rest is sets intervals =
       ap (λ (r : RoomState). set_cookies r (setting rest cookie)) (sets.room intervals)
       ∙ set_cookies-cons (room_with intervals now) task rest cookie
       ∙ ap (λ (tasks : List Task). set_cookies (room_with intervals now) (setting tasks cookie)) (sym is) ∙ room intervals
 
-  pub group_numbers : (next : State Q g) (task : Task) (rest : List Task) → left ≡ task ∷ rest → SetsCookies now next (task ∷ []) cookie →
+  pub group_numbers : (next : State Q G g) (task : Task) (rest : List Task) → left ≡ task ∷ rest → SetsCookies now next (task ∷ []) cookie →
       touched (setting_touches (setting rest cookie)) (numbers_of next.core) ≡ touched (setting_touches (setting all cookie)) (numbers_of old.core)
   group_numbers next task rest is sets =
       ap (touched (setting_touches (setting rest cookie))) sets.numbers
@@ -153,27 +153,27 @@ pub named_process : (next pgid : ℕ) (tasks : List Task) → All (λ task. IsGi
 named_process next pgid tasks given = named_by next (λ task. task.spec.pgid == pgid) tasks given
 
 -- no task gets a cookie
-pub sets_none : {Q : Type 0} {g : Ghosts Q} (state : State Q g) (cookie : ℕ) → SetsCookies state state [] cookie
+pub sets_none : {Q G : Type 0} {g : Ghosts Q} (state : State Q G g) (cookie : ℕ) → SetsCookies state state [] cookie
 sets_none state cookie =
     group_done state state cookie [] [] (λ intervals. refl) refl refl same_stays
 
 -- the tasks of one list are those of another
-pub sets_alike : {Q : Type 0} {g : Ghosts Q} (old new : State Q g) (tasks other : List Task) (cookie : ℕ) → tasks ≡ other → SetsCookies old new tasks cookie → SetsCookies old new other cookie
+pub sets_alike : {Q G : Type 0} {g : Ghosts Q} (old new : State Q G g) (tasks other : List Task) (cookie : ℕ) → tasks ≡ other → SetsCookies old new tasks cookie → SetsCookies old new other cookie
 sets_alike old new tasks other cookie same sets = subst (λ (ts : List Task). SetsCookies old new ts cookie) same sets
 
 -- ---- a call that succeeds
 
-module _ {Q : Type 0} {g : Ghosts Q} (intervals : List Interval) (old mid after new : State Q g) (pid : ℕ) (ask : Ask) (decision : Decision)
+module _ {Q G : Type 0} {g : Ghosts Q} (intervals : List Interval) (old mid after new : State Q G g) (pid : ℕ) (ask : Ask) (decision : Decision)
     (answer : prctl_answer (room_with intervals old) pid ask ≡ decision.reply)
     (sets : SetsIn (room_with intervals old) pid ask (Go decision))
-    (mid_is : room_with intervals mid ≡ with_made (room_with intervals old) (makes_cookie (room_with intervals old) pid ask))
+    (mid_is : room_with intervals mid ≡ with_used (room_with intervals old) (makes_cookie (room_with intervals old) pid ask) (asked_by_call (room_with intervals old) pid ask))
     (mid_numbers : numbers_of mid.core ≡ numbers_of old.core)
     (made : SetsCookies mid after (named decision.to old.tasks.tasks) decision.cookie)
     (new_is : room_with intervals new ≡ room_with intervals after)
     (new_numbers : numbers_of new.core ≡ numbers_of after.core) where
   -- the room after it, whatever it sets
   new_room : room_with intervals new
-      ≡ set_cookies (with_made (room_with intervals old) (makes_cookie (room_with intervals old) pid ask)) (setting (named decision.to old.tasks.tasks) decision.cookie)
+      ≡ set_cookies (with_used (room_with intervals old) (makes_cookie (room_with intervals old) pid ask) (asked_by_call (room_with intervals old) pid ask)) (setting (named decision.to old.tasks.tasks) decision.cookie)
   new_room = new_is ∙ made.room intervals ∙ ap (λ (r : RoomState). set_cookies r (setting (named decision.to old.tasks.tasks) decision.cookie)) mid_is
 
   all_numbers : numbers_of new.core ≡ touched (setting_touches (setting (named decision.to old.tasks.tasks) decision.cookie)) (numbers_of old.core)
@@ -187,8 +187,8 @@ module _ {Q : Type 0} {g : Ghosts Q} (intervals : List Interval) (old mid after 
         uncharged (record {
           reply = sym answer;
           room = new_room
-              ∙ ap (set_cookies (with_made (room_with intervals old) (makes_cookie (room_with intervals old) pid ask))) set
-              ∙ ap (with_answer (with_made (room_with intervals old) (makes_cookie (room_with intervals old) pid ask)) (setting_of (room_with intervals old) pid ask)) (sym is ∙ sym answer);
+              ∙ ap (set_cookies (with_used (room_with intervals old) (makes_cookie (room_with intervals old) pid ask) (asked_by_call (room_with intervals old) pid ask))) set
+              ∙ ap (with_answer (with_used (room_with intervals old) (makes_cookie (room_with intervals old) pid ask) (asked_by_call (room_with intervals old) pid ask)) (setting_of (room_with intervals old) pid ask)) (sym is ∙ sym answer);
           numbers = all_numbers
               ∙ ap (λ (s : Setting). touched (setting_touches s) (numbers_of old.core)) set
               ∙ ap (λ r. numbers_after (room_with intervals old) (Prctl pid ask) r (numbers_of old.core)) (sym is);
@@ -199,9 +199,9 @@ module _ {Q : Type 0} {g : Ghosts Q} (intervals : List Interval) (old mid after 
         uncharged (record {
           reply = sym answer;
           room = new_room
-              ∙ ap (set_cookies (with_made (room_with intervals old) (makes_cookie (room_with intervals old) pid ask))) nobody
-              ∙ set_cookies-none (with_made (room_with intervals old) (makes_cookie (room_with intervals old) pid ask)) decision.cookie
-              ∙ ap (with_answer (with_made (room_with intervals old) (makes_cookie (room_with intervals old) pid ask)) (setting_of (room_with intervals old) pid ask)) (sym is ∙ sym answer);
+              ∙ ap (set_cookies (with_used (room_with intervals old) (makes_cookie (room_with intervals old) pid ask) (asked_by_call (room_with intervals old) pid ask))) nobody
+              ∙ set_cookies-none (with_used (room_with intervals old) (makes_cookie (room_with intervals old) pid ask) (asked_by_call (room_with intervals old) pid ask)) decision.cookie
+              ∙ ap (with_answer (with_used (room_with intervals old) (makes_cookie (room_with intervals old) pid ask) (asked_by_call (room_with intervals old) pid ask)) (setting_of (room_with intervals old) pid ask)) (sym is ∙ sym answer);
           numbers = all_numbers
               ∙ ap (λ (s : Setting). touched (setting_touches s) (numbers_of old.core)) nobody
               ∙ ap (λ r. numbers_after (room_with intervals old) (Prctl pid ask) r (numbers_of old.core)) (sym is);
@@ -213,12 +213,12 @@ untouched : (numbers : Numbers) → numbers ≡ touched 0 numbers
 untouched numbers = ap (λ n. let other : Numbers = record numbers { task = n } in other) (omega arith)
 
 -- a call that is refused sets nothing
-pub makes_refusal : {Q : Type 0} {g : Ghosts Q} (intervals : List Interval) (old new : State Q g) (pid : ℕ) (ask : Ask) (reply : Reply) → IsRefusal reply →
+pub makes_refusal : {Q G : Type 0} {g : Ghosts Q} (intervals : List Interval) (old new : State Q G g) (pid : ℕ) (ask : Ask) (reply : Reply) → IsRefusal reply →
     prctl_answer (room_with intervals old) pid ask ≡ reply →
-    room_with intervals new ≡ with_made (room_with intervals old) (makes_cookie (room_with intervals old) pid ask) → numbers_of new.core ≡ numbers_of old.core →
+    room_with intervals new ≡ with_used (room_with intervals old) (makes_cookie (room_with intervals old) pid ask) (asked_by_call (room_with intervals old) pid ask) → numbers_of new.core ≡ numbers_of old.core →
     MakesWith intervals old new (Prctl pid ask) reply
 makes_refusal intervals old new pid ask reply refusal answer room numbers =
-    let made = with_made (room_with intervals old) (makes_cookie (room_with intervals old) pid ask) in
+    let made = with_used (room_with intervals old) (makes_cookie (room_with intervals old) pid ask) (asked_by_call (room_with intervals old) pid ask) in
     uncharged (record {
       reply = sym answer;
       room = room ∙ sets_nothing made reply refusal ∙ ap (with_answer made (setting_of (room_with intervals old) pid ask)) (sym answer);

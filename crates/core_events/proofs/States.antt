@@ -26,7 +26,7 @@ use Rattle.core_events.specs.Steps.{numbers_after, MakesStep, Makes}
 -- ---- what stays
 
 -- what stays through two changes stays through both
-pub both_stay : {Q : Type 0} {g : Ghosts Q} {held : ℕ} {old mid new : State Q g} → StaysBut held old mid → StaysBut held mid new → StaysBut held old new
+pub both_stay : {Q G : Type 0} {g : Ghosts Q} {held : ℕ} {old mid new : State Q G g} → StaysBut held old mid → StaysBut held mid new → StaysBut held old new
 both_stay first second = record {
   sound = λ sound. second.sound (first.sound sound);
   siblings = second.siblings ∙ first.siblings;
@@ -35,7 +35,7 @@ both_stay first second = record {
 }
 
 -- and where nothing changes
-pub same_stays : {Q : Type 0} {g : Ghosts Q} {held : ℕ} {state : State Q g} → StaysBut held state state
+pub same_stays : {Q G : Type 0} {g : Ghosts Q} {held : ℕ} {state : State Q G g} → StaysBut held state state
 same_stays = record { sound = λ sound. sound; siblings = refl; places = refl; ends = refl }
 
 -- what is said of the pids of tasks alone is kept with their identities
@@ -60,7 +60,7 @@ cookies_kept refs held old new same agree cookie =
     (count_of cookie old ∙ ap (sum_by (λ (identity : ℕ × ℕ). references identity.1 cookie)) (sym same) ∙ sym (count_of cookie new))
 
 -- What a change of the core and its table keeps, the state keeps.
-pub lifted : {Q : Type 0} {g : Ghosts Q} {held : ℕ} (state : State Q g) (new : Core Q g × Table) → core.Stays (both state) new →
+pub lifted : {Q G : Type 0} {g : Ghosts Q} {held : ℕ} (state : State Q G g) (new : Core Q g × Table) → core.Stays (both state) new →
     StaysBut held state (record state { core = new.0; tasks = new.1 })
 lifted {Q} {g} {held} state new stays =
     let kept = stays.kept in
@@ -82,7 +82,7 @@ lifted {Q} {g} {held} state new stays =
 -- ---- the times
 
 -- a state that is on time has low times
-pub low_times : {Q : Type 0} {g : Ghosts Q} (state : State Q g) → IsOnTime state → HasLowTimes (both state)
+pub low_times : {Q G : Type 0} {g : Ghosts Q} (state : State Q G g) → IsOnTime state → HasLowTimes (both state)
 low_times state time =
     let room = room_with [] state in
     let clock : state.clock < 2 ^ 56 = omega (arith, time.clock) in
@@ -99,16 +99,16 @@ low_times state time =
 -- ---- steps
 
 -- the state stands for a room of which it has all but the recorded intervals
-pub stands : {Q : Type 0} {g : Ghosts Q} (intervals : List Interval) (state : State Q g) (room : RoomState) → room_with intervals state ≡ room → room_with room.intervals state ≡ room
+pub stands : {Q G : Type 0} {g : Ghosts Q} (intervals : List Interval) (state : State Q G g) (room : RoomState) → room_with intervals state ≡ room → room_with room.intervals state ≡ room
 stands intervals state room is = subst (λ (r : RoomState). room_with r.intervals state ≡ r) is refl
 
 -- what a step makes that charges nothing
-pub record MakesUncharged {Q : Type 0} {g : Ghosts Q} (intervals : List Interval) (old new : State Q g) (event : Event) (answer : Reply) (made : Stepped) : Type 0 where
+pub record MakesUncharged {Q G : Type 0} {g : Ghosts Q} (intervals : List Interval) (old new : State Q G g) (event : Event) (answer : Reply) (made : Stepped) : Type 0 where
   pub reply : answer ≡ made.reply
   pub room : room_with intervals new ≡ made.room
   pub numbers : numbers_of new.core ≡ numbers_after (room_with intervals old) event answer (numbers_of old.core)
 
-pub uncharged : {Q : Type 0} {g : Ghosts Q} {intervals : List Interval} {old new : State Q g} {event : Event} {answer : Reply} {made : Stepped} →
+pub uncharged : {Q G : Type 0} {g : Ghosts Q} {intervals : List Interval} {old new : State Q G g} {event : Event} {answer : Reply} {made : Stepped} →
     MakesUncharged intervals old new event answer made → MakesStep intervals old new event answer made
 uncharged {Q} {g} {intervals} {old} {new} {event} {answer} {made} is =
     record {
@@ -119,13 +119,13 @@ uncharged {Q} {g} {intervals} {old} {new} {event} {answer} {made} is =
     }
 
 -- what a step makes that charges, and then leaves the intervals as they are
-pub record MakesOnceCharged {Q : Type 0} {g : Ghosts Q} (intervals : List Interval) (old new : State Q g) (event : Event) (answer : Reply) (made : Stepped) : Type 0 where
+pub record MakesOnceCharged {Q G : Type 0} {g : Ghosts Q} (intervals : List Interval) (old new : State Q G g) (event : Event) (answer : Reply) (made : Stepped) : Type 0 where
   pub reply : answer ≡ made.reply
   pub room : room_with (charge (room_with intervals old)).intervals new ≡ made.room
   pub numbers : IsBooked (room_with intervals old) old.core →
       numbers_of new.core ≡ numbers_after (room_with intervals old) event answer (booked (charge (room_with intervals old)) (numbers_of old.core))
 
-pub once_charged : {Q : Type 0} {g : Ghosts Q} {intervals : List Interval} {old new : State Q g} {event : Event} {answer : Reply} {made : Stepped} →
+pub once_charged : {Q G : Type 0} {g : Ghosts Q} {intervals : List Interval} {old new : State Q G g} {event : Event} {answer : Reply} {made : Stepped} →
     MakesOnceCharged intervals old new event answer made → MakesStep intervals old new event answer made
 once_charged {Q} {g} {intervals} {old} {new} {event} {answer} {made} is =
     record {
@@ -136,7 +136,7 @@ once_charged {Q} {g} {intervals} {old} {new} {event} {answer} {made} is =
     }
 
 -- An event that changes nothing, and is to change nothing, makes its step.
-pub leaves_all : {Q : Type 0} {g : Ghosts Q} (state : State Q g) (event : Event) (answer : Reply) →
+pub leaves_all : {Q G : Type 0} {g : Ghosts Q} (state : State Q G g) (event : Event) (answer : Reply) →
     ((intervals : List Interval) → numbers_of state.core ≡ numbers_after (room_with intervals state) event answer (numbers_of state.core)) →
     ((intervals : List Interval) → record { reply = answer; room = room_with intervals state } ≡ step (room_with intervals state) (is_fresh_by (numbers_of state.core)) event) →
     Makes state state event answer

@@ -8,7 +8,7 @@ use Rattle.std.proofs.lemmas.Option.{slice_get_past, slice_get_read}
 use Rattle.std.proofs.lemmas.Bool.{cond-true, cond-false, ltb-true, ltb-false}
 use Rattle.cs_types.specs.declared.scenario.Scenario.{Scenario}
 use Rattle.cs_types.specs.declared.view.CpuView.{CpuView}
-use Rattle.cs_types.specs.Room.{RoomState, SiblingState, sibling_of}
+use Rattle.cs_types.specs.Room.{Opening, RoomState, SiblingState, sibling_of}
 use Rattle.cs_types.specs.Touches.{own_number}
 use Rattle.cs_types.specs.View.{cpu_view, task_after, task_view, forced_of}
 use Rattle.forceidle_account.specs.Charges.{total_at}
@@ -32,55 +32,55 @@ looked_up xs place (Some x) within is = sym (slice_get_read xs (length xs) place
 -- ---- a task
 
 -- a task that is found in the state is shown as the fold shows it
-pub task_shown : {Q : Type 0} {g : Ghosts Q} (scenario : Scenario) (state : State Q g) (entries : History) (pid : ℕ) (task : Option Task) → Folds scenario state entries →
-    task ≡ task_after (room_with (fold_of scenario entries).intervals state) pid →
-    option_map (task_view (fold_of scenario entries)) task ≡ option_map (task_view (fold_of scenario entries)) (task_after (fold_of scenario entries) pid)
-task_shown scenario state entries pid task folds found =
-    ap (option_map (task_view (fold_of scenario entries))) (found ∙ ap (λ (room : RoomState). task_after room pid) folds.fold)
+pub task_shown : {Q G : Type 0} {g : Ghosts Q} (opening : Opening) (state : State Q G g) (entries : History) (pid : ℕ) (task : Option Task) → Folds opening state entries →
+    task ≡ task_after (room_with (fold_of opening entries).intervals state) pid →
+    option_map (task_view (fold_of opening entries)) task ≡ option_map (task_view (fold_of opening entries)) (task_after (fold_of opening entries) pid)
+task_shown opening state entries pid task folds found =
+    ap (option_map (task_view (fold_of opening entries))) (found ∙ ap (λ (room : RoomState). task_after room pid) folds.fold)
 
 -- what a task was charged is kept as the history has it
-pub total_kept : {Q : Type 0} {g : Ghosts Q} (scenario : Scenario) (state : State Q g) (entries : History) (pid : ℕ) → Folds scenario state entries →
-    total_at state.core.totals pid ≡ forced_of (fold_of scenario entries) pid
-total_kept scenario state entries pid folds = ap (λ (numbers : Numbers). numbers.totals pid) folds.numbers
+pub total_kept : {Q G : Type 0} {g : Ghosts Q} (opening : Opening) (state : State Q G g) (entries : History) (pid : ℕ) → Folds opening state entries →
+    total_at state.core.totals pid ≡ forced_of (fold_of opening entries) pid
+total_kept opening state entries pid folds = ap (λ (numbers : Numbers). numbers.totals pid) folds.numbers
 
 -- ---- a sibling
 
-length_siblings : {Q : Type 0} {g : Ghosts Q} (scenario : Scenario) (state : State Q g) (entries : History) → Folds scenario state entries →
-    length (fold_of scenario entries).siblings ≡ length state.core.lanes.items
-length_siblings scenario state entries folds =
+length_siblings : {Q G : Type 0} {g : Ghosts Q} (opening : Opening) (state : State Q G g) (entries : History) → Folds opening state entries →
+    length (fold_of opening entries).siblings ≡ length state.core.lanes.items
+length_siblings opening state entries folds =
     ap (λ (room : RoomState). length room.siblings) (sym folds.fold) ∙ length-map state.core.lanes.items lane_state
 
-none_shown : {Q : Type 0} {g : Ghosts Q} (scenario : Scenario) (state : State Q g) (entries : History) (cpu : ℕ) → Folds scenario state entries →
-    ltb cpu (length state.core.lanes.items) ≡ false → None ≡ cpu_view (moment_of scenario entries) cpu
-none_shown scenario state entries cpu folds past =
-    sym (cond-false (ltb cpu (length (fold_of scenario entries).siblings)) _ None (ap (ltb cpu) (length_siblings scenario state entries folds) ∙ past))
+none_shown : {Q G : Type 0} {g : Ghosts Q} (opening : Opening) (state : State Q G g) (entries : History) (cpu : ℕ) → Folds opening state entries →
+    ltb cpu (length state.core.lanes.items) ≡ false → None ≡ cpu_view (moment_of opening entries) cpu
+none_shown opening state entries cpu folds past =
+    sym (cond-false (ltb cpu (length (fold_of opening entries).siblings)) _ None (ap (ltb cpu) (length_siblings opening state entries folds) ∙ past))
 
 -- the own number of a sibling is that of the ledger
-number_at : {Q : Type 0} {g : Ghosts Q} (scenario : Scenario) (state : State Q g) (entries : History) (cpu : ℕ) (x : Lane Q) → Folds scenario state entries →
-    length state.core.lanes.items ≡ scenario.siblings → cpu < length state.core.lanes.items → x ≡ get_or state.core.lanes.items cpu x →
-    x.number ≡ own_number cpu (ledger_of scenario entries)
-number_at {Q} scenario state entries cpu x folds as_many below is =
+number_at : {Q G : Type 0} {g : Ghosts Q} (opening : Opening) (state : State Q G g) (entries : History) (cpu : ℕ) (x : Lane Q) → Folds opening state entries →
+    length state.core.lanes.items ≡ opening.scenario.siblings → cpu < length state.core.lanes.items → x ≡ get_or state.core.lanes.items cpu x →
+    x.number ≡ own_number cpu (ledger_of opening entries)
+number_at {Q} opening state entries cpu x folds as_many below is =
     ap (λ (s : Lane Q). s.number) is
     ∙ sym (get_or-map (λ (s : Lane Q). s.number) state.core.lanes.items cpu x 0 below)
     ∙ ap (λ (numbers : Numbers). get_or numbers.own cpu 0) folds.numbers
-    ∙ get_or-map-range_with_len (λ other. own_number other (ledger_of scenario entries)) 0 scenario.siblings cpu cpu 0 (omega (arith, as_many)) (omega arith)
+    ∙ get_or-map-range_with_len (λ other. own_number other (ledger_of opening entries)) 0 opening.scenario.siblings cpu cpu 0 (omega (arith, as_many)) (omega arith)
 
-some_shown : {Q : Type 0} {g : Ghosts Q} (scenario : Scenario) (state : State Q g) (entries : History) (cpu : ℕ) (x : Lane Q) → Folds scenario state entries →
-    length state.core.lanes.items ≡ scenario.siblings → ltb cpu (length state.core.lanes.items) ≡ true → x ≡ get_or state.core.lanes.items cpu x →
-    Some (lane_view x) ≡ cpu_view (moment_of scenario entries) cpu
-some_shown {Q} scenario state entries cpu x folds as_many within is =
+some_shown : {Q G : Type 0} {g : Ghosts Q} (opening : Opening) (state : State Q G g) (entries : History) (cpu : ℕ) (x : Lane Q) → Folds opening state entries →
+    length state.core.lanes.items ≡ opening.scenario.siblings → ltb cpu (length state.core.lanes.items) ≡ true → x ≡ get_or state.core.lanes.items cpu x →
+    Some (lane_view x) ≡ cpu_view (moment_of opening entries) cpu
+some_shown {Q} opening state entries cpu x folds as_many within is =
     let below : cpu < length state.core.lanes.items = ltb-true _ _ within in
-    let here : lane_state x ≡ sibling_of (fold_of scenario entries) cpu =
+    let here : lane_state x ≡ sibling_of (fold_of opening entries) cpu =
     sym (ap (λ (room : RoomState). sibling_of room cpu) (sym folds.fold) ∙ lane_at state.core.lanes.items cpu x below is) in
-    let number = number_at scenario state entries cpu x folds as_many below is in
+    let number = number_at opening state entries cpu x folds as_many below is in
     let view = λ (s : SiblingState) (n : ℕ). let shown : CpuView = record { online = s.online; run = unwrap_or s.run 0; number = n; pending = s.pending } in shown in
     (λ i. Some (view (here i) (number i)))
-    ∙ sym (cond-true (ltb cpu (length (fold_of scenario entries).siblings)) _ None (ap (ltb cpu) (length_siblings scenario state entries folds) ∙ within))
+    ∙ sym (cond-true (ltb cpu (length (fold_of opening entries).siblings)) _ None (ap (ltb cpu) (length_siblings opening state entries folds) ∙ within))
 
 -- a sibling that is looked up in the state is shown as the fold shows it
-pub sibling_shown : {Q : Type 0} {g : Ghosts Q} (scenario : Scenario) (state : State Q g) (entries : History) (cpu : ℕ) (found : Option (Bor (Lane Q))) →
-    Folds scenario state entries → length state.core.lanes.items ≡ scenario.siblings →
+pub sibling_shown : {Q G : Type 0} {g : Ghosts Q} (opening : Opening) (state : State Q G g) (entries : History) (cpu : ℕ) (found : Option (Bor (Lane Q))) →
+    Folds opening state entries → length state.core.lanes.items ≡ opening.scenario.siblings →
     is_some found ≡ ltb cpu (length state.core.lanes.items) → IfSome found (λ x. x.now ≡ get_or state.core.lanes.items cpu x.now) →
-    option_map (λ (x : Bor (Lane Q)). lane_view x.now) found ≡ cpu_view (moment_of scenario entries) cpu
-sibling_shown scenario state entries cpu None folds as_many within is = none_shown scenario state entries cpu folds (sym within)
-sibling_shown scenario state entries cpu (Some x) folds as_many within is = some_shown scenario state entries cpu x.now folds as_many (sym within) is
+    option_map (λ (x : Bor (Lane Q)). lane_view x.now) found ≡ cpu_view (moment_of opening entries) cpu
+sibling_shown opening state entries cpu None folds as_many within is = none_shown opening state entries cpu folds (sym within)
+sibling_shown opening state entries cpu (Some x) folds as_many within is = some_shown opening state entries cpu x.now folds as_many (sym within) is

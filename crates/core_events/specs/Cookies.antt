@@ -20,7 +20,7 @@ abbrev pub flagged_for : ℕ → SiblingState → SiblingState
 flagged_for pid sibling = record sibling { pending = sibling.pending || is_run sibling.run (Some pid) }
 
 -- the new state is the old one once these tasks got the cookie
-pub record SetsCookies {Q : Type 0} {g : Ghosts Q} (old new : State Q g) (tasks : List Task) (cookie : ℕ) : Type 0 where
+pub record SetsCookies {Q G : Type 0} {g : Ghosts Q} (old new : State Q G g) (tasks : List Task) (cookie : ℕ) : Type 0 where
   pub room : Becomes old new (λ room. set_cookies room (setting tasks cookie))
   pub numbers : numbers_of new.core ≡ touched (setting_touches (setting tasks cookie)) (numbers_of old.core)
   pub stays : StaysBut cookie old new

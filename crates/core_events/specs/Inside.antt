@@ -4,7 +4,7 @@ use Rattle.cs_types.specs.declared.event.Step.{Step}
 use Rattle.cs_types.specs.declared.reply.Entry.{Entry}
 use Rattle.cs_types.specs.declared.scenario.Scenario.{Scenario}
 use Rattle.cs_types.specs.Scenario.{IsPlayable}
-use Rattle.cs_types.specs.Room.{first_pid}
+use Rattle.cs_types.specs.Room.{Opening, first_pid}
 use Rattle.cs_types.specs.History.{AreEvents, moment_of, fold_of, history_of}
 use Rattle.core_lanes.specs.declared.queue.SiblingQueue.{Ghosts}
 use Rattle.core_lanes.specs.Numbers.{numbers_of}
@@ -17,10 +17,14 @@ use Rattle.core_events.specs.declared.room.CoreRoom.TheInside.{Inside}
 abbrev pub steps_of : List Entry → List Step
 steps_of entries = map (λ entry. record { actor = entry.actor; event = entry.event }) entries
 
-abbrev pub machine_of : {Q : Type 0} {g : Ghosts Q} → Inside Q g → Machine
+-- what it began with
+abbrev pub opening_of : {Q G : Type 0} {g : Ghosts Q} → Inside Q G g → Opening
+opening_of room = record { scenario = room.scenario; guards = room.guards }
+
+abbrev pub machine_of : {Q G : Type 0} {g : Ghosts Q} → Inside Q G g → Machine
 machine_of room =
     record {
-      scenario = room.scenario;
+      opening = opening_of room;
       steps = steps_of room.entries.items;
       spare = vec_capacity room.entries - vec_len room.entries;
     }
@@ -30,12 +34,12 @@ abbrev pub most_entries : Scenario → ℕ
 most_entries scenario = length scenario.steps + scenario.siblings * scenario.siblings
 
 -- the entries are the history of their steps, and the state is its fold
-pub record IsFold {Q : Type 0} {g : Ghosts Q} (room : Inside Q g) : Type 0 where
+pub record IsFold {Q G : Type 0} {g : Ghosts Q} (room : Inside Q G g) : Type 0 where
   pub playable : IsPlayable room.scenario
-  pub events : AreEvents room.scenario room.entries.items
-  pub history : room.entries.items ≡ history_of room.scenario (steps_of room.entries.items)
-  pub fold : room_with (fold_of room.scenario room.entries.items).intervals room.state ≡ fold_of room.scenario room.entries.items
-  pub numbers : numbers_of room.state.core ≡ numbers_at room.scenario (moment_of room.scenario room.entries.items)
+  pub events : AreEvents (opening_of room) room.entries.items
+  pub history : room.entries.items ≡ history_of (opening_of room) (steps_of room.entries.items)
+  pub fold : room_with (fold_of (opening_of room) room.entries.items).intervals room.state ≡ fold_of (opening_of room) room.entries.items
+  pub numbers : numbers_of room.state.core ≡ numbers_at (opening_of room) (moment_of (opening_of room) room.entries.items)
   pub sound : IsSound room.state
   pub siblings : length room.state.core.lanes.items ≡ room.scenario.siblings
   -- no advance is above one second

@@ -19,7 +19,7 @@ abbrev pub may_not_fork_in : Table → Task → Bool
 may_not_fork_in table by = (length table.tasks == table.limit) || (class_of by.spec.policy == deadline_class)
 
 -- the new state is the old one with this child, of this caller
-pub record IsBorn {Q : Type 0} {g : Ghosts Q} (old new : State Q g) (by : Task) (thread : Bool) (child : Task) : Type 0 where
+pub record IsBorn {Q G : Type 0} {g : Ghosts Q} (old new : State Q G g) (by : Task) (thread : Bool) (child : Task) : Type 0 where
   pub allowed : may_not_fork_in old.tasks by ≡ false
   pub is : child ≡ child_of by thread old.next_pid
   pub there : IsOf new.tasks.tasks child
@@ -28,7 +28,7 @@ pub record IsBorn {Q : Type 0} {g : Ghosts Q} (old new : State Q g) (by : Task) 
   pub stays : Stays old new
 
 -- a child of the task with the pid was made, or none, and then nothing changed
-abbrev pub MakesChild : {Q : Type 0} {g : Ghosts Q} → State Q g → State Q g → ℕ → Bool → Result Task ForkFault → Type 0
+abbrev pub MakesChild : {Q G : Type 0} {g : Ghosts Q} → State Q G g → State Q G g → ℕ → Bool → Result Task ForkFault → Type 0
 MakesChild old new caller thread (Ok child) = (by : Task) × (find (has_pid caller) old.tasks.tasks ≡ Some by) × IsBorn old new by thread child
 MakesChild old new caller thread (Err NoCaller) = (find (has_pid caller) old.tasks.tasks ≡ None) × (new ≡ old)
 MakesChild old new caller thread (Err Eagain) =

@@ -15,11 +15,11 @@ use Rattle.core_events.specs.declared.state.State.{State}
 -- ---- the room
 
 -- the core and the table of a state
-abbrev pub both : {Q : Type 0} {g : Ghosts Q} → State Q g → Core Q g × Table
+abbrev pub both : {Q G : Type 0} {g : Ghosts Q} → State Q G g → Core Q g × Table
 both state = (state.core, state.tasks)
 
 -- what is beside these, where these intervals were recorded
-abbrev pub beside_of : {Q : Type 0} {g : Ghosts Q} → List Interval → State Q g → Beside
+abbrev pub beside_of : {Q G : Type 0} {g : Ghosts Q} → List Interval → State Q G g → Beside
 beside_of intervals state =
     record {
       cookie_limit = state.refs.limit;
@@ -29,10 +29,11 @@ beside_of intervals state =
       next_pid = state.next_pid;
       next_cookie = state.refs.next;
       intervals = intervals;
+      guards = state.guards.guards;
     }
 
 -- the room that the state stands for, where these intervals were recorded
-abbrev pub room_with : {Q : Type 0} {g : Ghosts Q} → List Interval → State Q g → RoomState
+abbrev pub room_with : {Q G : Type 0} {g : Ghosts Q} → List Interval → State Q G g → RoomState
 room_with intervals state = room_of (beside_of intervals state) (both state)
 
 -- ---- what holds of it
@@ -43,7 +44,7 @@ IsGiven next pid = (0 < pid) × (pid < next)
 
 -- What always holds of a state: its core and its table agree; each task's pid was given, and so was each that has a total; and
 -- the references are those of the tasks, and one more for a cookie that is held beside them.
-pub record IsSoundBut {Q : Type 0} {g : Ghosts Q} (state : State Q g) (held : ℕ) : Type 0 where
+pub record IsSoundBut {Q G : Type 0} {g : Ghosts Q} (state : State Q G g) (held : ℕ) : Type 0 where
   pub agree : Agree (both state)
   pub limit : state.tasks.limit ≡ state.task_limit
   pub user_top : IsWithin 8192 9223372036854775807 state.user_top
@@ -52,33 +53,33 @@ pub record IsSoundBut {Q : Type 0} {g : Ghosts Q} (state : State Q g) (held : �
   pub refs : AgreeBut state.refs state.tasks.tasks held
 
 -- the same with no cookie held beside them
-abbrev pub IsSound : {Q : Type 0} {g : Ghosts Q} → State Q g → Type 0
+abbrev pub IsSound : {Q G : Type 0} {g : Ghosts Q} → State Q G g → Type 0
 IsSound state = IsSoundBut state 0
 
 -- The state stays sound, and keeps the number of its siblings, what the next pid and the places left for totals come to, and how
 -- many tasks may end.
-pub record StaysBut {Q : Type 0} {g : Ghosts Q} (held : ℕ) (old new : State Q g) : Type 0 where
+pub record StaysBut {Q G : Type 0} {g : Ghosts Q} (held : ℕ) (old new : State Q G g) : Type 0 where
   pub sound : IsSoundBut old held → IsSoundBut new held
   pub siblings : length new.core.lanes.items ≡ length old.core.lanes.items
   pub places : new.core.totals.spare + new.next_pid ≡ old.core.totals.spare + old.next_pid
   pub ends : vec_capacity new.ended ≡ vec_capacity old.ended
 
-abbrev pub Stays : {Q : Type 0} {g : Ghosts Q} → State Q g → State Q g → Type 0
+abbrev pub Stays : {Q G : Type 0} {g : Ghosts Q} → State Q G g → State Q G g → Type 0
 Stays old new = StaysBut 0 old new
 
 -- ---- what an event asks
 
 -- the times of the state keep their bounds, and its clock is so low that no time overflows, after one more advance too,
 -- in a history of fewer than 2^17 entries
-pub record IsOnTime {Q : Type 0} {g : Ghosts Q} (state : State Q g) : Type 0 where
+pub record IsOnTime {Q G : Type 0} {g : Ghosts Q} (state : State Q G g) : Type 0 where
   pub entries : ℕ
   pub few : entries < 2 ^ 17
   pub timely : (intervals : List Interval) → IsTimely entries (room_with intervals state)
   pub clock : state.clock + 1000000000 < 2 ^ 56
 
--- what an event may use up: touches, stamps, a cookie's serial, a pid, a place for a total and one among the ended, and a balance
--- place
-pub record HasSpares {Q : Type 0} {g : Ghosts Q} (state : State Q g) : Type 0 where
+-- what an event may use up: touches, stamps, a cookie's serial, a pid, a place for a total and one among the ended, a balance
+-- place, and of each guard's count
+pub record HasSpares {Q G : Type 0} {g : Ghosts Q} (state : State Q G g) : Type 0 where
   pub touches : state.core.task_number + 2 * length state.tasks.tasks + 2 < 2 ^ 64
   pub stamps : state.core.next_stamp + length state.tasks.tasks + 1 < 2 ^ 64
   pub serial : state.refs.next < 2 ^ 63
@@ -86,9 +87,10 @@ pub record HasSpares {Q : Type 0} {g : Ghosts Q} (state : State Q g) : Type 0 wh
   pub total : 0 < state.core.totals.spare
   pub ended : vec_len state.ended < vec_capacity state.ended
   pub places : All (λ lane. lane.place + 1 < 2 ^ 32) state.core.lanes.items
+  pub asked : All (λ guard. guard.asked < 2 ^ 62) state.guards.guards.all
 
 -- the state may take an event
-pub record IsReady {Q : Type 0} {g : Ghosts Q} (state : State Q g) : Type 0 where
+pub record IsReady {Q G : Type 0} {g : Ghosts Q} (state : State Q G g) : Type 0 where
   pub sound : IsSound state
   pub time : IsOnTime state
   pub paid : IsPaid state.clock state.core

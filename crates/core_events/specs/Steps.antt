@@ -5,8 +5,7 @@ use Rattle.std.specs.Option.{option_map_or}
 use Rattle.cs_types.specs.declared.event.Event.{Event}
 use Rattle.cs_types.specs.declared.reply.Pick.{Pick}
 use Rattle.cs_types.specs.declared.reply.Reply.{Reply}
-use Rattle.cs_types.specs.declared.scenario.Scenario.{Scenario}
-use Rattle.cs_types.specs.Room.{RoomState, Interval}
+use Rattle.cs_types.specs.Room.{Opening, RoomState, Interval}
 use Rattle.cs_types.specs.Touches.{task_number, pick_number, own_number, is_selected, is_adopted, pick_of, selection_of, scheduler_of, touches_by}
 use Rattle.cs_types.specs.Step.{Stepped, step}
 use Rattle.cs_types.specs.Accounting.{total_of}
@@ -34,12 +33,12 @@ numbers_after room event answer numbers =
     record numbers { task = task; pick = pick; own = own_after event answer pick numbers.own }
 
 -- the numbers of a moment
-abbrev pub numbers_at : Scenario → Moment → Numbers
-numbers_at scenario moment =
+abbrev pub numbers_at : Opening → Moment → Numbers
+numbers_at opening moment =
     record {
       task = task_number moment.ledger;
       pick = pick_number moment.ledger;
-      own = map (λ cpu. own_number cpu moment.ledger) (range_with_len 0 scenario.siblings);
+      own = map (λ cpu. own_number cpu moment.ledger) (range_with_len 0 opening.scenario.siblings);
       intervals = length moment.room.intervals;
       totals = λ pid. total_of pid moment.room.intervals;
     }
@@ -47,11 +46,11 @@ numbers_at scenario moment =
 -- ---- changes
 
 -- the new state is the old one after this change of the room, whatever was recorded
-abbrev pub Becomes : {Q : Type 0} {g : Ghosts Q} → State Q g → State Q g → (RoomState → RoomState) → Type 0
+abbrev pub Becomes : {Q G : Type 0} {g : Ghosts Q} → State Q G g → State Q G g → (RoomState → RoomState) → Type 0
 Becomes old new change = (intervals : List Interval) → room_with intervals new ≡ change (room_with intervals old)
 
 -- the same where it touched the queues this number of times
-pub record Touches {Q : Type 0} {g : Ghosts Q} (count : ℕ) (old new : State Q g) (change : RoomState → RoomState) : Type 0 where
+pub record Touches {Q G : Type 0} {g : Ghosts Q} (count : ℕ) (old new : State Q G g) (change : RoomState → RoomState) : Type 0 where
   pub room : Becomes old new change
   pub numbers : numbers_of new.core ≡ touched count (numbers_of old.core)
   pub stays : Stays old new
@@ -59,18 +58,18 @@ pub record Touches {Q : Type 0} {g : Ghosts Q} (count : ℕ) (old new : State Q 
 -- ---- steps
 
 -- the new state and the reply are those that this was made of the old one by an event
-pub record MakesStep {Q : Type 0} {g : Ghosts Q} (intervals : List Interval) (old new : State Q g) (event : Event) (answer : Reply) (made : Stepped) : Type 0 where
+pub record MakesStep {Q G : Type 0} {g : Ghosts Q} (intervals : List Interval) (old new : State Q G g) (event : Event) (answer : Reply) (made : Stepped) : Type 0 where
   pub reply : answer ≡ made.reply
   pub room : room_with made.room.intervals new ≡ made.room
   pub numbers : IsBooked (room_with intervals old) old.core →
       numbers_of new.core ≡ numbers_after (room_with intervals old) event answer (booked made.room (numbers_of old.core))
 
 -- those of the event's step from the old one
-abbrev pub MakesWith : {Q : Type 0} {g : Ghosts Q} → List Interval → State Q g → State Q g → Event → Reply → Type 0
+abbrev pub MakesWith : {Q G : Type 0} {g : Ghosts Q} → List Interval → State Q G g → State Q G g → Event → Reply → Type 0
 MakesWith intervals old new event answer =
     MakesStep intervals old new event answer (step (room_with intervals old) (is_fresh_by (numbers_of old.core)) event)
 
 -- whatever was recorded before
-pub record Makes {Q : Type 0} {g : Ghosts Q} (old new : State Q g) (event : Event) (answer : Reply) : Type 0 where
+pub record Makes {Q G : Type 0} {g : Ghosts Q} (old new : State Q G g) (event : Event) (answer : Reply) : Type 0 where
   pub step : (intervals : List Interval) → MakesWith intervals old new event answer
   pub stays : Stays old new

@@ -14,6 +14,7 @@ ghost use Rattle.core_events.specs.Cookies.{flagged_for, SetsCookies};
 use crate::state::State;
 use core_lanes::{Lane, SiblingQueue, task_of};
 use cpu_hotplug::online_count;
+use cs_outside::Guard;
 use cs_types::{Ask, Cookie, Pid, Reply, Steps, Task};
 use prctl_core::{Planned, Target, plan};
 use std::sync::ledger::Ledger;
@@ -51,7 +52,7 @@ fn member_after(table: &TaskTable, group: Group, after: Pid) -> Option<Task>
     table.find(next).copied()
 }
 
-impl<Q: SiblingQueue> State<Q> {
+impl<Q: SiblingQueue, G: Guard> State<Q, G> {
     /// The task has the cookie, with a reference of its own, and where it runs its sibling becomes
     /// pending.
     fn set_cookie<L: Ledger>(&mut self, task: Task, cookie: Cookie, steps: &mut Steps<L>)

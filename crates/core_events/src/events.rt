@@ -16,8 +16,10 @@ use cookie_steal::{Try, try_steal};
 use core_lanes::{Core, SiblingQueue, task_of};
 use core_pick::{charge, pick_and_balance, schedule};
 use cpu_hotplug::{Hotplug, offline, online};
+use cs_outside::Guard;
 use cs_types::{Cpu, Errno, Event, Pid, Policy, Reply, Steps, Task, TaskSpec};
 use fork_inherit::{ForkFault, has_threads};
+use ptrace_check::{LoadAnswer, UnloadAnswer};
 use std::sync::ledger::Ledger;
 use task_table::TaskTable;
 
@@ -93,7 +95,7 @@ fn requeue<Q: SiblingQueue, L: Ledger>(
     core.flag(task.home, runs);
 }
 
-impl<Q: SiblingQueue> State<Q> {
+impl<Q: SiblingQueue, G: Guard> State<Q, G> {
     ghost use Rattle.core_events.specs.State.{IsReady};
     ghost use Rattle.core_events.specs.Steps.{Makes};
 
@@ -261,6 +263,26 @@ impl<Q: SiblingQueue> State<Q> {
         hotplug_reply(online(&mut self.core, cpu))
     }
 
+    /// The guard leaves the bench and is asked from now on, after those that are active.
+    fn load(&mut self, index: u8) -> Reply
+        ensures { Makes self.old self.new (Event.Load index) result }
+    {
+        match self.guards.load(index) {
+            LoadAnswer::Loaded => Reply::Loaded,
+            LoadAnswer::NoGuard => Reply::NoGuard,
+        }
+    }
+
+    /// The guard is dropped and asked no more.
+    fn unload(&mut self, index: u8) -> Reply
+        ensures { Makes self.old self.new (Event.Unload index) result }
+    {
+        match self.guards.unload(index) {
+            UnloadAnswer::Dropped => Reply::Dropped,
+            UnloadAnswer::NoGuard => Reply::NoGuard,
+        }
+    }
+
     /// Makes the step of an event, and answers what the rules answer.
     pub fn apply<L: Ledger>(&mut self, event: Event, steps: &mut Steps<L>) -> Reply
         requires event { IsEvent (length self.old.core.lanes.items) event }
@@ -280,6 +302,8 @@ impl<Q: SiblingQueue> State<Q> {
             Event::SetSched { pid, policy } => self.set_policy(pid, policy, steps),
             Event::Offline(cpu) => self.take_offline(cpu, steps),
             Event::Online(cpu) => self.bring_online(cpu),
+            Event::Load(index) => self.load(index),
+            Event::Unload(index) => self.unload(index),
         }
     }
 }

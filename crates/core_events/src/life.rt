@@ -10,11 +10,12 @@ ghost use Rattle.core_events.specs.Life.{MakesChild};
 
 use crate::state::State;
 use core_lanes::{SiblingQueue, task_of};
+use cs_outside::Guard;
 use cs_types::{Pid, Steps, Task};
 use fork_inherit::{ForkFault, end, fork};
 use std::sync::ledger::Ledger;
 
-impl<Q: SiblingQueue> State<Q> {
+impl<Q: SiblingQueue, G: Guard> State<Q, G> {
     /// The task is no longer among the living, and is the last of the ended.
     pub fn end<L: Ledger>(&mut self, task: Task, steps: &mut Steps<L>)
         requires there { IsOf self.old.tasks.tasks task }

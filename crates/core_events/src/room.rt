@@ -7,13 +7,16 @@ ghost use Rattle.cs_types.specs.Room.{RoomState, Interval};
 ghost use Rattle.cs_types.specs.View.{task_after, task_view, forced_of};
 ghost use Rattle.core_events.specs.State.{room_with, IsReady};
 ghost use Rattle.core_events.specs.Steps.{Makes};
+ghost use Rattle.core_events.specs.Machine.{opened};
+ghost use Rattle.cs_types.specs.Guards.{guards_on_bench};
 
 use crate::drain::next_to_schedule;
 use crate::state::State;
 use core_lanes::SiblingQueue;
+use cs_outside::Guard;
 use cs_types::{
-    Actor, CoreView, Cpu, CpuView, EndView, Entry, Event, List, OutOfMemory, Pid, Reply, Room,
-    Scenario, Steps, Task, TaskView,
+    Actor, CoreView, Cpu, CpuView, EndView, Entry, Event, GuardView, List, OutOfMemory, Pid, Reply,
+    Room, Scenario, Steps, Task, TaskView,
 };
 use ptrace_check::Guards;
 use std::alloc::Global;
@@ -24,13 +27,15 @@ use task_table::Group;
 /// A machine over any queue of a sibling. Contracts see what it stands for: its scenario, the steps that
 /// were made, and how many more entries it can take.
 #[derive(Drop)]
-pub struct CoreRoom<Q: SiblingQueue> {
+pub struct CoreRoom<Q: SiblingQueue, G: Guard> {
     scenario: Scenario,
-    state: State<Q>,
+    /// How many guards were handed in, 0 to 16.
+    guards: u8,
+    state: State<Q, G>,
     entries: Vec<Entry>,
 }
 
-impl<Q: SiblingQueue> Model for CoreRoom<Q> {
+impl<Q: SiblingQueue, G: Guard> Model for CoreRoom<Q, G> {
     ghost use Rattle.core_events.specs.Machine.{Machine};
 
     ghost Value = { Machine };
@@ -56,6 +61,7 @@ fn copy_of(alloc: Global, scenario: &Scenario) -> Result<Scenario, OutOfMemory>
     ensures { IfOk result (λ copy. copy ≡ scenario.now) }
 {
     let tasks = Vec::from_slice(alloc, scenario.tasks.items())?;
+    let teaches = Vec::from_slice(alloc, scenario.teaches.items())?;
     let steps = Vec::from_slice(alloc, scenario.steps.items())?;
     Ok(Scenario {
         siblings: scenario.siblings,
@@ -63,6 +69,7 @@ fn copy_of(alloc: Global, scenario: &Scenario) -> Result<Scenario, OutOfMemory>
         cookie_limit: scenario.cookie_limit,
         user_top: scenario.user_top,
         tasks: List::of(tasks),
+        teaches: List::of(teaches),
         steps: List::of(steps),
     })
 }
@@ -82,7 +89,7 @@ fn view(task: &Task, forced: u64) -> TaskView
 }
 
 /// The living task with the least pid above this one.
-fn task_after<Q: SiblingQueue>(state: &State<Q>, pid: Pid) -> Option<Task>
+fn task_after<Q: SiblingQueue, G: Guard>(state: &State<Q, G>, pid: Pid) -> Option<Task>
     ensures { (intervals : List Interval) → result ≡ task_after (room_with intervals state.now) pid }
 {
     let next = state.tasks.next_in(Group::All, pid)?;
@@ -90,7 +97,11 @@ fn task_after<Q: SiblingQueue>(state: &State<Q>, pid: Pid) -> Option<Task>
 }
 
 /// Makes the step of an event. The ledger of the blank is the one in which its comparisons are counted.
-fn counted<Q: SiblingQueue, L: Ledger>(state: &mut State<Q>, event: Event, blank: Blank) -> Reply
+fn counted<Q: SiblingQueue, G: Guard, L: Ledger>(
+    state: &mut State<Q, G>,
+    event: Event,
+    blank: Blank,
+) -> Reply
     requires name { blank.name ≡ L.name }
     requires parts { blank.parts ≡ L.parts }
     requires some { 0 < blank.parts }
@@ -102,17 +113,19 @@ fn counted<Q: SiblingQueue, L: Ledger>(state: &mut State<Q>, event: Event, blank
     state.apply(event, &mut steps)
 }
 
-impl<Q: SiblingQueue> CoreRoom<Q> {
-    /// The room of a scenario before its first step. It takes memory for as many entries as the
+impl<Q: SiblingQueue, G: Guard> CoreRoom<Q, G> {
+    /// The room of a scenario before its first step. The guards were taught what its lines teach, and none
+    /// was loaded or asked yet. It takes memory for as many entries as the
     /// scenario has steps, and for those of the end, and no later call takes any. The core has 1 to 16
     /// siblings.
     pub fn start(
         alloc: Global,
         scenario: &Scenario,
-        guards: Guards,
-    ) -> Result<CoreRoom<Q>, OutOfMemory>
-        requires { IsPlayable scenario.now }
-        ensures scenario { IfOk result (λ room. room.scenario ≡ scenario.now) }
+        guards: Guards<G>,
+    ) -> Result<CoreRoom<Q, G>, OutOfMemory>
+        requires playable { IsPlayable scenario.now }
+        requires guards { guards.guards ≡ guards_on_bench scenario.now.teaches (length guards.guards.all) }
+        ensures opening { IfOk result (λ room. room.opening ≡ opened scenario.now guards) }
         ensures empty { IfOk result (λ room. room.steps ≡ []) }
         ensures spare { IfOk result (λ room. room.spare ≡
             length scenario.now.steps + scenario.now.siblings * scenario.now.siblings) }
@@ -120,28 +133,30 @@ impl<Q: SiblingQueue> CoreRoom<Q> {
         let most = most_entries(scenario);
         let copy = copy_of(alloc, scenario)?;
         let entries = Vec::with_capacity(alloc, most)?;
+        let count = guards.len();
         let state = State::start(alloc, scenario, most, guards)?;
         Ok(CoreRoom {
             scenario: copy,
+            guards: count,
             state,
             entries,
         })
     }
 }
 
-impl<Q: SiblingQueue> Room for CoreRoom<Q> {
+impl<Q: SiblingQueue, G: Guard> Room for CoreRoom<Q, G> {
     ghost use Rattle.cs_types.specs.History.{history_of};
     ghost use Rattle.cs_types.proofs.Histories.{IsLegal-history_of};
     ghost use Rattle.cs_types.proofs.Trust.{consistent-moment_of, settled-moment_of};
 
-    ghost scenario = { λ room. room.scenario };
+    ghost opening = { λ room. room.opening };
 
-    ghost history = { λ room. history_of room.scenario room.steps };
+    ghost history = { λ room. history_of room.opening room.steps };
 
     ghost spare = { λ room. room.spare };
 
     fn apply(&mut self, actor: Actor, event: Event) -> Reply {
-        let reply = counted::<Q, Brand>(&mut self.state, event, Blank::new(1));
+        let reply = counted::<Q, G, Brand>(&mut self.state, event, Blank::new(1));
         self.entries.push_reserved(Entry {
             actor,
             event,
@@ -217,11 +232,15 @@ impl<Q: SiblingQueue> Room for CoreRoom<Q> {
         })
     }
 
-    ghost legal = { λ room. IsLegal-history_of room.scenario room.steps };
+    fn guard(&self, index: u8) -> Option<GuardView> {
+        self.state.guards.view(index)
+    }
 
-    ghost consistent = { λ room playable events. consistent-moment_of room.scenario
-        (history_of room.scenario room.steps) playable events (IsLegal-history_of room.scenario room.steps) };
+    ghost legal = { λ room. IsLegal-history_of room.opening room.steps };
 
-    ghost settled = { λ room playable events. settled-moment_of room.scenario
-        (history_of room.scenario room.steps) playable events (IsLegal-history_of room.scenario room.steps) };
+    ghost consistent = { λ room playable events. consistent-moment_of room.opening
+        (history_of room.opening room.steps) playable events (IsLegal-history_of room.opening room.steps) };
+
+    ghost settled = { λ room playable events. settled-moment_of room.opening
+        (history_of room.opening room.steps) playable events (IsLegal-history_of room.opening room.steps) };
 }

@@ -5,11 +5,14 @@ ghost use Rattle.std.specs.Prelude.{◌≡◌, ◌+◌, ◌^◌, ◌<◌, ◌≤
 ghost use Rattle.cs_types.specs.Scenario.{IsPlayable};
 ghost use Rattle.cs_types.specs.Room.{start, first_pid};
 ghost use Rattle.cs_types.specs.History.{beginning};
+ghost use Rattle.cs_types.specs.Guards.{guards_on_bench};
 ghost use Rattle.core_lanes.specs.Numbers.{numbers_of};
+ghost use Rattle.core_events.specs.Machine.{opened};
 
 use crate::start::{core_and_tasks, first_pid};
 use cookie_refs::CookieRefs;
 use core_lanes::{Core, SiblingQueue};
+use cs_outside::Guard;
 use cs_types::{OutOfMemory, Pid, Scenario};
 use ptrace_check::Guards;
 use std::alloc::Global;
@@ -17,11 +20,11 @@ use task_table::TaskTable;
 
 /// The core and its tasks, and what else the events keep.
 #[derive(Drop)]
-pub struct State<Q: SiblingQueue> {
+pub struct State<Q: SiblingQueue, G: Guard> {
     pub core: Core<Q>,
     pub tasks: TaskTable,
     pub refs: CookieRefs,
-    pub guards: Guards,
+    pub guards: Guards<G>,
     /// How many tasks may live at once, 1 to 256.
     pub task_limit: u16,
     /// The end of the user addresses, in bytes (`TASK_SIZE_MAX`).
@@ -34,7 +37,7 @@ pub struct State<Q: SiblingQueue> {
     pub clock: u64,
 }
 
-impl<Q: SiblingQueue> State<Q> {
+impl<Q: SiblingQueue, G: Guard> State<Q, G> {
     ghost use Rattle.core_events.specs.State.{room_with, IsSound};
     ghost use Rattle.core_events.specs.Steps.{numbers_at};
 
@@ -43,14 +46,15 @@ impl<Q: SiblingQueue> State<Q> {
         alloc: Global,
         scenario: &Scenario,
         most: usize,
-        guards: Guards,
-    ) -> Result<State<Q>, OutOfMemory>
+        guards: Guards<G>,
+    ) -> Result<State<Q, G>, OutOfMemory>
         requires playable { IsPlayable scenario.now }
         requires most { most < 2 ^ 32 }
-        ensures room { IfOk result (λ state. room_with [] state ≡ start scenario.now) }
+        requires guards { guards.guards ≡ guards_on_bench scenario.now.teaches (length guards.guards.all) }
+        ensures room { IfOk result (λ state. room_with [] state ≡ start (opened scenario.now guards)) }
         ensures sound { IfOk result IsSound }
         ensures siblings { IfOk result (λ state. length state.core.lanes.items ≡ scenario.now.siblings) }
-        ensures numbers { IfOk result (λ state. numbers_of state.core ≡ numbers_at scenario.now (beginning scenario.now)) }
+        ensures numbers { IfOk result (λ state. numbers_of state.core ≡ numbers_at (opened scenario.now guards) (beginning (opened scenario.now guards))) }
         ensures places { IfOk result (λ state. state.core.totals.spare + state.next_pid ≡ most + first_pid scenario.now.tasks) }
         ensures ends { IfOk result (λ state. vec_capacity state.ended ≡ most) }
     {

@@ -19,7 +19,7 @@ use Rattle.core_lanes.specs.declared.lanes.Core.{Core}
 
 -- something beside a core: what is said of it with anything beside it is said with this
 pub some_beside : Beside
-some_beside = record { cookie_limit = 0; user_top = 0; clock = 0; ended = []; next_pid = 0; next_cookie = 0; intervals = [] }
+some_beside = record { cookie_limit = 0; user_top = 0; clock = 0; ended = []; next_pid = 0; next_cookie = 0; intervals = []; guards = record { all = []; active = [] } }
 
 -- what stays through two changes stays through both
 pub both_stay : {Q : Type 0} {g : Ghosts Q} {old mid new : Core Q g × Table} → Stays old mid → Stays mid new → Stays old new

@@ -4,6 +4,7 @@ use Rattle.cs_types.specs.declared.task.Task.{Task}
 use Rattle.cs_types.specs.declared.view.CpuView.{CpuView}
 use Rattle.cs_types.specs.Scenario.{IsPolicy}
 use Rattle.cs_types.specs.Room.{SiblingState, idle, RoomState, Interval, has_pid}
+use Rattle.cs_types.specs.Guards.{GuardList}
 use Rattle.forceidle_account.specs.Account.{Account}
 use Rattle.forceidle_account.specs.Charges.{Charges, has_total}
 use Rattle.task_table.specs.Table.{Table, IsSound as IsTable}
@@ -81,6 +82,7 @@ pub record Beside : Type 0 where
   pub next_pid : ℕ
   pub next_cookie : ℕ
   pub intervals : List Interval
+  pub guards : GuardList
 
 -- the same at this moment
 abbrev pub at : ℕ → Beside → Beside
@@ -109,6 +111,7 @@ room_by beside core table =
       occupation = core.account.occupation;
       started = core.account.started;
       intervals = beside.intervals;
+      guards = beside.guards;
     }
 
 abbrev pub room_of : {Q : Type 0} {g : Ghosts Q} → Beside → Core Q g × Table → RoomState

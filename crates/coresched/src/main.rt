@@ -2,7 +2,10 @@
 //! and says on standard error what went wrong.
 #![tactic(auto)]
 
-use cs_outside::{StdSink, StdSource};
+ghost use Rattle.std.specs.Prelude.{◌≡◌, [], ◌∷◌, IfOk};
+ghost use Rattle.cs_outside.specs.Guard.{fresh};
+
+use cs_outside::{PairGuard, StdSink, StdSource};
 use scenario_runner::{Status, run};
 use std::env;
 use std::io::ErrorKind;
@@ -21,11 +24,28 @@ fn words<R: Env + AllocGlobal>(rt: &R) -> Result<Vec<String>, Status> {
     }
 }
 
+/// The guards that a scenario may teach, by their numbers.
+fn guards<R: AllocGlobal>(rt: &R) -> Result<Vec<PairGuard>, Status>
+    ensures { IfOk result (λ guards. guards.items ≡ fresh ∷ fresh ∷ fresh ∷ fresh ∷ []) }
+{
+    let guards = [
+        PairGuard::empty(),
+        PairGuard::empty(),
+        PairGuard::empty(),
+        PairGuard::empty(),
+    ];
+    Vec::from_array(rt.alloc(), guards).map_err(|_| Status::OutOfMemory)
+}
+
 /// Runs the command. Its output is complete only once the sink is flushed.
 fn execute(rt: &HostRuntime, words: &[String]) -> Status {
+    let guards = match guards(rt) {
+        Ok(guards) => guards,
+        Err(status) => return status,
+    };
     let mut source = StdSource::over(rt.stdin());
     let mut sink = StdSink::over(rt.stdout());
-    match run(rt, words, &mut source, &mut sink) {
+    match run(rt, words, &mut source, &mut sink, guards) {
         Status::Done if sink.flush().is_err() => Status::WriteFault,
         status => status,
     }
@@ -36,7 +56,7 @@ fn exit_code(status: Status) -> u8 {
     match status {
         Status::Done => 0,
         Status::BadWords => 1,
-        Status::BadScenario { .. } | Status::TooLong => 2,
+        Status::BadScenario { .. } | Status::BadGuard { .. } | Status::TooLong => 2,
         Status::ReadFault => 3,
         Status::WriteFault => 4,
         Status::OutOfMemory => 5,

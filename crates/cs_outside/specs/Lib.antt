@@ -1,3 +1,4 @@
 pub mod Device
+pub mod Guard
 pub mod Memory
 pub mod Stream

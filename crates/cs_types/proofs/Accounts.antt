@@ -13,17 +13,16 @@ use Rattle.std.proofs.lemmas.List.FromFn.{length-range_with_len}
 use Rattle.cs_types.specs.declared.task.Task.{Task}
 use Rattle.cs_types.specs.declared.task.Policy.{Policy}
 use Rattle.cs_types.specs.declared.event.Event.{Event}
-use Rattle.cs_types.specs.declared.event.Event.TheVariants.{Turn, Resched, Block, Exit, Tick, Wake, Advance, Fork, Prctl, SetSched, Offline, Online}
+use Rattle.cs_types.specs.declared.event.Event.TheVariants.{Turn, Resched, Block, Exit, Tick, Wake, Advance, Fork, Prctl, SetSched, Offline, Online, Load, Unload}
 use Rattle.cs_types.specs.declared.reply.Reply.{Reply}
 use Rattle.cs_types.specs.declared.reply.Reply.TheVariants.{Zero}
 use Rattle.cs_types.specs.declared.reply.Entry.{Entry}
-use Rattle.cs_types.specs.declared.scenario.Scenario.{Scenario}
 use Rattle.cs_types.specs.Scenario.{IsEvent}
-use Rattle.cs_types.specs.Room.{RoomState, Interval, idle, is_online, online, sibling_of, running_on, task_of}
+use Rattle.cs_types.specs.Room.{Opening, RoomState, Interval, idle, is_online, online, sibling_of, running_on, task_of}
 use Rattle.cs_types.specs.Selection.{Scheduled, is_forced, forced_count, occupation_of, lead_from, cookie_of, select_for, select, pick_plain, is_plain, pick_anew, adopt_or_pick_anew, schedule}
 use Rattle.cs_types.specs.Accounting.{share, charges, total_of, charged, up_to_now, open_interval, charge}
 use Rattle.cs_types.specs.Time.{advanced}
-use Rattle.cs_types.specs.Prctl.{Setting, setting_of, makes_cookie, with_made, with_answer, prctl_answer}
+use Rattle.cs_types.specs.Prctl.{asked_by_call, Setting, setting_of, makes_cookie, with_used, with_answer, prctl_answer}
 use Rattle.cs_types.specs.Step.{Stepped, step, wake, turn, block, exit, fork, may_not_fork, tick, without, has_threads, run_idle, try_steal, unless_offline, set_policy, take_offline, bring_online}
 use Rattle.cs_types.specs.Queueing.{dequeue}
 use Rattle.cs_types.specs.Steal.{stolen}
@@ -352,9 +351,9 @@ module _ (most done : ℕ) (some : 1 ≤ most) (room : RoomState) (few : length 
         no_earlier None = omega arith
         no_earlier (Some start) = omega arith
 
-  accounted-with_answer : (made : Bool) (set : Setting) (answer : Reply) → IsAccounted most (done + 1) (account_of (with_answer (with_made room made) set answer))
-  accounted-with_answer made set Zero = stays
-  accounted-with_answer made set answer = stays
+  accounted-with_answer : (made : Bool) (asked : List ℕ) (set : Setting) (answer : Reply) → IsAccounted most (done + 1) (account_of (with_answer (with_used room made asked) set answer))
+  accounted-with_answer made asked set Zero = stays
+  accounted-with_answer made asked set answer = stays
 
   accounted-set_policy : (policy : Policy) (task : Option Task) → GoesOn (set_policy room policy task)
   accounted-set_policy policy None = stays
@@ -384,10 +383,12 @@ module _ (most done : ℕ) (some : 1 ≤ most) (room : RoomState) (few : length 
   accounted-step may_adopt (Advance delta) limits = accounted-advanced delta
   accounted-step may_adopt (Fork caller thread) limits = accounted-fork thread (task_of room caller)
   accounted-step may_adopt (Prctl caller ask) limits =
-      accounted-with_answer (makes_cookie room caller ask) (setting_of room caller ask) (prctl_answer room caller ask)
+      accounted-with_answer (makes_cookie room caller ask) (asked_by_call room caller ask) (setting_of room caller ask) (prctl_answer room caller ask)
   accounted-step may_adopt (SetSched pid policy) limits = accounted-set_policy policy (task_of room pid)
   accounted-step may_adopt (Offline cpu) below = accounted-take_offline cpu
   accounted-step may_adopt (Online cpu) below = accounted-bring_online cpu
+  accounted-step may_adopt (Load index) limits = stays
+  accounted-step may_adopt (Unload index) limits = stays
 
 -- ---- after a history
 
@@ -407,12 +408,12 @@ unfolding total_of
 total_of-none pid = refl
 
 -- After every history whose events keep their limits the account comes no further than that.
-pub accounted-fold_of : (most : ℕ) (scenario : Scenario) (history : History) → 1 ≤ most → scenario.siblings ≤ most →
-    All (λ entry. IsEvent scenario.siblings entry.event) history → IsAccounted most (length history) (account_of (fold_of scenario history))
-accounted-fold_of most scenario history some few limits =
-    subst (λ n. IsAccounted most n (account_of (fold_of scenario history))) (omega arith)
-    (accounted_after most 0 scenario.siblings (beginning scenario) history some few (length-replicate scenario.siblings idle)
-    (recursion_from_All (λ entry. IsEvent scenario.siblings entry.event) history limits)
+pub accounted-fold_of : (most : ℕ) (opening : Opening) (history : History) → 1 ≤ most → opening.scenario.siblings ≤ most →
+    All (λ entry. IsEvent opening.scenario.siblings entry.event) history → IsAccounted most (length history) (account_of (fold_of opening history))
+accounted-fold_of most opening history some few limits =
+    subst (λ n. IsAccounted most n (account_of (fold_of opening history))) (omega arith)
+    (accounted_after most 0 opening.scenario.siblings (beginning opening) history some few (length-replicate opening.scenario.siblings idle)
+    (recursion_from_All (λ entry. IsEvent opening.scenario.siblings entry.event) history limits)
     (record {
       started = omega arith;
       few = omega arith;

@@ -7,16 +7,15 @@ use Rattle.std.proofs.lemmas.List.Elements.{All-from_recursion}
 use Rattle.cs_types.specs.declared.task.Task.{Task}
 use Rattle.cs_types.specs.declared.task.Policy.{Policy}
 use Rattle.cs_types.specs.declared.event.Event.{Event}
-use Rattle.cs_types.specs.declared.event.Event.TheVariants.{Turn, Resched, Block, Exit, Tick, Wake, Advance, Fork, Prctl, SetSched, Offline, Online}
+use Rattle.cs_types.specs.declared.event.Event.TheVariants.{Turn, Resched, Block, Exit, Tick, Wake, Advance, Fork, Prctl, SetSched, Offline, Online, Load, Unload}
 use Rattle.cs_types.specs.declared.reply.Reply.{Reply}
 use Rattle.cs_types.specs.declared.reply.Reply.TheVariants.{Zero}
 use Rattle.cs_types.specs.declared.reply.Entry.{Entry}
-use Rattle.cs_types.specs.declared.scenario.Scenario.{Scenario}
-use Rattle.cs_types.specs.Room.{RoomState, SiblingState, idle, online, is_online, sibling_of, running_on, task_of, with_sibling, flag, absent}
+use Rattle.cs_types.specs.Room.{Opening, RoomState, SiblingState, idle, online, is_online, sibling_of, running_on, task_of, with_sibling, flag, absent}
 use Rattle.cs_types.specs.Selection.{select_for, select, pick_plain, is_plain, pick_anew, adopt_or_pick_anew, schedule, is_to_steal}
 use Rattle.cs_types.specs.Accounting.{charge}
 use Rattle.cs_types.specs.Time.{least_of, with_growth, advanced}
-use Rattle.cs_types.specs.Prctl.{Setting, setting_of, makes_cookie, with_made, with_answer, prctl_answer}
+use Rattle.cs_types.specs.Prctl.{asked_by_call, Setting, setting_of, makes_cookie, with_used, with_answer, prctl_answer}
 use Rattle.cs_types.specs.Step.{Stepped, step, wake, turn, try_steal, run_idle, block, without, has_threads, exit, may_not_fork, fork, tick, unless_offline, set_policy, take_offline, bring_online}
 use Rattle.cs_types.specs.Queueing.{dequeue, moved}
 use Rattle.cs_types.specs.Steal.{source_of, stolen, set_place, next_place}
@@ -175,10 +174,12 @@ low-step most room fresh (Wake pid) low = higher most _ (low-wake most room (tas
 low-step most room fresh (Advance delta) low = higher most _ (low-advanced most room delta low)
 low-step most room fresh (Fork caller thread) low = higher most _ (low-fork most room thread (task_of room caller) low)
 low-step most room fresh (Prctl caller ask) low =
-    higher most _ (low-with_answer most (with_made room (makes_cookie room caller ask)) (setting_of room caller ask) (prctl_answer room caller ask) low)
+    higher most _ (low-with_answer most (with_used room (makes_cookie room caller ask) (asked_by_call room caller ask)) (setting_of room caller ask) (prctl_answer room caller ask) low)
 low-step most room fresh (SetSched pid policy) low = higher most _ (low-set_policy most room policy (task_of room pid) low)
 low-step most room fresh (Offline cpu) low = higher most _ (low-take_offline most room cpu low)
 low-step most room fresh (Online cpu) low = higher most _ (low-bring_online most room cpu low)
+low-step most room fresh (Load index) low = higher most _ low
+low-step most room fresh (Unload index) low = higher most _ low
 
 low_after : (most : ℕ) (moment : Moment) (entries : List Entry) → AreLow most moment.room → AreLow (most + length entries) (after moment entries).room
 low_after most moment [] low = subst (λ n. AreLow n moment.room) (omega arith) low
@@ -187,8 +188,8 @@ low_after most moment (entry ∷ entries) low =
     (low_after (most + 1) (next moment entry) entries (low-step most moment.room (is_fresh moment.ledger) entry.event low))
 
 -- After a history of so many entries no place is above that.
-pub places-fold_of : (scenario : Scenario) (history : History) → All (λ (sibling : SiblingState). sibling.place ≤ length history) (fold_of scenario history).siblings
-places-fold_of scenario history =
-    All-from_recursion (Low (length history)) (fold_of scenario history).siblings
-    (subst (λ n. AreLow n (fold_of scenario history)) (omega arith)
-    (low_after 0 (beginning scenario) history (all_replicate (Low 0) scenario.siblings idle (omega arith))))
+pub places-fold_of : (opening : Opening) (history : History) → All (λ (sibling : SiblingState). sibling.place ≤ length history) (fold_of opening history).siblings
+places-fold_of opening history =
+    All-from_recursion (Low (length history)) (fold_of opening history).siblings
+    (subst (λ n. AreLow n (fold_of opening history)) (omega arith)
+    (low_after 0 (beginning opening) history (all_replicate (Low 0) opening.scenario.siblings idle (omega arith))))

@@ -13,7 +13,7 @@ use Rattle.cs_types.specs.declared.event.Event.TheVariants.{Prctl}
 use Rattle.cs_types.specs.declared.reply.Reply.{Reply}
 use Rattle.cs_types.specs.declared.reply.Reply.TheVariants.{Zero}
 use Rattle.cs_types.specs.Room.{RoomState, SiblingState, Waiting, has_pid, sibling_of, task_of}
-use Rattle.cs_types.specs.Prctl.{Setting, setting_by, setting_of, target_of, is_share_from, is_in_scope, is_set, runs_one, set_cookies, makes_cookie, with_made, with_answer, prctl_answer, prctl_room}
+use Rattle.cs_types.specs.Prctl.{asked_by_call, Setting, setting_by, setting_of, target_of, is_share_from, is_in_scope, is_set, runs_one, set_cookies, makes_cookie, with_used, with_answer, prctl_answer, prctl_room}
 use Rattle.cs_types.specs.Touches.{cookie_touches, setting_touches, selection_of}
 use Rattle.cs_types.proofs.Filtered.{each-filter}
 use Rattle.cs_types.proofs.Tasks.{found_again}
@@ -125,7 +125,7 @@ pub prctl-fits : (room : RoomState) (fresh : Bool) (caller : ℕ) (ask : Ask) �
     AllFit (prctl_room room caller ask) (fresh_after room fresh (Prctl caller ask) (prctl_answer room caller ask))
 prctl-fits room fresh caller ask rises fits = go (prctl_answer room caller ask) (prctl_selects_nothing room caller ask) where
   made : RoomState
-  made = with_made room (makes_cookie room caller ask)
+  made = with_used room (makes_cookie room caller ask) (asked_by_call room caller ask)
 
   go : (answer : Reply) → selection_of answer ≡ None → AllFit (with_answer made (setting_of room caller ask) answer) (fresh_after room fresh (Prctl caller ask) answer)
   go Zero none =

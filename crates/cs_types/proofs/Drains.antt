@@ -11,9 +11,8 @@ use Rattle.cs_types.specs.declared.event.Event.{Event}
 use Rattle.cs_types.specs.declared.event.Event.TheVariants.{Resched}
 use Rattle.cs_types.specs.declared.event.Step.{Step}
 use Rattle.cs_types.specs.declared.reply.Entry.{Entry}
-use Rattle.cs_types.specs.declared.scenario.Scenario.{Scenario}
 use Rattle.cs_types.specs.Scenario.{is_actor, IsEvent}
-use Rattle.cs_types.specs.Room.{RoomState, Waiting, sibling_of, is_online, online}
+use Rattle.cs_types.specs.Room.{Opening, RoomState, Waiting, sibling_of, is_online, online}
 use Rattle.cs_types.specs.Touches.{is_adopted, is_fresh}
 use Rattle.cs_types.specs.Selection.{select, is_plain, pick_plain, pick_anew, adopt_or_pick_anew, schedule}
 use Rattle.cs_types.specs.Accounting.{charge}
@@ -130,11 +129,11 @@ pub end_is_calm : (moment : Moment) (entries : List Entry) → IsEndFrom moment 
 end_is_calm moment [] ends = ends
 end_is_calm moment (entry ∷ entries) ends = end_is_calm (next moment entry) entries ends.3
 
-pub nobody_pending : (scenario : Scenario) (past now : History) → IsDrained scenario past now → pending (fold_of scenario now) ≡ []
-nobody_pending scenario past now drained =
-    ap (λ (history : History). pending (fold_of scenario history)) drained.added
-    ∙ (ap (λ (last : Moment). pending last.room) (after-append (beginning scenario) past drained.made)
-    ∙ end_is_calm (moment_of scenario past) drained.made drained.ends)
+pub nobody_pending : (opening : Opening) (past now : History) → IsDrained opening past now → pending (fold_of opening now) ≡ []
+nobody_pending opening past now drained =
+    ap (λ (history : History). pending (fold_of opening history)) drained.added
+    ∙ (ap (λ (last : Moment). pending last.room) (after-append (beginning opening) past drained.made)
+    ∙ end_is_calm (moment_of opening past) drained.made drained.ends)
 
 -- A moment has one end, and so a history one that is drained.
 one_end : (moment : Moment) (a b : List Entry) → IsEndFrom moment a → IsEndFrom moment b → a ≡ b
@@ -148,9 +147,9 @@ one_end moment (x ∷ xs) (y ∷ ys) one other =
     let rest : IsEndFrom (next moment x) ys = subst (λ (entry : Entry). IsEndFrom (next moment entry) ys) (sym same) other.3 in
     λ i. same i ∷ one_end (next moment x) xs ys one.3 rest i
 
-pub drained_alone : (scenario : Scenario) (past now other : History) → IsDrained scenario past now → IsDrained scenario past other → now ≡ other
-drained_alone scenario past now other one two =
-    one.added ∙ (ap (λ (made : List Entry). past ++ made) (one_end (moment_of scenario past) one.made two.made one.ends two.ends) ∙ sym two.added)
+pub drained_alone : (opening : Opening) (past now other : History) → IsDrained opening past now → IsDrained opening past other → now ≡ other
+drained_alone opening past now other one two =
+    one.added ∙ (ap (λ (made : List Entry). past ++ made) (one_end (moment_of opening past) one.made two.made one.ends two.ends) ∙ sym two.added)
 
 -- ---- it is legal
 
@@ -185,16 +184,16 @@ made_again moment (entry ∷ entries) legal =
     (made_again (next moment entry) entries (λ past later rest e. legal (entry ∷ past) later rest (ap (λ (es : List Entry). entry ∷ es) e)))
 
 -- A legal history is legal also with the entries of the end.
-pub IsLegal-drained : (scenario : Scenario) (past now : History) → IsLegal scenario past → IsDrained scenario past now → IsLegal scenario now
-IsLegal-drained scenario past now legal drained =
+pub IsLegal-drained : (opening : Opening) (past now : History) → IsLegal opening past → IsDrained opening past now → IsLegal opening now
+IsLegal-drained opening past now legal drained =
     let steps = map step_of past in
     let more = map step_of drained.made in
-    let again : history_of scenario steps ≡ past = made_again (beginning scenario) past legal in
-    let is : history_of scenario (steps ++ more) ≡ now =
-    made_from-append (beginning scenario) steps more
-    ∙ (ap (λ (history : History). history ++ made_from (moment_of scenario history) more) again
-    ∙ (ap (λ (entries : List Entry). past ++ entries) (end_is_made (moment_of scenario past) drained.made drained.ends) ∙ sym drained.added)) in
-    subst (IsLegal scenario) is (IsLegal-history_of scenario (steps ++ more))
+    let again : history_of opening steps ≡ past = made_again (beginning opening) past legal in
+    let is : history_of opening (steps ++ more) ≡ now =
+    made_from-append (beginning opening) steps more
+    ∙ (ap (λ (history : History). history ++ made_from (moment_of opening history) more) again
+    ∙ (ap (λ (entries : List Entry). past ++ entries) (end_is_made (moment_of opening past) drained.made drained.ends) ∙ sym drained.added)) in
+    subst (IsLegal opening) is (IsLegal-history_of opening (steps ++ more))
 
 -- ---- of whom its entries are
 
@@ -236,9 +235,9 @@ drained_by_end moment room (entry ∷ entries) same ends = (
       (ap (λ (one : Entry). online (next moment one).room) ends.2 ∙ (online-next moment ends.0 ∙ same)) ends.3,
 )
 
-by_end_of : (scenario : Scenario) (past now : History) (drained : IsDrained scenario past now) →
-    AllByRecursion (IsByEnd (fold_of scenario past)) drained.made
-by_end_of scenario past now drained = drained_by_end (moment_of scenario past) (fold_of scenario past) drained.made refl drained.ends
+by_end_of : (opening : Opening) (past now : History) (drained : IsDrained opening past now) →
+    AllByRecursion (IsByEnd (fold_of opening past)) drained.made
+by_end_of opening past now drained = drained_by_end (moment_of opening past) (fold_of opening past) drained.made refl drained.ends
 
 -- So each event that it makes is one of the scenario's core.
 events_in : (siblings : ℕ) (room : RoomState) (entries : List Entry) → length room.siblings ≡ siblings → AllByRecursion (IsByEnd room) entries →
@@ -248,13 +247,13 @@ events_in siblings room (entry ∷ entries) many by_end =
     let below : by_end.0.cpu < siblings = omega (arith, many, (online_parts room by_end.0.cpu by_end.0.up).0) in
     (subst (IsEvent siblings) (sym by_end.0.event) below, events_in siblings room entries many by_end.1)
 
-pub AreEvents-drained : (scenario : Scenario) (past now : History) → AreEvents scenario past → IsDrained scenario past now → AreEvents scenario now
-AreEvents-drained scenario past now events drained =
-    let keeps : Entry → Type 0 = λ entry. IsEvent scenario.siblings entry.event in
+pub AreEvents-drained : (opening : Opening) (past now : History) → AreEvents opening past → IsDrained opening past now → AreEvents opening now
+AreEvents-drained opening past now events drained =
+    let keeps : Entry → Type 0 = λ entry. IsEvent opening.scenario.siblings entry.event in
     subst (All keeps) (sym drained.added)
     (All-append keeps past drained.made events
     (All-from_recursion keeps drained.made
-    (events_in scenario.siblings (fold_of scenario past) drained.made (length-fold_of scenario past) (by_end_of scenario past now drained))))
+    (events_in opening.scenario.siblings (fold_of opening past) drained.made (length-fold_of opening past) (by_end_of opening past now drained))))
 
 -- The end adds nothing to the events of another actor, a sibling or a caller.
 none_by : (actor : Actor) → is_actor End actor ≡ false → (room : RoomState) (entries : List Entry) → AllByRecursion (IsByEnd room) entries →
@@ -265,13 +264,13 @@ none_by actor other room (entry ∷ entries) by_end =
     ap (λ b. map (λ (e : Entry). e.event) (cond b (entry ∷ kept) kept)) (ap (λ a. is_actor a actor) by_end.0.actor ∙ other)
     ∙ none_by actor other room entries by_end.1
 
-pub events_by-drained : (scenario : Scenario) (past now : History) (actor : Actor) → is_actor End actor ≡ false → IsDrained scenario past now →
+pub events_by-drained : (opening : Opening) (past now : History) (actor : Actor) → is_actor End actor ≡ false → IsDrained opening past now →
     events_by actor now ≡ events_by actor past
-events_by-drained scenario past now actor other drained =
+events_by-drained opening past now actor other drained =
     let event : Entry → Event = λ entry. entry.event in
     let test : Entry → Bool = λ entry. is_actor entry.actor actor in
     ap (events_by actor) drained.added
     ∙ (ap (map event) (filter-append test past drained.made)
     ∙ (map-append event (filter test past) (filter test drained.made)
-    ∙ (ap (λ events. events_by actor past ++ events) (none_by actor other (fold_of scenario past) drained.made (by_end_of scenario past now drained))
+    ∙ (ap (λ events. events_by actor past ++ events) (none_by actor other (fold_of opening past) drained.made (by_end_of opening past now drained))
     ∙ append-nil (events_by actor past))))

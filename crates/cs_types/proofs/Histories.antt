@@ -5,8 +5,8 @@ use Rattle.cs_types.specs.declared.event.Actor.{Actor}
 use Rattle.cs_types.specs.declared.event.Event.{Event}
 use Rattle.cs_types.specs.declared.event.Step.{Step}
 use Rattle.cs_types.specs.declared.reply.Entry.{Entry}
-use Rattle.cs_types.specs.declared.scenario.Scenario.{Scenario}
 use Rattle.cs_types.specs.Scenario.{is_actor, script}
+use Rattle.cs_types.specs.Room.{Opening}
 use Rattle.cs_types.specs.History.{History, Moment, beginning, step_at, next, after, moment_of, IsLegal, events_by, entry_of, made_from, history_of, file}
 
 -- one more entry is one more step
@@ -15,9 +15,9 @@ pub after-push : (moment : Moment) (entries : List Entry) (entry : Entry) →
 after-push moment [] entry = refl
 after-push moment (first ∷ entries) entry = after-push (next moment first) entries entry
 
-pub moment_of-push : (scenario : Scenario) (history : History) (entry : Entry) →
-    moment_of scenario (history ++ entry ∷ []) ≡ next (moment_of scenario history) entry
-moment_of-push scenario history entry = after-push (beginning scenario) history entry
+pub moment_of-push : (opening : Opening) (history : History) (entry : Entry) →
+    moment_of opening (history ++ entry ∷ []) ≡ next (moment_of opening history) entry
+moment_of-push opening history entry = after-push (beginning opening) history entry
 
 -- one more step is one more entry
 pub made_from-push : (moment : Moment) (steps : List Step) (made : Step) →
@@ -26,17 +26,17 @@ made_from-push moment [] made = refl
 made_from-push moment (first ∷ steps) made =
     ap (λ (h : History). entry_of moment first ∷ h) (made_from-push (next moment (entry_of moment first)) steps made)
 
-pub history_of-push : (scenario : Scenario) (steps : List Step) (made : Step) →
-    history_of scenario (steps ++ made ∷ [])
-    ≡ history_of scenario steps ++ entry_of (moment_of scenario (history_of scenario steps)) made ∷ []
-history_of-push scenario steps made = made_from-push (beginning scenario) steps made
+pub history_of-push : (opening : Opening) (steps : List Step) (made : Step) →
+    history_of opening (steps ++ made ∷ [])
+    ≡ history_of opening steps ++ entry_of (moment_of opening (history_of opening steps)) made ∷ []
+history_of-push opening steps made = made_from-push (beginning opening) steps made
 
 pub length-made_from : (moment : Moment) (steps : List Step) → length (made_from moment steps) ≡ length steps
 length-made_from moment [] = refl
 length-made_from moment (first ∷ steps) = ap suc (length-made_from (next moment (entry_of moment first)) steps)
 
-pub length-history_of : (scenario : Scenario) (steps : List Step) → length (history_of scenario steps) ≡ length steps
-length-history_of scenario steps = length-made_from (beginning scenario) steps
+pub length-history_of : (opening : Opening) (steps : List Step) → length (history_of opening steps) ≡ length steps
+length-history_of opening steps = length-made_from (beginning opening) steps
 
 -- each reply that steps make is the one at its place
 legal_from : (moment : Moment) (steps : List Step) (prefix : History) (entry : Entry) (rest : List Entry) →
@@ -53,8 +53,8 @@ legal_from moment (first ∷ steps) (x ∷ prefix) entry rest e =
     (legal_from (next moment (entry_of moment first)) steps prefix entry rest tail)
 
 -- what steps make is legal
-pub IsLegal-history_of : (scenario : Scenario) (steps : List Step) → IsLegal scenario (history_of scenario steps)
-IsLegal-history_of scenario steps past entry rest e = legal_from (beginning scenario) steps past entry rest e
+pub IsLegal-history_of : (opening : Opening) (steps : List Step) → IsLegal opening (history_of opening steps)
+IsLegal-history_of opening steps past entry rest e = legal_from (beginning opening) steps past entry rest e
 
 events_from : (actor : Actor) (moment : Moment) (steps : List Step) →
     events_by actor (made_from moment steps) ≡ map (λ made. made.event) (filter (λ made. is_actor made.actor actor) steps)
@@ -67,5 +67,5 @@ events_from actor moment (first ∷ steps) =
     ]
 
 -- in the file's history each actor makes its script
-pub events_by-file : (scenario : Scenario) (actor : Actor) → events_by actor (file scenario) ≡ script scenario actor
-events_by-file scenario actor = events_from actor (beginning scenario) scenario.steps
+pub events_by-file : (opening : Opening) (actor : Actor) → events_by actor (file opening) ≡ script opening.scenario actor
+events_by-file opening actor = events_from actor (beginning opening) opening.scenario.steps

@@ -10,14 +10,14 @@ use Rattle.std.proofs.lemmas.Option.{IfSome_then}
 use Rattle.cs_types.specs.declared.task.Task.{Task}
 use Rattle.cs_types.specs.declared.task.Policy.{Policy}
 use Rattle.cs_types.specs.declared.event.Event.{Event}
-use Rattle.cs_types.specs.declared.event.Event.TheVariants.{Turn, Resched, Block, Exit, Tick, Wake, Advance, Fork, Prctl, SetSched, Offline, Online}
+use Rattle.cs_types.specs.declared.event.Event.TheVariants.{Turn, Resched, Block, Exit, Tick, Wake, Advance, Fork, Prctl, SetSched, Offline, Online, Load, Unload}
 use Rattle.cs_types.specs.declared.reply.Reply.{Reply}
 use Rattle.cs_types.specs.declared.reply.Reply.TheVariants.{Zero}
 use Rattle.cs_types.specs.Scenario.{IsEvent}
 use Rattle.cs_types.specs.Room.{RoomState, SiblingState, absent, has_pid, sibling_of, running_on, is_online, online, lowest_online, task_of, queued_on}
 use Rattle.cs_types.specs.Order.{first_of}
 use Rattle.cs_types.specs.Selection.{schedule, queued_with}
-use Rattle.cs_types.specs.Prctl.{Setting, setting_of, is_set, makes_cookie, with_made, with_answer, prctl_answer, set_cookies}
+use Rattle.cs_types.specs.Prctl.{asked_by_call, Setting, setting_of, is_set, makes_cookie, with_used, with_answer, prctl_answer, set_cookies}
 use Rattle.cs_types.specs.Step.{Stepped, step, wake, block, exit, fork, turn, without, has_threads, child_of, child_at_home, may_not_fork, with_child, tick, run_idle, try_steal, unless_offline, set_policy, take_offline, bring_online}
 use Rattle.cs_types.specs.Queueing.{dequeue, moved_to, rehomed, queue_at_home}
 use Rattle.cs_types.specs.Steal.{source_of, stolen, may_steal}
@@ -308,8 +308,10 @@ housed-step room fresh (Wake pid) limits rises housed = housed-wake room pid (ta
 housed-step room fresh (Advance delta) limits rises housed = housed-advanced room delta housed
 housed-step room fresh (Fork caller thread) limits rises housed = housed-fork room thread (task_of room caller) housed
 housed-step room fresh (Prctl caller ask) limits rises housed =
-    housed-with_answer (with_made room (makes_cookie room caller ask)) (setting_of room caller ask) (prctl_answer room caller ask)
+    housed-with_answer (with_used room (makes_cookie room caller ask) (asked_by_call room caller ask)) (setting_of room caller ask) (prctl_answer room caller ask)
     (record { some = housed.some; homes = housed.homes })
 housed-step room fresh (SetSched pid policy) limits rises housed = housed-set_policy room policy pid (task_of room pid) refl housed
 housed-step room fresh (Offline cpu) limits rises housed = housed-take_offline room cpu limits housed
 housed-step room fresh (Online cpu) limits rises housed = housed-bring_online room cpu housed
+housed-step room fresh (Load index) limits rises housed = record { some = housed.some; homes = housed.homes }
+housed-step room fresh (Unload index) limits rises housed = record { some = housed.some; homes = housed.homes }

@@ -30,4 +30,6 @@ pub mod Shown
 pub mod BalancePlaces
 pub mod Codes
 pub mod Refusals
+pub mod Askings
+pub mod Accesses
 pub mod Comparisons

@@ -1,8 +1,8 @@
 -- Numbers: how the three numbers go on by one entry, that they tell whether a selection is fresh, and how far they,
 -- the stamps, the cookies and the pids come in a history.
 use Rattle.std.proofs.Common.{◌≡◌, ℕ, ◌+◌, ◌*◌, ◌<◌, ◌≤◌, Bool, true, false, cond, List, [], ◌∷◌, length, length-append, refl, sym, ap, subst, ◌∙◌, arith, ltb, eqb, Option, Some, None, is_some}
-use Rattle.std.specs.Prelude.{◌==◌, ◌&&◌, ◌||◌, not, take_while, sum_by}
-use Rattle.std.specs.List.{list_any, list_all}
+use Rattle.std.specs.Prelude.{◌==◌, ◌&&◌, ◌||◌, not, take_while, sum_by, All, ◌^◌}
+use Rattle.std.specs.List.{list_any, list_all, AllByRecursion, range_with_len}
 use Rattle.std.specs.Option.{option_map_or}
 use Rattle.std.proofs.lemmas.List.Sums.{sum_by-cons, take_while-cons}
 use Rattle.std.proofs.lemmas.List.Filters.{length-filter_both}
@@ -12,18 +12,17 @@ use Rattle.cs_types.specs.declared.task.Task.{Task}
 use Rattle.cs_types.specs.declared.task.Policy.{Policy}
 use Rattle.cs_types.specs.declared.event.Ask.{Ask}
 use Rattle.cs_types.specs.declared.event.Event.{Event}
-use Rattle.cs_types.specs.declared.event.Event.TheVariants.{Turn, Resched, Block, Exit, Tick, Wake, Advance, Fork, Prctl, SetSched, Offline, Online}
+use Rattle.cs_types.specs.declared.event.Event.TheVariants.{Turn, Resched, Block, Exit, Tick, Wake, Advance, Fork, Prctl, SetSched, Offline, Online, Load, Unload}
 use Rattle.cs_types.specs.declared.reply.Kind.{Kind}
 use Rattle.cs_types.specs.declared.reply.Kind.TheVariants.{Selected, Adopted, Plain}
 use Rattle.cs_types.specs.declared.reply.Pick.{Pick}
 use Rattle.cs_types.specs.declared.reply.Reply.{Reply}
 use Rattle.cs_types.specs.declared.reply.Reply.TheVariants.{Picked, Slept, Ended, Stole, Woken, Child, Zero, Set, Done}
 use Rattle.cs_types.specs.declared.reply.Entry.{Entry}
-use Rattle.cs_types.specs.declared.scenario.Scenario.{Scenario}
-use Rattle.cs_types.specs.Room.{RoomState, first_pid, queued_on, sibling_of, running_on, is_online, online, task_of}
+use Rattle.cs_types.specs.Room.{Opening, RoomState, first_pid, queued_on, sibling_of, running_on, is_online, online, task_of}
 use Rattle.cs_types.specs.Selection.{select_for, select, pick_plain, is_plain, pick_anew, adopt_or_pick_anew, schedule}
 use Rattle.cs_types.specs.Accounting.{charge}
-use Rattle.cs_types.specs.Prctl.{Setting, target_of, setting_by, setting_of, is_share_from, is_in_scope, makes_cookie, with_made, with_answer, prctl_answer, prctl_room}
+use Rattle.cs_types.specs.Prctl.{asked_by_call, Setting, target_of, setting_by, setting_of, is_share_from, is_in_scope, makes_cookie, with_used, with_answer, prctl_answer, prctl_room}
 use Rattle.cs_types.specs.Step.{Stepped, step, wake, block, exit, fork, may_not_fork, tick, turn, without, has_threads, run_idle, try_steal, unless_offline, set_policy, take_offline, bring_online}
 use Rattle.cs_types.specs.Steal.{stolen}
 use Rattle.cs_types.specs.Hotplug.{leave}
@@ -32,6 +31,11 @@ use Rattle.cs_types.specs.Time.{advanced, rotates}
 use Rattle.cs_types.specs.Touches.{is_selected, is_adopted, pick_touches, cookie_touches, set_touches, selection_of, is_selection, policy_touches, policy_set_touches, leaving_touches, touches_by, LedgerEntry, Ledger, ledger_entry, back_to, task_number, pick_number, own_number, is_taken_by, is_fresh}
 use Rattle.cs_types.specs.History.{History, Moment, next, after, fold_of, ledger_of, beginning}
 use Rattle.cs_types.proofs.Tasks.{length-asleep_tasks, few-step}
+use Rattle.cs_types.proofs.Foremost.{each_weaker}
+use Rattle.cs_types.proofs.Askings.{AskedAtMost, AsksFew, asks_none, asks-call, asks-load, asks-unload, never_asked}
+use Rattle.cs_types.specs.Guards.{GuardState, GuardList, asked_each}
+use Rattle.std.proofs.lemmas.Nat.{mul-le}
+use Rattle.std.proofs.lemmas.List.Elements.{All-from_recursion}
 
 -- ---- one entry more
 
@@ -135,10 +139,10 @@ selections_touch_after moment (entry ∷ entries) touch =
     selections_touch_after (next moment entry) entries (selection_touches moment.room entry.event entry.reply, touch)
 
 -- After every history the numbers tell it.
-pub fresh-ledger_of : (scenario : Scenario) (history : History) → let ledger = ledger_of scenario history in
+pub fresh-ledger_of : (opening : Opening) (history : History) → let ledger = ledger_of opening history in
     is_fresh ledger ≡ (ltb 0 (pick_number ledger) && eqb (pick_number ledger) (task_number ledger))
-fresh-ledger_of scenario history =
-    fresh_by_numbers (ledger_of scenario history) (selections_touch_after (beginning scenario) history tt)
+fresh-ledger_of opening history =
+    fresh_by_numbers (ledger_of opening history) (selections_touch_after (beginning opening) history tt)
 
 -- ---- how far the numbers come
 
@@ -216,16 +220,16 @@ touches_after moment (entry ∷ entries) few low =
     omega (arith, few, low, more, task_number-cons note moment.ledger, touches_by-le moment.room entry.event entry.reply)
 
 -- So the task number of a history with at most 256 tasks at once is at most 514 times its length.
-pub task_number-ledger_of : (scenario : Scenario) (history : History) → length scenario.tasks ≤ scenario.task_limit → scenario.task_limit ≤ 256 →
-    task_number (ledger_of scenario history) ≤ 514 * length history
-task_number-ledger_of scenario history few low =
-    omega (arith, touches_after (beginning scenario) history (omega (arith, few, length-asleep_tasks scenario.tasks)) low)
+pub task_number-ledger_of : (opening : Opening) (history : History) → length opening.scenario.tasks ≤ opening.scenario.task_limit → opening.scenario.task_limit ≤ 256 →
+    task_number (ledger_of opening history) ≤ 514 * length history
+task_number-ledger_of opening history few low =
+    omega (arith, touches_after (beginning opening) history (omega (arith, few, length-asleep_tasks opening.scenario.tasks)) low)
 
 -- ---- how far the stamps, the cookies, the pids and the list of the ended come
 
--- what is drawn next, the stamp, the cookie and the pid, and how many tasks ended
-abbrev pub draws : RoomState → ℕ × ℕ × ℕ × ℕ
-draws room = (room.next_stamp, room.next_cookie, room.next_pid, length room.ended)
+-- what is drawn next, the stamp, the cookie and the pid, how many tasks ended, and the guards
+abbrev pub draws : RoomState → ℕ × ℕ × ℕ × ℕ × GuardList
+draws room = (room.next_stamp, room.next_cookie, room.next_pid, length room.ended, room.guards)
 
 draws-select_for : (room : RoomState) (cpu core : ℕ) → draws (select_for room cpu core) ≡ draws room
 unfolding select_for
@@ -245,24 +249,26 @@ draws-adopt_or_pick_anew room false cpu (Some run) = draws-pick_anew (charge roo
 draws-schedule : (room : RoomState) (fresh : Bool) (cpu : ℕ) → draws (schedule room fresh cpu).room ≡ draws room
 draws-schedule room fresh cpu = draws-adopt_or_pick_anew room fresh cpu (sibling_of room cpu).waiting
 
--- at most one more of each was drawn, and of the stamps one more than there were tasks
-pub record DrawsOne (tasks : ℕ) (old new : ℕ × ℕ × ℕ × ℕ) : Type 0 where
+-- at most one more of each was drawn, and of the stamps one more than there were tasks, and few guards were asked
+pub record DrawsOne (tasks : ℕ) (old new : ℕ × ℕ × ℕ × ℕ × GuardList) : Type 0 where
   pub stamp : new.0 ≤ old.0 + tasks + 1
   pub cookie : new.1 ≤ old.1 + 1
   pub pid : new.2 ≤ old.2 + 1
   pub ended : new.3 ≤ old.3 + 1
+  pub guards : AsksFew tasks old.4 new.4
 
-draws_none : (tasks : ℕ) (old new : ℕ × ℕ × ℕ × ℕ) → new ≡ old → DrawsOne tasks old new
+draws_none : (tasks : ℕ) (old new : ℕ × ℕ × ℕ × ℕ × GuardList) → new ≡ old → DrawsOne tasks old new
 draws_none tasks old new same = record {
-  stamp = omega (arith, ap (λ (d : ℕ × ℕ × ℕ × ℕ). d.0) same);
-  cookie = omega (arith, ap (λ (d : ℕ × ℕ × ℕ × ℕ). d.1) same);
-  pid = omega (arith, ap (λ (d : ℕ × ℕ × ℕ × ℕ). d.2) same);
-  ended = omega (arith, ap (λ (d : ℕ × ℕ × ℕ × ℕ). d.3) same);
+  stamp = omega (arith, ap (λ (d : ℕ × ℕ × ℕ × ℕ × GuardList). d.0) same);
+  cookie = omega (arith, ap (λ (d : ℕ × ℕ × ℕ × ℕ × GuardList). d.1) same);
+  pid = omega (arith, ap (λ (d : ℕ × ℕ × ℕ × ℕ × GuardList). d.2) same);
+  ended = omega (arith, ap (λ (d : ℕ × ℕ × ℕ × ℕ × GuardList). d.3) same);
+  guards = subst (λ (d : ℕ × ℕ × ℕ × ℕ × GuardList). AsksFew tasks old.4 d.4) (sym same) (asks_none tasks old.4);
 }
 
 draws-try_steal : (room : RoomState) (cpu : ℕ) (task : Option Task) → DrawsOne (length room.tasks) (draws room) (draws (try_steal room cpu task).room)
 draws-try_steal room cpu None = draws_none _ _ _ refl
-draws-try_steal room cpu (Some task) = record { stamp = omega arith; cookie = omega arith; pid = omega arith; ended = omega arith }
+draws-try_steal room cpu (Some task) = record { stamp = omega arith; cookie = omega arith; pid = omega arith; ended = omega arith; guards = asks_none (length room.tasks) room.guards }
 
 draws-turn : (room : RoomState) (fresh : Bool) (cpu : ℕ) → DrawsOne (length room.tasks) (draws room) (draws (turn room fresh cpu).room)
 draws-turn room fresh cpu =
@@ -279,7 +285,7 @@ draws-wake : (room : RoomState) (task : Option Task) → DrawsOne (length room.t
 draws-wake room None = draws_none _ _ _ refl
 draws-wake room (Some task) =
     cond_both task.queued _ _ (λ (made : Stepped). DrawsOne (length room.tasks) (draws room) (draws made.room)) (λ _. draws_none _ _ _ refl)
-    (λ _. record { stamp = omega arith; cookie = omega arith; pid = omega arith; ended = omega arith })
+    (λ _. record { stamp = omega arith; cookie = omega arith; pid = omega arith; ended = omega arith; guards = asks_none (length room.tasks) room.guards })
 
 draws-exit : (room : RoomState) (cpu : ℕ) (task : Option Task) → DrawsOne (length room.tasks) (draws room) (draws (exit room cpu task).room)
 draws-exit room cpu None = draws_none _ _ _ refl
@@ -290,13 +296,14 @@ draws-exit room cpu (Some task) =
       cookie = omega arith;
       pid = omega arith;
       ended = omega (arith, length-append room.ended (task.spec.pid ∷ []));
+      guards = asks_none (length room.tasks) room.guards;
     }))
 
 draws-fork : (room : RoomState) (thread : Bool) (caller : Option Task) → DrawsOne (length room.tasks) (draws room) (draws (fork room thread caller).room)
 draws-fork room thread None = draws_none _ _ _ refl
 draws-fork room thread (Some caller) =
     cond_both (may_not_fork room caller) _ _ (λ (made : Stepped). DrawsOne (length room.tasks) (draws room) (draws made.room)) (λ _. draws_none _ _ _ refl)
-    (λ _. record { stamp = omega arith; cookie = omega arith; pid = omega arith; ended = omega arith })
+    (λ _. record { stamp = omega arith; cookie = omega arith; pid = omega arith; ended = omega arith; guards = asks_none (length room.tasks) room.guards })
 
 -- a rotation draws a stamp
 draws-tick : (room : RoomState) (cpu : ℕ) (task : Option Task) → DrawsOne (length room.tasks) (draws room) (draws (tick room cpu task).room)
@@ -307,19 +314,22 @@ draws-tick room cpu (Some task) =
       cookie = omega arith;
       pid = omega arith;
       ended = omega arith;
+      guards = asks_none (length room.tasks) room.guards;
     }
 
 draws-advanced : (room : RoomState) (delta : ℕ) → draws (advanced room delta) ≡ draws room
 unfolding advanced
 draws-advanced room delta = refl
 
-draws-with_made : (room : RoomState) (makes : Bool) → DrawsOne (length room.tasks) (draws room) (draws (with_made room makes))
-draws-with_made room makes =
+draws-with_used : (room : RoomState) (makes : Bool) (asked : List ℕ) → AsksFew (length room.tasks) room.guards (asked_each room.guards asked) →
+    DrawsOne (length room.tasks) (draws room) (draws (with_used room makes asked))
+draws-with_used room makes asked few =
     record {
       stamp = omega arith;
       cookie = cond_both makes (room.next_cookie + 1) room.next_cookie (λ n. n ≤ room.next_cookie + 1) (λ _. omega arith) (λ _. omega arith);
       pid = omega arith;
       ended = omega arith;
+      guards = few;
     }
 
 draws-with_answer : (room : RoomState) (set : Setting) (answer : Reply) → draws (with_answer room set answer) ≡ draws room
@@ -328,8 +338,8 @@ draws-with_answer room set answer = refl
 
 draws-prctl_room : (room : RoomState) (pid : ℕ) (ask : Ask) → DrawsOne (length room.tasks) (draws room) (draws (prctl_room room pid ask))
 draws-prctl_room room pid ask =
-    subst (DrawsOne (length room.tasks) (draws room)) (sym (draws-with_answer (with_made room (makes_cookie room pid ask)) (setting_of room pid ask) (prctl_answer room pid ask)))
-    (draws-with_made room (makes_cookie room pid ask))
+    subst (DrawsOne (length room.tasks) (draws room)) (sym (draws-with_answer (with_used room (makes_cookie room pid ask) (asked_by_call room pid ask)) (setting_of room pid ask) (prctl_answer room pid ask)))
+    (draws-with_used room (makes_cookie room pid ask) (asked_by_call room pid ask) (asks-call room pid ask))
 
 draws-unless_offline : (room : RoomState) (cpu : ℕ) (stepped : Stepped) → DrawsOne (length room.tasks) (draws room) (draws stepped.room) →
     DrawsOne (length room.tasks) (draws room) (draws (unless_offline room cpu stepped).room)
@@ -340,7 +350,7 @@ draws-set_policy : (room : RoomState) (policy : Policy) (task : Option Task) →
 draws-set_policy room policy None = draws_none _ _ _ refl
 draws-set_policy room policy (Some task) =
     cond_both task.queued _ _ (λ (made : RoomState). DrawsOne (length room.tasks) (draws room) (draws made))
-    (λ _. record { stamp = omega arith; cookie = omega arith; pid = omega arith; ended = omega arith }) (λ _. draws_none _ _ _ refl)
+    (λ _. record { stamp = omega arith; cookie = omega arith; pid = omega arith; ended = omega arith; guards = asks_none (length room.tasks) room.guards }) (λ _. draws_none _ _ _ refl)
 
 -- a sibling that leaves draws a stamp for each task that moves
 draws-take_offline : (room : RoomState) (cpu : ℕ) → DrawsOne (length room.tasks) (draws room) (draws (take_offline room cpu).room)
@@ -348,7 +358,7 @@ unfolding leave
 draws-take_offline room cpu =
     cond_both (not (is_online room cpu)) _ _ (λ (made : Stepped). DrawsOne (length room.tasks) (draws room) (draws made.room)) (λ _. draws_none _ _ _ refl)
     (λ _. cond_both (length (online room) == 1) _ _ (λ (made : Stepped). DrawsOne (length room.tasks) (draws room) (draws made.room)) (λ _. draws_none _ _ _ refl)
-    (λ _. record { stamp = omega (arith, queued_on-le room cpu); cookie = omega arith; pid = omega arith; ended = omega arith }))
+    (λ _. record { stamp = omega (arith, queued_on-le room cpu); cookie = omega arith; pid = omega arith; ended = omega arith; guards = asks_none (length room.tasks) room.guards }))
 
 draws-bring_online : (room : RoomState) (cpu : ℕ) → DrawsOne (length room.tasks) (draws room) (draws (bring_online room cpu).room)
 draws-bring_online room cpu =
@@ -369,6 +379,10 @@ draws-step room fresh (Prctl caller ask) = draws-prctl_room room caller ask
 draws-step room fresh (SetSched pid policy) = draws-set_policy room policy (task_of room pid)
 draws-step room fresh (Offline cpu) = draws-take_offline room cpu
 draws-step room fresh (Online cpu) = draws-bring_online room cpu
+draws-step room fresh (Load index) =
+    record { stamp = omega arith; cookie = omega arith; pid = omega arith; ended = omega arith; guards = asks-load (length room.tasks) room.guards index }
+draws-step room fresh (Unload index) =
+    record { stamp = omega arith; cookie = omega arith; pid = omega arith; ended = omega arith; guards = asks-unload (length room.tasks) room.guards index }
 
 draws_after : (moment : Moment) (entries : List Entry) → length moment.room.tasks ≤ moment.room.task_limit → moment.room.task_limit ≤ 256 →
     let room = (after moment entries).room in
@@ -384,26 +398,59 @@ draws_after moment (entry ∷ entries) few low =
 
 -- After a history with at most 256 tasks at once as many cookies and pids were drawn as it has entries, and as many tasks
 -- ended, at most, and 257 times as many stamps.
-draws-fold_of : (scenario : Scenario) (history : History) → length scenario.tasks ≤ scenario.task_limit → scenario.task_limit ≤ 256 →
-    let room = fold_of scenario history in
+draws-fold_of : (opening : Opening) (history : History) → length opening.scenario.tasks ≤ opening.scenario.task_limit → opening.scenario.task_limit ≤ 256 →
+    let room = fold_of opening history in
     (room.next_stamp ≤ 257 * length history) × (room.next_cookie ≤ 1 + length history)
-    × (room.next_pid ≤ first_pid scenario.tasks + length history) × (length room.ended ≤ length history)
-draws-fold_of scenario history few low =
-    let made = draws_after (beginning scenario) history (omega (arith, few, length-asleep_tasks scenario.tasks)) low in
+    × (room.next_pid ≤ first_pid opening.scenario.tasks + length history) × (length room.ended ≤ length history)
+draws-fold_of opening history few low =
+    let made = draws_after (beginning opening) history (omega (arith, few, length-asleep_tasks opening.scenario.tasks)) low in
     (omega (arith, made.0), omega (arith, made.1), omega (arith, made.2), omega (arith, made.3))
 
-pub next_stamp-fold_of : (scenario : Scenario) (history : History) → length scenario.tasks ≤ scenario.task_limit → scenario.task_limit ≤ 256 →
-    (fold_of scenario history).next_stamp ≤ 257 * length history
-next_stamp-fold_of scenario history few low = (draws-fold_of scenario history few low).0
+pub next_stamp-fold_of : (opening : Opening) (history : History) → length opening.scenario.tasks ≤ opening.scenario.task_limit → opening.scenario.task_limit ≤ 256 →
+    (fold_of opening history).next_stamp ≤ 257 * length history
+next_stamp-fold_of opening history few low = (draws-fold_of opening history few low).0
 
-pub next_cookie-fold_of : (scenario : Scenario) (history : History) → length scenario.tasks ≤ scenario.task_limit → scenario.task_limit ≤ 256 →
-    (fold_of scenario history).next_cookie ≤ length history + 1
-next_cookie-fold_of scenario history few low = omega (arith, (draws-fold_of scenario history few low).1)
+pub next_cookie-fold_of : (opening : Opening) (history : History) → length opening.scenario.tasks ≤ opening.scenario.task_limit → opening.scenario.task_limit ≤ 256 →
+    (fold_of opening history).next_cookie ≤ length history + 1
+next_cookie-fold_of opening history few low = omega (arith, (draws-fold_of opening history few low).1)
 
-pub next_pid-fold_of : (scenario : Scenario) (history : History) → length scenario.tasks ≤ scenario.task_limit → scenario.task_limit ≤ 256 →
-    (fold_of scenario history).next_pid ≤ first_pid scenario.tasks + length history
-next_pid-fold_of scenario history few low = (draws-fold_of scenario history few low).2
+pub next_pid-fold_of : (opening : Opening) (history : History) → length opening.scenario.tasks ≤ opening.scenario.task_limit → opening.scenario.task_limit ≤ 256 →
+    (fold_of opening history).next_pid ≤ first_pid opening.scenario.tasks + length history
+next_pid-fold_of opening history few low = (draws-fold_of opening history few low).2
 
-pub ended-fold_of : (scenario : Scenario) (history : History) → length scenario.tasks ≤ scenario.task_limit → scenario.task_limit ≤ 256 →
-    length (fold_of scenario history).ended ≤ length history
-ended-fold_of scenario history few low = (draws-fold_of scenario history few low).3
+pub ended-fold_of : (opening : Opening) (history : History) → length opening.scenario.tasks ≤ opening.scenario.task_limit → opening.scenario.task_limit ≤ 256 →
+    length (fold_of opening history).ended ≤ length history
+ended-fold_of opening history few low = (draws-fold_of opening history few low).3
+
+-- ---- how often the guards were asked
+
+-- As many guards are active after entries as are more, and each was asked at most so often: 257 times 2^17 each, where the entries
+-- are at most 2^17.
+asked_after : (done : ℕ) (moment : Moment) (entries : List Entry) → done + length entries ≤ 131072 →
+    length moment.room.tasks ≤ moment.room.task_limit → moment.room.task_limit ≤ 256 → length moment.room.guards.active ≤ done →
+    AllByRecursion (AskedAtMost (done * 33685504)) moment.room.guards.all →
+    AllByRecursion (AskedAtMost ((done + length entries) * 33685504)) (after moment entries).room.guards.all
+asked_after done moment [] most few low active asked =
+    each_weaker (AskedAtMost (done * 33685504)) (AskedAtMost ((done + 0) * 33685504)) moment.room.guards.all (λ guard is. omega (arith, is)) asked
+asked_after done moment (entry ∷ entries) most few low active asked =
+    let fresh = is_fresh moment.ledger in
+    let limit = few-step moment.room fresh entry.event in
+    let one = (draws-step moment.room fresh entry.event).guards in
+    let now = (next moment entry).room.guards in
+    let rises : (length moment.room.tasks + 1) * length moment.room.guards.active ≤ 33685504 =
+    omega (arith, mul-le (length moment.room.tasks + 1) (length moment.room.guards.active) 257 131072 (omega (arith, few, low)) (omega (arith, active, most))) in
+    each_weaker (AskedAtMost ((done + 1 + length entries) * 33685504)) (AskedAtMost ((done + length (entry ∷ entries)) * 33685504)) _ (λ guard is. omega (arith, is))
+    (asked_after (done + 1) (next moment entry) entries (omega (arith, most))
+    (subst (λ n. length (next moment entry).room.tasks ≤ n) (sym limit.limit) (limit.few few)) (omega (arith, low, limit.limit)) (omega (arith, one.active, active))
+    (each_weaker (AskedAtMost (done * 33685504 + (length moment.room.tasks + 1) * length moment.room.guards.active)) (AskedAtMost ((done + 1) * 33685504)) now.all
+    (λ guard is. omega (arith, is, rises)) (one.asked (done * 33685504) asked)))
+
+-- So in a history of at most 2^17 entries with at most 256 tasks at once each guard was asked fewer than 2^43 times.
+pub asked-fold_of : (opening : Opening) (history : History) → length opening.scenario.tasks ≤ opening.scenario.task_limit → opening.scenario.task_limit ≤ 256 →
+    length history ≤ 131072 → All (λ (guard : GuardState). guard.asked < 2 ^ 43) (fold_of opening history).guards.all
+asked-fold_of opening history few low short =
+    All-from_recursion (λ (guard : GuardState). guard.asked < 2 ^ 43) (fold_of opening history).guards.all
+    (each_weaker (AskedAtMost ((0 + length history) * 33685504)) (λ (guard : GuardState). guard.asked < 2 ^ 43) (fold_of opening history).guards.all
+    (λ guard is. omega (arith, is, short))
+    (asked_after 0 (beginning opening) history (omega (arith, short)) (omega (arith, few, length-asleep_tasks opening.scenario.tasks)) low (omega arith)
+    (never_asked opening.scenario.teaches (range_with_len 0 opening.guards))))

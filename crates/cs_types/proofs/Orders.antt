@@ -6,12 +6,12 @@ use Rattle.std.proofs.lemmas.Bool.{cond_both, cond-false, and_parts, and_right, 
 use Rattle.cs_types.specs.declared.task.Task.{Task}
 use Rattle.cs_types.specs.declared.task.Policy.{Policy}
 use Rattle.cs_types.specs.declared.event.Event.{Event}
-use Rattle.cs_types.specs.declared.event.Event.TheVariants.{Turn, Block, Exit, Tick, Wake, Fork, SetSched, Offline, Online}
-use Rattle.cs_types.specs.declared.reply.Reply.TheVariants.{Picked, Set, Done}
+use Rattle.cs_types.specs.declared.event.Event.TheVariants.{Turn, Block, Exit, Tick, Wake, Fork, SetSched, Offline, Online, Load, Unload}
+use Rattle.cs_types.specs.declared.reply.Reply.TheVariants.{Loaded, NoGuard, Dropped, Picked, Set, Done}
 use Rattle.cs_types.specs.Room.{RoomState, Waiting, absent, has_pid, sibling_of, running_on, is_online, online, task_of, with_task, flag}
 use Rattle.cs_types.specs.Selection.{schedule, is_run}
 use Rattle.cs_types.specs.Queueing.{dequeue, enqueue, refreshed, moved, rehomed, preempts, queue_at_home}
-use Rattle.cs_types.specs.Step.{Stepped, picked, wake, block, exit, fork, turn, without, has_threads, child_of, child_at_home, may_not_fork, with_child, tick, run_idle, try_steal, with_policy, set_policy, with_policy_set, take_offline, bring_online}
+use Rattle.cs_types.specs.Step.{load_answer, unload_answer, Stepped, picked, wake, block, exit, fork, turn, without, has_threads, child_of, child_at_home, may_not_fork, with_child, tick, run_idle, try_steal, with_policy, set_policy, with_policy_set, take_offline, bring_online}
 use Rattle.cs_types.specs.Steal.{source_of, may_steal, stolen, set_place, next_place}
 use Rattle.cs_types.specs.Hotplug.{back, lowest_other, leave}
 use Rattle.cs_types.specs.Accounting.{charge}
@@ -27,6 +27,7 @@ use Rattle.cs_types.proofs.Homes.{IsHoused, IsQueuedOn, stolen_is, running_is_fo
 use Rattle.cs_types.proofs.Fits.{IsAt, cookie_at, Fits, SiblingFits, AllFit, Has, fits_where, fits_moved, fits_running, fits_away, fits_absent, all_same, all_later, all_flagged, all_placed}
 use Rattle.cs_types.proofs.Freshness.{fresh_after, fresh_before, picked_fresh, slept_fresh, ended_fresh}
 use Rattle.cs_types.proofs.Schedules.{OthersFit, schedule_fits, again_fits}
+use Rattle.cs_types.specs.Guards.{guard_of, is_bench, is_active, load, unload}
 
 -- ---- steps
 
@@ -279,3 +280,16 @@ bring_online-fits room fresh cpu fits =
     cond_both (is_online room cpu) _ _ (StepFits room fresh (Online cpu)) (λ _. fits)
     (λ _. with_sibling_either (SiblingFits (spot_at room) room.core_cookie fresh) room cpu (back (sibling_of room cpu))
     (fits_running (spot_at room) room.core_cookie fresh cpu true None true 0 refl tt tt) fits)
+
+-- what a guard becomes changes nothing of a sibling
+pub load-fits : (room : RoomState) (fresh : Bool) (index : ℕ) → AllFit room fresh →
+    StepFits room fresh (Load index) (record { reply = load_answer room.guards index; room = record room { guards = load room.guards index } })
+load-fits room fresh index fits =
+    cond_both (is_bench (guard_of room.guards index).place) Loaded NoGuard
+    (λ answer. StepFits room fresh (Load index) (record { reply = answer; room = record room { guards = load room.guards index } })) (λ _. fits) (λ _. fits)
+
+pub unload-fits : (room : RoomState) (fresh : Bool) (index : ℕ) → AllFit room fresh →
+    StepFits room fresh (Unload index) (record { reply = unload_answer room.guards index; room = record room { guards = unload room.guards index } })
+unload-fits room fresh index fits =
+    cond_both (is_active (guard_of room.guards index).place) Dropped NoGuard
+    (λ answer. StepFits room fresh (Unload index) (record { reply = answer; room = record room { guards = unload room.guards index } })) (λ _. fits) (λ _. fits)

@@ -10,15 +10,14 @@ use Rattle.cs_types.specs.declared.task.TaskSpec.{TaskSpec}
 use Rattle.cs_types.specs.declared.task.Policy.{Policy}
 use Rattle.cs_types.specs.declared.task.Policy.TheVariants.{Stop, Deadline, Fifo, Rr, Fair}
 use Rattle.cs_types.specs.declared.event.Event.{Event}
-use Rattle.cs_types.specs.declared.event.Event.TheVariants.{Turn, Resched, Block, Exit, Tick, Wake, Advance, Fork, Prctl, SetSched, Offline, Online}
+use Rattle.cs_types.specs.declared.event.Event.TheVariants.{Turn, Resched, Block, Exit, Tick, Wake, Advance, Fork, Prctl, SetSched, Offline, Online, Load, Unload}
 use Rattle.cs_types.specs.declared.reply.Reply.{Reply}
 use Rattle.cs_types.specs.declared.reply.Reply.TheVariants.{Zero}
 use Rattle.cs_types.specs.declared.reply.Entry.{Entry}
-use Rattle.cs_types.specs.declared.scenario.Scenario.{Scenario}
 use Rattle.cs_types.specs.Scenario.{AreDistinct}
-use Rattle.cs_types.specs.Room.{RoomState, has_pid, sibling_of, running_on, is_online, online, task_of, asleep, inserted, first_pid, with_task}
+use Rattle.cs_types.specs.Room.{Opening, RoomState, has_pid, sibling_of, running_on, is_online, online, task_of, asleep, inserted, first_pid, with_task}
 use Rattle.cs_types.specs.Selection.{task_after_selection, select_for, select, pick_plain, is_plain, pick_anew, adopt_or_pick_anew, schedule}
-use Rattle.cs_types.specs.Prctl.{Setting, setting_of, is_set, makes_cookie, with_made, with_answer, prctl_answer}
+use Rattle.cs_types.specs.Prctl.{asked_by_call, Setting, setting_of, is_set, makes_cookie, with_used, with_answer, prctl_answer}
 use Rattle.cs_types.specs.Step.{Stepped, step, wake, block, exit, fork, turn, without, has_threads, child_of, child_at_home, may_not_fork, with_child, tick, run_idle, try_steal, unless_offline, with_policy, set_policy, take_offline, bring_online}
 use Rattle.cs_types.specs.Queueing.{refreshed, dequeue, moved_to, rehomed, queue_at_home}
 use Rattle.cs_types.specs.Steal.{stolen}
@@ -296,11 +295,13 @@ rising-step room fresh (Tick cpu) rises = rising-unless_offline room cpu _ rises
 rising-step room fresh (SetSched pid policy) rises = rising-set_policy room policy (task_of room pid) rises
 rising-step room fresh (Offline cpu) rises = rising-take_offline room cpu rises
 rising-step room fresh (Online cpu) rises = rising-bring_online room cpu rises
+rising-step room fresh (Load index) rises = rises
+rising-step room fresh (Unload index) rises = rises
 rising-step room fresh (Wake pid) rises = rising-wake room (task_of room pid) rises
 rising-step room fresh (Advance delta) rises = rising-advanced room delta rises
 rising-step room fresh (Fork caller thread) rises = rising-fork room thread (task_of room caller) rises
 rising-step room fresh (Prctl caller ask) rises =
-    rising-with_answer (with_made room (makes_cookie room caller ask)) (setting_of room caller ask) (prctl_answer room caller ask) rises
+    rising-with_answer (with_used room (makes_cookie room caller ask) (asked_by_call room caller ask)) (setting_of room caller ask) (prctl_answer room caller ask) rises
 
 rising-after : (moment : Moment) (entries : List Entry) → AreRising moment.room → AreRising (after moment entries).room
 rising-after moment [] rises = rises
@@ -308,9 +309,9 @@ rising-after moment (entry ∷ entries) rises =
     rising-after (next moment entry) entries (rising-step moment.room (is_fresh moment.ledger) entry.event rises)
 
 -- So it is after every history, where the lines of the tasks have pids above 0 and no two the same.
-pub rising-fold_of : (scenario : Scenario) (history : History) → All (λ spec. 0 < spec.pid) scenario.tasks → AreDistinct scenario.tasks →
-    AreRising (fold_of scenario history)
-rising-fold_of scenario history above distinct =
-    rising-after (beginning scenario) history
-    (rises-added (first_pid scenario.tasks) [] scenario.tasks (omega arith) (recursion_from_All (λ spec. 0 < spec.pid) scenario.tasks above)
-    (below_first_pid scenario.tasks) (no_others scenario.tasks) distinct)
+pub rising-fold_of : (opening : Opening) (history : History) → All (λ spec. 0 < spec.pid) opening.scenario.tasks → AreDistinct opening.scenario.tasks →
+    AreRising (fold_of opening history)
+rising-fold_of opening history above distinct =
+    rising-after (beginning opening) history
+    (rises-added (first_pid opening.scenario.tasks) [] opening.scenario.tasks (omega arith) (recursion_from_All (λ spec. 0 < spec.pid) opening.scenario.tasks above)
+    (below_first_pid opening.scenario.tasks) (no_others opening.scenario.tasks) distinct)

@@ -13,14 +13,13 @@ use Rattle.std.proofs.lemmas.Option.{MatchOption-from_none}
 use Rattle.cs_types.specs.declared.task.Task.{Task}
 use Rattle.cs_types.specs.declared.task.Policy.{Policy}
 use Rattle.cs_types.specs.declared.event.Event.{Event}
-use Rattle.cs_types.specs.declared.event.Event.TheVariants.{Turn, Resched, Block, Exit, Tick, Wake, Advance, Fork, Prctl, SetSched, Offline, Online}
+use Rattle.cs_types.specs.declared.event.Event.TheVariants.{Turn, Resched, Block, Exit, Tick, Wake, Advance, Fork, Prctl, SetSched, Offline, Online, Load, Unload}
 use Rattle.cs_types.specs.declared.event.Ask.{Ask}
 use Rattle.cs_types.specs.declared.reply.Pick.{Pick}
-use Rattle.cs_types.specs.declared.reply.Reply.TheVariants.{Picked}
+use Rattle.cs_types.specs.declared.reply.Reply.TheVariants.{Loaded, NoGuard, Dropped, Picked}
 use Rattle.cs_types.specs.declared.reply.Entry.{Entry}
-use Rattle.cs_types.specs.declared.scenario.Scenario.{Scenario}
 use Rattle.cs_types.specs.Scenario.{IsEvent}
-use Rattle.cs_types.specs.Room.{RoomState, SiblingState, idle, queued_on, sibling_of, is_online, online, online_from, running_on, task_of, to_run, with_sibling, absent}
+use Rattle.cs_types.specs.Room.{Opening, RoomState, SiblingState, idle, queued_on, sibling_of, is_online, online, online_from, running_on, task_of, to_run, with_sibling, absent}
 use Rattle.cs_types.specs.Order.{foremost, is_higher_here, outranks, goes_before, first_of}
 use Rattle.cs_types.specs.Selection.{first_on, cookie_of, pid_of, snapshot_of, lead_from, choice, eligible, is_forced, forced_count, is_run, occupation_of, select_for, select, Scheduled, is_plain, pick_plain, pick_anew, adopt_or_pick_anew, schedule, sibling_after_selection}
 use Rattle.cs_types.specs.Accounting.{charge}
@@ -36,6 +35,7 @@ use Rattle.cs_types.proofs.First.{goes_before_is_order, outranks_is_order, highe
 use Rattle.cs_types.proofs.Filtered.{each_of_map, each_found, foremost_least, foremost-filter, Contains-filter, Contains-filter_parts, Contains-range, Contains-range_within}
 use Rattle.cs_types.proofs.Histories.{moment_of-push}
 use Rattle.cs_types.proofs.Siblings.{kept-run_idle, kept-without, length-alike, is_online-alike, length-fold_of}
+use Rattle.cs_types.specs.Guards.{guard_of, is_bench, is_active, load, unload}
 
 -- ---- the first of a list of tasks
 
@@ -572,20 +572,26 @@ step_keeps_law room fresh (Fork caller thread) limits = forked_keeps_law room ca
 step_keeps_law room fresh (SetSched pid policy) limits = set_policy_keeps_law room pid policy (task_of room pid)
 step_keeps_law room fresh (Offline cpu) limits = taken_offline_keeps_law room cpu
 step_keeps_law room fresh (Online cpu) limits = brought_online_keeps_law room cpu
+step_keeps_law room fresh (Load index) limits =
+    cond_both (is_bench (guard_of room.guards index).place) Loaded NoGuard
+    (λ answer. StepKeepsLaw room (Load index) (record { reply = answer; room = record room { guards = load room.guards index } })) (λ _. tt) (λ _. tt)
+step_keeps_law room fresh (Unload index) limits =
+    cond_both (is_active (guard_of room.guards index).place) Dropped NoGuard
+    (λ answer. StepKeepsLaw room (Unload index) (record { reply = answer; room = record room { guards = unload room.guards index } })) (λ _. tt) (λ _. tt)
 step_keeps_law room fresh (Prctl caller ask) limits =
     MatchOption-from_none (selection_of (prctl_answer room caller ask)) _ (prctl_selects_nothing room caller ask)
 
 -- Every selection for the core that a legal step makes keeps the law.
-pub selects : (scenario : Scenario) (history : History) (entry : Entry) → IsEvent scenario.siblings entry.event →
-    entry.reply ≡ reply_to scenario history entry.event →
+pub selects : (opening : Opening) (history : History) (entry : Entry) → IsEvent opening.scenario.siblings entry.event →
+    entry.reply ≡ reply_to opening history entry.event →
     IfSome (selection_of entry.reply)
-    (λ pick. SelectsForTheCore (scheduling_room (fold_of scenario history) entry.event) (cpu_of entry.event) pick (fold_of scenario (history ++ entry ∷ [])))
-selects scenario history entry limits legal =
-    let room = fold_of scenario history in
-    let made = step_at (moment_of scenario history) entry.event in
-    let siblings = length-fold_of scenario history in
-    let kept = step_keeps_law room (is_fresh (ledger_of scenario history)) entry.event
+    (λ pick. SelectsForTheCore (scheduling_room (fold_of opening history) entry.event) (cpu_of entry.event) pick (fold_of opening (history ++ entry ∷ [])))
+selects opening history entry limits legal =
+    let room = fold_of opening history in
+    let made = step_at (moment_of opening history) entry.event in
+    let siblings = length-fold_of opening history in
+    let kept = step_keeps_law room (is_fresh (ledger_of opening history)) entry.event
     (subst (λ n. IsEvent n entry.event) (sym siblings) limits) in
-    let same : made ≡ record { reply = entry.reply; room = fold_of scenario (history ++ entry ∷ []) } =
-    sym (λ i. record { reply = legal i; room = (moment_of-push scenario history entry i).room }) in
+    let same : made ≡ record { reply = entry.reply; room = fold_of opening (history ++ entry ∷ []) } =
+    sym (λ i. record { reply = legal i; room = (moment_of-push opening history entry i).room }) in
     subst (StepKeepsLaw room entry.event) same kept

@@ -6,9 +6,8 @@ use Rattle.std.proofs.lemmas.Bool.{cases_Bool, cond_both, cond-true, cond-false,
 use Rattle.std.proofs.lemmas.Bool.Decides.{nat_tests}
 use Rattle.cs_types.specs.declared.task.Task.{Task}
 use Rattle.cs_types.specs.declared.view.TaskView.{TaskView}
-use Rattle.cs_types.specs.declared.scenario.Scenario.{Scenario}
 use Rattle.cs_types.specs.Scenario.{IsPlayable}
-use Rattle.cs_types.specs.Room.{has_pid, sibling_of, task_of}
+use Rattle.cs_types.specs.Room.{Opening, has_pid, sibling_of, task_of}
 use Rattle.cs_types.specs.History.{History, Moment, AreEvents, IsLegal, moment_of}
 use Rattle.cs_types.specs.View.{core_view, cpu_view, task_view, task_view_after, IsTrusted}
 use Rattle.cs_types.proofs.Foremost.{find_passes}
@@ -73,7 +72,7 @@ trusted_at moment cpu holds = cond_both (ltb cpu (length moment.room.siblings)) 
     (λ _. tt)
 
 -- After every legal history what is shown of a sibling keeps the trust rule.
-pub trusted-cpu_view : (scenario : Scenario) (history : History) → IsPlayable scenario → AreEvents scenario history → IsLegal scenario history → (cpu : ℕ) →
-    let moment = moment_of scenario history in IfSome (cpu_view moment cpu) (IsTrusted (core_view moment) (task_view_after moment))
-trusted-cpu_view scenario history playable events legal cpu =
-    trusted_at (moment_of scenario history) cpu (holds-moment_of scenario history playable events legal)
+pub trusted-cpu_view : (opening : Opening) (history : History) → IsPlayable opening.scenario → AreEvents opening history → IsLegal opening history → (cpu : ℕ) →
+    let moment = moment_of opening history in IfSome (cpu_view moment cpu) (IsTrusted (core_view moment) (task_view_after moment))
+trusted-cpu_view opening history playable events legal cpu =
+    trusted_at (moment_of opening history) cpu (holds-moment_of opening history playable events legal)

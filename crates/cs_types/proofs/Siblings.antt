@@ -9,16 +9,15 @@ use Rattle.std.proofs.lemmas.List.FromFn.{length-enumerate_from}
 use Rattle.cs_types.specs.declared.task.Task.{Task}
 use Rattle.cs_types.specs.declared.task.Policy.{Policy}
 use Rattle.cs_types.specs.declared.event.Event.{Event}
-use Rattle.cs_types.specs.declared.event.Event.TheVariants.{Turn, Resched, Block, Exit, Tick, Wake, Advance, Fork, Prctl, SetSched, Offline, Online}
+use Rattle.cs_types.specs.declared.event.Event.TheVariants.{Turn, Resched, Block, Exit, Tick, Wake, Advance, Fork, Prctl, SetSched, Offline, Online, Load, Unload}
 use Rattle.cs_types.specs.declared.event.Ask.{Ask}
 use Rattle.cs_types.specs.declared.reply.Reply.{Reply}
 use Rattle.cs_types.specs.declared.reply.Reply.TheVariants.{Zero}
 use Rattle.cs_types.specs.declared.reply.Entry.{Entry}
-use Rattle.cs_types.specs.declared.scenario.Scenario.{Scenario}
-use Rattle.cs_types.specs.Room.{RoomState, SiblingState, idle, sibling_of, running_on, is_online, online, task_of, with_sibling, flag, absent}
+use Rattle.cs_types.specs.Room.{Opening, RoomState, SiblingState, idle, sibling_of, running_on, is_online, online, task_of, with_sibling, flag, absent}
 use Rattle.cs_types.specs.Selection.{select_for, select, pick_plain, is_plain, pick_anew, adopt_or_pick_anew, schedule}
 use Rattle.cs_types.specs.Accounting.{charge}
-use Rattle.cs_types.specs.Prctl.{Setting, setting_of, runs_one, makes_cookie, with_made, with_answer, prctl_answer, prctl_room}
+use Rattle.cs_types.specs.Prctl.{asked_by_call, Setting, setting_of, runs_one, makes_cookie, with_used, with_answer, prctl_answer, prctl_room}
 use Rattle.cs_types.specs.Step.{Stepped, step, wake, block, exit, fork, may_not_fork, child_at_home, tick, turn, without, has_threads, child_of, with_child, run_idle, try_steal, unless_offline, with_policy, set_policy, take_offline, bring_online}
 use Rattle.cs_types.specs.Queueing.{refreshed, dequeue, enqueue, moved, rehomed, queue_at_home}
 use Rattle.cs_types.specs.Steal.{source_of, stolen, set_place}
@@ -145,7 +144,7 @@ kept-with_answer room set answer = refl
 
 pub kept-prctl_room : (room : RoomState) (pid : ℕ) (ask : Ask) → kept (prctl_room room pid ask) ≡ kept room
 kept-prctl_room room pid ask =
-    kept-with_answer (with_made room (makes_cookie room pid ask)) (setting_of room pid ask) (prctl_answer room pid ask)
+    kept-with_answer (with_used room (makes_cookie room pid ask) (asked_by_call room pid ask)) (setting_of room pid ask) (prctl_answer room pid ask)
 
 pub kept-unless_offline : (room : RoomState) (cpu : ℕ) (stepped : Stepped) → kept stepped.room ≡ kept room → kept (unless_offline room cpu stepped).room ≡ kept room
 kept-unless_offline room cpu stepped same =
@@ -213,6 +212,8 @@ length-step room fresh (Prctl caller ask) = length-alike (step room fresh (Prctl
 length-step room fresh (SetSched pid policy) = length-alike (step room fresh (SetSched pid policy)).room room (kept-set_policy room policy (task_of room pid))
 length-step room fresh (Offline cpu) = length-take_offline room cpu
 length-step room fresh (Online cpu) = length-bring_online room cpu
+length-step room fresh (Load index) = refl
+length-step room fresh (Unload index) = refl
 
 -- ---- after a history
 
@@ -222,5 +223,5 @@ length-after moment (entry ∷ entries) =
     length-after (next moment entry) entries ∙ length-step moment.room (is_fresh moment.ledger) entry.event
 
 -- a room has the siblings of its scenario
-pub length-fold_of : (scenario : Scenario) (history : History) → length (fold_of scenario history).siblings ≡ scenario.siblings
-length-fold_of scenario history = length-after (beginning scenario) history ∙ length-replicate scenario.siblings idle
+pub length-fold_of : (opening : Opening) (history : History) → length (fold_of opening history).siblings ≡ opening.scenario.siblings
+length-fold_of opening history = length-after (beginning opening) history ∙ length-replicate opening.scenario.siblings idle

@@ -11,15 +11,14 @@ use Rattle.cs_types.specs.declared.task.Task.{Task}
 use Rattle.cs_types.specs.declared.task.TaskSpec.{TaskSpec}
 use Rattle.cs_types.specs.declared.task.Policy.{Policy}
 use Rattle.cs_types.specs.declared.event.Event.{Event}
-use Rattle.cs_types.specs.declared.event.Event.TheVariants.{Turn, Resched, Block, Exit, Tick, Wake, Advance, Fork, Prctl, SetSched, Offline, Online}
+use Rattle.cs_types.specs.declared.event.Event.TheVariants.{Turn, Resched, Block, Exit, Tick, Wake, Advance, Fork, Prctl, SetSched, Offline, Online, Load, Unload}
 use Rattle.cs_types.specs.declared.reply.Reply.{Reply}
 use Rattle.cs_types.specs.declared.reply.Reply.TheVariants.{Zero, Child, Refused}
 use Rattle.cs_types.specs.declared.reply.Errno.TheVariants.{Eagain}
 use Rattle.cs_types.specs.declared.reply.Entry.{Entry}
-use Rattle.cs_types.specs.declared.scenario.Scenario.{Scenario}
-use Rattle.cs_types.specs.Room.{RoomState, first_pid, has_pid, sibling_of, running_on, is_online, online, task_of, with_task, asleep, inserted, asleep_tasks}
+use Rattle.cs_types.specs.Room.{Opening, RoomState, first_pid, has_pid, sibling_of, running_on, is_online, online, task_of, with_task, asleep, inserted, asleep_tasks}
 use Rattle.cs_types.specs.Selection.{task_after_selection, select_for, select, pick_plain, is_plain, pick_anew, adopt_or_pick_anew, schedule}
-use Rattle.cs_types.specs.Prctl.{Setting, setting_of, makes_cookie, with_made, with_answer, prctl_answer, prctl_room}
+use Rattle.cs_types.specs.Prctl.{asked_by_call, Setting, setting_of, makes_cookie, with_used, with_answer, prctl_answer, prctl_room}
 use Rattle.cs_types.specs.Step.{Stepped, step, wake, block, exit, fork, turn, without, has_threads, child_of, child_at_home, may_not_fork, with_child, tick, run_idle, try_steal, unless_offline, with_policy, set_policy, take_offline, bring_online}
 use Rattle.cs_types.specs.Queueing.{dequeue, queue_at_home, rehomed}
 use Rattle.cs_types.specs.Steal.{stolen}
@@ -181,13 +180,15 @@ few-step room fresh (Tick cpu) = few-unless_offline room cpu _ (few-tick room cp
 few-step room fresh (SetSched pid policy) = few-set_policy room policy (task_of room pid)
 few-step room fresh (Offline cpu) = few-take_offline room cpu
 few-step room fresh (Online cpu) = few-bring_online room cpu
+few-step room fresh (Load index) = as_many room _ refl refl
+few-step room fresh (Unload index) = as_many room _ refl refl
 few-step room fresh (Wake pid) = few-wake room (task_of room pid)
 few-step room fresh (Advance delta) = few-advanced room delta
 few-step room fresh (Fork caller thread) = few-fork room thread (task_of room caller)
 few-step room fresh (Prctl caller ask) =
-    few-trans room (with_made room (makes_cookie room caller ask)) (prctl_room room caller ask)
-    (as_many room (with_made room (makes_cookie room caller ask)) refl refl)
-    (few-with_answer (with_made room (makes_cookie room caller ask)) (setting_of room caller ask) (prctl_answer room caller ask))
+    few-trans room (with_used room (makes_cookie room caller ask) (asked_by_call room caller ask)) (prctl_room room caller ask)
+    (as_many room (with_used room (makes_cookie room caller ask) (asked_by_call room caller ask)) refl refl)
+    (few-with_answer (with_used room (makes_cookie room caller ask) (asked_by_call room caller ask)) (setting_of room caller ask) (prctl_answer room caller ask))
 
 few-after : (moment : Moment) (entries : List Entry) → KeepsFew moment.room (after moment entries).room
 few-after moment [] = as_many moment.room moment.room refl refl
@@ -196,12 +197,12 @@ few-after moment (entry ∷ entries) =
     (few-step moment.room (is_fresh moment.ledger) entry.event) (few-after (next moment entry) entries)
 
 -- So after a history there are no more tasks than the scenario allows.
-pub few-fold_of : (scenario : Scenario) (history : History) → length scenario.tasks ≤ scenario.task_limit → length (fold_of scenario history).tasks ≤ scenario.task_limit
-few-fold_of scenario history few =
-    (few-after (beginning scenario) history).few (omega (arith, few, length-asleep_tasks scenario.tasks))
+pub few-fold_of : (opening : Opening) (history : History) → length opening.scenario.tasks ≤ opening.scenario.task_limit → length (fold_of opening history).tasks ≤ opening.scenario.task_limit
+few-fold_of opening history few =
+    (few-after (beginning opening) history).few (omega (arith, few, length-asleep_tasks opening.scenario.tasks))
 
-pub task_limit-fold_of : (scenario : Scenario) (history : History) → (fold_of scenario history).task_limit ≡ scenario.task_limit
-task_limit-fold_of scenario history = (few-after (beginning scenario) history).limit
+pub task_limit-fold_of : (opening : Opening) (history : History) → (fold_of opening history).task_limit ≡ opening.scenario.task_limit
+task_limit-fold_of opening history = (few-after (beginning opening) history).limit
 
 -- ---- the first pid
 

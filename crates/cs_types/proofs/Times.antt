@@ -13,20 +13,20 @@ use Rattle.cs_types.specs.declared.task.TaskSpec.{TaskSpec}
 use Rattle.cs_types.specs.declared.task.Policy.{Policy}
 use Rattle.cs_types.specs.declared.task.Policy.TheVariants.{Stop, Deadline, Fifo, Rr, Fair}
 use Rattle.cs_types.specs.declared.event.Event.{Event}
-use Rattle.cs_types.specs.declared.event.Event.TheVariants.{Turn, Resched, Block, Exit, Tick, Wake, Advance, Fork, Prctl, SetSched, Offline, Online}
+use Rattle.cs_types.specs.declared.event.Event.TheVariants.{Turn, Resched, Block, Exit, Tick, Wake, Advance, Fork, Prctl, SetSched, Offline, Online, Load, Unload}
 use Rattle.cs_types.specs.declared.reply.Reply.{Reply}
 use Rattle.cs_types.specs.declared.reply.Reply.TheVariants.{Zero}
 use Rattle.cs_types.specs.declared.reply.Entry.{Entry}
-use Rattle.cs_types.specs.declared.scenario.Scenario.{Scenario}
 use Rattle.cs_types.specs.Scenario.{IsEvent}
-use Rattle.cs_types.specs.Room.{RoomState, SiblingState, idle, absent, asleep, inserted, has_pid, start, online, is_online, lowest_online, queued_on, sibling_of, running_on, task_of, with_sibling, with_task, flag}
+use Rattle.cs_types.specs.Room.{Opening, RoomState, SiblingState, idle, absent, asleep, inserted, has_pid, start, online, is_online, lowest_online, queued_on, sibling_of, running_on, task_of, with_sibling, with_task, flag}
 use Rattle.cs_types.specs.Order.{foremost, is_fair, first_of}
 use Rattle.cs_types.specs.Selection.{sibling_after_selection, task_after_selection, select_for, select, pick_plain, is_plain, pick_anew, adopt_or_pick_anew, schedule}
 use Rattle.cs_types.specs.Time.{weights, weight_of, weight_index, growth, grown_by, is_running, grown, with_growth, fair_times, least_of, with_leasts, advanced, has_used_slice, begin_slice}
 use Rattle.cs_types.proofs.Timely.{IsTimelyTask, IsTimelySibling, IsTimely}
-use Rattle.cs_types.specs.Prctl.{Setting, setting_of, is_set, makes_cookie, with_made, with_answer, prctl_answer}
+use Rattle.cs_types.specs.Prctl.{asked_by_call, Setting, setting_of, is_set, makes_cookie, with_used, with_answer, prctl_answer}
 use Rattle.cs_types.specs.Step.{Stepped, step, wake, turn, try_steal, run_idle, block, without, has_threads, exit, child_of, child_at_home, with_child, may_not_fork, fork, tick, unless_offline, with_policy, set_policy, take_offline, bring_online}
 use Rattle.cs_types.specs.Queueing.{refreshed_by, refreshed, enqueue, queue_at_home, dequeue, moved_to, moved, rehomed}
+use Rattle.cs_types.specs.Guards.{load, unload}
 use Rattle.cs_types.specs.Steal.{source_of, stolen, set_place}
 use Rattle.cs_types.specs.Hotplug.{lowest_other, moved_off, away, leave, with_sibling_back}
 use Rattle.cs_types.specs.Accounting.{charge}
@@ -652,10 +652,12 @@ clock-step room fresh (Wake pid) siblings is = clock_by _ _ (clock-wake room (ta
 clock-step room fresh (Advance delta) siblings is = omega (arith, clock-advanced room delta, is.1)
 clock-step room fresh (Fork caller thread) siblings is = clock_by _ _ (clock-fork room thread (task_of room caller))
 clock-step room fresh (Prctl caller ask) siblings is =
-    clock_by _ _ (clock-with_answer (with_made room (makes_cookie room caller ask)) (setting_of room caller ask) (prctl_answer room caller ask))
+    clock_by _ _ (clock-with_answer (with_used room (makes_cookie room caller ask) (asked_by_call room caller ask)) (setting_of room caller ask) (prctl_answer room caller ask))
 clock-step room fresh (SetSched pid policy) siblings is = clock_by _ _ (clock-set_policy room policy (task_of room pid))
 clock-step room fresh (Offline cpu) siblings is = clock_by _ _ (clock-take_offline room cpu)
 clock-step room fresh (Online cpu) siblings is = clock_by _ _ (clock-bring_online room cpu)
+clock-step room fresh (Load index) siblings is = clock_by _ _ refl
+clock-step room fresh (Unload index) siblings is = clock_by _ _ refl
 
 -- an advance raises what is most by as much as the clock shows then
 advanced_is_timely : (entries : ℕ) (room : RoomState) (delta : ℕ) → Timely (entries * (69 * room.clock)) room → IsTimely (entries + 1) (advanced room delta)
@@ -691,13 +693,17 @@ timely-step entries room fresh (Advance delta) timely = advanced_is_timely entri
 timely-step entries room fresh (Fork caller thread) timely =
     weaker entries room _ (clock-fork room thread (task_of room caller)) (timely-fork _ room thread (task_of room caller) timely)
 timely-step entries room fresh (Prctl caller ask) timely =
-    let made = with_made room (makes_cookie room caller ask) in
+    let made = with_used room (makes_cookie room caller ask) (asked_by_call room caller ask) in
     weaker entries room _ (clock-with_answer made (setting_of room caller ask) (prctl_answer room caller ask))
     (timely-with_answer _ made (setting_of room caller ask) (prctl_answer room caller ask) (same_core _ room made refl refl refl timely))
 timely-step entries room fresh (SetSched pid policy) timely =
     weaker entries room _ (clock-set_policy room policy (task_of room pid)) (timely-set_policy _ room policy (task_of room pid) (task_of_is_timely _ room pid timely) timely)
 timely-step entries room fresh (Offline cpu) timely = weaker entries room _ (clock-take_offline room cpu) (timely-take_offline _ room cpu timely)
 timely-step entries room fresh (Online cpu) timely = weaker entries room _ (clock-bring_online room cpu) (timely-bring_online _ room cpu timely)
+timely-step entries room fresh (Load index) timely =
+    weaker entries room _ refl (same_core _ room (record room { guards = load room.guards index }) refl refl refl timely)
+timely-step entries room fresh (Unload index) timely =
+    weaker entries room _ refl (same_core _ room (record room { guards = unload room.guards index }) refl refl refl timely)
 
 -- ---- what a machine asks between two changes of one step
 
@@ -719,22 +725,22 @@ timely_after done moment (entry ∷ entries) timely =
     subst (λ n. IsTimely n (after (next moment entry) entries).room) (omega arith)
     (timely_after (done + 1) (next moment entry) entries (timely-step done moment.room (is_fresh moment.ledger) entry.event (parts_timely done moment.room timely)))
 
-asleep_is_timely : (scenario : Scenario) (spec : TaskSpec) → IsTimelyTask (start scenario) (asleep spec)
-asleep_is_timely scenario spec = record { vtime = omega arith; used = omega arith }
+asleep_is_timely : (opening : Opening) (spec : TaskSpec) → IsTimelyTask (start opening) (asleep spec)
+asleep_is_timely opening spec = record { vtime = omega arith; used = omega arith }
 
-timely_asleep : (scenario : Scenario) (tasks : List Task) (specs : List TaskSpec) → AllByRecursion (IsTimelyTask (start scenario)) tasks →
-    AllByRecursion (IsTimelyTask (start scenario)) (fold (λ ts spec. inserted (asleep spec) ts) tasks specs)
-timely_asleep scenario tasks [] all = all
-timely_asleep scenario tasks (spec ∷ specs) all =
-    timely_asleep scenario (inserted (asleep spec) tasks) specs (each-inserted (IsTimelyTask (start scenario)) (asleep spec) tasks (asleep_is_timely scenario spec) all)
+timely_asleep : (opening : Opening) (tasks : List Task) (specs : List TaskSpec) → AllByRecursion (IsTimelyTask (start opening)) tasks →
+    AllByRecursion (IsTimelyTask (start opening)) (fold (λ ts spec. inserted (asleep spec) ts) tasks specs)
+timely_asleep opening tasks [] all = all
+timely_asleep opening tasks (spec ∷ specs) all =
+    timely_asleep opening (inserted (asleep spec) tasks) specs (each-inserted (IsTimelyTask (start opening)) (asleep spec) tasks (asleep_is_timely opening spec) all)
 
 -- After every history the times keep their bounds.
-pub timely-fold_of : (scenario : Scenario) (history : History) → IsTimely (length history) (fold_of scenario history)
-timely-fold_of scenario history =
-    subst (λ n. IsTimely n (fold_of scenario history)) (omega arith)
-    (timely_after 0 (beginning scenario) history (timely_parts 0 (start scenario) (record {
-      tasks = timely_asleep scenario [] scenario.tasks tt;
-      siblings = all_replicate (IsTimelySibling 0 0) scenario.siblings idle (record { least = omega arith; snapshot = omega arith; ran = omega arith });
+pub timely-fold_of : (opening : Opening) (history : History) → IsTimely (length history) (fold_of opening history)
+timely-fold_of opening history =
+    subst (λ n. IsTimely n (fold_of opening history)) (omega arith)
+    (timely_after 0 (beginning opening) history (timely_parts 0 (start opening) (record {
+      tasks = timely_asleep opening [] opening.scenario.tasks tt;
+      siblings = all_replicate (IsTimelySibling 0 0) opening.scenario.siblings idle (record { least = omega arith; snapshot = omega arith; ran = omega arith });
     })))
 
 -- ---- after a history that a machine plays
@@ -763,15 +769,15 @@ siblings_bounded entries room timely few low =
     room.siblings timely.siblings
 
 -- So each virtual time that is shown is below 2^80.
-pub shown_bounded : (scenario : Scenario) (history : History) (pid : ℕ) → length history < 2 ^ 17 → (fold_of scenario history).clock < 2 ^ 56 →
-    IfSome (task_view_after (moment_of scenario history) pid) (λ task. task.vtime < 2 ^ 80)
-shown_bounded scenario history pid few low = go (task_after room pid) refl where
+pub shown_bounded : (opening : Opening) (history : History) (pid : ℕ) → length history < 2 ^ 17 → (fold_of opening history).clock < 2 ^ 56 →
+    IfSome (task_view_after (moment_of opening history) pid) (λ task. task.vtime < 2 ^ 80)
+shown_bounded opening history pid few low = go (task_after room pid) refl where
   room : RoomState
-  room = fold_of scenario history
+  room = fold_of opening history
 
   go : (found : Option Task) → task_after room pid ≡ found → IfSome (option_map (task_view room) found) (λ task. task.vtime < 2 ^ 80)
   go None none = tt
   go (Some task) found =
       each_found (λ (t : Task). t.vtime < 2 ^ 80) (λ t. ltb pid t.spec.pid) room.tasks task found
       (recursion_from_All (λ (t : Task). t.vtime < 2 ^ 80) room.tasks
-      (vtimes_bounded (length history) room (timely-fold_of scenario history) few low))
+      (vtimes_bounded (length history) room (timely-fold_of opening history) few low))

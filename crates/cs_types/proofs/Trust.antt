@@ -10,12 +10,11 @@ use Rattle.std.proofs.lemmas.Option.{IfSome_then}
 use Rattle.cs_types.specs.declared.task.Task.{Task}
 use Rattle.cs_types.specs.declared.task.TaskSpec.{TaskSpec}
 use Rattle.cs_types.specs.declared.event.Event.{Event}
-use Rattle.cs_types.specs.declared.event.Event.TheVariants.{Turn, Resched, Block, Exit, Tick, Wake, Advance, Fork, Prctl, SetSched, Offline, Online}
+use Rattle.cs_types.specs.declared.event.Event.TheVariants.{Turn, Resched, Block, Exit, Tick, Wake, Advance, Fork, Prctl, SetSched, Offline, Online, Load, Unload}
 use Rattle.cs_types.specs.declared.reply.Reply.TheVariants as answer
 use Rattle.cs_types.specs.declared.reply.Entry.{Entry}
-use Rattle.cs_types.specs.declared.scenario.Scenario.{Scenario}
 use Rattle.cs_types.specs.Scenario.{IsEvent, IsPlayable}
-use Rattle.cs_types.specs.Room.{RoomState, SiblingState, idle, absent, has_pid, asleep, inserted, asleep_tasks, start, queued_on, sibling_of, running_on, is_online, online, task_of}
+use Rattle.cs_types.specs.Room.{Opening, RoomState, SiblingState, idle, absent, has_pid, asleep, inserted, asleep_tasks, start, queued_on, sibling_of, running_on, is_online, online, task_of}
 use Rattle.cs_types.specs.Step.{Stepped, step, unless_offline}
 use Rattle.cs_types.specs.Touches.{is_fresh}
 use Rattle.cs_types.specs.History.{History, Moment, beginning, step_at, next, after, moment_of, fold_of, AreEvents, IsLegal}
@@ -31,7 +30,7 @@ use Rattle.cs_types.proofs.Spots.{spot_of, spot_at, each_is_found}
 use Rattle.cs_types.proofs.Homes.{IsHome, IsHoused, housed-step}
 use Rattle.cs_types.proofs.Fits.{IsAt, cookie_at, SiblingFits, AllFit, fits_running, fits_absent, waiting_then}
 use Rattle.cs_types.proofs.Freshness.{fresh_after, is_fresh-ledger_entry}
-use Rattle.cs_types.proofs.Orders.{StepFits, resched-fits, turn-fits, block-fits, exit-fits, wake-fits, fork-fits, tick-fits, advanced-fits, set_policy-fits, take_offline-fits, bring_online-fits}
+use Rattle.cs_types.proofs.Orders.{load-fits, unload-fits, StepFits, resched-fits, turn-fits, block-fits, exit-fits, wake-fits, fork-fits, tick-fits, advanced-fits, set_policy-fits, take_offline-fits, bring_online-fits}
 use Rattle.cs_types.proofs.Cookies.{prctl-fits}
 
 -- ---- at every step
@@ -60,6 +59,8 @@ step-fits room fresh (Prctl caller ask) limits rises housed fits = prctl-fits ro
 step-fits room fresh (SetSched pid policy) limits rises housed fits = set_policy-fits room fresh pid policy (task_of room pid) refl housed fits
 step-fits room fresh (Offline cpu) limits rises housed fits = take_offline-fits room fresh cpu fits
 step-fits room fresh (Online cpu) limits rises housed fits = bring_online-fits room fresh cpu fits
+step-fits room fresh (Load index) limits rises housed fits = load-fits room fresh index fits
+step-fits room fresh (Unload index) limits rises housed fits = unload-fits room fresh index fits
 
 -- ---- at every moment
 
@@ -106,28 +107,28 @@ each_is_idle P here past zero cpu = past
 each_is_idle P here past (suc n) zero = here
 each_is_idle P here past (suc n) (suc cpu) = each_is_idle P here past n cpu
 
-holds_beginning : (scenario : Scenario) → IsPlayable scenario → Holds (beginning scenario)
+holds_beginning : (opening : Opening) → IsPlayable opening.scenario → Holds (beginning opening)
 unfolding is_fresh
-holds_beginning scenario keeps =
+holds_beginning opening keeps =
     record {
-      rises = rising-fold_of scenario [] (λ k d few. (keeps.tasks k d few).pid.0) keeps.distinct;
-      housed = record { some = (0, subst (λ n. 0 < n) (sym (length-replicate scenario.siblings idle)) keeps.siblings.0, ap (λ (s : SiblingState). s.online) (first_is_idle scenario.siblings keeps.siblings.0)); homes = homes };
-      fits = λ cpu. each_is_idle (SiblingFits (spot_at (start scenario)) 0 false cpu)
-          (fits_running (spot_at (start scenario)) 0 false cpu true None false 0 refl tt tt) (fits_absent (spot_at (start scenario)) 0 false cpu) scenario.siblings cpu;
+      rises = rising-fold_of opening [] (λ k d few. (keeps.tasks k d few).pid.0) keeps.distinct;
+      housed = record { some = (0, subst (λ n. 0 < n) (sym (length-replicate opening.scenario.siblings idle)) keeps.siblings.0, ap (λ (s : SiblingState). s.online) (first_is_idle opening.scenario.siblings keeps.siblings.0)); homes = homes };
+      fits = λ cpu. each_is_idle (SiblingFits (spot_at (start opening)) 0 false cpu)
+          (fits_running (spot_at (start opening)) 0 false cpu true None false 0 refl tt tt) (fits_absent (spot_at (start opening)) 0 false cpu) opening.scenario.siblings cpu;
     } where
-      homes : (pid : ℕ) → IsHome (start scenario) (spot_at (start scenario) pid)
-      homes pid = go (task_of (start scenario) pid) refl where
-        go : (found : Option Task) → task_of (start scenario) pid ≡ found → IsHome (start scenario) (option_map spot_of found)
+      homes : (pid : ℕ) → IsHome (start opening) (spot_at (start opening) pid)
+      homes pid = go (task_of (start opening) pid) refl where
+        go : (found : Option Task) → task_of (start opening) pid ≡ found → IsHome (start opening) (option_map spot_of found)
         go None e = tt
         go (Some task) e = λ queued.
-            absurd (both_ways task.queued (each_found (λ t. t.queued ≡ false) (has_pid pid) (asleep_tasks scenario.tasks) task e (all_asleep [] scenario.tasks tt)) queued)
+            absurd (both_ways task.queued (each_found (λ t. t.queued ≡ false) (has_pid pid) (asleep_tasks opening.scenario.tasks) task e (all_asleep [] opening.scenario.tasks tt)) queued)
 
 -- It holds after every legal history.
-pub holds-moment_of : (scenario : Scenario) (history : History) → IsPlayable scenario → AreEvents scenario history → IsLegal scenario history →
-    Holds (moment_of scenario history)
-holds-moment_of scenario history keeps limits legal =
-    holds_after scenario.siblings (beginning scenario) history (length-replicate scenario.siblings idle)
-    (recursion_from_All (λ entry. IsEvent scenario.siblings entry.event) history limits) legal (holds_beginning scenario keeps)
+pub holds-moment_of : (opening : Opening) (history : History) → IsPlayable opening.scenario → AreEvents opening history → IsLegal opening history →
+    Holds (moment_of opening history)
+holds-moment_of opening history keeps limits legal =
+    holds_after opening.scenario.siblings (beginning opening) history (length-replicate opening.scenario.siblings idle)
+    (recursion_from_All (λ entry. IsEvent opening.scenario.siblings entry.event) history limits) legal (holds_beginning opening keeps)
 
 -- ---- consistent siblings
 
@@ -187,9 +188,9 @@ consistent_at moment cpu holds =
     }
 
 -- After every legal history each sibling is consistent.
-pub consistent-moment_of : (scenario : Scenario) (history : History) → IsPlayable scenario → AreEvents scenario history →
-    IsLegal scenario history → (cpu : ℕ) → cpu < scenario.siblings → IsConsistentAt (moment_of scenario history) cpu
-consistent-moment_of scenario history keeps limits legal cpu below = consistent_at (moment_of scenario history) cpu (holds-moment_of scenario history keeps limits legal)
+pub consistent-moment_of : (opening : Opening) (history : History) → IsPlayable opening.scenario → AreEvents opening history →
+    IsLegal opening history → (cpu : ℕ) → cpu < opening.scenario.siblings → IsConsistentAt (moment_of opening history) cpu
+consistent-moment_of opening history keeps limits legal cpu below = consistent_at (moment_of opening history) cpu (holds-moment_of opening history keeps limits legal)
 
 -- ---- the trust rule
 
@@ -202,9 +203,9 @@ settled_at moment holds cpu held calm =
       go (Some pid) here same = inr (has_cookie moment.room moment.room.core_cookie cpu pid here same)
 
 -- After every legal history each online sibling that is not pending runs idle or a living task with the core cookie.
-pub settled-moment_of : (scenario : Scenario) (history : History) → IsPlayable scenario → AreEvents scenario history →
-    IsLegal scenario history → IsSettled (fold_of scenario history)
-settled-moment_of scenario history keeps limits legal = settled_at (moment_of scenario history) (holds-moment_of scenario history keeps limits legal)
+pub settled-moment_of : (opening : Opening) (history : History) → IsPlayable opening.scenario → AreEvents opening history →
+    IsLegal opening history → IsSettled (fold_of opening history)
+settled-moment_of opening history keeps limits legal = settled_at (moment_of opening history) (holds-moment_of opening history keeps limits legal)
 
 -- Where the rule holds and no online sibling is pending, all that do not run idle run living tasks with one cookie.
 pub one_cookie : (room : RoomState) → IsSettled room → pending room ≡ [] → RunOneCookie room

@@ -3,8 +3,7 @@ use Rattle.std.specs.Prelude.{◌≡◌, ℕ, Bool, ◌&&◌, List, [], ◌∷�
 use Rattle.cs_types.specs.declared.event.Actor.TheVariants.{End}
 use Rattle.cs_types.specs.declared.event.Event.TheVariants.{Resched}
 use Rattle.cs_types.specs.declared.reply.Entry.{Entry}
-use Rattle.cs_types.specs.declared.scenario.Scenario.{Scenario}
-use Rattle.cs_types.specs.Room.{RoomState, sibling_of, online}
+use Rattle.cs_types.specs.Room.{Opening, RoomState, sibling_of, online}
 use Rattle.cs_types.specs.Touches.{is_fresh}
 use Rattle.cs_types.specs.History.{History, Moment, moment_of, entry_of, next}
 
@@ -36,7 +35,7 @@ IsEndFrom moment (entry ∷ entries) =
     (cpu : ℕ) × (next_to_schedule moment ≡ Some cpu) × (entry ≡ entry_by_end moment cpu) × IsEndFrom (next moment entry) entries
 
 -- The one history is the other with the entries of the end.
-pub record IsDrained (scenario : Scenario) (past now : History) : Type 0 where
+pub record IsDrained (opening : Opening) (past now : History) : Type 0 where
   pub made : List Entry
   pub added : now ≡ past ++ made
-  pub ends : IsEndFrom (moment_of scenario past) made
+  pub ends : IsEndFrom (moment_of opening past) made

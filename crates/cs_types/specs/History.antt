@@ -5,9 +5,8 @@ use Rattle.cs_types.specs.declared.event.Event.{Event}
 use Rattle.cs_types.specs.declared.event.Step.{Step}
 use Rattle.cs_types.specs.declared.reply.Reply.{Reply}
 use Rattle.cs_types.specs.declared.reply.Entry.{Entry}
-use Rattle.cs_types.specs.declared.scenario.Scenario.{Scenario}
 use Rattle.cs_types.specs.Scenario.{IsEvent, is_actor}
-use Rattle.cs_types.specs.Room.{RoomState, start}
+use Rattle.cs_types.specs.Room.{Opening, RoomState, start}
 use Rattle.cs_types.specs.Step.{Stepped, step}
 use Rattle.cs_types.specs.Touches.{Ledger, ledger_entry, is_fresh}
 
@@ -21,8 +20,8 @@ pub record Moment : Type 0 where
   pub ledger : Ledger
 
 -- the start of a scenario, before its first entry
-abbrev pub beginning : Scenario → Moment
-beginning scenario = record { room = start scenario; ledger = [] }
+abbrev pub beginning : Opening → Moment
+beginning opening = record { room = start opening; ledger = [] }
 
 -- the step of an event from a moment
 abbrev pub step_at : Moment → Event → Stepped
@@ -39,28 +38,28 @@ after moment [] = moment
 after moment (entry ∷ entries) = after (next moment entry) entries
 
 -- the start of the scenario, after the steps of the history's events in order
-abbrev pub moment_of : Scenario → History → Moment
-moment_of scenario history = after (beginning scenario) history
+abbrev pub moment_of : Opening → History → Moment
+moment_of opening history = after (beginning opening) history
 
-abbrev pub fold_of : Scenario → History → RoomState
-fold_of scenario history = (moment_of scenario history).room
+abbrev pub fold_of : Opening → History → RoomState
+fold_of opening history = (moment_of opening history).room
 
-abbrev pub ledger_of : Scenario → History → Ledger
-ledger_of scenario history = (moment_of scenario history).ledger
+abbrev pub ledger_of : Opening → History → Ledger
+ledger_of opening history = (moment_of opening history).ledger
 
 -- the reply that the rules give to an event after a history
-abbrev pub reply_to : Scenario → History → Event → Reply
-reply_to scenario past event = (step_at (moment_of scenario past) event).reply
+abbrev pub reply_to : Opening → History → Event → Reply
+reply_to opening past event = (step_at (moment_of opening past) event).reply
 
 -- each reply is the one that the rules give at its place
-abbrev pub IsLegal : Scenario → History → Type 0
-IsLegal scenario history =
+abbrev pub IsLegal : Opening → History → Type 0
+IsLegal opening history =
     (past : History) (entry : Entry) (rest : List Entry) →
-    history ≡ past ++ entry ∷ rest → entry.reply ≡ reply_to scenario past entry.event
+    history ≡ past ++ entry ∷ rest → entry.reply ≡ reply_to opening past entry.event
 
 -- what each event names keeps its limits
-abbrev pub AreEvents : Scenario → History → Type 0
-AreEvents scenario history = All (λ entry. IsEvent scenario.siblings entry.event) history
+abbrev pub AreEvents : Opening → History → Type 0
+AreEvents opening history = All (λ entry. IsEvent opening.scenario.siblings entry.event) history
 
 -- the events of an actor's entries
 abbrev pub events_by : Actor → History → List Event
@@ -79,9 +78,9 @@ made_from moment [] = []
 made_from moment (made ∷ steps) = entry_of moment made ∷ made_from (next moment (entry_of moment made)) steps
 
 -- the legal history of these steps
-abbrev pub history_of : Scenario → List Step → History
-history_of scenario steps = made_from (beginning scenario) steps
+abbrev pub history_of : Opening → List Step → History
+history_of opening steps = made_from (beginning opening) steps
 
 -- the history of all step lines in the file's order
-abbrev pub file : Scenario → History
-file scenario = history_of scenario scenario.steps
+abbrev pub file : Opening → History
+file opening = history_of opening opening.scenario.steps

@@ -9,8 +9,9 @@ use Rattle.cs_types.specs.Room.{RoomState, SiblingState, queued_on, task_of, sib
 use Rattle.cs_types.specs.Order.{foremost, outranks, first_of}
 use Rattle.cs_types.specs.Selection.{is_run, first_on, cookie_of, pid_of, snapshot_of, choice, eligible, is_forced}
 use Rattle.cs_types.specs.declared.reply.Reply.{Reply}
-use Rattle.cs_types.specs.declared.reply.Reply.TheVariants.{Offline, Idle, HasThreads, NoTask, Awake, NoCaller, Refused, Already}
-use Rattle.cs_types.specs.Prctl.{is_create}
+use Rattle.cs_types.specs.declared.reply.Reply.TheVariants.{Offline, Idle, HasThreads, NoTask, Awake, NoCaller, Refused, Already, NoGuard}
+use Rattle.cs_types.specs.Prctl.{is_create, asked_by_call}
+use Rattle.cs_types.specs.Guards.{asked_each}
 use Rattle.cs_types.specs.Touches.{scheduler_of, is_fresh}
 use Rattle.cs_types.specs.History.{Moment}
 use Rattle.cs_types.specs.Step.{without, run_idle}
@@ -133,6 +134,7 @@ is_refused Awake = true
 is_refused NoCaller = true
 is_refused (Refused error) = true
 is_refused Already = true
+is_refused NoGuard = true
 is_refused reply = false
 
 -- whether an event is a call of `prctl` that asks for a new cookie
@@ -140,9 +142,16 @@ abbrev pub asks_for_cookie : Event → Bool
 asks_for_cookie (Prctl caller ask) = is_create ask
 asks_for_cookie event = false
 
--- An event leaves the room as it was, but for the serial that a CREATE has used.
+-- the guards that an event asks, in the order of asking: only a call of `prctl` asks any
+abbrev pub asked_by : RoomState → Event → List ℕ
+asked_by room (Prctl caller ask) = asked_by_call room caller ask
+asked_by room event = []
+
+-- An event leaves the room as it was, but for the asked counts and a used serial.
 pub record LeavesTheRoom (before : RoomState) (event : Event) (now : RoomState) : Type 0 where
-  pub same : now ≡ record before { next_cookie = now.next_cookie }
+  pub same : now ≡ record before { next_cookie = now.next_cookie; guards = now.guards }
+  -- Each guard that was asked counts that. Nothing else of a guard changes.
+  pub asked : now.guards ≡ asked_each before.guards (asked_by before event)
   -- The next cookie stays, or it is one further after a CREATE.
   pub serial : (now.next_cookie ≡ before.next_cookie)
       ⊎ ((asks_for_cookie event ≡ true) × (now.next_cookie ≡ before.next_cookie + 1))

@@ -1,4 +1,5 @@
 pub mod Scenario
+pub mod Guards
 pub mod Room
 pub mod Order
 pub mod Selection

@@ -9,7 +9,8 @@ use Rattle.cs_types.specs.declared.event.Ask.{Ask}
 use Rattle.cs_types.specs.declared.reply.Errno.TheVariants.{Eperm, Esrch, Enomem, Efault, Enodev, Einval}
 use Rattle.cs_types.specs.declared.reply.Reply.{Reply}
 use Rattle.cs_types.specs.declared.reply.Reply.TheVariants.{Zero, Value, Refused, NoCaller}
-use Rattle.cs_types.specs.Access.{may_access}
+use Rattle.cs_types.specs.Guards.{asked_each, asked_until}
+use Rattle.cs_types.specs.Access.{may_access, asked_about}
 use Rattle.cs_types.specs.Room.{RoomState, SiblingState, has_pid, task_of, online}
 use Rattle.cs_types.specs.Selection.{cookie_of}
 
@@ -74,21 +75,34 @@ members room scope target = filter (λ task. is_in_scope scope target.spec task.
 
 -- ---- the answer
 
--- whether the one task may access the other, where both are there
-abbrev pub may_access_each : Option Task → Option Task → Bool
-may_access_each None target = false
-may_access_each (Some caller) None = false
-may_access_each (Some caller) (Some target) = may_access caller.spec target.spec
+-- whether the one task may access the other, where both are there, and the guards that are asked about it
+abbrev pub may_access_each : RoomState → Option Task → Option Task → Bool
+may_access_each room None target = false
+may_access_each room (Some caller) None = false
+may_access_each room (Some caller) (Some target) = may_access room.guards caller.spec target.spec
 
--- whether the caller may access every member of a scope of the target
+abbrev pub asked_about_each : RoomState → Option Task → Option Task → List ℕ
+asked_about_each room None target = []
+asked_about_each room (Some caller) None = []
+asked_about_each room (Some caller) (Some target) = asked_about room.guards caller.spec target.spec
+
+-- whether the caller may access every member of a scope of the target, and the guards that are asked about them, up to
+-- the first member that it may not access
 abbrev pub may_access_members : RoomState → ℕ → Option Task → Option Task → Bool
 may_access_members room scope caller target =
-    option_map_or (λ target. list_all (λ member. may_access_each caller (Some member)) (members room scope target)) target true
+    option_map_or (λ target. list_all (λ member. may_access_each room caller (Some member)) (members room scope target)) target true
 
--- a condition, and the answer where it holds
+abbrev pub asked_about_members : RoomState → ℕ → Option Task → Option Task → List ℕ
+asked_about_members room scope caller target =
+    option_map_or (λ target. asked_until (map (λ member.
+    (not (may_access_each room caller (Some member)), asked_about_each room caller (Some member))) (members room scope target)))
+    target []
+
+-- a condition, the answer where it holds, and the numbers of the guards that are asked for it
 pub record Row : Type 0 where
   pub holds : Bool
   pub answer : Reply
+  pub asks : List ℕ
 
 -- the answer of the first row that holds, and 0 where none does
 abbrev pub first_answer : List Row → Reply
@@ -100,15 +114,15 @@ unfoldable pub rows_before_making : RoomState → ℕ → Ask → List Row
 rows_before_making room pid ask =
     let caller = task_of room pid in
     let target = target_of room pid ask in
-    record { holds = is_none caller; answer = NoCaller }
-    ∷ record { holds = nat_lt (length (online room)) 2; answer = Refused Enodev }
-    ∷ record { holds = is_invalid ask; answer = Refused Einval }
-    ∷ record { holds = is_none target; answer = Refused Esrch }
-    ∷ record { holds = not (may_access_each caller target); answer = Refused Eperm }
-    ∷ record { holds = is_get ask && (not (is_thread ask) || not (ask.addr % 8 == 0)); answer = Refused Einval }
-    ∷ record { holds = is_get ask && (nat_lt ask.addr 4096 || nat_lt (room.user_top - 8) ask.addr); answer = Refused Efault }
-    ∷ record { holds = is_get ask; answer = Value (cookie_of target) }
-    ∷ record { holds = is_create ask && (length (live_cookies room.tasks) == room.cookie_limit); answer = Refused Enomem }
+    record { holds = is_none caller; answer = NoCaller; asks = [] }
+    ∷ record { holds = nat_lt (length (online room)) 2; answer = Refused Enodev; asks = [] }
+    ∷ record { holds = is_invalid ask; answer = Refused Einval; asks = [] }
+    ∷ record { holds = is_none target; answer = Refused Esrch; asks = [] }
+    ∷ record { holds = not (may_access_each room caller target); answer = Refused Eperm; asks = asked_about_each room caller target }
+    ∷ record { holds = is_get ask && (not (is_thread ask) || not (ask.addr % 8 == 0)); answer = Refused Einval; asks = [] }
+    ∷ record { holds = is_get ask && (nat_lt ask.addr 4096 || nat_lt (room.user_top - 8) ask.addr); answer = Refused Efault; asks = [] }
+    ∷ record { holds = is_get ask; answer = Value (cookie_of target); asks = [] }
+    ∷ record { holds = is_create ask && (length (live_cookies room.tasks) == room.cookie_limit); answer = Refused Enomem; asks = [] }
     ∷ []
 
 -- the rows that come after it
@@ -116,15 +130,24 @@ unfoldable pub rows_after_making : RoomState → ℕ → Ask → List Row
 rows_after_making room pid ask =
     let caller = task_of room pid in
     let target = target_of room pid ask in
-    record { holds = is_share_from ask && not (is_thread ask); answer = Refused Einval }
-    ∷ record { holds = is_share_from ask; answer = Zero }
-    ∷ record { holds = not (is_thread ask) && not (may_access_members room ask.scope caller target); answer = Refused Eperm }
-    ∷ record { holds = true; answer = Zero }
+    record { holds = is_share_from ask && not (is_thread ask); answer = Refused Einval; asks = [] }
+    ∷ record { holds = is_share_from ask; answer = Zero; asks = [] }
+    ∷ record {
+      holds = not (is_thread ask) && not (may_access_members room ask.scope caller target);
+      answer = Refused Eperm;
+      asks = if is_thread ask then [] else asked_about_members room ask.scope caller target;
+    }
+    ∷ record { holds = true; answer = Zero; asks = [] }
     ∷ []
 
 -- the answer of a call by the task with the pid
 abbrev pub prctl_answer : RoomState → ℕ → Ask → Reply
 prctl_answer room pid ask = first_answer (rows_before_making room pid ask ++ rows_after_making room pid ask)
+
+-- the guards that are asked by it, in the order of asking
+abbrev pub asked_by_call : RoomState → ℕ → Ask → List ℕ
+asked_by_call room pid ask =
+    asked_until (map (λ row. (row.holds, row.asks)) (rows_before_making room pid ask ++ rows_after_making room pid ask))
 
 -- ---- the cookies after it
 
@@ -168,9 +191,14 @@ set_cookies room set =
       siblings = map (λ (sibling : SiblingState). record sibling { pending = sibling.pending || runs_one set sibling }) room.siblings;
     }
 
--- A cookie that is made is the next, and is never made again, also where the call is then refused.
-abbrev pub with_made : RoomState → Bool → RoomState
-with_made room makes = record room { next_cookie = if makes then room.next_cookie + 1 else room.next_cookie }
+-- What a call has used up, also where it is then refused: a cookie that is made is the next, and is never made again; and
+-- each guard counts how often it was asked.
+abbrev pub with_used : RoomState → Bool → List ℕ → RoomState
+with_used room makes asked =
+    record room {
+      next_cookie = if makes then room.next_cookie + 1 else room.next_cookie;
+      guards = asked_each room.guards asked;
+    }
 
 -- the room after a call that was answered so
 abbrev pub with_answer : RoomState → Setting → Reply → RoomState
@@ -179,4 +207,5 @@ with_answer room set answer = room
 
 abbrev pub prctl_room : RoomState → ℕ → Ask → RoomState
 prctl_room room pid ask =
-    with_answer (with_made room (makes_cookie room pid ask)) (setting_of room pid ask) (prctl_answer room pid ask)
+    with_answer (with_used room (makes_cookie room pid ask) (asked_by_call room pid ask)) (setting_of room pid ask)
+    (prctl_answer room pid ask)

@@ -6,6 +6,7 @@ use Rattle.std.specs.Option.{option_and_then}
 use Rattle.cs_types.specs.declared.task.Task.{Task}
 use Rattle.cs_types.specs.declared.task.TaskSpec.{TaskSpec}
 use Rattle.cs_types.specs.declared.scenario.Scenario.{Scenario}
+use Rattle.cs_types.specs.Guards.{GuardList, guards_on_bench}
 
 -- what waits for a sibling: nothing, idle or a task
 abbrev pub Waiting : Type 0
@@ -71,6 +72,8 @@ pub record RoomState : Type 0 where
   pub started : Option ℕ
   -- the recorded intervals of forced idle, the oldest first (this project's)
   pub intervals : List Interval
+  -- the guards (the hooks of `security_ptrace_access_check`)
+  pub guards : GuardList
 
 -- ---- the start
 
@@ -117,9 +120,16 @@ idle =
 abbrev pub first_pid : List TaskSpec → ℕ
 first_pid specs = fold (λ pid spec. max pid spec.pid) 0 specs + 1
 
--- all tasks asleep, all siblings idle, all numbers 0, 1 the first cookie, and the first pid above those of the lines
-abbrev pub start : Scenario → RoomState
-start scenario =
+-- what a machine begins with: a scenario, and how many guards were handed in
+pub record Opening : Type 0 where
+  pub scenario : Scenario
+  pub guards : ℕ
+
+-- all tasks asleep, all siblings idle, all numbers 0, 1 the first cookie, the first pid above those of the lines, and all
+-- guards on the bench
+abbrev pub start : Opening → RoomState
+start opening =
+    let scenario = opening.scenario in
     record {
       task_limit = scenario.task_limit;
       cookie_limit = scenario.cookie_limit;
@@ -136,6 +146,7 @@ start scenario =
       occupation = 0;
       started = None;
       intervals = [];
+      guards = guards_on_bench scenario.teaches opening.guards;
     }
 
 -- ---- parts of a room

@@ -1,5 +1,6 @@
 -- Scenarios: the limits that each of them keeps, and the script of each actor.
-use Rattle.std.specs.Prelude.{◌≡◌, ◌≢◌, ◌⊎◌, ℕ, ◌<◌, ◌≤◌, ◌^◌, ℤ, pos, negsuc, Bool, true, false, ◌==◌, List, length, map, filter, take, All, Any, AllPairs, slice_index_or}
+use Rattle.std.specs.List.{range_with_len}
+use Rattle.std.specs.Prelude.{◌≡◌, ◌+◌, ◌≢◌, ◌⊎◌, ℕ, ◌<◌, ◌≤◌, ◌^◌, ℤ, pos, negsuc, Bool, true, false, ◌==◌, List, length, map, filter, take, All, Any, AllPairs, slice_index_or}
 use Rattle.cs_types.specs.declared.task.Policy.{Policy}
 use Rattle.cs_types.specs.declared.task.Policy.TheVariants.{Stop, Deadline, Fifo, Rr, Fair}
 use Rattle.cs_types.specs.declared.task.Creds.{Creds}
@@ -8,9 +9,10 @@ use Rattle.cs_types.specs.declared.event.Actor.{Actor}
 use Rattle.cs_types.specs.declared.event.Actor.TheVariants.{Sibling, Caller, End}
 use Rattle.cs_types.specs.declared.event.Ask.{Ask}
 use Rattle.cs_types.specs.declared.event.Event.{Event}
-use Rattle.cs_types.specs.declared.event.Event.TheVariants.{Turn, Resched, Block, Exit, Tick, Wake, Advance, Fork, Prctl, SetSched, Offline, Online}
+use Rattle.cs_types.specs.declared.event.Event.TheVariants.{Turn, Resched, Block, Exit, Tick, Wake, Advance, Fork, Prctl, SetSched, Offline, Online, Load, Unload}
 use Rattle.cs_types.specs.declared.event.Step.{Step}
 use Rattle.cs_types.specs.declared.scenario.Scenario.{Scenario}
+use Rattle.cs_types.specs.declared.scenario.Teach.{Teach}
 
 -- ---- limits (this project's rules)
 
@@ -76,7 +78,7 @@ pub record IsAsk (ask : Ask) : Type 0 where
   pub scope : ask.scope < 2 ^ 32
   pub addr : ask.addr < 2 ^ 64
 
--- the numbers of an event: a sibling of the core, a pid from 1 to 999999, an advance from 1 ns to 1 s
+-- the numbers of an event: a sibling of the core, a pid from 1 to 999999, an advance from 1 ns to 1 s, a guard from 0 to 15
 abbrev pub IsEvent : ℕ → Event → Type 0
 IsEvent siblings (Turn cpu) = cpu < siblings
 IsEvent siblings (Resched cpu) = cpu < siblings
@@ -90,6 +92,8 @@ IsEvent siblings (Prctl caller ask) = IsWithin 1 999999 caller × IsAsk ask
 IsEvent siblings (SetSched pid policy) = IsWithin 1 999999 pid × IsPolicy policy
 IsEvent siblings (Offline cpu) = cpu < siblings
 IsEvent siblings (Online cpu) = cpu < siblings
+IsEvent siblings (Load index) = index ≤ 15
+IsEvent siblings (Unload index) = index ≤ 15
 
 -- A sibling makes its own events, on itself; a caller, 0 to 7, makes the others. No step line is of the end.
 abbrev pub IsMadeBy : Actor → Event → Type 0
@@ -105,6 +109,8 @@ IsMadeBy (Caller j) (Prctl caller ask) = j < 8
 IsMadeBy (Caller j) (SetSched pid policy) = j < 8
 IsMadeBy (Caller j) (Offline cpu) = j < 8
 IsMadeBy (Caller j) (Online cpu) = j < 8
+IsMadeBy (Caller j) (Load index) = j < 8
+IsMadeBy (Caller j) (Unload index) = j < 8
 IsMadeBy (Sibling i) (Wake pid) = ⊥
 IsMadeBy (Sibling i) (Advance delta) = ⊥
 IsMadeBy (Sibling i) (Fork caller thread) = ⊥
@@ -112,12 +118,25 @@ IsMadeBy (Sibling i) (Prctl caller ask) = ⊥
 IsMadeBy (Sibling i) (SetSched pid policy) = ⊥
 IsMadeBy (Sibling i) (Offline cpu) = ⊥
 IsMadeBy (Sibling i) (Online cpu) = ⊥
+IsMadeBy (Sibling i) (Load index) = ⊥
+IsMadeBy (Sibling i) (Unload index) = ⊥
 IsMadeBy (Caller j) (Turn cpu) = ⊥
 IsMadeBy (Caller j) (Resched cpu) = ⊥
 IsMadeBy (Caller j) (Block cpu) = ⊥
 IsMadeBy (Caller j) (Exit cpu) = ⊥
 IsMadeBy (Caller j) (Tick cpu) = ⊥
 IsMadeBy End event = ⊥
+
+-- the numbers of a teach line: a guard from 0 to 15, and two user ids
+pub record IsTeach (teach : Teach) : Type 0 where
+  pub guard : teach.guard ≤ 15
+  pub from : teach.from ≤ 65535
+  pub to : teach.to ≤ 65535
+
+-- Each teach carries the number of its line: three lines stand before the tasks, and a line for each task before the first
+-- teach.
+abbrev pub AreNumbered : ℕ → List Teach → Type 0
+AreNumbered tasks teaches = map (λ teach. teach.line) teaches ≡ range_with_len (tasks + 4) (length teaches)
 
 -- a step line, in a core with this number of siblings
 pub record IsStep (siblings : ℕ) (step : Step) : Type 0 where
@@ -134,6 +153,9 @@ pub record KeepsLimits (most : ℕ) (scenario : Scenario) : Type 0 where
   pub distinct : AreDistinct scenario.tasks
   pub led : AreLed scenario.tasks
   pub few_tasks : length scenario.tasks ≤ scenario.task_limit
+  pub teaches : All IsTeach scenario.teaches
+  pub numbered : AreNumbered (length scenario.tasks) scenario.teaches
+  pub few_teaches : length scenario.teaches ≤ 64
   pub steps : All (IsStep scenario.siblings) scenario.steps
   pub few_steps : length scenario.steps ≤ 100000
 

@@ -5,9 +5,9 @@ use Rattle.cs_types.specs.declared.task.Task.{Task}
 use Rattle.cs_types.specs.declared.task.TaskSpec.{TaskSpec}
 use Rattle.cs_types.specs.declared.task.Policy.{Policy}
 use Rattle.cs_types.specs.declared.event.Event.{Event}
-use Rattle.cs_types.specs.declared.event.Event.TheVariants.{Turn, Resched, Block, Exit, Tick, Wake, Advance, Fork, Prctl, SetSched, Offline, Online}
+use Rattle.cs_types.specs.declared.event.Event.TheVariants.{Turn, Resched, Block, Exit, Tick, Wake, Advance, Fork, Prctl, SetSched, Offline, Online, Load, Unload}
 use Rattle.cs_types.specs.declared.reply.Reply.{Reply}
-use Rattle.cs_types.specs.declared.reply.Reply.TheVariants.{Picked, Nothing, Stole, Missed, Slept, Ended, Idle, HasThreads, Woken, Awake, NoTask, Now, Ticked, Child, Set, Done, Already, Refused, NoCaller}
+use Rattle.cs_types.specs.declared.reply.Reply.TheVariants.{Picked, Nothing, Stole, Missed, Slept, Ended, Idle, HasThreads, Woken, Awake, NoTask, Now, Ticked, Child, Set, Done, Already, Refused, NoCaller, Loaded, NoGuard}
 use Rattle.cs_types.specs.declared.reply.Reply.TheVariants as answer
 use Rattle.cs_types.specs.declared.reply.Errno.TheVariants.{Eagain, Ebusy}
 use Rattle.cs_types.specs.declared.reply.Pick.{Pick}
@@ -20,6 +20,7 @@ use Rattle.cs_types.specs.Queueing.{dequeue, online_home, rehomed, queue_at_home
 use Rattle.cs_types.specs.Steal.{source_of, stolen, steal, set_place, next_place}
 use Rattle.cs_types.specs.Hotplug.{leave, with_sibling_back}
 use Rattle.cs_types.specs.Prctl.{prctl_answer, prctl_room}
+use Rattle.cs_types.specs.Guards.{GuardList, guard_of, is_bench, is_active, load, unload}
 
 -- the reply to an event, and the room after it
 pub record Stepped : Type 0 where
@@ -204,6 +205,15 @@ bring_online room cpu =
     then record { reply = Already; room = room }
     else record { reply = Done; room = with_sibling_back room cpu }
 
+-- ---- load and unload (this project's rules)
+
+-- A guard can be loaded that stands on the bench, and unloaded where it is active.
+abbrev pub load_answer : GuardList → ℕ → Reply
+load_answer guards index = if is_bench (guard_of guards index).place then Loaded else NoGuard
+
+abbrev pub unload_answer : GuardList → ℕ → Reply
+unload_answer guards index = if is_active (guard_of guards index).place then answer.Dropped else NoGuard
+
 -- ---- every event
 
 -- what each event does, where the test says whether a waiting pick may be adopted
@@ -221,3 +231,7 @@ step room may_adopt (Prctl caller ask) =
 step room may_adopt (SetSched pid policy) = set_policy room policy (task_of room pid)
 step room may_adopt (Offline cpu) = take_offline room cpu
 step room may_adopt (Online cpu) = bring_online room cpu
+step room may_adopt (Load index) =
+    record { reply = load_answer room.guards index; room = record room { guards = load room.guards index } }
+step room may_adopt (Unload index) =
+    record { reply = unload_answer room.guards index; room = record room { guards = unload room.guards index } }

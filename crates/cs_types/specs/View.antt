@@ -1,11 +1,13 @@
 -- Views: what a machine shows of the core, a sibling and a task, from the fold of its history.
-use Rattle.std.specs.Prelude.{◌≡◌, ◌⊎◌, ◌-◌, true, false, IsSomeAnd, ℕ, nat_lt, find, length, Option, Some, None, unwrap_or, if◌then◌else◌}
+use Rattle.std.specs.Prelude.{◌≡◌, ◌⊎◌, ◌-◌, true, false, IsSomeAnd, ℕ, nat_lt, find, length, Option, Some, None, unwrap_or, slice_get, if◌then◌else◌}
 use Rattle.std.specs.Option.{option_map}
 use Rattle.cs_types.specs.declared.task.Task.{Task}
 use Rattle.cs_types.specs.declared.view.CoreView.{CoreView}
 use Rattle.cs_types.specs.declared.view.CpuView.{CpuView}
 use Rattle.cs_types.specs.declared.view.TaskView.{TaskView}
 use Rattle.cs_types.specs.declared.view.EndView.{EndView}
+use Rattle.cs_types.specs.declared.view.GuardView.{GuardView}
+use Rattle.cs_types.specs.Guards.{GuardList}
 use Rattle.cs_types.specs.Room.{RoomState, sibling_of}
 use Rattle.cs_types.specs.Accounting.{total_of}
 use Rattle.cs_types.specs.Touches.{own_number}
@@ -58,6 +60,11 @@ end_view room pid = record { pid = pid; forced = forced_of room pid }
 -- what a machine shows of the living task with the least pid above this one
 abbrev pub task_view_after : Moment → ℕ → Option TaskView
 task_view_after moment pid = option_map (task_view moment.room) (task_after moment.room pid)
+
+-- what a machine shows of the guard of this number, none where there is no such guard
+abbrev pub guard_view : GuardList → ℕ → Option GuardView
+guard_view guards index =
+    option_map (λ guard. record { place = guard.place; asked = guard.asked }) (slice_get guards.all index)
 
 -- ---- the trust rule, of what is shown
 

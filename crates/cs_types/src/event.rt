@@ -56,6 +56,10 @@ pub enum Event {
     Offline(Cpu),
     /// The sibling comes back.
     Online(Cpu),
+    /// The guard of this number, 0 to 15, leaves the bench and is asked from now on.
+    Load(u8),
+    /// The guard of this number, 0 to 15, is asked no more, and is dropped.
+    Unload(u8),
 }
 
 /// An event, and who makes it.

@@ -115,6 +115,12 @@ pub enum Reply {
     Refused(Errno),
     /// Refused: no living task has the caller's pid.
     NoCaller,
+    /// The guard is active now.
+    Loaded,
+    /// The guard was dropped.
+    Dropped,
+    /// Refused: no guard of this number stands on the bench, or none is active.
+    NoGuard,
 }
 
 /// A step that was made, with its answer.

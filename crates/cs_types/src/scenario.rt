@@ -4,6 +4,19 @@ use crate::event::Step;
 use crate::list::List;
 use crate::task::TaskSpec;
 
+/// A pair of real user ids that a guard is taught to refuse.
+#[derive(Clone, Copy)]
+pub struct Teach {
+    /// The number of its line in the text, from 1.
+    pub line: u32,
+    /// The number of the guard, 0 to 15.
+    pub guard: u8,
+    /// The real user id of the caller, 0 to 65535.
+    pub from: u32,
+    /// The real user id of the target, 0 to 65535.
+    pub to: u32,
+}
+
 /// What a scenario text says.
 #[derive(Drop)]
 pub struct Scenario {
@@ -17,6 +30,8 @@ pub struct Scenario {
     pub user_top: u64,
     /// The tasks at the start, in the order of their lines.
     pub tasks: List<TaskSpec>,
+    /// What the guards are taught, in the order of the lines.
+    pub teaches: List<Teach>,
     /// The steps of all actors, in the order of their lines.
     pub steps: List<Step>,
 }

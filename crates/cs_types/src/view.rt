@@ -1,4 +1,4 @@
-//! What a machine shows of its core, its siblings and its tasks.
+//! What a machine shows of its core, its siblings, its tasks and its guards.
 
 use crate::task::{Cookie, Cpu, Pid};
 
@@ -51,4 +51,23 @@ pub struct EndView {
     pub pid: Pid,
     /// What it was charged for forced idle, in ns.
     pub forced: u64,
+}
+
+/// Where a guard is.
+#[derive(Clone, Copy)]
+pub enum GuardPlace {
+    /// It was not loaded yet, and is not asked.
+    Bench,
+    /// It is asked about each access that the rules before it allow.
+    Active,
+    /// It was unloaded, and is gone.
+    Dropped,
+}
+
+/// A guard.
+#[derive(Clone, Copy)]
+pub struct GuardView {
+    pub place: GuardPlace,
+    /// How often it was asked, a count. Of a dropped one it is the count at its drop.
+    pub asked: u64,
 }

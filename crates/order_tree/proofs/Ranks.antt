@@ -1,21 +1,20 @@
 -- A tree in which all keys are of one group and one class, as the queue of a scheduling class.
-use Rattle.std.proofs.Common.{◌≡◌, ℕ, Bool, true, false, cond, List, [], ◌∷◌, map, Option, None, Some, inl, inr, refl, sym, ap, ◌∙◌, subst}
+use Rattle.std.proofs.Common.{◌≡◌, ℕ, true, false, cond, List, [], ◌∷◌, map, None, Some, inl, inr, refl, sym, ap, ◌∙◌, subst}
 use Rattle.std.specs.Prelude.{is_some, slice_get}
 use Rattle.std.specs.List.{AllByRecursion}
 use Rattle.std.specs.Option.{option_map}
-use Rattle.std.specs.Ordering.{ordering_then, nat_cmp, is_eq, eq_by_cmp}
+use Rattle.std.specs.Ordering.{ordering_then, is_eq, eq_by_cmp}
 use Rattle.std.specs.Cmp.{nat_cmp_is}
 use Rattle.std.specs.declared.cmp.Ordering.{Ordering}
 use Rattle.std.specs.declared.cmp.Ordering.TheVariants.{Less, Equal, Greater}
 use Rattle.std.specs.FinMap as fin
-use Rattle.std.specs.FinMap.{FinMap, entries, get, contains_key, len, empty, empty_of_len, len-empty, get-empty, get-entries, get-insert, get-remove}
+use Rattle.std.specs.FinMap.{entries, get, len, empty, empty_of_len, len-empty, get-empty, get-entries, get-insert, get-remove}
 use Rattle.std.proofs.lemmas.Bool.{cases_Bool, cond-true, cond-false}
 use Rattle.cs_types.specs.Queue as queue
 use Rattle.cs_types.proofs.Queues as queues
 use Rattle.order_tree.specs.Order.{Entry, Members, key_cmp, first_of}
 use Rattle.order_tree.specs.Renamed.{renamed, map_renamed}
 use Rattle.order_tree.specs.Rank.{rank_at, key_at, IsRankKey, IsOfClass}
-use Rattle.order_tree.specs.declared.key.Key.{Key}
 use Rattle.order_tree.proofs.Keys.{key_total, key_cmp-IsAntisymmetric}
 use Rattle.order_tree.proofs.Renamed.{IsRenaming, all_of_found, entries-map_renamed, get-map_renamed, len-map_renamed, map_renamed-insert, map_renamed-remove}
 

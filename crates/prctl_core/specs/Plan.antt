@@ -1,5 +1,5 @@
 -- Plans: what a call comes to, beside its answer and its setting in a room.
-use Rattle.std.specs.Prelude.{◌≡◌, ℕ, ◌+◌, ◌-◌, ◌%◌, ◌==◌, ◌&&◌, ◌||◌, not, Bool, false, true, nat_lt, List, [], filter, find, length, Some, Result, Ok, Err, if◌then◌else◌}
+use Rattle.std.specs.Prelude.{◌≡◌, ℕ, ◌+◌, ◌-◌, ◌%◌, ◌==◌, ◌&&◌, ◌||◌, not, Bool, false, true, nat_lt, List, [], map, filter, find, length, Some, Result, Ok, Err, if◌then◌else◌}
 use Rattle.std.specs.List.{list_all}
 use Rattle.cs_types.specs.declared.task.Task.{Task}
 use Rattle.cs_types.specs.declared.event.Ask.{Ask}
@@ -7,9 +7,11 @@ use Rattle.cs_types.specs.declared.reply.Errno.{Errno}
 use Rattle.cs_types.specs.declared.reply.Errno.TheVariants.{Eperm, Einval, Efault, Enomem}
 use Rattle.cs_types.specs.declared.reply.Reply.{Reply}
 use Rattle.cs_types.specs.declared.reply.Reply.TheVariants.{Zero, Value, Refused, NoCaller}
-use Rattle.cs_types.specs.Access.{may_access}
+use Rattle.cs_types.specs.declared.task.TaskSpec.{TaskSpec}
+use Rattle.cs_types.specs.Guards.{GuardList, asked_each, asked_until}
+use Rattle.cs_types.specs.Access.{may_access, asked_about}
 use Rattle.cs_types.specs.Room.{RoomState, has_pid, task_of, online}
-use Rattle.cs_types.specs.Prctl.{is_invalid, is_in_scope, target_of, prctl_answer, makes_cookie, setting_of}
+use Rattle.cs_types.specs.Prctl.{asked_by_call, is_invalid, is_in_scope, target_of, prctl_answer, makes_cookie, setting_of}
 use Rattle.task_table.specs.Table.{Table, IsSound}
 use Rattle.cookie_refs.specs.Refs.{Refs}
 use Rattle.prctl_core.specs.declared.admitted.Called.{Called}
@@ -49,12 +51,13 @@ named (Process pgid) tasks = filter (λ task. task.spec.pgid == pgid) tasks
 -- ---- plans
 
 -- a room whose parts a plan is handed
-pub record IsRoomOf (room : RoomState) (table : Table) (refs : Refs) (siblings top : ℕ) : Type 0 where
+pub record IsRoomOf (room : RoomState) (table : Table) (refs : Refs) (known : GuardList) (siblings top : ℕ) : Type 0 where
   pub tasks : room.tasks ≡ table.tasks
   pub online : length (online room) ≡ siblings
   pub user_top : room.user_top ≡ top
   pub cookie_limit : room.cookie_limit ≡ refs.limit
   pub next_cookie : room.next_cookie ≡ refs.next
+  pub guards : room.guards ≡ known
 
 -- the answer of a plan
 abbrev pub reply_of : Planned → Reply
@@ -95,12 +98,13 @@ pub record IsAdmitted (room : RoomState) (pid : ℕ) (ask : Ask) (by to : Task) 
   pub enough : nat_lt (length (online room)) 2 ≡ false
   pub valid : is_invalid ask ≡ false
   pub target : target_of room pid ask ≡ Some to
-  pub access : may_access by.spec to.spec ≡ true
+  pub access : may_access room.guards by.spec to.spec ≡ true
 
--- a call is answered so, and this says whether it makes a cookie
-pub record Settles (room : RoomState) (pid : ℕ) (ask : Ask) (reply : Reply) (is_made : Bool) : Type 0 where
+-- a call is answered so, this says whether it makes a cookie, and these are the guards that it asks
+pub record Settles (room : RoomState) (pid : ℕ) (ask : Ask) (reply : Reply) (is_made : Bool) (asked : List ℕ) : Type 0 where
   pub answer : prctl_answer room pid ask ≡ reply
   pub makes : makes_cookie room pid ask ≡ is_made
+  pub asks : asked_by_call room pid ask ≡ asked
 
 -- a call that is admitted, or its answer
 pub record IsCall (room : RoomState) (pid : ℕ) (ask : Ask) (called : Called) : Type 0 where
@@ -110,7 +114,12 @@ pub record IsCall (room : RoomState) (pid : ℕ) (ask : Ask) (called : Called) :
 
 abbrev pub Admits : RoomState → ℕ → Ask → Result Called Reply → Type 0
 Admits room pid ask (Ok called) = IsCall room pid ask called
-Admits room pid ask (Err reply) = Settles room pid ask reply false
+Admits room pid ask (Err reply) = Settles room pid ask reply false (asked_by_call room pid ask)
+
+-- the guards that are asked until a call is admitted, or refused
+abbrev pub asked_to_admit : RoomState → ℕ → Ask → Result Called Reply → List ℕ
+asked_to_admit room pid ask (Ok called) = asked_about room.guards called.caller.spec called.target.spec
+asked_to_admit room pid ask (Err reply) = asked_by_call room pid ask
 
 -- the caller and the target are tasks of the table
 pub record AreThere (table : Table) (called : Called) : Type 0 where
@@ -120,24 +129,35 @@ pub record AreThere (table : Table) (called : Called) : Type 0 where
 
 -- ---- members
 
+-- whether the scope is the target alone
+abbrev pub is_alone : Called → Bool
+is_alone called = scope_number called.scope == 0
+
 -- the members of a call's scope
 abbrev pub members_of : List Task → Called → List Task
 members_of tasks called = filter (λ task. is_in_scope (scope_number called.scope) called.target.spec task.spec) tasks
 
 -- whether the caller may access every one of them
-abbrev pub may_access_all : List Task → Called → Bool
-may_access_all tasks called = list_all (λ member. may_access called.caller.spec member.spec) (members_of tasks called)
+abbrev pub may_access_all : GuardList → List Task → Called → Bool
+may_access_all guards tasks called =
+    list_all (λ member. may_access guards called.caller.spec member.spec) (members_of tasks called)
 
--- whether the scope is the target alone
-abbrev pub is_alone : Called → Bool
-is_alone called = scope_number called.scope == 0
+-- the guards that are asked about these tasks, up to the first that may not be accessed
+abbrev pub asked_about_all : GuardList → TaskSpec → List Task → List ℕ
+asked_about_all guards caller tasks =
+    asked_until (map (λ member. (not (may_access guards caller member.spec), asked_about guards caller member.spec)) tasks)
+
+-- those that are asked about the members: nobody where that is the target alone
+abbrev pub asked_about_members_of : GuardList → List Task → Called → List ℕ
+asked_about_members_of guards tasks called =
+    if is_alone called then [] else asked_about_all guards called.caller.spec (members_of tasks called)
 
 -- The members are named, or one of more than the target alone may not be accessed.
-abbrev pub NamesMembers : List Task → Called → Result Target Errno → Type 0
-NamesMembers tasks called (Ok to) =
-    (named to tasks ≡ members_of tasks called) × ((not (is_alone called) && not (may_access_all tasks called)) ≡ false)
-NamesMembers tasks called (Err errno) =
-    (errno ≡ Eperm) × (is_alone called ≡ false) × (may_access_all tasks called ≡ false)
+abbrev pub NamesMembers : GuardList → List Task → Called → Result Target Errno → Type 0
+NamesMembers guards tasks called (Ok to) =
+    (named to tasks ≡ members_of tasks called) × ((not (is_alone called) && not (may_access_all guards tasks called)) ≡ false)
+NamesMembers guards tasks called (Err errno) =
+    (errno ≡ Eperm) × (is_alone called ≡ false) × (may_access_all guards tasks called ≡ false)
 
 -- The caller is named, or the scope is not the target alone.
 abbrev pub NamesCaller : Called → Result Target Errno → Type 0
@@ -163,13 +183,15 @@ gift cookie (Ok to) = Go (record { to = to; cookie = cookie; reply = Zero })
 gift cookie (Err errno) = Answer (Refused errno)
 
 -- a CREATE at the limit
-pub record IsFull (old new : Refs) (planned : Planned) : Type 0 where
+pub record IsFull (old new : Refs) (guards after : GuardList) (planned : Planned) : Type 0 where
   pub refused : planned ≡ Answer (Refused Enomem)
   pub next : new.next ≡ old.next
+  pub asked : after ≡ guards
 
 -- a CREATE below it: the next cookie goes to the members, or one of them may not be accessed
-pub record IsMade (old new : Refs) (tasks : List Task) (called : Called) (planned : Planned) : Type 0 where
+pub record IsMade (old new : Refs) (guards after : GuardList) (tasks : List Task) (called : Called) (planned : Planned) : Type 0 where
   pub to : Result Target Errno
-  pub members : NamesMembers tasks called to
+  pub members : NamesMembers guards tasks called to
   pub plan : planned ≡ gift old.next to
   pub next : new.next ≡ old.next + 1
+  pub asked : after ≡ asked_each guards (asked_about_members_of guards tasks called)

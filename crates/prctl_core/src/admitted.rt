@@ -1,11 +1,13 @@
 //! Whether a call is admitted: what is asked of every command before it comes to its own conditions.
 
-ghost use Rattle.std.specs.Prelude.{◌≡◌, length, find, IfSome, Some, IfOk, IfErr};
+ghost use Rattle.std.specs.Prelude.{◌≡◌, ◌+◌, ◌<◌, ◌^◌, length, find, All, IfSome, Some, IfOk, IfErr};
+ghost use Rattle.cs_types.specs.Guards.{asked_each};
 ghost use Rattle.cs_types.specs.Room.{RoomState, has_pid, online as siblings_online};
 ghost use Rattle.cs_types.specs.Prctl.{named_by};
-ghost use Rattle.prctl_core.specs.Plan.{Admits, IsRefusal, AreThere};
+ghost use Rattle.prctl_core.specs.Plan.{Admits, asked_to_admit, IsRefusal, AreThere};
 
 use crate::arguments::{Command, Scope, arguments};
+use cs_outside::Guard;
 use cs_types::{Ask, Errno, Pid, Reply, Task};
 use ptrace_check::{Guards, may_access};
 use task_table::TaskTable;
@@ -34,18 +36,23 @@ fn named_by(table: &TaskTable, caller: &Task, pid: i32) -> Option<Task>
 }
 
 /// The call, where it is admitted, or its answer.
-pub fn admit(
+pub fn admit<G: Guard>(
     table: &TaskTable,
-    guards: &mut Guards,
+    guards: &mut Guards<G>,
     online: u8,
     caller: Pid,
     ask: &Ask,
 ) -> Result<Called, Reply>
+    requires asked { All (λ guard. guard.asked < 2 ^ 62) guards.old.guards.all }
     ensures admits { (room : RoomState) → room.tasks ≡ table.now.tasks → length (siblings_online room) ≡ online →
-        Admits room caller ask.now result }
+        room.guards ≡ guards.old.guards → Admits room caller ask.now result }
     ensures refused { IfErr result IsRefusal }
     ensures there { IfOk result (λ called. AreThere table.now called) }
-    ensures guards { guards.new ≡ guards.old }
+    ensures asked { (room : RoomState) → room.tasks ≡ table.now.tasks → length (siblings_online room) ≡ online →
+        room.guards ≡ guards.old.guards →
+        guards.new.guards ≡ asked_each room.guards (asked_to_admit room caller ask.now result) }
+    ensures counts { All (λ guard. guard.asked < 2 ^ 62 + 16) guards.new.guards.all }
+    ensures caps { guards.new.caps ≡ guards.old.caps }
 {
     let Some(by) = table.find(caller).copied() else {
         return Err(Reply::NoCaller);

@@ -1,26 +1,51 @@
 //! Whose cookie a call sets, and whether its caller may access them all.
 
-ghost use Rattle.std.specs.Prelude.{◌≡◌, filter};
+ghost use Rattle.std.specs.Prelude.{◌≡◌, ℕ, ◌+◌, ◌*◌, ◌<◌, ◌^◌, ◌||◌, not, if◌then◌else◌, [], length, filter, All};
+ghost use Rattle.cs_types.specs.Guards.{asked_each};
 ghost use Rattle.std.specs.List.{list_all};
-ghost use Rattle.cs_types.specs.Access.{may_access};
+ghost use Rattle.cs_types.specs.Access.{may_access, asked_about};
 ghost use Rattle.task_table.specs.Group.{is_in_group};
-ghost use Rattle.prctl_core.specs.Plan.{NamesMembers, NamesCaller};
+ghost use Rattle.prctl_core.specs.Plan.{NamesMembers, NamesCaller, asked_about_all, asked_about_members_of};
 
 use crate::admitted::Called;
 use crate::arguments::Scope;
 use crate::decision::Target;
-use cs_types::{Errno, TaskSpec};
+use cs_outside::Guard;
+use cs_types::{Errno, Task, TaskSpec};
 use ptrace_check::{Guards, may_access};
 use task_table::{Group, TaskTable};
 
+/// Whether the task is no member of the group, or the caller may access it. The guards are asked about a
+/// member alone, each of the at most 16 active ones at most once.
+fn passes<G: Guard>(guards: &mut Guards<G>, caller: &TaskSpec, group: Group, task: &Task) -> bool
+    requires asked { All (λ guard. guard.asked < 2 ^ 63) guards.old.guards.all }
+    ensures passes { result ≡ (not (is_in_group group task.now) || may_access guards.old.guards caller.now task.now.spec) }
+    ensures asked { guards.new.guards ≡ asked_each guards.old.guards
+        (if is_in_group group task.now then asked_about guards.old.guards caller.now task.now.spec else []) }
+    ensures counts { (bound left : ℕ) → 16 * (left + 1) < bound →
+        All (λ guard. guard.asked + 16 * (left + 1) < bound) guards.old.guards.all →
+        All (λ guard. guard.asked + 16 * left < bound) guards.new.guards.all }
+    ensures caps { guards.new.caps ≡ guards.old.caps }
+{
+    !group.has(task) || may_access(caller, &task.spec, guards)
+}
+
 /// Whether the caller may access every member of the group. They are asked by rising pid, up to the
 /// first that is refused.
-fn may_access_all(table: &TaskTable, guards: &mut Guards, caller: &TaskSpec, group: Group) -> bool
-    ensures all { result ≡ list_all (λ member. may_access caller.now member.spec) (filter (is_in_group group) table.now.tasks) }
-    ensures guards { guards.new ≡ guards.old }
+fn may_access_all<G: Guard>(
+    table: &TaskTable,
+    guards: &mut Guards<G>,
+    caller: &TaskSpec,
+    group: Group,
+) -> bool
+    requires few { length table.now.tasks < 2 ^ 16 }
+    requires asked { All (λ guard. guard.asked < 2 ^ 62 + 16) guards.old.guards.all }
+    ensures all { result ≡ list_all (λ member. may_access guards.old.guards caller.now member.spec) (filter (is_in_group group) table.now.tasks) }
+    ensures asked { guards.new.guards ≡ asked_each guards.old.guards (asked_about_all guards.old.guards caller.now (filter (is_in_group group) table.now.tasks)) }
+    ensures caps { guards.new.caps ≡ guards.old.caps }
 {
     for member in table.iter() {
-        if group.has(member) && !may_access(caller, &member.spec, guards) {
+        if !passes(guards, caller, group, member) {
             return false;
         }
     }
@@ -28,9 +53,16 @@ fn may_access_all(table: &TaskTable, guards: &mut Guards, caller: &TaskSpec, gro
 }
 
 /// The members of the call's scope, or EPERM where one of them may not be accessed.
-pub fn members(table: &TaskTable, guards: &mut Guards, called: &Called) -> Result<Target, Errno>
-    ensures named { NamesMembers table.now.tasks called.now result }
-    ensures guards { guards.new ≡ guards.old }
+pub fn members<G: Guard>(
+    table: &TaskTable,
+    guards: &mut Guards<G>,
+    called: &Called,
+) -> Result<Target, Errno>
+    requires few { length table.now.tasks < 2 ^ 16 }
+    requires asked { All (λ guard. guard.asked < 2 ^ 62 + 16) guards.old.guards.all }
+    ensures named { NamesMembers guards.old.guards table.now.tasks called.now result }
+    ensures asked { guards.new.guards ≡ asked_each guards.old.guards (asked_about_members_of guards.old.guards table.now.tasks called.now) }
+    ensures caps { guards.new.caps ≡ guards.old.caps }
 {
     let target = called.target.spec;
     let (group, to) = match called.scope {

@@ -1,9 +1,10 @@
 //! The plan of a call, command by command.
 
-ghost use Rattle.std.specs.Prelude.{◌≡◌, ◌≢◌, ◌^◌, ◌<◌, length, find, Some};
+ghost use Rattle.std.specs.Prelude.{◌≡◌, ◌≢◌, ◌+◌, ◌^◌, ◌<◌, length, find, All, Some};
+ghost use Rattle.cs_types.specs.Guards.{asked_each};
 ghost use Rattle.cs_types.specs.Room.{RoomState, has_pid};
 ghost use Rattle.cs_types.specs.Scenario.{IsWithin};
-ghost use Rattle.cs_types.specs.Prctl.{live_cookies, prctl_answer, makes_cookie, with_made};
+ghost use Rattle.cs_types.specs.Prctl.{live_cookies, prctl_answer, asked_by_call, makes_cookie, with_used};
 ghost use Rattle.task_table.specs.Table.{IsSound};
 ghost use Rattle.cookie_refs.specs.Refs.{count_of, Agree, AgreeBut};
 ghost use Rattle.prctl_core.specs.Plan.{IsRoomOf, reply_of, held_by, IsPlanned, SetsIn, get_plan, gift, IsFull, IsMade};
@@ -13,6 +14,7 @@ use crate::arguments::{Command, Scope};
 use crate::decision::{Decision, Planned, Target};
 use crate::members::{itself, members};
 use cookie_refs::CookieRefs;
+use cs_outside::Guard;
 use cs_types::{Ask, Cookie, Errno, Pid, Reply, Task};
 use ptrace_check::Guards;
 use task_table::TaskTable;
@@ -71,15 +73,23 @@ fn give(refs: &mut CookieRefs, cookie: Cookie, to: Result<Target, Errno>) -> Pla
 }
 
 /// What a CREATE comes to.
-fn create(table: &TaskTable, refs: &mut CookieRefs, guards: &mut Guards, called: &Called) -> Planned
+fn create<G: Guard>(
+    table: &TaskTable,
+    refs: &mut CookieRefs,
+    guards: &mut Guards<G>,
+    called: &Called,
+) -> Planned
     requires agree { Agree refs.old table.now.tasks }
     requires serial { refs.old.next < 2 ^ 63 }
-    ensures full { length (live_cookies table.now.tasks) ≡ refs.old.limit → IsFull refs.old refs.new result }
+    requires few { length table.now.tasks < 2 ^ 16 }
+    requires asked { All (λ guard. guard.asked < 2 ^ 62 + 16) guards.old.guards.all }
+    ensures full { length (live_cookies table.now.tasks) ≡ refs.old.limit →
+        IsFull refs.old refs.new guards.old.guards guards.new.guards result }
     ensures made { length (live_cookies table.now.tasks) ≢ refs.old.limit →
-        IsMade refs.old refs.new table.now.tasks called.now result }
+        IsMade refs.old refs.new guards.old.guards guards.new.guards table.now.tasks called.now result }
     ensures agree { AgreeBut refs.new table.now.tasks (held_by result) }
     ensures limit { refs.new.limit ≡ refs.old.limit }
-    ensures guards { guards.new ≡ guards.old }
+    ensures caps { guards.new.caps ≡ guards.old.caps }
 {
     match refs.make() {
         Ok(cookie) => give(refs, cookie, members(table, guards, called)),
@@ -112,10 +122,13 @@ fn share(
 /// `Answer` carries `NoCaller`, or the error of the first row of the table that applies. `Go` says
 /// whose cookie becomes which, and the answer: `Zero`, or `Value` for a GET. The plan holds one
 /// reference to its cookie, none to 0: who makes the setting gives it back at the end.
-pub fn plan(
+///
+/// Each guard was asked fewer than 2^62 times. It may be asked about the target and about each member, up
+/// to the first that may not be accessed, and its count stays raised whatever the answer is.
+pub fn plan<G: Guard>(
     table: &TaskTable,
     refs: &mut CookieRefs,
-    guards: &mut Guards,
+    guards: &mut Guards<G>,
     online: u8,
     user_top: u64,
     caller: Pid,
@@ -124,21 +137,24 @@ pub fn plan(
     requires user_top { IsWithin 8192 9223372036854775807 user_top }
     requires agree { Agree refs.old table.now.tasks }
     requires serial { refs.old.next < 2 ^ 63 }
+    requires asked { All (λ guard. guard.asked < 2 ^ 62) guards.old.guards.all }
 
     // In each room of which these are the parts, this is the answer, and so are the cookies set. Where
-    // a cookie is made, its number is used.
-    ensures answer { (room : RoomState) → IsRoomOf room table.now refs.old online user_top →
+    // a cookie is made, its number is used, and these guards were asked.
+    ensures answer { (room : RoomState) → IsRoomOf room table.now refs.old guards.old.guards online user_top →
         prctl_answer room caller ask.now ≡ reply_of result }
-    ensures sets { (room : RoomState) → IsRoomOf room table.now refs.old online user_top →
+    ensures sets { (room : RoomState) → IsRoomOf room table.now refs.old guards.old.guards online user_top →
         SetsIn room caller ask.now result }
-    ensures serial { (room : RoomState) → IsRoomOf room table.now refs.old online user_top →
-        refs.new.next ≡ (with_made room (makes_cookie room caller ask.now)).next_cookie }
+    ensures serial { (room : RoomState) → IsRoomOf room table.now refs.old guards.old.guards online user_top →
+        refs.new.next ≡ (with_used room (makes_cookie room caller ask.now) (asked_by_call room caller ask.now)).next_cookie }
+    ensures asked { (room : RoomState) → IsRoomOf room table.now refs.old guards.old.guards online user_top →
+        guards.new.guards ≡ asked_each room.guards (asked_by_call room caller ask.now) }
 
     // It goes exactly where the call succeeds, and then holds a reference to its cookie.
     ensures planned { IsPlanned result }
     ensures held { AgreeBut refs.new table.now.tasks (held_by result) }
     ensures limit { refs.new.limit ≡ refs.old.limit }
-    ensures guards { guards.new ≡ guards.old }
+    ensures caps { guards.new.caps ≡ guards.old.caps }
 {
     let called = match admit(table, guards, online, caller, ask) {
         Ok(called) => called,

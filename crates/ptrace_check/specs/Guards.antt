@@ -1,13 +1,21 @@
 -- Guards: those of a core, as its calls see them.
-use Rattle.std.specs.Prelude.{ℕ, List}
+use Rattle.std.specs.Prelude.{ℕ, List, slice_index_or}
+use Rattle.cs_types.specs.Guards.{GuardState, GuardList}
 
--- a guard: the pairs of real user ids that it refuses, how many it can be taught, and how often it was asked
-pub record GuardState : Type 0 where
-  pub pairs : List (ℕ × ℕ)
+-- a guard in its seat, and how many pairs it can be taught, 0 for one that was dropped
+pub record Seated : Type 0 where
+  pub guard : GuardState
   pub cap : ℕ
-  pub asked : ℕ
 
--- the guards that are not asked, and those that are, in the order of asking
-pub record GuardLists : Type 0 where
-  pub bench : List GuardState
-  pub active : List GuardState
+-- the guards, and how many pairs each can be taught, 0 for one that was dropped
+pub record Guarded : Type 0 where
+  pub guards : GuardList
+  pub caps : List ℕ
+
+-- how many pairs the guard of this number can be taught
+abbrev pub cap_of : List ℕ → ℕ → ℕ
+cap_of caps index = slice_index_or caps index 0
+
+-- how many guards a core has at most
+abbrev pub most_guards : ℕ
+most_guards = 16

@@ -2,7 +2,10 @@
 #![tactic(auto)]
 
 mod access;
+mod answer;
 mod guards;
+mod seat;
 
 pub use access::may_access;
+pub use answer::{LoadAnswer, TeachAnswer, UnloadAnswer};
 pub use guards::Guards;

@@ -11,20 +11,21 @@ use Rattle.cs_types.specs.declared.task.Task.{Task}
 use Rattle.cs_types.specs.declared.view.CpuView.{CpuView}
 use Rattle.cs_types.specs.declared.view.TaskView.{TaskView}
 use Rattle.cs_types.specs.declared.view.EndView.{EndView}
+use Rattle.cs_types.specs.declared.view.GuardView.{GuardView}
 use Rattle.cs_types.specs.declared.reply.Entry.{Entry}
-use Rattle.cs_types.specs.declared.scenario.Scenario.{Scenario}
 use Rattle.cs_types.specs.Scenario.{IsPlayable}
-use Rattle.cs_types.specs.Room.{sibling_of}
+use Rattle.cs_types.specs.Guards.{GuardState, no_guard}
+use Rattle.cs_types.specs.Room.{Opening, sibling_of}
 use Rattle.cs_types.specs.Touches.{own_number, is_fresh}
 use Rattle.cs_types.specs.History.{History, Moment, beginning, next, after, moment_of, fold_of}
-use Rattle.cs_types.specs.View.{cpu_view, task_after, task_view, end_view}
+use Rattle.cs_types.specs.View.{cpu_view, task_after, task_view, end_view, guard_view}
 use Rattle.cs_types.proofs.Foremost.{find_passes}
 use Rattle.cs_types.proofs.Numbers.{draws-step}
 use Rattle.cs_types.proofs.Inserted.{is_above}
 use Rattle.cs_types.proofs.Rising.{Rises, rising-fold_of, above_zero, above_next, above_none}
 use Rattle.scenario_text.specs.Words.{Word}
 use Rattle.scenario_text.specs.Text.{line, entry_text}
-use Rattle.room_report.specs.Report.{cpu_words, task_words, ended_words, core_lines, cpu_lines, task_lines, ended_lines, lines_text, report_lines, report_text}
+use Rattle.room_report.specs.Report.{cpu_words, task_words, ended_words, guard_words, core_lines, cpu_lines, task_lines, ended_lines, guard_lines, lines_text, report_lines, report_text}
 use Rattle.room_report.proofs.Reached.{AreLeft, all_left}
 
 -- ---- lists
@@ -108,23 +109,23 @@ task_lines_above moment pid = map (task_row moment) (filter (is_above pid) momen
 abbrev pub shown_after : Moment → ℕ → Option TaskView
 shown_after moment pid = option_map (task_view moment.room) (task_after moment.room pid)
 
-rises : (scenario : Scenario) (history : History) → IsPlayable scenario → Rises 0 (fold_of scenario history).next_pid (fold_of scenario history).tasks
-rises scenario history playable = rising-fold_of scenario history (λ k d few. (playable.tasks k d few).pid.0) playable.distinct
+rises : (opening : Opening) (history : History) → IsPlayable opening.scenario → Rises 0 (fold_of opening history).next_pid (fold_of opening history).tasks
+rises opening history playable = rising-fold_of opening history (λ k d few. (playable.tasks k d few).pid.0) playable.distinct
 
-pub task_start : (scenario : Scenario) (history : History) → IsPlayable scenario →
-    task_lines (moment_of scenario history) ≡ task_lines_above (moment_of scenario history) 0
-task_start scenario history playable =
-    let last = moment_of scenario history in
-    ap (map (task_row last)) (sym (above_zero last.room.next_pid last.room.tasks (rises scenario history playable)))
+pub task_start : (opening : Opening) (history : History) → IsPlayable opening.scenario →
+    task_lines (moment_of opening history) ≡ task_lines_above (moment_of opening history) 0
+task_start opening history playable =
+    let last = moment_of opening history in
+    ap (map (task_row last)) (sym (above_zero last.room.next_pid last.room.tasks (rises opening history playable)))
 
-pub task_next : (scenario : Scenario) (history : History) → IsPlayable scenario → (pid : ℕ) (view : TaskView) →
-    Some view ≡ shown_after (moment_of scenario history) pid →
-    lines_text (task_lines_above (moment_of scenario history) pid)
-    ≡ line (task_words view) ++ lines_text (task_lines_above (moment_of scenario history) view.pid)
-task_next scenario history playable pid view shown =
-    let last = moment_of scenario history in
+pub task_next : (opening : Opening) (history : History) → IsPlayable opening.scenario → (pid : ℕ) (view : TaskView) →
+    Some view ≡ shown_after (moment_of opening history) pid →
+    lines_text (task_lines_above (moment_of opening history) pid)
+    ≡ line (task_words view) ++ lines_text (task_lines_above (moment_of opening history) view.pid)
+task_next opening history playable pid view shown =
+    let last = moment_of opening history in
     let found = mapped_some (task_view last.room) (task_after last.room pid) view shown in
-    ap (λ (tasks : List Task). lines_text (map (task_row last) tasks)) (above_next pid 0 last.room.next_pid last.room.tasks found.0 (rises scenario history playable) found.1)
+    ap (λ (tasks : List Task). lines_text (map (task_row last) tasks)) (above_next pid 0 last.room.next_pid last.room.tasks found.0 (rises opening history playable) found.1)
     ∙ ap (λ (v : TaskView). line (task_words v) ++ lines_text (task_lines_above last v.pid)) (sym found.2)
 
 pub task_end : (moment : Moment) (pid : ℕ) → None ≡ shown_after moment pid → lines_text (task_lines_above moment pid) ≡ []
@@ -148,8 +149,8 @@ ended_after moment (entry ∷ entries) =
     let one = draws-step moment.room (is_fresh moment.ledger) entry.event in
     omega (arith, ended_after (next moment entry) entries, one.ended)
 
-pub few_ended : (scenario : Scenario) (history : History) → length (moment_of scenario history).room.ended ≤ length history
-few_ended scenario history = omega (arith, ended_after (beginning scenario) history)
+pub few_ended : (opening : Opening) (history : History) → length (moment_of opening history).room.ended ≤ length history
+few_ended opening history = omega (arith, ended_after (beginning opening) history)
 
 abbrev ended_row : Moment → ℕ → List Word
 ended_row moment pid = ended_words (end_view moment.room pid)
@@ -177,13 +178,52 @@ pub ended_past : (moment : Moment) (index : ℕ) → length moment.room.ended �
 ended_past moment index past =
     ap (λ (pids : List ℕ). lines_text (map (ended_row moment) pids)) (drop_all index moment.room.ended past)
 
+-- ---- guards
+
+abbrev guard_row : Moment → ℕ → Option (List Word)
+guard_row moment index = option_map (guard_words index) (guard_view moment.room.guards index)
+
+-- the lines of the guards from one on
+abbrev pub guard_lines_from : Moment → ℕ → List (List Word)
+guard_lines_from moment index = filter_map (guard_row moment) (range_with_len index (length moment.room.guards.all - index))
+
+pub guard_start : (moment : Moment) → guard_lines moment ≡ guard_lines_from moment 0
+guard_start moment =
+    let e : length moment.room.guards.all - 0 ≡ length moment.room.guards.all = omega arith in
+    ap (λ n. filter_map (guard_row moment) (range_with_len 0 n)) (sym e)
+
+-- a guard that is shown was handed in
+pub guard_within : (moment : Moment) (index : ℕ) (view : GuardView) → Some view ≡ guard_view moment.room.guards index → index < length moment.room.guards.all
+guard_within moment index view shown =
+    let found = mapped_some (λ (guard : GuardState). record { place = guard.place; asked = guard.asked }) (slice_get moment.room.guards.all index) view shown in
+    slice_get_within moment.room.guards.all index found.0 found.1
+
+pub guard_next : (moment : Moment) (index : ℕ) (view : GuardView) → Some view ≡ guard_view moment.room.guards index →
+    lines_text (guard_lines_from moment index) ≡ line (guard_words index view) ++ lines_text (guard_lines_from moment (index + 1))
+guard_next moment index view shown =
+    let few = guard_within moment index view shown in
+    let e : length moment.room.guards.all - index ≡ suc (length moment.room.guards.all - (index + 1)) = omega arith in
+    ap (λ n. lines_text (filter_map (guard_row moment) (range_with_len index n))) e
+    ∙ ap (λ (row : Option GuardView). lines_text (cons_option (option_map (guard_words index) row) (guard_lines_from moment (index + 1)))) (sym shown)
+
+-- past the last guard nothing is left
+pub guard_end : (moment : Moment) (index : ℕ) → None ≡ guard_view moment.room.guards index → lines_text (guard_lines_from moment index) ≡ []
+guard_end moment index shown =
+    let none = mapped_none (λ (guard : GuardState). record { place = guard.place; asked = guard.asked }) (slice_get moment.room.guards.all index) shown in
+    let e : length moment.room.guards.all - index ≡ 0 =
+    omega (arith, λ (few : index < length moment.room.guards.all). none-some _ (sym none ∙ slice_get-get_or moment.room.guards.all index no_guard few)) in
+    ap (λ n. lines_text (filter_map (guard_row moment) (range_with_len index n))) e
+
 -- ---- parts
 
 abbrev pub done_lines : List (List Word)
 done_lines = (codes "done" ∷ []) ∷ []
 
+abbrev pub after_ended : Moment → List (List Word)
+after_ended moment = guard_lines moment ++ done_lines
+
 abbrev pub after_tasks : Moment → List (List Word)
-after_tasks moment = ended_lines moment ++ done_lines
+after_tasks moment = ended_lines moment ++ after_ended moment
 
 abbrev pub after_siblings : Moment → List (List Word)
 after_siblings moment = task_lines moment ++ after_tasks moment
@@ -191,13 +231,13 @@ after_siblings moment = task_lines moment ++ after_tasks moment
 abbrev pub after_core : Moment → List (List Word)
 after_core moment = cpu_lines moment ++ after_siblings moment
 
-parts_in_turn : (core cpus tasks ended done : List (List Word)) →
-    core ++ cpus ++ tasks ++ ended ++ done ≡ core ++ (cpus ++ (tasks ++ (ended ++ done)))
-parts_in_turn core cpus tasks ended done = simp append_assoc
+parts_in_turn : (core cpus tasks ended guards done : List (List Word)) →
+    core ++ cpus ++ tasks ++ ended ++ guards ++ done ≡ core ++ (cpus ++ (tasks ++ (ended ++ (guards ++ done))))
+parts_in_turn core cpus tasks ended guards done = simp append_assoc
 
 -- at the start all parts are left
 pub report_left : (before : Option (List ℕ)) (moment : Moment) → AreLeft before (report_text moment) (core_lines moment ++ after_core moment) before
 report_left before moment =
     subst (λ (lines : List (List Word)). AreLeft before (report_text moment) lines before)
-    (parts_in_turn (core_lines moment) (cpu_lines moment) (task_lines moment) (ended_lines moment) done_lines)
+    (parts_in_turn (core_lines moment) (cpu_lines moment) (task_lines moment) (ended_lines moment) (guard_lines moment) done_lines)
     (all_left before (report_lines moment))

@@ -2,7 +2,7 @@
 use Rattle.std.proofs.Common.{◌≡◌, ℕ, List, [], ◌∷◌, ◌++◌, drop, refl, sym, ◌∙◌, append_assoc, All}
 use Rattle.std.specs.List.{AllByRecursion, flat_map}
 use Rattle.std.proofs.lemmas.List.Elements.{recursion_from_All}
-use Rattle.cs_types.specs.declared.scenario.Scenario.{Scenario}
+use Rattle.cs_types.specs.Room.{Opening}
 use Rattle.cs_types.specs.History.{History, moment_of}
 use Rattle.scenario_text.specs.Text.{entry_text}
 use Rattle.scenario_text.specs.Entry.{IsEntry}
@@ -27,8 +27,8 @@ one_list (x ∷ a) (y ∷ b) rest more is other same =
     let later : a ≡ b = one_list a b rest more is.1 other.1 one.1 in
     cc
 
-pub one_history : (scenario other : Scenario) (history played : History) → All IsEntry history → All IsEntry played →
-    output_text scenario history ≡ output_text other played → history ≡ played
-one_history scenario other history played is made same =
-    one_list history played (drop 1 (report_text (moment_of scenario history))) (drop 1 (report_text (moment_of other played)))
+pub one_history : (opening other : Opening) (history played : History) → All IsEntry history → All IsEntry played →
+    output_text opening history ≡ output_text other played → history ≡ played
+one_history opening other history played is made same =
+    one_list history played (drop 1 (report_text (moment_of opening history))) (drop 1 (report_text (moment_of other played)))
     (recursion_from_All IsEntry history is) (recursion_from_All IsEntry played made) same

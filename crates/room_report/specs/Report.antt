@@ -3,14 +3,17 @@
 use Rattle.std.specs.Prelude.{ℕ, Bool, true, false, List, [], ◌∷◌, ◌++◌, length, map, codes, decimal}
 use Rattle.std.specs.List.{flat_map, filter_map, range_with_len}
 use Rattle.std.specs.Option.{option_map}
-use Rattle.cs_types.specs.declared.scenario.Scenario.{Scenario}
 use Rattle.cs_types.specs.declared.view.CoreView.{CoreView}
 use Rattle.cs_types.specs.declared.view.CpuView.{CpuView}
 use Rattle.cs_types.specs.declared.view.TaskView.{TaskView}
 use Rattle.cs_types.specs.declared.view.EndView.{EndView}
+use Rattle.cs_types.specs.declared.view.GuardPlace.{GuardPlace}
+use Rattle.cs_types.specs.declared.view.GuardPlace.TheVariants.{Bench, Active, Dropped}
+use Rattle.cs_types.specs.declared.view.GuardView.{GuardView}
+use Rattle.cs_types.specs.Room.{Opening}
 use Rattle.cs_types.specs.Touches.{task_number, pick_number}
 use Rattle.cs_types.specs.History.{History, Moment, moment_of}
-use Rattle.cs_types.specs.View.{core_view, cpu_view, task_view, end_view}
+use Rattle.cs_types.specs.View.{core_view, cpu_view, task_view, end_view, guard_view}
 use Rattle.scenario_text.specs.Words.{Word, run_word}
 use Rattle.scenario_text.specs.Text.{line, entry_text}
 
@@ -59,6 +62,16 @@ task_words task =
 abbrev pub ended_words : EndView → List Word
 ended_words task = codes "ended" ∷ decimal task.pid ∷ codes "forced" ∷ decimal task.forced ∷ []
 
+abbrev pub place_word : GuardPlace → Word
+place_word Bench = codes "bench"
+place_word Active = codes "active"
+place_word Dropped = codes "dropped"
+
+-- `guard` N `bench` `asked` COUNT: the guard's number, where it is, and how often it was asked
+abbrev pub guard_words : ℕ → GuardView → List Word
+guard_words index guard =
+    codes "guard" ∷ decimal index ∷ place_word guard.place ∷ codes "asked" ∷ decimal guard.asked ∷ []
+
 -- ---- the lines
 
 -- what is shown of the whole core
@@ -83,9 +96,15 @@ task_lines moment = map (λ task. task_words (task_view moment.room task)) momen
 abbrev pub ended_lines : Moment → List (List Word)
 ended_lines moment = map (λ pid. ended_words (end_view moment.room pid)) moment.room.ended
 
+-- each guard that was handed in, from 0 on
+abbrev pub guard_lines : Moment → List (List Word)
+guard_lines moment =
+    filter_map (λ index. option_map (guard_words index) (guard_view moment.room.guards index)) (range_with_len 0 (length moment.room.guards.all))
+
 abbrev pub report_lines : Moment → List (List Word)
 report_lines moment =
-    core_lines moment ++ cpu_lines moment ++ task_lines moment ++ ended_lines moment ++ (codes "done" ∷ []) ∷ []
+    core_lines moment ++ cpu_lines moment ++ task_lines moment ++ ended_lines moment ++ guard_lines moment
+    ++ (codes "done" ∷ []) ∷ []
 
 -- ---- the texts
 
@@ -97,5 +116,5 @@ abbrev pub report_text : Moment → List ℕ
 report_text moment = lines_text (report_lines moment)
 
 -- the line of each entry, and the report of the moment after them
-abbrev pub output_text : Scenario → History → List ℕ
-output_text scenario history = flat_map entry_text history ++ report_text (moment_of scenario history)
+abbrev pub output_text : Opening → History → List ℕ
+output_text opening history = flat_map entry_text history ++ report_text (moment_of opening history)

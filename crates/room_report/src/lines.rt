@@ -2,9 +2,9 @@
 
 ghost use Rattle.std.specs.Prelude.{◌≡◌};
 ghost use Rattle.scenario_text.specs.Text.{line};
-ghost use Rattle.room_report.specs.Report.{clock_words, numbers_words, core_words, intervals_words, online_word, cpu_words, queued_word, task_words, ended_words};
+ghost use Rattle.room_report.specs.Report.{clock_words, numbers_words, core_words, intervals_words, online_word, cpu_words, queued_word, task_words, ended_words, place_word, guard_words};
 
-use cs_types::{CoreView, Cpu, CpuView, EndView, TaskView};
+use cs_types::{CoreView, Cpu, CpuView, EndView, GuardPlace, GuardView, TaskView};
 use scenario_text::Line;
 
 pub(crate) fn clock_line(clock: u64) -> Line
@@ -96,6 +96,19 @@ pub(crate) fn ended_line(task: EndView) -> Line
     line
 }
 
+pub(crate) fn guard_line(index: u8, guard: GuardView) -> Line
+    ensures { result ≡ line (guard_words index guard) }
+{
+    let mut line = Line::new();
+    line.named("guard", index);
+    line.text(" ");
+    line.text(place_text(guard.place));
+    line.text(" ");
+    line.named("asked", guard.asked);
+    line.text("\n");
+    line
+}
+
 fn online_text(is_online: bool) -> &'static str
     ensures { result.now ≡ online_word is_online }
 {
@@ -106,4 +119,14 @@ fn queued_text(is_queued: bool) -> &'static str
     ensures { result.now ≡ queued_word is_queued }
 {
     if is_queued { "queued" } else { "asleep" }
+}
+
+fn place_text(place: GuardPlace) -> &'static str
+    ensures { result.now ≡ place_word place }
+{
+    match place {
+        GuardPlace::Bench => "bench",
+        GuardPlace::Active => "active",
+        GuardPlace::Dropped => "dropped",
+    }
 }

@@ -8,10 +8,11 @@ ghost use Rattle.cs_types.specs.Scenario.{IsPlayable};
 ghost use Rattle.cs_types.specs.History.{moment_of};
 ghost use Rattle.cs_outside.specs.Device.{appended, Rose, WritesPrefix};
 ghost use Rattle.scenario_text.specs.Text.{entry_text};
-ghost use Rattle.room_report.specs.Report.{core_lines, cpu_lines, task_lines, ended_lines, lines_text};
+ghost use Rattle.room_report.specs.Report.{core_lines, cpu_lines, task_lines, ended_lines, guard_lines, lines_text};
 
 use crate::lines::{
-    clock_line, core_line, cpu_line, ended_line, intervals_line, numbers_line, task_line,
+    clock_line, core_line, cpu_line, ended_line, guard_line, intervals_line, numbers_line,
+    task_line,
 };
 use cs_outside::{Failed, Sink, write_all};
 use cs_types::Room;
@@ -35,8 +36,8 @@ pub(crate) fn write_entries<R: Room, K: Sink>(room: &R, sink: &mut K) -> Result<
 
 /// The first lines of the report, on the whole core.
 pub(crate) fn write_core<R: Room, K: Sink>(room: &R, sink: &mut K) -> Result<(), Failed>
-    ensures ok { OnOk result (K.written sink.new ≡ appended (K.written sink.old) (lines_text (core_lines (moment_of (R.scenario room.now) (R.history room.now))))) }
-    ensures prefix { WritesPrefix (K.written sink.old) (lines_text (core_lines (moment_of (R.scenario room.now) (R.history room.now)))) (K.written sink.new) }
+    ensures ok { OnOk result (K.written sink.new ≡ appended (K.written sink.old) (lines_text (core_lines (moment_of (R.opening room.now) (R.history room.now))))) }
+    ensures prefix { WritesPrefix (K.written sink.old) (lines_text (core_lines (moment_of (R.opening room.now) (R.history room.now)))) (K.written sink.new) }
 
     ensures faultless { OnOk result (K.faults sink.new ≡ K.faults sink.old) }
     ensures failed { OnErr result (Rose (K.faults sink.old) (K.faults sink.new)) }
@@ -53,15 +54,15 @@ pub(crate) fn write_core<R: Room, K: Sink>(room: &R, sink: &mut K) -> Result<(),
 
 /// The line of each sibling.
 pub(crate) fn write_siblings<R: Room, K: Sink>(room: &R, sink: &mut K) -> Result<(), Failed>
-    ensures ok { OnOk result (K.written sink.new ≡ appended (K.written sink.old) (lines_text (cpu_lines (moment_of (R.scenario room.now) (R.history room.now))))) }
-    ensures prefix { WritesPrefix (K.written sink.old) (lines_text (cpu_lines (moment_of (R.scenario room.now) (R.history room.now)))) (K.written sink.new) }
+    ensures ok { OnOk result (K.written sink.new ≡ appended (K.written sink.old) (lines_text (cpu_lines (moment_of (R.opening room.now) (R.history room.now))))) }
+    ensures prefix { WritesPrefix (K.written sink.old) (lines_text (cpu_lines (moment_of (R.opening room.now) (R.history room.now)))) (K.written sink.new) }
 
     ensures faultless { OnOk result (K.faults sink.new ≡ K.faults sink.old) }
     ensures failed { OnErr result (Rose (K.faults sink.old) (K.faults sink.new)) }
     ensures counted { K.faults sink.old ≤ K.faults sink.new }
 
     // What the next part asks for.
-    ensures playable { IsPlayable (R.scenario room.now) }
+    ensures playable { IsPlayable (R.opening room.now).scenario }
 {
     for cpu in 0..room.siblings() {
         let view = room.cpu(cpu).unwrap();
@@ -72,10 +73,10 @@ pub(crate) fn write_siblings<R: Room, K: Sink>(room: &R, sink: &mut K) -> Result
 
 /// The line of each living task, by rising pid.
 pub(crate) fn write_tasks<R: Room, K: Sink>(room: &R, sink: &mut K) -> Result<(), Failed>
-    requires { IsPlayable (R.scenario room.now) }
+    requires { IsPlayable (R.opening room.now).scenario }
 
-    ensures ok { OnOk result (K.written sink.new ≡ appended (K.written sink.old) (lines_text (task_lines (moment_of (R.scenario room.now) (R.history room.now))))) }
-    ensures prefix { WritesPrefix (K.written sink.old) (lines_text (task_lines (moment_of (R.scenario room.now) (R.history room.now)))) (K.written sink.new) }
+    ensures ok { OnOk result (K.written sink.new ≡ appended (K.written sink.old) (lines_text (task_lines (moment_of (R.opening room.now) (R.history room.now))))) }
+    ensures prefix { WritesPrefix (K.written sink.old) (lines_text (task_lines (moment_of (R.opening room.now) (R.history room.now)))) (K.written sink.new) }
 
     ensures faultless { OnOk result (K.faults sink.new ≡ K.faults sink.old) }
     ensures failed { OnErr result (Rose (K.faults sink.old) (K.faults sink.new)) }
@@ -91,8 +92,8 @@ pub(crate) fn write_tasks<R: Room, K: Sink>(room: &R, sink: &mut K) -> Result<()
 
 /// The line of each task that ended. None ended without an entry.
 pub(crate) fn write_ended<R: Room, K: Sink>(room: &R, sink: &mut K) -> Result<(), Failed>
-    ensures ok { OnOk result (K.written sink.new ≡ appended (K.written sink.old) (lines_text (ended_lines (moment_of (R.scenario room.now) (R.history room.now))))) }
-    ensures prefix { WritesPrefix (K.written sink.old) (lines_text (ended_lines (moment_of (R.scenario room.now) (R.history room.now)))) (K.written sink.new) }
+    ensures ok { OnOk result (K.written sink.new ≡ appended (K.written sink.old) (lines_text (ended_lines (moment_of (R.opening room.now) (R.history room.now))))) }
+    ensures prefix { WritesPrefix (K.written sink.old) (lines_text (ended_lines (moment_of (R.opening room.now) (R.history room.now)))) (K.written sink.new) }
 
     ensures faultless { OnOk result (K.faults sink.new ≡ K.faults sink.old) }
     ensures failed { OnErr result (Rose (K.faults sink.old) (K.faults sink.new)) }
@@ -103,6 +104,23 @@ pub(crate) fn write_ended<R: Room, K: Sink>(room: &R, sink: &mut K) -> Result<()
             Some(task) => write_all(sink, ended_line(task).as_bytes())?,
             None => return Ok(()),
         }
+    }
+    Ok(())
+}
+
+/// The line of each guard.
+pub(crate) fn write_guards<R: Room, K: Sink>(room: &R, sink: &mut K) -> Result<(), Failed>
+    ensures ok { OnOk result (K.written sink.new ≡ appended (K.written sink.old) (lines_text (guard_lines (moment_of (R.opening room.now) (R.history room.now))))) }
+    ensures prefix { WritesPrefix (K.written sink.old) (lines_text (guard_lines (moment_of (R.opening room.now) (R.history room.now)))) (K.written sink.new) }
+
+    ensures faultless { OnOk result (K.faults sink.new ≡ K.faults sink.old) }
+    ensures failed { OnErr result (Rose (K.faults sink.old) (K.faults sink.new)) }
+    ensures counted { K.faults sink.old ≤ K.faults sink.new }
+{
+    let mut index = 0;
+    while let Some(guard) = room.guard(index) {
+        write_all(sink, guard_line(index, guard).as_bytes())?;
+        index += 1;
     }
     Ok(())
 }

@@ -3,7 +3,7 @@
 
 ghost use Rattle.std.specs.Prelude.{◌≡◌, ◌<◌};
 
-use cs_outside::{MemSink, MemSource};
+use cs_outside::{MemSink, MemSource, PairGuard};
 use scenario_runner::{Status, replay, run};
 use scenario_text::BadKind;
 use std::alloc::{AllocError, Global};
@@ -99,7 +99,7 @@ pub fn sink_of<R: AllocGlobal + Abort>(rt: &R, most: usize, fails: Vec<u64>) -> 
     MemSink::of(rt.alloc(), 4096, most, fails).expect(rt, "room")
 }
 
-/// Expects that `run` ends so over these devices, and has written these bytes.
+/// Expects that `run` without guards ends so over these devices, and has written these bytes.
 fn expect_run<R: AllocGlobal + Abort>(
     rt: &R,
     texts: &[&str],
@@ -112,7 +112,8 @@ fn expect_run<R: AllocGlobal + Abort>(
     requires sink { sink.old.faults ≡ 0 }
 {
     let words = words_of(rt.alloc(), texts).expect(rt, "room");
-    assert!(rt; run(rt, &words, source, sink) == wanted);
+    let guards = Vec::<PairGuard>::new(rt.alloc());
+    assert!(rt; run(rt, &words, source, sink, guards) == wanted);
     assert!(rt; sink.bytes() == output);
 }
 
@@ -141,7 +142,7 @@ fn stored_scenario_is_played(rt: HostRuntime) {
     expect_played(&rt, 1, OUTPUT_BYTES);
 }
 
-/// Expects that `replay` ends so over the stored input, and has written these lines. The source gives
+/// Expects that `replay` without guards ends so over the stored input, and has written these lines. The source gives
 /// a byte at a time. It fails at the one call, and the sink at the other, where they come to it.
 fn expect_replay<R: AllocGlobal + Abort>(
     rt: &R,
@@ -153,7 +154,8 @@ fn expect_replay<R: AllocGlobal + Abort>(
     let mut source = source_of(rt, INPUT.as_bytes(), 1, only(rt, read));
     let mut sink = sink_of(rt, 4096, only(rt, write));
     let words = words_of(rt.alloc(), &["replay"]).expect(rt, "room");
-    assert!(rt; replay(rt.alloc(), &words, &mut source, &mut sink) == wanted);
+    let guards = Vec::<PairGuard>::new(rt.alloc());
+    assert!(rt; replay(rt.alloc(), &words, &mut source, &mut sink, guards) == wanted);
     assert!(rt; sink.bytes() == joined(rt.alloc(), lines).expect(rt, "room").as_slice());
 }
 

@@ -11,10 +11,11 @@ use crate::scripts::{
     CHARGED_AT_EXIT, CORE_COOKIE_0, FORCED_IDLE, FORCED_IDLE_TICK, LOWER_MATCH, NOTHING,
     STALE_PICK, Script, THREE_SHARES, TIE_OF_LEADS, TWO_SHARES,
 };
+use cs_outside::PairGuard;
 use cs_types::{Actor, Cookie, Cpu, Entry, Event, Kind, Pid, Reply, Room};
 use plain_room::PlainRoom;
-use ptrace_check::Guards;
 use room_report::{output, report};
+use scenario_input::taught;
 use scenario_runner::{Status, play};
 use scenario_text::read;
 use std::process::Abort;
@@ -254,18 +255,22 @@ fn scripts_of_moves(rt: HostRuntime) {
     expect_script(&rt, SAME_POLICY);
 }
 
-/// The machine of a script after all its steps, before the entries of the end.
-fn played<R: AllocGlobal + Abort>(rt: &R, script: Script) -> PlainRoom
-    ensures { IsPlayable result.scenario }
+/// The machine of a script after all its steps, before the entries of the end. It has no guards.
+fn played<R: AllocGlobal + Abort>(rt: &R, script: Script) -> PlainRoom<PairGuard>
+    ensures { IsPlayable result.opening.scenario }
 {
     let scenario = read(rt.alloc(), script.text.as_bytes()).expect(rt, "a scenario");
-    let mut room = PlainRoom::start(rt.alloc(), &scenario, Guards::none()).expect(rt, "room");
+    let list = Vec::<PairGuard>::new(rt.alloc());
+    let guards = taught(rt.alloc(), list, scenario.teaches.items())
+        .ok()
+        .expect(rt, "room");
+    let mut room = PlainRoom::start(rt.alloc(), &scenario, guards).expect(rt, "room");
     play(&mut room, scenario.steps.items());
     room
 }
 
 /// Expects the output of the first example, in pieces of 7 bytes at most.
-fn expect_output<R: AllocGlobal + Abort>(rt: &R, room: &PlainRoom) {
+fn expect_output<R: AllocGlobal + Abort>(rt: &R, room: &PlainRoom<PairGuard>) {
     let mut sink = sink_of(rt, 7, Vec::new(rt.alloc()));
     output(room, &mut sink).expect(rt, "a sink that takes all");
     assert!(rt; sink.bytes() == output_of(rt, FORCED_IDLE).as_slice());
@@ -273,7 +278,7 @@ fn expect_output<R: AllocGlobal + Abort>(rt: &R, room: &PlainRoom) {
 
 /// Expects a part of the report of the first example. Its second line needs two pieces, and the sink
 /// fails at the second of these.
-fn expect_cut_report<R: AllocGlobal + Abort>(rt: &R, room: &PlainRoom) {
+fn expect_cut_report<R: AllocGlobal + Abort>(rt: &R, room: &PlainRoom<PairGuard>) {
     let mut sink = sink_of(rt, 7, only(rt, 3));
     assert!(rt; report(room, &mut sink).is_err());
     assert!(rt; sink.bytes() == b"report\nclock 1".as_slice());
@@ -292,20 +297,20 @@ fn texts_of_a_machine(rt: HostRuntime) {
 }
 
 /// Expects what is common to the siblings.
-fn expect_common(rt: &impl Abort, room: &PlainRoom) {
+fn expect_common(rt: &impl Abort, room: &PlainRoom<PairGuard>) {
     assert!(rt; room.clock() == 6_000_000 && room.numbers() == (7, 7));
     let core = room.core();
     assert!(rt; (core.cookie, core.forced, core.occupation, core.intervals) == (0, 1, 1, 1));
 }
 
 /// Expects a sibling that is online: what it runs, its own number, and whether it is pending.
-fn expect_cpu(rt: &impl Abort, room: &PlainRoom, place: Cpu, wanted: (Pid, u64, bool)) {
+fn expect_cpu(rt: &impl Abort, room: &PlainRoom<PairGuard>, place: Cpu, wanted: (Pid, u64, bool)) {
     let cpu = room.cpu(place).expect(rt, "a sibling");
     assert!(rt; cpu.online && (cpu.run, cpu.number, cpu.pending) == wanted);
 }
 
 /// Expects what is common to the siblings, and each of them.
-fn expect_core(rt: &impl Abort, room: &PlainRoom) {
+fn expect_core(rt: &impl Abort, room: &PlainRoom<PairGuard>) {
     expect_common(rt, room);
     expect_cpu(rt, room, 0, (0, 7, false));
     expect_cpu(rt, room, 1, (0, 6, true));
@@ -320,8 +325,8 @@ fn is_adoption_at_end(entry: &Entry, cpu: Cpu, run: Pid) -> bool {
 }
 
 /// Expects that sibling 1 alone is pending, and has adopted its task at the end.
-fn expect_end(rt: &impl Abort, room: &mut PlainRoom)
-    requires { IsPlayable room.old.scenario }
+fn expect_end(rt: &impl Abort, room: &mut PlainRoom<PairGuard>)
+    requires { IsPlayable room.old.opening.scenario }
 {
     assert!(rt; room.siblings() == 2 && 4 <= room.spare());
     assert!(rt; room.drain() == 1);
@@ -335,7 +340,7 @@ fn expect_end(rt: &impl Abort, room: &mut PlainRoom)
 /// virtual time, both in ns. It is queued or asleep.
 fn expect_task(
     rt: &impl Abort,
-    room: &PlainRoom,
+    room: &PlainRoom<PairGuard>,
     after: Pid,
     is_queued: bool,
     wanted: (Pid, Cpu, Cookie, u64, u128),
@@ -346,7 +351,7 @@ fn expect_task(
 }
 
 /// Expects the tasks, in the order of their pids, and none after the last.
-fn expect_tasks(rt: &impl Abort, room: &PlainRoom) {
+fn expect_tasks(rt: &impl Abort, room: &PlainRoom<PairGuard>) {
     expect_task(rt, room, 0, true, (1, 0, 1, 6_000_000, 6_000_000));
     expect_task(rt, room, 1, true, (2, 1, 0, 0, 0));
     assert!(rt; room.task_after(2).is_none());
@@ -366,13 +371,13 @@ fn views_of_a_machine(rt: HostRuntime) {
 }
 
 /// Expects this task at the place of its end: its pid, and its total of forced idle in ns.
-fn expect_ended(rt: &impl Abort, room: &PlainRoom, place: u64, wanted: (Pid, u64)) {
+fn expect_ended(rt: &impl Abort, room: &PlainRoom<PairGuard>, place: u64, wanted: (Pid, u64)) {
     let ended = room.ended(place).expect(rt, "an end");
     assert!(rt; (ended.pid, ended.forced) == wanted);
 }
 
 /// Expects that the tasks with these pids and totals have ended, in this order, and no more.
-fn expect_ends(rt: &impl Abort, room: &PlainRoom, wanted: &[(Pid, u64)]) {
+fn expect_ends(rt: &impl Abort, room: &PlainRoom<PairGuard>, wanted: &[(Pid, u64)]) {
     for (place, ended) in wanted.iter().enumerate() {
         expect_ended(rt, room, place as u64, *ended);
     }
@@ -382,7 +387,7 @@ fn expect_ends(rt: &impl Abort, room: &PlainRoom, wanted: &[(Pid, u64)]) {
 /// Expects this task, as `expect_task` does, and no other.
 fn expect_one_task(
     rt: &impl Abort,
-    room: &PlainRoom,
+    room: &PlainRoom<PairGuard>,
     is_queued: bool,
     wanted: (Pid, Cpu, Cookie, u64, u128),
 ) {

@@ -4,7 +4,7 @@
 ghost use Rattle.std.specs.Prelude.{◌≡◌};
 
 use crate::commands::{source_of, words_of};
-use cs_outside::{MemSink, MemSource};
+use cs_outside::{MemSink, MemSource, PairGuard};
 use scenario_runner::{Status, run};
 use std::alloc::{AllocError, Global};
 use std::process::Abort;
@@ -67,7 +67,8 @@ fn expect_done<R: AllocGlobal + Abort>(rt: &R, source: &mut MemSource, sink: &mu
     requires sink { sink.old.faults ≡ 0 }
 {
     let words = words_of(rt.alloc(), &["replay"]).expect(rt, "room");
-    assert!(rt; run(rt, &words, source, sink) == Status::Done);
+    let guards = Vec::<PairGuard>::new(rt.alloc());
+    assert!(rt; run(rt, &words, source, sink, guards) == Status::Done);
 }
 
 /// The sink of a replay of the host's text.

@@ -48,6 +48,8 @@ mod devices;
 #[cfg(test)]
 mod examples;
 #[cfg(test)]
+mod guards;
+#[cfg(test)]
 mod host;
 #[cfg(test)]
 mod lines;
@@ -63,3 +65,5 @@ mod queues;
 mod scenarios;
 #[cfg(test)]
 mod scripts;
+#[cfg(test)]
+mod strangers;

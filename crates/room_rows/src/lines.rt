@@ -275,6 +275,26 @@ fn lines_of_forks(rt: HostRuntime) {
     );
 }
 
+fn of_caller(event: Event, reply: Reply) -> Entry {
+    Entry {
+        actor: Actor::Caller(0),
+        event,
+        reply,
+    }
+}
+
+#[test]
+fn lines_of_guards(rt: HostRuntime) {
+    for (event, reply, line) in &[
+        (Event::Load(0), Reply::Loaded, "c0 load 0: Loaded\n"),
+        (Event::Load(15), Reply::NoGuard, "c0 load 15: NoGuard\n"),
+        (Event::Unload(3), Reply::Dropped, "c0 unload 3: Dropped\n"),
+        (Event::Unload(0), Reply::NoGuard, "c0 unload 0: NoGuard\n"),
+    ] {
+        expect_line(&rt, &of_caller(*event, *reply), line);
+    }
+}
+
 /// Expects that the entry's line is written whole or not, and that the sink then has this text.
 fn expect_written(
     rt: &impl Abort,

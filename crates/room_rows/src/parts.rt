@@ -1,10 +1,12 @@
 //! The parts of a machine: the table of tasks, the references of cookies, the access check, the plan of a
 //! call, how a task is born and ends, and the accounts of forced idle.
 
-ghost use Rattle.std.specs.Prelude.{◌≡◌, ◌^◌, ◌<◌, All, OnErr};
+ghost use Rattle.std.specs.Prelude.{◌≡◌, ◌^◌, ◌<◌, [], All, OnErr};
 ghost use Rattle.cookie_refs.specs.Refs.{Agree, count_of};
+ghost use Rattle.cs_types.specs.Guards.{guards_on_bench};
 
 use cookie_refs::{CookieFull, CookieRefs};
+use cs_outside::PairGuard;
 use cs_types::{Ask, Cookie, Creds, Errno, Pid, Policy, Reply, Task, TaskSpec};
 use forceidle_account::{ForceIdle, Totals};
 use fork_inherit::{ForkFault, HasThreads, end, fork};
@@ -208,12 +210,24 @@ fn no_references_of_cookie_0(rt: HostRuntime) {
     assert!(rt; refs.live() == 0 && refs.count(0) == 0);
 }
 
+/// No guards.
+fn no_guards<R: AllocGlobal + Abort>(rt: &R) -> Guards<PairGuard>
+    ensures { result.guards ≡ guards_on_bench [] 0 }
+{
+    Guards::of(rt.alloc(), Vec::new(rt.alloc())).expect(rt, "room")
+}
+
+/// Whether the caller may access the target, where there are no guards.
+fn may<R: AllocGlobal + Abort>(rt: &R, caller: &TaskSpec, target: &TaskSpec) -> bool {
+    let mut guards = no_guards(rt);
+    may_access(caller, target, &mut guards)
+}
+
 #[test]
 fn tasks_that_may_be_accessed(rt: HostRuntime) {
-    let mut guards = Guards::none();
     let other_saved = Creds { suid: 1001, ..USER };
     let capable = Creds { cap: true, ..USER };
-    for (caller, target, may) in &[
+    for (caller, target, wanted) in &[
         (spec(1, 1, 1), task_with(2, 1, 1, OTHER_USER), true),
         (spec(1, 1, 1), spec(2, 2, 2), true),
         (spec(1, 1, 1), task_with(2, 2, 2, other_saved), false),
@@ -223,7 +237,7 @@ fn tasks_that_may_be_accessed(rt: HostRuntime) {
             true,
         ),
     ] {
-        assert!(rt; may_access(caller, target, &mut guards) == *may);
+        assert!(rt; may(&rt, caller, target) == *wanted);
     }
 }
 
@@ -242,7 +256,8 @@ fn parts<R: AllocGlobal + Abort>(rt: &R) -> (TaskTable, CookieRefs)
 /// cookie 1.
 fn planned<R: AllocGlobal + Abort>(rt: &R, ask: Ask) -> (Planned, u16, u32) {
     let (table, mut refs) = parts(rt);
-    let planned = plan(&table, &mut refs, &mut Guards::none(), 2, 65_536, 1, &ask);
+    let mut guards = no_guards(rt);
+    let planned = plan(&table, &mut refs, &mut guards, 2, 65_536, 1, &ask);
     (planned, refs.live(), refs.count(1))
 }
 

@@ -134,8 +134,25 @@ the leader's process group:task 2 1 2 0 fifo:10 0 0 0 0 0 0 0 1 1|end|
 a leader of its own group:task 2 1 1 0 fifo:10 0 0 0 0 0 0 0 1 1|task 3 2 1 0 fifo:10 0 0 0 0 0 0 0 1 1|end|
 tasks before steps:step s0 turn|task 2 2 2 0 fifo:10 0 0 0 0 0 0 0 1 1|end|";
 
+/// The same, with teach lines.
+const REFUSED_TEACHES: &str = "the greatest guard:teach 16 0 0|end|
+the greatest user of a caller:teach 0 65536 0|end|
+the greatest user of a target:teach 0 0 65536|end|
+no leading 0 of a guard:teach 00 0 0|end|
+two users:teach 0 0|end|
+tasks before teach lines:teach 0 0 0|task 2 2 2 0 stop 0 0 0 0 0 0 0 1 1|end|
+teach lines before steps:step s0 turn|teach 0 0 0|end|
+the greatest guard of a load:step c0 load 16|end|
+a load's own actor:step s0 load 0|end|
+the greatest guard of an unload:step c0 unload 16|end|
+a guard of an unload:step c0 unload|end|";
+
 /// A tick, and for each argument of the other events the least and the greatest.
-const STEPS: &str = "step c7 setsched 999999 fair:-20
+const STEPS: &str = "step c0 load 0
+step c7 load 15
+step c0 unload 0
+step c7 unload 15
+step c7 setsched 999999 fair:-20
 step c0 setsched 1 stop
 step c0 offline 0
 step c7 online 1
@@ -217,6 +234,7 @@ fn refuses_other_texts(rt: HostRuntime) {
     expect_refused(&rt, "", REFUSED_TEXTS);
     expect_refused(&rt, HEAD, REFUSED_STEPS);
     expect_refused(&rt, HEAD, REFUSED_TASKS);
+    expect_refused(&rt, HEAD, REFUSED_TEACHES);
 }
 
 /// A text of a head, one task and this many steps.
@@ -238,5 +256,30 @@ fn reads_100000_steps(rt: HostRuntime) {
 #[test]
 fn refuses_100001_steps(rt: HostRuntime) {
     let text = text_of_steps(rt.alloc(), 100_001).expect(&rt, "room");
+    assert!(rt; is_refused(rt.alloc(), &text));
+}
+
+/// A text of a head, one task and this many teach lines.
+fn text_of_teaches(alloc: Global, count: usize) -> Result<Vec<u8>, AllocError> {
+    let mut text = HEAD.as_bytes().to_vec(alloc)?;
+    for _ in 0..count {
+        text.extend_from_slice(b"teach 15 0 65535\n")?;
+    }
+    text.extend_from_slice(b"end\n")?;
+    Ok(text)
+}
+
+// Each teach has the number of its own line: four lines stand before the first.
+#[test]
+fn reads_64_teaches(rt: HostRuntime) {
+    let text = text_of_teaches(rt.alloc(), 64).expect(&rt, "room");
+    let scenario = read(rt.alloc(), &text).expect(&rt, "a scenario");
+    let lines = scenario.teaches.items().iter().map(|teach| teach.line);
+    assert!(rt; lines.eq(5..69));
+}
+
+#[test]
+fn refuses_65_teaches(rt: HostRuntime) {
+    let text = text_of_teaches(rt.alloc(), 65).expect(&rt, "room");
     assert!(rt; is_refused(rt.alloc(), &text));
 }

@@ -2,3 +2,4 @@ pub mod Plays
 pub mod Inputs
 pub mod Stops
 pub mod Completes
+pub mod Lines

@@ -21,10 +21,11 @@ count_read before now = option_map_or length before 0 - option_map_or length now
 abbrev pub IsReadAs : Option (List ℕ) → List ℕ → Option (List ℕ) → Type 0
 IsReadAs before bytes now = (before ≡ prepended bytes now) × IfSome now (λ left. left ≡ [])
 
--- the input is the text of a scenario that can be played, and was read to its end
+-- the input is the text of a scenario that can be played, and of no other, and was read to its end
 pub record Reads (scenario : Scenario) (input left : Option (List ℕ)) : Type 0 where
   pub built : IsBuilt scenario
   pub read : IsReadAs input (scenario_text scenario) left
+  pub alone : (other : Scenario) → IsBuilt other → scenario_text other ≡ scenario_text scenario → other ≡ scenario
 
 -- the input was read to its end, and is the text of no scenario that can be played, which is said of the text
 -- as a whole

@@ -14,4 +14,5 @@ abbrev pub status_of : Stop → Status
 status_of stop.ReadFault = status.ReadFault
 status_of stop.TooLong = status.TooLong
 status_of (stop.BadScenario line kind) = status.BadScenario line kind
+status_of (stop.BadGuard line kind) = status.BadGuard line kind
 status_of stop.OutOfMemory = status.OutOfMemory

@@ -25,6 +25,7 @@ fn read_to_end<S: Source>(alloc: Global, source: &mut S) -> Result<Vec<u8>, Stop
     ensures most { IfSome (S.left source.old) (λ _.
         count_read (S.left source.old) (S.left source.new) ≤ input_limit + 1) }
     ensures bad { (line : _) (kind : _) → result ≢ Err (Stop.BadScenario line kind) }
+    ensures guards { (line : _) (kind : _) → result ≢ Err (Stop.BadGuard line kind) }
 
     ensures faultless { result ≢ Err Stop.ReadFault → S.faults source.new ≡ S.faults source.old }
     ensures failed { result ≡ Err Stop.ReadFault → Rose (S.faults source.old) (S.faults source.new) }
@@ -58,6 +59,7 @@ pub fn read_scenario<S: Source>(alloc: Global, source: &mut S) -> Result<Scenari
         count_read (S.left source.old) (S.left source.new) ≤ input_limit + 1) }
     ensures bad { (line : _) (kind : _) → result ≡ Err (Stop.BadScenario line kind) →
         IsBad line kind (S.left source.old) (S.left source.new) }
+    ensures guards { (line : _) (kind : _) → result ≢ Err (Stop.BadGuard line kind) }
 
     ensures faultless { result ≢ Err Stop.ReadFault → S.faults source.new ≡ S.faults source.old }
     ensures failed { result ≡ Err Stop.ReadFault → Rose (S.faults source.old) (S.faults source.new) }

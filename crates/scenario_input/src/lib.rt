@@ -6,8 +6,10 @@ mod input;
 mod playing;
 mod status;
 mod stop;
+mod teaching;
 
 pub use input::read_scenario;
 pub use playing::play;
 pub use status::Status;
-pub use stop::Stop;
+pub use stop::{GuardKind, Stop};
+pub use teaching::taught;

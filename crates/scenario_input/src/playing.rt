@@ -11,11 +11,11 @@ use cs_types::{Room, Step};
 pub fn play<R: Room>(room: &mut R, steps: &[Step])
     requires empty { R.history room.old ≡ [] }
     requires spare { length steps.now ≤ R.spare room.old }
-    requires events { All (λ step. IsEvent (R.scenario room.old).siblings step.event) steps.now }
+    requires events { All (λ step. IsEvent (R.opening room.old).scenario.siblings step.event) steps.now }
 
-    ensures history { R.history room.new ≡ history_of (R.scenario room.old) steps.now }
+    ensures history { R.history room.new ≡ history_of (R.opening room.old) steps.now }
     ensures spare { R.spare room.new + length steps.now ≡ R.spare room.old }
-    ensures scenario { R.scenario room.new ≡ R.scenario room.old }
+    ensures opening { R.opening room.new ≡ R.opening room.old }
 {
     for step in steps {
         room.apply(step.actor, step.event);

@@ -1,10 +1,11 @@
 //! How a command ends.
 
+use crate::stop::GuardKind;
 use scenario_text::BadKind;
 use thiserror::Error;
 
 /// How a command ended. Where more than one fits, the first in the order of the work counts: the
-/// words, reading, the scenario, opening, the run, writing. Its text says what went wrong.
+/// words, reading, the scenario, the guards, opening, the run, writing. Its text says what went wrong.
 #[derive(Clone, Copy, Debug, PartialEq, Eq, Error)]
 pub enum Status {
     /// All was read and all was written.
@@ -17,6 +18,10 @@ pub enum Status {
     /// the text as a whole.
     #[error("line {line}: {kind:?}")]
     BadScenario { line: u32, kind: BadKind },
+    /// The input is a scenario, and its first teach line that cannot be carried out is this one: it names
+    /// a guard that was not handed in, or one that has as many pairs as it can be taught.
+    #[error("line {line}: guard {kind:?}")]
+    BadGuard { line: u32, kind: GuardKind },
     /// More than 16,777,216 bytes were read.
     #[error("input too long")]
     TooLong,

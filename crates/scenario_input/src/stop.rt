@@ -8,6 +8,15 @@ use cs_types::OutOfMemory;
 use scenario_text::{BadKind, ReadFault};
 use std::alloc::AllocError;
 
+/// What is wrong with a teach line.
+#[derive(Clone, Copy, Debug, PartialEq, Eq)]
+pub enum GuardKind {
+    /// It names a guard that was not handed in.
+    NoGuard,
+    /// It names a guard that has as many pairs as it can be taught.
+    Full,
+}
+
 /// Why an input was not played.
 #[derive(Clone, Copy)]
 pub enum Stop {
@@ -17,6 +26,8 @@ pub enum Stop {
     TooLong,
     /// The input was read to its end, and no scenario that can be played has this text.
     BadScenario { line: u32, kind: BadKind },
+    /// The input is a scenario, and this is its first teach line that cannot be carried out.
+    BadGuard { line: u32, kind: GuardKind },
     /// There was no memory, before the first step.
     OutOfMemory,
 }
@@ -60,6 +71,7 @@ impl From<Stop> for Status {
             Stop::ReadFault => Status::ReadFault,
             Stop::TooLong => Status::TooLong,
             Stop::BadScenario { line, kind } => Status::BadScenario { line, kind },
+            Stop::BadGuard { line, kind } => Status::BadGuard { line, kind },
             Stop::OutOfMemory => Status::OutOfMemory,
         }
     }

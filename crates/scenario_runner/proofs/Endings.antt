@@ -1,25 +1,30 @@
 -- Endings: what holds of a run, status by status.
-use Rattle.std.proofs.Common.{◌≡◌, ◌≢◌, Bool, true, false, ℕ, ◌+◌, ◌-◌, ◌^◌, ◌<◌, ◌≤◌, List, refl, inl, ap, ◌∙◌, subst, arith}
-use Rattle.std.specs.Prelude.{◌↔◌, Option, Some, None, IfSome, Result, Ok, Err, String}
+use Rattle.std.proofs.Common.{◌≡◌, ◌≢◌, Bool, true, false, ℕ, ◌+◌, ◌-◌, ◌^◌, ◌<◌, ◌≤◌, List, ◌++◌, length, refl, sym, inl, inr, ap, ◌∙◌, subst, arith}
+use Rattle.std.specs.Prelude.{◌⊎◌, ◌↔◌, Option, Some, None, IfSome, Result, Ok, Err, String}
 use Rattle.std.specs.declared.alloc.Global.{Global}
 use Rattle.cs_types.specs.declared.scenario.Scenario.{Scenario}
 use Rattle.cs_outside.specs.Device.{Rose}
 use Rattle.scenario_text.specs.declared.fault.BadKind.{BadKind}
 use Rattle.scenario_input.specs.declared.stop.Stop.{Stop}
-use Rattle.scenario_input.specs.declared.stop.Stop.TheVariants.{ReadFault, TooLong, BadScenario}
+use Rattle.scenario_input.specs.declared.stop.Stop.TheVariants.{ReadFault, TooLong, BadScenario, BadGuard}
+use Rattle.scenario_input.specs.declared.stop.GuardKind.{GuardKind}
+use Rattle.scenario_input.specs.Teaching.{BadTeach, first_bad}
+use Rattle.cs_types.specs.Scenario.{IsBuilt}
+use Rattle.scenario_text.specs.Text.{scenario_text}
+use Rattle.std.proofs.lemmas.List.{append-nil}
 use Rattle.scenario_input.specs.declared.status.Status.TheVariants as status
-use Rattle.scenario_input.specs.Input.{IsBad, input_limit, count_read}
+use Rattle.scenario_input.specs.Input.{Reads, IsBad, input_limit, count_read}
 use Rattle.scenario_input.specs.Stop.{status_of}
 use Rattle.scenario_input.proofs.Inputs.{count_none}
-use Rattle.scenario_input.proofs.Stops.{stop_not_done, stop_not_words, stop_not_write, stop_read, stop_long, stop_bad}
+use Rattle.scenario_input.proofs.Stops.{stop_not_done, stop_not_words, stop_not_write, stop_read, stop_long, stop_bad, stop_guard}
 use Rattle.scenario_input.proofs.Completes.{stop_complete}
 use Rattle.scenario_runner.specs.Commands.{IsReplay}
-use Rattle.scenario_runner.specs.Replay.{Replays, BreaksOff}
-use Rattle.scenario_runner.specs.Ends.{Used, Failed, IsFaultless, EndsAsReplay}
+use Rattle.scenario_runner.specs.Replay.{opened_with, Replays, BreaksOff}
+use Rattle.scenario_runner.specs.Ends.{Used, Failed, IsFaultless, IsBadGuard, EndsAsReplay}
 
 -- ---- what is known once the input was read, or was not
 
-pub record HasRead {S T : Type 0} (source : Used S) (read : Result T Stop) : Type 0 where
+pub record HasRead {S T : Type 0} (caps : List ℕ) (source : Used S) (read : Result T Stop) : Type 0 where
   pub faultless : read ≢ Err ReadFault → IsFaultless source
   pub failed : read ≡ Err ReadFault → Rose (source.faults source.before) (source.faults source.after)
   pub few : source.faults source.before < 2 ^ 64 - 1
@@ -29,6 +34,8 @@ pub record HasRead {S T : Type 0} (source : Used S) (read : Result T Stop) : Typ
       count_read (source.bytes source.before) (source.bytes source.after) ≤ input_limit + 1)
   pub bad : (line : ℕ) (kind : BadKind) → read ≡ Err (BadScenario line kind) →
       IsBad line kind (source.bytes source.before) (source.bytes source.after)
+  pub bad_guard : (line : ℕ) (kind : GuardKind) → read ≡ Err (BadGuard line kind) →
+      IsBadGuard caps line kind (source.bytes source.before) (source.bytes source.after)
 
 not_both : {T E : Type 0} (read : Result T E) (value : T) (error : E) → read ≡ Ok value → read ≡ Err error → ⊥
 not_both read value error is other = cc
@@ -49,13 +56,42 @@ same_where_told (Some left) C to back is = (λ b. is.0 (back b), λ c. to (is.1 
 same_error : {T E : Type 0} (read : Result T E) (one other : E) → read ≡ Err one → read ≡ Err other → one ≡ other
 same_error read one other is too = cc
 
+-- ---- the one scenario of an input
+
+-- An input that is the text of one scenario, and was read as another's, is that of one.
+same_scenario : (scenario other : Scenario) (input left : Option (List ℕ)) → input ≡ Some (scenario_text scenario) → IsBuilt scenario → Reads other input left → scenario ≡ other
+same_scenario scenario other input None text built reads = let wrong : Some (scenario_text scenario) ≡ None = sym text ∙ reads.read.0 in absurd cc
+same_scenario scenario other input (Some left) text built reads =
+    let is : Some (scenario_text scenario) ≡ Some (scenario_text other ++ left) = sym text ∙ reads.read.0 in
+    let told : scenario_text scenario ≡ scenario_text other ++ left = cc in
+    reads.alone scenario built (told ∙ ap (λ (rest : List ℕ). scenario_text other ++ rest) reads.read.1 ∙ append-nil (scenario_text other))
+
+-- So one of whose lines the first is bad was not taught.
+not_taught : (caps : List ℕ) (scenario other : Scenario) (bad : BadTeach) (input left : Option (List ℕ)) → input ≡ Some (scenario_text scenario) → IsBuilt scenario → Reads other input left →
+    first_bad caps scenario.teaches ≡ Some bad → first_bad caps other.teaches ≡ None → ⊥
+not_taught caps scenario other bad input left text built reads one all =
+    let wrong : Some bad ≡ None = sym one ∙ ap (λ (s : Scenario). first_bad caps s.teaches) (same_scenario scenario other input left text built reads) ∙ all in absurd cc
+
+-- The first bad line that is told is the one.
+first_told : (caps : List ℕ) (scenario : Scenario) (line : ℕ) (kind : GuardKind) (input left : Option (List ℕ)) → input ≡ Some (scenario_text scenario) → IsBuilt scenario →
+    IsBadGuard caps line kind input left → first_bad caps scenario.teaches ≡ Some (record { line = line; kind = kind })
+first_told caps scenario line kind input left text built bad =
+    ap (λ (s : Scenario). first_bad caps s.teaches) (same_scenario scenario bad.scenario input left text built bad.reads) ∙ bad.first
+
+both_none : (bad : Option BadTeach) (one : BadTeach) → bad ≡ Some one → bad ≡ None → ⊥
+both_none bad one some none = let wrong : Some one ≡ None = sym some ∙ none in absurd cc
+
+as_told : (line : ℕ) (kind : GuardKind) (bad : BadTeach) → Some (record { line = line; kind = kind }) ≡ Some bad → status.BadGuard line kind ≡ status.BadGuard bad.line bad.kind
+as_told line kind bad same = let is : record { line = line; kind = kind } ≡ bad = cc in ap (λ (b : BadTeach). status.BadGuard b.line b.kind) is
+
 -- ---- how it ends
 
-pub ends_done : {S K T : Type 0} (words : List (String Global)) (source : Used S) (sink : Used K) (read : Result T Stop) (value : T) →
-    HasRead source read → read ≡ Ok value → IsReplay words → IsFaultless sink → (scenario : Scenario) →
-    Replays scenario (source.bytes source.before) (source.bytes source.after) (sink.bytes sink.before) (sink.bytes sink.after) →
-    EndsAsReplay words source sink status.Done
-ends_done words source sink read value has is replay calm scenario replays =
+pub ends_done : {S K T : Type 0} (words : List (String Global)) (caps : List ℕ) (source : Used S) (sink : Used K) (read : Result T Stop) (value : T) →
+    HasRead caps source read → read ≡ Ok value → IsReplay words → IsFaultless sink → (scenario : Scenario) →
+    Replays (opened_with caps scenario) (source.bytes source.before) (source.bytes source.after) (sink.bytes sink.before) (sink.bytes sink.after) →
+    first_bad caps scenario.teaches ≡ None →
+    EndsAsReplay words caps source sink status.Done
+ends_done words caps source sink read value has is replay calm scenario replays taught =
     record {
       done = λ _. (scenario, replays);
       faultless = (λ _. has.faultless (not_both read value ReadFault is), λ _. calm);
@@ -65,16 +101,20 @@ ends_done words source sink read value has is replay calm scenario replays =
       too_long = same_where_told (source.bytes source.before) _ (λ e. absurd (not_both read value TooLong is e)) (λ e. absurd cc) has.too_long;
       most = has.most;
       bad_scenario = λ line kind e. absurd cc;
+      bad_guard = λ line kind e. absurd cc;
       write_fault = λ e. absurd cc;
       unwritten = λ other _. absurd (other refl);
-      complete = λ told words built text fits calm_source calm_sink. inl refl;
+      complete = λ told words built text fits all calm_source calm_sink. inl refl;
+      told = λ told bad words built text fits one calm_source.
+          absurd (not_taught caps told scenario bad _ _ text built replays.reads one taught);
     }
 
-pub ends_write_fault : {S K T : Type 0} (words : List (String Global)) (source : Used S) (sink : Used K) (read : Result T Stop) (value : T) →
-    HasRead source read → read ≡ Ok value → IsReplay words → Failed sink → (scenario : Scenario) →
-    BreaksOff scenario (source.bytes source.before) (source.bytes source.after) (sink.bytes sink.before) (sink.bytes sink.after) →
-    EndsAsReplay words source sink status.WriteFault
-ends_write_fault words source sink read value has is replay failed scenario breaks =
+pub ends_write_fault : {S K T : Type 0} (words : List (String Global)) (caps : List ℕ) (source : Used S) (sink : Used K) (read : Result T Stop) (value : T) →
+    HasRead caps source read → read ≡ Ok value → IsReplay words → Failed sink → (scenario : Scenario) →
+    BreaksOff (opened_with caps scenario) (source.bytes source.before) (source.bytes source.after) (sink.bytes sink.before) (sink.bytes sink.after) →
+    first_bad caps scenario.teaches ≡ None →
+    EndsAsReplay words caps source sink status.WriteFault
+ends_write_fault words caps source sink read value has is replay failed scenario breaks taught =
     record {
       done = λ e. absurd cc;
       faultless = (λ _. has.faultless (not_both read value ReadFault is), λ other. absurd (other refl));
@@ -84,15 +124,18 @@ ends_write_fault words source sink read value has is replay failed scenario brea
       too_long = same_where_told (source.bytes source.before) _ (λ e. absurd (not_both read value TooLong is e)) (λ e. absurd cc) has.too_long;
       most = has.most;
       bad_scenario = λ line kind e. absurd cc;
+      bad_guard = λ line kind e. absurd cc;
       write_fault = λ _. (failed, (scenario, breaks));
       unwritten = λ _ other. absurd (other refl);
-      complete = λ told words built text fits calm_source calm_sink. absurd (omega (arith, failed, calm_sink));
+      complete = λ told words built text fits all calm_source calm_sink. absurd (omega (arith, failed, calm_sink));
+      told = λ told bad words built text fits one calm_source.
+          absurd (not_taught caps told scenario bad _ _ text built breaks.reads one taught);
     }
 
-pub ends_stopped : {S K T : Type 0} (words : List (String Global)) (source : Used S) (sink : Used K) (read : Result T Stop) (stop : Stop) →
-    HasRead source read → read ≡ Err stop → IsReplay words → sink.after ≡ sink.before →
-    EndsAsReplay words source sink (status_of stop)
-ends_stopped words source sink read stop has is replay same =
+pub ends_stopped : {S K T : Type 0} (words : List (String Global)) (caps : List ℕ) (source : Used S) (sink : Used K) (read : Result T Stop) (stop : Stop) →
+    HasRead caps source read → read ≡ Err stop → IsReplay words → sink.after ≡ sink.before →
+    EndsAsReplay words caps source sink (status_of stop)
+ends_stopped words caps source sink read stop has is replay same =
     record {
       done = λ e. absurd (stop_not_done stop e);
       faultless = (λ other. has.faultless (λ e. other (ap status_of (same_error read stop ReadFault is e))), λ _. ap sink.faults same);
@@ -103,9 +146,25 @@ ends_stopped words source sink read stop has is replay same =
           same_where_told (source.bytes source.before) _ (λ e. ap status_of (same_error read stop TooLong is e)) (λ e. is ∙ ap Err (stop_long stop e)) has.too_long;
       most = has.most;
       bad_scenario = λ line kind e. has.bad line kind (is ∙ ap Err (stop_bad stop line kind e));
+      bad_guard = λ line kind e. has.bad_guard line kind (is ∙ ap Err (stop_guard stop line kind e));
       write_fault = λ e. absurd (stop_not_write stop e);
       unwritten = λ _ _. same;
-      complete = λ scenario words built text fits calm_source calm_sink.
+      complete = λ scenario words built text fits all calm_source calm_sink. elim (why scenario built text fits calm_source) [
+        | inl memory ↦ inr memory
+        | inr guard ↦
+            let bad = has.bad_guard guard.0 guard.1 (is ∙ ap Err guard.2) in
+            absurd (both_none _ _ (first_told caps scenario guard.0 guard.1 _ _ text built bad) all)
+      ];
+      told = λ scenario bad words built text fits one calm_source. elim (why scenario built text fits calm_source) [
+        | inl memory ↦ inr memory
+        | inr guard ↦
+            let told = first_told caps scenario guard.0 guard.1 _ _ text built (has.bad_guard guard.0 guard.1 (is ∙ ap Err guard.2)) in
+            inl (ap status_of guard.2 ∙ as_told guard.0 guard.1 bad (sym told ∙ one))
+      ];
+    } where
+      why : (scenario : Scenario) → IsBuilt scenario → source.bytes source.before ≡ Some (scenario_text scenario) → length (scenario_text scenario) ≤ input_limit → IsFaultless source →
+          (status_of stop ≡ status.OutOfMemory) ⊎ ((line : ℕ) × (kind : GuardKind) × (stop ≡ BadGuard line kind))
+      why scenario built text fits calm_source =
           let long = λ (e : stop ≡ TooLong).
           (subst
           (λ (told : Option (List ℕ)). IfSome told (λ _. (read ≡ Err TooLong) ↔ (input_limit < count_read told (source.bytes source.after)))) text has.too_long).0
@@ -113,12 +172,11 @@ ends_stopped words source sink read stop has is replay same =
           let bad = λ (line : ℕ) (kind : BadKind) (e : stop ≡ BadScenario line kind).
           subst (λ (told : Option (List ℕ)). IsBad line kind told (source.bytes source.after)) text (has.bad line kind (is ∙ ap Err e)) in
           let failed = λ (e : stop ≡ ReadFault). has.failed (is ∙ ap Err e) in
-          stop_complete stop (source.bytes source.after) (source.faults source.before) (source.faults source.after) scenario long bad failed has.few built fits calm_source;
-    }
+          stop_complete stop (source.bytes source.after) (source.faults source.before) (source.faults source.after) scenario long bad failed has.few built fits calm_source
 
-pub ends_unread : {S K : Type 0} (words : List (String Global)) (source : Used S) (sink : Used K) → (IsReplay words → ⊥) →
-    source.after ≡ source.before → sink.after ≡ sink.before → EndsAsReplay words source sink status.BadWords
-ends_unread words source sink other same same_sink =
+pub ends_unread : {S K : Type 0} (words : List (String Global)) (caps : List ℕ) (source : Used S) (sink : Used K) → (IsReplay words → ⊥) →
+    source.after ≡ source.before → sink.after ≡ sink.before → EndsAsReplay words caps source sink status.BadWords
+ends_unread words caps source sink other same same_sink =
     let none : count_read (source.bytes source.before) (source.bytes source.after) ≡ 0 =
     ap (λ s. count_read (source.bytes source.before) (source.bytes s)) same ∙ count_none (source.bytes source.before) in
     record {
@@ -130,7 +188,9 @@ ends_unread words source sink other same same_sink =
       too_long = where_told (source.bytes source.before) (λ e. absurd cc, λ more. absurd (omega (arith, more, none)));
       most = where_told (source.bytes source.before) (omega (arith, none));
       bad_scenario = λ line kind e. absurd cc;
+      bad_guard = λ line kind e. absurd cc;
       write_fault = λ e. absurd cc;
       unwritten = λ _ _. same_sink;
-      complete = λ scenario words built text fits calm_source calm_sink. absurd (other words);
+      complete = λ scenario words built text fits all calm_source calm_sink. absurd (other words);
+      told = λ scenario bad words built text fits one calm_source. absurd (other words);
     }

@@ -14,6 +14,9 @@ built_playable scenario built =
       distinct = built.distinct;
       led = built.led;
       few_tasks = built.few_tasks;
+      teaches = built.teaches;
+      numbered = built.numbered;
+      few_teaches = built.few_teaches;
       steps = built.steps;
       few_steps = built.few_steps;
     }

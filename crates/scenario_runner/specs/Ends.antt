@@ -1,15 +1,17 @@
 -- Ends: how a command ends. When each status comes, what was read for it, and what was written.
-use Rattle.std.specs.Prelude.{◌≡◌, ◌≢◌, ◌⊎◌, ◌↔◌, ℕ, ◌+◌, ◌<◌, ◌≤◌, List, length, Option, Some, IfSome, String}
+use Rattle.std.specs.Prelude.{◌≡◌, ◌≢◌, ◌⊎◌, ◌↔◌, ℕ, ◌+◌, ◌<◌, ◌≤◌, List, length, Option, Some, None, IfSome, String}
 use Rattle.std.specs.declared.alloc.Global.{Global}
 use Rattle.cs_types.specs.declared.scenario.Scenario.{Scenario}
 use Rattle.cs_types.specs.Scenario.{IsBuilt}
 use Rattle.scenario_text.specs.declared.fault.BadKind.{BadKind}
 use Rattle.scenario_text.specs.Text.{scenario_text}
 use Rattle.scenario_input.specs.declared.status.Status.{Status}
-use Rattle.scenario_input.specs.declared.status.Status.TheVariants.{Done, BadWords, BadScenario, TooLong, ReadFault, WriteFault, OutOfMemory}
-use Rattle.scenario_input.specs.Input.{IsBad, input_limit, count_read}
+use Rattle.scenario_input.specs.declared.status.Status.TheVariants.{Done, BadWords, BadScenario, BadGuard, TooLong, ReadFault, WriteFault, OutOfMemory}
+use Rattle.scenario_input.specs.declared.stop.GuardKind.{GuardKind}
+use Rattle.scenario_input.specs.Input.{Reads, IsBad, input_limit, count_read}
+use Rattle.scenario_input.specs.Teaching.{BadTeach, first_bad}
 use Rattle.scenario_runner.specs.Commands.{IsReplay}
-use Rattle.scenario_runner.specs.Replay.{Replays, BreaksOff}
+use Rattle.scenario_runner.specs.Replay.{opened_with, Replays, BreaksOff}
 
 -- a device before and after a call: what it tells of its bytes, and the count of its faults
 pub record Used (D : Type 0) : Type 0 where
@@ -26,11 +28,19 @@ Failed device = device.faults device.before < device.faults device.after
 abbrev pub IsFaultless : {D : Type 0} → Used D → Type 0
 IsFaultless device = device.faults device.after ≡ device.faults device.before
 
--- How the command `replay` ends, over a source and a sink. Out of memory alone is free.
-pub record EndsAsReplay {S K : Type 0} (words : List (String Global)) (source : Used S) (sink : Used K) (status : Status) : Type 0 where
+-- The input is a scenario, and this is its first teach line that cannot be carried out, by how many pairs each guard can be
+-- taught.
+pub record IsBadGuard (caps : List ℕ) (at : ℕ) (what : GuardKind) (input left : Option (List ℕ)) : Type 0 where
+  pub scenario : Scenario
+  pub reads : Reads scenario input left
+  pub first : first_bad caps scenario.teaches ≡ Some (record { line = at; kind = what })
+
+-- How the command `replay` ends, over a source and a sink, with guards that can be taught so many pairs each. Out of memory
+-- alone is free.
+pub record EndsAsReplay {S K : Type 0} (words : List (String Global)) (caps : List ℕ) (source : Used S) (sink : Used K) (status : Status) : Type 0 where
   -- where it is done, what was read is the text of a scenario, and what was written is its history and its report
   pub done : status ≡ Done → (scenario : Scenario) ×
-      Replays scenario (source.bytes source.before) (source.bytes source.after) (sink.bytes sink.before) (sink.bytes sink.after)
+      Replays (opened_with caps scenario) (source.bytes source.before) (source.bytes source.after) (sink.bytes sink.before) (sink.bytes sink.after)
   -- no fault of the source was counted, unless a read fault is the answer, and none of the sink, unless a write fault is
   pub faultless : (status ≢ ReadFault → IsFaultless source) × (status ≢ WriteFault → IsFaultless sink)
   -- exactly where the words are not its own, and then nothing was read
@@ -47,13 +57,21 @@ pub record EndsAsReplay {S K : Type 0} (words : List (String Global)) (source : 
   -- only where the input was read to its end and no scenario has that text
   pub bad_scenario : (line : ℕ) (kind : BadKind) → status ≡ BadScenario line kind →
       IsBad line kind (source.bytes source.before) (source.bytes source.after)
+  -- only where the input is a scenario, and this is its first teach line that cannot be carried out
+  pub bad_guard : (line : ℕ) (kind : GuardKind) → status ≡ BadGuard line kind →
+      IsBadGuard caps line kind (source.bytes source.before) (source.bytes source.after)
   -- only where the sink failed, and then a prefix of the output was written
   pub write_fault : status ≡ WriteFault → Failed sink × ((scenario : Scenario) ×
-      BreaksOff scenario (source.bytes source.before) (source.bytes source.after) (sink.bytes sink.before) (sink.bytes sink.after))
+      BreaksOff (opened_with caps scenario) (source.bytes source.before) (source.bytes source.after) (sink.bytes sink.before) (sink.bytes sink.after))
   -- nothing was written but where it is done or the sink failed
   pub unwritten : status ≢ Done → status ≢ WriteFault → sink.after ≡ sink.before
-  -- it gives up on no scenario that can be played, where nothing failed
+  -- it gives up on no scenario that can be played and all of whose teach lines can be carried out, where nothing failed
   pub complete : (scenario : Scenario) → IsReplay words → IsBuilt scenario →
       source.bytes source.before ≡ Some (scenario_text scenario) → length (scenario_text scenario) ≤ input_limit →
-      IsFaultless source → IsFaultless sink →
+      first_bad caps scenario.teaches ≡ None → IsFaultless source → IsFaultless sink →
       (status ≡ Done) ⊎ (status ≡ OutOfMemory)
+  -- and where one of them cannot, it tells the first
+  pub told : (scenario : Scenario) (bad : BadTeach) → IsReplay words → IsBuilt scenario →
+      source.bytes source.before ≡ Some (scenario_text scenario) → length (scenario_text scenario) ≤ input_limit →
+      first_bad caps scenario.teaches ≡ Some bad → IsFaultless source →
+      (status ≡ BadGuard bad.line bad.kind) ⊎ (status ≡ OutOfMemory)

@@ -4,4 +4,4 @@
 mod command;
 
 pub use command::{replay, run};
-pub use scenario_input::{Status, play};
+pub use scenario_input::{GuardKind, Status, play};

@@ -10,7 +10,7 @@ use Rattle.cs_types.specs.declared.event.Actor.{Actor}
 use Rattle.cs_types.specs.declared.event.Actor.TheVariants.{Sibling, Caller, End}
 use Rattle.cs_types.specs.declared.event.Ask.{Ask}
 use Rattle.cs_types.specs.declared.event.Event.{Event}
-use Rattle.cs_types.specs.declared.event.Event.TheVariants.{Turn, Resched, Block, Exit, Tick, Wake, Advance, Fork, Prctl, SetSched, Offline, Online}
+use Rattle.cs_types.specs.declared.event.Event.TheVariants.{Turn, Resched, Block, Exit, Tick, Wake, Advance, Fork, Prctl, SetSched, Offline, Online, Load, Unload}
 use Rattle.cs_types.specs.declared.event.Step.{Step}
 use Rattle.cs_types.specs.declared.task.Policy.{Policy}
 use Rattle.cs_types.specs.declared.task.Policy.TheVariants.{Stop, Deadline, Fifo, Rr, Fair}
@@ -20,7 +20,7 @@ use Rattle.cs_types.specs.declared.reply.Errno.{Errno}
 use Rattle.cs_types.specs.declared.reply.Errno.TheVariants.{Eperm, Esrch, Eagain, Enomem, Efault, Enodev, Einval, Ebusy}
 use Rattle.cs_types.specs.declared.reply.Pick.{Pick}
 use Rattle.cs_types.specs.declared.reply.Reply.{Reply}
-use Rattle.cs_types.specs.declared.reply.Reply.TheVariants.{Picked, Nothing, Stole, Missed, Slept, Ended, Idle, HasThreads, Woken, Awake, NoTask, Now, Ticked, Child, Zero, Value, Set, Done, Already, Refused, NoCaller}
+use Rattle.cs_types.specs.declared.reply.Reply.TheVariants.{Picked, Nothing, Stole, Missed, Slept, Ended, Idle, HasThreads, Woken, Awake, NoTask, Now, Ticked, Child, Zero, Value, Set, Done, Already, Refused, NoCaller, Loaded, Dropped, NoGuard}
 use Rattle.cs_types.specs.declared.reply.Reply.TheVariants as answer
 use Rattle.cs_types.specs.declared.reply.Entry.{Entry}
 use Rattle.cs_types.specs.Scenario.{IsPolicy, IsAsk, IsEvent}
@@ -171,6 +171,8 @@ closed_event (SetSched pid policy) is =
     (closed (codes "setsched") refl, (closed_decimal pid (omega (arith, is.0)), (closed_policy policy is.1, tt)))
 closed_event (Offline cpu) is = (closed (codes "offline") refl, (closed_decimal cpu (omega arith), tt))
 closed_event (Online cpu) is = (closed (codes "online") refl, (closed_decimal cpu (omega arith), tt))
+closed_event (Load index) is = (closed (codes "load") refl, (closed_decimal index (omega arith), tt))
+closed_event (Unload index) is = (closed (codes "unload") refl, (closed_decimal index (omega arith), tt))
 
 closed_made : (actor : Actor) (event : Event) → IsMade actor event → AreClosed (made_words actor event)
 closed_made (Sibling i) event is =
@@ -245,6 +247,9 @@ cut_reply Done fits = cut_words _ _ (plain_word _ refl refl, tt)
 cut_reply Already fits = cut_words _ _ (plain_word _ refl refl, tt)
 cut_reply (Refused errno) fits = cut_words _ _ (plain_errno errno, tt)
 cut_reply NoCaller fits = cut_words _ _ (plain_word _ refl refl, tt)
+cut_reply Loaded fits = cut_words _ _ (plain_word _ refl refl, tt)
+cut_reply Dropped fits = cut_words _ _ (plain_word _ refl refl, tt)
+cut_reply NoGuard fits = cut_words _ _ (plain_word _ refl refl, tt)
 
 -- ---- one entry
 

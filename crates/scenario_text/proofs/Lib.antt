@@ -2,6 +2,7 @@ pub mod Numbers
 pub mod Cuts
 pub mod Readings
 pub mod Tasks
+pub mod Teaches
 pub mod Steps
 pub mod Forms
 pub mod Plans

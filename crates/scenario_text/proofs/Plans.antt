@@ -6,7 +6,7 @@ use Rattle.scenario_text.specs.declared.fault.Refused.{Refused}
 use Rattle.scenario_text.specs.declared.head.Head.{Head}
 use Rattle.scenario_text.specs.declared.line.ScenarioLine.{ScenarioLine}
 use Rattle.scenario_text.specs.Words.{Word}
-use Rattle.scenario_text.specs.Reading.{◌>>=◌, Read, refused, Fails, Contents, before, line_at, end_of, match_line, follower_of, next_of, with_task, with_step, plan_of}
+use Rattle.scenario_text.specs.Reading.{parts, place_after, line_of, ◌>>=◌, Read, refused, Fails, Contents, before, line_at, end_of, match_line, follower_of, next_of, with_task, with_teach, with_step, line_check, plan_of}
 use Rattle.scenario_text.proofs.Readings.{Each, each_ok, each_refused, each_any, each_bind, each_when}
 
 -- what stands before further lines is read as it stands
@@ -24,6 +24,7 @@ abbrev pub goes_on : Head → Contents → List (List Word) → ScenarioLine →
 goes_on head plan lines line =
     match_line line
     (λ task. plan_of head (with_task task plan) lines)
+    (λ teach. plan_of head (with_teach teach plan) lines)
     (λ step. plan_of head (with_step step plan) lines)
     (end_of lines >>= λ end. Ok plan)
 
@@ -61,6 +62,20 @@ module _ (head : Head) (plan : Contents) (lines : List (List Word)) where
   each_next =
       each_bind _ _ _ _ (each_line_at lines) (λ taken is.
       each_bind _ _ _ _ (each_any (follower_of head plan taken.0)) (λ line any. each_ok _ _ (omega (arith, ap length is))))
+
+  -- the line may follow
+  each_checked : (words : List Word) → Each (follower_of head plan words) (λ line. line_check head.task_limit line plan ≡ Ok tt)
+  unfolding follower_of
+  each_checked words =
+      each_bind _ _ _ _ (each_any (line_of head.siblings (place_after plan) (parts words))) (λ line any.
+      each_bind _ _ (λ unit. line_check head.task_limit line plan ≡ Ok tt) _ (record { all = λ unit e. e }) (λ unit checked.
+      each_ok _ _ checked))
+
+  pub each_next_checked : Each (next_of head plan lines) (λ x. line_check head.task_limit x.0 plan ≡ Ok tt)
+  unfolding next_of
+  each_next_checked =
+      each_bind _ _ _ _ (each_line_at lines) (λ taken is.
+      each_bind _ _ _ _ (each_checked taken.0) (λ line checked. each_ok _ _ checked))
 
 -- the text is refused where the plan is
 pub Fails-bad : {A : Type 0} (read : Read A) → read ≡ refused → Fails (Bad 0 Unbuilt) read

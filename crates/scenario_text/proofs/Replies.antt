@@ -9,7 +9,7 @@ use Rattle.cs_types.specs.declared.reply.Errno.{Errno}
 use Rattle.cs_types.specs.declared.reply.Errno.TheVariants.{Eperm, Esrch, Eagain, Enomem, Efault, Enodev, Einval, Ebusy}
 use Rattle.cs_types.specs.declared.reply.Pick.{Pick}
 use Rattle.cs_types.specs.declared.reply.Reply.{Reply}
-use Rattle.cs_types.specs.declared.reply.Reply.TheVariants.{Picked, Nothing, Stole, Missed, Slept, Ended, Idle, HasThreads, Woken, Awake, NoTask, Now, Ticked, Child, Zero, Value, Set, Done, Already, Refused, NoCaller}
+use Rattle.cs_types.specs.declared.reply.Reply.TheVariants.{Picked, Nothing, Stole, Missed, Slept, Ended, Idle, HasThreads, Woken, Awake, NoTask, Now, Ticked, Child, Zero, Value, Set, Done, Already, Refused, NoCaller, Loaded, Dropped, NoGuard}
 use Rattle.cs_types.specs.declared.reply.Reply.TheVariants as answer
 use Rattle.scenario_text.specs.Words.{Word, run_word, kind_word, pick_words, errno_word, reply_words}
 use Rattle.scenario_text.specs.Entry.{FitsPick, FitsReply}
@@ -73,7 +73,10 @@ reply_of words =
     if bytes_eq first (codes "Set") then Set else (
     if bytes_eq first (codes "Done") then Done else (
     if bytes_eq first (codes "Already") then Already else (
-    if bytes_eq first (codes "NoCaller") then NoCaller else Refused (errno_of first))))))))))))))))))))
+    if bytes_eq first (codes "NoCaller") then NoCaller else (
+    if bytes_eq first (codes "Loaded") then Loaded else (
+    if bytes_eq first (codes "Dropped") then Dropped else (
+    if bytes_eq first (codes "NoGuard") then NoGuard else Refused (errno_of first)))))))))))))))))))))))
 
 -- ---- what is spelled is read again
 
@@ -147,6 +150,9 @@ reply-reply_words Done fits = refl
 reply-reply_words Already fits = refl
 reply-reply_words (Refused errno) fits = refused_with errno
 reply-reply_words NoCaller fits = refl
+reply-reply_words Loaded fits = refl
+reply-reply_words Dropped fits = refl
+reply-reply_words NoGuard fits = refl
 
 -- So two replies with the same words are one.
 pub one_reply : (a b : Reply) → FitsReply a → FitsReply b → reply_words a ≡ reply_words b → a ≡ b

@@ -11,17 +11,18 @@ use Rattle.cs_types.specs.declared.event.Actor.{Actor}
 use Rattle.cs_types.specs.declared.event.Actor.TheVariants.{Sibling, Caller, End}
 use Rattle.cs_types.specs.declared.event.Ask.{Ask}
 use Rattle.cs_types.specs.declared.event.Event.{Event}
-use Rattle.cs_types.specs.declared.event.Event.TheVariants.{Turn, Resched, Block, Exit, Tick, Wake, Advance, Fork, Prctl, SetSched, Offline, Online}
+use Rattle.cs_types.specs.declared.event.Event.TheVariants.{Turn, Resched, Block, Exit, Tick, Wake, Advance, Fork, Prctl, SetSched, Offline, Online, Load, Unload}
 use Rattle.cs_types.specs.declared.event.Step.{Step}
 use Rattle.cs_types.specs.declared.scenario.Scenario.{Scenario}
-use Rattle.cs_types.specs.Scenario.{IsPolicy, IsTask, IsAsk, IsEvent, IsStep, IsBuilt}
+use Rattle.cs_types.specs.declared.scenario.Teach.{Teach}
+use Rattle.cs_types.specs.Scenario.{IsPolicy, IsTask, IsTeach, IsAsk, IsEvent, IsStep, IsBuilt}
 use Rattle.scenario_text.specs.declared.fault.BadKind.TheVariants.{Unbuilt}
 use Rattle.scenario_text.specs.declared.fault.ReadFault.{ReadFault}
 use Rattle.scenario_text.specs.declared.fault.ReadFault.TheVariants.{Bad, OutOfMemory}
 use Rattle.scenario_text.specs.declared.head.Head.{Head}
-use Rattle.scenario_text.specs.Words.{Word, flag_word, policy_word, creds_words, task_words, actor_word, ask_words, child_word, event_words, made_words}
+use Rattle.scenario_text.specs.Words.{Word, flag_word, policy_word, creds_words, task_words, teach_words, actor_word, ask_words, child_word, event_words, made_words}
 use Rattle.scenario_text.specs.Text.{line, version_words, siblings_words, limits_words, step_words, end_words, scenario_lines}
-use Rattle.scenario_text.specs.Reading.{Read, refused, Gives, Contents, lines_in, head_at, plan_of, scenario_of}
+use Rattle.scenario_text.specs.Reading.{Read, refused, Gives, Contents, nothing_planned, lines_in, head_at, plan_of, scenario_of}
 use Rattle.scenario_text.specs.Reader.{IsTextOf, HasNoScenario, HasOneScenario}
 use Rattle.scenario_text.proofs.Readings.{bind, ok_is}
 use Rattle.scenario_text.proofs.Tasks.{nice_is}
@@ -40,9 +41,6 @@ abbrev head_of_scenario : Scenario → Head
 head_of_scenario s =
     record { siblings = s.siblings; task_limit = s.task_limit; cookie_limit = s.cookie_limit; user_top = s.user_top }
 
-abbrev none_read : Contents
-none_read = record { tasks = []; steps = [] }
-
 abbrev made_of : Head → Contents → Scenario
 made_of head plan =
     record {
@@ -51,15 +49,19 @@ made_of head plan =
       cookie_limit = head.cookie_limit;
       user_top = head.user_top;
       tasks = plan.tasks;
+      teaches = plan.teaches;
       steps = plan.steps;
     }
 
-empty_plan : (siblings limit : ℕ) → IsPlan siblings limit none_read
+empty_plan : (siblings limit : ℕ) → IsPlan siblings limit nothing_planned
 empty_plan siblings limit = record {
   tasks = All-nil (IsTask siblings);
   distinct = λ i j d lt below. absurd (omega arith);
   led = λ k d below. absurd (omega arith);
   few_tasks = omega arith;
+  teaches = All-nil IsTeach;
+  numbered = refl;
+  few_teaches = omega arith;
   steps = All-nil (IsStep siblings);
   few_steps = omega arith;
 }
@@ -69,9 +71,9 @@ scenario_takes : (lines : List (List Word)) (scenario : Scenario) → scenario_o
 unfolding scenario_of
 scenario_takes lines scenario e =
     bind (head_at lines) _ scenario e (λ head first e0.
-    bind (plan_of head.0 none_read head.1) _ scenario e0 (λ plan second e1.
+    bind (plan_of head.0 nothing_planned head.1) _ scenario e0 (λ plan second e1.
     let h = (each_head lines).all head first in
-    let p = (each_plan head.0 head.1 none_read (empty_plan head.0.siblings head.0.task_limit)).all plan second in
+    let p = (each_plan head.0 head.1 nothing_planned (empty_plan head.0.siblings head.0.task_limit)).all plan second in
     let made = made_of head.0 plan in
     let built : IsBuilt made = record {
       siblings = h.1.siblings;
@@ -82,6 +84,9 @@ scenario_takes lines scenario e =
       distinct = p.is.distinct;
       led = p.is.led;
       few_tasks = p.is.few_tasks;
+      teaches = p.is.teaches;
+      numbered = p.is.numbered;
+      few_teaches = p.is.few_teaches;
       steps = p.is.steps;
       few_steps = p.is.few_steps;
     } in
@@ -96,7 +101,7 @@ scenario_again : (scenario : Scenario) → IsBuilt scenario → scenario_of (sce
 unfolding scenario_of
 scenario_again scenario built =
     let head = head_of_scenario scenario in
-    let plan : Contents = record { tasks = scenario.tasks; steps = scenario.steps } in
+    let plan : Contents = record { tasks = scenario.tasks; teaches = scenario.teaches; steps = scenario.steps } in
     let is_head : IsHead head = record {
       siblings = built.siblings;
       task_limit = built.task_limit;
@@ -108,6 +113,9 @@ scenario_again scenario built =
       distinct = built.distinct;
       led = built.led;
       few_tasks = built.few_tasks;
+      teaches = built.teaches;
+      numbered = built.numbered;
+      few_teaches = built.few_teaches;
       steps = built.steps;
       few_steps = built.few_steps;
     } in
@@ -179,6 +187,8 @@ plain_event siblings (SetSched pid policy) few is =
     (plain_word _ refl refl, (plain_decimal pid (omega (arith, is.0)), (plain_policy policy is.1, tt)))
 plain_event siblings (Offline cpu) few is = (plain_word _ refl refl, (plain_decimal cpu (omega arith), tt))
 plain_event siblings (Online cpu) few is = (plain_word _ refl refl, (plain_decimal cpu (omega arith), tt))
+plain_event siblings (Load index) few is = (plain_word _ refl refl, (plain_decimal index (omega arith), tt))
+plain_event siblings (Unload index) few is = (plain_word _ refl refl, (plain_decimal index (omega arith), tt))
 
 pub plain_made : (siblings : ℕ) (actor : Actor) (event : Event) → siblings < 256 → IsStep siblings (by actor event) → AllByRecursion IsPlain (made_words actor event)
 plain_made siblings (Sibling i) event few is =
@@ -194,6 +204,12 @@ plain_tasks : (siblings : ℕ) (tasks : List TaskSpec) → siblings < 256 → Al
 plain_tasks siblings [] few is = tt
 plain_tasks siblings (task ∷ tasks) few is = (plain_task siblings task few is.0, plain_tasks siblings tasks few is.1)
 
+plain_teaches : (teaches : List Teach) → AllByRecursion IsTeach teaches → ArePlain (map teach_words teaches)
+plain_teaches [] is = tt
+plain_teaches (teach ∷ teaches) is =
+    let words : AllByRecursion IsPlain (teach_words teach) = (plain_word _ refl refl, (plain_decimal teach.guard (omega (arith, is.0.guard)), (plain_decimal teach.from (omega (arith, is.0.from)), (plain_decimal teach.to (omega (arith, is.0.to)), tt)))) in
+    (words, plain_teaches teaches is.1)
+
 plain_steps : (siblings : ℕ) (steps : List Step) → siblings < 256 → AllByRecursion (IsStep siblings) steps → ArePlain (map step_words steps)
 plain_steps siblings [] few is = tt
 plain_steps siblings (step ∷ steps) few is = (plain_step siblings step few is.0, plain_steps siblings steps few is.1)
@@ -203,6 +219,7 @@ plain_scenario s built =
     let few : s.siblings < 256 = let two = built.siblings in omega arith in
     let word : IsPlain (codes "end") = plain_word _ refl refl in
     let tasks = plain_tasks s.siblings s.tasks few (recursion_from_All (IsTask s.siblings) s.tasks built.tasks) in
+    let teaches = plain_teaches s.teaches (recursion_from_All IsTeach s.teaches built.teaches) in
     let steps = plain_steps s.siblings s.steps few (recursion_from_All (IsStep s.siblings) s.steps built.steps) in
     let version : AllByRecursion IsPlain version_words = (plain_word _ refl refl, (plain_word _ refl refl, tt)) in
     let siblings : AllByRecursion IsPlain (siblings_words s) = (plain_word _ refl refl, (plain_decimal s.siblings (omega arith), tt)) in
@@ -216,8 +233,9 @@ plain_scenario s built =
         ),
       ),
     ) in
-    let plan = ArePlain-append (map task_words s.tasks) (map step_words s.steps) tasks steps in
-    (version, (siblings, (limits, ArePlain-append (map task_words s.tasks ++ map step_words s.steps) (end_words ∷ []) plan ((word, tt), tt))))
+    let settings = ArePlain-append (map task_words s.tasks) (map teach_words s.teaches) tasks teaches in
+    let plan = ArePlain-append (map task_words s.tasks ++ map teach_words s.teaches) (map step_words s.steps) settings steps in
+    (version, (siblings, (limits, ArePlain-append (map task_words s.tasks ++ map teach_words s.teaches ++ map step_words s.steps) (end_words ∷ []) plan ((word, tt), tt))))
 
 -- ---- the reader
 

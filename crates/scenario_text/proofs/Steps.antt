@@ -7,12 +7,12 @@ use Rattle.cs_types.specs.declared.event.Actor.{Actor}
 use Rattle.cs_types.specs.declared.event.Actor.TheVariants.{Sibling, Caller, End}
 use Rattle.cs_types.specs.declared.event.Ask.{Ask}
 use Rattle.cs_types.specs.declared.event.Event.{Event}
-use Rattle.cs_types.specs.declared.event.Event.TheVariants.{Turn, Resched, Block, Exit, Tick, Wake, Advance, Fork, Prctl, SetSched, Offline, Online}
+use Rattle.cs_types.specs.declared.event.Event.TheVariants.{Turn, Resched, Block, Exit, Tick, Wake, Advance, Fork, Prctl, SetSched, Offline, Online, Load, Unload}
 use Rattle.cs_types.specs.declared.event.Step.{Step}
 use Rattle.cs_types.specs.Scenario.{IsPid, IsAsk, IsStep}
 use Rattle.scenario_text.specs.Words.{Word, actor_word, ask_words, child_word, event_words, deed_words}
 use Rattle.scenario_text.specs.Text.{step_words}
-use Rattle.scenario_text.specs.Reading.{parts, reading_named, ask_of, wake_of, advance_of, child_of, fork_of, prctl_of, setsched_of, hotplug_of, sibling_event_of, caller_event_of, sibling_step_of, caller_step_of, step_of}
+use Rattle.scenario_text.specs.Reading.{parts, reading_named, ask_of, wake_of, advance_of, child_of, fork_of, prctl_of, setsched_of, hotplug_of, guard_event_of, sibling_event_of, caller_event_of, sibling_step_of, caller_step_of, step_of}
 use Rattle.scenario_text.proofs.Numbers.{IsSignedWithin, number_again}
 use Rattle.scenario_text.proofs.Tasks.{each_policy, policy_again}
 use Rattle.scenario_text.proofs.Readings.{Each, each_ok, each_refused, each_bind, each_if, each_when, each_named, each_counted, each_number, each_signed, each_cpu, cpu_again, signed_again}
@@ -134,13 +134,25 @@ module _ (siblings : ℕ) where
   each_online cpu =
       each_bind _ _ _ _ (each_cpu siblings cpu) (λ i w. each_ok _ _ ((cc), λ j few. record { event = w.1; actor = few }))
 
+  each_load : (index : Word) → Each (guard_event_of Load index) (ReadsCaller siblings (codes "load" ∷ index ∷ []))
+  unfolding guard_event_of
+  each_load index =
+      each_bind _ _ _ _ (each_number 0 15 index (omega arith)) (λ n w.
+      each_ok _ _ ((cc), λ j few. record { event = w.1.1; actor = few }))
+
+  each_unload : (index : Word) → Each (guard_event_of Unload index) (ReadsCaller siblings (codes "unload" ∷ index ∷ []))
+  unfolding guard_event_of
+  each_unload index =
+      each_bind _ _ _ _ (each_number 0 15 index (omega arith)) (λ n w.
+      each_ok _ _ ((cc), λ j few. record { event = w.1.1; actor = few }))
+
   each_caller_event : (words : List Word) → Each (caller_event_of siblings (parts words)) (ReadsCaller siblings words)
   unfolding caller_event_of
   each_caller_event words =
       let at = (parts words).at in
       each_counted (ReadsCaller siblings) words 1 _ _ (
         each_wake (at 1),
-        (each_advance (at 1), (each_offline (at 1), (each_online (at 1), tt))),
+        (each_advance (at 1), (each_offline (at 1), (each_online (at 1), (each_load (at 1), (each_unload (at 1), tt))))),
       )
       (each_counted (ReadsCaller siblings) words 2 _ _ (each_fork (at 1) (at 2), (each_setsched (at 1) (at 2), tt))
       (each_counted (ReadsCaller siblings) words 5 _ _ (each_prctl (at 1) (at 2) (at 3) (at 4) (at 5), tt) (each_refused _)))
@@ -163,6 +175,8 @@ caller_within siblings j (Prctl caller ask) is = is.actor
 caller_within siblings j (SetSched pid policy) is = is.actor
 caller_within siblings j (Offline cpu) is = is.actor
 caller_within siblings j (Online cpu) is = is.actor
+caller_within siblings j (Load index) is = is.actor
+caller_within siblings j (Unload index) is = is.actor
 caller_within siblings j event is = absurd is.actor
 
 -- an event is read again
@@ -177,7 +191,7 @@ sibling_event_again siblings i (Tick cpu) is = ap (λ (n : ℕ). Ok (Tick n)) (s
 sibling_event_again siblings i event is = absurd is.actor
 
 caller_event_again : (siblings j : ℕ) (event : Event) → siblings < 256 → IsStep siblings (by (Caller j) event) → caller_event_of siblings (parts (event_words event)) ≡ Ok event
-unfolding caller_event_of reading_named wake_of advance_of fork_of prctl_of setsched_of hotplug_of
+unfolding caller_event_of reading_named wake_of advance_of fork_of prctl_of setsched_of hotplug_of guard_event_of
 caller_event_again siblings j (Wake pid) few is = rw (number_again 1 999999 pid (omega arith) is.event) refl
 caller_event_again siblings j (Advance delta) few is = rw (number_again 1 1000000000 delta (omega arith) is.event) refl
 caller_event_again siblings j (Fork caller thread) few is =
@@ -188,6 +202,8 @@ caller_event_again siblings j (SetSched pid policy) few is =
     rw (number_again 1 999999 pid (omega arith) is.event.0, policy_again policy is.event.1) refl
 caller_event_again siblings j (Offline cpu) few is = rw (cpu_again siblings cpu few is.event) refl
 caller_event_again siblings j (Online cpu) few is = rw (cpu_again siblings cpu few is.event) refl
+caller_event_again siblings j (Load index) few is = rw (number_again 0 15 index (omega arith) (zero-le, is.event)) refl
+caller_event_again siblings j (Unload index) few is = rw (number_again 0 15 index (omega arith) (zero-le, is.event)) refl
 caller_event_again siblings j event few is = absurd is.actor
 
 -- ---- steps

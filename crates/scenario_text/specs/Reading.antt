@@ -1,7 +1,7 @@
 -- Reading: what the reader takes from a text, line by line. Of a line it first sees which form it has, by its
 -- first word and the count of them, then reads the words of that form, and then asks whether the line may follow
 -- those before it.
-use Rattle.std.specs.Prelude.{◌≡◌, ℕ, ◌+◌, ◌-◌, Bool, true, false, ◌&&◌, ◌||◌, ◌==◌, ℤ, pos, negsuc, not, nat_le, nat_lt, if◌then◌else◌, List, [], ◌∷◌, length, slice_index, slice_index_or, map, take, drop, codes, ◌++◌, Result, Ok, Err}
+use Rattle.std.specs.Prelude.{◌≡◌, ◌≤◌, ℕ, ◌+◌, ◌-◌, Bool, true, false, ◌&&◌, ◌||◌, ◌==◌, ℤ, pos, negsuc, not, nat_le, nat_lt, if◌then◌else◌, List, [], ◌∷◌, length, slice_index, slice_index_or, map, take, drop, codes, ◌++◌, Result, Ok, Err}
 use Rattle.std.specs.Borrow.{Bor}
 use Rattle.std.specs.Char.{is_ascii_digit}
 use Rattle.std.specs.List.{slice_split, list_any}
@@ -14,10 +14,12 @@ use Rattle.cs_types.specs.declared.task.TaskSpec.{TaskSpec}
 use Rattle.cs_types.specs.declared.event.Actor.TheVariants.{Sibling, Caller}
 use Rattle.cs_types.specs.declared.event.Ask.{Ask}
 use Rattle.cs_types.specs.declared.event.Event.{Event}
-use Rattle.cs_types.specs.declared.event.Event.TheVariants.{Turn, Resched, Block, Exit, Tick, Wake, Advance, Fork, Prctl, SetSched, Offline, Online}
+use Rattle.cs_types.specs.declared.event.Event.TheVariants.{Turn, Resched, Block, Exit, Tick, Wake, Advance, Fork, Prctl, SetSched, Offline, Online, Load, Unload}
 use Rattle.cs_types.specs.declared.event.Step.{Step}
 use Rattle.cs_types.specs.declared.scenario.Scenario.{Scenario}
+use Rattle.cs_types.specs.declared.scenario.Teach.{Teach}
 use Rattle.scenario_text.specs.declared.head.Head.{Head}
+use Rattle.scenario_text.specs.declared.line.Place.{Place}
 use Rattle.scenario_text.specs.declared.line.ScenarioLine.{ScenarioLine}
 use Rattle.scenario_text.specs.declared.line.ScenarioLine.TheVariants as forms
 use Rattle.scenario_text.specs.declared.plan.Plan.{Plan}
@@ -209,6 +211,19 @@ task_of siblings words =
       Ok (record { pid = pid; tgid = tgid; pgid = pgid; cpu = cpu; policy = policy; creds = creds }))
     else refused
 
+-- ---- what guards are taught
+
+-- what stands after the word `teach`, on the line of this number
+unfoldable pub teach_of : ℕ → Parts → Read Teach
+teach_of line words =
+    if words.count == 3
+    then (do
+      guard ← number_of 0 15 (words.at 0)
+      from ← number_of 0 65535 (words.at 1)
+      to ← number_of 0 65535 (words.at 2)
+      Ok (record { line = line; guard = guard; from = from; to = to }))
+    else refused
+
 -- ---- steps
 
 -- what a sibling does
@@ -274,6 +289,12 @@ hotplug_of event siblings cpu = do
   cpu ← cpu_of siblings cpu
   Ok (event cpu)
 
+-- what happens to the guard of a number
+unfoldable pub guard_event_of : (ℕ → Event) → Word → Read Event
+guard_event_of event index = do
+  index ← number_of 0 15 index
+  Ok (event index)
+
 -- what a caller does, in a core with this number of siblings
 unfoldable pub caller_event_of : ℕ → Parts → Read Event
 caller_event_of siblings words =
@@ -283,6 +304,8 @@ caller_event_of siblings words =
     ∷ (codes "advance", advance_of (words.at 1))
     ∷ (codes "offline", hotplug_of Offline siblings (words.at 1))
     ∷ (codes "online", hotplug_of Online siblings (words.at 1))
+    ∷ (codes "load", guard_event_of Load (words.at 1))
+    ∷ (codes "unload", guard_event_of Unload (words.at 1))
     ∷ []
     ) (words.at 0)
     else (if words.count == 3
@@ -383,10 +406,17 @@ head_at lines = do
 
 -- ---- the lines after the head
 
--- a task line after a step line is refused
-unfoldable pub task_line : ℕ → Bool → Parts → Read ScenarioLine
-task_line siblings is_after_step words =
-    if is_after_step then refused else (task_of siblings words >>= λ task. Ok (forms.Task task))
+-- a task line after a teach line or a step line is refused
+unfoldable pub task_line : ℕ → Place → Parts → Read ScenarioLine
+task_line siblings place words =
+    if place.is_after_teach || place.is_after_step
+    then refused
+    else (task_of siblings words >>= λ task. Ok (forms.Task task))
+
+-- a teach line after a step line is refused
+unfoldable pub teach_line : Place → Parts → Read ScenarioLine
+teach_line place words =
+    if place.is_after_step then refused else (teach_of place.number words >>= λ teach. Ok (forms.Teach teach))
 
 unfoldable pub step_line : ℕ → Parts → Read ScenarioLine
 step_line siblings words =
@@ -398,28 +428,48 @@ unfoldable pub end_line : Parts → Read ScenarioLine
 end_line words = if words.count == 0 then Ok forms.End else refused
 
 -- what the words after the first say, by what the first names
-abbrev pub line_forms : ℕ → Bool → Parts → List (Word × Read ScenarioLine)
-line_forms siblings is_after_step words =
-    (codes "task", task_line siblings is_after_step words)
+abbrev pub line_forms : ℕ → Place → Parts → List (Word × Read ScenarioLine)
+line_forms siblings place words =
+    (codes "task", task_line siblings place words)
+    ∷ (codes "teach", teach_line place words)
     ∷ (codes "step", step_line siblings words)
     ∷ (codes "end", end_line words)
     ∷ []
 
--- a line after the head, in a core with this number of siblings
-unfoldable pub line_of : ℕ → Bool → Parts → Read ScenarioLine
-line_of siblings is_after_step words =
+-- a line after the head at this place, in a core with this number of siblings
+unfoldable pub line_of : ℕ → Place → Parts → Read ScenarioLine
+line_of siblings place words =
     if nat_le 1 words.count
-    then reading_named (line_forms siblings is_after_step (after 1 words)) (words.at 0)
+    then reading_named (line_forms siblings place (after 1 words)) (words.at 0)
     else refused
 
--- ---- the plan: the tasks and the steps that are read
+-- ---- the plan: the tasks, the teach lines and the steps that are read
 
 pub record Contents : Type 0 where
   pub tasks : List TaskSpec
+  pub teaches : List Teach
   pub steps : List Step
 
 abbrev pub contents : Plan → Contents
-contents plan = record { tasks = plan.tasks.items; steps = plan.steps.items }
+contents plan = record { tasks = plan.tasks.items; teaches = plan.teaches.items; steps = plan.steps.items }
+
+abbrev pub nothing_planned : Contents
+nothing_planned = record { tasks = []; teaches = []; steps = [] }
+
+-- the plan has few lines of each form: as many tasks as a limit of 16 bits allows, and as many others as a scenario
+pub record HasFewLines (plan : Contents) : Type 0 where
+  pub tasks : length plan.tasks ≤ 65535
+  pub teaches : length plan.teaches ≤ 64
+  pub steps : length plan.steps ≤ 100000
+
+-- where the line after those of the head and of the plan stands
+abbrev pub place_after : Contents → Place
+place_after plan =
+    record {
+      number = length plan.tasks + length plan.teaches + length plan.steps + 4;
+      is_after_teach = not (length plan.teaches == 0);
+      is_after_step = not (length plan.steps == 0);
+    }
 
 -- whether none of the tasks has the task's pid
 unfoldable pub is_fresh : List TaskSpec → TaskSpec → Bool
@@ -438,6 +488,10 @@ task_check limit task plan = do
   led ← check (is_led plan.tasks task)
   check (nat_lt (length plan.tasks) limit)
 
+-- one more teach line may follow
+unfoldable pub teach_check : Contents → Read (Unit {0})
+teach_check plan = check (nat_lt (length plan.teaches) 64)
+
 -- one more step may follow
 unfoldable pub step_check : Contents → Read (Unit {0})
 step_check plan = check (nat_lt (length plan.steps) 100000)
@@ -445,13 +499,14 @@ step_check plan = check (nat_lt (length plan.steps) 100000)
 -- the line may follow
 abbrev pub line_check : ℕ → ScenarioLine → Contents → Read (Unit {0})
 line_check limit (forms.Task task) plan = task_check limit task plan
+line_check limit (forms.Teach teach) plan = teach_check plan
 line_check limit (forms.Step step) plan = step_check plan
 line_check limit forms.End plan = Ok tt
 
 -- the line that the words spell, which may follow those of the plan
 unfoldable pub follower_of : Head → Contents → List Word → Read ScenarioLine
 follower_of head plan words = do
-  line ← line_of head.siblings (not (length plan.steps == 0)) (parts words)
+  line ← line_of head.siblings (place_after plan) (parts words)
   follows ← line_check head.task_limit line plan
   Ok line
 
@@ -463,16 +518,20 @@ next_of head plan lines = do
   Ok (line, taken.1)
 
 abbrev pub with_task : TaskSpec → Contents → Contents
-with_task task plan = record { tasks = plan.tasks ++ task ∷ []; steps = plan.steps }
+with_task task plan = record plan { tasks = plan.tasks ++ task ∷ [] }
+
+abbrev pub with_teach : Teach → Contents → Contents
+with_teach teach plan = record plan { teaches = plan.teaches ++ teach ∷ [] }
 
 abbrev pub with_step : Step → Contents → Contents
-with_step step plan = record { tasks = plan.tasks; steps = plan.steps ++ step ∷ [] }
+with_step step plan = record plan { steps = plan.steps ++ step ∷ [] }
 
 -- one answer for each form of a line
-abbrev pub match_line : {A : Type 0} → ScenarioLine → (TaskSpec → A) → (Step → A) → A → A
-match_line (forms.Task task) f g x = f task
-match_line (forms.Step step) f g x = g step
-match_line forms.End f g x = x
+abbrev pub match_line : {A : Type 0} → ScenarioLine → (TaskSpec → A) → (Teach → A) → (Step → A) → A → A
+match_line (forms.Task task) f g h x = f task
+match_line (forms.Teach teach) f g h x = g teach
+match_line (forms.Step step) f g h x = h step
+match_line forms.End f g h x = x
 
 -- the plan of the lines up to `end`, after what is read
 unfoldable pub plan_of : Head → Contents → List (List Word) → Read Contents
@@ -482,6 +541,7 @@ plan_of head plan (words ∷ lines) = do
   line ← follower_of head plan words
   match_line line
       (λ task. plan_of head (with_task task plan) lines)
+      (λ teach. plan_of head (with_teach teach plan) lines)
       (λ step. plan_of head (with_step step plan) lines)
       (end_of lines >>= λ end. Ok plan)
 
@@ -489,7 +549,7 @@ plan_of head plan (words ∷ lines) = do
 unfoldable pub scenario_of : List (List Word) → Read Scenario
 scenario_of lines = do
   head ← head_at lines
-  plan ← plan_of head.0 (record { tasks = []; steps = [] }) head.1
+  plan ← plan_of head.0 nothing_planned head.1
   Ok (
       record {
         siblings = head.0.siblings;
@@ -497,6 +557,7 @@ scenario_of lines = do
         cookie_limit = head.0.cookie_limit;
         user_top = head.0.user_top;
         tasks = plan.tasks;
+        teaches = plan.teaches;
         steps = plan.steps;
       }
       )

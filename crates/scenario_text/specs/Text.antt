@@ -5,7 +5,7 @@ use Rattle.std.specs.List.{flat_map, join_with_byte}
 use Rattle.cs_types.specs.declared.event.Step.{Step}
 use Rattle.cs_types.specs.declared.reply.Entry.{Entry}
 use Rattle.cs_types.specs.declared.scenario.Scenario.{Scenario}
-use Rattle.scenario_text.specs.Words.{Word, task_words, made_words, reply_words}
+use Rattle.scenario_text.specs.Words.{Word, task_words, teach_words, made_words, reply_words}
 
 -- words with a space between two
 abbrev pub spaced : List Word → List ℕ
@@ -41,7 +41,7 @@ end_words = codes "end" ∷ []
 abbrev pub scenario_lines : Scenario → List (List Word)
 scenario_lines scenario =
     (version_words ∷ siblings_words scenario ∷ limits_words scenario ∷ [])
-    ++ map task_words scenario.tasks ++ map step_words scenario.steps ++ end_words ∷ []
+    ++ map task_words scenario.tasks ++ map teach_words scenario.teaches ++ map step_words scenario.steps ++ end_words ∷ []
 
 -- the text of a scenario
 abbrev pub scenario_text : Scenario → List ℕ

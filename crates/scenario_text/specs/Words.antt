@@ -11,15 +11,16 @@ use Rattle.cs_types.specs.declared.event.Actor.{Actor}
 use Rattle.cs_types.specs.declared.event.Actor.TheVariants.{Sibling, Caller, End}
 use Rattle.cs_types.specs.declared.event.Ask.{Ask}
 use Rattle.cs_types.specs.declared.event.Event.{Event}
-use Rattle.cs_types.specs.declared.event.Event.TheVariants.{Turn, Resched, Block, Exit, Tick, Wake, Advance, Fork, Prctl, SetSched, Offline, Online}
+use Rattle.cs_types.specs.declared.event.Event.TheVariants.{Turn, Resched, Block, Exit, Tick, Wake, Advance, Fork, Prctl, SetSched, Offline, Online, Load, Unload}
 use Rattle.cs_types.specs.declared.reply.Kind.{Kind}
 use Rattle.cs_types.specs.declared.reply.Kind.TheVariants.{Selected, Adopted, Plain}
 use Rattle.cs_types.specs.declared.reply.Errno.{Errno}
 use Rattle.cs_types.specs.declared.reply.Errno.TheVariants.{Eperm, Esrch, Eagain, Enomem, Efault, Enodev, Einval, Ebusy}
 use Rattle.cs_types.specs.declared.reply.Pick.{Pick}
 use Rattle.cs_types.specs.declared.reply.Reply.{Reply}
-use Rattle.cs_types.specs.declared.reply.Reply.TheVariants.{Picked, Nothing, Stole, Missed, Slept, Ended, Idle, HasThreads, Woken, Awake, NoTask, Now, Ticked, Child, Zero, Value, Set, Done, Already, Refused, NoCaller}
+use Rattle.cs_types.specs.declared.reply.Reply.TheVariants.{Picked, Nothing, Stole, Missed, Slept, Ended, Idle, HasThreads, Woken, Awake, NoTask, Now, Ticked, Child, Zero, Value, Set, Done, Already, Refused, NoCaller, Loaded, Dropped, NoGuard}
 use Rattle.cs_types.specs.declared.reply.Reply.TheVariants as answer
+use Rattle.cs_types.specs.declared.scenario.Teach.{Teach}
 
 -- a word is its bytes
 abbrev pub Word : Type 0
@@ -53,6 +54,12 @@ task_words task =
     codes "task" ∷ decimal task.pid ∷ decimal task.tgid ∷ decimal task.pgid ∷ decimal task.cpu
     ∷ policy_word task.policy ∷ creds_words task.creds
 
+-- ---- what guards are taught
+
+-- `teach` GUARD FROM TO
+abbrev pub teach_words : Teach → List Word
+teach_words teach = codes "teach" ∷ decimal teach.guard ∷ decimal teach.from ∷ decimal teach.to ∷ []
+
 -- ---- steps
 
 -- `s` and the sibling's number, `c` and the caller's, or `end`
@@ -83,6 +90,8 @@ event_words (Prctl caller ask) = codes "prctl" ∷ decimal caller ∷ ask_words 
 event_words (SetSched pid policy) = codes "setsched" ∷ decimal pid ∷ policy_word policy ∷ []
 event_words (Offline cpu) = codes "offline" ∷ decimal cpu ∷ []
 event_words (Online cpu) = codes "online" ∷ decimal cpu ∷ []
+event_words (Load index) = codes "load" ∷ decimal index ∷ []
+event_words (Unload index) = codes "unload" ∷ decimal index ∷ []
 
 -- What the actor does. A sibling schedules itself; the end, which has no number, names the sibling that schedules.
 abbrev pub deed_words : Actor → Event → List Word
@@ -147,3 +156,6 @@ reply_words Done = codes "Done" ∷ []
 reply_words Already = codes "Already" ∷ []
 reply_words (Refused errno) = errno_word errno ∷ []
 reply_words NoCaller = codes "NoCaller" ∷ []
+reply_words Loaded = codes "Loaded" ∷ []
+reply_words Dropped = codes "Dropped" ∷ []
+reply_words NoGuard = codes "NoGuard" ∷ []

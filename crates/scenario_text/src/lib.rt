@@ -11,6 +11,7 @@ mod plan;
 mod reading;
 mod step;
 mod task;
+mod teach;
 mod words;
 mod writing;
 

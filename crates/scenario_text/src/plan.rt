@@ -1,21 +1,28 @@
-//! The plan of a scenario: its tasks and its steps, as they are read line by line. Here are the rules
-//! that take more than one line: distinct pids, leaders, and how many there may be.
+//! The plan of a scenario: its tasks, its teach lines and its steps, as they are read line by line. Here
+//! are the rules that take more than one line: distinct pids, leaders, and how many there may be.
 
-ghost use Rattle.std.specs.Prelude.{◌≡◌, []};
+ghost use Rattle.std.specs.Prelude.{◌≡◌};
 ghost use Rattle.scenario_text.specs.Reading.{is_fresh, is_led};
 
 use crate::fault::Refused;
-use crate::line::ScenarioLine;
-use cs_types::{Step, TaskSpec};
+use crate::line::{Place, ScenarioLine};
+use cs_types::{Step, TaskSpec, Teach};
 use std::alloc::Global;
+
+/// How many lines stand before the first task line.
+const HEAD_LINES: usize = 3;
+
+/// How many teach lines a scenario has at most.
+const MOST_TEACHES: usize = 64;
 
 /// How many steps a scenario has at most.
 const MOST_STEPS: usize = 100_000;
 
-/// The tasks and the steps that are read.
+/// The tasks, the teach lines and the steps that are read.
 #[derive(Drop)]
 pub(crate) struct Plan {
     pub tasks: Vec<TaskSpec>,
+    pub teaches: Vec<Teach>,
     pub steps: Vec<Step>,
 }
 
@@ -40,15 +47,30 @@ fn is_led(tasks: &[TaskSpec], task: &TaskSpec) -> bool
 }
 
 impl Plan {
-    ghost use Rattle.scenario_text.specs.Reading.{contents, task_check, step_check, line_check};
+    ghost use Rattle.scenario_text.specs.Reading.{contents, nothing_planned, HasFewLines, place_after, task_check, teach_check, step_check, line_check};
 
-    /// A plan of no task and no step.
+    /// A plan of no task, no teach line and no step.
     pub fn new(alloc: Global) -> Self
-        ensures { contents result ≡ record { tasks = []; steps = [] } }
+        ensures { contents result ≡ nothing_planned }
     {
         Plan {
             tasks: Vec::new(alloc),
+            teaches: Vec::new(alloc),
             steps: Vec::new(alloc),
+        }
+    }
+
+    /// Where the line after those of the head and of the plan stands. The plan has at most 65535 tasks,
+    /// 64 teach lines and 100000 steps.
+    pub fn place(&self) -> Place
+        requires { HasFewLines (contents self.now) }
+        ensures { result ≡ place_after (contents self.now) }
+    {
+        let before = HEAD_LINES + self.tasks.len() + self.teaches.len() + self.steps.len();
+        Place {
+            number: before as u32 + 1,
+            is_after_teach: !self.teaches.is_empty(),
+            is_after_step: !self.steps.is_empty(),
         }
     }
 
@@ -65,6 +87,17 @@ impl Plan {
             return Err(Refused);
         }
         if self.tasks.len() >= limit as usize {
+            return Err(Refused);
+        }
+        Ok(())
+    }
+
+    /// Whether one more teach line may follow.
+    #[tactic(auto, unfolding(crate::specs::Reading::teach_check))]
+    fn check_teach(&self) -> Result<(), Refused>
+        ensures { result ≡ teach_check (contents self.now) }
+    {
+        if self.teaches.len() >= MOST_TEACHES {
             return Err(Refused);
         }
         Ok(())
@@ -87,6 +120,7 @@ impl Plan {
     {
         match line {
             ScenarioLine::Task(task) => self.check_task(task, limit),
+            ScenarioLine::Teach(_) => self.check_teach(),
             ScenarioLine::Step(_) => self.check_step(),
             ScenarioLine::End => Ok(()),
         }

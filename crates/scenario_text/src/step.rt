@@ -7,6 +7,7 @@ ghost use Rattle.scenario_text.specs.Reading.{lent, number_of, signed_of, siblin
 use crate::fault::Refused;
 use crate::number::{parse_cpu, parse_number, parse_signed};
 use crate::task::parse_policy;
+use crate::teach::parse_guard;
 use crate::words::is_word;
 use cs_types::{Actor, Ask, Cpu, Event, Pid, Step};
 
@@ -104,7 +105,7 @@ fn parse_setsched(pid: &[u8], policy: &[u8]) -> Result<Event, Refused>
 }
 
 /// What a caller does, in a core with this number of siblings.
-#[tactic(auto, unfolding(crate::specs::Reading::reading_named, crate::specs::Reading::caller_event_of, crate::specs::Reading::wake_of, crate::specs::Reading::advance_of, crate::specs::Reading::hotplug_of, crate::specs::Reading::prctl_of))]
+#[tactic(auto, unfolding(crate::specs::Reading::reading_named, crate::specs::Reading::caller_event_of, crate::specs::Reading::wake_of, crate::specs::Reading::advance_of, crate::specs::Reading::hotplug_of, crate::specs::Reading::guard_event_of, crate::specs::Reading::prctl_of))]
 fn parse_caller_event(words: &[&[u8]], siblings: u8) -> Result<Event, Refused>
     ensures { result ≡ caller_event_of siblings (lent words.now) }
 {
@@ -115,6 +116,8 @@ fn parse_caller_event(words: &[&[u8]], siblings: u8) -> Result<Event, Refused>
         }
         [name, cpu] if is_word(name, "offline") => Ok(Event::Offline(parse_cpu(cpu, siblings)?)),
         [name, cpu] if is_word(name, "online") => Ok(Event::Online(parse_cpu(cpu, siblings)?)),
+        [name, index] if is_word(name, "load") => Ok(Event::Load(parse_guard(index)?)),
+        [name, index] if is_word(name, "unload") => Ok(Event::Unload(parse_guard(index)?)),
         [name, caller, child] if is_word(name, "fork") => parse_fork(caller, child),
         [name, pid, policy] if is_word(name, "setsched") => parse_setsched(pid, policy),
         [name, caller, cmd, target, scope, addr] if is_word(name, "prctl") => Ok(Event::Prctl {

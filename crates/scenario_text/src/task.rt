@@ -69,7 +69,7 @@ fn parse_pid(word: &[u8]) -> Result<Pid, Refused>
 }
 
 /// A user or a group.
-fn parse_id(word: &[u8]) -> Result<u32, Refused>
+pub(crate) fn parse_id(word: &[u8]) -> Result<u32, Refused>
     ensures { result ≡ number_of 0 65535 word.now }
 {
     Ok(parse_number(word, 0, MOST_ID)? as u32)

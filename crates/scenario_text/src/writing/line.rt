@@ -127,6 +127,8 @@ impl Line {
             }
             Event::Offline(cpu) => self.named("offline", cpu),
             Event::Online(cpu) => self.named("online", cpu),
+            Event::Load(index) => self.named("load", index),
+            Event::Unload(index) => self.named("unload", index),
         }
     }
 
@@ -220,6 +222,9 @@ impl Line {
             Reply::Already => self.text("Already"),
             Reply::Refused(errno) => self.errno(errno),
             Reply::NoCaller => self.text("NoCaller"),
+            Reply::Loaded => self.text("Loaded"),
+            Reply::Dropped => self.text("Dropped"),
+            Reply::NoGuard => self.text("NoGuard"),
         }
     }
 

@@ -10,6 +10,6 @@ invariant-loop-index g l =
     let written = g.K.Sink.written in
     let faults = g.K.Sink.faults in
     record {
-      reached : Reached (written l.fn.sink) (lines_text (ended_lines (moment_of (g.R.Room.scenario l.room) (g.R.Room.history l.room)))) (lines_text (ended_lines_from (moment_of (g.R.Room.scenario l.room) (g.R.Room.history l.room)) l.index)) (written l.sink);
+      reached : Reached (written l.fn.sink) (lines_text (ended_lines (moment_of (g.R.Room.opening l.room) (g.R.Room.history l.room)))) (lines_text (ended_lines_from (moment_of (g.R.Room.opening l.room) (g.R.Room.history l.room)) l.index)) (written l.sink);
       faultless : faults l.sink ≡ faults l.fn.sink;
     }

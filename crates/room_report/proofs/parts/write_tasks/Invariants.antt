@@ -10,7 +10,7 @@ invariant-loop-task g l =
     let written = g.K.Sink.written in
     let faults = g.K.Sink.faults in
     record {
-      reached : Reached (written l.fn.sink) (lines_text (task_lines (moment_of (g.R.Room.scenario l.room) (g.R.Room.history l.room)))) (lines_text (task_lines_above (moment_of (g.R.Room.scenario l.room) (g.R.Room.history l.room)) l.pid)) (written l.sink);
+      reached : Reached (written l.fn.sink) (lines_text (task_lines (moment_of (g.R.Room.opening l.room) (g.R.Room.history l.room)))) (lines_text (task_lines_above (moment_of (g.R.Room.opening l.room) (g.R.Room.history l.room)) l.pid)) (written l.sink);
       faultless : faults l.sink ≡ faults l.fn.sink;
     }
 

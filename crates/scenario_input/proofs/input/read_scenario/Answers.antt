@@ -11,4 +11,5 @@ returns-clause-reads g c =
     record {
       built = of.built;
       read = subst (λ bytes. IsReadAs (g.S.Source.left c.args.source.now) bytes (g.S.Source.left c.read_to_end.new.source)) is c.in_ok-input.ensures.whole;
+      alone = λ other built same. c.read.ensures.one other c.in_ok-scenario.scenario (record { built = built; text = of.text ∙ sym same }) of;
     }

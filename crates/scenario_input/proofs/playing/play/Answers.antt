@@ -4,7 +4,7 @@ use Rattle.scenario_input.proofs.playing.play.Goals as goal
 
 pub loop-step-preserved : goal.loop-step-preserved
 loop-step-preserved g c = record {
-  history = history_more (g.R.Room.scenario c.args.room.now) (g.R.Room.scenario c.loop-step.room) c.args.steps.now c.loop-step.step-index _ (g.R.Room.history c.loop-step.room) _ c.apply.result c.loop-step-test.true c.loop-step.invariant.history c.loop-step.invariant.scenario c.apply.ensures.entry c.apply.ensures.reply;
-  scenario = c.apply.ensures.scenario ∙ c.loop-step.invariant.scenario;
+  history = history_more (g.R.Room.opening c.args.room.now) (g.R.Room.opening c.loop-step.room) c.args.steps.now c.loop-step.step-index _ (g.R.Room.history c.loop-step.room) _ c.apply.result c.loop-step-test.true c.loop-step.invariant.history c.loop-step.invariant.opening c.apply.ensures.entry c.apply.ensures.reply;
+  opening = c.apply.ensures.opening ∙ c.loop-step.invariant.opening;
   spare = omega (arith, c.apply.ensures.spare, c.loop-step.invariant.spare);
 }

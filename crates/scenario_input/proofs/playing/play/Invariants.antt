@@ -6,7 +6,7 @@ abbrev pub invariant-loop-step : goal.invariant-loop-step
 invariant-loop-step g l =
     let room = g.R.Room in
     record {
-      history : room.history l.room ≡ history_of (room.scenario l.fn.room) (take l.step-index l.steps);
-      scenario : room.scenario l.room ≡ room.scenario l.fn.room;
+      history : room.history l.room ≡ history_of (room.opening l.fn.room) (take l.step-index l.steps);
+      opening : room.opening l.room ≡ room.opening l.fn.room;
       spare : room.spare l.room + l.step-index ≡ room.spare l.fn.room;
     }

@@ -9,12 +9,12 @@ invariant_of-result g c =
     let entries = c.in_ok-entries.ensures in
     let state = c.in_ok-state.ensures in
     let most = c.most_entries-most.ensures in
-    subst (λ (s : Scenario). IsFold (record { scenario = s; state = c.in_ok-state.state; entries = c.in_ok-entries.entries })) (sym c.in_ok-copy.ensures)
+    subst (λ (s : Scenario). IsFold (record { scenario = s; guards = c.len-count.result; state = c.in_ok-state.state; entries = c.in_ok-entries.entries })) (sym c.in_ok-copy.ensures)
     (record {
-      playable = c.requires;
+      playable = c.requires.playable;
       events = rw entries.items (λ k d lt. absurd (omega arith));
       history = rw entries.items refl;
-      fold = rw entries.items state.room;
+      fold = rw (entries.items, c.len-count.ensures.len) state.room;
       numbers = rw entries.items state.numbers;
       sound = state.sound;
       siblings = state.siblings;

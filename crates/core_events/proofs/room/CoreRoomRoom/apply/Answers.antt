@@ -1,13 +1,15 @@
 use Rattle.std.proofs.Common.{◌≤◌, ◌*◌, ◌++◌, ◌∷◌, [], length, ap, sym, subst, ◌∙◌, arith}
 use Rattle.std.specs.Prelude.{IfSome, All, ◌+◌, ◌<◌, ◌^◌}
 use Rattle.std.proofs.lemmas.List.Elements.{All-push, All-weaker}
+use Rattle.core_events.specs.Inside.{opening_of}
+use Rattle.cs_types.specs.Guards.{GuardState}
 use Rattle.cs_types.specs.declared.reply.Entry.{Entry}
 use Rattle.cs_types.specs.Scenario.{IsEvent}
 use Rattle.cs_types.specs.Room.{RoomState, SiblingState}
 use Rattle.cs_types.specs.Touches.{selection_of}
 use Rattle.cs_types.specs.History.{fold_of, reply_to, history_of}
 use Rattle.cs_types.specs.Laws.{SelectsForTheCore, scheduling_room, cpu_of, LeavesTheRoom}
-use Rattle.cs_types.proofs.Numbers.{task_number-ledger_of, next_stamp-fold_of, next_cookie-fold_of, next_pid-fold_of, ended-fold_of}
+use Rattle.cs_types.proofs.Numbers.{asked-fold_of, task_number-ledger_of, next_stamp-fold_of, next_cookie-fold_of, next_pid-fold_of, ended-fold_of}
 use Rattle.cs_types.proofs.Tasks.{few-fold_of}
 use Rattle.cs_types.proofs.Selections.{selects}
 use Rattle.cs_types.proofs.Refusals.{refused_leaves}
@@ -27,14 +29,14 @@ use Rattle.core_events.proofs.room.CoreRoomRoom.apply.Goals as goal
 
 pub counted-reply-requires-clause-event : goal.counted-reply-requires-clause-event
 counted-reply-requires-clause-event g c =
-    subst (λ count. IsEvent count c.args.event) (sym c.self.invariant.siblings) (subst (λ (m : Machine). IsEvent m.scenario.siblings c.args.event) (sym c.self.view_is) c.requires.event)
+    subst (λ count. IsEvent count c.args.event) (sym c.self.invariant.siblings) (subst (λ (m : Machine). IsEvent m.opening.scenario.siblings c.args.event) (sym c.self.view_is) c.requires.event)
 
 pub counted-reply-requires-clause-ready : goal.counted-reply-requires-clause-ready
 counted-reply-requires-clause-ready g c =
     let a = c.self.inside in
-    let last = fold_of a.scenario a.entries.items in
+    let last = fold_of (opening_of a) a.entries.items in
     let accounted : IsAccounted 255 (length a.entries.items) (account_of last) =
-    accounted-fold_of 255 a.scenario a.entries.items (omega arith) (omega (arith, c.self.invariant.playable.siblings.1)) c.self.invariant.events in
+    accounted-fold_of 255 (opening_of a) a.entries.items (omega arith) (omega (arith, c.self.invariant.playable.siblings.1)) c.self.invariant.events in
     let fold = c.self.invariant.fold in
     let folds = folds_of a c.self.invariant in
     record {
@@ -44,7 +46,7 @@ counted-reply-requires-clause-ready g c =
         few = omega (arith, a.entries.ok.0, c.self.invariant.few_entries, most_entries-le a.scenario c.self.invariant.playable);
         timely = λ intervals. subst (λ (room : RoomState). IsTimely (length a.entries.items) room)
             (sym (ap (λ (room : RoomState). let other : RoomState = record room { intervals = intervals } in other) c.self.invariant.fold))
-            (timely_with intervals (length a.entries.items) (fold_of a.scenario a.entries.items) (timely-fold_of a.scenario a.entries.items));
+            (timely_with intervals (length a.entries.items) (fold_of (opening_of a) a.entries.items) (timely-fold_of (opening_of a) a.entries.items));
         clock = omega (arith, c.self.invariant.slow, a.entries.ok.0, c.self.invariant.few_entries, most_entries-le a.scenario c.self.invariant.playable);
       };
       paid = record {
@@ -60,37 +62,37 @@ counted-reply-requires-clause-ready g c =
           most_entries-le a.scenario c.self.invariant.playable,
         );
         totals = λ pid. subst (λ (r : RoomState). total_at a.state.core.totals pid ≤ 255 * charged_up_to (account_of r)) (sym fold)
-            (subst (λ n. n ≤ 255 * charged_up_to (account_of last)) (sym (total_kept a.scenario a.state a.entries.items pid folds)) (accounted.totals pid));
+            (subst (λ n. n ≤ 255 * charged_up_to (account_of last)) (sym (total_kept (opening_of a) a.state a.entries.items pid folds)) (accounted.totals pid));
       };
       spares = record {
         touches = omega (
           arith,
-          task_number-ledger_of a.scenario a.entries.items c.self.invariant.playable.few_tasks c.self.invariant.playable.task_limit.1,
+          task_number-ledger_of (opening_of a) a.entries.items c.self.invariant.playable.few_tasks c.self.invariant.playable.task_limit.1,
           ap (λ (numbers : Numbers). numbers.task) c.self.invariant.numbers,
           a.entries.ok.0,
           c.self.invariant.few_entries,
           most_entries-le a.scenario c.self.invariant.playable,
           ap (λ (room : RoomState). length room.tasks) c.self.invariant.fold,
-          few-fold_of a.scenario a.entries.items c.self.invariant.playable.few_tasks,
+          few-fold_of (opening_of a) a.entries.items c.self.invariant.playable.few_tasks,
           c.self.invariant.playable.task_limit.1,
         );
         stamps = omega (
           arith,
-          next_stamp-fold_of a.scenario a.entries.items c.self.invariant.playable.few_tasks c.self.invariant.playable.task_limit.1,
+          next_stamp-fold_of (opening_of a) a.entries.items c.self.invariant.playable.few_tasks c.self.invariant.playable.task_limit.1,
           ap (λ (room : RoomState). room.next_stamp) c.self.invariant.fold,
           a.entries.ok.0,
           c.self.invariant.few_entries,
           most_entries-le a.scenario c.self.invariant.playable,
           ap (λ (room : RoomState). length room.tasks) c.self.invariant.fold,
-          few-fold_of a.scenario a.entries.items c.self.invariant.playable.few_tasks,
+          few-fold_of (opening_of a) a.entries.items c.self.invariant.playable.few_tasks,
           c.self.invariant.playable.task_limit.1,
         );
-        serial = omega (arith, next_cookie-fold_of a.scenario a.entries.items c.self.invariant.playable.few_tasks c.self.invariant.playable.task_limit.1, ap (λ (room : RoomState). room.next_cookie) c.self.invariant.fold, a.entries.ok.0);
-        pid = omega (arith, next_pid-fold_of a.scenario a.entries.items c.self.invariant.playable.few_tasks c.self.invariant.playable.task_limit.1, ap (λ (room : RoomState). room.next_pid) c.self.invariant.fold, a.entries.ok.0, first_pid-low a.scenario c.self.invariant.playable, c.self.invariant.few_entries, most_entries-le a.scenario c.self.invariant.playable);
+        serial = omega (arith, next_cookie-fold_of (opening_of a) a.entries.items c.self.invariant.playable.few_tasks c.self.invariant.playable.task_limit.1, ap (λ (room : RoomState). room.next_cookie) c.self.invariant.fold, a.entries.ok.0);
+        pid = omega (arith, next_pid-fold_of (opening_of a) a.entries.items c.self.invariant.playable.few_tasks c.self.invariant.playable.task_limit.1, ap (λ (room : RoomState). room.next_pid) c.self.invariant.fold, a.entries.ok.0, first_pid-low a.scenario c.self.invariant.playable, c.self.invariant.few_entries, most_entries-le a.scenario c.self.invariant.playable);
         total = omega (
           arith,
           c.self.invariant.places,
-          next_pid-fold_of a.scenario a.entries.items c.self.invariant.playable.few_tasks c.self.invariant.playable.task_limit.1,
+          next_pid-fold_of (opening_of a) a.entries.items c.self.invariant.playable.few_tasks c.self.invariant.playable.task_limit.1,
           ap (λ (room : RoomState). room.next_pid) c.self.invariant.fold,
           a.entries.ok.0,
           c.requires.spare,
@@ -99,7 +101,7 @@ counted-reply-requires-clause-ready g c =
         );
         ended = omega (
           arith,
-          ended-fold_of a.scenario a.entries.items c.self.invariant.playable.few_tasks c.self.invariant.playable.task_limit.1,
+          ended-fold_of (opening_of a) a.entries.items c.self.invariant.playable.few_tasks c.self.invariant.playable.task_limit.1,
           ap (λ (room : RoomState). length room.ended) c.self.invariant.fold,
           a.entries.ok.0,
           c.requires.spare,
@@ -111,7 +113,11 @@ counted-reply-requires-clause-ready g c =
         places = All-weaker (λ (lane : Lane g.row.Q.Denot). lane.place ≤ length a.entries.items) (λ (lane : Lane g.row.Q.Denot). lane.place + 1 < 2 ^ 32)
             (λ lane few. omega (arith, few, a.entries.ok.0, c.self.invariant.few_entries, most_entries-le a.scenario c.self.invariant.playable)) a.state.core.lanes.items
             (of_states (λ (sibling : SiblingState). sibling.place ≤ length a.entries.items) a.state.core.lanes.items
-            (subst (λ (room : RoomState). All (λ (sibling : SiblingState). sibling.place ≤ length a.entries.items) room.siblings) (sym c.self.invariant.fold) (places-fold_of a.scenario a.entries.items)));
+            (subst (λ (room : RoomState). All (λ (sibling : SiblingState). sibling.place ≤ length a.entries.items) room.siblings) (sym c.self.invariant.fold) (places-fold_of (opening_of a) a.entries.items)));
+        asked = All-weaker (λ (guard : GuardState). guard.asked < 2 ^ 43) (λ (guard : GuardState). guard.asked < 2 ^ 62) (λ guard is. omega (arith, is)) a.state.guards.guards.all
+            (subst (λ (room : RoomState). All (λ (guard : GuardState). guard.asked < 2 ^ 43) room.guards.all) (sym c.self.invariant.fold)
+            (asked-fold_of (opening_of a) a.entries.items c.self.invariant.playable.few_tasks c.self.invariant.playable.task_limit.1
+            (omega (arith, a.entries.ok.0, c.self.invariant.few_entries, most_entries-le a.scenario c.self.invariant.playable))));
       };
     }
 
@@ -120,13 +126,13 @@ invariant_of-self g c =
     let a = c.self.inside in
     let entry : Entry = record { actor = c.args.actor; event = c.args.event; reply = c.counted-reply.result } in
     let so_far = folds_of a c.self.invariant in
-    let limits = subst (λ (m : Machine). IsEvent m.scenario.siblings c.args.event) (sym c.self.view_is) c.requires.event in
-    let reply = reply_more a.scenario a.state c.counted-reply.new.state a.entries.items c.args.event c.counted-reply.result so_far (c.counted-reply.ensures.step (fold_of a.scenario a.entries.items).intervals) in
-    let folds = folds_more a.scenario a.state c.counted-reply.new.state a.entries.items entry limits so_far (c.counted-reply.ensures.step (fold_of a.scenario a.entries.items).intervals) in
+    let limits = subst (λ (m : Machine). IsEvent m.opening.scenario.siblings c.args.event) (sym c.self.view_is) c.requires.event in
+    let reply = reply_more (opening_of a) a.state c.counted-reply.new.state a.entries.items c.args.event c.counted-reply.result so_far (c.counted-reply.ensures.step (fold_of (opening_of a) a.entries.items).intervals) in
+    let folds = folds_more (opening_of a) a.state c.counted-reply.new.state a.entries.items entry limits so_far (c.counted-reply.ensures.step (fold_of (opening_of a) a.entries.items).intervals) in
     record {
       playable = c.self.invariant.playable;
       events = rw c.push_reserved.ensures.items (All-push (λ (e : Entry). IsEvent a.scenario.siblings e.event) a.entries.items entry c.self.invariant.events limits);
-      history = rw c.push_reserved.ensures.items (history_more a.scenario a.entries.items entry c.self.invariant.history reply);
+      history = rw c.push_reserved.ensures.items (history_more (opening_of a) a.entries.items entry c.self.invariant.history reply);
       fold = rw c.push_reserved.ensures.items folds.fold;
       numbers = rw c.push_reserved.ensures.items folds.numbers;
       sound = c.counted-reply.ensures.stays.sound c.self.invariant.sound;
@@ -135,8 +141,8 @@ invariant_of-self g c =
         arith,
         c.push_reserved.ensures.len,
         c.self.invariant.slow,
-        ap (λ (room : RoomState). room.clock) (c.counted-reply.ensures.step (fold_of a.scenario a.entries.items).intervals).room,
-        clock-step (room_with (fold_of a.scenario a.entries.items).intervals a.state) (is_fresh_by (numbers_of a.state.core)) c.args.event a.scenario.siblings limits,
+        ap (λ (room : RoomState). room.clock) (c.counted-reply.ensures.step (fold_of (opening_of a) a.entries.items).intervals).room,
+        clock-step (room_with (fold_of (opening_of a) a.entries.items).intervals a.state) (is_fresh_by (numbers_of a.state.core)) c.args.event a.scenario.siblings limits,
       );
       few_entries = omega (arith, c.push_reserved.ensures.capacity, c.self.invariant.few_entries);
       places = c.counted-reply.ensures.stays.places ∙ c.self.invariant.places;
@@ -147,33 +153,33 @@ pub returns-clause-reply : goal.returns-clause-reply
 returns-clause-reply g c =
     let a = c.self.inside in
     let so_far = folds_of a c.self.invariant in
-    reply_more a.scenario a.state c.counted-reply.new.state a.entries.items c.args.event c.counted-reply.result so_far (c.counted-reply.ensures.step (fold_of a.scenario a.entries.items).intervals)
-    ∙ ap (λ h. reply_to a.scenario h c.args.event) c.self.invariant.history
-    ∙ ap (λ (m : Machine). reply_to m.scenario (history_of m.scenario m.steps) c.args.event) c.self.view_is
+    reply_more (opening_of a) a.state c.counted-reply.new.state a.entries.items c.args.event c.counted-reply.result so_far (c.counted-reply.ensures.step (fold_of (opening_of a) a.entries.items).intervals)
+    ∙ ap (λ h. reply_to (opening_of a) h c.args.event) c.self.invariant.history
+    ∙ ap (λ (m : Machine). reply_to m.opening (history_of m.opening m.steps) c.args.event) c.self.view_is
 
 pub returns-clause-entry : goal.returns-clause-entry
 returns-clause-entry g c =
     let a = c.self.inside in
     let entry : Entry = record { actor = c.args.actor; event = c.args.event; reply = c.counted-reply.result } in
     let so_far = folds_of a c.self.invariant in
-    let reply = reply_more a.scenario a.state c.counted-reply.new.state a.entries.items c.args.event c.counted-reply.result so_far (c.counted-reply.ensures.step (fold_of a.scenario a.entries.items).intervals) in
+    let reply = reply_more (opening_of a) a.state c.counted-reply.new.state a.entries.items c.args.event c.counted-reply.result so_far (c.counted-reply.ensures.step (fold_of (opening_of a) a.entries.items).intervals) in
     rw c.push_reserved.ensures.items
-    (sym (history_more a.scenario a.entries.items entry c.self.invariant.history reply)
-    ∙ ap (λ h. h ++ entry ∷ []) (c.self.invariant.history ∙ ap (λ (m : Machine). history_of m.scenario m.steps) c.self.view_is))
+    (sym (history_more (opening_of a) a.entries.items entry c.self.invariant.history reply)
+    ∙ ap (λ h. h ++ entry ∷ []) (c.self.invariant.history ∙ ap (λ (m : Machine). history_of m.opening m.steps) c.self.view_is))
 
 pub returns-clause-selection : goal.returns-clause-selection
 returns-clause-selection g c =
     let m = c.args.self.now in
-    let past = history_of m.scenario m.steps in
+    let past = history_of m.opening m.steps in
     let entry : Entry = record { actor = c.args.actor; event = c.args.event; reply = c.counted-reply.result } in
-    subst (λ (room : RoomState). IfSome (selection_of entry.reply) (λ pick. SelectsForTheCore (scheduling_room (fold_of m.scenario past) entry.event) (cpu_of entry.event) pick room))
-    (λ i. fold_of (sym c.self.view_is i).scenario (sym (returns-clause-entry g c) i))
-    (selects m.scenario past entry c.requires.event (returns-clause-reply g c))
+    subst (λ (room : RoomState). IfSome (selection_of entry.reply) (λ pick. SelectsForTheCore (scheduling_room (fold_of m.opening past) entry.event) (cpu_of entry.event) pick room))
+    (λ i. fold_of (sym c.self.view_is i).opening (sym (returns-clause-entry g c) i))
+    (selects m.opening past entry c.requires.event (returns-clause-reply g c))
 
 pub returns-clause-refused : goal.returns-clause-refused
 returns-clause-refused g c refused =
     let m = c.args.self.now in
-    let past = history_of m.scenario m.steps in
+    let past = history_of m.opening m.steps in
     let entry : Entry = record { actor = c.args.actor; event = c.args.event; reply = c.counted-reply.result } in
-    subst (LeavesTheRoom (fold_of m.scenario past) entry.event) (λ i. fold_of (sym c.self.view_is i).scenario (sym (returns-clause-entry g c) i))
-    (refused_leaves m.scenario past entry (returns-clause-reply g c) refused)
+    subst (LeavesTheRoom (fold_of m.opening past) entry.event) (λ i. fold_of (sym c.self.view_is i).opening (sym (returns-clause-entry g c) i))
+    (refused_leaves m.opening past entry (returns-clause-reply g c) refused)

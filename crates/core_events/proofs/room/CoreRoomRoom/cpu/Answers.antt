@@ -1,6 +1,7 @@
 use Rattle.std.proofs.Common.{◌≡◌, List, ap, subst, sym, ◌∙◌, rules, Bor, get_or, length, ltb}
 use Rattle.std.specs.Prelude.{IfSome}
 use Rattle.std.specs.Option.{option_map}
+use Rattle.core_events.specs.Inside.{opening_of}
 use Rattle.cs_types.specs.View.{core_view, cpu_view, task_view_after, IsTrusted}
 use Rattle.cs_types.specs.History.{moment_of, history_of}
 use Rattle.cs_types.proofs.Histories.{IsLegal-history_of}
@@ -20,16 +21,16 @@ returns-clause-view g c =
     let found : c.map.result ≡ option_map (λ (x : Bor (Lane g.row.Q.Denot)). lane_view x.now) c.get.result = search rules in
     let same = c.deref.ensures.value in
     found
-    ∙ sibling_shown a.scenario a.state a.entries.items cpu c.get.result (folds_of a c.self.invariant) c.self.invariant.siblings
+    ∙ sibling_shown (opening_of a) a.state a.entries.items cpu c.get.result (folds_of a c.self.invariant) c.self.invariant.siblings
     (c.get.ensures.lookup.0 ∙ ap (λ (lanes : List (Lane g.row.Q.Denot)). ltb cpu (length lanes)) same)
     (subst (λ (lanes : List (Lane g.row.Q.Denot)). IfSome c.get.result (λ x. x.now ≡ get_or lanes cpu x.now)) same c.get.ensures.lookup.1)
-    ∙ ap (λ h. cpu_view (moment_of a.scenario h) cpu) c.self.invariant.history
-    ∙ ap (λ (m : Machine). cpu_view (moment_of m.scenario (history_of m.scenario m.steps)) cpu) c.self.view_is
+    ∙ ap (λ h. cpu_view (moment_of (opening_of a) h) cpu) c.self.invariant.history
+    ∙ ap (λ (m : Machine). cpu_view (moment_of m.opening (history_of m.opening m.steps)) cpu) c.self.view_is
 
 pub returns-clause-trust : goal.returns-clause-trust
 returns-clause-trust g c =
     let m = c.args.self.now in
-    let moment = moment_of m.scenario (history_of m.scenario m.steps) in
+    let moment = moment_of m.opening (history_of m.opening m.steps) in
     subst (λ shown. IfSome shown (IsTrusted (core_view moment) (task_view_after moment))) (sym (returns-clause-view g c))
-    (trusted-cpu_view m.scenario (history_of m.scenario m.steps) (playable_of c.self.inside c.self.invariant m c.self.view_is)
-    (events_of c.self.inside c.self.invariant m c.self.view_is) (IsLegal-history_of m.scenario m.steps) c.args.cpu)
+    (trusted-cpu_view m.opening (history_of m.opening m.steps) (playable_of c.self.inside c.self.invariant m c.self.view_is)
+    (events_of c.self.inside c.self.invariant m c.self.view_is) (IsLegal-history_of m.opening m.steps) c.args.cpu)

@@ -5,11 +5,11 @@ use Rattle.core_events.proofs.room.CoreRoomRoom.drain.Given as goal
 
 abbrev pub invariant-loop-entries : goal.invariant-loop-entries
 invariant-loop-entries g l =
-    let past = history_of l.fn.self.scenario l.fn.self.steps in
-    let now = history_of l.fn.self.scenario l.self.steps in
+    let past = history_of l.fn.self.opening l.fn.self.steps in
+    let now = history_of l.fn.self.opening l.self.steps in
     record {
-      scenario : l.self.scenario ≡ l.fn.self.scenario;
+      opening : l.self.opening ≡ l.fn.self.opening;
       spare : l.self.spare + l.entries ≡ l.fn.self.spare;
       made : length now ≡ length past + l.entries;
-      ahead : IsAhead l.fn.self.scenario past now (l.most - l.entries);
+      ahead : IsAhead l.fn.self.opening past now (l.most - l.entries);
     }

@@ -10,4 +10,4 @@ pub returns : goal.returns
 returns g c =
     c.copied.ensures ∙ looked_up c.deref.result.now c.args.place c.get.result c.get.ensures.lookup.0 c.get.ensures.lookup.1
     ∙ ap (λ (entries : List Entry). slice_get entries c.args.place)
-    (c.deref.ensures.value ∙ c.self.invariant.history ∙ ap (λ (m : Machine). history_of m.scenario m.steps) c.self.view_is)
+    (c.deref.ensures.value ∙ c.self.invariant.history ∙ ap (λ (m : Machine). history_of m.opening m.steps) c.self.view_is)

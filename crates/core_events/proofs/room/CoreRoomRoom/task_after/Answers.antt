@@ -1,6 +1,7 @@
 use Rattle.std.proofs.Common.{◌≡◌, ◌^◌, ◌<◌, ap, ◌∙◌, sym, subst, arith, Option, Some}
 use Rattle.std.specs.Prelude.{IfSome}
 use Rattle.std.specs.Option.{option_map}
+use Rattle.core_events.specs.Inside.{opening_of}
 use Rattle.cs_types.specs.View.{task_after, task_view, task_view_after}
 use Rattle.cs_types.specs.History.{fold_of, history_of, moment_of}
 use Rattle.cs_types.specs.declared.view.TaskView.{TaskView}
@@ -18,35 +19,35 @@ returns-in_err-task-clause-view g c =
     let pid = c.args.pid in
     let folds = folds_of a c.self.invariant in
     c.from_residual.ensures
-    ∙ ap (option_map (task_view (fold_of a.scenario a.entries.items))) (sym c.in_err-task.was)
-    ∙ task_shown a.scenario a.state a.entries.items pid c.task_after.result folds (c.task_after.ensures (fold_of a.scenario a.entries.items).intervals)
-    ∙ ap (λ h. option_map (task_view (fold_of a.scenario h)) (task_after (fold_of a.scenario h) pid)) c.self.invariant.history
-    ∙ ap (λ (m : Machine). option_map (task_view (fold_of m.scenario (history_of m.scenario m.steps))) (task_after (fold_of m.scenario (history_of m.scenario m.steps)) pid)) c.self.view_is
+    ∙ ap (option_map (task_view (fold_of (opening_of a) a.entries.items))) (sym c.in_err-task.was)
+    ∙ task_shown (opening_of a) a.state a.entries.items pid c.task_after.result folds (c.task_after.ensures (fold_of (opening_of a) a.entries.items).intervals)
+    ∙ ap (λ h. option_map (task_view (fold_of (opening_of a) h)) (task_after (fold_of (opening_of a) h) pid)) c.self.invariant.history
+    ∙ ap (λ (m : Machine). option_map (task_view (fold_of m.opening (history_of m.opening m.steps))) (task_after (fold_of m.opening (history_of m.opening m.steps)) pid)) c.self.view_is
 
 -- what is shown is the task's view after the entries so far
-shown : (g : _) (c : goal.After-view g) → Some c.view.result ≡ task_view_after (moment_of c.self.inside.scenario c.self.inside.entries.items) c.args.pid
+shown : (g : _) (c : goal.After-view g) → Some c.view.result ≡ task_view_after (moment_of (opening_of c.self.inside) c.self.inside.entries.items) c.args.pid
 shown g c =
     let a = c.self.inside in
-    let last = fold_of a.scenario a.entries.items in
+    let last = fold_of (opening_of a) a.entries.items in
     let folds = folds_of a c.self.invariant in
-    let total = c.of.ensures ∙ total_kept a.scenario a.state a.entries.items c.in_ok-task.task.spec.pid folds in
+    let total = c.of.ensures ∙ total_kept (opening_of a) a.state a.entries.items c.in_ok-task.task.spec.pid folds in
     ap Some (c.view.ensures last total)
     ∙ ap (option_map (task_view last)) (sym c.in_ok-task.was)
-    ∙ task_shown a.scenario a.state a.entries.items c.args.pid c.task_after.result folds (c.task_after.ensures (fold_of a.scenario a.entries.items).intervals)
+    ∙ task_shown (opening_of a) a.state a.entries.items c.args.pid c.task_after.result folds (c.task_after.ensures (fold_of (opening_of a) a.entries.items).intervals)
 
 pub returns-clause-view : goal.returns-clause-view
 returns-clause-view g c =
     let a = c.self.inside in
     let pid = c.args.pid in
     shown g c
-    ∙ ap (λ h. option_map (task_view (fold_of a.scenario h)) (task_after (fold_of a.scenario h) pid)) c.self.invariant.history
-    ∙ ap (λ (m : Machine). option_map (task_view (fold_of m.scenario (history_of m.scenario m.steps))) (task_after (fold_of m.scenario (history_of m.scenario m.steps)) pid)) c.self.view_is
+    ∙ ap (λ h. option_map (task_view (fold_of (opening_of a) h)) (task_after (fold_of (opening_of a) h) pid)) c.self.invariant.history
+    ∙ ap (λ (m : Machine). option_map (task_view (fold_of m.opening (history_of m.opening m.steps))) (task_after (fold_of m.opening (history_of m.opening m.steps)) pid)) c.self.view_is
 
 pub returns-clause-bounded : goal.returns-clause-bounded
 returns-clause-bounded g c =
     let a = c.self.inside in
     let most = most_entries-le a.scenario c.self.invariant.playable in
     subst (λ (one : Option TaskView). IfSome one (λ task. task.vtime < 2 ^ 80)) (sym (shown g c))
-    (shown_bounded a.scenario a.entries.items c.args.pid
+    (shown_bounded (opening_of a) a.entries.items c.args.pid
     (omega (arith, a.entries.ok.0, a.entries.ok.1, c.self.invariant.few_entries, most))
     (omega (arith, ap (λ (room : RoomState). room.clock) c.self.invariant.fold, c.self.invariant.slow, a.entries.ok.0, a.entries.ok.1, c.self.invariant.few_entries, most)))

@@ -8,7 +8,7 @@ use Rattle.cs_types.specs.Scenario.{IsEvent}
 use Rattle.core_events.proofs.state.State.apply.Goals as goal
 
 -- what was made by an event was made by the one that it is
-by_event : {Q : Type 0} {g : Ghosts Q} {old new : State Q g} {event other : Event} {answer : Reply} → event ≡ other → Makes old new other answer → Makes old new event answer
+by_event : {Q G : Type 0} {g : Ghosts Q} {old new : State Q G g} {event other : Event} {answer : Reply} → event ≡ other → Makes old new other answer → Makes old new event answer
 by_event {old = old} {new = new} {answer = answer} is made = subst (λ (e : Event). Makes old new e answer) (sym is) made
 
 pub returns-in-Turn : goal.returns-in-Turn

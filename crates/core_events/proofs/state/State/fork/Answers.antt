@@ -87,7 +87,7 @@ pub returns-in-Err-NoCaller : goal.returns-in-Err-NoCaller
 returns-in-Err-NoCaller g c =
     let old = c.args.self.now in
     let makes = rw c.in-Err-NoCaller.field-0-is at c.in-Err-NoCaller.ensures in
-    subst (λ (new : State _ _). Makes old new (Fork c.args.caller c.args.thread) NoCaller) (sym makes.1)
+    subst (λ (new : State _ _ _). Makes old new (Fork c.args.caller c.args.thread) NoCaller) (sym makes.1)
     (leaves_all old (Fork c.args.caller c.args.thread) NoCaller (λ intervals. untouched (numbers_of old.core)) (λ intervals.
     ap (fork (room_with intervals old) c.args.thread) (sym makes.0)))
 
@@ -95,7 +95,7 @@ pub returns-in-Err-Eagain : goal.returns-in-Err-Eagain
 returns-in-Err-Eagain g c =
     let old = c.args.self.now in
     let makes = rw c.in-Err-Eagain.field-0-is at c.in-Err-Eagain.ensures in
-    subst (λ (new : State _ _). Makes old new (Fork c.args.caller c.args.thread) (Refused Eagain)) (sym makes.3)
+    subst (λ (new : State _ _ _). Makes old new (Fork c.args.caller c.args.thread) (Refused Eagain)) (sym makes.3)
     (leaves_all old (Fork c.args.caller c.args.thread) (Refused Eagain) (λ intervals. untouched (numbers_of old.core)) (λ intervals.
     let room = room_with intervals old in
     sym (cond-true _ (record { reply = Refused Eagain; room = room }) _ makes.2) ∙ ap (fork room c.args.thread) (sym makes.1)))

@@ -9,11 +9,11 @@ pub returns-in-Go : goal.returns-in-Go
 returns-in-Go g c = record {
   step = λ intervals.
       let room = room_with intervals c.args.self.now in
-      let is : IsRoomOf room c.args.self.now.tasks c.args.self.now.refs c.online_count-online.result c.args.self.now.user_top =
-      record { tasks = refl; online = sym (c.online_count-online.ensures (beside_of intervals c.args.self.now) c.args.self.now.tasks); user_top = refl; cookie_limit = refl; next_cookie = refl } in
+      let is : IsRoomOf room c.args.self.now.tasks c.args.self.now.refs c.args.self.now.guards.guards c.online_count-online.result c.args.self.now.user_top =
+      record { tasks = refl; online = sym (c.online_count-online.ensures (beside_of intervals c.args.self.now) c.args.self.now.tasks); user_top = refl; cookie_limit = refl; next_cookie = refl; guards = refl } in
       makes_call intervals c.args.self.now _ c.set_cookies.new.self _ c.args.pid c.args.ask c.in-Go.decision
       (c.in-Go.ensures.answer room is) (c.in-Go.ensures.sets room is)
-      (λ i. record room { cookie_limit = c.in-Go.ensures.limit i; next_cookie = c.in-Go.ensures.serial room is i }) refl
+      (λ i. record room { cookie_limit = c.in-Go.ensures.limit i; next_cookie = c.in-Go.ensures.serial room is i; guards = c.in-Go.ensures.asked room is i }) refl
       c.set_cookies.ensures
       (λ i. record (room_with intervals c.set_cookies.new.self) { cookie_limit = c.put.ensures.limit i; next_cookie = c.put.ensures.next i }) refl
       c.in-Go.ensures.planned;
@@ -46,10 +46,10 @@ pub returns-in-Answer : goal.returns-in-Answer
 returns-in-Answer g c = record {
   step = λ intervals.
       let room = room_with intervals c.args.self.now in
-      let is : IsRoomOf room c.args.self.now.tasks c.args.self.now.refs c.online_count-online.result c.args.self.now.user_top =
-      record { tasks = refl; online = sym (c.online_count-online.ensures (beside_of intervals c.args.self.now) c.args.self.now.tasks); user_top = refl; cookie_limit = refl; next_cookie = refl } in
+      let is : IsRoomOf room c.args.self.now.tasks c.args.self.now.refs c.args.self.now.guards.guards c.online_count-online.result c.args.self.now.user_top =
+      record { tasks = refl; online = sym (c.online_count-online.ensures (beside_of intervals c.args.self.now) c.args.self.now.tasks); user_top = refl; cookie_limit = refl; next_cookie = refl; guards = refl } in
       makes_refusal intervals c.args.self.now _ c.args.pid c.args.ask c.in-Answer.reply c.in-Answer.ensures.planned (c.in-Answer.ensures.answer room is)
-      (λ i. record room { cookie_limit = c.in-Answer.ensures.limit i; next_cookie = c.in-Answer.ensures.serial room is i }) refl;
+      (λ i. record room { cookie_limit = c.in-Answer.ensures.limit i; next_cookie = c.in-Answer.ensures.serial room is i; guards = c.in-Answer.ensures.asked room is i }) refl;
   stays = record {
     sound = λ sound. record {
       agree = sound.agree;

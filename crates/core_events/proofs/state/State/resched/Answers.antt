@@ -41,7 +41,7 @@ returns-in-None g c =
     let old = c.args.self.now in
     let cpu = c.args.cpu in
     let fresh = is_fresh_by (numbers_of old.core) in
-    subst (λ (state : State g.row.Q.Denot g.Q.SiblingQueue). Makes old state (Resched cpu) Offline)
+    subst (λ (state : State g.row.Q.Denot g.row.G.Denot g.Q.SiblingQueue). Makes old state (Resched cpu) Offline)
     (λ i. record old { core = sym c.in-None.ensures.core i; tasks = sym c.in-None.ensures.table i })
     (leaves_all old (Resched cpu) Offline (λ intervals. untouched (numbers_of old.core)) (λ intervals.
     let room = room_with intervals old in

@@ -27,6 +27,7 @@ returns-clause-room g c =
       next_pid = pid i;
       next_cookie = c.in_ok-refs.ensures.next i;
       intervals = [];
+      guards = c.requires.guards i;
     }) (c.in_ok-core.ensures.core i) (c.in_ok-core.ensures.tasks i)
 
 pub returns-clause-ends : goal.returns-clause-ends

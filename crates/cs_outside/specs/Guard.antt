@@ -1,0 +1,26 @@
+-- Guards, as they stand between two calls, and what keeps a pair from being taught.
+use Rattle.std.specs.Prelude.{◌≡◌, ℕ, List, []}
+use Rattle.cs_outside.specs.declared.guard.TeachFault.{TeachFault}
+use Rattle.cs_outside.specs.declared.guard.TeachFault.TheVariants.{Full, OutOfMemory}
+
+-- how many pairs a guard that holds its pairs in place can be taught
+abbrev pub pair_guard_cap : ℕ
+pair_guard_cap = 16
+
+-- a guard that holds its pairs in place: the pairs that it refuses, and how often it was asked
+pub record PairGuardState : Type 0 where
+  pub pairs : List (ℕ × ℕ)
+  pub asked : ℕ
+
+-- one that refuses nobody yet and was never asked
+abbrev pub fresh : PairGuardState
+fresh = record { pairs = []; asked = 0 }
+
+-- a guard that refuses nobody: how often it was asked
+pub record NullGuardState : Type 0 where
+  pub asked : ℕ
+
+-- `Full` comes only where a guard has as many pairs as its cap, which it names. Of the want of memory nothing is said.
+abbrev pub FullOnlyAt : ℕ → ℕ → TeachFault → Type 0
+FullOnlyAt cap count (Full named) = (named ≡ cap) × (count ≡ cap)
+FullOnlyAt cap count OutOfMemory = Unit {0}

@@ -1,0 +1,87 @@
+//! The guard that holds its pairs in place.
+
+ghost use Rattle.std.specs.Prelude.{◌≡◌, ◌+◌, ◌<◌, ◌^◌, [], ◌∷◌, ◌++◌, length, not, OnOk, OnErr, IfErr};
+ghost use Rattle.std.specs.List.{list_any};
+ghost use Rattle.cs_types.specs.Guards.{is_pair};
+ghost use Rattle.cs_outside.specs.Guard.{pair_guard_cap, fresh};
+ghost use Rattle.cs_outside.specs.declared.guard.TeachFault.TheVariants.{Full};
+
+use crate::guard::{Guard, TeachFault};
+use arrayvec::ArrayVec;
+use std::marker::Model;
+
+/// How many pairs a guard of this type can be taught.
+const MOST_PAIRS: usize = 16;
+
+/// A guard that holds its pairs in place, so that teaching takes no memory.
+#[derive(Drop)]
+pub struct PairGuard {
+    pairs: ArrayVec<(u32, u32), MOST_PAIRS>,
+    asked: u64,
+}
+
+impl Model for PairGuard {
+    ghost use Rattle.cs_outside.specs.Guard.{PairGuardState};
+
+    ghost Value = { PairGuardState };
+
+    ghost view = { λ guard. record { pairs = guard.pairs.items; asked = guard.asked } };
+}
+
+/// Whether the pair of real user ids, a caller's and a target's, is one of these.
+fn lists(pairs: &[(u32, u32)], from: u32, to: u32) -> bool
+    ensures { result ≡ list_any (is_pair (from, to)) pairs.now }
+{
+    pairs.iter().any(|pair| from == pair.0 && to == pair.1)
+}
+
+impl PairGuard {
+    /// A guard that refuses nobody yet and was never asked. It takes no memory.
+    pub fn empty() -> PairGuard
+        ensures { result ≡ fresh }
+    {
+        PairGuard {
+            pairs: ArrayVec::new(),
+            asked: 0,
+        }
+    }
+}
+
+impl Guard for PairGuard {
+    ghost pairs = { λ guard. guard.pairs };
+
+    ghost cap = { λ _. pair_guard_cap };
+
+    ghost asked = { λ guard. guard.asked };
+
+    /// Teaches it one more pair. `Full` comes exactly where it has as many pairs as it can be taught,
+    /// and no other `Err` comes.
+    fn teach(&mut self, from: u32, to: u32) -> Result<(), TeachFault>
+        ensures below { OnOk result (length self.old.pairs < pair_guard_cap) }
+        ensures full { IfErr result (λ fault. (fault ≡ Full pair_guard_cap) × (length self.old.pairs ≡ pair_guard_cap)) }
+        ensures taught { OnOk result (self.new ≡ record self.old { pairs = self.old.pairs ++ (from, to) ∷ [] }) }
+        ensures untaught { OnErr result (self.new ≡ self.old) }
+    {
+        if self.pairs.is_full() {
+            return Err(TeachFault::Full {
+                cap: MOST_PAIRS as u32,
+            });
+        }
+        self.pairs.push((from, to));
+        Ok(())
+    }
+
+    /// Whether the pair is not listed. It counts the question.
+    fn allows(&mut self, from: u32, to: u32) -> bool
+        requires { self.old.asked < 2 ^ 63 }
+        ensures decision { result ≡ not (list_any (is_pair (from, to)) self.old.pairs) }
+        ensures asked { self.new ≡ record self.old { asked = self.old.asked + 1 } }
+    {
+        self.asked += 1;
+        !lists(&self.pairs, from, to)
+    }
+
+    fn asked(&self) -> u64 {
+        self.asked
+    }
+}

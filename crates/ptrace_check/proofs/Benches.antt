@@ -1,0 +1,40 @@
+-- Benches: what it makes that guards are seated one after another.
+use Rattle.std.proofs.Common.{◌≡◌, ℕ, ◌+◌, List, [], ◌∷◌, ◌++◌, map, length, refl, ap, ◌∙◌, sym, append-nil, arith}
+use Rattle.std.specs.Prelude.{All}
+use Rattle.std.specs.List.{range_with_len, AllByRecursion}
+use Rattle.std.proofs.lemmas.List.Elements.{recursion_from_All}
+use Rattle.cs_types.specs.declared.view.GuardPlace.TheVariants.{Bench}
+use Rattle.cs_types.specs.Guards.{GuardState, GuardList, on_bench, guards_on_bench}
+use Rattle.ptrace_check.specs.Guards.{Seated}
+use Rattle.ptrace_check.specs.Inside.{guards_in}
+
+-- a guard that is seated on the bench
+abbrev pub seated : {G : Type 0} → (G → List (ℕ × ℕ)) → (G → ℕ) → (G → ℕ) → G → Seated
+seated pairs asked cap guard = record { guard = record { place = Bench; pairs = pairs guard; asked = asked guard }; cap = cap guard }
+
+bench_from : {G : Type 0} (pairs : G → List (ℕ × ℕ)) (asked cap : G → ℕ) (at : ℕ) (list : List G) → AllByRecursion (λ guard. pairs guard ≡ []) list → AllByRecursion (λ guard. asked guard ≡ 0) list →
+    map (λ (seat : Seated). seat.guard) (map (seated pairs asked cap) list) ≡ map (on_bench []) (range_with_len at (length list))
+bench_from pairs asked cap at [] untaught unasked = refl
+bench_from pairs asked cap at (guard ∷ list) untaught unasked =
+    let rest = map (λ (seat : Seated). seat.guard) (map (seated pairs asked cap) list) in
+    let taught_so : List (ℕ × ℕ) → List GuardState = λ pairs. record { place = Bench; pairs = pairs; asked = asked guard } ∷ rest in
+    let asked_so : ℕ → List GuardState = λ asked. record { place = Bench; pairs = []; asked = asked } ∷ rest in
+    ap taught_so untaught.0 ∙ ap asked_so unasked.0
+    ∙ ap (λ (guards : List GuardState). on_bench [] at ∷ guards) (bench_from pairs asked cap (at + 1) list untaught.1 unasked.1)
+
+-- guards that were taught nothing and never asked, each seated on the bench
+pub guards_in-seated : {G : Type 0} (pairs : G → List (ℕ × ℕ)) (asked cap : G → ℕ) (list : List G) → All (λ guard. pairs guard ≡ []) list → All (λ guard. asked guard ≡ 0) list →
+    guards_in (map (seated pairs asked cap) list) [] ≡ guards_on_bench [] (length list)
+guards_in-seated {G} pairs asked cap list untaught unasked =
+    let on_it : List GuardState → GuardList = λ all. record { all = all; active = [] } in
+    ap on_it (bench_from pairs asked cap 0 list (recursion_from_All (λ (guard : G). pairs guard ≡ []) list untaught) (recursion_from_All (λ (guard : G). asked guard ≡ 0) list unasked))
+
+-- what they can be taught
+pub caps-seated : {G : Type 0} (pairs : G → List (ℕ × ℕ)) (asked cap : G → ℕ) (list : List G) → map (λ (seat : Seated). seat.cap) (map (seated pairs asked cap) list) ≡ map cap list
+caps-seated pairs asked cap [] = refl
+caps-seated pairs asked cap (guard ∷ list) = ap (λ (caps : List ℕ). cap guard ∷ caps) (caps-seated pairs asked cap list)
+
+-- what was taken of a list is all of it, where nothing is left
+pub none_left : {X : Type 0} (taken rest list : List X) → taken ++ rest ≡ list → length rest ≡ 0 → taken ≡ list
+none_left taken [] list whole none = sym (append-nil taken) ∙ whole
+none_left taken (x ∷ rest) list whole none = absurd (omega arith)

@@ -1,0 +1,5 @@
+pub mod Askings
+pub mod Benches
+pub mod Decisions
+pub mod Loads
+pub mod Seats

@@ -1,0 +1,51 @@
+use Rattle.std.proofs.Common.{◌≡◌, ◌∷◌, ◌++◌, [], ◌∙◌, sym}
+use Rattle.ptrace_check.proofs.Seats.{caps-set_alike}
+use Rattle.ptrace_check.proofs.Loads.{load_adds, load_keeps, load_stays, load_refused, AreKept-more, room_to_load}
+use Rattle.ptrace_check.proofs.guards.Guards.load.Goals as goal
+
+pub unwrap-requires : goal.unwrap-requires
+unwrap-requires g c =
+    c.push.ensures.succeeds
+    (rw c.self.inside.active.ok.0
+    (room_to_load c.self.inside.seats.items c.self.inside.active.items _ c.args.index c.in-Some.seat.now c.in-Some.ensures.item.3.0 c.in-Some.ensures.value c.in-Loaded.ensures.answer c.self.invariant))
+
+pub invariant_of-self-in-Loaded : goal.invariant_of-self-in-Loaded
+invariant_of-self-in-Loaded g c =
+    let seats = c.self.inside.seats.items in
+    let active = c.self.inside.active.items in
+    let pushed : c.push.new.self.items ≡ active ++ c.args.index ∷ [] = rw c.unwrap.ensures at c.push.ensures.items in
+    rw pushed
+    (AreKept-more _ _ _ c.push.ensures.capacity
+    (load_keeps seats active _ c.args.index c.in-Some.seat.now c.load-answer.new.self c.in-Some.ensures.item.3.0 c.in-Some.ensures.value c.in-Loaded.ensures.answer c.in-Loaded.ensures.guard c.self.invariant))
+
+pub invariant_of-self-in_default-answer : goal.invariant_of-self-in_default-answer
+invariant_of-self-in_default-answer g c =
+    rw (load_stays c.self.inside.seats.items c.self.inside.active.items c.args.index c.in-Some.seat.now c.load-answer.new.self
+    c.in-Some.ensures.item.3.0 c.in-Some.ensures.value c.in_default-answer.ensures.answer c.in_default-answer.ensures.guard)
+    c.self.invariant
+
+pub returns-in-Loaded-clause-guards : goal.returns-in-Loaded-clause-guards
+returns-in-Loaded-clause-guards g c =
+    let seats = c.self.inside.seats.items in
+    let active = c.self.inside.active.items in
+    let pushed : c.push.new.self.items ≡ active ++ c.args.index ∷ [] = rw c.unwrap.ensures at c.push.ensures.items in
+    rw (← c.self.view_is, pushed)
+    (load_adds seats active c.args.index c.in-Some.seat.now c.load-answer.new.self c.in-Some.ensures.item.3.0 c.in-Some.ensures.value c.in-Loaded.ensures.answer c.in-Loaded.ensures.guard)
+
+pub returns-in-Loaded-clause-caps : goal.returns-in-Loaded-clause-caps
+returns-in-Loaded-clause-caps g c =
+    rw (← c.self.view_is)
+    (caps-set_alike c.self.inside.seats.items c.args.index c.in-Some.seat.now c.load-answer.new.self c.in-Some.ensures.value c.load-answer.ensures.cap)
+
+pub returns-in_default-answer-clause-guards : goal.returns-in_default-answer-clause-guards
+returns-in_default-answer-clause-guards g c =
+    let seats = c.self.inside.seats.items in
+    let active = c.self.inside.active.items in
+    rw (← c.self.view_is)
+    (load_stays seats active c.args.index c.in-Some.seat.now c.load-answer.new.self c.in-Some.ensures.item.3.0 c.in-Some.ensures.value c.in_default-answer.ensures.answer c.in_default-answer.ensures.guard
+    ∙ sym (load_refused seats active c.args.index c.in-Some.seat.now c.in-Some.ensures.item.3.0 c.in-Some.ensures.value c.in_default-answer.ensures.answer))
+
+pub returns-in_default-answer-clause-caps : goal.returns-in_default-answer-clause-caps
+returns-in_default-answer-clause-caps g c =
+    rw (← c.self.view_is)
+    (caps-set_alike c.self.inside.seats.items c.args.index c.in-Some.seat.now c.load-answer.new.self c.in-Some.ensures.value c.load-answer.ensures.cap)

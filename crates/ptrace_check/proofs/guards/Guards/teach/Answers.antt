@@ -1,0 +1,35 @@
+use Rattle.std.proofs.Common.{ℕ, ap, ◌∙◌, sym}
+use Rattle.cs_types.specs.Guards.{GuardState, with_guard}
+use Rattle.ptrace_check.specs.Answers.{with_answer}
+use Rattle.ptrace_check.specs.Inside.{guards_in}
+use Rattle.ptrace_check.proofs.Seats.{guard_in, guards_in-set, AreKept-with_guard, place-with_answer, caps-set_alike}
+use Rattle.ptrace_check.proofs.guards.Guards.teach.Goals as goal
+
+pub invariant_of-self-2 : goal.invariant_of-self-2
+invariant_of-self-2 g c =
+    let seats = c.self.inside.seats.items in
+    let active = c.self.inside.active.items in
+    let i = c.args.index in
+    let pair : ℕ × ℕ = (c.args.from, c.args.to) in
+    let was = guard_in seats active i c.in-Some.seat.now c.in-Some.ensures.item.3.0 c.in-Some.ensures.value in
+    let same = ap (λ (guard : GuardState). guard.place) c.teach.ensures.taught
+    ∙ place-with_answer c.teach.result pair c.in-Some.seat.now.guard ∙ ap (λ (guard : GuardState). guard.place) (sym was) in
+    rw (guards_in-set seats active i c.teach.new.self)
+    (AreKept-with_guard (guards_in seats active) _ i c.teach.new.self.guard same c.self.invariant)
+
+pub returns-clause-taught : goal.returns-clause-taught
+returns-clause-taught g c =
+    let seats = c.self.inside.seats.items in
+    let active = c.self.inside.active.items in
+    let i = c.args.index in
+    let pair : ℕ × ℕ = (c.args.from, c.args.to) in
+    let was = guard_in seats active i c.in-Some.seat.now c.in-Some.ensures.item.3.0 c.in-Some.ensures.value in
+    rw (← c.self.view_is)
+    (guards_in-set seats active i c.teach.new.self
+    ∙ ap (with_guard (guards_in seats active) i) (c.teach.ensures.taught ∙ ap (with_answer c.teach.result pair) (sym was)))
+
+pub returns-clause-caps : goal.returns-clause-caps
+returns-clause-caps g c =
+    let seats = c.self.inside.seats.items in
+    rw (← c.self.view_is)
+    (caps-set_alike seats c.args.index c.in-Some.seat.now c.teach.new.self c.in-Some.ensures.value c.teach.ensures.cap)

@@ -1,0 +1,314 @@
+//! Guards: what the commands write of them, teach lines that cannot be carried out, each public call, and
+//! guards of a stranger's.
+
+ghost use Rattle.std.specs.Prelude.{◌≡◌, ◌≤◌, [], All, vec_len};
+
+use crate::commands::{joined, sink_of, source_of, words_of};
+use crate::strangers::LongGuard;
+use cs_outside::{Guard, NullGuard, PairGuard, TeachFault};
+use cs_types::GuardPlace;
+use ptrace_check::{Guards, LoadAnswer, TeachAnswer, UnloadAnswer};
+use scenario_runner::{GuardKind, Status, replay};
+use std::alloc::Global;
+use std::process::Abort;
+use std::sync::Arc;
+use std::sync::atomic::{AtomicU64, Ordering};
+
+/// Four guards that hold their pairs in place, as the program has them.
+fn four<R: AllocGlobal + Abort>(rt: &R) -> Vec<PairGuard>
+    ensures four { vec_len result ≡ 4 }
+    ensures untaught { All (λ guard. guard.pairs ≡ []) result.items }
+    ensures unasked { All (λ guard. guard.asked ≡ 0) result.items }
+{
+    let guards = [
+        PairGuard::empty(),
+        PairGuard::empty(),
+        PairGuard::empty(),
+        PairGuard::empty(),
+    ];
+    Vec::from_array(rt.alloc(), guards).expect(rt, "room")
+}
+
+/// Expects that `replay` with these guards ends so over the text, and writes these parts.
+fn expect_guarded<R: AllocGlobal + Abort, G: Guard>(
+    rt: &R,
+    text: &[u8],
+    guards: Vec<G>,
+    wanted: Status,
+    output: &[&str],
+)
+    requires few { vec_len guards ≤ 16 }
+    requires untaught { All (λ guard. G.pairs guard ≡ []) guards.items }
+    requires unasked { All (λ guard. G.asked guard ≡ 0) guards.items }
+{
+    let mut source = source_of(rt, text, 65_536, Vec::new(rt.alloc()));
+    let mut sink = sink_of(rt, 4096, Vec::new(rt.alloc()));
+    let words = words_of(rt.alloc(), &["replay"]).expect(rt, "room");
+    assert!(rt; replay(rt.alloc(), &words, &mut source, &mut sink, guards) == wanted);
+    assert!(rt; sink.bytes() == joined(rt.alloc(), output).expect(rt, "room").as_slice());
+}
+
+/// The report of a core on which nothing happened, with four guards.
+const NOTHING: &str = report_of!(
+    "clock 0",
+    "numbers 0 0",
+    "core 0 forced 0 occupation 0",
+    "intervals 0",
+    "cpu 0 online runs idle number 0",
+    "cpu 1 online runs idle number 0",
+    "guard 0 bench asked 0",
+    "guard 1 bench asked 0",
+    "guard 2 bench asked 0",
+    "guard 3 bench asked 0",
+);
+
+#[test]
+fn empty_scenario(rt: HostRuntime) {
+    let text = b"coresched 1\nsiblings 2\nlimits 4 4 65536\nend\n";
+    expect_guarded(&rt, text, four(&rt), Status::Done, &[NOTHING]);
+}
+
+/// Two tasks of one user. The first guard refuses that user its own. Line 6 is the teach line.
+const WORKED: &str = concat!(
+    "coresched 1\nsiblings 2\nlimits 8 8 65536\n",
+    "task 1 1 1 0 fair:0 1000 1000 1000 1000 1000 1000 0 1 1\n",
+    "task 2 2 2 0 fair:0 1000 1000 1000 1000 1000 1000 0 1 1\n",
+    "teach 0 1000 1000\n",
+    "step c0 prctl 1 2 2 0 0\nstep c0 load 0\nstep c0 load 0\nstep c0 load 1\n",
+    "step c0 prctl 1 2 2 0 0\nstep c0 prctl 1 2 1 0 0\nstep c0 unload 0\n",
+    "step c0 prctl 1 2 2 0 0\nstep c0 unload 0\nstep c0 load 7\nend\n",
+);
+
+/// A guard refuses only while it is active. Nobody is asked about the caller itself, nor after another has
+/// refused. This goes up to the second guard.
+const WORKED_OUTPUT: &str = concat!(
+    "c0 prctl 1 2 2 0 0: 0\nc0 load 0: Loaded\nc0 load 0: NoGuard\nc0 load 1: Loaded\n",
+    "c0 prctl 1 2 2 0 0: EPERM\nc0 prctl 1 2 1 0 0: 0\nc0 unload 0: Dropped\n",
+    "c0 prctl 1 2 2 0 0: 0\nc0 unload 0: NoGuard\nc0 load 7: NoGuard\n",
+    "report\nclock 0\nnumbers 0 0\ncore 0 forced 0 occupation 0\nintervals 0\n",
+    "cpu 0 online runs idle number 0\ncpu 1 online runs idle number 0\n",
+    "task 1 cpu 0 asleep cookie 0 forced 0 vtime 0\n",
+    "task 2 cpu 0 asleep cookie 0 forced 0 vtime 0\n",
+    "guard 0 dropped asked 1\nguard 1 active asked 1\n",
+);
+
+/// The lines of two more guards, which stay on the bench.
+const TWO_MORE: &str = "guard 2 bench asked 0\nguard 3 bench asked 0\n";
+
+#[test]
+fn guard_that_refuses(rt: HostRuntime) {
+    let output = [WORKED_OUTPUT, TWO_MORE, "done\n"];
+    expect_guarded(&rt, WORKED.as_bytes(), four(&rt), Status::Done, &output);
+}
+
+/// Root with the capability, and a process group of two tasks of two other users. A guard refuses it the
+/// first of these.
+const GROUP: &str = concat!(
+    "coresched 1\nsiblings 2\nlimits 8 8 65536\n",
+    "task 1 1 1 0 fair:0 0 0 0 0 0 0 1 1 1\n",
+    "task 2 2 2 0 fair:0 1000 1000 1000 1000 1000 1000 0 1 1\n",
+    "task 3 3 2 0 fair:0 1001 1001 1001 1001 1001 1001 0 1 1\n",
+    "teach 1 0 1000\n",
+    "step c0 load 0\nstep c0 prctl 1 1 3 2 0\nstep c0 unload 0\n",
+    "step c0 load 1\nstep c0 prctl 1 1 3 2 0\nstep c0 unload 1\n",
+    "step c0 load 2\nstep c0 prctl 1 0 3 0 4096\nend\n",
+);
+
+/// The first guard is asked about the target and then about both members. The second is asked about the
+/// target and about the first member, which it refuses, and keeps that count. The cookie of the refused
+/// call is used.
+const GROUP_OUTPUT: &str = concat!(
+    "c0 load 0: Loaded\nc0 prctl 1 1 3 2 0: 0\nc0 unload 0: Dropped\n",
+    "c0 load 1: Loaded\nc0 prctl 1 1 3 2 0: EPERM\nc0 unload 1: Dropped\n",
+    "c0 load 2: Loaded\nc0 prctl 1 0 3 0 4096: 0 value 1\n",
+    "report\n",
+    "clock 0\n",
+    "numbers 0 0\n",
+    "core 0 forced 0 occupation 0\n",
+    "intervals 0\n",
+    "cpu 0 online runs idle number 0\n",
+    "cpu 1 online runs idle number 0\n",
+    "task 1 cpu 0 asleep cookie 0 forced 0 vtime 0\n",
+    "task 2 cpu 0 asleep cookie 1 forced 0 vtime 0\n",
+    "task 3 cpu 0 asleep cookie 1 forced 0 vtime 0\n",
+    "guard 0 dropped asked 3\n",
+    "guard 1 dropped asked 2\n",
+    "guard 2 active asked 1\n",
+    "guard 3 bench asked 0\n",
+    "done\n",
+);
+
+#[test]
+fn group_asks_about_its_target_twice(rt: HostRuntime) {
+    expect_guarded(
+        &rt,
+        GROUP.as_bytes(),
+        four(&rt),
+        Status::Done,
+        &[GROUP_OUTPUT],
+    );
+}
+
+/// The start of a scenario without tasks, its end, and four pairs of the first guard between them.
+const HEAD: &str = "coresched 1\nsiblings 2\nlimits 4 4 65536\n";
+
+const FOUR_PAIRS: &str = "teach 0 1 2\nteach 0 1 2\nteach 0 1 2\nteach 0 1 2\n";
+
+const END: &str = "end\n";
+
+/// Expects that four guards are taught sixteen pairs and these lines, and that it ends so.
+fn expect_taught<R: AllocGlobal + Abort>(rt: &R, lines: &str, wanted: Status, output: &str) {
+    let parts = [
+        HEAD, FOUR_PAIRS, FOUR_PAIRS, FOUR_PAIRS, FOUR_PAIRS, lines, END,
+    ];
+    let text = joined(rt.alloc(), &parts).expect(rt, "room");
+    expect_guarded(rt, &text, four(rt), wanted, &[output]);
+}
+
+/// The line is the first that cannot be carried out.
+fn bad_guard(line: u32, kind: GuardKind) -> Status
+    ensures { result ≡ Status.BadGuard line kind }
+{
+    Status::BadGuard { line, kind }
+}
+
+// The first three lines are the head, and each line of a fault is counted from 1.
+#[test]
+fn teach_lines(rt: HostRuntime) {
+    let full = bad_guard(20, GuardKind::Full);
+    expect_taught(&rt, "", Status::Done, NOTHING);
+    expect_taught(&rt, "teach 1 1 2\n", Status::Done, NOTHING);
+    expect_taught(&rt, "teach 0 1 2\n", full, "");
+    expect_taught(&rt, "teach 0 1 2\nteach 4 1 2\n", full, "");
+    expect_taught(
+        &rt,
+        "teach 4 1 2\nteach 0 1 2\n",
+        bad_guard(20, GuardKind::NoGuard),
+        "",
+    );
+}
+
+/// One guard that refuses nobody.
+fn null<R: AllocGlobal + Abort>(rt: &R) -> Vec<NullGuard>
+    ensures one { vec_len result ≡ 1 }
+    ensures unasked { All (λ guard. guard.asked ≡ 0) result.items }
+{
+    Vec::from_array(rt.alloc(), [NullGuard::new()]).expect(rt, "room")
+}
+
+#[test]
+fn null_guard_is_taught_nothing(rt: HostRuntime) {
+    let full = bad_guard(6, GuardKind::Full);
+    expect_guarded(&rt, WORKED.as_bytes(), null(&rt), full, &[]);
+}
+
+#[test]
+fn pair_guard(rt: HostRuntime) {
+    let mut guard = PairGuard::empty();
+    assert!(rt; guard.teach(1, 2).is_ok());
+    assert!(rt; !guard.allows(1, 2));
+    assert!(rt; guard.allows(2, 1));
+    assert!(rt; guard.asked() == 2);
+}
+
+#[test]
+fn null_guard(rt: HostRuntime) {
+    let mut guard = NullGuard::new();
+    assert!(rt; matches!(guard.teach(1, 2), Err(TeachFault::Full { cap: 0 })));
+    assert!(rt; guard.allows(1, 2));
+    assert!(rt; guard.asked() == 1);
+}
+
+/// Expects that the first guard is taught, and none that is not there.
+fn expect_teach(rt: &impl Abort, guards: &mut Guards<PairGuard>) {
+    assert!(rt; matches!(guards.teach(0, 1, 2), TeachAnswer::Taught));
+    assert!(rt; matches!(guards.teach(4, 1, 2), TeachAnswer::NoGuard));
+}
+
+/// Expects that the first guard is loaded once and dropped once.
+fn expect_moves(rt: &impl Abort, guards: &mut Guards<PairGuard>) {
+    assert!(rt; matches!(guards.load(0), LoadAnswer::Loaded));
+    assert!(rt; matches!(guards.load(0), LoadAnswer::NoGuard));
+    assert!(rt; guards.active_count() == 1);
+    assert!(rt; matches!(guards.unload(0), UnloadAnswer::Dropped));
+    assert!(rt; matches!(guards.unload(0), UnloadAnswer::NoGuard));
+}
+
+/// Expects four guards, of which the first was dropped and never asked.
+fn expect_dropped(rt: &impl Abort, guards: &Guards<PairGuard>) {
+    assert!(rt; guards.len() == 4 && guards.active_count() == 0);
+    let first = guards.view(0).expect(rt, "a guard");
+    assert!(rt; matches!(first.place, GuardPlace::Dropped) && first.asked == 0);
+    assert!(rt; guards.view(4).is_none());
+}
+
+#[test]
+fn guards_of_a_core(rt: HostRuntime) {
+    let mut guards = Guards::of(rt.alloc(), four(&rt)).expect(&rt, "room");
+    expect_teach(&rt, &mut guards);
+    expect_moves(&rt, &mut guards);
+    expect_dropped(&rt, &guards);
+}
+
+/// A counter of drops.
+fn counter<R: AllocGlobal + Abort>(rt: &R) -> Arc<AtomicU64, Global> {
+    Arc::new(rt.alloc(), AtomicU64::new(0)).expect(rt, "room")
+}
+
+/// Two guards of a stranger's, whose drops are counted there.
+fn two_long<R: AllocGlobal + Abort>(rt: &R, drops: &Arc<AtomicU64, Global>) -> Vec<LongGuard>
+    ensures two { vec_len result ≡ 2 }
+    ensures untaught { All (λ guard. guard.pairs.items ≡ []) result.items }
+    ensures unasked { All (λ guard. guard.asked ≡ 0) result.items }
+{
+    let guards = [
+        LongGuard::empty(rt.alloc(), Arc::try_clone(drops).expect(rt, "a reference")),
+        LongGuard::empty(rt.alloc(), Arc::try_clone(drops).expect(rt, "a reference")),
+    ];
+    Vec::from_array(rt.alloc(), guards).expect(rt, "room")
+}
+
+/// Expects that so many guards were let go.
+fn expect_drops(rt: &impl Abort, drops: &Arc<AtomicU64, Global>, wanted: u64) {
+    assert!(rt; drops.load(Ordering::SeqCst) == wanted);
+}
+
+// Both are let go, the one by its unload and the other at the end.
+#[test]
+fn guards_of_a_stranger(rt: HostRuntime) {
+    let drops = counter(&rt);
+    let output = [WORKED_OUTPUT, "done\n"];
+    expect_guarded(
+        &rt,
+        WORKED.as_bytes(),
+        two_long(&rt, &drops),
+        Status::Done,
+        &output,
+    );
+    expect_drops(&rt, &drops, 2);
+}
+
+// Guards of two types are handed in as boxes, by a function that holds nothing else of them.
+#[test]
+fn guards_of_two_types(rt: HostRuntime) {
+    let mut guards: Vec<Box<dyn Guard + Send>> = Vec::new(rt.alloc());
+    let pairs = Box::new(rt.alloc(), PairGuard::empty()).expect(&rt, "room");
+    guards.push(pairs).expect(&rt, "room");
+    let null = Box::new(rt.alloc(), NullGuard::new()).expect(&rt, "room");
+    guards.push(null).expect(&rt, "room");
+    let output = [WORKED_OUTPUT, "done\n"];
+    expect_guarded(&rt, WORKED.as_bytes(), guards, Status::Done, &output);
+}
+
+// Of a guard that is unloaded nothing is left, also where others stay.
+#[test]
+fn guard_is_let_go_when_it_is_unloaded(rt: HostRuntime) {
+    let drops = counter(&rt);
+    let mut guards = Guards::of(rt.alloc(), two_long(&rt, &drops)).expect(&rt, "room");
+    guards.load(1);
+    expect_drops(&rt, &drops, 0);
+    guards.unload(1);
+    expect_drops(&rt, &drops, 1);
+    drop(guards);
+    expect_drops(&rt, &drops, 2);
+}

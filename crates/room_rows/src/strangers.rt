@@ -1,0 +1,76 @@
+//! A guard that somebody else wrote, against the trait alone. It stands in a file of its own, as it would in a
+//! crate of theirs.
+
+ghost use Rattle.std.specs.Prelude.{◌≡◌, []};
+ghost use Rattle.std.specs.List.{list_any};
+ghost use Rattle.cs_types.specs.Guards.{is_pair};
+
+use cs_outside::{Guard, TeachFault};
+use std::alloc::Global;
+use std::sync::Arc;
+use std::sync::atomic::{AtomicU64, Ordering};
+
+/// A guard that can be taught as many pairs as there is memory for. Its drop is counted.
+pub struct LongGuard {
+    pairs: Vec<(u32, u32)>,
+    asked: u64,
+    drops: Arc<AtomicU64, Global>,
+}
+
+impl Drop for LongGuard {
+    fn drop(self) {
+        let LongGuard {
+            pairs: _,
+            asked: _,
+            drops,
+        } = self;
+        drops.fetch_add(1, Ordering::SeqCst);
+    }
+}
+
+/// Whether the pair of real user ids is one of these.
+fn lists(pairs: &[(u32, u32)], from: u32, to: u32) -> bool
+    ensures { result ≡ list_any (is_pair (from, to)) pairs.now }
+{
+    pairs.iter().any(|pair| from == pair.0 && to == pair.1)
+}
+
+impl LongGuard {
+    /// One that refuses nobody yet and was never asked. Its drop is counted there.
+    pub fn empty(alloc: Global, drops: Arc<AtomicU64, Global>) -> LongGuard
+        ensures untaught { result.pairs.items ≡ [] }
+        ensures unasked { result.asked ≡ 0 }
+    {
+        LongGuard {
+            pairs: Vec::new(alloc),
+            asked: 0,
+            drops,
+        }
+    }
+}
+
+impl Guard for LongGuard {
+    ghost use Rattle.std.specs.Prelude.{◌^◌};
+
+    ghost pairs = { λ guard. guard.pairs.items };
+
+    ghost cap = { λ _. 2 ^ 64 };
+
+    ghost asked = { λ guard. guard.asked };
+
+    fn teach(&mut self, from: u32, to: u32) -> Result<(), TeachFault> {
+        match self.pairs.push((from, to)) {
+            Ok(()) => Ok(()),
+            Err(_) => Err(TeachFault::OutOfMemory),
+        }
+    }
+
+    fn allows(&mut self, from: u32, to: u32) -> bool {
+        self.asked += 1;
+        !lists(&self.pairs, from, to)
+    }
+
+    fn asked(&self) -> u64 {
+        self.asked
+    }
+}
