@@ -2,6 +2,7 @@
 #![tactic(auto)]
 
 mod fault;
+mod gate;
 mod gathered;
 mod guard;
 mod memory_sink;
@@ -15,6 +16,7 @@ mod std_sink;
 mod std_source;
 
 pub use fault::Failed;
+pub use gate::{Gate, NoGate};
 pub use guard::{Guard, TeachFault};
 pub use memory_sink::MemSink;
 pub use memory_source::MemSource;

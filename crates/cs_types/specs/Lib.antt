@@ -14,6 +14,7 @@ pub mod Steal
 pub mod Hotplug
 pub mod Step
 pub mod History
+pub mod Shuffles
 pub mod Drain
 pub mod View
 pub mod Laws

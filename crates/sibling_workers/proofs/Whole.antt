@@ -1,0 +1,120 @@
+-- Whole: each actor that a scenario can have stands in the order of the actors, so where all of these have made their
+-- scripts, the history is a shuffle of all scripts.
+use Rattle.std.proofs.Common.{◌≡◌, ℕ, ◌+◌, ◌<◌, ◌≤◌, false, eqb, List, [], ◌∷◌, ◌++◌, refl, sym, ap, ◌∙◌, subst, inl, inr, arith}
+use Rattle.std.specs.Prelude.{All}
+use Rattle.std.proofs.lemmas.Bool.{cases_Bool, cases_lt, eqb-true, lt-ltb, le-ltb}
+use Rattle.std.proofs.lemmas.List.Elements.{All-head, All-tail}
+use Rattle.cs_types.specs.declared.event.Actor.{Actor}
+use Rattle.cs_types.specs.declared.event.Actor.TheVariants.{Sibling, Caller, End}
+use Rattle.cs_types.specs.declared.event.Event.{Event}
+use Rattle.cs_types.specs.declared.event.Event.TheVariants.{Turn, Resched, Block, Exit, Tick, Wake, Advance, Fork, Prctl, SetSched, Offline, Online, Load, Unload}
+use Rattle.cs_types.specs.declared.event.Step.{Step}
+use Rattle.cs_types.specs.declared.scenario.Scenario.{Scenario}
+use Rattle.cs_types.specs.Scenario.{is_actor, script, IsEvent, IsMadeBy, IsStep, IsPlayable}
+use Rattle.cs_types.specs.History.{History, events_by}
+use Rattle.cs_types.specs.Shuffles.{KeepsScripts, IsShuffle}
+use Rattle.sibling_workers.specs.Scripts.{events_in}
+use Rattle.sibling_workers.specs.Race.{actor_at}
+
+-- a sibling that makes an event is one of the core
+sibling_below : (i n : ℕ) (event : Event) → IsEvent n event → IsMadeBy (Sibling i) event → i < n
+sibling_below i n (Turn cpu) lt by = omega (arith, lt, by)
+sibling_below i n (Resched cpu) lt by = omega (arith, lt, by)
+sibling_below i n (Block cpu) lt by = omega (arith, lt, by)
+sibling_below i n (Exit cpu) lt by = omega (arith, lt, by)
+sibling_below i n (Tick cpu) lt by = omega (arith, lt, by)
+sibling_below i n (Wake pid) lt by = absurd by
+sibling_below i n (Advance delta) lt by = absurd by
+sibling_below i n (Fork caller thread) lt by = absurd by
+sibling_below i n (Prctl caller ask) lt by = absurd by
+sibling_below i n (SetSched pid policy) lt by = absurd by
+sibling_below i n (Offline cpu) lt by = absurd by
+sibling_below i n (Online cpu) lt by = absurd by
+sibling_below i n (Load index) lt by = absurd by
+sibling_below i n (Unload index) lt by = absurd by
+
+-- a caller that makes an event is one of the eight
+caller_below : (j : ℕ) (event : Event) → IsMadeBy (Caller j) event → j < 8
+caller_below j (Turn cpu) by = absurd by
+caller_below j (Resched cpu) by = absurd by
+caller_below j (Block cpu) by = absurd by
+caller_below j (Exit cpu) by = absurd by
+caller_below j (Tick cpu) by = absurd by
+caller_below j (Wake pid) by = by
+caller_below j (Advance delta) by = by
+caller_below j (Fork caller thread) by = by
+caller_below j (Prctl caller ask) by = by
+caller_below j (SetSched pid policy) by = by
+caller_below j (Offline cpu) by = by
+caller_below j (Online cpu) by = by
+caller_below j (Load index) by = by
+caller_below j (Unload index) by = by
+
+apart : (a b : ℕ) → a < b → eqb a b ≡ false
+apart a b lt =
+    elim (cases_Bool (eqb a b)) [
+      | inl same ↦ absurd (omega (arith, eqb-true a b same))
+      | inr other ↦ other
+    ]
+
+-- no step is of a sibling from 16 on, of a caller from 8 on, or of the end
+not_of_sibling : (n i : ℕ) (actor : Actor) (event : Event) → n ≤ 16 → 16 ≤ i → IsEvent n event → IsMadeBy actor event → is_actor actor (Sibling i) ≡ false
+not_of_sibling n i (Sibling k) event most past is by = apart k i (omega (arith, sibling_below k n event is by))
+not_of_sibling n i (Caller k) event most past is by = refl
+not_of_sibling n i End event most past is by = refl
+
+not_of_caller : (j : ℕ) (actor : Actor) (event : Event) → 8 ≤ j → IsMadeBy actor event → is_actor actor (Caller j) ≡ false
+not_of_caller j (Sibling k) event past by = refl
+not_of_caller j (Caller k) event past by = apart k j (omega (arith, caller_below k event by))
+not_of_caller j End event past by = refl
+
+not_of_end : (actor : Actor) (event : Event) → IsMadeBy actor event → is_actor actor End ≡ false
+not_of_end (Sibling k) event by = refl
+not_of_end (Caller k) event by = refl
+not_of_end End event by = absurd by
+
+-- an actor that no step is of has no event among the steps
+no_events : (n : ℕ) (actor : Actor) → ((step : Step) → IsStep n step → is_actor step.actor actor ≡ false) →
+    (steps : List Step) → All (IsStep n) steps → events_in actor steps ≡ []
+no_events n actor other [] each = refl
+no_events n actor other (s ∷ ss) each =
+    let rest = no_events n actor other ss (All-tail (IsStep n) s ss each) in
+    simp (other s (All-head (IsStep n) s ss each), rest)
+
+-- what begins an empty list is empty
+prefix_of_empty : (xs ys : List Event) → xs ++ ys ≡ [] → xs ≡ []
+prefix_of_empty [] ys e = refl
+prefix_of_empty (x ∷ xs) ys e = absurd cc
+
+-- an actor with an empty script has made it
+made_empty : (scenario : Scenario) (history : History) (actor : Actor) → KeepsScripts scenario history → script scenario actor ≡ [] →
+    events_by actor history ≡ script scenario actor
+made_empty scenario history actor order empty =
+    let start = order actor in
+    prefix_of_empty (events_by actor history) start.0 (start.1 ∙ empty) ∙ sym empty
+
+-- where a sibling and a caller stand in the order
+actor_at-sibling : (i : ℕ) → i < 16 → actor_at i ≡ Sibling i
+actor_at-sibling i lt = simp (lt-ltb i 16 lt)
+
+actor_at-caller : (j : ℕ) → actor_at (j + 16) ≡ Caller j
+actor_at-caller j = simp (le-ltb (j + 16) 16 (omega arith)) (ap Caller (omega arith))
+
+-- where each actor of the order has made its script, each actor has
+pub shuffle_of_all : (scenario : Scenario) (history : History) → IsPlayable scenario → KeepsScripts scenario history →
+    ((place : ℕ) → place < 24 → events_by (actor_at place) history ≡ script scenario (actor_at place)) → IsShuffle scenario history
+shuffle_of_all scenario history playable order made (Sibling i) =
+    let n = scenario.siblings in
+    elim (cases_lt i 16) [
+      | inl lt ↦ subst (λ (a : Actor). events_by a history ≡ script scenario a) (actor_at-sibling i lt) (made i (omega arith))
+      | inr past ↦ made_empty scenario history (Sibling i) order (no_events n (Sibling i) (λ s step. not_of_sibling n i s.actor s.event playable.siblings.1 past step.event step.actor) scenario.steps playable.steps)
+    ]
+shuffle_of_all scenario history playable order made (Caller j) =
+    let n = scenario.siblings in
+    elim (cases_lt j 8) [
+      | inl lt ↦ subst (λ (a : Actor). events_by a history ≡ script scenario a) (actor_at-caller j) (made (j + 16) (omega arith))
+      | inr past ↦ made_empty scenario history (Caller j) order (no_events n (Caller j) (λ s step. not_of_caller j s.actor s.event past step.actor) scenario.steps playable.steps)
+    ]
+shuffle_of_all scenario history playable order made End =
+    let n = scenario.siblings in
+    made_empty scenario history End order (no_events n End (λ s step. not_of_end s.actor s.event step.actor) scenario.steps playable.steps)

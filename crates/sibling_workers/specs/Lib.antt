@@ -1,0 +1,4 @@
+pub mod Scripts
+pub mod Turns
+pub mod Scripted
+pub mod Race

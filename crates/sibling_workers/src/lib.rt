@@ -1,0 +1,16 @@
+//! The room behind a lock: what lies under the lock, and one worker for each actor that has a script.
+#![tactic(auto)]
+
+mod actors;
+mod named;
+mod racing;
+mod script;
+mod scripted;
+mod scripts;
+mod shared;
+mod turn;
+
+pub use named::Named;
+pub use racing::race;
+pub use scripted::Scripted;
+pub use turn::Turn;
