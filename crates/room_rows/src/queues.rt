@@ -98,10 +98,7 @@ fn queued(pid: Pid, class: u8, cookie: Cookie) -> Queued
 }
 
 /// A run queue with a task of each class, the lowest class first.
-fn queue_of_each_class<L: Ledger, R: AllocGlobal + Abort>(
-    rt: &R,
-    steps: &mut Steps<L>,
-) -> RunQueue
+fn queue_of_each_class<L: Ledger, R: AllocGlobal + Abort>(rt: &R, steps: &mut Steps<L>) -> RunQueue
     ensures { result.cookies ≡ empty }
 {
     let mut queue = RunQueue::empty(rt.alloc());
@@ -158,7 +155,11 @@ fn expect_cookies<L: Ledger, R: AllocGlobal + Abort>(rt: &R, steps: &mut Steps<L
     queue.enqueue(low, steps);
     queue.enqueue(high, steps);
     assert!(rt; queue.first_of(7, steps).is_some_and(|task| task.pid == 2));
-    assert!(rt; queue.next_of(&high, steps).is_some_and(|task| task.pid == 1));
+    assert!(rt;
+        queue
+            .next_of(&high, steps)
+            .is_some_and(|task| task.pid == 1)
+    );
     assert!(rt; queue.next_of(&low, steps).is_none());
     assert!(rt; queue.first_of(6, steps).is_none() && queue.first_of(8, steps).is_none());
     assert!(rt; queue.dequeue(&high, steps));

@@ -1,3 +1,3 @@
 mod Seats
 mod Runs
-mod Ties
+pub mod Ties

@@ -9,17 +9,17 @@ enqueue-requires-clause-free g c = rw (c.reserve.ensures.tasks, c.empty-queue.en
 -- another seat than those of the earlier tasks
 pub enqueue-requires-2-clause-free : goal.enqueue-requires-2-clause-free
 enqueue-requires-2-clause-free g c =
-    rw (c.queued-2.ensures.seat, c.enqueue.ensures.tasks, c.queued.ensures.seat, c.reserve.ensures.tasks, c.empty-queue.ensures.tasks, get-insert seat_total)
+    rw (c.queued-2.ensures.is, c.enqueue.ensures.tasks, c.queued.ensures.is, c.reserve.ensures.tasks, c.empty-queue.ensures.tasks, get-insert seat_total)
     (get-empty seat_cmp _)
 
 pub enqueue-requires-3-clause-free : goal.enqueue-requires-3-clause-free
 enqueue-requires-3-clause-free g c =
     rw (
-      c.queued-3.ensures.seat,
+      c.queued-3.ensures.is,
       c.enqueue-2.ensures.tasks,
-      c.queued-2.ensures.seat,
+      c.queued-2.ensures.is,
       c.enqueue.ensures.tasks,
-      c.queued.ensures.seat,
+      c.queued.ensures.is,
       c.reserve.ensures.tasks,
       c.empty-queue.ensures.tasks,
       get-insert seat_total,
@@ -30,13 +30,13 @@ enqueue-requires-3-clause-free g c =
 pub enqueue-requires-4-clause-free : goal.enqueue-requires-4-clause-free
 enqueue-requires-4-clause-free g c =
     rw (
-      c.queued-4.ensures.seat,
+      c.queued-4.ensures.is,
       c.enqueue-3.ensures.tasks,
-      c.queued-3.ensures.seat,
+      c.queued-3.ensures.is,
       c.enqueue-2.ensures.tasks,
-      c.queued-2.ensures.seat,
+      c.queued-2.ensures.is,
       c.enqueue.ensures.tasks,
-      c.queued.ensures.seat,
+      c.queued.ensures.is,
       c.reserve.ensures.tasks,
       c.empty-queue.ensures.tasks,
       get-insert seat_total,
