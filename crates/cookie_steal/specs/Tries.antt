@@ -37,6 +37,6 @@ tried room cpu =
 pub record TriesToSteal {Q : Type 0} {g : Ghosts Q} (old new : Core Q g × Table) (cpu : ℕ) (made : Try) : Type 0 where
   pub reply : (beside : Beside) → reply_of made ≡ (tried (room_of beside old) cpu).reply
   pub room : (beside : Beside) → room_of beside new ≡ (tried (room_of beside old) cpu).room
-  pub numbers : numbers_of new.0 ≡ touched (steal_touches made) (numbers_of old.0)
+  pub numbers : numbers_of new ≡ touched (steal_touches made) (numbers_of old)
   pub unchanged : made ≡ NoBalance → new ≡ old
   pub stays : Stays old new

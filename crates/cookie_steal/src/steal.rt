@@ -6,7 +6,7 @@ ghost use Rattle.cs_types.specs.Selection.{first_on};
 ghost use Rattle.cs_types.specs.Steal.{source_of, steal, next_place};
 ghost use Rattle.task_table.specs.Table.{Table};
 ghost use Rattle.core_lanes.specs.Queued.{IsOf};
-ghost use Rattle.core_lanes.specs.Lanes.{Beside, room_of, Agree, HasLowTimes};
+ghost use Rattle.core_lanes.specs.Lanes.{Beside, room_of, Agree, AgreesAt, HasLowTimes};
 ghost use Rattle.core_lanes.specs.Changes.{Touches};
 ghost use Rattle.cookie_steal.specs.Tries.{TriesToSteal};
 
@@ -46,8 +46,7 @@ fn is_left_idle<Q: SiblingQueue, L: Ledger>(
     cpu: Cpu,
     steps: &mut Steps<L>,
 ) -> bool
-    requires cpu { cpu < length core.now.lanes.items }
-    requires agree { Agree (core.now, table.now) }
+    requires { AgreesAt cpu (core.now, table.now) }
     ensures { (beside : Beside) → let room = room_of beside (core.now, table.now) in
         result ≡ (is_none (first_on room cpu) && is_none (sibling_of room cpu).run && not (room.forced == 0)) }
 {
@@ -105,8 +104,7 @@ pub fn try_steal<Q: SiblingQueue, L: Ledger>(
     cpu: Cpu,
     steps: &mut Steps<L>,
 ) -> Try
-    requires cpu { cpu < length core.old.lanes.items }
-    requires agree { Agree (core.old, table.old) }
+    requires at { AgreesAt cpu (core.old, table.old) }
     requires low { HasLowTimes (core.old, table.old) }
     requires places { All (λ lane. lane.place + 1 < 2 ^ 32) core.old.lanes.items }
     requires stamp { core.old.next_stamp + 1 < 2 ^ 64 }

@@ -5,7 +5,6 @@ use Rattle.cs_types.specs.Room.{Opening}
 use Rattle.cs_types.specs.declared.event.Actor.TheVariants.{End}
 use Rattle.cs_types.specs.declared.event.Event.TheVariants.{Resched}
 use Rattle.cs_types.specs.declared.reply.Entry.{Entry}
-use Rattle.cs_types.specs.declared.scenario.Scenario.{Scenario}
 use Rattle.cs_types.specs.Scenario.{IsPlayable}
 use Rattle.cs_types.specs.History.{History, Moment, next, AreEvents, IsLegal, moment_of, fold_of, reply_to}
 use Rattle.cs_types.specs.Drain.{pending, next_to_schedule, entry_by_end, IsEndFrom, IsDrained}

@@ -1,12 +1,13 @@
 -- Lives: the tasks with one more among them, with one changed and then gone, and how a core agrees with these.
-use Rattle.std.proofs.Common.{◌≡◌, ℕ, ◌+◌, ◌<◌, ◌≤◌, Bool, true, false, cond, List, [], ◌∷◌, map, refl, subst, sym, ap, ◌∙◌, inl, inr, eq-eqb, ne_eqb, ltb, arith, length}
-use Rattle.std.specs.Prelude.{All, Option, Some, None, Ok, Err, filter, find, not, ◌&&◌, ◌||◌, ◌==◌, IsTrue, slice_get}
+use Rattle.std.proofs.Common.{◌≢◌, ◌++◌, ◌≡◌, ℕ, ◌+◌, ◌<◌, ◌≤◌, Bool, true, false, cond, List, [], ◌∷◌, map, refl, subst, sym, ap, ◌∙◌, inl, inr, eq-eqb, ne_eqb, ltb, arith, length}
+use Rattle.std.specs.Prelude.{All, Option, Some, None, Ok, Err, filter, find, not, ◌&&◌, ◌||◌, ◌==◌, IsTrue}
 use Rattle.std.specs.List.{list_any}
-use Rattle.std.specs.Global.{Vec}
-use Rattle.std.proofs.lemmas.Bool.{cases_Bool, cond-true, cond-false, eqb-true}
+use Rattle.std.proofs.lemmas.Bool.{cases_eq, cases_Bool, cond-true, cond-false, eqb-true}
 use Rattle.std.proofs.lemmas.Bool.Decides.{nat_tests}
 use Rattle.std.proofs.Math.Bool.{and-false}
-use Rattle.std.proofs.lemmas.List.Elements.{All-head, All-tail, All-filter, All-weaker}
+use Rattle.std.proofs.lemmas.List.Sums.{sum_by-cons, sum_by_push}
+use Rattle.cs_types.proofs.Foremost.{find_passes}
+use Rattle.std.proofs.lemmas.List.Elements.{All-push, filter_passes, All-head, All-tail, All-filter, All-weaker}
 use Rattle.cs_types.specs.declared.task.Task.{Task}
 use Rattle.cs_types.specs.declared.queue.Queued.{Queued}
 use Rattle.cs_types.specs.Queue.{queued_of}
@@ -14,19 +15,17 @@ use Rattle.cs_types.specs.Room.{has_pid, inserted}
 use Rattle.cs_types.proofs.Filtered.{find-filter}
 use Rattle.cs_types.proofs.Inserted.{All-inserted, find-inserted, inserted-first, inserted-past}
 use Rattle.cs_types.proofs.Spots.{replaced_by}
-use Rattle.forceidle_account.specs.Charges.{Charges, has_total}
-use Rattle.task_table.specs.Table.{Table, Rises, RisesFrom, IsSound as IsTable}
+use Rattle.task_table.specs.Table.{Table, total_among, Rises, RisesFrom, IsSound as IsTable}
 use Rattle.task_table.proofs.Rising.{weaker, above_all, find_again}
 use Rattle.fork_inherit.specs.Answers.{fork_answer}
 use Rattle.fork_inherit.specs.declared.forking.ForkFault.TheVariants.{Eagain}
 use Rattle.core_lanes.specs.declared.queue.SiblingQueue.{Ghosts}
-use Rattle.core_lanes.specs.declared.lane.Lane.{Lane}
 use Rattle.core_lanes.specs.declared.lanes.Core.{Core}
 use Rattle.core_lanes.specs.Queued.{queued_among, queued_at, others, IsOf, AreStamped}
 use Rattle.core_lanes.specs.Lanes.{IsFit, Agree}
-use Rattle.core_lanes.proofs.Stays.{queue_of}
+use Rattle.core_lanes.proofs.Stays.{found_in}
 use Rattle.core_lanes.proofs.Queues.{is_on, others-absent, off_asleep}
-use Rattle.core_events.specs.State.{IsGiven}
+use Rattle.core_events.specs.State.{IsGiven, IsGone}
 use Rattle.core_events.specs.Life.{may_not_fork_in}
 
 own_pid : (task : Task) → has_pid task.spec.pid task ≡ true
@@ -101,10 +100,10 @@ was_there pid tasks task rises now =
     (sym (find-filter (λ other. not (has_pid pid other)) (has_pid task.spec.pid) tasks) ∙ now)
 
 -- A core agrees with a table without a task that was asleep.
-pub agree-but : {Q : Type 0} {g : Ghosts Q} (core : Core Q g) (table : Table) (task : Task) → IsOf table.tasks task → task.queued ≡ false →
-    IsTable (record table { tasks = but task.spec.pid table.tasks }) → Agree (core, table) →
-    Agree (core, record table { tasks = but task.spec.pid table.tasks })
-agree-but {Q} {g} core table task there asleep sound agree =
+pub agree-but : {Q : Type 0} {g : Ghosts Q} (core : Core Q g) (table : Table) (task : Task) (totals : List (ℕ × ℕ)) → IsOf table.tasks task → task.queued ≡ false →
+    IsTable (record table { tasks = but task.spec.pid table.tasks; totals = totals }) → Agree (core, table) →
+    Agree (core, record table { tasks = but task.spec.pid table.tasks; totals = totals })
+agree-but {Q} {g} core table task totals there asleep sound agree =
     let pid = task.spec.pid in
     let rises = agree.table.rising in
     let left = λ (other : Task). not (has_pid pid other) in
@@ -117,7 +116,6 @@ agree-but {Q} {g} core table task there asleep sound agree =
         distinct = λ one now queued other now_other queued_other same.
             agree.stamped.distinct one (was_there pid table.tasks one rises now) queued other (was_there pid table.tasks other rises now_other) queued_other same;
       };
-      totals = All-filter left (λ (t : Task). IsTrue (has_total core.totals t.spec.pid)) table.tasks agree.totals;
       held = λ cpu queue at.
           subst (λ qs. g.holds queue table.limit qs)
           (sym (queued_at-but pid cpu table.tasks ∙ others-absent table.tasks task cpu rises there (off_asleep task cpu asleep)))
@@ -126,12 +124,17 @@ agree-but {Q} {g} core table task there asleep sound agree =
 
 -- ---- a task more
 
+-- A pid that no task has is found in none.
+pub unused : (pid : ℕ) (tasks : List Task) → All (λ task. task.spec.pid ≢ pid) tasks → find (has_pid pid) tasks ≡ None
+unused pid [] all = refl
+unused pid (first ∷ rest) all =
+    cond-false (has_pid pid first) _ _ (ne_eqb _ _ (All-head (λ (task : Task). task.spec.pid ≢ pid) first rest all))
+    ∙ unused pid rest (All-tail (λ (task : Task). task.spec.pid ≢ pid) first rest all)
+
 -- No task has the next pid.
 pub next_is_unused : (next : ℕ) (tasks : List Task) → All (λ task. IsGiven next task.spec.pid) tasks → find (has_pid next) tasks ≡ None
-next_is_unused next [] all = refl
-next_is_unused next (first ∷ rest) all =
-    cond-false (has_pid next first) _ _ (ne_eqb _ _ (λ same. omega (arith, same, (All-head (λ (task : Task). IsGiven next task.spec.pid) first rest all).1)))
-    ∙ next_is_unused next rest (All-tail (λ (task : Task). IsGiven next task.spec.pid) first rest all)
+next_is_unused next tasks all =
+    unused next tasks (All-weaker (λ (task : Task). IsGiven next task.spec.pid) (λ (task : Task). task.spec.pid ≢ next) (λ task given same. omega (arith, same, given.1)) tasks all)
 
 module _ (child : Task) (asleep : child.queued ≡ false) where
   -- One more that is asleep is on no queue.
@@ -181,45 +184,89 @@ module _ (child : Task) (asleep : child.queued ≡ false) where
         stamped.distinct one (was_queued tasks one now queued) queued other (was_queued tasks other now_other queued_other) queued_other same;
   }
 
--- each task has a total, the child too
-totals-inserted : (old new : Charges) (child : Task) (tasks : List Task) → ((other : ℕ) → has_total new other ≡ (other == child.spec.pid || has_total old other)) →
-    All (λ task. IsTrue (has_total old task.spec.pid)) tasks → All (λ task. IsTrue (has_total new task.spec.pid)) (inserted child tasks)
-totals-inserted old new child tasks has all =
-    All-inserted (λ task. IsTrue (has_total new task.spec.pid)) child tasks
-    (has child.spec.pid ∙ ap (λ b. b || has_total old child.spec.pid) (eq-eqb child.spec.pid child.spec.pid refl))
-    (All-weaker (λ (task : Task). IsTrue (has_total old task.spec.pid)) (λ (task : Task). IsTrue (has_total new task.spec.pid))
-    (λ task known. has task.spec.pid ∙ or_right (task.spec.pid == child.spec.pid) (has_total old task.spec.pid) known) tasks all) where
-      or_right : (a b : Bool) → b ≡ true → (a || b) ≡ true
-      or_right true b pass = refl
-      or_right false b pass = pass
-
--- A core that has a total more agrees with a table with a task more, which is asleep.
-pub agree-inserted : {Q : Type 0} {g : Ghosts Q} (old new : Core Q g) (table more : Table) (child : Task) →
-    more ≡ record table { tasks = inserted child table.tasks } → new.lanes ≡ old.lanes → new.next_stamp ≡ old.next_stamp →
-    ((other : ℕ) → has_total new.totals other ≡ (other == child.spec.pid || has_total old.totals other)) → find (has_pid child.spec.pid) table.tasks ≡ None →
-    child.queued ≡ false → IsFit (length old.lanes.items) child → IsTable more → Agree (old, table) → Agree (new, more)
-agree-inserted {Q} {g} old new table more child is lanes stamp has none asleep fit sound agree =
-    let count = length old.lanes.items in
-    subst (λ (t : Table). Agree (new, t)) (sym is) (record {
+-- A core agrees with a table with a task more, which is asleep.
+pub agree-inserted : {Q : Type 0} {g : Ghosts Q} (core : Core Q g) (table more : Table) (child : Task) →
+    more ≡ record table { tasks = inserted child table.tasks; totals = more.totals } → find (has_pid child.spec.pid) table.tasks ≡ None →
+    child.queued ≡ false → IsFit (length core.lanes.items) child → IsTable more → Agree (core, table) → Agree (core, more)
+agree-inserted {Q} {g} core table more child is none asleep fit sound agree =
+    subst (λ (t : Table). Agree (core, t)) (sym is) (record {
       table = subst IsTable is sound;
       few_tasks = agree.few_tasks;
-      tasks = subst (λ (v : Vec (Lane Q)). All (IsFit (length v.items)) (inserted child table.tasks)) (sym lanes)
-          (All-inserted (IsFit count) child table.tasks fit agree.tasks);
-      stamped = subst (λ n. AreStamped n (inserted child table.tasks)) (sym stamp) (stamped-inserted child asleep old.next_stamp table.tasks agree.stamped);
-      totals = totals-inserted old.totals new.totals child table.tasks has agree.totals;
+      tasks = All-inserted (IsFit (length core.lanes.items)) child table.tasks fit agree.tasks;
+      stamped = stamped-inserted child asleep core.next_stamp table.tasks agree.stamped;
       held = λ cpu queue at.
           subst (λ qs. g.holds queue table.limit qs) (sym (queued_at-inserted child asleep cpu 0 table.tasks agree.table.rising none))
-          (agree.held cpu queue (ap (λ (v : Vec (Lane Q)). slice_get (map queue_of v.items) cpu) (sym lanes) ∙ at));
+          (agree.held cpu queue at);
     })
 
--- and no pid with a total is given again
-pub low_child : (old new : Charges) (next pid : ℕ) → ((other : ℕ) → has_total new other ≡ (other == next || has_total old other)) →
-    (IsTrue (has_total old pid) → pid < next) → IsTrue (has_total new pid) → pid < next + 1
-low_child old new next pid has low known =
-    elim (cases_Bool (pid == next)) [
-      | inl same ↦ omega (arith, eqb-true pid next same)
-      | inr other ↦ let was : has_total old pid ≡ true = ap (λ b. b || has_total old pid) (sym other) ∙ sym (has pid) ∙ known in omega (arith, low was)
+-- ---- the tasks that ended
+
+-- a living task is not among them
+pub total-living : (next pid : ℕ) (tasks : List Task) (task : Task) (all ended : List (ℕ × ℕ)) → find (has_pid pid) tasks ≡ Some task →
+    All (IsGone next tasks all) ended → total_among ended pid ≡ 0
+total-living next pid tasks task all [] there gone = refl
+total-living next pid tasks task all (one ∷ ended) there gone =
+    let first = All-head (IsGone next tasks all) one ended gone in
+    let own : task.spec.pid ≡ pid = eqb-true task.spec.pid pid (find_passes (has_pid pid) tasks task there) in
+    let apart = ne_eqb one.0 pid (λ same. found_in (λ (t : Task). t.spec.pid ≢ one.0) pid tasks task first.absent there (own ∙ sym same)) in
+    let head : cond (one.0 == pid) one.1 0 ≡ 0 = cond-false (one.0 == pid) one.1 0 apart in
+    let rest : total_among ended pid ≡ 0 = total-living next pid tasks task all ended there (All-tail (IsGone next tasks all) one ended gone) in
+    omega (arith, sum_by-cons (λ (total : ℕ × ℕ). cond (total.0 == pid) total.1 0) one ended, head, rest)
+
+-- one more has ended
+pub gone-push : (next pid total : ℕ) (tasks : List Task) (task : Task) (ended : List (ℕ × ℕ)) → find (has_pid pid) tasks ≡ Some task → pid < next →
+    All (IsGone next tasks ended) ended → All (IsGone next (but pid tasks) (ended ++ (pid, total) ∷ [])) (ended ++ (pid, total) ∷ [])
+gone-push next pid total tasks task ended there given gone =
+    let more = ended ++ (pid, total) ∷ [] in
+    let left = λ (other : Task). not (has_pid pid other) in
+    let own : task.spec.pid ≡ pid = eqb-true task.spec.pid pid (find_passes (has_pid pid) tasks task there) in
+    let total_of = λ (other : ℕ). sum_by_push (λ (total : ℕ × ℕ). cond (total.0 == other) total.1 0) ended (pid, total) in
+    All-push (IsGone next (but pid tasks) more) ended (pid, total)
+    (All-weaker (IsGone next tasks ended) (IsGone next (but pid tasks) more) (λ one is.
+    let apart = ne_eqb pid one.0 (λ same. found_in (λ (t : Task). t.spec.pid ≢ one.0) pid tasks task is.absent there (own ∙ same)) in
+    let last : cond (pid == one.0) total 0 ≡ 0 = cond-false (pid == one.0) total 0 apart in
+    record {
+      given = is.given;
+      absent = All-filter left (λ (t : Task). t.spec.pid ≢ one.0) tasks is.absent;
+      alone = omega (arith, total_of one.0, last, is.alone);
+    }) ended gone)
+    (let last : cond (pid == pid) total 0 ≡ total = cond-true (pid == pid) total 0 (eq-eqb pid pid refl) in
+    record {
+      given = given;
+      absent = but-absent pid tasks;
+      alone = omega (arith, total_of pid, last, total-living next pid tasks task ended ended there gone);
+    }) where
+      but-absent : (pid : ℕ) (tasks : List Task) → All (λ (t : Task). t.spec.pid ≢ pid) (but pid tasks)
+      but-absent pid tasks =
+          All-weaker (λ (t : Task). not (has_pid pid t) ≡ true) (λ (t : Task). t.spec.pid ≢ pid)
+          (λ t other same. let is = eq-eqb t.spec.pid pid same in absurd cc) (but pid tasks) (filter_passes (λ t. not (has_pid pid t)) tasks)
+
+-- what a task was charged is the same, once it is not the table's but that of one that ended
+pub total-moved : (before after : ℕ → ℕ) (pid total : ℕ) (ended : List (ℕ × ℕ)) → ((other : ℕ) → after other ≡ cond (other == pid) 0 (before other)) → total ≡ before pid →
+    (other : ℕ) → after other + total_among (ended ++ (pid, total) ∷ []) other ≡ before other + total_among ended other
+total-moved before after pid total ended moved is other =
+    let more = sum_by_push (λ (total : ℕ × ℕ). cond (total.0 == other) total.1 0) ended (pid, total) in
+    elim (cases_eq other pid) [
+      | inl same ↦
+          let gone : after other ≡ 0 = moved other ∙ cond-true _ 0 (before other) (eq-eqb other pid same) in
+          let last : cond (pid == other) total 0 ≡ before other = cond-true _ total 0 (eq-eqb pid other (sym same)) ∙ is ∙ ap before (sym same) in
+          omega (arith, gone, more, last)
+      | inr apart ↦
+          let stays : after other ≡ before other = moved other ∙ cond-false _ 0 (before other) (ne_eqb other pid apart) in
+          let last : cond (pid == other) total 0 ≡ 0 = cond-false _ total 0 (ne_eqb pid other (λ same. apart (sym same))) in
+          omega (arith, stays, more, last)
     ]
+
+-- and a child is none of them
+pub gone-inserted : (next : ℕ) (tasks : List Task) (child : Task) (ended : List (ℕ × ℕ)) → child.spec.pid ≡ next →
+    All (IsGone next tasks ended) ended → All (IsGone (next + 1) (inserted child tasks) ended) ended
+gone-inserted next tasks child ended is =
+    All-weaker (IsGone next tasks ended) (IsGone (next + 1) (inserted child tasks) ended)
+    (λ one gone. record {
+      given = omega (arith, gone.given);
+      absent = All-inserted (λ (t : Task). t.spec.pid ≢ one.0) child tasks (λ same. omega (arith, is, same, gone.given)) gone.absent;
+      alone = gone.alone;
+    }) ended
 
 -- ---- the child of a fork
 

@@ -13,7 +13,6 @@ use Rattle.cs_types.specs.declared.event.Step.{Step}
 use Rattle.cs_types.specs.declared.reply.Pick.{Pick}
 use Rattle.cs_types.specs.declared.reply.Reply.{Reply}
 use Rattle.cs_types.specs.declared.reply.Entry.{Entry}
-use Rattle.cs_types.specs.declared.scenario.Scenario.{Scenario}
 use Rattle.cs_types.specs.Scenario.{IsEvent}
 use Rattle.cs_types.specs.Room.{Opening, RoomState, SiblingState, Interval}
 use Rattle.cs_types.specs.Step.{Stepped, step}
@@ -26,9 +25,9 @@ use Rattle.cs_types.proofs.Timely.{IsTimely, IsTimelyTask}
 use Rattle.core_lanes.specs.declared.queue.SiblingQueue.{Ghosts}
 use Rattle.core_lanes.specs.declared.lane.Lane.{Lane}
 use Rattle.core_lanes.specs.Lanes.{lane_state}
-use Rattle.core_lanes.specs.Numbers.{numbers_of, booked, is_fresh_by}
+use Rattle.core_lanes.specs.Numbers.{booked, is_fresh_by}
 use Rattle.core_lanes.specs.Changes.{IsBooked}
-use Rattle.core_events.specs.State.{room_with}
+use Rattle.core_events.specs.State.{room_with, state_numbers, both, beside_of}
 use Rattle.core_events.specs.Steps.{numbers_at, numbers_after, own_after, MakesWith}
 use Rattle.core_events.specs.Drain.{next_by}
 use Rattle.core_events.specs.Inside.{opening_of, steps_of, IsFold}
@@ -143,13 +142,13 @@ numbers-next opening moment entry limits =
 -- the state is the fold of the entries, and its numbers are those of their moment
 pub record Folds {Q G : Type 0} {g : Ghosts Q} (opening : Opening) (state : State Q G g) (entries : History) : Type 0 where
   pub fold : room_with (fold_of opening entries).intervals state ≡ fold_of opening entries
-  pub numbers : numbers_of state.core ≡ numbers_at opening (moment_of opening entries)
+  pub numbers : state_numbers state ≡ numbers_at opening (moment_of opening entries)
 
 -- the state's step is that of the moment after the entries
 step_of_moment : {Q G : Type 0} {g : Ghosts Q} (opening : Opening) (state : State Q G g) (entries : History) (event : Event) → Folds opening state entries →
-    step (room_with (fold_of opening entries).intervals state) (is_fresh_by (numbers_of state.core)) event ≡ step_at (moment_of opening entries) event
+    step (room_with (fold_of opening entries).intervals state) (is_fresh_by (state_numbers state)) event ≡ step_at (moment_of opening entries) event
 step_of_moment {Q} {g} opening state entries event so_far =
-    let fresh : is_fresh_by (numbers_of state.core) ≡ is_fresh (ledger_of opening entries) =
+    let fresh : is_fresh_by (state_numbers state) ≡ is_fresh (ledger_of opening entries) =
     ap is_fresh_by so_far.numbers ∙ sym (fresh-ledger_of opening entries) in
     λ i. step (so_far.fold i) (fresh i) event
 
@@ -163,7 +162,7 @@ pub folds_more : {Q G : Type 0} {g : Ghosts Q} (opening : Opening) (old new : St
 folds_more {Q} {g} opening old new entries entry limits so_far makes =
     let more = sym (moment_of-push opening entries entry) in
     let made = step_of_moment opening old entries entry.event so_far in
-    let kept : IsBooked (fold_of opening entries) old.core =
+    let kept : IsBooked (beside_of (fold_of opening entries).intervals old) (both old) =
     subst (λ numbers. numbers ≡ booked (fold_of opening entries) numbers) (sym so_far.numbers) refl in
     record {
       fold = subst (λ (room : RoomState). room_with room.intervals new ≡ room)
@@ -176,9 +175,9 @@ folds_more {Q} {g} opening old new entries entry limits so_far makes =
 
 -- who schedules next at the end of a run is the same
 pub next_of : {Q G : Type 0} {g : Ghosts Q} (opening : Opening) (state : State Q G g) (entries : History) → Folds opening state entries →
-    next_by (room_with (fold_of opening entries).intervals state) (is_fresh_by (numbers_of state.core)) ≡ next_to_schedule (moment_of opening entries)
+    next_by (room_with (fold_of opening entries).intervals state) (is_fresh_by (state_numbers state)) ≡ next_to_schedule (moment_of opening entries)
 next_of opening state entries so_far =
-    let fresh : is_fresh_by (numbers_of state.core) ≡ is_fresh (ledger_of opening entries) =
+    let fresh : is_fresh_by (state_numbers state) ≡ is_fresh (ledger_of opening entries) =
     ap is_fresh_by so_far.numbers ∙ sym (fresh-ledger_of opening entries) in
     λ i. next_by (so_far.fold i) (fresh i)
 

@@ -31,16 +31,17 @@ use Rattle.core_events.proofs.States.{low_times}
 use Rattle.core_events.proofs.Onlines.{untouched}
 
 -- a state that is ready may schedule
-pub may_pick : {Q G : Type 0} {g : Ghosts Q} (state : State Q G g) → IsReady state → MayPick state.clock (both state)
-may_pick state ready = record {
+pub may_pick : {Q G : Type 0} {g : Ghosts Q} (state : State Q G g) (cpu : ℕ) → cpu < length state.core.lanes.items → IsReady state → MayPick state.clock cpu (both state)
+may_pick state cpu below ready = record {
+  cpu = below;
   agree = ready.sound.agree;
   low = low_times state ready.time;
   clock = omega (arith, ready.time.clock);
   touches = omega (arith, ready.spares.touches);
 }
 
-pub may_schedule : {Q G : Type 0} {g : Ghosts Q} (state : State Q G g) → IsReady state → MaySchedule state.clock (both state)
-may_schedule state ready = record { picks = may_pick state ready; paid = ready.paid }
+pub may_schedule : {Q G : Type 0} {g : Ghosts Q} (state : State Q G g) (cpu : ℕ) → cpu < length state.core.lanes.items → IsReady state → MaySchedule state.clock cpu (both state)
+may_schedule state cpu below ready = record { picks = may_pick state cpu below ready; paid = ready.paid }
 
 -- also where the queues were touched since
 pub may_touch_after : {Q G : Type 0} {g : Ghosts Q} (state : State Q G g) → IsReady state → (paid now : Numbers) → paid.task ≡ state.core.task_number → now ≡ touched 1 paid →

@@ -29,9 +29,9 @@ use Rattle.prctl_core.specs.Plan.{named, IsGranted, IsRefusal, SetsIn}
 use Rattle.core_lanes.specs.declared.queue.SiblingQueue.{Ghosts}
 use Rattle.core_lanes.specs.Queued.{IsOf}
 use Rattle.core_lanes.specs.Lanes.{Beside, BareCore, room_by}
-use Rattle.core_lanes.specs.Numbers.{Numbers, numbers_of, touched}
+use Rattle.core_lanes.specs.Numbers.{Numbers, touched}
 use Rattle.core_events.specs.declared.state.State.{State}
-use Rattle.core_events.specs.State.{room_with, IsGiven, StaysBut}
+use Rattle.core_events.specs.State.{room_with, IsGiven, StaysBut, state_numbers}
 use Rattle.core_events.specs.Steps.{numbers_after, MakesWith}
 use Rattle.core_events.specs.Cookies.{setting, flagged_for, SetsCookies}
 use Rattle.core_events.proofs.States.{uncharged, same_stays}
@@ -88,7 +88,7 @@ pub sets_one : (beside : Beside) (limit next touches : ℕ) (old new : BareCore)
 sets_one beside limit next touches old new before after task cookie rises there changed limits serial flag =
     let each = ap (λ (table : Table). table.tasks) changed ∙ set_each cookie before.tasks task rises there in
     let flags = flagged_alike task cookie old.siblings in
-    (λ i. room_by (record beside { cookie_limit = limits i; next_cookie = serial i }) (flag i) (record { tasks = each i; limit = (changed i).limit }))
+    (λ i. room_by (record beside { cookie_limit = limits i; next_cookie = serial i }) (flag i) (record before { tasks = each i; limit = (changed i).limit }))
     ∙ (λ i. record (set_cookies (room_by beside old before) (setting (task ∷ []) cookie)) { siblings = flags i })
 
 -- so often the queues are touched for it alone
@@ -99,14 +99,14 @@ touches_alone task cookie touches is = omega (arith, is, setting_touches-cons ta
 
 module _ {Q G : Type 0} {g : Ghosts Q} (old now : State Q G g) (cookie : ℕ) (left all : List Task)
     (room : (intervals : List Interval) → set_cookies (room_with intervals now) (setting left cookie) ≡ set_cookies (room_with intervals old) (setting all cookie))
-    (numbers : touched (setting_touches (setting left cookie)) (numbers_of now.core) ≡ touched (setting_touches (setting all cookie)) (numbers_of old.core)) where
+    (numbers : touched (setting_touches (setting left cookie)) (state_numbers now) ≡ touched (setting_touches (setting all cookie)) (state_numbers old)) where
   -- none is left
   pub group_done : left ≡ [] → StaysBut cookie old now → SetsCookies old now all cookie
   group_done none stays = record {
     room = λ intervals. sym (set_cookies-none (room_with intervals now) cookie)
         ∙ ap (λ (tasks : List Task). set_cookies (room_with intervals now) (setting tasks cookie)) (sym none) ∙ room intervals;
-    numbers = sym (touched_none (numbers_of now.core))
-        ∙ ap (λ (tasks : List Task). touched (setting_touches (setting tasks cookie)) (numbers_of now.core)) (sym none) ∙ numbers;
+    numbers = sym (touched_none (state_numbers now))
+        ∙ ap (λ (tasks : List Task). touched (setting_touches (setting tasks cookie)) (state_numbers now)) (sym none) ∙ numbers;
     stays = stays;
   } where
     touched_none : (n : Numbers) → touched 0 n ≡ n
@@ -121,16 +121,16 @@ module _ {Q G : Type 0} {g : Ghosts Q} (old now : State Q G g) (cookie : ℕ) (l
       ∙ ap (λ (tasks : List Task). set_cookies (room_with intervals now) (setting tasks cookie)) (sym is) ∙ room intervals
 
   pub group_numbers : (next : State Q G g) (task : Task) (rest : List Task) → left ≡ task ∷ rest → SetsCookies now next (task ∷ []) cookie →
-      touched (setting_touches (setting rest cookie)) (numbers_of next.core) ≡ touched (setting_touches (setting all cookie)) (numbers_of old.core)
+      touched (setting_touches (setting rest cookie)) (state_numbers next) ≡ touched (setting_touches (setting all cookie)) (state_numbers old)
   group_numbers next task rest is sets =
       ap (touched (setting_touches (setting rest cookie))) sets.numbers
-      ∙ twice (numbers_of now.core)
-      ∙ ap (λ (tasks : List Task). touched (setting_touches (setting tasks cookie)) (numbers_of now.core)) (sym is) ∙ numbers where
+      ∙ twice (state_numbers now)
+      ∙ ap (λ (tasks : List Task). touched (setting_touches (setting tasks cookie)) (state_numbers now)) (sym is) ∙ numbers where
         twice : (n : Numbers) → touched (setting_touches (setting rest cookie)) (touched (setting_touches (setting (task ∷ []) cookie)) n) ≡ touched (setting_touches (setting (task ∷ rest) cookie)) n
         twice n = ap (λ m. record n { task = m }) (omega (arith, setting_touches-cons task rest cookie, setting_touches-cons task [] cookie))
 
   -- the queues were touched at most twice for each
-  pub group_touches : (numbers_of now.core).task ≤ (numbers_of old.core).task + 2 * length all
+  pub group_touches : (state_numbers now).task ≤ (state_numbers old).task + 2 * length all
   group_touches = omega (arith, ap (λ (n : Numbers). n.task) numbers, touches_of_tasks-le cookie all)
 
 and_above : (b : Bool) (n : ℕ) → 0 < n → (b && ltb 0 n) ≡ b
@@ -167,16 +167,16 @@ module _ {Q G : Type 0} {g : Ghosts Q} (intervals : List Interval) (old mid afte
     (answer : prctl_answer (room_with intervals old) pid ask ≡ decision.reply)
     (sets : SetsIn (room_with intervals old) pid ask (Go decision))
     (mid_is : room_with intervals mid ≡ with_used (room_with intervals old) (makes_cookie (room_with intervals old) pid ask) (asked_by_call (room_with intervals old) pid ask))
-    (mid_numbers : numbers_of mid.core ≡ numbers_of old.core)
+    (mid_numbers : state_numbers mid ≡ state_numbers old)
     (made : SetsCookies mid after (named decision.to old.tasks.tasks) decision.cookie)
     (new_is : room_with intervals new ≡ room_with intervals after)
-    (new_numbers : numbers_of new.core ≡ numbers_of after.core) where
+    (new_numbers : state_numbers new ≡ state_numbers after) where
   -- the room after it, whatever it sets
   new_room : room_with intervals new
       ≡ set_cookies (with_used (room_with intervals old) (makes_cookie (room_with intervals old) pid ask) (asked_by_call (room_with intervals old) pid ask)) (setting (named decision.to old.tasks.tasks) decision.cookie)
   new_room = new_is ∙ made.room intervals ∙ ap (λ (r : RoomState). set_cookies r (setting (named decision.to old.tasks.tasks) decision.cookie)) mid_is
 
-  all_numbers : numbers_of new.core ≡ touched (setting_touches (setting (named decision.to old.tasks.tasks) decision.cookie)) (numbers_of old.core)
+  all_numbers : state_numbers new ≡ touched (setting_touches (setting (named decision.to old.tasks.tasks) decision.cookie)) (state_numbers old)
   all_numbers = new_numbers ∙ made.numbers ∙ ap (touched (setting_touches (setting (named decision.to old.tasks.tasks) decision.cookie))) mid_numbers
 
   pub makes_call : IsGranted decision.reply decision → MakesWith intervals old new (Prctl pid ask) decision.reply
@@ -190,8 +190,8 @@ module _ {Q G : Type 0} {g : Ghosts Q} (intervals : List Interval) (old mid afte
               ∙ ap (set_cookies (with_used (room_with intervals old) (makes_cookie (room_with intervals old) pid ask) (asked_by_call (room_with intervals old) pid ask))) set
               ∙ ap (with_answer (with_used (room_with intervals old) (makes_cookie (room_with intervals old) pid ask) (asked_by_call (room_with intervals old) pid ask)) (setting_of (room_with intervals old) pid ask)) (sym is ∙ sym answer);
           numbers = all_numbers
-              ∙ ap (λ (s : Setting). touched (setting_touches s) (numbers_of old.core)) set
-              ∙ ap (λ r. numbers_after (room_with intervals old) (Prctl pid ask) r (numbers_of old.core)) (sym is);
+              ∙ ap (λ (s : Setting). touched (setting_touches s) (state_numbers old)) set
+              ∙ ap (λ r. numbers_after (room_with intervals old) (Prctl pid ask) r (state_numbers old)) (sym is);
         })
     by_reply (Value cookie) is granted =
         let nobody : setting (named decision.to old.tasks.tasks) decision.cookie ≡ setting [] decision.cookie =
@@ -203,8 +203,8 @@ module _ {Q G : Type 0} {g : Ghosts Q} (intervals : List Interval) (old mid afte
               ∙ set_cookies-none (with_used (room_with intervals old) (makes_cookie (room_with intervals old) pid ask) (asked_by_call (room_with intervals old) pid ask)) decision.cookie
               ∙ ap (with_answer (with_used (room_with intervals old) (makes_cookie (room_with intervals old) pid ask) (asked_by_call (room_with intervals old) pid ask)) (setting_of (room_with intervals old) pid ask)) (sym is ∙ sym answer);
           numbers = all_numbers
-              ∙ ap (λ (s : Setting). touched (setting_touches s) (numbers_of old.core)) nobody
-              ∙ ap (λ r. numbers_after (room_with intervals old) (Prctl pid ask) r (numbers_of old.core)) (sym is);
+              ∙ ap (λ (s : Setting). touched (setting_touches s) (state_numbers old)) nobody
+              ∙ ap (λ r. numbers_after (room_with intervals old) (Prctl pid ask) r (state_numbers old)) (sym is);
         })
     by_reply reply is granted = absurd granted
 
@@ -215,7 +215,7 @@ untouched numbers = ap (λ n. let other : Numbers = record numbers { task = n } 
 -- a call that is refused sets nothing
 pub makes_refusal : {Q G : Type 0} {g : Ghosts Q} (intervals : List Interval) (old new : State Q G g) (pid : ℕ) (ask : Ask) (reply : Reply) → IsRefusal reply →
     prctl_answer (room_with intervals old) pid ask ≡ reply →
-    room_with intervals new ≡ with_used (room_with intervals old) (makes_cookie (room_with intervals old) pid ask) (asked_by_call (room_with intervals old) pid ask) → numbers_of new.core ≡ numbers_of old.core →
+    room_with intervals new ≡ with_used (room_with intervals old) (makes_cookie (room_with intervals old) pid ask) (asked_by_call (room_with intervals old) pid ask) → state_numbers new ≡ state_numbers old →
     MakesWith intervals old new (Prctl pid ask) reply
 makes_refusal intervals old new pid ask reply refusal answer room numbers =
     let made = with_used (room_with intervals old) (makes_cookie (room_with intervals old) pid ask) (asked_by_call (room_with intervals old) pid ask) in
@@ -229,7 +229,7 @@ makes_refusal intervals old new pid ask reply refusal answer room numbers =
       sets_nothing made (Refused errno) refusal = refl
       sets_nothing made reply refusal = absurd refusal
 
-      touches_nothing : (reply : Reply) → IsRefusal reply → numbers_of old.core ≡ numbers_after (room_with intervals old) (Prctl pid ask) reply (numbers_of old.core)
-      touches_nothing NoCaller refusal = untouched (numbers_of old.core)
-      touches_nothing (Refused errno) refusal = untouched (numbers_of old.core)
+      touches_nothing : (reply : Reply) → IsRefusal reply → state_numbers old ≡ numbers_after (room_with intervals old) (Prctl pid ask) reply (state_numbers old)
+      touches_nothing NoCaller refusal = untouched (state_numbers old)
+      touches_nothing (Refused errno) refusal = untouched (state_numbers old)
       touches_nothing reply refusal = absurd refusal

@@ -1,11 +1,10 @@
--- Starts: the tasks before the first wake, and their totals.
-use Rattle.std.proofs.Common.{◌≡◌, ℕ, zero, suc, ◌+◌, ◌<◌, ◌≤◌, Bool, true, false, cond, List, [], ◌∷◌, ◌++◌, refl, subst, sym, ap, ◌∙◌, length, take, length-take, get_or, arith, eqb, inl, inr, Some, None}
-use Rattle.std.specs.Prelude.{All, Result, Ok, find, fold, map, replicate, ◌||◌, ◌&&◌, ◌==◌}
-use Rattle.std.specs.List.{AllByRecursion, list_any, range_with_len}
+-- Starts: the tasks before the first wake.
+use Rattle.std.proofs.Common.{◌≡◌, ℕ, zero, suc, ◌+◌, ◌<◌, ◌≤◌, true, false, cond, List, [], ◌∷◌, refl, subst, sym, ap, ◌∙◌, length, take, length-take, get_or, arith, eqb, inl, inr, Some, None}
+use Rattle.std.specs.Prelude.{All, Result, Ok, find, fold, map, replicate, ◌&&◌, ◌==◌}
+use Rattle.std.specs.List.{AllByRecursion, range_with_len}
 use Rattle.cs_types.specs.Touches.{own_number}
 use Rattle.std.specs.Result.{IsOk}
-use Rattle.std.proofs.lemmas.Bool.{cond-false, ne_eqb, eqb-true, cases_Bool}
-use Rattle.std.proofs.lemmas.Bool.Decides.{nat_tests}
+use Rattle.std.proofs.lemmas.Bool.{cond-false, ne_eqb, cases_Bool}
 use Rattle.std.proofs.lemmas.List.{get_or-take, get_or_default}
 use Rattle.std.proofs.lemmas.List.Elements.{All-head, All-tail, All-from_recursion}
 use Rattle.cs_types.specs.declared.task.Task.{Task}
@@ -15,7 +14,7 @@ use Rattle.cs_types.specs.Scenario.{IsTask, AreDistinct}
 use Rattle.cs_types.specs.Room.{first_pid, asleep, inserted, asleep_tasks, has_pid}
 use Rattle.cs_types.proofs.Inserted.{each-inserted}
 use Rattle.cs_types.proofs.Tasks.{length-asleep_tasks, below_first_pid}
-use Rattle.task_table.specs.Table.{Table, RisesFrom, add_answer}
+use Rattle.task_table.specs.Table.{Table, add_answer}
 use Rattle.task_table.specs.declared.fault.AddFault.{AddFault}
 use Rattle.core_lanes.specs.Lanes.{IsFit}
 use Rattle.core_lanes.specs.Queued.{queued_among, queued_at, AreStamped}
@@ -57,9 +56,9 @@ find_none pid [] none = refl
 find_none pid (task ∷ tasks) none = cond-false (has_pid pid task) (Some task) (find (has_pid pid) tasks) none.0 ∙ find_none pid tasks none.1
 
 -- each task of a scenario can be added to those before it
-asleep_added : (specs : List TaskSpec) (limit i : ℕ) (d : TaskSpec) → AreDistinct specs → i < length specs → length specs ≤ limit →
-    add_answer (record { tasks = asleep_tasks (take i specs); limit = limit }) (get_or specs i d) ≡ Ok tt
-asleep_added specs limit i d distinct below few =
+asleep_added : (specs : List TaskSpec) (totals : List (ℕ × ℕ)) (limit i : ℕ) (d : TaskSpec) → AreDistinct specs → i < length specs → length specs ≤ limit →
+    add_answer (record { tasks = asleep_tasks (take i specs); totals = totals; limit = limit }) (get_or specs i d) ≡ Ok tt
+asleep_added specs totals limit i d distinct below few =
     let pid = (get_or specs i d).pid in
     let earlier : find (has_pid pid) (asleep_tasks (take i specs)) ≡ None =
     find_none pid (asleep_tasks (take i specs)) (added_all (λ task. has_pid pid task ≡ false) [] (take i specs) tt (λ k e lt.
@@ -74,49 +73,8 @@ pub added_ok : (table : Table) (specs : List TaskSpec) (limit i : ℕ) (d : Task
     table.tasks ≡ asleep_tasks (take i specs) → table.limit ≡ limit → answer ≡ add_answer table (get_or specs i d) →
     AreDistinct specs → i < length specs → length specs ≤ limit → IsOk answer
 added_ok table specs limit i d answer tasks same is distinct below few =
-    let now : table ≡ record { tasks = asleep_tasks (take i specs); limit = limit } = λ j. record { tasks = tasks j; limit = same j } in
-    subst IsOk (sym (is ∙ ap (λ (t : Table). add_answer t (get_or specs i d)) now ∙ asleep_added specs limit i d distinct below few)) refl
-
--- of tasks that rise by pid, a pid that one before a place has is below that of the one there
-pub earlier_is_below : (pid low place : ℕ) (d : Task) (tasks : List Task) → RisesFrom low tasks → place < length tasks →
-    list_any (has_pid pid) (take place tasks) ≡ true → pid < (get_or tasks place d).spec.pid
-earlier_is_below pid low place d [] rises below any = absurd (omega arith)
-earlier_is_below pid low zero d (first ∷ rest) rises below any = absurd cc
-earlier_is_below pid low (suc place) d (first ∷ rest) rises below any =
-    elim (cases_Bool (has_pid pid first)) [
-      | inl here ↦ omega (arith, eqb-true first.spec.pid pid here, at_least (first.spec.pid + 1) place d rest rises.1 (omega arith))
-      | inr other ↦
-          earlier_is_below pid (first.spec.pid + 1) place d rest rises.1 (omega arith)
-          (ap (λ b. b || list_any (has_pid pid) (take place rest)) (sym other) ∙ any)
-    ] where
-      at_least : (low place : ℕ) (d : Task) (tasks : List Task) → RisesFrom low tasks → place < length tasks → low ≤ (get_or tasks place d).spec.pid
-      at_least low place d [] rises below = absurd (omega arith)
-      at_least low zero d (first ∷ rest) rises below = rises.0
-      at_least low (suc place) d (first ∷ rest) rises below = omega (arith, rises.0, at_least (first.spec.pid + 1) place d rest rises.1 (omega arith))
-
--- ---- the totals
-
-pub run_test : (a b : ℕ) → eqb b a ≡ eqb a b
-run_test a b = grind (arith, nat_tests)
-
-pub any-push : {X : Type 0} (test : X → Bool) (xs : List X) (x : X) → list_any test (xs ++ x ∷ []) ≡ (list_any test xs || test x)
-any-push test [] x = or_false (test x) where
-  or_false : (b : Bool) → (b || false) ≡ b
-  or_false true = refl
-  or_false false = refl
-any-push test (y ∷ ys) x = ap (λ b. test y || b) (any-push test ys x) ∙ or_or (test y) (list_any test ys) (test x) where
-  or_or : (a b c : Bool) → (a || (b || c)) ≡ ((a || b) || c)
-  or_or true b c = refl
-  or_or false b c = refl
-
--- a pid that one of the tasks has is below what each of theirs is below
-pub any_below : (next pid : ℕ) (tasks : List Task) → All (λ task. IsGiven next task.spec.pid) tasks → list_any (has_pid pid) tasks ≡ true → pid < next
-any_below next pid [] all any = absurd cc
-any_below next pid (task ∷ tasks) all any =
-    elim (cases_Bool (has_pid pid task)) [
-      | inl here ↦ omega (arith, eqb-true task.spec.pid pid here, (All-head (λ (t : Task). IsGiven next t.spec.pid) task tasks all).1)
-      | inr other ↦ any_below next pid tasks (All-tail (λ (t : Task). IsGiven next t.spec.pid) task tasks all) (ap (λ b. b || list_any (has_pid pid) tasks) (sym other) ∙ any)
-    ]
+    let now : table ≡ record { tasks = asleep_tasks (take i specs); totals = table.totals; limit = limit } = λ j. record { tasks = tasks j; totals = table.totals; limit = same j } in
+    subst IsOk (sym (is ∙ ap (λ (t : Table). add_answer t (get_or specs i d)) now ∙ asleep_added specs table.totals limit i d distinct below few)) refl
 
 -- ---- the queues
 

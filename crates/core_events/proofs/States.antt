@@ -1,6 +1,6 @@
 -- States: what changes of the core and its table, and of what is beside them, are of the state.
-use Rattle.std.proofs.Common.{◌≡◌, ℕ, ◌+◌, ◌<◌, ◌^◌, List, [], ◌∷◌, map, refl, subst, sym, ap, ◌∙◌, arith}
-use Rattle.std.specs.Prelude.{All, IsTrue, sum_by}
+use Rattle.std.proofs.Common.{◌≡◌, ◌≢◌, ℕ, ◌+◌, ◌<◌, ◌^◌, List, [], ◌∷◌, map, refl, subst, sym, ap, ◌∙◌, arith}
+use Rattle.std.specs.Prelude.{All, sum_by}
 use Rattle.std.proofs.lemmas.List.Elements.{All-weaker, All-map}
 use Rattle.std.proofs.lemmas.List.{get_or-map, length-map}
 use Rattle.std.proofs.lemmas.List.Sums.{sum_by-cons}
@@ -16,11 +16,11 @@ use Rattle.task_table.specs.Table.{Table}
 use Rattle.core_lanes.specs.declared.queue.SiblingQueue.{Ghosts}
 use Rattle.core_lanes.specs.declared.lanes.Core.{Core}
 use Rattle.core_lanes.specs.Lanes.{HasLowTimes, lane_state}
-use Rattle.core_lanes.specs.Numbers.{numbers_of, booked, is_fresh_by}
+use Rattle.core_lanes.specs.Numbers.{booked, is_fresh_by}
 use Rattle.core_lanes.specs.Changes.{Kept, kept_of, identity_of, IsBooked}
 use Rattle.core_lanes.specs.Changes as core
 use Rattle.core_events.specs.declared.state.State.{State}
-use Rattle.core_events.specs.State.{both, room_with, IsGiven, StaysBut, IsOnTime}
+use Rattle.core_events.specs.State.{both, beside_of, room_with, state_numbers, IsGiven, IsGone, StaysBut, IsOnTime}
 use Rattle.core_events.specs.Steps.{numbers_after, MakesStep, Makes}
 
 -- ---- what stays
@@ -30,13 +30,12 @@ pub both_stay : {Q G : Type 0} {g : Ghosts Q} {held : ℕ} {old mid new : State 
 both_stay first second = record {
   sound = λ sound. second.sound (first.sound sound);
   siblings = second.siblings ∙ first.siblings;
-  places = second.places ∙ first.places;
   ends = second.ends ∙ first.ends;
 }
 
 -- and where nothing changes
 pub same_stays : {Q G : Type 0} {g : Ghosts Q} {held : ℕ} {state : State Q G g} → StaysBut held state state
-same_stays = record { sound = λ sound. sound; siblings = refl; places = refl; ends = refl }
+same_stays = record { sound = λ sound. sound; siblings = refl; ends = refl }
 
 -- what is said of the pids of tasks alone is kept with their identities
 pids_kept : (P : ℕ → Type 0) (old new : List Task) → map identity_of new ≡ map identity_of old → All (λ task. P task.spec.pid) old → All (λ task. P task.spec.pid) new
@@ -59,6 +58,13 @@ cookies_kept refs held old new same agree cookie =
     ∙ ap (λ n. n + references held cookie)
     (count_of cookie old ∙ ap (sum_by (λ (identity : ℕ × ℕ). references identity.1 cookie)) (sym same) ∙ sym (count_of cookie new))
 
+-- and those that ended are gone
+gone_kept : (next : ℕ) (old new : List Task) (ended : List (ℕ × ℕ)) → map identity_of new ≡ map identity_of old →
+    All (IsGone next old ended) ended → All (IsGone next new ended) ended
+gone_kept next old new ended same =
+    All-weaker (IsGone next old ended) (IsGone next new ended)
+    (λ task gone. record { given = gone.given; absent = pids_kept (λ pid. pid ≢ task.0) old new same gone.absent; alone = gone.alone }) ended
+
 -- What a change of the core and its table keeps, the state keeps.
 pub lifted : {Q G : Type 0} {g : Ghosts Q} {held : ℕ} (state : State Q G g) (new : Core Q g × Table) → core.Stays (both state) new →
     StaysBut held state (record state { core = new.0; tasks = new.1 })
@@ -71,11 +77,10 @@ lifted {Q} {g} {held} state new stays =
         limit = ap (λ (k : Kept). k.limit) kept ∙ sound.limit;
         user_top = sound.user_top;
         pids = pids_kept (IsGiven state.next_pid) state.tasks.tasks new.1.tasks same sound.pids;
-        low_pids = λ pid has. sound.low_pids pid (subst (λ b. IsTrue b) (ap (λ (k : Kept). k.known pid) kept) has);
+        ended = gone_kept state.next_pid state.tasks.tasks new.1.tasks state.ended.items same sound.ended;
         refs = cookies_kept state.refs held state.tasks.tasks new.1.tasks same sound.refs;
       };
       siblings = ap (λ (k : Kept). k.siblings) kept;
-      places = ap (λ (k : Kept). k.spare + state.next_pid) kept;
       ends = refl;
     }
 
@@ -106,7 +111,7 @@ stands intervals state room is = subst (λ (r : RoomState). room_with r.interval
 pub record MakesUncharged {Q G : Type 0} {g : Ghosts Q} (intervals : List Interval) (old new : State Q G g) (event : Event) (answer : Reply) (made : Stepped) : Type 0 where
   pub reply : answer ≡ made.reply
   pub room : room_with intervals new ≡ made.room
-  pub numbers : numbers_of new.core ≡ numbers_after (room_with intervals old) event answer (numbers_of old.core)
+  pub numbers : state_numbers new ≡ numbers_after (room_with intervals old) event answer (state_numbers old)
 
 pub uncharged : {Q G : Type 0} {g : Ghosts Q} {intervals : List Interval} {old new : State Q G g} {event : Event} {answer : Reply} {made : Stepped} →
     MakesUncharged intervals old new event answer made → MakesStep intervals old new event answer made
@@ -115,15 +120,15 @@ uncharged {Q} {g} {intervals} {old} {new} {event} {answer} {made} is =
       reply = is.reply;
       room = stands intervals new made.room is.room;
       numbers = λ kept. is.numbers
-          ∙ ap (numbers_after (room_with intervals old) event answer) (kept ∙ ap (λ (room : RoomState). booked room (numbers_of old.core)) is.room);
+          ∙ ap (numbers_after (room_with intervals old) event answer) (kept ∙ ap (λ (room : RoomState). booked room (state_numbers old)) is.room);
     }
 
 -- what a step makes that charges, and then leaves the intervals as they are
 pub record MakesOnceCharged {Q G : Type 0} {g : Ghosts Q} (intervals : List Interval) (old new : State Q G g) (event : Event) (answer : Reply) (made : Stepped) : Type 0 where
   pub reply : answer ≡ made.reply
   pub room : room_with (charge (room_with intervals old)).intervals new ≡ made.room
-  pub numbers : IsBooked (room_with intervals old) old.core →
-      numbers_of new.core ≡ numbers_after (room_with intervals old) event answer (booked (charge (room_with intervals old)) (numbers_of old.core))
+  pub numbers : IsBooked (beside_of intervals old) (both old) →
+      state_numbers new ≡ numbers_after (room_with intervals old) event answer (booked (charge (room_with intervals old)) (state_numbers old))
 
 pub once_charged : {Q G : Type 0} {g : Ghosts Q} {intervals : List Interval} {old new : State Q G g} {event : Event} {answer : Reply} {made : Stepped} →
     MakesOnceCharged intervals old new event answer made → MakesStep intervals old new event answer made
@@ -132,13 +137,13 @@ once_charged {Q} {g} {intervals} {old} {new} {event} {answer} {made} is =
       reply = is.reply;
       room = stands (charge (room_with intervals old)).intervals new made.room is.room;
       numbers = λ kept. is.numbers kept
-          ∙ ap (λ (room : RoomState). numbers_after (room_with intervals old) event answer (booked room (numbers_of old.core))) is.room;
+          ∙ ap (λ (room : RoomState). numbers_after (room_with intervals old) event answer (booked room (state_numbers old))) is.room;
     }
 
 -- An event that changes nothing, and is to change nothing, makes its step.
 pub leaves_all : {Q G : Type 0} {g : Ghosts Q} (state : State Q G g) (event : Event) (answer : Reply) →
-    ((intervals : List Interval) → numbers_of state.core ≡ numbers_after (room_with intervals state) event answer (numbers_of state.core)) →
-    ((intervals : List Interval) → record { reply = answer; room = room_with intervals state } ≡ step (room_with intervals state) (is_fresh_by (numbers_of state.core)) event) →
+    ((intervals : List Interval) → state_numbers state ≡ numbers_after (room_with intervals state) event answer (state_numbers state)) →
+    ((intervals : List Interval) → record { reply = answer; room = room_with intervals state } ≡ step (room_with intervals state) (is_fresh_by (state_numbers state)) event) →
     Makes state state event answer
 leaves_all state event answer numbers made = record {
   step = λ intervals. uncharged (record {

@@ -1,24 +1,26 @@
 -- Views: what the machine shows of its state is what the fold of its entries shows.
-use Rattle.std.proofs.Common.{◌≡◌, ℕ, ◌<◌, true, false, List, refl, length, get_or, ltb, sym, ap, ◌∙◌, arith, Option, Some, None, Bor, is_some}
-use Rattle.std.specs.Prelude.{IfSome, unwrap_or, option_copied, slice_get}
+use Rattle.std.proofs.Common.{◌+◌, zero, suc, [], ◌∷◌, map, ◌≡◌, ℕ, ◌<◌, true, false, List, refl, length, get_or, ltb, sym, ap, ◌∙◌, arith, Option, Some, None, Bor, is_some}
+use Rattle.std.specs.Prelude.{All, find, IfSome, unwrap_or, option_copied, slice_get}
 use Rattle.std.specs.Option.{option_map}
+use Rattle.std.proofs.lemmas.List.Elements.{All-head, All-tail, All-weaker}
+use Rattle.cs_types.specs.declared.view.EndView.{EndView}
+use Rattle.task_table.specs.Table.{total_among, total_in}
+use Rattle.core_events.proofs.Lives.{unused, total-living}
 use Rattle.std.proofs.lemmas.List.{length-map, get_or-map}
 use Rattle.std.proofs.lemmas.List.FromFn.{get_or-map-range_with_len}
 use Rattle.std.proofs.lemmas.Option.{slice_get_past, slice_get_read}
 use Rattle.std.proofs.lemmas.Bool.{cond-true, cond-false, ltb-true, ltb-false}
-use Rattle.cs_types.specs.declared.scenario.Scenario.{Scenario}
 use Rattle.cs_types.specs.declared.view.CpuView.{CpuView}
-use Rattle.cs_types.specs.Room.{Opening, RoomState, SiblingState, sibling_of}
+use Rattle.cs_types.specs.Room.{Opening, RoomState, SiblingState, has_pid, sibling_of}
 use Rattle.cs_types.specs.Touches.{own_number}
-use Rattle.cs_types.specs.View.{cpu_view, task_after, task_view, forced_of}
-use Rattle.forceidle_account.specs.Charges.{total_at}
+use Rattle.cs_types.specs.View.{cpu_view, end_view, task_after, task_view, forced_of}
 use Rattle.cs_types.specs.History.{History, moment_of, fold_of, ledger_of}
 use Rattle.core_lanes.specs.declared.queue.SiblingQueue.{Ghosts}
 use Rattle.core_lanes.specs.declared.lane.Lane.{Lane}
 use Rattle.core_lanes.specs.Lanes.{lane_state, lane_view}
 use Rattle.core_lanes.specs.Numbers.{Numbers}
 use Rattle.core_lanes.proofs.Stays.{lane_at}
-use Rattle.core_events.specs.State.{room_with}
+use Rattle.core_events.specs.State.{room_with, IsSound, IsGone}
 use Rattle.core_events.specs.declared.state.State.{State}
 use Rattle.cs_types.specs.declared.task.Task.{Task}
 use Rattle.core_events.proofs.Machines.{Folds}
@@ -38,10 +40,44 @@ pub task_shown : {Q G : Type 0} {g : Ghosts Q} (opening : Opening) (state : Stat
 task_shown opening state entries pid task folds found =
     ap (option_map (task_view (fold_of opening entries))) (found ∙ ap (λ (room : RoomState). task_after room pid) folds.fold)
 
--- what a task was charged is kept as the history has it
+-- what a task was charged is kept as the history has it, in the table or among those that ended
 pub total_kept : {Q G : Type 0} {g : Ghosts Q} (opening : Opening) (state : State Q G g) (entries : History) (pid : ℕ) → Folds opening state entries →
-    total_at state.core.totals pid ≡ forced_of (fold_of opening entries) pid
+    total_in state.tasks pid + total_among state.ended.items pid ≡ forced_of (fold_of opening entries) pid
 total_kept opening state entries pid folds = ap (λ (numbers : Numbers). numbers.totals pid) folds.numbers
+
+-- a living task's in the table
+pub living_total : {Q G : Type 0} {g : Ghosts Q} (opening : Opening) (state : State Q G g) (entries : History) (pid : ℕ) (task : Task) → Folds opening state entries → IsSound state →
+    find (has_pid pid) state.tasks.tasks ≡ Some task → total_in state.tasks pid ≡ forced_of (fold_of opening entries) pid
+living_total opening state entries pid task folds sound there =
+    omega (arith, total_kept opening state entries pid folds, total-living state.next_pid pid state.tasks.tasks task state.ended.items state.ended.items there sound.ended)
+
+-- and that of each that ended among those
+ended_total : {Q G : Type 0} {g : Ghosts Q} (opening : Opening) (state : State Q G g) (entries : History) (one : ℕ × ℕ) → Folds opening state entries → IsSound state →
+    IsGone state.next_pid state.tasks.tasks state.ended.items one → one.1 ≡ forced_of (fold_of opening entries) one.0
+ended_total opening state entries one folds sound gone =
+    omega (arith, total_kept opening state entries one.0 folds, sound.agree.table.known one.0 (unused one.0 state.tasks.tasks gone.absent), gone.alone)
+
+-- ---- the tasks that ended
+
+-- what the machine shows of one
+abbrev pub shown_end : ℕ × ℕ → EndView
+shown_end one = record { pid = one.0; forced = one.1 }
+
+shown_at : (room : RoomState) (ended : List (ℕ × ℕ)) (place : ℕ) → All (λ one. shown_end one ≡ end_view room one.0) ended →
+    option_map shown_end (slice_get ended place) ≡ option_map (end_view room) (slice_get (map (λ one. one.0) ended) place)
+shown_at room [] place same = refl
+shown_at room (one ∷ ended) zero same = ap Some (All-head (λ one. shown_end one ≡ end_view room one.0) one ended same)
+shown_at room (one ∷ ended) (suc place) same = shown_at room ended place (All-tail (λ one. shown_end one ≡ end_view room one.0) one ended same)
+
+-- one that is at a place of the state is shown as the fold shows it
+pub ended_shown : {Q G : Type 0} {g : Ghosts Q} (opening : Opening) (state : State Q G g) (entries : History) (place : ℕ) → Folds opening state entries → IsSound state →
+    option_map shown_end (slice_get state.ended.items place) ≡ option_map (end_view (fold_of opening entries)) (slice_get (fold_of opening entries).ended place)
+ended_shown opening state entries place folds sound =
+    let room = fold_of opening entries in
+    shown_at room state.ended.items place
+    (All-weaker (IsGone state.next_pid state.tasks.tasks state.ended.items) (λ one. shown_end one ≡ end_view room one.0)
+    (λ one gone i. record { pid = one.0; forced = ended_total opening state entries one folds sound gone i }) state.ended.items sound.ended)
+    ∙ ap (λ (r : RoomState). option_map (end_view room) (slice_get r.ended place)) folds.fold
 
 -- ---- a sibling
 

@@ -6,9 +6,9 @@ use Rattle.cs_types.specs.Selection.{is_run}
 use Rattle.cs_types.specs.Prctl.{Setting, set_cookies}
 use Rattle.cs_types.specs.Touches.{setting_touches}
 use Rattle.core_lanes.specs.declared.queue.SiblingQueue.{Ghosts}
-use Rattle.core_lanes.specs.Numbers.{numbers_of, touched}
+use Rattle.core_lanes.specs.Numbers.{touched}
 use Rattle.core_events.specs.declared.state.State.{State}
-use Rattle.core_events.specs.State.{StaysBut}
+use Rattle.core_events.specs.State.{state_numbers, StaysBut}
 use Rattle.core_events.specs.Steps.{Becomes}
 
 -- these tasks get the cookie
@@ -22,5 +22,5 @@ flagged_for pid sibling = record sibling { pending = sibling.pending || is_run s
 -- the new state is the old one once these tasks got the cookie
 pub record SetsCookies {Q G : Type 0} {g : Ghosts Q} (old new : State Q G g) (tasks : List Task) (cookie : ℕ) : Type 0 where
   pub room : Becomes old new (λ room. set_cookies room (setting tasks cookie))
-  pub numbers : numbers_of new.core ≡ touched (setting_touches (setting tasks cookie)) (numbers_of old.core)
+  pub numbers : state_numbers new ≡ touched (setting_touches (setting tasks cookie)) (state_numbers old)
   pub stays : StaysBut cookie old new

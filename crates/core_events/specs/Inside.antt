@@ -4,11 +4,10 @@ use Rattle.cs_types.specs.declared.event.Step.{Step}
 use Rattle.cs_types.specs.declared.reply.Entry.{Entry}
 use Rattle.cs_types.specs.declared.scenario.Scenario.{Scenario}
 use Rattle.cs_types.specs.Scenario.{IsPlayable}
-use Rattle.cs_types.specs.Room.{Opening, first_pid}
+use Rattle.cs_types.specs.Room.{Opening}
 use Rattle.cs_types.specs.History.{AreEvents, moment_of, fold_of, history_of}
 use Rattle.core_lanes.specs.declared.queue.SiblingQueue.{Ghosts}
-use Rattle.core_lanes.specs.Numbers.{numbers_of}
-use Rattle.core_events.specs.State.{room_with, IsSound}
+use Rattle.core_events.specs.State.{room_with, state_numbers, IsSound}
 use Rattle.core_events.specs.Steps.{numbers_at}
 use Rattle.core_events.specs.Machine.{Machine}
 use Rattle.core_events.specs.declared.room.CoreRoom.TheInside.{Inside}
@@ -39,12 +38,11 @@ pub record IsFold {Q G : Type 0} {g : Ghosts Q} (room : Inside Q G g) : Type 0 w
   pub events : AreEvents (opening_of room) room.entries.items
   pub history : room.entries.items ≡ history_of (opening_of room) (steps_of room.entries.items)
   pub fold : room_with (fold_of (opening_of room) room.entries.items).intervals room.state ≡ fold_of (opening_of room) room.entries.items
-  pub numbers : numbers_of room.state.core ≡ numbers_at (opening_of room) (moment_of (opening_of room) room.entries.items)
+  pub numbers : state_numbers room.state ≡ numbers_at (opening_of room) (moment_of (opening_of room) room.entries.items)
   pub sound : IsSound room.state
   pub siblings : length room.state.core.lanes.items ≡ room.scenario.siblings
   -- no advance is above one second
   pub slow : room.state.clock ≤ 1000000000 * vec_len room.entries
-  -- so no stamp, cookie, number or time overflows, each child has a place for its total, and no task that ends takes memory
+  -- so no stamp, cookie, number or time overflows, and no task that ends takes memory
   pub few_entries : vec_capacity room.entries ≤ most_entries room.scenario
-  pub places : room.state.core.totals.spare + room.state.next_pid ≡ most_entries room.scenario + first_pid room.scenario.tasks
   pub ends : vec_capacity room.state.ended ≡ most_entries room.scenario

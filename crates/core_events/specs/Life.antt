@@ -8,10 +8,9 @@ use Rattle.fork_inherit.specs.declared.forking.ForkFault.{ForkFault}
 use Rattle.fork_inherit.specs.declared.forking.ForkFault.TheVariants.{NoCaller, Eagain}
 use Rattle.task_table.specs.Table.{Table}
 use Rattle.core_lanes.specs.declared.queue.SiblingQueue.{Ghosts}
-use Rattle.core_lanes.specs.Numbers.{numbers_of}
 use Rattle.core_lanes.specs.Queued.{IsOf}
 use Rattle.core_events.specs.declared.state.State.{State}
-use Rattle.core_events.specs.State.{Stays}
+use Rattle.core_events.specs.State.{state_numbers, Stays}
 use Rattle.core_events.specs.Steps.{Becomes}
 
 -- whether a fork by the task is refused
@@ -24,7 +23,7 @@ pub record IsBorn {Q G : Type 0} {g : Ghosts Q} (old new : State Q G g) (by : Ta
   pub is : child ≡ child_of by thread old.next_pid
   pub there : IsOf new.tasks.tasks child
   pub room : Becomes old new (λ room. with_child room child)
-  pub numbers : numbers_of new.core ≡ numbers_of old.core
+  pub numbers : state_numbers new ≡ state_numbers old
   pub stays : Stays old new
 
 -- a child of the task with the pid was made, or none, and then nothing changed

@@ -12,11 +12,11 @@ use Rattle.core_lanes.specs.Changes.{Stays}
 -- the new room is the old one after this change at this moment, where the queues were touched this number of times
 pub record TouchesAt {Q : Type 0} {g : Ghosts Q} (now count : ℕ) (old new : Core Q g × Table) (change : RoomState → RoomState) : Type 0 where
   pub room : (beside : Beside) → room_of (at now beside) new ≡ change (room_of (at now beside) old)
-  pub numbers : numbers_of new.0 ≡ touched count (numbers_of old.0)
+  pub numbers : numbers_of new ≡ touched count (numbers_of old)
   pub stays : Stays old new
 
 -- the new room is the old one once the clock went on from this moment by delta ns, with the same numbers
 pub record Advances {Q : Type 0} {g : Ghosts Q} (now delta : ℕ) (old new : Core Q g × Table) : Type 0 where
   pub room : (beside : Beside) → room_of (at (now + delta) beside) new ≡ advanced (room_of (at now beside) old) delta
-  pub numbers : numbers_of new.0 ≡ numbers_of old.0
+  pub numbers : numbers_of new ≡ numbers_of old
   pub stays : Stays old new

@@ -1,14 +1,15 @@
 -- State: the room that a state stands for, what always holds of it, and what an event asks of it.
-use Rattle.std.specs.Prelude.{◌≡◌, ℕ, ◌+◌, ◌*◌, ◌^◌, ◌<◌, List, length, All, IsTrue, vec_len, vec_capacity}
+use Rattle.std.specs.Prelude.{◌≡◌, ◌≢◌, ℕ, ◌+◌, ◌*◌, ◌^◌, ◌<◌, List, length, All, vec_len, vec_capacity}
 use Rattle.cs_types.specs.Scenario.{IsWithin}
+use Rattle.cs_types.specs.declared.task.Task.{Task}
 use Rattle.cs_types.specs.Room.{RoomState, Interval}
 use Rattle.cs_types.proofs.Timely.{IsTimely}
 use Rattle.cookie_refs.specs.Refs.{AgreeBut}
-use Rattle.forceidle_account.specs.Charges.{has_total}
-use Rattle.task_table.specs.Table.{Table}
+use Rattle.task_table.specs.Table.{Table, total_among}
 use Rattle.core_lanes.specs.declared.queue.SiblingQueue.{Ghosts}
 use Rattle.core_lanes.specs.declared.lanes.Core.{Core}
 use Rattle.core_lanes.specs.Lanes.{Beside, room_of, Agree}
+use Rattle.core_lanes.specs.Numbers.{Numbers, numbers_of, with_ended}
 use Rattle.core_pick.specs.Schedules.{IsPaid}
 use Rattle.core_events.specs.declared.state.State.{State}
 
@@ -36,32 +37,41 @@ beside_of intervals state =
 abbrev pub room_with : {Q G : Type 0} {g : Ghosts Q} → List Interval → State Q G g → RoomState
 room_with intervals state = room_of (beside_of intervals state) (both state)
 
+-- its numbers, with what the tasks that ended were charged
+abbrev pub state_numbers : {Q G : Type 0} {g : Ghosts Q} → State Q G g → Numbers
+state_numbers state = with_ended state.ended.items (numbers_of (both state))
+
 -- ---- what holds of it
 
 -- the pid is one that was given
 abbrev pub IsGiven : ℕ → ℕ → Type 0
 IsGiven next pid = (0 < pid) × (pid < next)
 
--- What always holds of a state: its core and its table agree; each task's pid was given, and so was each that has a total; and
--- the references are those of the tasks, and one more for a cookie that is held beside them.
+-- a task that ended, beside what it was charged: its pid was given, no living task has it, and of those that ended no other
+-- was charged by it
+pub record IsGone (next : ℕ) (tasks : List Task) (ended : List (ℕ × ℕ)) (task : ℕ × ℕ) : Type 0 where
+  pub given : task.0 < next
+  pub absent : All (λ living. living.spec.pid ≢ task.0) tasks
+  pub alone : total_among ended task.0 ≡ task.1
+
+-- What always holds of a state: its core and its table agree; each task's pid was given; the tasks that ended are gone; and the
+-- references are those of the tasks, and one more for a cookie that is held beside them.
 pub record IsSoundBut {Q G : Type 0} {g : Ghosts Q} (state : State Q G g) (held : ℕ) : Type 0 where
   pub agree : Agree (both state)
   pub limit : state.tasks.limit ≡ state.task_limit
   pub user_top : IsWithin 8192 9223372036854775807 state.user_top
   pub pids : All (λ task. IsGiven state.next_pid task.spec.pid) state.tasks.tasks
-  pub low_pids : (pid : ℕ) → IsTrue (has_total state.core.totals pid) → pid < state.next_pid
+  pub ended : All (IsGone state.next_pid state.tasks.tasks state.ended.items) state.ended.items
   pub refs : AgreeBut state.refs state.tasks.tasks held
 
 -- the same with no cookie held beside them
 abbrev pub IsSound : {Q G : Type 0} {g : Ghosts Q} → State Q G g → Type 0
 IsSound state = IsSoundBut state 0
 
--- The state stays sound, and keeps the number of its siblings, what the next pid and the places left for totals come to, and how
--- many tasks may end.
+-- The state stays sound, and keeps the number of its siblings, and how many tasks may end.
 pub record StaysBut {Q G : Type 0} {g : Ghosts Q} (held : ℕ) (old new : State Q G g) : Type 0 where
   pub sound : IsSoundBut old held → IsSoundBut new held
   pub siblings : length new.core.lanes.items ≡ length old.core.lanes.items
-  pub places : new.core.totals.spare + new.next_pid ≡ old.core.totals.spare + old.next_pid
   pub ends : vec_capacity new.ended ≡ vec_capacity old.ended
 
 abbrev pub Stays : {Q G : Type 0} {g : Ghosts Q} → State Q G g → State Q G g → Type 0
@@ -77,14 +87,13 @@ pub record IsOnTime {Q G : Type 0} {g : Ghosts Q} (state : State Q G g) : Type 0
   pub timely : (intervals : List Interval) → IsTimely entries (room_with intervals state)
   pub clock : state.clock + 1000000000 < 2 ^ 56
 
--- what an event may use up: touches, stamps, a cookie's serial, a pid, a place for a total and one among the ended, a balance
--- place, and of each guard's count
+-- what an event may use up: touches, stamps, a cookie's serial, a pid, a place among the ended, a balance place, and of each
+-- guard's count
 pub record HasSpares {Q G : Type 0} {g : Ghosts Q} (state : State Q G g) : Type 0 where
   pub touches : state.core.task_number + 2 * length state.tasks.tasks + 2 < 2 ^ 64
   pub stamps : state.core.next_stamp + length state.tasks.tasks + 1 < 2 ^ 64
   pub serial : state.refs.next < 2 ^ 63
   pub pid : state.next_pid + 1 < 2 ^ 32
-  pub total : 0 < state.core.totals.spare
   pub ended : vec_len state.ended < vec_capacity state.ended
   pub places : All (λ lane. lane.place + 1 < 2 ^ 32) state.core.lanes.items
   pub asked : All (λ guard. guard.asked < 2 ^ 62) state.guards.guards.all
@@ -93,5 +102,5 @@ pub record HasSpares {Q G : Type 0} {g : Ghosts Q} (state : State Q G g) : Type 
 pub record IsReady {Q G : Type 0} {g : Ghosts Q} (state : State Q G g) : Type 0 where
   pub sound : IsSound state
   pub time : IsOnTime state
-  pub paid : IsPaid state.clock state.core
+  pub paid : IsPaid state.clock (both state)
   pub spares : HasSpares state

@@ -11,10 +11,10 @@ use Rattle.cs_types.specs.Step.{Stepped, step}
 use Rattle.cs_types.specs.Accounting.{total_of}
 use Rattle.cs_types.specs.History.{Moment}
 use Rattle.core_lanes.specs.declared.queue.SiblingQueue.{Ghosts}
-use Rattle.core_lanes.specs.Numbers.{Numbers, numbers_of, booked, is_fresh_by, touched}
+use Rattle.core_lanes.specs.Numbers.{Numbers, booked, is_fresh_by, touched}
 use Rattle.core_lanes.specs.Changes.{IsBooked}
 use Rattle.core_events.specs.declared.state.State.{State}
-use Rattle.core_events.specs.State.{room_with, Stays}
+use Rattle.core_events.specs.State.{both, beside_of, room_with, state_numbers, Stays}
 
 -- ---- the numbers
 
@@ -52,7 +52,7 @@ Becomes old new change = (intervals : List Interval) → room_with intervals new
 -- the same where it touched the queues this number of times
 pub record Touches {Q G : Type 0} {g : Ghosts Q} (count : ℕ) (old new : State Q G g) (change : RoomState → RoomState) : Type 0 where
   pub room : Becomes old new change
-  pub numbers : numbers_of new.core ≡ touched count (numbers_of old.core)
+  pub numbers : state_numbers new ≡ touched count (state_numbers old)
   pub stays : Stays old new
 
 -- ---- steps
@@ -61,13 +61,13 @@ pub record Touches {Q G : Type 0} {g : Ghosts Q} (count : ℕ) (old new : State 
 pub record MakesStep {Q G : Type 0} {g : Ghosts Q} (intervals : List Interval) (old new : State Q G g) (event : Event) (answer : Reply) (made : Stepped) : Type 0 where
   pub reply : answer ≡ made.reply
   pub room : room_with made.room.intervals new ≡ made.room
-  pub numbers : IsBooked (room_with intervals old) old.core →
-      numbers_of new.core ≡ numbers_after (room_with intervals old) event answer (booked made.room (numbers_of old.core))
+  pub numbers : IsBooked (beside_of intervals old) (both old) →
+      state_numbers new ≡ numbers_after (room_with intervals old) event answer (booked made.room (state_numbers old))
 
 -- those of the event's step from the old one
 abbrev pub MakesWith : {Q G : Type 0} {g : Ghosts Q} → List Interval → State Q G g → State Q G g → Event → Reply → Type 0
 MakesWith intervals old new event answer =
-    MakesStep intervals old new event answer (step (room_with intervals old) (is_fresh_by (numbers_of old.core)) event)
+    MakesStep intervals old new event answer (step (room_with intervals old) (is_fresh_by (state_numbers old)) event)
 
 -- whatever was recorded before
 pub record Makes {Q G : Type 0} {g : Ghosts Q} (old new : State Q G g) (event : Event) (answer : Reply) : Type 0 where

@@ -34,7 +34,7 @@ fn lowest_pending<Q: SiblingQueue>(core: &Core<Q>, has_waiting: bool) -> Option<
 /// Who schedules next at the end of a run: the lowest pending sibling whose schedule would be an
 /// adoption, and where there is none, the lowest pending one.
 pub fn next_to_schedule<Q: SiblingQueue>(core: &Core<Q>) -> Option<Cpu>
-    ensures { (beside : Beside) (table : Table) → result ≡ next_by (room_of beside (core.now, table)) (is_fresh_by (numbers_of core.now)) }
+    ensures { (beside : Beside) (table : Table) → result ≡ next_by (room_of beside (core.now, table)) (is_fresh_by (numbers_of (core.now, table))) }
 {
     if core.is_fresh() {
         lowest_pending(core, true).or(lowest_pending(core, false))

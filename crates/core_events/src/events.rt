@@ -140,7 +140,7 @@ impl<Q: SiblingQueue, G: Guard> State<Q, G> {
         let Some(task) = self.core.running_on(&self.tasks, cpu) else {
             return Reply::Idle;
         };
-        charge(&mut self.core, &self.tasks, self.clock);
+        charge(&mut self.core, &mut self.tasks, self.clock);
         self.core.dequeue(&mut self.tasks, task, steps);
         self.core.run_idle(cpu);
         Reply::Slept {
@@ -165,7 +165,7 @@ impl<Q: SiblingQueue, G: Guard> State<Q, G> {
         if has_threads(&self.tasks, &task) {
             return Reply::HasThreads;
         }
-        charge(&mut self.core, &self.tasks, self.clock);
+        charge(&mut self.core, &mut self.tasks, self.clock);
         self.end(task, steps);
         self.core.run_idle(cpu);
         Reply::Ended {

@@ -16,7 +16,7 @@ use fork_inherit::{ForkFault, end, fork};
 use std::sync::ledger::Ledger;
 
 impl<Q: SiblingQueue, G: Guard> State<Q, G> {
-    /// The task is no longer among the living, and is the last of the ended.
+    /// The task is no longer among the living, and is the last of the ended, with what it was charged.
     pub fn end<L: Ledger>(&mut self, task: Task, steps: &mut Steps<L>)
         requires there { IsOf self.old.tasks.tasks task }
         requires sound { IsSound self.old }
@@ -26,15 +26,14 @@ impl<Q: SiblingQueue, G: Guard> State<Q, G> {
         ensures { Touches 1 self.old self.new (λ room. without room task) }
     {
         self.core.dequeue(&mut self.tasks, task, steps);
-        end(&mut self.tasks, &mut self.refs, task.spec.pid).unwrap();
-        self.ended.push_reserved(task.spec.pid);
+        let (_, forced) = end(&mut self.tasks, &mut self.refs, task.spec.pid).unwrap();
+        self.ended.push_reserved((task.spec.pid, forced));
     }
 
     /// A child of the caller is among the living, asleep at home.
     pub fn make_child(&mut self, caller: Pid, thread: bool) -> Result<Task, ForkFault>
         requires sound { IsSound self.old }
         requires pid { self.old.next_pid + 1 < 2 ^ 32 }
-        requires total { 0 < self.old.core.totals.spare }
         ensures { MakesChild self.old self.new caller thread result }
     {
         let child = self.next_pid;
@@ -46,7 +45,6 @@ impl<Q: SiblingQueue, G: Guard> State<Q, G> {
             thread,
             child,
         )?;
-        self.core.totals.add(child);
         self.next_pid += 1;
         Ok(task_of(&self.tasks, child).unwrap())
     }

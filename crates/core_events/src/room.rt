@@ -221,15 +221,12 @@ impl<Q: SiblingQueue, G: Guard> Room for CoreRoom<Q, G> {
 
     fn task_after(&self, pid: Pid) -> Option<TaskView> {
         let task = task_after(&self.state, pid)?;
-        Some(view(&task, self.state.core.totals.of(task.spec.pid)))
+        Some(view(&task, self.state.tasks.forced(task.spec.pid)))
     }
 
     fn ended(&self, place: u64) -> Option<EndView> {
-        let pid = *self.state.ended.get(place as usize)?;
-        Some(EndView {
-            pid,
-            forced: self.state.core.totals.of(pid),
-        })
+        let (pid, forced) = *self.state.ended.get(place as usize)?;
+        Some(EndView { pid, forced })
     }
 
     fn guard(&self, index: u8) -> Option<GuardView> {

@@ -1,16 +1,13 @@
 //! What a state begins with. It is apart since nothing of it is asked later.
 
-ghost use Rattle.std.specs.Prelude.{ℕ, true, ◌≡◌, ◌^◌, ◌<◌, ◌≤◌, length, All, IfOk, IsTrue};
-ghost use Rattle.std.specs.List.{list_any};
+ghost use Rattle.std.specs.Prelude.{ℕ, ◌≡◌, ◌≤◌, length, All, IfOk};
 ghost use Rattle.cs_types.specs.Scenario.{AreDistinct, IsPlayable};
-ghost use Rattle.cs_types.specs.Room.{first_pid, asleep_tasks, has_pid};
-ghost use Rattle.forceidle_account.specs.Charges.{has_total, total_at};
-ghost use Rattle.task_table.specs.Table.{IsSound as IsTable};
+ghost use Rattle.cs_types.specs.Room.{first_pid, asleep_tasks};
+ghost use Rattle.task_table.specs.Table.{total_in, IsSound as IsTable};
 ghost use Rattle.core_lanes.specs.Lanes.{bare, bare_start, Agree};
 
 use core_lanes::{Core, SiblingQueue};
 use cs_types::{OutOfMemory, Pid, Scenario, TaskSpec};
-use forceidle_account::Totals;
 use std::alloc::Global;
 use task_table::TaskTable;
 
@@ -29,6 +26,7 @@ pub fn asleep_tasks(alloc: Global, limit: u16, specs: &[TaskSpec]) -> Result<Tas
     ensures tasks { IfOk result (λ table. table.tasks ≡ asleep_tasks specs.now) }
     ensures sound { IfOk result IsTable }
     ensures limit { IfOk result (λ table. table.limit ≡ limit) }
+    ensures totals { IfOk result (λ table. (pid : ℕ) → total_in table pid ≡ 0) }
 {
     let mut tasks = TaskTable::with_limit(alloc, limit)?;
     for spec in specs {
@@ -37,38 +35,18 @@ pub fn asleep_tasks(alloc: Global, limit: u16, specs: &[TaskSpec]) -> Result<Tas
     Ok(tasks)
 }
 
-/// A total of 0 for each task of the table, and capacity for `more` others.
-pub fn totals_of(alloc: Global, tasks: &TaskTable, more: usize) -> Result<Totals, OutOfMemory>
-    requires { more < 2 ^ 32 }
-    ensures known { IfOk result (λ totals. All (λ task. IsTrue (has_total totals task.spec.pid)) tasks.now.tasks) }
-    ensures only { IfOk result (λ totals. (pid : ℕ) → IsTrue (has_total totals pid) → list_any (has_pid pid) tasks.now.tasks ≡ true) }
-    ensures zero { IfOk result (λ totals. (pid : ℕ) → total_at totals pid ≡ 0) }
-    ensures spare { IfOk result (λ totals. totals.spare ≡ more) }
-{
-    let mut totals = Totals::with_capacity(alloc, tasks.len() as usize + more)?;
-    for position in 0..tasks.len() as usize {
-        totals.add(tasks.at(position).unwrap().spec.pid);
-    }
-    Ok(totals)
-}
-
-/// The core and its tasks before the first step, with a total of 0 for each task, and capacity for `more` other totals.
+/// The core and its tasks before the first step.
 pub fn core_and_tasks<Q: SiblingQueue>(
     alloc: Global,
     scenario: &Scenario,
-    more: usize,
 ) -> Result<(Core<Q>, TaskTable), OutOfMemory>
-    requires playable { IsPlayable scenario.now }
-    requires more { more < 2 ^ 32 }
-    ensures core { IfOk result (λ both. bare both.0 ≡ bare_start scenario.now.siblings both.0.totals) }
-    ensures tasks { IfOk result (λ both. both.1 ≡ record { tasks = asleep_tasks scenario.now.tasks; limit = scenario.now.task_limit }) }
+    requires { IsPlayable scenario.now }
+    ensures core { IfOk result (λ both. bare both.0 ≡ bare_start scenario.now.siblings) }
+    ensures tasks { IfOk result (λ both. both.1 ≡ record { tasks = asleep_tasks scenario.now.tasks; totals = both.1.totals; limit = scenario.now.task_limit }) }
+    ensures totals { IfOk result (λ both. (pid : ℕ) → total_in both.1 pid ≡ 0) }
     ensures agree { IfOk result (λ both. Agree both) }
-    ensures only { IfOk result (λ both. (pid : ℕ) → IsTrue (has_total both.0.totals pid) → list_any (has_pid pid) both.1.tasks ≡ true) }
-    ensures zero { IfOk result (λ both. (pid : ℕ) → total_at both.0.totals pid ≡ 0) }
-    ensures spare { IfOk result (λ both. both.0.totals.spare ≡ more) }
 {
     let tasks = asleep_tasks(alloc, scenario.task_limit, scenario.tasks.items())?;
-    let totals = totals_of(alloc, &tasks, more)?;
-    let core = Core::of(alloc, scenario.siblings, scenario.task_limit, totals)?;
+    let core = Core::of(alloc, scenario.siblings, scenario.task_limit)?;
     Ok((core, tasks))
 }

@@ -3,10 +3,9 @@
 
 ghost use Rattle.std.specs.Prelude.{◌≡◌, ◌+◌, ◌^◌, ◌<◌, ◌≤◌, [], length, IfOk, All, vec_capacity};
 ghost use Rattle.cs_types.specs.Scenario.{IsPlayable};
-ghost use Rattle.cs_types.specs.Room.{start, first_pid};
+ghost use Rattle.cs_types.specs.Room.{start};
 ghost use Rattle.cs_types.specs.History.{beginning};
 ghost use Rattle.cs_types.specs.Guards.{guards_on_bench};
-ghost use Rattle.core_lanes.specs.Numbers.{numbers_of};
 ghost use Rattle.core_events.specs.Machine.{opened};
 
 use crate::start::{core_and_tasks, first_pid};
@@ -29,8 +28,8 @@ pub struct State<Q: SiblingQueue, G: Guard> {
     pub task_limit: u16,
     /// The end of the user addresses, in bytes (`TASK_SIZE_MAX`).
     pub user_top: u64,
-    /// The tasks that ended, in the order of their ends.
-    pub ended: Vec<Pid>,
+    /// The tasks that ended, in the order of their ends, each with what it was charged for forced idle, in ns.
+    pub ended: Vec<(Pid, u64)>,
     /// The pid of the next child (this project's). None is given twice.
     pub next_pid: Pid,
     /// The time since the start, in ns (`rq->clock`).
@@ -38,7 +37,7 @@ pub struct State<Q: SiblingQueue, G: Guard> {
 }
 
 impl<Q: SiblingQueue, G: Guard> State<Q, G> {
-    ghost use Rattle.core_events.specs.State.{room_with, IsSound};
+    ghost use Rattle.core_events.specs.State.{room_with, state_numbers, IsSound};
     ghost use Rattle.core_events.specs.Steps.{numbers_at};
 
     /// The start of a scenario: all tasks asleep at home, all siblings idle. It can take `most` entries.
@@ -49,18 +48,16 @@ impl<Q: SiblingQueue, G: Guard> State<Q, G> {
         guards: Guards<G>,
     ) -> Result<State<Q, G>, OutOfMemory>
         requires playable { IsPlayable scenario.now }
-        requires most { most < 2 ^ 32 }
         requires guards { guards.guards ≡ guards_on_bench scenario.now.teaches (length guards.guards.all) }
         ensures room { IfOk result (λ state. room_with [] state ≡ start (opened scenario.now guards)) }
         ensures sound { IfOk result IsSound }
         ensures siblings { IfOk result (λ state. length state.core.lanes.items ≡ scenario.now.siblings) }
-        ensures numbers { IfOk result (λ state. numbers_of state.core ≡ numbers_at (opened scenario.now guards) (beginning (opened scenario.now guards))) }
-        ensures places { IfOk result (λ state. state.core.totals.spare + state.next_pid ≡ most + first_pid scenario.now.tasks) }
+        ensures numbers { IfOk result (λ state. state_numbers state ≡ numbers_at (opened scenario.now guards) (beginning (opened scenario.now guards))) }
         ensures ends { IfOk result (λ state. vec_capacity state.ended ≡ most) }
     {
         let ended = Vec::with_capacity(alloc, most)?;
         let refs = CookieRefs::with_limit(alloc, scenario.cookie_limit)?;
-        let (core, tasks) = core_and_tasks(alloc, scenario, most)?;
+        let (core, tasks) = core_and_tasks(alloc, scenario)?;
         Ok(State {
             core,
             tasks,

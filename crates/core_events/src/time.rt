@@ -9,7 +9,7 @@ ghost use Rattle.cs_types.specs.Step.{tick};
 ghost use Rattle.cs_types.specs.Time as time;
 ghost use Rattle.cs_types.specs.Time.{grown_by, grown, with_leasts, has_used_slice, rotates, is_overtaken, is_to_yield, asks_at_tick, begin_slice};
 ghost use Rattle.core_lanes.specs.Queued.{IsOf};
-ghost use Rattle.core_lanes.specs.Lanes.{Beside, at, lane_state, room_of, Agree};
+ghost use Rattle.core_lanes.specs.Lanes.{Beside, at, lane_state, room_of, Agree, AgreesAt};
 ghost use Rattle.core_lanes.specs.Changes.{Changes};
 ghost use Rattle.core_pick.specs.Schedules.{IsPaid, Charges};
 ghost use Rattle.core_events.specs.Moments.{Advances};
@@ -63,8 +63,7 @@ fn grow_on<Q: SiblingQueue, L: Ledger>(
     delta: u64,
     steps: &mut Steps<L>,
 )
-    requires cpu { cpu < length core.old.lanes.items }
-    requires agree { Agree (core.old, table.old) }
+    requires at { AgreesAt cpu (core.old, table.old) }
     requires used { All (λ task. task.used + delta < 2 ^ 64) table.old.tasks }
     requires vtimes { All (λ task. task.vtime + 69 * delta < 2 ^ 128) table.old.tasks }
     ensures { Changes (core.old, table.old) (core.new, table.new) (λ room. with_growth_on room cpu delta) }
@@ -115,8 +114,7 @@ fn renew_least<Q: SiblingQueue, L: Ledger>(
     cpu: Cpu,
     steps: &mut Steps<L>,
 )
-    requires cpu { cpu < length core.old.lanes.items }
-    requires agree { Agree (core.old, table.now) }
+    requires { AgreesAt cpu (core.old, table.now) }
     ensures { Changes (core.old, table.now) (core.new, table.now) (λ room. with_least room cpu) }
 {
     let lane = &mut core.lanes[cpu as usize];
@@ -176,8 +174,7 @@ fn rotates<Q: SiblingQueue, L: Ledger>(
     task: &Task,
     steps: &mut Steps<L>,
 ) -> bool
-    requires cpu { cpu < length core.now.lanes.items }
-    requires agree { Agree (core.now, table.now) }
+    requires { AgreesAt cpu (core.now, table.now) }
     ensures { (beside : Beside) → result ≡ rotates (room_of beside (core.now, table.now)) cpu task.now }
 {
     has_used_slice(task)
@@ -194,8 +191,7 @@ fn is_overtaken<Q: SiblingQueue, L: Ledger>(
     task: &Task,
     steps: &mut Steps<L>,
 ) -> bool
-    requires cpu { cpu < length core.now.lanes.items }
-    requires agree { Agree (core.now, table.now) }
+    requires at { AgreesAt cpu (core.now, table.now) }
     requires there { IsOf table.now.tasks task.now }
     ensures { (beside : Beside) → result ≡ is_overtaken (room_of beside (core.now, table.now)) cpu task.now }
 {
@@ -220,8 +216,7 @@ fn is_to_yield<Q: SiblingQueue, L: Ledger>(
     task: &Task,
     steps: &mut Steps<L>,
 ) -> bool
-    requires cpu { cpu < length core.now.lanes.items }
-    requires agree { Agree (core.now, table.now) }
+    requires { AgreesAt cpu (core.now, table.now) }
     ensures { (beside : Beside) → result ≡ is_to_yield (room_of beside (core.now, table.now)) cpu task.now }
 {
     let lane = &core.lanes[cpu as usize];
@@ -239,8 +234,7 @@ fn is_asked<Q: SiblingQueue, L: Ledger>(
     task: &Task,
     steps: &mut Steps<L>,
 ) -> bool
-    requires cpu { cpu < length core.now.lanes.items }
-    requires agree { Agree (core.now, table.now) }
+    requires at { AgreesAt cpu (core.now, table.now) }
     requires there { IsOf table.now.tasks task.now }
     ensures { (beside : Beside) → let room = room_of beside (core.now, table.now) in
         result ≡ (is_overtaken room cpu task.now || is_to_yield room cpu task.now) }
@@ -258,8 +252,7 @@ fn asks_at_tick<Q: SiblingQueue, L: Ledger>(
     rotates: bool,
     steps: &mut Steps<L>,
 ) -> bool
-    requires cpu { cpu < length core.now.lanes.items }
-    requires agree { Agree (core.now, table.now) }
+    requires at { AgreesAt cpu (core.now, table.now) }
     requires there { IsOf table.now.tasks task.now }
     requires rotates { (beside : Beside) → rotates ≡ time.rotates (room_of beside (core.now, table.now)) cpu task.now }
     ensures { (beside : Beside) → result ≡ asks_at_tick (room_of beside (core.now, table.now)) cpu task.now }
@@ -305,9 +298,8 @@ pub fn tick<Q: SiblingQueue, L: Ledger>(
     now: u64,
     steps: &mut Steps<L>,
 ) -> bool
-    requires cpu { cpu < length core.old.lanes.items }
-    requires agree { Agree (core.old, table.old) }
-    requires paid { IsPaid now core.old }
+    requires at { AgreesAt cpu (core.old, table.old) }
+    requires paid { IsPaid now (core.old, table.old) }
     requires stamp { core.old.next_stamp + 1 < 2 ^ 64 }
     ensures asks { (beside : Beside) → let room = room_of (at now beside) (core.old, table.old) in
         Ticked result ≡ (tick room cpu (running_on room cpu)).reply }

@@ -7,7 +7,6 @@ use Rattle.std.proofs.lemmas.List.Elements.{All-map, All-weaker}
 use Rattle.cs_types.specs.declared.task.Task.{Task}
 use Rattle.cs_types.specs.Room.{has_pid}
 use Rattle.cs_types.proofs.Spots.{replaced_by, find-replaced}
-use Rattle.forceidle_account.specs.Charges.{Charges, has_total}
 use Rattle.core_lanes.specs.Queued.{IsOf, HasOwnStamp, AreStamped}
 use Rattle.core_lanes.specs.Lanes.{MayStamp}
 use Rattle.core_lanes.specs.Changes.{identity_of}
@@ -60,16 +59,7 @@ module _ (task old : Task) (tasks : List Task) (there : find (has_pid task.spec.
         ];
   }
 
--- each keeps its total, since it keeps its pid
-pub totals-replaced : (charges : Charges) (task : Task) (tasks : List Task) → All (λ task. IsTrue (has_total charges task.spec.pid)) tasks →
-    All (λ task. IsTrue (has_total charges task.spec.pid)) (map (replaced_by task) tasks)
-totals-replaced charges task tasks all =
-    All-map (λ (t : Task). IsTrue (has_total charges t.spec.pid)) (replaced_by task) tasks
-    (All-weaker (λ (t : Task). IsTrue (has_total charges t.spec.pid)) (λ (t : Task). IsTrue (has_total charges (replaced_by task t).spec.pid))
-    (λ t has. cond_both (has_pid task.spec.pid t) task t (λ (one : Task). IsTrue (has_total charges one.spec.pid))
-    (λ same. subst (λ pid. IsTrue (has_total charges pid)) (eqb-true t.spec.pid task.spec.pid same) has) (λ _. has)) tasks all)
-
--- and each its pid and cookie, where the one that takes a place has the cookie of the one that had it
+-- each keeps its pid and cookie, where the one that takes a place has the cookie of the one that had it
 pub identities-replaced : (task old : Task) (tasks : List Task) → Rises tasks → find (has_pid task.spec.pid) tasks ≡ Some old → task.cookie ≡ old.cookie →
     map identity_of (map (replaced_by task) tasks) ≡ map identity_of tasks
 identities-replaced task old tasks rises there cookie = go 0 tasks rises there where

@@ -7,7 +7,6 @@ use Rattle.std.proofs.lemmas.Option.{slice_get-get_or}
 use Rattle.std.proofs.Math.Seq.{map-set_same}
 use Rattle.cs_types.specs.declared.task.Task.{Task}
 use Rattle.cs_types.specs.Room.{absent, has_pid}
-use Rattle.forceidle_account.specs.Charges.{Charges, has_total}
 use Rattle.task_table.specs.Table.{Table, IsSound as IsTable}
 use Rattle.core_lanes.proofs.Lists.{All-find}
 use Rattle.core_lanes.specs.Queued.{queued_at, AreStamped}
@@ -34,33 +33,30 @@ as_many : {Q : Type 0} {g : Ghosts Q} (old new : Core Q g) → queues_of new ≡
 as_many {Q} old new queues =
     sym (length-map new.lanes.items (λ (lane : Lane Q). lane.queue)) ∙ ap length queues ∙ length-map old.lanes.items (λ (lane : Lane Q). lane.queue)
 
--- So it stays where the queues, the table, the next stamp and the totals do.
-pub alike_stays : {Q : Type 0} {g : Ghosts Q} (old new : Core Q g × Table) → queues_of new.0 ≡ queues_of old.0 → new.1 ≡ old.1 →
-    new.0.next_stamp ≡ old.0.next_stamp → new.0.totals ≡ old.0.totals → Stays old new
-alike_stays {Q} {g} old new queues table stamp totals =
+-- So it stays where the queues, the tasks and the next stamp do.
+pub kept_stays : {Q : Type 0} {g : Ghosts Q} (old new : Core Q g × Table) → queues_of new.0 ≡ queues_of old.0 → new.1.tasks ≡ old.1.tasks →
+    new.1.limit ≡ old.1.limit → (IsTable old.1 → IsTable new.1) → new.0.next_stamp ≡ old.0.next_stamp → Stays old new
+kept_stays {Q} {g} old new queues tasks limit sound stamp =
     let many = as_many old.0 new.0 queues in
     record {
       agree = λ agree. record {
-        table = subst IsTable (sym table) agree.table;
-        few_tasks = subst (λ (t : Table). t.limit ≤ 256) (sym table) agree.few_tasks;
-        tasks = subst (λ (t : Table). All (IsFit (length new.0.lanes.items)) t.tasks) (sym table)
-            (subst (λ n. All (IsFit n) old.1.tasks) (sym many) agree.tasks);
-        stamped = subst (λ (t : Table). AreStamped new.0.next_stamp t.tasks) (sym table)
-            (subst (λ n. AreStamped n old.1.tasks) (sym stamp) agree.stamped);
-        totals = subst (λ (t : Table). All (λ (task : Task). IsTrue (has_total new.0.totals task.spec.pid)) t.tasks) (sym table)
-            (subst (λ (c : Charges). All (λ (task : Task). IsTrue (has_total c task.spec.pid)) old.1.tasks) (sym totals) agree.totals);
+        table = sound agree.table;
+        few_tasks = omega (arith, limit, agree.few_tasks);
+        tasks = subst (λ ts. All (IsFit (length new.0.lanes.items)) ts) (sym tasks) (subst (λ n. All (IsFit n) old.1.tasks) (sym many) agree.tasks);
+        stamped = subst (λ ts. AreStamped new.0.next_stamp ts) (sym tasks) (subst (λ n. AreStamped n old.1.tasks) (sym stamp) agree.stamped);
         held = λ cpu queue at.
-            subst (λ (t : Table). g.holds queue t.limit (queued_at t.tasks cpu)) (sym table)
-            (agree.held cpu queue (ap (λ (qs : List Q). slice_get qs cpu) (sym queues) ∙ at));
+            subst (λ ts. g.holds queue new.1.limit (queued_at ts cpu)) (sym tasks)
+            (subst (λ n. g.holds queue n (queued_at old.1.tasks cpu)) (sym limit)
+            (agree.held cpu queue (ap (λ (qs : List Q). slice_get qs cpu) (sym queues) ∙ at)));
       };
-      kept = λ i. record {
-        siblings = many i;
-        limit = (table i).limit;
-        identities = map identity_of (table i).tasks;
-        known = λ pid. has_total (totals i) pid;
-        spare = (totals i).spare;
-      };
+      kept = λ i. record { siblings = many i; limit = limit i; identities = map identity_of (tasks i) };
     }
+
+-- also where the table is the same
+pub alike_stays : {Q : Type 0} {g : Ghosts Q} (old new : Core Q g × Table) → queues_of new.0 ≡ queues_of old.0 → new.1 ≡ old.1 →
+    new.0.next_stamp ≡ old.0.next_stamp → Stays old new
+alike_stays old new queues table stamp =
+    kept_stays old new queues (ap (λ (t : Table). t.tasks) table) (ap (λ (t : Table). t.limit) table) (subst IsTable (sym table)) stamp
 
 -- ---- a sibling
 
@@ -122,9 +118,9 @@ stamp_next next tasks task is stamped = record {
 }
 
 -- a core whose next stamp is a later one
-pub stamped_later : {Q : Type 0} {g : Ghosts Q} (old new : Core Q g) (table : Table) → queues_of new ≡ queues_of old → new.totals ≡ old.totals →
+pub stamped_later : {Q : Type 0} {g : Ghosts Q} (old new : Core Q g) (table : Table) → queues_of new ≡ queues_of old →
     old.next_stamp ≤ new.next_stamp → Stays (old, table) (new, table)
-stamped_later {Q} {g} old new table queues totals later =
+stamped_later {Q} {g} old new table queues later =
     let many = as_many old new queues in
     record {
       agree = λ agree. record {
@@ -132,8 +128,7 @@ stamped_later {Q} {g} old new table queues totals later =
         few_tasks = agree.few_tasks;
         tasks = subst (λ n. All (IsFit n) table.tasks) (sym many) agree.tasks;
         stamped = stamped-later later agree.stamped;
-        totals = subst (λ (c : Charges). All (λ (task : Task). IsTrue (has_total c task.spec.pid)) table.tasks) (sym totals) agree.totals;
         held = λ cpu queue at. agree.held cpu queue (ap (λ (qs : List Q). slice_get qs cpu) (sym queues) ∙ at);
       };
-      kept = λ i. record { siblings = many i; limit = table.limit; identities = map identity_of table.tasks; known = λ pid. has_total (totals i) pid; spare = (totals i).spare };
+      kept = λ i. record { siblings = many i; limit = table.limit; identities = map identity_of table.tasks };
     }

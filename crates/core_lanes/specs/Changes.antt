@@ -1,24 +1,21 @@
 -- Changes: how one core and its table become others.
-use Rattle.std.specs.Prelude.{◌≡◌, ℕ, Bool, List, length, map}
+use Rattle.std.specs.Prelude.{◌≡◌, ℕ, List, length, map}
 use Rattle.cs_types.specs.declared.task.Task.{Task}
 use Rattle.cs_types.specs.Room.{RoomState}
-use Rattle.forceidle_account.specs.Charges.{has_total}
 use Rattle.task_table.specs.Table.{Table}
 use Rattle.core_lanes.specs.declared.queue.SiblingQueue.{Ghosts}
 use Rattle.core_lanes.specs.declared.lanes.Core.{Core}
 use Rattle.core_lanes.specs.Lanes.{Beside, at, beside_after, room_of, Agree}
-use Rattle.core_lanes.specs.Numbers.{numbers_of, booked, touched}
+use Rattle.core_lanes.specs.Numbers.{numbers_of, numbers_in, booked, touched}
 
 -- ---- what stays
 
--- what every change of this crate and of those above it keeps: how many siblings there are and how many tasks may live, each
--- task's pid and cookie, whose totals are kept, and how many more may be
+-- what every change of this crate and of those above it keeps: how many siblings there are, how many tasks may live, and each
+-- task's pid and cookie
 pub record Kept : Type 0 where
   pub siblings : ℕ
   pub limit : ℕ
   pub identities : List (ℕ × ℕ)
-  pub known : ℕ → Bool
-  pub spare : ℕ
 
 -- a task's pid and cookie
 abbrev pub identity_of : Task → ℕ × ℕ
@@ -30,8 +27,6 @@ kept_of both =
       siblings = length both.0.lanes.items;
       limit = both.1.limit;
       identities = map identity_of both.1.tasks;
-      known = λ pid. has_total both.0.totals pid;
-      spare = both.0.totals.spare;
     }
 
 -- that stays, and where they agreed they agree still
@@ -48,13 +43,13 @@ Becomes old new change = (beside : Beside) → room_of beside new ≡ change (ro
 -- the same with the same numbers
 pub record Changes {Q : Type 0} {g : Ghosts Q} (old new : Core Q g × Table) (change : RoomState → RoomState) : Type 0 where
   pub room : Becomes old new change
-  pub numbers : numbers_of new.0 ≡ numbers_of old.0
+  pub numbers : numbers_of new ≡ numbers_of old
   pub stays : Stays old new
 
 -- and where the queues were touched this number of times
 pub record Touches {Q : Type 0} {g : Ghosts Q} (count : ℕ) (old new : Core Q g × Table) (change : RoomState → RoomState) : Type 0 where
   pub room : Becomes old new change
-  pub numbers : numbers_of new.0 ≡ touched count (numbers_of old.0)
+  pub numbers : numbers_of new ≡ touched count (numbers_of old)
   pub stays : Stays old new
 
 -- the same of a change that charges the open interval, at this moment
@@ -62,6 +57,6 @@ abbrev pub BecomesCharged : {Q : Type 0} {g : Ghosts Q} → ℕ → Core Q g × 
 BecomesCharged now old new change =
     (beside : Beside) → let room = change (room_of (at now beside) old) in room_of (beside_after (at now beside) room) new ≡ room
 
--- the books of the core are those of the room's recorded intervals
-abbrev pub IsBooked : {Q : Type 0} {g : Ghosts Q} → RoomState → Core Q g → Type 0
-IsBooked room core = numbers_of core ≡ booked room (numbers_of core)
+-- the books are those of the room's recorded intervals
+abbrev pub IsBooked : {Q : Type 0} {g : Ghosts Q} → Beside → Core Q g × Table → Type 0
+IsBooked beside both = numbers_in beside both ≡ booked (room_of beside both) (numbers_in beside both)

@@ -6,7 +6,6 @@ use Rattle.cs_types.specs.Scenario.{IsPolicy}
 use Rattle.cs_types.specs.Room.{SiblingState, idle, RoomState, Interval, has_pid}
 use Rattle.cs_types.specs.Guards.{GuardList}
 use Rattle.forceidle_account.specs.Account.{Account}
-use Rattle.forceidle_account.specs.Charges.{Charges, has_total}
 use Rattle.task_table.specs.Table.{Table, IsSound as IsTable}
 use Rattle.core_lanes.specs.Queued.{queued_at, others, AreStamped, HasOwnStamp}
 use Rattle.core_lanes.specs.declared.queue.SiblingQueue.{Ghosts}
@@ -42,7 +41,6 @@ pub record BareCore : Type 0 where
   pub pick_number : ℕ
   pub next_stamp : ℕ
   pub account : Account
-  pub totals : Charges
   pub siblings : List SiblingState
   pub own : List ℕ
 
@@ -54,31 +52,29 @@ bare core =
       pick_number = core.pick_number;
       next_stamp = core.next_stamp;
       account = core.account;
-      totals = core.totals;
       siblings = map lane_state core.lanes.items;
       own = map (λ lane. lane.number) core.lanes.items;
     }
 
 -- a core before the first step
-abbrev pub bare_start : ℕ → Charges → BareCore
-bare_start siblings totals =
+abbrev pub bare_start : ℕ → BareCore
+bare_start siblings =
     record {
       cookie = 0;
       task_number = 0;
       pick_number = 0;
       next_stamp = 0;
       account = record { count = 0; occupation = 0; started = None; intervals = 0 };
-      totals = totals;
       siblings = replicate siblings idle;
       own = replicate siblings 0;
     }
 
--- what a room has, and a core and a table do not keep
+-- what a room has, and a core and a table do not keep; and what each task that ended was charged, beside its pid
 pub record Beside : Type 0 where
   pub cookie_limit : ℕ
   pub user_top : ℕ
   pub clock : ℕ
-  pub ended : List ℕ
+  pub ended : List (ℕ × ℕ)
   pub next_pid : ℕ
   pub next_cookie : ℕ
   pub intervals : List Interval
@@ -101,7 +97,7 @@ room_by beside core table =
       user_top = beside.user_top;
       clock = beside.clock;
       tasks = table.tasks;
-      ended = beside.ended;
+      ended = map (λ task. task.0) beside.ended;
       siblings = core.siblings;
       next_pid = beside.next_pid;
       next_stamp = core.next_stamp;
@@ -138,15 +134,19 @@ abbrev pub AreHeldBut : {Q : Type 0} {g : Ghosts Q} → ℕ → Core Q g × Tabl
 AreHeldBut {Q} {g} pid both =
     (cpu : ℕ) (queue : Q) → slice_get (queues_of both.0) cpu ≡ Some queue → g.holds queue both.1.limit (others pid (queued_at both.1.tasks cpu))
 
--- A core and a table agree: at most 256 tasks live; each task fits the siblings, has a total, and
--- where it is queued a stamp of its own; and the queues hold the queued tasks.
+-- A core and a table agree: at most 256 tasks live; each task fits the siblings, and where it is queued has a stamp of its own;
+-- and the queues hold the queued tasks.
 pub record Agree {Q : Type 0} {g : Ghosts Q} (both : Core Q g × Table) : Type 0 where
   pub table : IsTable both.1
   pub few_tasks : both.1.limit ≤ 256
   pub tasks : All (IsFit (length both.0.lanes.items)) both.1.tasks
   pub stamped : AreStamped both.0.next_stamp both.1.tasks
-  pub totals : All (λ task. IsTrue (has_total both.0.totals task.spec.pid)) both.1.tasks
   pub held : AreHeld both
+
+-- they agree, and this is the number of a sibling
+pub record AgreesAt {Q : Type 0} {g : Ghosts Q} (sibling : ℕ) (both : Core Q g × Table) : Type 0 where
+  pub cpu : sibling < length both.0.lanes.items
+  pub agree : Agree both
 
 -- a stamp that a queued task may have
 pub record MayStamp (next : ℕ) (tasks : List Task) (task : Task) : Type 0 where

@@ -1,13 +1,13 @@
--- Numbers: the three selection numbers of a core, and its books.
+-- Numbers: the three selection numbers of a core, and its books with those of its table.
 use Rattle.std.specs.Prelude.{ℕ, ◌+◌, ◌==◌, ◌&&◌, ◌||◌, nat_lt, Bool, if◌then◌else◌, List, length, slice_set}
 use Rattle.cs_types.specs.declared.reply.Pick.{Pick}
 use Rattle.cs_types.specs.Room.{RoomState}
 use Rattle.cs_types.specs.Touches.{is_selected, is_adopted, pick_touches}
 use Rattle.cs_types.specs.Accounting.{total_of}
-use Rattle.forceidle_account.specs.Charges.{total_at}
+use Rattle.task_table.specs.Table.{Table, total_among, total_in}
 use Rattle.core_lanes.specs.declared.queue.SiblingQueue.{Ghosts}
 use Rattle.core_lanes.specs.declared.lanes.Core.{Core}
-use Rattle.core_lanes.specs.Lanes.{BareCore, bare}
+use Rattle.core_lanes.specs.Lanes.{Beside, BareCore, bare}
 
 -- the task number, the pick number, each sibling's own number, how many intervals were recorded, and what each task was
 -- charged, by its pid
@@ -18,18 +18,25 @@ pub record Numbers : Type 0 where
   pub intervals : ℕ
   pub totals : ℕ → ℕ
 
-abbrev pub numbers_by : BareCore → Numbers
-numbers_by core =
+abbrev pub numbers_by : BareCore → Table → Numbers
+numbers_by core table =
     record {
       task = core.task_number;
       pick = core.pick_number;
       own = core.own;
       intervals = core.account.intervals;
-      totals = λ pid. total_at core.totals pid;
+      totals = λ pid. total_in table pid;
     }
 
-abbrev pub numbers_of : {Q : Type 0} {g : Ghosts Q} → Core Q g → Numbers
-numbers_of core = numbers_by (bare core)
+abbrev pub numbers_of : {Q : Type 0} {g : Ghosts Q} → Core Q g × Table → Numbers
+numbers_of both = numbers_by (bare both.0) both.1
+
+-- the numbers with what the tasks that ended were charged, each beside its pid
+abbrev pub with_ended : List (ℕ × ℕ) → Numbers → Numbers
+with_ended ended numbers = record numbers { totals = λ pid. numbers.totals pid + total_among ended pid }
+
+abbrev pub numbers_in : {Q : Type 0} {g : Ghosts Q} → Beside → Core Q g × Table → Numbers
+numbers_in beside both = with_ended beside.ended (numbers_of both)
 
 -- whether there was a selection for the core, and nothing was touched since the last one
 abbrev pub is_fresh_by : Numbers → Bool

@@ -12,7 +12,7 @@ ghost use Rattle.core_lanes.specs.Queued.{IsOf};
 use crate::lane::Lane;
 use crate::queue::SiblingQueue;
 use cs_types::{Cookie, Cpu, OutOfMemory, Pid, Steps, Task};
-use forceidle_account::{ForceIdle, Totals};
+use forceidle_account::ForceIdle;
 use std::alloc::Global;
 use std::sync::ledger::Ledger;
 use task_table::TaskTable;
@@ -40,8 +40,6 @@ pub struct Core<Q: SiblingQueue> {
     /// How siblings are forced idle since the last selection for the core (`core_forceidle_count`,
     /// `core_forceidle_occupation` and `core_forceidle_start`).
     pub account: ForceIdle,
-    /// What each task was charged for forced idle, also one that ended (`core_forceidle_sum`).
-    pub totals: Totals,
     /// The siblings, by rising number.
     pub lanes: Vec<Lane<Q>>,
     ghost few: { length lanes.items ≤ 16 },
@@ -49,20 +47,15 @@ pub struct Core<Q: SiblingQueue> {
 
 impl<Q: SiblingQueue> Core<Q> {
     ghost use Rattle.core_lanes.specs.Queued.{HasOwnStamp};
-    ghost use Rattle.core_lanes.specs.Lanes.{Beside, lane_state, bare_start, queues_of, room_of, bare, Agree, AreHeld, AreHeldBut, FitsIn, Knows, KnowsApart};
+    ghost use Rattle.core_lanes.specs.Lanes.{Beside, lane_state, bare_start, queues_of, room_of, bare, Agree, AgreesAt, AreHeld, AreHeldBut, FitsIn, Knows, KnowsApart};
     ghost use Rattle.core_lanes.specs.Numbers.{numbers_of, is_fresh_by};
     ghost use Rattle.core_lanes.specs.Changes.{Changes, Touches};
 
     /// The siblings, which are 1 to 16, before the first step: each is online and runs idle, and no number is
     /// above 0. Each queue can take `tasks`, a count. This call alone takes memory.
-    pub fn of(
-        alloc: Global,
-        siblings: u8,
-        tasks: u16,
-        totals: Totals,
-    ) -> Result<Core<Q>, OutOfMemory>
+    pub fn of(alloc: Global, siblings: u8, tasks: u16) -> Result<Core<Q>, OutOfMemory>
         requires { siblings ≤ 16 }
-        ensures bare { IfOk result (λ core. bare core ≡ bare_start siblings totals) }
+        ensures bare { IfOk result (λ core. bare core ≡ bare_start siblings) }
         ensures held { IfOk result (λ core. (cpu : ℕ) (queue : _) → slice_get (queues_of core) cpu ≡ Some queue → Q.holds queue tasks []) }
     {
         let mut lanes = Vec::with_capacity(alloc, siblings as usize)?;
@@ -75,7 +68,6 @@ impl<Q: SiblingQueue> Core<Q> {
             pick_number: 0,
             next_stamp: 0,
             account: ForceIdle::closed(),
-            totals,
             lanes,
         })
     }
@@ -104,8 +96,7 @@ impl<Q: SiblingQueue> Core<Q> {
         cpu: Cpu,
         steps: &mut Steps<L>,
     ) -> Option<Task>
-        requires cpu { cpu < length self.now.lanes.items }
-        requires agree { Agree (self.now, table.now) }
+        requires { AgreesAt cpu (self.now, table.now) }
         ensures { (beside : Beside) → result ≡ first_on (room_of beside (self.now, table.now)) cpu }
     {
         self.lanes[cpu as usize].queue.first(table, cpu, steps)
@@ -113,7 +104,7 @@ impl<Q: SiblingQueue> Core<Q> {
 
     /// Whether there was a selection for the core, and nothing was touched since the last one.
     pub fn is_fresh(&self) -> bool
-        ensures { result ≡ is_fresh_by (numbers_of self.now) }
+        ensures { (table : Table) → result ≡ is_fresh_by (numbers_of (self.now, table)) }
     {
         self.pick_number > 0 && self.pick_number == self.task_number
     }

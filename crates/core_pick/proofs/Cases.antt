@@ -9,7 +9,7 @@ use Rattle.task_table.specs.Table.{Table}
 use Rattle.core_lanes.specs.declared.queue.SiblingQueue.{Ghosts}
 use Rattle.core_lanes.specs.declared.lanes.Core.{Core}
 use Rattle.core_lanes.specs.Lanes.{Beside, at, beside_after, room_of}
-use Rattle.core_lanes.specs.Numbers.{numbers_of, booked, took}
+use Rattle.core_lanes.specs.Numbers.{numbers_in, booked, took}
 use Rattle.core_pick.specs.Schedules.{Schedules, ChargesAndSchedules}
 
 -- ---- which case a schedule is
@@ -51,7 +51,7 @@ module _ {Q : Type 0} {g : Ghosts Q} (now : ℕ) (old new : Core Q g × Table) (
         pick = λ beside. schedules.pick beside ∙ ap (λ (made : Scheduled). made.pick) (sym (same beside));
         room = λ beside. subst (λ (made : Scheduled). room_of (beside_after (at now beside) made.room) new ≡ made.room) (sym (same beside)) (schedules.room beside);
         numbers = λ beside kept. schedules.numbers beside kept
-            ∙ ap (λ (made : Scheduled). took cpu chosen (booked made.room (numbers_of old.0))) (sym (same beside));
+            ∙ ap (λ (made : Scheduled). took cpu chosen (booked made.room (numbers_in beside old))) (sym (same beside));
         stays = schedules.stays;
       }
 

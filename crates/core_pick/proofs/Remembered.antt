@@ -17,7 +17,6 @@ use Rattle.cs_types.proofs.Spots.{find-map}
 use Rattle.cs_types.proofs.Tasks.{found_again}
 use Rattle.task_table.specs.Table.{Table, Rises, IsSound as IsTable}
 use Rattle.task_table.proofs.Tables.{changed_each}
-use Rattle.forceidle_account.specs.Charges.{has_total}
 use Rattle.core_lanes.specs.declared.queue.SiblingQueue.{Ghosts}
 use Rattle.core_lanes.specs.declared.lanes.Core.{Core}
 use Rattle.core_lanes.specs.Queued.{queued_among, queued_at, IsOf, AreStamped}
@@ -36,7 +35,7 @@ pub found_there : (pid : ℕ) (tasks : List Task) (found : Option Task) → foun
 found_there pid tasks None is = tt
 found_there pid tasks (Some task) is = found_again pid tasks task (sym is)
 
-pub run_test : (a b : ℕ) → eqb b a ≡ eqb a b
+run_test : (a b : ℕ) → eqb b a ≡ eqb a b
 run_test a b = grind (arith, nat_tests)
 
 -- where one is, it remembers, and no other does
@@ -121,9 +120,10 @@ module _ (choices : List Choice) (occupation : ℕ) (tasks : List Task) where
   }
 
   -- A core and its table agree still.
-  remembered_stays : {Q : Type 0} {g : Ghosts Q} (core : Core Q g) (limit : ℕ) →
-      IsTable (record { tasks = now; limit = limit }) → Stays (core, record { tasks = tasks; limit = limit }) (core, record { tasks = now; limit = limit })
-  remembered_stays {Q} {g} core limit sound = record {
+  remembered_stays : {Q : Type 0} {g : Ghosts Q} (core : Core Q g) (totals : List (ℕ × ℕ)) (limit : ℕ) →
+      IsTable (record { tasks = now; totals = totals; limit = limit }) →
+      Stays (core, record { tasks = tasks; totals = totals; limit = limit }) (core, record { tasks = now; totals = totals; limit = limit })
+  remembered_stays {Q} {g} core totals limit sound = record {
     agree = λ agree. record {
       table = sound;
       few_tasks = agree.few_tasks;
@@ -131,21 +131,18 @@ module _ (choices : List Choice) (occupation : ℕ) (tasks : List Task) where
           (All-weaker (IsFit (length core.lanes.items)) (λ (t : Task). IsFit (length core.lanes.items) (task_after_choices choices occupation t))
           (λ t fit. record { home = fit.home; policy = fit.policy }) tasks agree.tasks);
       stamped = stamped-remembered core.next_stamp agree.stamped;
-      totals = All-map (λ (t : Task). IsTrue (has_total core.totals t.spec.pid)) (task_after_choices choices occupation) tasks agree.totals;
       held = λ cpu queue at. subst (λ qs. g.holds queue limit qs) (sym (queued_at-remembered cpu)) (agree.held cpu queue at);
     };
     kept = λ i. record {
       siblings = length core.lanes.items;
       limit = limit;
       identities = map-map_alike identity_of (task_after_choices choices occupation) (λ task. refl) tasks i;
-      known = λ pid. has_total core.totals pid;
-      spare = core.totals.spare;
     };
   }
 
--- also where the core keeps no more than its queues, its stamps and its totals
+-- also where the core keeps no more than its queues and its stamps
 pub stays-remembered : {Q : Type 0} {g : Ghosts Q} (old new : Core Q g × Table) (choices : List Choice) (occupation : ℕ) →
     new.1 ≡ record old.1 { tasks = map (task_after_choices choices occupation) old.1.tasks } → IsTable new.1 →
-    queues_of new.0 ≡ queues_of old.0 → new.0.next_stamp ≡ old.0.next_stamp → new.0.totals ≡ old.0.totals → Stays old new
-stays-remembered {Q} {g} old new choices occupation table sound queues stamp totals =
-    both_stay (remembered_stays choices occupation old.1.tasks old.0 old.1.limit (subst IsTable table sound)) (alike_stays (old.0, record old.1 { tasks = map (task_after_choices choices occupation) old.1.tasks }) new queues table stamp totals)
+    queues_of new.0 ≡ queues_of old.0 → new.0.next_stamp ≡ old.0.next_stamp → Stays old new
+stays-remembered {Q} {g} old new choices occupation table sound queues stamp =
+    both_stay (remembered_stays choices occupation old.1.tasks old.0 old.1.totals old.1.limit (subst IsTable table sound)) (alike_stays (old.0, record old.1 { tasks = map (task_after_choices choices occupation) old.1.tasks }) new queues table stamp)

@@ -1,65 +1,65 @@
 -- Schedules: what a charge and a schedule ask of a core and its table, and what they make of them.
-use Rattle.std.specs.Prelude.{◌≡◌, ℕ, ◌+◌, ◌*◌, ◌^◌, ◌≤◌, ◌<◌, unwrap_or}
+use Rattle.std.specs.Prelude.{◌≡◌, ℕ, ◌+◌, ◌*◌, ◌^◌, ◌≤◌, ◌<◌, length, unwrap_or}
 use Rattle.cs_types.specs.declared.reply.Pick.{Pick}
 use Rattle.cs_types.specs.Room.{RoomState}
 use Rattle.cs_types.specs.Selection.{Scheduled}
-use Rattle.forceidle_account.specs.Charges.{total_at}
-use Rattle.task_table.specs.Table.{Table}
+use Rattle.task_table.specs.Table.{Table, total_in}
 use Rattle.core_lanes.specs.declared.queue.SiblingQueue.{Ghosts}
 use Rattle.core_lanes.specs.declared.lanes.Core.{Core}
 use Rattle.core_lanes.specs.Lanes.{Beside, at, room_of, Agree, HasLowTimes}
-use Rattle.core_lanes.specs.Numbers.{numbers_of, booked, touched, took}
+use Rattle.core_lanes.specs.Numbers.{numbers_of, numbers_in, booked, touched, took}
 use Rattle.core_lanes.specs.Changes.{Stays, BecomesCharged, IsBooked}
 
 -- ---- what is asked
 
 -- the open interval did not begin later than now, and no number of the books overflows where it is charged
-pub record IsPaid {Q : Type 0} {g : Ghosts Q} (now : ℕ) (core : Core Q g) : Type 0 where
+pub record IsPaid {Q : Type 0} {g : Ghosts Q} (now : ℕ) (both : Core Q g × Table) : Type 0 where
   pub clock : now < 2 ^ 56
-  pub started : unwrap_or core.account.started now ≤ now
-  pub few : core.account.count ≤ 255
-  pub intervals : core.account.intervals < 2 ^ 63
-  pub totals : (pid : ℕ) → total_at core.totals pid ≤ 255 * unwrap_or core.account.started now
+  pub started : unwrap_or both.0.account.started now ≤ now
+  pub few : both.0.account.count ≤ 255
+  pub intervals : both.0.account.intervals < 2 ^ 63
+  pub totals : (pid : ℕ) → total_in both.1 pid ≤ 255 * unwrap_or both.0.account.started now
 
--- a sibling may pick anew
-pub record MayPick {Q : Type 0} {g : Ghosts Q} (now : ℕ) (both : Core Q g × Table) : Type 0 where
+-- the sibling may pick anew
+pub record MayPick {Q : Type 0} {g : Ghosts Q} (now sibling : ℕ) (both : Core Q g × Table) : Type 0 where
+  pub cpu : sibling < length both.0.lanes.items
   pub agree : Agree both
   pub low : HasLowTimes both
   pub clock : now < 2 ^ 56
   pub touches : both.0.task_number + 1 < 2 ^ 64
 
 -- and schedule, which may charge the open interval
-pub record MaySchedule {Q : Type 0} {g : Ghosts Q} (now : ℕ) (both : Core Q g × Table) : Type 0 where
-  pub picks : MayPick now both
-  pub paid : IsPaid now both.0
+pub record MaySchedule {Q : Type 0} {g : Ghosts Q} (now sibling : ℕ) (both : Core Q g × Table) : Type 0 where
+  pub picks : MayPick now sibling both
+  pub paid : IsPaid now both
 
 -- ---- what becomes of them
 
 -- the new room is the old one after this change, which charges the open interval at this moment
 pub record Charges {Q : Type 0} {g : Ghosts Q} (now : ℕ) (old new : Core Q g × Table) (change : RoomState → RoomState) : Type 0 where
   pub room : BecomesCharged now old new change
-  pub numbers : (beside : Beside) → IsBooked (room_of (at now beside) old) old.0 →
-      numbers_of new.0 ≡ booked (change (room_of (at now beside) old)) (numbers_of old.0)
+  pub numbers : (beside : Beside) → IsBooked (at now beside) old →
+      numbers_in beside new ≡ booked (change (room_of (at now beside) old)) (numbers_in beside old)
   pub stays : Stays old new
 
 -- the same where it then touches the queues this number of times
 pub record ChargesAndTouches {Q : Type 0} {g : Ghosts Q} (now count : ℕ) (old new : Core Q g × Table) (change : RoomState → RoomState) : Type 0 where
   pub room : BecomesCharged now old new change
-  pub numbers : (beside : Beside) → IsBooked (room_of (at now beside) old) old.0 →
-      numbers_of new.0 ≡ touched count (booked (change (room_of (at now beside) old)) (numbers_of old.0))
+  pub numbers : (beside : Beside) → IsBooked (at now beside) old →
+      numbers_in beside new ≡ touched count (booked (change (room_of (at now beside) old)) (numbers_in beside old))
   pub stays : Stays old new
 
 -- the new room and the pick are those of a schedule of the sibling at this moment, which a change of the room is
 pub record Schedules {Q : Type 0} {g : Ghosts Q} (now : ℕ) (old new : Core Q g × Table) (cpu : ℕ) (chosen : Pick) (change : RoomState → Scheduled) : Type 0 where
   pub pick : (beside : Beside) → chosen ≡ (change (room_of (at now beside) old)).pick
   pub room : (beside : Beside) → room_of (at now beside) new ≡ (change (room_of (at now beside) old)).room
-  pub numbers : numbers_of new.0 ≡ took cpu chosen (numbers_of old.0)
+  pub numbers : numbers_of new ≡ took cpu chosen (numbers_of old)
   pub stays : Stays old new
 
 -- the same of a schedule that charges the open interval, unless it adopts
 pub record ChargesAndSchedules {Q : Type 0} {g : Ghosts Q} (now : ℕ) (old new : Core Q g × Table) (cpu : ℕ) (chosen : Pick) (change : RoomState → Scheduled) : Type 0 where
   pub pick : (beside : Beside) → chosen ≡ (change (room_of (at now beside) old)).pick
   pub room : BecomesCharged now old new (λ room. (change room).room)
-  pub numbers : (beside : Beside) → IsBooked (room_of (at now beside) old) old.0 →
-      numbers_of new.0 ≡ took cpu chosen (booked (change (room_of (at now beside) old)).room (numbers_of old.0))
+  pub numbers : (beside : Beside) → IsBooked (at now beside) old →
+      numbers_in beside new ≡ took cpu chosen (booked (change (room_of (at now beside) old)).room (numbers_in beside old))
   pub stays : Stays old new

@@ -1,75 +1,88 @@
 //! What is charged for forced idle, and to whom. It is a file of its own since a tick, a block, an exit, a
 //! sibling that leaves and a schedule all charge.
 
-ghost use Rattle.std.specs.Prelude.{◌≡◌, ℕ, ◌+◌, ◌^◌, ◌<◌, if◌then◌else◌, map, All, IsTrue};
+ghost use Rattle.std.specs.Prelude.{◌≡◌, ℕ, ◌+◌, ◌^◌, ◌<◌, ◌==◌, ◌&&◌, not, false, if◌then◌else◌, length, find, All, IsSome, IfSome};
 ghost use Rattle.std.specs.List.{list_any};
-ghost use Rattle.cs_types.specs.Accounting.{charge};
-ghost use Rattle.forceidle_account.specs.Charges.{has_total, total_at};
-ghost use Rattle.core_lanes.specs.Lanes.{lane_state, queues_of, bare, Agree};
-ghost use Rattle.core_pick.specs.Account.{is_to_run, is_charged, is_charged_as};
+ghost use Rattle.std.specs.Option.{option_and_then};
+ghost use Rattle.cs_types.specs.Room.{has_pid, task_of, sibling_of, to_run};
+ghost use Rattle.cs_types.specs.Accounting.{with_cookie, charged, charge};
+ghost use Rattle.task_table.specs.Table.{total_in, IsSound as IsTable};
+ghost use Rattle.core_lanes.specs.Queued.{IsOf};
+ghost use Rattle.core_lanes.specs.Lanes.{Beside, room_of, queues_of, bare, Agree};
+ghost use Rattle.core_pick.specs.Account.{charged_at};
 ghost use Rattle.core_pick.specs.Schedules.{IsPaid, Charges};
 
-use core_lanes::{Core, Lane, SiblingQueue};
-use cs_types::{Pid, Task};
-use forceidle_account::Totals;
+use crate::choice::MOST_SIBLINGS;
+use arrayvec::ArrayVec;
+use core_lanes::{Core, SiblingQueue, task_of};
+use cs_types::{Cpu, Pid, Task};
 use task_table::TaskTable;
 
-/// Whether the sibling is online and is to run the task with the pid: that waits for it, or it runs and
-/// nothing waits.
-fn is_to_run<Q: Drop>(lane: &Lane<Q>, pid: Pid) -> bool
-    ensures { result ≡ is_to_run pid (lane_state lane.now) }
-{
-    lane.online && lane.waiting.unwrap_or(lane.run) == Some(pid)
-}
+/// The tasks for which siblings are charged.
+type Charged = ArrayVec<Pid, MOST_SIBLINGS>;
 
-/// Whether the task is charged: it has a cookie, and an online sibling is to run it.
-fn is_charged<Q: Drop>(lanes: &[Lane<Q>], task: &Task) -> bool
-    ensures { result ≡ is_charged (map lane_state lanes.now) task.now }
+/// The task that is charged for a sibling: what waits for it, or what it runs where nothing waits, if it is
+/// online and that has a cookie.
+fn charged_on<Q: SiblingQueue>(core: &Core<Q>, table: &TaskTable, cpu: Cpu) -> Option<Pid>
+    requires { cpu < length core.now.lanes.items }
+    ensures task { (beside : Beside) → result ≡ charged_at (room_of beside (core.now, table.now)) cpu }
+    ensures there { IfSome result (λ pid. IsSome (find (has_pid pid) table.now.tasks)) }
 {
-    task.cookie != 0 && lanes.iter().any(|lane| is_to_run(lane, task.spec.pid))
-}
-
-/// The task has this share more, in ns, where it is charged.
-fn charge_one<Q: Drop>(totals: &mut Totals, lanes: &[Lane<Q>], task: &Task, share: u64)
-    requires known { IsTrue (has_total totals.old task.now.spec.pid) }
-    requires low { total_at totals.old task.now.spec.pid + share < 2 ^ 64 }
-    ensures charged { (pid : ℕ) → total_at totals.new pid ≡ total_at totals.old pid
-        + (if is_charged_as (map lane_state lanes.now) pid task.now then share else 0) }
-    ensures known { (pid : ℕ) → has_total totals.new pid ≡ has_total totals.old pid }
-    ensures spare { totals.new.spare ≡ totals.old.spare }
-{
-    if is_charged(lanes, task) {
-        totals.raise(task.spec.pid, share);
+    let lane = &core.lanes[cpu as usize];
+    let task = task_of(table, lane.waiting.unwrap_or(lane.run)?)?;
+    if lane.online && task.cookie != 0 {
+        Some(task.spec.pid)
+    } else {
+        None
     }
 }
 
-/// Each task that is charged has this share more, in ns.
-fn charge_tasks<Q: Drop>(totals: &mut Totals, tasks: &TaskTable, lanes: &[Lane<Q>], share: u64)
-    requires known { All (λ task. IsTrue (has_total totals.old task.spec.pid)) tasks.now.tasks }
-    requires low { (pid : ℕ) → total_at totals.old pid + share < 2 ^ 64 }
-    ensures charged { (pid : ℕ) → total_at totals.new pid ≡ total_at totals.old pid
-        + (if list_any (is_charged_as (map lane_state lanes.now) pid) tasks.now.tasks then share else 0) }
-    ensures known { (pid : ℕ) → has_total totals.new pid ≡ has_total totals.old pid }
-    ensures spare { totals.new.spare ≡ totals.old.spare }
+/// The tasks that are charged, by rising sibling.
+fn charged<Q: SiblingQueue>(core: &Core<Q>, table: &TaskTable) -> Charged
+    ensures tasks { (beside : Beside) → result.items ≡ charged (room_of beside (core.now, table.now)) }
+    ensures there { All (λ pid. IsSome (find (has_pid pid) table.now.tasks)) result.items }
 {
-    for position in 0..tasks.len() as usize {
-        let task = *tasks.at(position).unwrap();
-        charge_one(totals, lanes, &task, share);
+    let mut charged = Charged::new();
+    for cpu in 0..core.lanes.len() {
+        if let Some(pid) = charged_on(core, table, cpu as u8) {
+            charged.push(pid);
+        }
+    }
+    charged
+}
+
+/// Each of these tasks has this share more, in ns, however often it stands among them.
+fn charge_each(table: &mut TaskTable, charged: &[Pid], share: u64)
+    requires there { All (λ pid. IsSome (find (has_pid pid) table.old.tasks)) charged.now }
+    requires low { (pid : ℕ) → total_in table.old pid + share < 2 ^ 64 }
+    requires sound { IsTable table.old }
+    ensures rest { table.new ≡ record table.old { totals = table.new.totals } }
+    ensures totals { (pid : ℕ) → total_in table.new pid ≡ total_in table.old pid
+        + (if list_any (λ one. one == pid) charged.now then share else 0) }
+    ensures sound { IsTable table.new }
+{
+    for index in 0..charged.len() {
+        let pid = charged[index];
+        if !charged[..index].contains(&pid) {
+            table.raise(pid, share);
+        }
     }
 }
 
 /// The open interval is charged up to now, if one is open and time has passed
 /// (`__sched_core_account_forceidle`).
-pub fn charge<Q: SiblingQueue>(core: &mut Core<Q>, table: &TaskTable, now: u64)
-    requires agree { Agree (core.old, table.now) }
-    requires paid { IsPaid now core.old }
-    ensures charges { Charges now (core.old, table.now) (core.new, table.now) charge }
+pub fn charge<Q: SiblingQueue>(core: &mut Core<Q>, table: &mut TaskTable, now: u64)
+    requires agree { Agree (core.old, table.old) }
+    requires paid { IsPaid now (core.old, table.old) }
+    ensures charges { Charges now (core.old, table.old) (core.new, table.new) charge }
 
     // No more changes than the account and the totals.
-    ensures rest { bare core.new ≡ record (bare core.old) { account = core.new.account; totals = core.new.totals } }
+    ensures core { bare core.new ≡ record (bare core.old) { account = core.new.account } }
     ensures queues { queues_of core.new ≡ queues_of core.old }
+    ensures table { table.new ≡ record table.old { totals = table.new.totals } }
 {
     if let Some(share) = core.account.charge(now) {
-        charge_tasks(&mut core.totals, table, &core.lanes, share);
+        let charged = charged(core, table);
+        charge_each(table, charged.as_slice(), share);
     }
 }

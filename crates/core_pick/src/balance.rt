@@ -4,7 +4,7 @@
 ghost use Rattle.std.specs.Prelude.{◌≡◌, ◌<◌, length, if◌then◌else◌};
 ghost use Rattle.cs_types.specs.Selection.{is_to_steal};
 ghost use Rattle.cs_types.specs.Steal.{set_place};
-ghost use Rattle.core_lanes.specs.Lanes.{Beside, room_of, Agree};
+ghost use Rattle.core_lanes.specs.Lanes.{Beside, room_of, AgreesAt};
 ghost use Rattle.core_lanes.specs.Changes.{Changes};
 
 use core_lanes::{Core, SiblingQueue};
@@ -20,8 +20,7 @@ fn is_to_steal<Q: SiblingQueue, L: Ledger>(
     cpu: Cpu,
     steps: &mut Steps<L>,
 ) -> bool
-    requires cpu { cpu < length core.now.lanes.items }
-    requires agree { Agree (core.now, table.now) }
+    requires { AgreesAt cpu (core.now, table.now) }
     ensures { (beside : Beside) → result ≡ is_to_steal (room_of beside (core.now, table.now)) cpu }
 {
     core.account.count() != 0
@@ -38,8 +37,7 @@ pub fn balance<Q: SiblingQueue, L: Ledger>(
     cpu: Cpu,
     steps: &mut Steps<L>,
 )
-    requires cpu { cpu < length core.old.lanes.items }
-    requires agree { Agree (core.old, table.now) }
+    requires { AgreesAt cpu (core.old, table.now) }
     ensures { Changes (core.old, table.now) (core.new, table.now)
         (λ room. set_place room cpu (if is_to_steal room cpu then 1 else 0)) }
 {

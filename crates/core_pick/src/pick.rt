@@ -4,7 +4,7 @@ ghost use Rattle.std.specs.Prelude.{◌≡◌, ℕ, ◌+◌, ◌^◌, ◌<◌, l
 ghost use Rattle.cs_types.specs.Room.{sibling_of, is_online};
 ghost use Rattle.cs_types.specs.Selection.{cookie_of, lead_from, pid_of, choice, forced_count, is_plain, adopt, pick_plain, select_for, select, pick_anew, adopt_or_pick_anew, balance, schedule};
 ghost use Rattle.task_table.specs.Table.{Table};
-ghost use Rattle.core_lanes.specs.Lanes.{Beside, at, room_of, Agree};
+ghost use Rattle.core_lanes.specs.Lanes.{Beside, at, room_of, AgreesAt};
 ghost use Rattle.core_lanes.specs.Numbers.{numbers_of, is_fresh_by};
 ghost use Rattle.core_lanes.specs.Changes.{Stays};
 ghost use Rattle.core_pick.specs.Schedules.{MayPick, MaySchedule, Schedules, ChargesAndSchedules};
@@ -25,7 +25,7 @@ use task_table::TaskTable;
 fn adoptable<Q: SiblingQueue>(core: &Core<Q>, cpu: Cpu) -> Option<Option<Pid>>
     requires { cpu < length core.now.lanes.items }
     ensures { (beside : Beside) (table : Table) → result ≡
-        (if is_fresh_by (numbers_of core.now) then (sibling_of (room_of beside (core.now, table)) cpu).waiting else None) }
+        (if is_fresh_by (numbers_of (core.now, table)) then (sibling_of (room_of beside (core.now, table)) cpu).waiting else None) }
 {
     if core.is_fresh() {
         core.lanes[cpu as usize].waiting
@@ -66,8 +66,7 @@ fn is_plain<Q: SiblingQueue, L: Ledger>(
     cpu: Cpu,
     steps: &mut Steps<L>,
 ) -> bool
-    requires cpu { cpu < length core.now.lanes.items }
-    requires agree { Agree (core.now, table.now) }
+    requires { AgreesAt cpu (core.now, table.now) }
     ensures { (beside : Beside) → result ≡ is_plain (room_of beside (core.now, table.now)) cpu }
 {
     let cookie = cookie_of(core.first_on(table, cpu, steps));
@@ -81,8 +80,7 @@ fn pick_plain<Q: SiblingQueue, L: Ledger>(
     cpu: Cpu,
     steps: &mut Steps<L>,
 ) -> Pick
-    requires cpu { cpu < length core.old.lanes.items }
-    requires agree { Agree (core.old, table.now) }
+    requires at { AgreesAt cpu (core.old, table.now) }
     requires touches { core.old.task_number + 1 < 2 ^ 64 }
     ensures { (now : ℕ) → Schedules now (core.old, table.now) (core.new, table.now) cpu result (λ room. pick_plain room cpu) }
 {
@@ -119,13 +117,12 @@ fn select_for<Q: SiblingQueue, L: Ledger>(
     now: u64,
     steps: &mut Steps<L>,
 ) -> Option<Pid>
-    requires cpu { cpu < length core.old.lanes.items }
-    requires agree { Agree (core.old, table.old) }
+    requires at { AgreesAt cpu (core.old, table.old) }
     requires lead { (beside : Beside) → cookie ≡ cookie_of (lead_from (room_of beside (core.old, table.old)) cpu) }
     requires clock { now < 2 ^ 56 }
     ensures room { (beside : Beside) →
         room_of (at now beside) (core.new, table.new) ≡ select_for (room_of (at now beside) (core.old, table.old)) cpu cookie }
-    ensures numbers { numbers_of core.new ≡ numbers_of core.old }
+    ensures numbers { numbers_of (core.new, table.new) ≡ numbers_of (core.old, table.old) }
     ensures stays { Stays (core.old, table.old) (core.new, table.new) }
     ensures run { (beside : Beside) → result ≡ pid_of (choice (room_of beside (core.old, table.old)) cookie cpu) }
     ensures forced { (beside : Beside) → core.new.account.count ≡ forced_count (room_of beside (core.old, table.old)) cookie }
@@ -150,8 +147,7 @@ fn select<Q: SiblingQueue, L: Ledger>(
     now: u64,
     steps: &mut Steps<L>,
 ) -> Pick
-    requires cpu { cpu < length core.old.lanes.items }
-    requires may { MayPick now (core.old, table.old) }
+    requires { MayPick now cpu (core.old, table.old) }
     ensures { Schedules now (core.old, table.old) (core.new, table.new) cpu result (λ room. select room cpu) }
 {
     let cookie = cookie_of(lead_from(core, table, cpu, steps));
@@ -177,8 +173,7 @@ fn pick_anew<Q: SiblingQueue, L: Ledger>(
     now: u64,
     steps: &mut Steps<L>,
 ) -> Pick
-    requires cpu { cpu < length core.old.lanes.items }
-    requires may { MayPick now (core.old, table.old) }
+    requires { MayPick now cpu (core.old, table.old) }
     ensures { Schedules now (core.old, table.old) (core.new, table.new) cpu result (λ room. pick_anew room cpu) }
 {
     if is_plain(core, table, cpu, steps) {
@@ -196,8 +191,7 @@ pub fn pick_and_balance<Q: SiblingQueue, L: Ledger>(
     now: u64,
     steps: &mut Steps<L>,
 ) -> Pick
-    requires cpu { cpu < length core.old.lanes.items }
-    requires may { MayPick now (core.old, table.old) }
+    requires { MayPick now cpu (core.old, table.old) }
     ensures { Schedules now (core.old, table.old) (core.new, table.new) cpu result (λ room. balance cpu (pick_anew room cpu)) }
 {
     let pick = pick_anew(core, table, cpu, now, steps);
@@ -214,10 +208,9 @@ fn adopt_or_pick_anew<Q: SiblingQueue, L: Ledger>(
     now: u64,
     steps: &mut Steps<L>,
 ) -> Pick
-    requires cpu { cpu < length core.old.lanes.items }
-    requires may { MaySchedule now (core.old, table.old) }
+    requires { MaySchedule now cpu (core.old, table.old) }
     ensures { ChargesAndSchedules now (core.old, table.old) (core.new, table.new) cpu result
-        (λ room. adopt_or_pick_anew room (is_fresh_by (numbers_of core.old)) cpu (sibling_of room cpu).waiting) }
+        (λ room. adopt_or_pick_anew room (is_fresh_by (numbers_of (core.old, table.old))) cpu (sibling_of room cpu).waiting) }
 {
     match adoptable(core, cpu) {
         Some(waiting) => adopt(core, cpu, waiting),
@@ -237,13 +230,12 @@ pub fn schedule<Q: SiblingQueue, L: Ledger>(
     now: u64,
     steps: &mut Steps<L>,
 ) -> Option<Pick>
-    requires cpu { cpu < length core.old.lanes.items }
-    requires may { MaySchedule now (core.old, table.old) }
+    requires { MaySchedule now cpu (core.old, table.old) }
     ensures online { (beside : Beside) → is_some result ≡ is_online (room_of beside (core.old, table.old)) cpu }
     ensures core { IfNone result (core.new ≡ core.old) }
     ensures table { IfNone result (table.new ≡ table.old) }
     ensures schedules { IfSome result (λ pick. ChargesAndSchedules now (core.old, table.old) (core.new, table.new) cpu pick
-        (λ room. schedule room (is_fresh_by (numbers_of core.old)) cpu)) }
+        (λ room. schedule room (is_fresh_by (numbers_of (core.old, table.old))) cpu)) }
 {
     if !core.is_online(cpu) {
         return None;

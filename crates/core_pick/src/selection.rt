@@ -7,7 +7,7 @@ ghost use Rattle.arrayvec.specs.ArrayVec.{array_vec_len};
 ghost use Rattle.cs_types.specs.Room.{is_online};
 ghost use Rattle.cs_types.specs.Order.{first_of};
 ghost use Rattle.cs_types.specs.Selection.{first_on, queued_with, cookie_of, pid_of, is_fair_task, choice, lead_from};
-ghost use Rattle.core_lanes.specs.Lanes.{Beside, room_of, Agree, HasLowTimes};
+ghost use Rattle.core_lanes.specs.Lanes.{Beside, room_of, Agree, AgreesAt, HasLowTimes};
 ghost use Rattle.core_pick.specs.Choice.{choice_at};
 
 use crate::choice::{Choice, Choices};
@@ -25,8 +25,7 @@ fn first_with<Q: SiblingQueue, L: Ledger>(
     cpu: Cpu,
     steps: &mut Steps<L>,
 ) -> Option<Task>
-    requires cpu { cpu < length core.now.lanes.items }
-    requires agree { Agree (core.now, table.now) }
+    requires { AgreesAt cpu (core.now, table.now) }
     ensures { (beside : Beside) → result ≡
         (if cookie == 0 then None else first_of (queued_with (room_of beside (core.now, table.now)) cookie cpu)) }
 {
@@ -48,8 +47,7 @@ fn choice<Q: SiblingQueue, L: Ledger>(
     cpu: Cpu,
     steps: &mut Steps<L>,
 ) -> Option<Task>
-    requires cpu { cpu < length core.now.lanes.items }
-    requires agree { Agree (core.now, table.now) }
+    requires { AgreesAt cpu (core.now, table.now) }
     ensures { (beside : Beside) → first ≡ first_on (room_of beside (core.now, table.now)) cpu →
         result ≡ choice (room_of beside (core.now, table.now)) cookie cpu }
 {
@@ -67,8 +65,7 @@ fn choice_at<Q: SiblingQueue, L: Ledger>(
     cpu: Cpu,
     steps: &mut Steps<L>,
 ) -> Choice
-    requires cpu { cpu < length core.now.lanes.items }
-    requires agree { Agree (core.now, table.now) }
+    requires { AgreesAt cpu (core.now, table.now) }
     ensures { (beside : Beside) → result ≡ choice_at (room_of beside (core.now, table.now)) cookie cpu }
 {
     let first = core.first_on(table, cpu, steps);
@@ -132,8 +129,7 @@ pub fn lead_from<Q: SiblingQueue, L: Ledger>(
     cpu: Cpu,
     steps: &mut Steps<L>,
 ) -> Option<Task>
-    requires cpu { cpu < length core.now.lanes.items }
-    requires agree { Agree (core.now, table.now) }
+    requires at { AgreesAt cpu (core.now, table.now) }
     requires low { HasLowTimes (core.now, table.now) }
     ensures { (beside : Beside) → result ≡ lead_from (room_of beside (core.now, table.now)) cpu }
 {

@@ -1,5 +1,5 @@
 -- Hotplugs: what an ask that a sibling leaves the core, or comes back, makes of a core and its table.
-use Rattle.std.specs.Prelude.{◌≡◌, ◌≢◌, ℕ, ◌*◌, length}
+use Rattle.std.specs.Prelude.{◌≡◌, ◌≢◌, ℕ, ◌+◌, ◌*◌, ◌^◌, ◌<◌, length}
 use Rattle.cs_types.specs.declared.reply.Reply.{Reply}
 use Rattle.cs_types.specs.declared.reply.Reply.TheVariants as answer
 use Rattle.cs_types.specs.declared.reply.Errno.TheVariants.{Ebusy}
@@ -8,11 +8,21 @@ use Rattle.task_table.specs.Table.{Table}
 use Rattle.core_lanes.specs.declared.queue.SiblingQueue.{Ghosts}
 use Rattle.core_lanes.specs.declared.lanes.Core.{Core}
 use Rattle.core_lanes.specs.Queued.{queued_among}
-use Rattle.core_lanes.specs.Lanes.{Beside, at, room_of}
-use Rattle.core_lanes.specs.Numbers.{numbers_of, booked, touched}
+use Rattle.core_lanes.specs.Lanes.{Beside, at, room_of, Agree, HasLowTimes}
+use Rattle.core_lanes.specs.Numbers.{numbers_of, numbers_in, booked, touched}
 use Rattle.core_lanes.specs.Changes.{Stays, Becomes, BecomesCharged, IsBooked}
+use Rattle.core_pick.specs.Schedules.{IsPaid}
 use Rattle.cpu_hotplug.specs.declared.hotplug.Hotplug.{Hotplug}
 use Rattle.cpu_hotplug.specs.declared.hotplug.Hotplug.TheVariants.{Done, Busy, Already}
+
+-- the sibling may leave at this moment: the open interval may be charged, and no stamp and no touch overflows where its tasks move
+pub record MayLeave {Q : Type 0} {g : Ghosts Q} (now sibling : ℕ) (both : Core Q g × Table) : Type 0 where
+  pub cpu : sibling < length both.0.lanes.items
+  pub agree : Agree both
+  pub low : HasLowTimes both
+  pub paid : IsPaid now both
+  pub stamp : both.0.next_stamp + length both.1.tasks < 2 ^ 64
+  pub touches : both.0.task_number + 2 * length both.1.tasks < 2 ^ 64
 
 -- what a machine answers
 abbrev pub reply_of : Hotplug → Reply
@@ -31,9 +41,9 @@ leave_touches Already queued = 0
 pub record TakesOffline {Q : Type 0} {g : Ghosts Q} (now : ℕ) (old new : Core Q g × Table) (cpu : ℕ) (made : Hotplug) : Type 0 where
   pub reply : (beside : Beside) → reply_of made ≡ (take_offline (room_of (at now beside) old) cpu).reply
   pub room : BecomesCharged now old new (λ room. (take_offline room cpu).room)
-  pub numbers : (beside : Beside) → IsBooked (room_of (at now beside) old) old.0 →
-      numbers_of new.0
-      ≡ touched (leave_touches made (length (queued_among old.1.tasks cpu))) (booked (take_offline (room_of (at now beside) old) cpu).room (numbers_of old.0))
+  pub numbers : (beside : Beside) → IsBooked (at now beside) old →
+      numbers_in beside new
+      ≡ touched (leave_touches made (length (queued_among old.1.tasks cpu))) (booked (take_offline (room_of (at now beside) old) cpu).room (numbers_in beside old))
   pub unchanged : made ≢ Done → new ≡ old
   pub stays : Stays old new
 
@@ -41,6 +51,6 @@ pub record TakesOffline {Q : Type 0} {g : Ghosts Q} (now : ℕ) (old new : Core 
 pub record BringsOnline {Q : Type 0} {g : Ghosts Q} (old new : Core Q g × Table) (cpu : ℕ) (made : Hotplug) : Type 0 where
   pub reply : (beside : Beside) → reply_of made ≡ (bring_online (room_of beside old) cpu).reply
   pub room : Becomes old new (λ room. (bring_online room cpu).room)
-  pub numbers : numbers_of new.0 ≡ numbers_of old.0
+  pub numbers : numbers_of new ≡ numbers_of old
   pub unchanged : made ≢ Done → new ≡ old
   pub stays : Stays old new

@@ -1,13 +1,12 @@
 //! The two events of a sibling that leaves the core or comes back (`sched_core_cpu_deactivate` and
 //! `sched_core_cpu_starting`).
 
-ghost use Rattle.std.specs.Prelude.{◌≡◌, ◌+◌, ◌*◌, ◌^◌, ◌<◌, length};
+ghost use Rattle.std.specs.Prelude.{◌≡◌, ◌*◌, ◌<◌, length};
 ghost use Rattle.cs_types.specs.Hotplug.{leave};
 ghost use Rattle.task_table.specs.Table.{Table};
 ghost use Rattle.core_lanes.specs.Queued.{queued_among};
-ghost use Rattle.core_lanes.specs.Lanes.{Agree, HasLowTimes};
-ghost use Rattle.core_pick.specs.Schedules.{IsPaid, ChargesAndTouches};
-ghost use Rattle.cpu_hotplug.specs.Hotplugs.{TakesOffline, BringsOnline};
+ghost use Rattle.core_pick.specs.Schedules.{ChargesAndTouches};
+ghost use Rattle.cpu_hotplug.specs.Hotplugs.{MayLeave, TakesOffline, BringsOnline};
 
 use crate::away::{online_count, set_back, set_one_away};
 use crate::moves::move_off;
@@ -37,12 +36,7 @@ fn leave<Q: SiblingQueue, L: Ledger>(
     now: u64,
     steps: &mut Steps<L>,
 )
-    requires cpu { cpu < length core.old.lanes.items }
-    requires agree { Agree (core.old, table.old) }
-    requires low { HasLowTimes (core.old, table.old) }
-    requires paid { IsPaid now core.old }
-    requires stamp { core.old.next_stamp + length table.old.tasks < 2 ^ 64 }
-    requires touches { core.old.task_number + 2 * length table.old.tasks < 2 ^ 64 }
+    requires { MayLeave now cpu (core.old, table.old) }
     ensures { ChargesAndTouches now (2 * length (queued_among table.old.tasks cpu)) (core.old, table.old) (core.new, table.new) (λ room. leave room cpu) }
 {
     charge(core, table, now);
@@ -59,12 +53,7 @@ pub fn offline<Q: SiblingQueue, L: Ledger>(
     now: u64,
     steps: &mut Steps<L>,
 ) -> Hotplug
-    requires cpu { cpu < length core.old.lanes.items }
-    requires agree { Agree (core.old, table.old) }
-    requires low { HasLowTimes (core.old, table.old) }
-    requires paid { IsPaid now core.old }
-    requires stamp { core.old.next_stamp + length table.old.tasks < 2 ^ 64 }
-    requires touches { core.old.task_number + 2 * length table.old.tasks < 2 ^ 64 }
+    requires { MayLeave now cpu (core.old, table.old) }
     ensures { TakesOffline now (core.old, table.old) (core.new, table.new) cpu result }
 {
     if !core.is_online(cpu) {

@@ -1,8 +1,6 @@
-//! The accounts of forced idle of a core: the interval that is open, and what each task was charged.
+//! The account of forced idle of a core: the interval that is open.
 #![tactic(auto)]
 
 mod force_idle;
-mod totals;
 
 pub use force_idle::ForceIdle;
-pub use totals::Totals;

@@ -1,5 +1,5 @@
 -- Answers: what a fork and an end come to.
-use Rattle.std.specs.Prelude.{◌==◌, ◌||◌, length, Option, Some, None, Result, Ok, Err, if◌then◌else◌}
+use Rattle.std.specs.Prelude.{ℕ, ◌==◌, ◌||◌, length, Option, Some, None, Result, Ok, Err, if◌then◌else◌}
 use Rattle.cs_types.specs.declared.task.Task.{Task}
 use Rattle.cs_types.specs.Room.{RoomState}
 use Rattle.cs_types.specs.Order.{deadline_class, class_of}
@@ -16,6 +16,6 @@ fork_answer table None = Err NoCaller
 fork_answer table (Some caller) =
     if (length table.tasks == table.limit) || (class_of caller.spec.policy == deadline_class) then Err Eagain else Ok tt
 
--- The task leads others, or it ends (`do_exit`, kernel/exit.c).
-abbrev pub end_answer : RoomState → Task → Result Task HasThreads
-end_answer room task = if has_threads room task then Err (record {}) else Ok task
+-- The task leads others, or it ends, and is given with what it was charged (`do_exit`, kernel/exit.c).
+abbrev pub end_answer : RoomState → Task → ℕ → Result (Task × ℕ) HasThreads
+end_answer room task forced = if has_threads room task then Err (record {}) else Ok (task, forced)

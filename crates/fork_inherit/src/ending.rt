@@ -1,10 +1,10 @@
 //! The end of a task.
 
-ghost use Rattle.std.specs.Prelude.{◌≡◌, filter, find, not, false, Some, IsSomeAnd, OnOk, OnErr};
+ghost use Rattle.std.specs.Prelude.{◌≡◌, ℕ, ◌==◌, filter, find, not, false, Some, IsSomeAnd, OnOk, OnErr, if◌then◌else◌};
 ghost use Rattle.cs_types.specs.declared.task.Task.{Task as SomeTask};
 ghost use Rattle.cs_types.specs.Room.{RoomState, has_pid};
 ghost use Rattle.cs_types.specs.Step.{has_threads};
-ghost use Rattle.task_table.specs.Table.{IsSound};
+ghost use Rattle.task_table.specs.Table.{total_in, IsSound};
 ghost use Rattle.cookie_refs.specs.Refs.{Agree};
 ghost use Rattle.fork_inherit.specs.Answers.{end_answer};
 
@@ -32,17 +32,24 @@ pub fn has_threads(table: &TaskTable, task: &Task) -> bool
 
 /// The task with the pid, which is asleep, is no longer among the living (`do_exit`, kernel/exit.c),
 /// and the reference to its cookie is given back (`sched_core_free`, kernel/sched/core_sched.c).
+/// It gives the task and what it was charged for forced idle, in ns.
 ///
 /// `HasThreads` comes exactly where the task leads a thread group that has another member: there are
 /// no zombies. It changes nothing.
-pub fn end(table: &mut TaskTable, refs: &mut CookieRefs, pid: Pid) -> Result<Task, HasThreads>
+pub fn end(
+    table: &mut TaskTable,
+    refs: &mut CookieRefs,
+    pid: Pid,
+) -> Result<(Task, u64), HasThreads>
     requires asleep { IsSomeAnd (find (has_pid pid) table.old.tasks) (λ task. task.queued ≡ false) }
     requires agree { Agree refs.old table.old.tasks }
 
     ensures answer { (room : RoomState) (task : SomeTask) → room.tasks ≡ table.old.tasks →
-        find (has_pid pid) table.old.tasks ≡ Some task → result ≡ end_answer room task }
+        find (has_pid pid) table.old.tasks ≡ Some task → result ≡ end_answer room task (total_in table.old pid) }
     ensures ended { OnOk result (table.new ≡
-        record table.old { tasks = filter (λ other. not (has_pid pid other)) table.old.tasks }) }
+        record table.old { tasks = filter (λ other. not (has_pid pid other)) table.old.tasks; totals = table.new.totals }) }
+    ensures totals { OnOk result ((other : ℕ) → total_in table.new other
+        ≡ (if other == pid then 0 else total_in table.old other)) }
     ensures unchanged { OnErr result (table.new ≡ table.old) }
     ensures same_refs { OnErr result (refs.new ≡ refs.old) }
 
@@ -55,7 +62,8 @@ pub fn end(table: &mut TaskTable, refs: &mut CookieRefs, pid: Pid) -> Result<Tas
     if has_threads(table, &task) {
         return Err(HasThreads);
     }
+    let forced = table.forced(pid);
     table.remove(pid);
     refs.put(task.cookie);
-    Ok(task)
+    Ok((task, forced))
 }

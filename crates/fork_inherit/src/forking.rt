@@ -1,11 +1,11 @@
 //! A fork: a child with what it inherits.
 
-ghost use Rattle.std.specs.Prelude.{◌≡◌, ◌≢◌, ◌==◌, length, find, None, Some, OnOk, OnErr};
+ghost use Rattle.std.specs.Prelude.{◌≡◌, ℕ, ◌≢◌, ◌==◌, length, find, None, Some, OnOk, OnErr};
 ghost use Rattle.cs_types.specs.declared.task.Task.{Task as SomeTask};
 ghost use Rattle.cs_types.specs.Room.{has_pid, inserted};
 ghost use Rattle.cs_types.specs.Order.{deadline_class, class_of};
 ghost use Rattle.cs_types.specs.Step.{child_of};
-ghost use Rattle.task_table.specs.Table.{IsSound};
+ghost use Rattle.task_table.specs.Table.{total_in, IsSound};
 ghost use Rattle.cookie_refs.specs.Refs.{Agree};
 ghost use Rattle.fork_inherit.specs.Answers.{fork_answer};
 
@@ -63,7 +63,8 @@ fn is_deadline(policy: Policy) -> bool
 fn insert(table: &mut TaskTable, task: Task)
     requires free { find (has_pid task.spec.pid) table.old.tasks ≡ None }
     requires spare { length table.old.tasks ≢ table.old.limit }
-    ensures inserted { table.new ≡ record table.old { tasks = inserted task table.old.tasks } }
+    ensures inserted { table.new ≡ record table.old { tasks = inserted task table.old.tasks; totals = table.new.totals } }
+    ensures totals { (pid : ℕ) → total_in table.new pid ≡ total_in table.old pid }
     ensures sound { IsSound table.new }
 {
     table.add(task.spec).unwrap();
@@ -72,7 +73,7 @@ fn insert(table: &mut TaskTable, task: Task)
 
 /// The task with the pid `caller` gets a child with the pid `child`, a thread of its group or a
 /// process of its own (`copy_process`, kernel/fork.c). The child has its caller's cookie and one
-/// reference to it (`sched_core_fork`, kernel/sched/core_sched.c).
+/// reference to it (`sched_core_fork`, kernel/sched/core_sched.c), and was charged nothing.
 ///
 /// `NoCaller` comes exactly where no living task has the pid of the caller, and else `Eagain` exactly
 /// where there are `limit` tasks, 0 to 65535, or the caller is a deadline task (`sched_fork`,
@@ -92,7 +93,8 @@ pub fn fork(
     ensures answer { result ≡ fork_answer table.old (find (has_pid caller) table.old.tasks) }
     ensures child { (by : SomeTask) → find (has_pid caller) table.old.tasks ≡ Some by →
         OnOk result (table.new ≡
-        record table.old { tasks = inserted (child_of by thread child) table.old.tasks }) }
+        record table.old { tasks = inserted (child_of by thread child) table.old.tasks; totals = table.new.totals }) }
+    ensures totals { (pid : ℕ) → total_in table.new pid ≡ total_in table.old pid }
     ensures unchanged { OnErr result (table.new ≡ table.old) }
     ensures same_refs { OnErr result (refs.new ≡ refs.old) }
 

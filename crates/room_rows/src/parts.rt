@@ -1,14 +1,14 @@
 //! The parts of a machine: the table of tasks, the references of cookies, the access check, the plan of a
 //! call, how a task is born and ends, and the accounts of forced idle.
 
-ghost use Rattle.std.specs.Prelude.{◌≡◌, ◌^◌, ◌<◌, [], All, OnErr};
+ghost use Rattle.std.specs.Prelude.{◌≡◌, ◌+◌, ◌^◌, ◌<◌, [], All, OnErr};
 ghost use Rattle.cookie_refs.specs.Refs.{Agree, count_of};
 ghost use Rattle.cs_types.specs.Guards.{guards_on_bench};
 
 use cookie_refs::{CookieFull, CookieRefs};
 use cs_outside::PairGuard;
 use cs_types::{Ask, Cookie, Creds, Errno, Pid, Policy, Reply, Task, TaskSpec};
-use forceidle_account::{ForceIdle, Totals};
+use forceidle_account::ForceIdle;
 use fork_inherit::{ForkFault, HasThreads, end, fork};
 use prctl_core::{Decision, Planned, Target, plan};
 use ptrace_check::{Guards, may_access};
@@ -130,7 +130,7 @@ fn expect_changed(rt: &impl Abort, table: &mut TaskTable) {
 /// Expects that task 2 is removed as it was changed.
 fn expect_removed(rt: &impl Abort, table: &mut TaskTable) {
     let removed = table.remove(2);
-    assert!(rt; matches!(removed, Some(Task { cookie: 7, .. })));
+    assert!(rt; matches!(removed, Some((Task { cookie: 7, .. }, 0))));
     assert!(rt; table.find(2).is_none());
     assert!(rt; table.remove(2).is_none());
     assert!(rt; table.len() == 2);
@@ -142,6 +142,25 @@ fn tasks_that_change(rt: HostRuntime) {
     expect_not_added(&rt, &mut table);
     expect_changed(&rt, &mut table);
     expect_removed(&rt, &mut table);
+}
+
+/// Charges task 3 a share, in ns, and expects that it was charged so much before.
+fn charge_third(rt: &impl Abort, table: &mut TaskTable, share: u64, before: u64)
+    requires { before + share < 2 ^ 64 }
+{
+    assert!(rt; table.find(3).is_some());
+    assert!(rt; table.forced(3) == before);
+    table.raise(3, share);
+}
+
+#[test]
+fn totals_of_tasks(rt: HostRuntime) {
+    let mut table = three_tasks(&rt);
+    charge_third(&rt, &mut table, 7, 0);
+    charge_third(&rt, &mut table, 5, 7);
+    let totals = (table.forced(1), table.forced(3), table.forced(4));
+    assert!(rt; totals == (0, 12, 0));
+    assert!(rt; matches!(table.remove(3), Some((_, 12))));
 }
 
 /// Expects that the fault is told by this text.
@@ -342,7 +361,7 @@ fn end_task<R: AllocGlobal + Abort>(
     table: &mut TaskTable,
     refs: &mut CookieRefs,
     pid: Pid,
-) -> Result<Task, HasThreads>
+) -> Result<(Task, u64), HasThreads>
     requires agree { Agree refs.old table.old.tasks }
     requires limit { table.old.limit ≡ 3 }
     ensures agree { Agree refs.new table.new.tasks }
@@ -365,8 +384,8 @@ fn expect_end<R: AllocGlobal + Abort>(rt: &R, table: &mut TaskTable, refs: &mut 
     assert!(rt; matches!(full, Err(ForkFault::Eagain)));
     let led = end_task(rt, table, refs, 1);
     assert!(rt; matches!(led, Err(HasThreads)));
-    let ended = end_task(rt, table, refs, 3).expect(rt, "an end");
-    assert!(rt; ended.spec.pid == 3 && table.len() == 2);
+    let (ended, forced) = end_task(rt, table, refs, 3).expect(rt, "an end");
+    assert!(rt; ended.spec.pid == 3 && forced == 0 && table.len() == 2);
 }
 
 /// Expects that task 3, which has ended, forks none, and that task 2 does.
@@ -426,14 +445,4 @@ fn shares_of_an_interval(rt: HostRuntime) {
     expect_share(&rt, 0, 1, 1, 10, None);
     expect_share(&rt, 1, 0, 2, 10, None);
     expect_share(&rt, 1, 1, 1, 0, None);
-}
-
-#[test]
-fn totals_of_tasks(rt: HostRuntime) {
-    let mut totals = Totals::with_capacity(rt.alloc(), 2).expect(&rt, "room");
-    totals.add(1);
-    totals.add(3);
-    totals.raise(3, 7);
-    totals.raise(3, 5);
-    assert!(rt; totals.of(1) == 0 && totals.of(3) == 12 && totals.of(2) == 0);
 }

@@ -1,20 +1,23 @@
 -- What a table keeps, and how a search, an insert, a removal and a write find and leave it.
-use Rattle.std.proofs.Common.{eq-eqb, ◌≡◌, ◌≢◌, ℕ, zero, suc, ◌+◌, ◌<◌, ◌≤◌, not, cond, List, [], ◌∷◌, map, length, get_or, Some, None, Ok, Err, is_some, refl, sym, ap, ◌∙◌, subst, arith}
+use Rattle.std.proofs.Common.{eq-eqb, ◌≡◌, ◌≢◌, ℕ, zero, suc, ◌+◌, ◌<◌, ◌≤◌, not, cond, List, [], ◌∷◌, map, length, get_or, set, Some, None, Ok, Err, is_some, refl, sym, ap, ◌∙◌, subst, arith}
 use Rattle.std.specs.Prelude.{find, filter, insert, remove, slice_get}
 use Rattle.std.proofs.lemmas.List.Edits.{length-insert, length-remove}
 use Rattle.std.proofs.lemmas.Bool.{ne_eqb}
 use Rattle.slab.specs.Slab.{Slab, get, slab_len, Updates, with_value}
 use Rattle.slab.proofs.SlabLemmas.{ContainsKey-within}
 use Rattle.std.proofs.lemmas.List.Sums.{sum_by-set}
+use Rattle.std.proofs.lemmas.List.{length-set, length-map}
+use Rattle.std.proofs.Math.Seq.{map-set_same}
 use Rattle.cs_types.specs.declared.task.Task.{Task}
 use Rattle.cs_types.specs.declared.task.TaskSpec.{TaskSpec}
 use Rattle.cs_types.specs.Room.{has_pid, inserted}
 use Rattle.task_table.specs.declared.entry.Entry.{Entry}
-use Rattle.task_table.specs.Table.{pid_of, Table, IsSound, Rises, add_answer}
+use Rattle.task_table.specs.Table.{pid_of, Table, Rises, add_answer}
 use Rattle.task_table.specs.declared.fault.AddFault.TheVariants.{Full}
 use Rattle.task_table.specs.Positions.{IsAt, IsGap}
-use Rattle.task_table.specs.Inside.{tasks_at, IsKept}
+use Rattle.task_table.specs.Inside.{slot_of, tasks_at, totals_of, IsKept}
 use Rattle.task_table.proofs.Rising.{find_at, find_none, none_gap, without_at, with_at, inserted_gap, rises_insert, rises_remove, rises_set, pids_set, at_within, split_within}
+use Rattle.task_table.proofs.Totals.{total-none}
 use Rattle.task_table.proofs.Slots.{insert_both, remove_both, length_both, listed, slot_at, others_elsewhere, holds_insert, holds_remove, holds_set}
 
 -- the task at the position of a pid has it
@@ -34,9 +37,6 @@ module _ {slots : Slab Task} {entries : List Entry} {room limit : ℕ} {tasks : 
 
   pub kept_length : length entries ≡ length tasks
   kept_length = length_both (λ entry. entry.pid) pid_of entries tasks kept.index
-
-  pub kept_sound : IsSound (record { tasks = tasks; limit = limit })
-  kept_sound = record { rising = kept.rising; few = omega (arith, kept_length, kept.few); limit = kept.limit_fits }
 
   pub position_within : (pid position : ℕ) → IsAt pid position tasks → position < length entries
   position_within pid position at = omega (arith, kept_length, at_within pid position tasks at)
@@ -60,22 +60,26 @@ module _ {slots : Slab Task} {entries : List Entry} {room limit : ℕ} {tasks : 
   -- a task goes into an empty slot, and an entry for it into its gap
   pub kept_insert : (new : Slab Task) (after : List Entry) (more key position : ℕ) (task : Task) → IsGap task.spec.pid position tasks →
       get slots key ≡ None → Updates slots new key (Some task) → slab_len new ≡ slab_len slots + 1 → new.capacity ≡ slots.capacity →
-      room ≤ more → length entries ≢ limit → after ≡ insert entries position (record { pid = task.spec.pid; key = key }) →
+      room ≤ more → length entries ≢ limit → after ≡ insert entries position (record { pid = task.spec.pid; key = key; forced = 0 }) →
       IsKept new after more limit (inserted task tasks)
   kept_insert new after more key position task gap empty updates longer same_room more_room free is =
-      let entry : Entry = record { pid = task.spec.pid; key = key } in
+      let entry : Entry = record { pid = task.spec.pid; key = key; forced = 0 } in
       let inside = gap_in_entries task.spec.pid position gap in
       let long : length after ≡ length entries + 1 = ap length is ∙ length-insert entries position entry inside in
       let there = sym (inserted_gap task position tasks gap) in
+      let index = ap (map (λ (e : Entry). e.pid)) is ∙ insert_both (λ (e : Entry). e.pid) pid_of entries tasks position entry task kept.index refl
+      ∙ ap (map pid_of) there in
       record {
         holds = subst (λ es. map (λ (e : Entry). get new e.key) es ≡ map Some (inserted task tasks)) (sym is)
             (holds_insert slots new key task empty updates entries tasks position entry refl kept.holds ∙ ap (map Some) there);
-        index = ap (map (λ (e : Entry). e.pid)) is ∙ insert_both (λ (e : Entry). e.pid) pid_of entries tasks position entry task kept.index refl
-            ∙ ap (map pid_of) there;
-        rising = subst Rises there (rises_insert task 0 position tasks kept.rising (omega arith) gap);
+        index = index;
+        sound = record {
+          rising = subst Rises there (rises_insert task 0 position tasks kept.sound.rising (omega arith) gap);
+          known = λ pid none. total-none pid after (inserted task tasks) index none;
+          few = omega (arith, length_both (λ (e : Entry). e.pid) pid_of after (inserted task tasks) index, long, kept_length, kept.sound.few, free);
+          limit = kept.sound.limit;
+        };
         counted = longer ∙ ap (λ n. n + 1) kept.counted ∙ sym long;
-        few = omega (arith, long, kept.few, free);
-        limit_fits = kept.limit_fits;
         room_for_entries = omega (arith, kept.room_for_entries, more_room);
         room_for_tasks = omega (arith, kept.room_for_tasks, same_room);
       }
@@ -90,18 +94,41 @@ module _ {slots : Slab Task} {entries : List Entry} {room limit : ℕ} {tasks : 
       let inside = position_within pid position at in
       let long : length after + 1 ≡ length entries = ap (λ (es : List Entry). length es + 1) is ∙ length-remove entries position inside in
       let without = sym (without_at pid position tasks at) in
+      let index = ap (map (λ (e : Entry). e.pid)) is ∙ remove_both (λ (e : Entry). e.pid) pid_of entries tasks position kept.index
+      ∙ ap (map pid_of) without in
       record {
         holds = ap (map (λ (e : Entry). get new e.key)) is
             ∙ holds_remove slots new entry.key there.0 there.1 updates entries tasks position (subst (λ p. IsAt p position tasks) (sym there.2) at) kept.holds
             ∙ ap (map Some) without;
-        index = ap (map (λ (e : Entry). e.pid)) is ∙ remove_both (λ (e : Entry). e.pid) pid_of entries tasks position kept.index
-            ∙ ap (map pid_of) without;
-        rising = subst Rises without (rises_remove pid 0 position tasks kept.rising at);
+        index = index;
+        sound = record {
+          rising = subst Rises without (rises_remove pid 0 position tasks kept.sound.rising at);
+          known = λ other none. total-none other after _ index none;
+          few = omega (arith, length_both (λ (e : Entry). e.pid) pid_of after (filter (λ task. not (has_pid pid task)) tasks) index, long, kept_length, kept.sound.few);
+          limit = kept.sound.limit;
+        };
         counted = omega (arith, long, shorter, kept.counted);
-        few = omega (arith, long, kept.few);
-        limit_fits = kept.limit_fits;
         room_for_entries = omega (arith, kept.room_for_entries, room_stays);
         room_for_tasks = omega (arith, kept.room_for_tasks, same_room);
+      }
+
+  -- the entry of a pid gets another total
+  pub kept_entry : (position : ℕ) (old new : Entry) → old ≡ get_or entries position old → new.pid ≡ old.pid → new.key ≡ old.key →
+      IsKept slots (set entries position new) room limit tasks
+  kept_entry position old new is pid key =
+      let index = map-set_same (λ (e : Entry). e.pid) entries position new old (pid ∙ ap (λ (e : Entry). e.pid) is) ∙ kept.index in
+      record {
+        holds = map-set_same (slot_of slots) entries position new old (ap (get slots) key ∙ ap (slot_of slots) is) ∙ kept.holds;
+        index = index;
+        sound = record {
+          rising = kept.sound.rising;
+          known = λ pid none. total-none pid (set entries position new) tasks index none;
+          few = kept.sound.few;
+          limit = kept.sound.limit;
+        };
+        counted = kept.counted ∙ sym (length-set entries position new);
+        room_for_entries = kept.room_for_entries;
+        room_for_tasks = kept.room_for_tasks;
       }
 
   -- the slot of a pid gets another task with the pid
@@ -113,15 +140,19 @@ module _ {slots : Slab Task} {entries : List Entry} {room limit : ℕ} {tasks : 
       let there = found_some task.spec.pid position entry at here in
       let inside = position_within task.spec.pid position at in
       let with = sym (with_at task position tasks at) in
+      let index = kept.index ∙ sym (pids_set task position tasks at) ∙ ap (map pid_of) with in
       record {
         holds = holds_set slots new entry.key task updates entries tasks position entry inside (ap (λ (e : Entry). e.key) (sym here))
             (others_elsewhere slots entry.key there.0 there.1 position entries tasks kept.holds (subst (λ p. IsAt p position tasks) (sym there.2) at)) kept.holds
             ∙ ap (map Some) with;
-        index = kept.index ∙ sym (pids_set task position tasks at) ∙ ap (map pid_of) with;
-        rising = subst Rises with (rises_set task 0 position tasks kept.rising at);
+        index = index;
+        sound = record {
+          rising = subst Rises with (rises_set task 0 position tasks kept.sound.rising at);
+          known = λ pid none. total-none pid entries _ index none;
+          few = omega (arith, length-map tasks (λ other. cond (has_pid task.spec.pid other) task other), kept.sound.few);
+          limit = kept.sound.limit;
+        };
         counted = same_length ∙ kept.counted;
-        few = kept.few;
-        limit_fits = kept.limit_fits;
         room_for_entries = kept.room_for_entries;
         room_for_tasks = omega (arith, kept.room_for_tasks, same_room);
       }
@@ -135,15 +166,17 @@ slab_len-with_value slots key old new has =
     omega (arith, counts, one)
 
 -- an open table keeps the tasks that it is seen as
-pub kept_of : (slots : Slab Task) (entries : List Entry) (room limit : ℕ) (table : Table) → record { tasks = tasks_at slots entries; limit = limit } ≡ table →
+pub kept_of : (slots : Slab Task) (entries : List Entry) (room limit : ℕ) (table : Table) →
+    record { tasks = tasks_at slots entries; totals = totals_of entries; limit = limit } ≡ table →
     IsKept slots entries room limit (tasks_at slots entries) → IsKept slots entries room limit table.tasks
 kept_of slots entries room limit table view kept = subst (λ (t : Table). IsKept slots entries room limit t.tasks) view kept
 
 -- what a kept table is seen as
 pub seen_as : (slots : Slab Task) (entries : List Entry) (room limit : ℕ) (tasks : List Task) (old : ℕ) → IsKept slots entries room limit tasks → limit ≡ old →
-    (λ (table : Table). table) (record { tasks = tasks_at slots entries; limit = limit }) ≡ record { tasks = tasks; limit = old }
+    (λ (table : Table). table) (record { tasks = tasks_at slots entries; totals = totals_of entries; limit = limit })
+    ≡ record { tasks = tasks; totals = totals_of entries; limit = old }
 seen_as slots entries room limit tasks old kept same =
-    let table : List Task → ℕ → Table = λ ts n. record { tasks = ts; limit = n } in
+    let table : List Task → ℕ → Table = λ ts n. record { tasks = ts; totals = totals_of entries; limit = n } in
     ap (λ (ts : List Task). table ts limit) (kept_view kept) ∙ ap (table tasks) same
 
 -- ---- what an addition answers

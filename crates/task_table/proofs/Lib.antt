@@ -2,3 +2,4 @@ pub mod Rising
 pub mod Slots
 pub mod Kept
 pub mod Tables
+pub mod Totals

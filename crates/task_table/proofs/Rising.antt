@@ -161,6 +161,15 @@ without_none pid [] none = refl
 without_none pid (task ∷ rest) none =
     cond-true (not (has_pid pid task)) _ _ (ap not none.0) ∙ ap (λ (ts : List Task). task ∷ ts) (without_none pid rest none.1)
 
+-- once those with a pid are gone, none has it
+pub find-without : (pid : ℕ) (tasks : List Task) → find (has_pid pid) (filter (λ task. not (has_pid pid task)) tasks) ≡ None
+find-without pid [] = refl
+find-without pid (task ∷ rest) =
+    elim (cases_Bool (has_pid pid task)) [
+      | inl here ↦ rw here (find-without pid rest)
+      | inr past ↦ rw (past, past) (find-without pid rest)
+    ]
+
 pub with_none : (new : Task) (tasks : List Task) → NoneHas new.spec.pid tasks →
     map (λ other. cond (has_pid new.spec.pid other) new other) tasks ≡ tasks
 with_none new [] none = refl

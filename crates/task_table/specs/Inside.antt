@@ -1,10 +1,10 @@
 -- How a table keeps its tasks: in slots, with an index of entries. No public clause cites this module.
-use Rattle.std.specs.Prelude.{◌≡◌, ℕ, ◌<◌, ◌≤◌, ◌^◌, List, map, length, Option, Some}
+use Rattle.std.specs.Prelude.{◌≡◌, ℕ, ◌≤◌, List, map, length, Option, Some}
 use Rattle.std.specs.List.{filter_map}
 use Rattle.slab.specs.Slab.{Slab, get, slab_len}
 use Rattle.cs_types.specs.declared.task.Task.{Task}
 use Rattle.task_table.specs.declared.entry.Entry.{Entry}
-use Rattle.task_table.specs.Table.{Rises}
+use Rattle.task_table.specs.Table.{IsSound}
 use Rattle.task_table.specs.Positions.{IsIndexOf}
 
 -- the task in the slot of an entry
@@ -15,6 +15,10 @@ slot_of slots entry = get slots entry.key
 abbrev pub tasks_at : Slab Task → List Entry → List Task
 tasks_at slots entries = filter_map (slot_of slots) entries
 
+-- what each entry's task was charged, by its pid
+abbrev pub totals_of : List Entry → List (ℕ × ℕ)
+totals_of entries = map (λ entry. (entry.pid, entry.forced)) entries
+
 -- the slots of the entries have these tasks
 abbrev pub Holds : Slab Task → List Entry → List Task → Type 0
 Holds slots entries tasks = map (slot_of slots) entries ≡ map Some tasks
@@ -23,13 +27,11 @@ Holds slots entries tasks = map (slot_of slots) entries ≡ map Some tasks
 abbrev pub EachFilled : Slab Task → List Entry → Type 0
 EachFilled slots entries = Holds slots entries (tasks_at slots entries)
 
--- the entries name all slots that have a task, these tasks by rising pid, and the slots can take the limit
+-- the entries name all slots that have a task, these tasks make a sound table, and the slots can take the limit
 pub record IsKept (slots : Slab Task) (entries : List Entry) (room limit : ℕ) (tasks : List Task) : Type 0 where
   pub holds : Holds slots entries tasks
   pub index : IsIndexOf entries tasks
-  pub rising : Rises tasks
+  pub sound : IsSound (record { tasks = tasks; totals = totals_of entries; limit = limit })
   pub counted : slab_len slots ≡ length entries
-  pub few : length entries ≤ limit
-  pub limit_fits : limit < 2 ^ 16
   pub room_for_entries : limit ≤ room
   pub room_for_tasks : limit ≤ slots.capacity

@@ -1,15 +1,24 @@
 -- A table of tasks, as its callers see it.
-use Rattle.std.specs.Prelude.{ℕ, ◌<◌, ◌^◌, ◌+◌, ◌==◌, ◌≤◌, List, [], ◌∷◌, length, find, is_some, Result, Ok, Err, if◌then◌else◌}
+use Rattle.std.specs.Prelude.{◌≡◌, ℕ, ◌<◌, ◌^◌, ◌+◌, ◌==◌, ◌≤◌, List, [], ◌∷◌, length, find, sum_by, None, is_some, Result, Ok, Err, if◌then◌else◌}
 use Rattle.cs_types.specs.declared.task.Task.{Task}
 use Rattle.cs_types.specs.declared.task.TaskSpec.{TaskSpec}
 use Rattle.cs_types.specs.Room.{has_pid}
 use Rattle.task_table.specs.declared.fault.AddFault.{AddFault}
 use Rattle.task_table.specs.declared.fault.AddFault.TheVariants.{Twice, Full}
 
--- the living tasks by rising pid, and how many there may be
+-- the living tasks by rising pid, what each was charged for forced idle by its pid, in ns, and how many tasks there may be
 pub record Table : Type 0 where
   pub tasks : List Task
+  pub totals : List (ℕ × ℕ)
   pub limit : ℕ
+
+-- what a task was charged, of totals by pid: 0 where it is not among them
+abbrev pub total_among : List (ℕ × ℕ) → ℕ → ℕ
+total_among totals pid = sum_by (λ total. if total.0 == pid then total.1 else 0) totals
+
+-- what a task of the table was charged
+abbrev pub total_in : Table → ℕ → ℕ
+total_in table pid = total_among table.totals pid
 
 -- a task's pid
 abbrev pub pid_of : Task → ℕ
@@ -27,6 +36,7 @@ Rises tasks = RisesFrom 0 tasks
 -- what holds of each table
 pub record IsSound (table : Table) : Type 0 where
   pub rising : Rises table.tasks
+  pub known : (pid : ℕ) → find (has_pid pid) table.tasks ≡ None → total_in table pid ≡ 0
   pub few : length table.tasks ≤ table.limit
   pub limit : table.limit < 2 ^ 16
 

@@ -7,12 +7,14 @@ ghost use Rattle.task_table.specs.Positions.{IsIndexOf, IsAt, IsGap, IsAbove};
 
 use cs_types::Pid;
 
-/// Where the task with a pid is kept.
+/// Where the task with a pid is kept, and what it was charged.
 #[derive(Clone, Copy)]
 pub(crate) struct Entry {
     pub pid: Pid,
     /// Its slot.
     pub key: usize,
+    /// What it was charged for forced idle, in ns (`core_forceidle_sum`).
+    pub forced: u64,
 }
 
 /// The position of the entry with the pid, or the position where it would go. The entries rise by pid.

@@ -1,5 +1,5 @@
-//! The living tasks of a core, found by pid and walked by rising pid. Slots are set aside once, so
-//! that no later call takes memory.
+//! The living tasks of a core, and what each was charged for forced idle, found by pid and walked by
+//! rising pid. Slots are set aside once, so that no later call takes memory.
 #![tactic(auto)]
 
 mod entry;

@@ -1,9 +1,9 @@
 //! The table. It is apart since it alone keeps the slots and the index in step.
 
-ghost use Rattle.std.specs.Prelude.{◌≡◌, ◌≤◌, ◌&&◌, nat_lt, [], ◌∷◌, length, map, drop, filter, find, not, if◌then◌else◌, IfOk, IfNone, IfSome, OnOk, OnErr, MatchResult, MatchOption, option_copied, slice_get};
+ghost use Rattle.std.specs.Prelude.{◌≡◌, ℕ, ◌+◌, ◌<◌, ◌^◌, ◌≤◌, ◌==◌, ◌&&◌, nat_lt, [], ◌∷◌, length, map, drop, filter, find, not, if◌then◌else◌, IfOk, IfNone, IfSome, OnOk, OnErr, MatchResult, MatchOption, option_copied, slice_get, IsSome};
 ghost use Rattle.std.specs.Option.{option_map};
 ghost use Rattle.cs_types.specs.Room.{asleep, inserted, has_pid};
-ghost use Rattle.task_table.specs.Table.{Table, pid_of, IsSound, add_answer};
+ghost use Rattle.task_table.specs.Table.{Table, pid_of, total_in, IsSound, add_answer};
 ghost use Rattle.task_table.specs.Group.{is_in_group, group_above};
 ghost use Rattle.task_table.specs.Walk.{WalksInOrder};
 ghost use Rattle.task_table.specs.Positions.{IsAt, IsGap};
@@ -17,7 +17,8 @@ use slab::Slab;
 use std::alloc::Global;
 use std::marker::Model;
 
-/// The living tasks, no two with one pid, and at most as many as its limit.
+/// The living tasks, no two with one pid, and at most as many as its limit, each with what it was
+/// charged for forced idle.
 #[derive(Drop)]
 pub struct TaskTable {
     slots: Slab<Task>,
@@ -29,11 +30,15 @@ pub struct TaskTable {
 impl Model for TaskTable {
     ghost use Rattle.std.specs.Prelude.{vec_capacity};
     ghost use Rattle.task_table.specs.Table.{Table};
-    ghost use Rattle.task_table.specs.Inside.{tasks_at, IsKept};
+    ghost use Rattle.task_table.specs.Inside.{tasks_at, totals_of, IsKept};
 
     ghost Value = { Table };
 
-    ghost view = { λ table. record { tasks = tasks_at table.slots table.entries.items; limit = table.limit } };
+    ghost view = { λ table. record {
+      tasks = tasks_at table.slots table.entries.items;
+      totals = totals_of table.entries.items;
+      limit = table.limit;
+    } };
 
     ghost invariant = { λ table. IsKept table.slots table.entries.items (vec_capacity table.entries) table.limit
         (tasks_at table.slots table.entries.items) };
@@ -59,8 +64,7 @@ fn asleep(spec: TaskSpec) -> Task
 impl TaskTable {
     /// An empty table that can take `limit` tasks. This call alone takes memory.
     pub fn with_limit(alloc: Global, limit: u16) -> Result<TaskTable, OutOfMemory>
-        ensures empty { IfOk result (λ table. table.tasks ≡ []) }
-        ensures limit { IfOk result (λ table. table.limit ≡ limit) }
+        ensures empty { IfOk result (λ table. table ≡ record { tasks = []; totals = []; limit = limit }) }
         ensures sound { IfOk result IsSound }
     {
         Ok(TaskTable {
@@ -78,11 +82,13 @@ impl TaskTable {
         position_of(&self.entries, pid)
     }
 
-    /// Puts a task asleep into the table. `Twice` comes exactly where a task has its pid, and else
+    /// Puts a task asleep into the table, charged nothing yet. `Twice` comes exactly where a task has its pid, and else
     /// `Full` exactly where the table has as many tasks as its limit. An `Err` changes nothing.
     pub fn add(&mut self, spec: TaskSpec) -> Result<(), AddFault>
         ensures answer { result ≡ add_answer self.old spec }
-        ensures added { OnOk result (self.new ≡ record self.old { tasks = inserted (asleep spec) self.old.tasks }) }
+        ensures added { OnOk result (self.new ≡
+            record self.old { tasks = inserted (asleep spec) self.old.tasks; totals = self.new.totals }) }
+        ensures totals { (pid : ℕ) → total_in self.new pid ≡ total_in self.old pid }
         ensures unchanged { OnErr result (self.new ≡ self.old) }
         ensures sound { IsSound self.new }
     {
@@ -96,7 +102,9 @@ impl TaskTable {
     fn insert(&mut self, position: usize, spec: TaskSpec) -> Result<(), AddFault>
         requires { IsGap spec.pid position self.old.tasks }
         ensures answer { result ≡ add_answer self.old spec }
-        ensures added { OnOk result (self.new ≡ record self.old { tasks = inserted (asleep spec) self.old.tasks }) }
+        ensures added { OnOk result (self.new ≡
+            record self.old { tasks = inserted (asleep spec) self.old.tasks; totals = self.new.totals }) }
+        ensures totals { (pid : ℕ) → total_in self.new pid ≡ total_in self.old pid }
         ensures unchanged { OnErr result (self.new ≡ self.old) }
         ensures sound { IsSound self.new }
     {
@@ -104,7 +112,11 @@ impl TaskTable {
             return Err(AddFault::Full(self.limit));
         }
         let key = self.slots.insert_reserved(asleep(spec));
-        let entry = Entry { pid: spec.pid, key };
+        let entry = Entry {
+            pid: spec.pid,
+            key,
+            forced: 0,
+        };
         self.entries.insert(position, entry).unwrap();
         Ok(())
     }
@@ -130,7 +142,33 @@ impl TaskTable {
         self.slots.get(entry.key)
     }
 
-    /// Puts the task in the position of the one with its pid, which it gives back. `None` exactly where
+    /// What the task with the pid was charged for forced idle, in ns: 0 where there is none.
+    pub fn forced(&self, pid: Pid) -> u64
+        ensures total { result ≡ total_in self.now pid }
+        ensures sound { IsSound self.now }
+    {
+        match self.position_of(pid) {
+            Ok(position) => self.entries[position].forced,
+            Err(_) => 0,
+        }
+    }
+
+    /// Charges the task with the pid a share, in ns (`__sched_core_account_forceidle`). Its total stays below 2^64.
+    pub fn raise(&mut self, pid: Pid, share: u64)
+        requires there { IsSome (find (has_pid pid) self.old.tasks) }
+        requires fits { total_in self.old pid + share < 2 ^ 64 }
+        ensures rest { self.new ≡ record self.old { totals = self.new.totals } }
+        ensures totals { (other : ℕ) → total_in self.new other
+            ≡ total_in self.old other + (if other == pid then share else 0) }
+        ensures sound { IsSound self.new }
+    {
+        let Ok(position) = self.position_of(pid) else {
+            unreachable!()
+        };
+        self.entries[position].forced += share;
+    }
+
+    /// Puts the task in the position of the one with its pid, which it gives back. It has that one's total. `None` exactly where
     /// there is none, and then nothing changes.
     pub fn change(&mut self, task: Task) -> Option<Task>
         ensures old { result ≡ find (has_pid task.spec.pid) self.old.tasks }
@@ -147,10 +185,13 @@ impl TaskTable {
         Some(old)
     }
 
-    /// Takes the task with the pid out. `None` exactly where there is none, and then nothing changes.
-    pub fn remove(&mut self, pid: Pid) -> Option<Task>
-        ensures task { result ≡ find (has_pid pid) self.old.tasks }
-        ensures removed { self.new ≡ record self.old { tasks = filter (λ task. not (has_pid pid task)) self.old.tasks } }
+    /// Takes the task with the pid out, and gives it and what it was charged for forced idle, in ns. `None`
+    /// exactly where there is none, and then nothing changes.
+    pub fn remove(&mut self, pid: Pid) -> Option<(Task, u64)>
+        ensures task { result ≡ option_map (λ task. (task, total_in self.old pid)) (find (has_pid pid) self.old.tasks) }
+        ensures removed { self.new ≡
+            record self.old { tasks = filter (λ task. not (has_pid pid task)) self.old.tasks; totals = self.new.totals } }
+        ensures totals { (other : ℕ) → total_in self.new other ≡ (if other == pid then 0 else total_in self.old other) }
         ensures absent { IfNone result (self.new ≡ self.old) }
         ensures sound { IsSound self.new }
     {
@@ -158,7 +199,8 @@ impl TaskTable {
             return None;
         };
         let entry = self.entries.remove(position);
-        self.slots.try_remove(entry.key)
+        let task = self.slots.remove(entry.key);
+        Some((task, entry.forced))
     }
 
     /// The least pid above `after` of a task of the group. `None` exactly where there is none.

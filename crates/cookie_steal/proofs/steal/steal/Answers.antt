@@ -57,17 +57,11 @@ flag-requires g c =
     let stays = both_stay (c.touch.ensures c.args.table.now).stays (both_stay c.enqueue.ensures.stays (c.set_place.ensures c.enqueue.new.table).stays) in
     omega (arith, c.requires.thief, ap (λ (kept : Kept). kept.siblings) stays.kept)
 
-pub is_left_idle-idles-requires-clause-cpu : goal.is_left_idle-idles-requires-clause-cpu
-is_left_idle-idles-requires-clause-cpu g c =
+pub is_left_idle-idles-requires : goal.is_left_idle-idles-requires
+is_left_idle-idles-requires g c =
     let table = c.enqueue.new.table in
     let stays = both_stay (c.touch.ensures c.args.table.now).stays (both_stay c.enqueue.ensures.stays (both_stay (c.set_place.ensures table).stays (c.flag.ensures table).stays)) in
-    omega (arith, c.requires.within, ap (λ (kept : Kept). kept.siblings) stays.kept)
-
-pub is_left_idle-idles-requires-clause-agree : goal.is_left_idle-idles-requires-clause-agree
-is_left_idle-idles-requires-clause-agree g c =
-    let table = c.enqueue.new.table in
-    let stays = both_stay (c.touch.ensures c.args.table.now).stays (both_stay c.enqueue.ensures.stays (both_stay (c.set_place.ensures table).stays (c.flag.ensures table).stays)) in
-    stays.agree c.requires.agree
+    record { cpu = omega (arith, c.requires.within, ap (λ (kept : Kept). kept.siblings) stays.kept); agree = stays.agree c.requires.agree }
 
 pub flag-requires-2 : goal.flag-requires-2
 flag-requires-2 g c =
@@ -100,6 +94,6 @@ returns g c =
           ∙ ap (λ (source : ℕ). flag after source (is_left after source)) (c.requires.source beside);
       numbers =
           last.numbers ∙ raised.numbers ∙ place.numbers ∙ c.enqueue.ensures.numbers ∙ ap (touched 1) touch.numbers
-          ∙ ap (λ (n : ℕ). let numbers : Numbers = record (numbers_of c.args.core.now) { task = n } in numbers) (omega arith);
+          ∙ ap (λ (n : ℕ). let numbers : Numbers = record (numbers_of (c.args.core.now, c.args.table.now)) { task = n } in numbers) (omega arith);
       stays = both_stay touch.stays (both_stay c.enqueue.ensures.stays (both_stay place.stays (both_stay raised.stays last.stays)));
     }

@@ -27,7 +27,7 @@ steal-requires-clause-source g c beside = c.source_of-source.ensures.source besi
 
 pub steal-requires-clause-there : goal.steal-requires-clause-there
 steal-requires-clause-there g c =
-    stolen_there (room_of some_beside (c.args.core.now, c.args.table.now)) c.args.cpu c.in-Some.task c.requires.agree.table.rising (sym (c.in-Some.ensures.stolen some_beside))
+    stolen_there (room_of some_beside (c.args.core.now, c.args.table.now)) c.args.cpu c.in-Some.task c.requires.at.agree.table.rising (sym (c.in-Some.ensures.stolen some_beside))
 
 pub steal-requires-clause-low : goal.steal-requires-clause-low
 steal-requires-clause-low g c = c.requires.low
@@ -37,7 +37,7 @@ next_place-place-requires-clause-places g c = c.requires.places
 
 pub returns-in-Some : goal.returns-in-Some
 returns-in-Some g c =
-    let at = lane_at c.args.core.now.lanes.items c.args.cpu c.index.result.now c.requires.cpu c.index.ensures in
+    let at = lane_at c.args.core.now.lanes.items c.args.cpu c.index.result.now c.requires.at.cpu c.index.ensures in
     record {
       reply = λ beside.
           let room = room_of beside (c.args.core.now, c.args.table.now) in
@@ -55,7 +55,7 @@ returns-in-Some g c =
 
 pub returns-in-None : goal.returns-in-None
 returns-in-None g c =
-    let at = lane_at c.args.core.now.lanes.items c.args.cpu c.index.result.now c.requires.cpu c.index.ensures in
+    let at = lane_at c.args.core.now.lanes.items c.args.cpu c.index.result.now c.requires.at.cpu c.index.ensures in
     let place = c.set_place.ensures c.args.table.now in
     record {
       reply = λ beside.
@@ -70,7 +70,7 @@ returns-in-None g c =
           ∙ ap (λ (made : Stepped). made.room) (it_tries room c.args.cpu _ at c.if-index-eq0.false);
       numbers =
           place.numbers
-          ∙ ap (λ (n : ℕ). let numbers : Numbers = record (numbers_of c.args.core.now) { task = n } in numbers) (sym (add-zero c.args.core.now.task_number));
+          ∙ ap (λ (n : ℕ). let numbers : Numbers = record (numbers_of (c.args.core.now, c.args.table.now)) { task = n } in numbers) (sym (add-zero c.args.core.now.task_number));
       unchanged = λ none. absurd cc;
       stays = place.stays;
     }

@@ -49,6 +49,6 @@ returns g c =
           (c.queue_at_home.ensures.room beside ∙ ap (λ (now : RoomState). queue_at_home now task) (c.dequeue.ensures.room here))
           ∙ ap (flag (queue_at_home (dequeue room task) task) task.home) runs;
       numbers = raised.numbers ∙ c.queue_at_home.ensures.numbers ∙ ap (touched 1) c.dequeue.ensures.numbers
-          ∙ ap (λ (n : ℕ). let numbers : Numbers = record (numbers_of c.args.core.now) { task = n } in numbers) (omega arith);
+          ∙ ap (λ (n : ℕ). let numbers : Numbers = record (numbers_of (c.args.core.now, c.args.table.now)) { task = n } in numbers) (omega arith);
       stays = both_stay c.dequeue.ensures.stays (both_stay c.queue_at_home.ensures.stays raised.stays);
     }

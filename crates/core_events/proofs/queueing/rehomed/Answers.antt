@@ -23,4 +23,4 @@ returns-else-is_online-clause-rehomed g c beside table =
 
 pub returns-else-is_online-clause-within : goal.returns-else-is_online-clause-within
 returns-else-is_online-clause-within g c =
-    omega (arith, ap (λ (t : Task). t.home) (c.moved_to.ensures some_beside (record { tasks = []; limit = 0 })), c.lowest_online.ensures.within)
+    omega (arith, ap (λ (t : Task). t.home) (c.moved_to.ensures some_beside (record { tasks = []; totals = []; limit = 0 })), c.lowest_online.ensures.within)

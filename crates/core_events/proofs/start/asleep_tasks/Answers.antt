@@ -1,6 +1,7 @@
 use Rattle.std.proofs.Common.{◌∙◌, ap}
 use Rattle.std.proofs.lemmas.List.{take_all}
 use Rattle.cs_types.specs.Room.{asleep_tasks}
+use Rattle.task_table.specs.Table.{Table, total_in}
 use Rattle.core_events.proofs.Starts.{added_ok}
 use Rattle.core_events.proofs.start.asleep_tasks.Goals as goal
 
@@ -10,9 +11,16 @@ unwrap-requires c =
     c.requires.distinct c.loop-spec-test.true c.requires.few
 
 pub loop-spec-init : goal.loop-spec-init
-loop-spec-init c = record { sound = c.in_ok-tasks.ensures.sound; tasks = c.in_ok-tasks.ensures.empty; limit = c.in_ok-tasks.ensures.limit }
+loop-spec-init c =
+    let empty = c.in_ok-tasks.ensures.empty in
+    record {
+      sound = c.in_ok-tasks.ensures.sound;
+      tasks = ap (λ (table : Table). table.tasks) empty;
+      limit = ap (λ (table : Table). table.limit) empty;
+      totals = λ pid. ap (λ (table : Table). total_in table pid) empty;
+    }
 
 pub returns : goal.returns
 returns c =
     let now = c.loop-spec.invariant in
-    record { tasks = now.tasks ∙ ap asleep_tasks (take_all c.loop-spec.spec-index c.args.specs.now c.loop-spec-test.false); sound = now.sound; limit = now.limit }
+    record { tasks = now.tasks ∙ ap asleep_tasks (take_all c.loop-spec.spec-index c.args.specs.now c.loop-spec-test.false); sound = now.sound; limit = now.limit; totals = now.totals }

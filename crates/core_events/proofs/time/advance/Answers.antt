@@ -44,7 +44,7 @@ aged_queues lanes now new start many queues =
 pub renew_leasts-requires : goal.renew_leasts-requires
 renew_leasts-requires g c = record {
   agree = (alike_stays (c.grow_tasks.new.core, c.grow_tasks.new.table) _
-      (aged_queues c.grow_tasks.new.core.lanes c.deref_mut.result.now c.age.new.lanes c.deref_mut.ensures.value c.age.auto.lanes c.age.ensures.queues) refl refl refl).agree
+      (aged_queues c.grow_tasks.new.core.lanes c.deref_mut.result.now c.age.new.lanes c.deref_mut.ensures.value c.age.auto.lanes c.age.ensures.queues) refl refl).agree
       (c.grow_tasks.ensures.stays.agree c.requires.may.agree);
 }
 
@@ -63,10 +63,10 @@ returns-clause-advances g c =
           ∙ ap (map (aged c.args.delta)) (ap (map lane_state) start ∙ ap (λ (room : RoomState). room.siblings) grow) in
           c.renew_leasts.ensures.room later ∙ (λ i. with_leasts (record (grow i) { siblings = siblings i }));
       numbers = c.renew_leasts.ensures.numbers
-          ∙ ap (λ (own : List ℕ). let numbers : Numbers = record (numbers_of c.grow_tasks.new.core) { own = own } in numbers)
+          ∙ ap (λ (own : List ℕ). let numbers : Numbers = record (numbers_of (c.grow_tasks.new.core, c.grow_tasks.new.table)) { own = own } in numbers)
           (ap (map number_of) items ∙ c.age.ensures.numbers ∙ ap (map number_of) start)
           ∙ c.grow_tasks.ensures.numbers;
       stays = both_stay c.grow_tasks.ensures.stays
           (both_stay (alike_stays (c.grow_tasks.new.core, c.grow_tasks.new.table) _
-          (aged_queues vector c.deref_mut.result.now c.age.new.lanes start c.age.auto.lanes c.age.ensures.queues) refl refl refl) c.renew_leasts.ensures.stays);
+          (aged_queues vector c.deref_mut.result.now c.age.new.lanes start c.age.auto.lanes c.age.ensures.queues) refl refl) c.renew_leasts.ensures.stays);
     }

@@ -29,7 +29,7 @@ pub change-requires-clause-agree : goal.change-requires-clause-agree
 change-requires-clause-agree g c =
     let next = c.args.core.now.next_stamp in
     let later : next ≤ next + 1 = omega arith in
-    (stamped_later c.args.core.now _ c.args.table.now refl refl later).agree c.requires.agree
+    (stamped_later c.args.core.now _ c.args.table.now refl later).agree c.requires.agree
 
 pub change-requires-then-has_used_slice-clause-knows : goal.change-requires-then-has_used_slice-clause-knows
 change-requires-then-has_used_slice-clause-knows g c =
@@ -47,7 +47,7 @@ returns-then-rotates g c cpu is =
           let used : has_used_slice c.args.task ≡ true = (and_parts (has_used_slice c.args.task) _ behind).0 in
           c.change.ensures.room beside ∙ sliced_is room cpu c.args.task true true used behind;
       numbers = c.change.ensures.numbers;
-      stays = both_stay (stamped_later c.args.core.now _ c.args.table.now refl refl later) c.change.ensures.stays;
+      stays = both_stay (stamped_later c.args.core.now _ c.args.table.now refl later) c.change.ensures.stays;
     }
 
 pub returns-then-has_used_slice : goal.returns-then-has_used_slice

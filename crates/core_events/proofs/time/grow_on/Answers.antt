@@ -19,7 +19,7 @@ returns-in_default g c = record {
 }
 
 pub grown-requires-clause-policy : goal.grown-requires-clause-policy
-grown-requires-clause-policy g c = (found_in (IsFit (length c.args.core.now.lanes.items)) _ c.args.table.now.tasks _ c.requires.agree.tasks (c.in-Some.ensures.there)).policy
+grown-requires-clause-policy g c = (found_in (IsFit (length c.args.core.now.lanes.items)) _ c.args.table.now.tasks _ c.requires.at.agree.tasks (c.in-Some.ensures.there)).policy
 
 pub grown-requires-clause-used : goal.grown-requires-clause-used
 grown-requires-clause-used g c = found_in (λ (t : Task). t.used + c.args.delta < 2 ^ 64) _ c.args.table.now.tasks _ c.requires.used c.in-Some.ensures.there
@@ -29,7 +29,7 @@ grown-requires-clause-vtime g c = found_in (λ (t : Task). t.vtime + 69 * c.args
 
 pub change-requires-clause-knows : goal.change-requires-clause-knows
 change-requires-clause-knows g c =
-    knows-alike (c.args.core.now, c.args.table.now) c.grown.result c.in-Some.task c.requires.agree c.in-Some.ensures.there
+    knows-alike (c.args.core.now, c.args.table.now) c.grown.result c.in-Some.task c.requires.at.agree c.in-Some.ensures.there
     (subst (KeepsTask c.in-Some.task) (sym c.grown.ensures) (kept-grown c.args.delta c.in-Some.task))
 
 -- whether a lower sibling runs the task, as the code asks it
@@ -45,7 +45,7 @@ returns-then-not-is_run_by g c =
     changes_as (λ beside.
     let room = room_of beside (old, c.args.table.now) in
     ap (with_task room) c.grown.ensures
-    ∙ grown_here room c.args.cpu c.args.delta task (sym (c.in-Some.ensures.task beside)) c.requires.agree.table.rising none) c.change.ensures
+    ∙ grown_here room c.args.cpu c.args.delta task (sym (c.in-Some.ensures.task beside)) c.requires.at.agree.table.rising none) c.change.ensures
 
 pub returns-else-not-is_run_by : goal.returns-else-not-is_run_by
 returns-else-not-is_run_by g c =

@@ -19,12 +19,11 @@ loop-cpu-init g c = record {
   };
 }
 
-pub grow_on-requires-clause-cpu : goal.grow_on-requires-clause-cpu
-grow_on-requires-clause-cpu g c =
-    omega (arith, c.loop-cpu-test.true, c.len-cpu-end.ensures, c.args.core.now.lanes.ok.0, ap (λ (kept : Kept). kept.siblings) c.loop-cpu.invariant.changes.stays.kept)
-
-pub grow_on-requires-clause-agree : goal.grow_on-requires-clause-agree
-grow_on-requires-clause-agree g c = c.loop-cpu.invariant.changes.stays.agree c.requires.agree
+pub grow_on-requires-clause-at : goal.grow_on-requires-clause-at
+grow_on-requires-clause-at g c = record {
+  cpu = omega (arith, c.loop-cpu-test.true, c.len-cpu-end.ensures, c.args.core.now.lanes.ok.0, ap (λ (kept : Kept). kept.siblings) c.loop-cpu.invariant.changes.stays.kept);
+  agree = c.loop-cpu.invariant.changes.stays.agree c.requires.agree;
+}
 
 pub grow_on-requires-clause-used : goal.grow_on-requires-clause-used
 grow_on-requires-clause-used g c =

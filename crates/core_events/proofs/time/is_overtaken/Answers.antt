@@ -14,7 +14,7 @@ use Rattle.core_events.proofs.Changes.{held_at}
 use Rattle.core_events.proofs.time.is_overtaken.Goals as goal
 
 pub smallest_vtime-requires : goal.smallest_vtime-requires
-smallest_vtime-requires g c = held_at (c.args.core.now, c.args.table.now) c.args.cpu c.index.result.now c.requires.agree c.requires.cpu c.index.ensures
+smallest_vtime-requires g c = held_at (c.args.core.now, c.args.table.now) c.args.cpu c.index.result.now c.requires.at.agree c.requires.at.cpu c.index.ensures
 
 pub returns-then-not-is_fair : goal.returns-then-not-is_fair
 returns-then-not-is_fair g c beside =
@@ -32,10 +32,10 @@ by_smallest room cpu task rises there fair found is =
 
 pub returns-in-Some : goal.returns-in-Some
 returns-in-Some g c beside =
-    by_smallest (room_of beside (c.args.core.now, c.args.table.now)) c.args.cpu c.args.task.now c.requires.agree.table.rising c.requires.there
+    by_smallest (room_of beside (c.args.core.now, c.args.table.now)) c.args.cpu c.args.task.now c.requires.at.agree.table.rising c.requires.there
     (sym c.is_fair.ensures ∙ c.if-not-is_fair.false) (Some c.in-Some.smallest) (sym c.in-Some.is ∙ c.smallest_vtime.ensures)
 
 pub returns-in-None : goal.returns-in-None
 returns-in-None g c beside =
-    by_smallest (room_of beside (c.args.core.now, c.args.table.now)) c.args.cpu c.args.task.now c.requires.agree.table.rising c.requires.there
+    by_smallest (room_of beside (c.args.core.now, c.args.table.now)) c.args.cpu c.args.task.now c.requires.at.agree.table.rising c.requires.there
     (sym c.is_fair.ensures ∙ c.if-not-is_fair.false) None (sym c.in-None.is ∙ c.smallest_vtime.ensures)

@@ -26,7 +26,7 @@ returns-in_default g c =
           ap (λ (siblings : List SiblingState). let now : RoomState = record room { siblings = siblings } in now) (map-set lane_state lanes cpu lane)
           ∙ least_is room cpu (lane_state lane) None (lane_at lanes cpu lane c.requires.cpu is) (sym c.in_default.is ∙ c.smallest_vtime.ensures);
       numbers = rw (numbers_kept lanes cpu lane lane is refl) refl;
-      stays = alike_stays _ _ (queues_kept lanes cpu lane lane is refl) refl refl refl;
+      stays = alike_stays _ _ (queues_kept lanes cpu lane lane is refl) refl refl;
     }
 
 pub smallest_vtime-requires : goal.smallest_vtime-requires
@@ -46,5 +46,5 @@ returns-in-Some g c =
           ∙ ap (λ (n : ℕ). with_sibling room cpu (let now : SiblingState = record (lane_state lane) { least = n } in now)) c.max-lane.ensures
           ∙ least_is room cpu (lane_state lane) (Some c.in-Some.smallest) (lane_at lanes cpu lane c.requires.cpu is) (sym c.in-Some.is ∙ c.smallest_vtime.ensures);
       numbers = rw (numbers_kept lanes cpu lane after is refl) refl;
-      stays = alike_stays _ _ (queues_kept lanes cpu lane after is refl) refl refl refl;
+      stays = alike_stays _ _ (queues_kept lanes cpu lane after is refl) refl refl;
     }

@@ -6,12 +6,11 @@ use Rattle.core_events.proofs.Changes.{both_change, changes_as}
 use Rattle.core_events.proofs.Clocks.{renewed_more, renewed_all}
 use Rattle.core_events.proofs.time.renew_leasts.Goals as goal
 
-pub renew_least-requires-clause-cpu : goal.renew_least-requires-clause-cpu
-renew_least-requires-clause-cpu g c =
-    omega (arith, c.loop-cpu-test.true, c.len-cpu-end.ensures, c.args.core.now.lanes.ok.0, ap (λ (kept : Kept). kept.siblings) c.loop-cpu.invariant.changes.stays.kept)
-
-pub renew_least-requires-clause-agree : goal.renew_least-requires-clause-agree
-renew_least-requires-clause-agree g c = c.loop-cpu.invariant.changes.stays.agree c.requires.agree
+pub renew_least-requires : goal.renew_least-requires
+renew_least-requires g c = record {
+  cpu = omega (arith, c.loop-cpu-test.true, c.len-cpu-end.ensures, c.args.core.now.lanes.ok.0, ap (λ (kept : Kept). kept.siblings) c.loop-cpu.invariant.changes.stays.kept);
+  agree = c.loop-cpu.invariant.changes.stays.agree c.requires.agree;
+}
 
 pub loop-cpu-preserved : goal.loop-cpu-preserved
 loop-cpu-preserved g c =

@@ -9,24 +9,24 @@ use Rattle.task_table.specs.Table.{Table}
 use Rattle.core_lanes.specs.declared.queue.SiblingQueue.{Ghosts}
 use Rattle.core_lanes.specs.declared.lanes.Core.{Core}
 use Rattle.core_lanes.specs.Lanes.{Beside, at, beside_after, room_of, BareCore}
-use Rattle.core_lanes.specs.Numbers.{numbers_of, booked}
+use Rattle.core_lanes.specs.Numbers.{booked, with_ended, numbers_in}
 use Rattle.core_lanes.proofs.Stays.{both_stay}
 use Rattle.core_events.proofs.Changes.{still_below}
 use Rattle.core_events.proofs.time.tick.Goals as goal
+use Rattle.core_events.specs.State.{both}
 
 pub running_on-requires : goal.running_on-requires
-running_on-requires g c = still_below c.charge.ensures.charges.stays c.requires.cpu
+running_on-requires g c = still_below c.charge.ensures.charges.stays c.requires.at.cpu
 
 pub rotates-rotates-requires : goal.rotates-rotates-requires
 rotates-rotates-requires g c = record {
-  cpu = still_below c.charge.ensures.charges.stays c.requires.cpu;
-  agree = c.charge.ensures.charges.stays.agree c.requires.agree;
+  cpu = still_below c.charge.ensures.charges.stays c.requires.at.cpu;
+  agree = c.charge.ensures.charges.stays.agree c.requires.at.agree;
 }
 
 pub asks_at_tick-asks-requires : goal.asks_at_tick-asks-requires
 asks_at_tick-asks-requires g c = record {
-  cpu = still_below c.charge.ensures.charges.stays c.requires.cpu;
-  agree = c.charge.ensures.charges.stays.agree c.requires.agree;
+  at = record { cpu = still_below c.charge.ensures.charges.stays c.requires.at.cpu; agree = c.charge.ensures.charges.stays.agree c.requires.at.agree };
   there = c.in-Some.ensures.there;
   rotates = c.rotates-rotates.ensures;
 }
@@ -34,12 +34,12 @@ asks_at_tick-asks-requires g c = record {
 pub begin_slice-requires : goal.begin_slice-requires
 begin_slice-requires g c = record {
   there = c.in-Some.ensures.there;
-  agree = c.charge.ensures.charges.stays.agree c.requires.agree;
-  stamp = subst (λ n. n + 1 < 2 ^ 64) (sym (ap (λ (core : BareCore). core.next_stamp) c.charge.ensures.rest)) c.requires.stamp;
+  agree = c.charge.ensures.charges.stays.agree c.requires.at.agree;
+  stamp = subst (λ n. n + 1 < 2 ^ 64) (sym (ap (λ (core : BareCore). core.next_stamp) c.charge.ensures.core)) c.requires.stamp;
 }
 
 pub flag-requires : goal.flag-requires
-flag-requires g c = still_below (both_stay c.charge.ensures.charges.stays (c.begin_slice.ensures c.args.cpu c.rotates-rotates.ensures).stays) c.requires.cpu
+flag-requires g c = still_below (both_stay c.charge.ensures.charges.stays (c.begin_slice.ensures c.args.cpu c.rotates-rotates.ensures).stays) c.requires.at.cpu
 
 -- a core and its table stand for a room of which they have all but what is beside them
 stands : {Q : Type 0} {g : Ghosts Q} (beside : Beside) (both : Core Q g × Table) (room : RoomState) → room_of beside both ≡ room → room_of (beside_after beside room) both ≡ room
@@ -64,9 +64,9 @@ returns-in_default-clause-charges g c =
     let charged = c.charge.ensures.charges.room beside in
     ap (λ (found : Option Task). (tick room cpu found).room) (c.in_default.ensures.task paid ∙ ap (λ (now : RoomState). running_on now cpu) charged) in
     record {
-      room = λ beside. subst (λ (room : RoomState). room_of (beside_after (at c.args.now beside) room) (c.charge.new.core, c.args.table.now) ≡ room) (made beside)
+      room = λ beside. subst (λ (room : RoomState). room_of (beside_after (at c.args.now beside) room) (c.charge.new.core, c.charge.new.table) ≡ room) (made beside)
           (c.charge.ensures.charges.room beside);
-      numbers = λ beside kept. c.charge.ensures.charges.numbers beside kept ∙ ap (λ (room : RoomState). booked room (numbers_of c.args.core.now)) (made beside);
+      numbers = λ beside kept. c.charge.ensures.charges.numbers beside kept ∙ ap (λ (room : RoomState). booked room (numbers_in beside (c.args.core.now, c.args.table.now))) (made beside);
       stays = c.charge.ensures.charges.stays;
     }
 
@@ -107,7 +107,7 @@ returns-clause-charges g c =
           let paid = beside_after (at c.args.now beside) (charge room) in
           let charged = c.charge.ensures.charges.room beside in
           let found : Some task ≡ running_on room cpu = c.in-Some.ensures.task paid ∙ ap (λ (now : RoomState). running_on now cpu) charged in
-          raised.numbers ∙ slice.numbers ∙ c.charge.ensures.charges.numbers beside kept
-          ∙ ap (λ (found : Option Task). booked (tick room cpu found).room (numbers_of c.args.core.now)) found;
+          ap (with_ended beside.ended) (raised.numbers ∙ slice.numbers) ∙ c.charge.ensures.charges.numbers beside kept
+          ∙ ap (λ (found : Option Task). booked (tick room cpu found).room (numbers_in beside (c.args.core.now, c.args.table.now))) found;
       stays = both_stay c.charge.ensures.charges.stays (both_stay slice.stays raised.stays);
     }

@@ -1,4 +1,4 @@
-use Rattle.std.proofs.Common.{◌≡◌, ℕ, ◌+◌, ◌∙◌, [], ◌∷◌, ◌++◌, cond, ap, sym, subst, arith, refl, map, length, Option, Some, None}
+use Rattle.std.proofs.Common.{◌≡◌, ℕ, ◌+◌, ◌∙◌, [], ◌∷◌, ◌++◌, cond, ap, sym, subst, arith, refl, length, Option, Some, None}
 use Rattle.std.specs.Prelude.{unwrap_or, List, ◌==◌, IsNone, IfNone}
 use Rattle.std.specs.List.{list_any}
 use Rattle.std.specs.Option.{option_map, option_to_list}
@@ -6,18 +6,16 @@ use Rattle.std.proofs.lemmas.List.{length-append}
 use Rattle.cs_types.specs.Room.{RoomState, Interval}
 use Rattle.cs_types.specs.Accounting.{share, total_of, charged, open_interval, charge}
 use Rattle.cs_types.proofs.Accounts.{owed, total_of-more, open_share-le, charge-again}
-use Rattle.forceidle_account.specs.Charges.{total_at}
-use Rattle.core_lanes.specs.declared.lane.Lane.{Lane}
-use Rattle.core_lanes.specs.Lanes.{at, lane_state, room_of, bare}
-use Rattle.core_lanes.specs.Numbers.{Numbers, numbers_of, numbers_by, booked}
-use Rattle.core_lanes.specs.Changes.{identity_of}
-use Rattle.core_lanes.proofs.Stays.{some_beside, alike_stays}
-use Rattle.core_pick.specs.Account.{is_charged_as}
-use Rattle.core_pick.proofs.Accounts.{charged_as, charged_in}
+use Rattle.task_table.specs.Table.{Table, total_among, total_in}
+use Rattle.core_lanes.specs.Lanes.{Beside, at, room_of, bare}
+use Rattle.core_lanes.specs.Numbers.{Numbers, numbers_in, numbers_by, booked, with_ended}
+use Rattle.core_lanes.proofs.Stays.{some_beside, kept_stays, alike_stays}
+use Rattle.core_pick.proofs.Accounts.{charged_in}
+use Rattle.core_pick.proofs.account.charge.Given.{Over}
 use Rattle.core_pick.proofs.account.charge.Goals as goal
 
-pub charge_tasks-requires-clause-low : goal.charge_tasks-requires-clause-low
-charge_tasks-requires-clause-low g c pid =
+pub charge_each-requires-clause-low : goal.charge_each-requires-clause-low
+charge_each-requires-clause-low g c pid =
     let room = room_of (at c.args.now some_beside) (c.args.core.now, c.args.table.now) in
     let is : Some c.in-Some.share ≡ option_map share (open_interval room) = c.in-Some.ensures.share room (record { count = refl; occupation = refl; started = refl }) refl in
     let low = open_share-le 255 c.in-Some.share room (omega arith) c.requires.paid.few is in
@@ -37,53 +35,44 @@ length_is : (intervals : List Interval) (n : ℕ) (one : Option Interval) → So
 length_is intervals n None some = absurd cc
 length_is intervals n (Some interval) some = omega (arith, length-append intervals (interval ∷ []))
 
+-- who is charged does not depend on the account
+same_charged : (g : Over) (c : goal.After-charge_each g) (beside : Beside) → c.as_slice.result.now ≡ charged (room_of (at c.args.now beside) (c.args.core.now, c.args.table.now))
+unfolding charged
+same_charged g c beside = c.as_slice.ensures.value ∙ c.charged-charged.ensures.tasks (at c.args.now beside)
+
 pub returns-in-Some-clause-charges : goal.returns-in-Some-clause-charges
 returns-in-Some-clause-charges g c = record {
-  room = λ beside. rw (c.charge.ensures.count, c.charge.ensures.occupation, c.charge.ensures.started) refl;
+  room = λ beside. rw (c.charge.ensures.count, c.charge.ensures.occupation, c.charge.ensures.started, c.charge_each.ensures.rest) refl;
   numbers = λ beside kept.
-      let old = c.args.core.now in
-      let room = room_of (at c.args.now beside) (old, c.args.table.now) in
+      let room = room_of (at c.args.now beside) (c.args.core.now, c.args.table.now) in
       let is : Some c.in-Some.share ≡ option_map share (open_interval room) = c.in-Some.ensures.share room (record { count = refl; occupation = refl; started = refl }) refl in
       let count : c.charge.new.self.intervals ≡ length (charge room).intervals =
       c.in-Some.ensures.intervals ∙ ap (λ (numbers : Numbers). numbers.intervals + 1) kept ∙ length_is beside.intervals c.in-Some.share (open_interval room) is in
-      let total : (pid : ℕ) → total_at c.charge_tasks.new.totals pid ≡ total_of pid (charge room).intervals =
-      λ pid. c.charge_tasks.ensures.charged pid
-      ∙ ap (λ b. total_at old.totals pid + cond b c.in-Some.share 0)
-      (ap (λ (lanes : List (Lane g.row.Q.Denot)). list_any (is_charged_as (map lane_state lanes) pid) c.args.table.now.tasks) c.deref.ensures.value ∙ charged_as room pid c.requires.agree.table.rising)
-      ∙ ap (λ n. total_at old.totals pid + n) (owed_is room c.in-Some.share pid (open_interval room) refl is)
-      ∙ ap (λ (numbers : Numbers). numbers.totals pid + owed pid (open_interval room)) kept
-      ∙ sym (total_of-more pid beside.intervals (open_interval room)) in
-      λ i. record (numbers_of old) {
+      let total : (pid : ℕ) → total_in c.charge_each.new.table pid + total_among beside.ended pid ≡ total_of pid (charge room).intervals =
+      λ pid. omega (
+        arith,
+        c.charge_each.ensures.totals pid,
+        ap (λ who. cond (list_any (λ other. other == pid) who) c.in-Some.share 0) (same_charged g c beside),
+        owed_is room c.in-Some.share pid (open_interval room) refl is,
+        ap (λ (numbers : Numbers). numbers.totals pid) kept,
+        total_of-more pid beside.intervals (open_interval room),
+      ) in
+      λ i. record (numbers_in beside (c.args.core.now, c.args.table.now)) {
         intervals = count i;
         totals = λ pid. total pid i;
       };
-  stays = record {
-    agree = λ agree. record {
-      table = agree.table;
-      few_tasks = agree.few_tasks;
-      tasks = agree.tasks;
-      stamped = agree.stamped;
-      totals = λ k d lt. c.charge_tasks.ensures.known _ ∙ agree.totals k d lt;
-      held = agree.held;
-    };
-    kept = λ i. record {
-      siblings = length c.args.core.now.lanes.items;
-      limit = c.args.table.now.limit;
-      identities = map identity_of c.args.table.now.tasks;
-      known = λ pid. c.charge_tasks.ensures.known pid i;
-      spare = c.charge_tasks.ensures.spare i;
-    };
-  };
+  stays =
+      kept_stays _ _ refl (ap (λ (t : Table). t.tasks) c.charge_each.ensures.rest) (ap (λ (t : Table). t.limit) c.charge_each.ensures.rest) (λ sound. c.charge_each.ensures.sound) refl;
 }
 
 pub returns-in_default-clause-charges : goal.returns-in_default-clause-charges
 returns-in_default-clause-charges g c = record {
   room = λ beside. rw (c.charge.ensures.count, c.charge.ensures.occupation, c.charge.ensures.started) refl;
   numbers = λ beside kept.
-      let old = c.args.core.now in
-      let room = room_of (at c.args.now beside) (old, c.args.table.now) in
-      let same : c.charge.new.self ≡ old.account = subst (λ r. IfNone r (c.charge.new.self ≡ old.account)) c.in_default.is c.charge.ensures.unchanged in
-      let now : unwrap_or old.account.started c.args.now ≡ c.args.now = c.charge.ensures.none.0 (subst IsNone (sym c.in_default.is) refl) in
-      (λ i. numbers_by (record (bare old) { account = same i })) ∙ kept ∙ ap (λ (r : RoomState). booked r (numbers_of old)) (sym (charge-again room now));
-  stays = alike_stays _ _ refl refl refl refl;
+      let room = room_of (at c.args.now beside) (c.args.core.now, c.args.table.now) in
+      let same : c.charge.new.self ≡ c.args.core.now.account = subst (λ r. IfNone r (c.charge.new.self ≡ c.args.core.now.account)) c.in_default.is c.charge.ensures.unchanged in
+      let now : unwrap_or c.args.core.now.account.started c.args.now ≡ c.args.now = c.charge.ensures.none.0 (subst IsNone (sym c.in_default.is) refl) in
+      (λ i. with_ended beside.ended (numbers_by (record (bare c.args.core.now) { account = same i }) c.args.table.now)) ∙ kept
+      ∙ ap (λ (r : RoomState). booked r (numbers_in beside (c.args.core.now, c.args.table.now))) (sym (charge-again room now));
+  stays = alike_stays _ _ refl refl refl;
 }

@@ -10,8 +10,8 @@ use Rattle.core_pick.proofs.choice.update_tasks.Goals as goal
 
 pub loop-choice-init : goal.loop-choice-init
 loop-choice-init c = record {
-  sound = record { rising = c.requires.rising; few = c.requires.few; limit = c.requires.limit };
-  so_far = ap (λ (tasks : List Task). let table : Table = record { tasks = tasks; limit = c.args.tasks.now.limit } in table)
+  sound = record { rising = c.requires.rising; known = c.requires.known; few = c.requires.few; limit = c.requires.limit };
+  so_far = ap (λ (tasks : List Task). let table : Table = record c.args.tasks.now { tasks = tasks } in table)
       (sym (map-id c.args.tasks.now.tasks));
 }
 
@@ -23,7 +23,7 @@ loop-choice-preserved c =
       sound = c.update_task.ensures.sound;
       so_far = c.update_task.ensures.tasks
           ∙ ap (λ (table : Table). let now : Table = record table { tasks = map (task_after_choice (get_or choices i no_choice) c.args.occupation) table.tasks } in now) c.loop-choice.invariant.so_far
-          ∙ ap (λ (tasks : List Task). let table : Table = record { tasks = tasks; limit = c.args.tasks.now.limit } in table)
+          ∙ ap (λ (tasks : List Task). let table : Table = record c.args.tasks.now { tasks = tasks } in table)
           (map-task_after_choices_push (take i choices) (get_or choices i no_choice) c.args.occupation c.args.tasks.now.tasks
           ∙ ap (λ (so_far : List Choice). map (task_after_choices so_far c.args.occupation) c.args.tasks.now.tasks) (sym (take_more choices i no_choice c.loop-choice-test.true)));
     }

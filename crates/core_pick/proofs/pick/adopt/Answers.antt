@@ -24,6 +24,6 @@ returns g c now table =
       pick = λ beside. λ i.
           let pick : Pick = record { kind = Adopted; run = c.unwrap_or.ensures i; core = old.cookie; forced = c.count.ensures.count i } in pick;
       room = λ beside. λ i. record (room_of (at now beside) (old, table)) { siblings = siblings i };
-      numbers = λ i. record (numbers_of old) { task = sym (add-zero old.task_number) i; own = map-set number_of lanes cpu after i };
-      stays = alike_stays _ _ (queues_kept lanes cpu lane after is c.run.ensures.queue) refl refl refl;
+      numbers = λ i. record (numbers_of (old, table)) { task = sym (add-zero old.task_number) i; own = map-set number_of lanes cpu after i };
+      stays = alike_stays _ _ (queues_kept lanes cpu lane after is c.run.ensures.queue) refl refl;
     }

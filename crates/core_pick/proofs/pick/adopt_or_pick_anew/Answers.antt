@@ -2,32 +2,32 @@ use Rattle.std.proofs.Common.{◌≡◌, ◌∙◌, ◌+◌, ◌<◌, ◌^◌, a
 use Rattle.cs_types.specs.Room.{RoomState, sibling_of}
 use Rattle.cs_types.specs.Selection.{adopt, pick_anew, adopt_or_pick_anew}
 use Rattle.cs_types.specs.Accounting.{charge}
-use Rattle.core_lanes.specs.Lanes.{Beside, BareCore, AreLow, at, beside_after, room_of}
-use Rattle.core_lanes.specs.Numbers.{Numbers, numbers_of, booked, took, is_fresh_by}
+use Rattle.task_table.specs.Table.{Table}
+use Rattle.core_lanes.specs.Lanes.{Beside, BareCore, bare, AreLow, at, beside_after, room_of}
+use Rattle.core_lanes.specs.Numbers.{Numbers, numbers_of, numbers_in, with_ended, booked, took, is_fresh_by}
 use Rattle.core_lanes.specs.Changes.{Kept}
 use Rattle.core_lanes.proofs.Stays.{both_stay}
 use Rattle.core_pick.proofs.Cases.{ChargesAndSchedules-same, is_adopted, is_not_adopted, stands}
 use Rattle.core_pick.proofs.pick.adopt_or_pick_anew.Goals as goal
 
-pub pick_anew-requires-clause-may : goal.pick_anew-requires-clause-may
-pick_anew-requires-clause-may g c =
-    let picks = c.requires.may.picks in
-    let rest = sym c.charge.ensures.rest in
+pub pick_anew-requires : goal.pick_anew-requires
+pick_anew-requires g c =
+    let picks = c.requires.picks in
+    let same = sym c.charge.ensures.core in
     record {
+      cpu = subst (λ (kept : Kept). c.args.cpu < kept.siblings) (sym c.charge.ensures.charges.stays.kept) c.requires.picks.cpu;
       agree = c.charge.ensures.charges.stays.agree picks.agree;
-      low = subst (λ (core : BareCore). AreLow core.siblings c.args.table.now.tasks) rest picks.low;
+      low = subst (λ (table : Table). AreLow (bare c.charge.new.core).siblings table.tasks) (sym c.charge.ensures.table)
+          (subst (λ (core : BareCore). AreLow core.siblings c.args.table.now.tasks) same picks.low);
       clock = picks.clock;
-      touches = subst (λ (core : BareCore). core.task_number + 1 < 2 ^ 64) rest picks.touches;
+      touches = subst (λ (core : BareCore). core.task_number + 1 < 2 ^ 64) same picks.touches;
     }
-
-pub pick_anew-requires-clause-cpu : goal.pick_anew-requires-clause-cpu
-pick_anew-requires-clause-cpu g c = subst (λ (kept : Kept). c.args.cpu < kept.siblings) (sym c.charge.ensures.charges.stays.kept) c.requires.cpu
 
 pub returns-in-Some : goal.returns-in-Some
 returns-in-Some g c =
     let now = c.args.now in
     let cpu = c.args.cpu in
-    let fresh = is_fresh_by (numbers_of c.args.core.now) in
+    let fresh = is_fresh_by (numbers_of (c.args.core.now, c.args.table.now)) in
     let adopts = c.adopt.ensures now c.args.table.now in
     ChargesAndSchedules-same now (c.args.core.now, c.args.table.now) (c.adopt.new.core, c.args.table.now) cpu c.adopt.result
     (λ room. adopt room cpu c.in-Some.waiting) (λ room. adopt_or_pick_anew room fresh cpu (sibling_of room cpu).waiting)
@@ -35,7 +35,7 @@ returns-in-Some g c =
     (record {
       pick = adopts.pick;
       room = λ beside. stands {Q = g.row.Q.Denot} {g = g.Q.SiblingQueue} (at now beside) (c.adopt.new.core, c.args.table.now) _ (adopts.room beside);
-      numbers = λ beside kept. adopts.numbers ∙ ap (λ (numbers : Numbers). took cpu c.adopt.result numbers) kept;
+      numbers = λ beside kept. ap (with_ended beside.ended) adopts.numbers ∙ ap (λ (numbers : Numbers). took cpu c.adopt.result numbers) kept;
       stays = adopts.stays;
     })
 
@@ -43,7 +43,7 @@ pub returns-in-None : goal.returns-in-None
 returns-in-None g c =
     let now = c.args.now in
     let cpu = c.args.cpu in
-    let fresh = is_fresh_by (numbers_of c.args.core.now) in
+    let fresh = is_fresh_by (numbers_of (c.args.core.now, c.args.table.now)) in
     let picked = c.pick_anew.ensures in
     let paid : Beside → Beside = λ beside. beside_after (at now beside) (charge (room_of (at now beside) (c.args.core.now, c.args.table.now))) in
     let room : (beside : Beside) → room_of (paid beside) (c.pick_anew.new.core, c.pick_anew.new.table)
@@ -55,8 +55,8 @@ returns-in-None g c =
     (record {
       pick = λ beside. picked.pick (paid beside) ∙ ap (λ (r : RoomState). (pick_anew r cpu).pick) (c.charge.ensures.charges.room beside);
       room = λ beside. stands {Q = g.row.Q.Denot} {g = g.Q.SiblingQueue} (paid beside) (c.pick_anew.new.core, c.pick_anew.new.table) _ (room beside);
-      numbers = λ beside kept. picked.numbers
+      numbers = λ beside kept. ap (with_ended beside.ended) picked.numbers
           ∙ ap (λ (numbers : Numbers). took cpu c.pick_anew.result numbers)
-          (c.charge.ensures.charges.numbers beside kept ∙ ap (λ (r : RoomState). booked r (numbers_of c.args.core.now)) (room beside));
+          (c.charge.ensures.charges.numbers beside kept ∙ ap (λ (r : RoomState). booked r (numbers_in beside (c.args.core.now, c.args.table.now))) (room beside));
       stays = both_stay c.charge.ensures.charges.stays picked.stays;
     })

@@ -29,13 +29,13 @@ returns g c now =
           let first = c.first_on-first.ensures (at now beside) in
           let run = c.pid_of-pid.ensures ∙ ap pid_of first in
           let fair = c.is_fair_task.ensures ∙ ap is_fair_task first in
-          let was = sym (lane_at lanes cpu lane c.requires.cpu is) in
+          let was = sym (lane_at lanes cpu lane c.requires.at.cpu is) in
           let state : lane_state after ≡ record (running (sibling_of room cpu) (pid_of (first_on room cpu))) { snapshot = cond (is_fair_task (first_on room cpu)) (sibling_of room cpu).least (sibling_of room cpu).snapshot } =
           c.run_first.ensures.state ∙ (λ i. record (running (was i) (run i)) { snapshot = cond (fair i) (was i).least (was i).snapshot }) in
           let siblings = map-set lane_state lanes cpu after ∙ ap (set (map lane_state lanes) cpu) state in
           touch.room (at now beside)
           ∙ (λ i. record room { siblings = siblings i; forced = c.close.ensures.count i; occupation = c.close.ensures.occupation i; started = c.close.ensures.started i });
       numbers = touch.numbers
-          ∙ ap (touched 1) (λ i. let numbers : Numbers = record (numbers_of old) { own = own i; intervals = c.close.ensures.intervals i } in numbers);
-      stays = both_stay (alike_stays _ _ (queues_kept lanes cpu lane after is c.run_first.ensures.queue) refl refl refl) touch.stays;
+          ∙ ap (touched 1) (λ i. let numbers : Numbers = record (numbers_of (old, c.args.table.now)) { own = own i; intervals = c.close.ensures.intervals i } in numbers);
+      stays = both_stay (alike_stays _ _ (queues_kept lanes cpu lane after is c.run_first.ensures.queue) refl refl) touch.stays;
     }

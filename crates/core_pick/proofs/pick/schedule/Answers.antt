@@ -4,16 +4,16 @@ use Rattle.cs_types.specs.Room.{RoomState, sibling_of}
 use Rattle.cs_types.specs.Selection.{adopt_or_pick_anew, is_to_steal}
 use Rattle.cs_types.specs.Steal.{set_place}
 use Rattle.core_lanes.specs.Lanes.{at, beside_after, room_of}
-use Rattle.core_lanes.specs.Numbers.{numbers_of, is_fresh_by}
+use Rattle.core_lanes.specs.Numbers.{numbers_of, with_ended, is_fresh_by}
 use Rattle.core_lanes.specs.Changes.{Kept}
 use Rattle.core_lanes.proofs.Stays.{both_stay}
 use Rattle.core_pick.proofs.pick.schedule.Goals as goal
 
-pub balance-requires-clause-cpu : goal.balance-requires-clause-cpu
-balance-requires-clause-cpu g c = subst (λ (kept : Kept). c.args.cpu < kept.siblings) (sym c.adopt_or_pick_anew-pick.ensures.stays.kept) c.requires.cpu
-
-pub balance-requires-clause-agree : goal.balance-requires-clause-agree
-balance-requires-clause-agree g c = c.adopt_or_pick_anew-pick.ensures.stays.agree c.requires.may.picks.agree
+pub balance-requires : goal.balance-requires
+balance-requires g c = record {
+  cpu = subst (λ (kept : Kept). c.args.cpu < kept.siblings) (sym c.adopt_or_pick_anew-pick.ensures.stays.kept) c.requires.picks.cpu;
+  agree = c.adopt_or_pick_anew-pick.ensures.stays.agree c.requires.picks.agree;
+}
 
 pub returns-clause-schedules : goal.returns-clause-schedules
 returns-clause-schedules g c =
@@ -24,9 +24,9 @@ returns-clause-schedules g c =
       pick = picked.pick;
       room = λ beside.
           let old = room_of (at now beside) (c.args.core.now, c.args.table.now) in
-          let made = (adopt_or_pick_anew old (is_fresh_by (numbers_of c.args.core.now)) cpu (sibling_of old cpu).waiting).room in
+          let made = (adopt_or_pick_anew old (is_fresh_by (numbers_of (c.args.core.now, c.args.table.now))) cpu (sibling_of old cpu).waiting).room in
           c.balance.ensures.room (beside_after (at now beside) made)
           ∙ ap (λ (room : RoomState). set_place room cpu (if is_to_steal room cpu then 1 else 0)) (picked.room beside);
-      numbers = λ beside kept. c.balance.ensures.numbers ∙ picked.numbers beside kept;
+      numbers = λ beside kept. ap (with_ended beside.ended) c.balance.ensures.numbers ∙ picked.numbers beside kept;
       stays = both_stay picked.stays c.balance.ensures.stays;
     }

@@ -18,7 +18,7 @@ pub select_for-run-requires-clause-lead : goal.select_for-run-requires-clause-le
 select_for-run-requires-clause-lead g c beside = c.cookie_of-cookie.ensures ∙ ap cookie_of (c.lead_from.ensures beside)
 
 pub touch-requires : goal.touch-requires
-touch-requires g c = subst (λ n. n + 1 < 2 ^ 64) (sym (ap (λ (n : Numbers). n.task) c.select_for-run.ensures.numbers)) c.requires.may.touches
+touch-requires g c = subst (λ n. n + 1 < 2 ^ 64) (sym (ap (λ (n : Numbers). n.task) c.select_for-run.ensures.numbers)) c.requires.touches
 
 pub index_mut-requires : goal.index_mut-requires
 index_mut-requires g c =
@@ -57,8 +57,8 @@ returns g c =
           ∙ touch.room (at now beside)
           ∙ c.select_for-run.ensures.room beside
           ∙ ap (select_for room cpu) core;
-      numbers = (λ i. record (numbers_of touched_core) { pick = touched_core.task_number; own = map-set number_of lanes cpu numbered i })
+      numbers = (λ i. record (numbers_of (touched_core, c.select_for-run.new.table)) { pick = touched_core.task_number; own = map-set number_of lanes cpu numbered i })
           ∙ ap (λ (n : Numbers). record n { pick = n.task; own = set n.own cpu n.task }) (touch.numbers ∙ ap (touched 1) c.select_for-run.ensures.numbers);
       stays = both_stay c.select_for-run.ensures.stays
-          (both_stay touch.stays (alike_stays _ _ (queues_kept lanes cpu lane numbered is refl) refl refl refl));
+          (both_stay touch.stays (alike_stays _ _ (queues_kept lanes cpu lane numbered is refl) refl refl));
     }

@@ -3,8 +3,8 @@ use Rattle.std.specs.Prelude.{Some, None, ◌||◌, ◌==◌, List}
 use Rattle.std.proofs.lemmas.List.{length-map}
 use Rattle.cs_types.specs.Selection.{select_for, forced_count, occupation_of, cookie_of, lead_from}
 use Rattle.cs_types.proofs.Selections.{occupied}
-use Rattle.core_lanes.specs.Lanes.{at, lane_state, room_of}
-use Rattle.core_lanes.specs.Numbers.{numbers_of}
+use Rattle.core_lanes.specs.Lanes.{at, lane_state, room_of, bare}
+use Rattle.core_lanes.specs.Numbers.{numbers_by}
 use Rattle.core_lanes.proofs.Lists.{items-as_many}
 use Rattle.core_lanes.proofs.Stays.{some_beside, number_of, queue_of}
 use Rattle.core_pick.specs.declared.choice.Choice.{Choice}
@@ -18,7 +18,7 @@ begin-requires-clause-occupied g c some =
     let room = room_of some_beside (c.args.core.now, c.args.table.now) in
     let are = choices_are room c.args.cookie (length c.args.core.now.lanes.items) c.as_slice-choices.result.now (length-map c.args.core.now.lanes.items lane_state) (c.as_slice-choices.ensures.value ∙ c.choices-choices.ensures.each some_beside) in
     let lead = c.requires.lead some_beside in
-    let below : c.args.cpu < length room.siblings = omega (arith, length-map c.args.core.now.lanes.items lane_state, c.requires.cpu) in
+    let below : c.args.cpu < length room.siblings = omega (arith, length-map c.args.core.now.lanes.items lane_state, c.requires.at.cpu) in
     let has : 0 < forced_count room (cookie_of (lead_from room c.args.cpu)) = subst (λ n. 0 < n) (forced_is room c.args.cookie _ _ c.forced_count-forced.ensures are ∙ ap (forced_count room) lead) some in
     subst (λ n. 0 < n) (sym (occupation_is room c.args.cookie _ _ c.occupation-occupation.ensures are ∙ ap (occupation_of room) lead)) (occupied room c.args.cpu below has)
 
@@ -27,7 +27,7 @@ returns-clause-run g c beside =
     let room = room_of beside (c.args.core.now, c.args.table.now) in
     let are = choices_are room c.args.cookie (length c.args.core.now.lanes.items) c.as_slice-choices.result.now (length-map c.args.core.now.lanes.items lane_state) (c.as_slice-choices.ensures.value ∙ c.choices-choices.ensures.each beside) in
     ap (λ (choices : List Choice). (get_or choices c.args.cpu _).run) are
-    ∙ ap (λ (choice : Choice). choice.run) (choice_in room c.args.cookie c.args.cpu _ (omega (arith, length-map c.args.core.now.lanes.items lane_state, c.requires.cpu)))
+    ∙ ap (λ (choice : Choice). choice.run) (choice_in room c.args.cookie c.args.cpu _ (omega (arith, length-map c.args.core.now.lanes.items lane_state, c.requires.at.cpu)))
 
 pub returns-clause-forced : goal.returns-clause-forced
 returns-clause-forced g c beside =
@@ -68,7 +68,7 @@ pub returns-clause-stays : goal.returns-clause-stays
 returns-clause-stays g c =
     let kept_lanes = items-as_many c.args.core.now.lanes c.update_siblings.new.lanes (c.update_siblings.auto.lanes ∙ ap length c.deref_mut.ensures.value) in
     stays-remembered _ _ c.as_slice-choices.result.now c.occupation-occupation.result c.update_tasks.ensures.tasks c.update_tasks.ensures.sound
-    (ap (map queue_of) kept_lanes ∙ c.update_siblings.ensures.queues ∙ ap (map queue_of) c.deref_mut.ensures.value) refl refl
+    (ap (map queue_of) kept_lanes ∙ c.update_siblings.ensures.queues ∙ ap (map queue_of) c.deref_mut.ensures.value) refl
 
 pub update_siblings-requires-clause-each : goal.update_siblings-requires-clause-each
 update_siblings-requires-clause-each g c = ap length c.as_slice-choices.ensures.value ∙ c.choices-choices.ensures.length ∙ sym (ap length c.deref_mut.ensures.value)
@@ -77,13 +77,13 @@ pub update_siblings-requires-clause-few : goal.update_siblings-requires-clause-f
 update_siblings-requires-clause-few g c = subst (λ n. n ≤ 16) (sym (ap length c.deref_mut.ensures.value)) c.args.core.now.few
 
 pub bounds-choices-cpu : goal.bounds-choices-cpu
-bounds-choices-cpu g c = subst (λ n. c.args.cpu < n) (sym (ap length c.as_slice-choices.ensures.value ∙ c.choices-choices.ensures.length)) c.requires.cpu
+bounds-choices-cpu g c = subst (λ n. c.args.cpu < n) (sym (ap length c.as_slice-choices.ensures.value ∙ c.choices-choices.ensures.length)) c.requires.at.cpu
 
 pub returns-clause-numbers : goal.returns-clause-numbers
 returns-clause-numbers g c =
     let kept_lanes = items-as_many c.args.core.now.lanes c.update_siblings.new.lanes (c.update_siblings.auto.lanes ∙ ap length c.deref_mut.ensures.value) in
     let own = ap (map number_of) kept_lanes ∙ c.update_siblings.ensures.numbers ∙ ap (map number_of) c.deref_mut.ensures.value in
-    λ i. record (numbers_of c.args.core.now) { intervals = c.begin.ensures.intervals i; own = own i }
+    λ i. record (numbers_by (bare c.args.core.now) (c.update_tasks.ensures.tasks i)) { intervals = c.begin.ensures.intervals i; own = own i }
 
 pub invariant_of-core : goal.invariant_of-core
 invariant_of-core g c =

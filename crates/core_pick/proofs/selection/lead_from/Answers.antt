@@ -51,7 +51,7 @@ push_firsts-requires-clause-spare g c =
 pub push_firsts-requires-2-clause-spare : goal.push_firsts-requires-2-clause-spare
 push_firsts-requires-2-clause-spare g c =
     earlier_fit (length c.new-firsts.result.items) (length c.push_firsts.new.firsts.items) c.args.cpu c.len.result (length c.args.core.now.lanes.items) c.push_firsts.ensures.length (ap length c.new-firsts.ensures) (c.len.ensures ∙ c.args.core.now.lanes.ok.0) c.args.core.now.few
-    c.requires.cpu
+    c.requires.at.cpu
 
 pub lead_of-requires-clause-few : goal.lead_of-requires-clause-few
 lead_of-requires-clause-few g c = c.deref.ensures.1
@@ -60,14 +60,14 @@ pub lead_of-requires-clause-priorities : goal.lead_of-requires-clause-priorities
 lead_of-requires-clause-priorities g c =
     let lanes = c.args.core.now.lanes.items in
     each_first g c (λ task. IsPolicy task.spec.policy)
-    (All-weaker (IsFit (length lanes)) (λ (task : Task). IsPolicy task.spec.policy) (λ task fit. fit.policy) c.args.table.now.tasks c.requires.agree.tasks)
+    (All-weaker (IsFit (length lanes)) (λ (task : Task). IsPolicy task.spec.policy) (λ task fit. fit.policy) c.args.table.now.tasks c.requires.at.agree.tasks)
 
 pub lead_of-requires-clause-homes : goal.lead_of-requires-clause-homes
 lead_of-requires-clause-homes g c =
     let lanes = c.args.core.now.lanes.items in
     let P : Task → Type 0 = λ task. task.home < length lanes in
     subst (λ (now : List (Lane g.row.Q.Denot)). All (λ (first : Option Task). IfSome first (λ task. task.home < length now)) c.deref.result.now) (sym c.deref-2.ensures.value)
-    (each_first g c P (All-weaker (IsFit (length lanes)) P (λ task fit. fit.home) c.args.table.now.tasks c.requires.agree.tasks))
+    (each_first g c P (All-weaker (IsFit (length lanes)) P (λ task fit. fit.home) c.args.table.now.tasks c.requires.at.agree.tasks))
 
 pub lead_of-requires-clause-vtimes : goal.lead_of-requires-clause-vtimes
 lead_of-requires-clause-vtimes g c =

@@ -2,14 +2,15 @@ use Rattle.std.proofs.Common.{arith, subst, ◌≤◌, ◌≡◌, ◌*◌, ◌�
 use Rattle.std.specs.Prelude.{List}
 use Rattle.std.specs.List.{enumerate_from}
 use Rattle.std.proofs.lemmas.List.{with_items_is}
-use Rattle.cs_types.specs.Room.{RoomState, SiblingState}
+use Rattle.cs_types.specs.Room.{RoomState}
 use Rattle.cs_types.specs.Accounting.{charge}
 use Rattle.cs_types.specs.Hotplug.{leave}
 use Rattle.core_lanes.specs.declared.lane.Lane.{Lane}
 use Rattle.core_lanes.specs.Queued.{queued_among}
+use Rattle.task_table.specs.Table.{Table}
 use Rattle.core_lanes.specs.Changes.{Kept}
-use Rattle.core_lanes.specs.Lanes.{AreLow, BareCore, at, beside_after, lane_state, room_of}
-use Rattle.core_lanes.specs.Numbers.{Numbers, numbers_of, touched}
+use Rattle.core_lanes.specs.Lanes.{AreLow, BareCore, bare, at, beside_after, lane_state, room_of}
+use Rattle.core_lanes.specs.Numbers.{Numbers, numbers_in, with_ended, touched}
 use Rattle.core_lanes.proofs.Stays.{number_of, queue_of, both_stay, alike_stays}
 use Rattle.cpu_hotplug.specs.Leaves.{left, move_off}
 use Rattle.cpu_hotplug.proofs.Steps.{closed, with_account, closed_is, leave_is}
@@ -21,17 +22,18 @@ pub move_off-requires-clause-cpu : goal.move_off-requires-clause-cpu
 move_off-requires-clause-cpu g c = omega (arith, c.requires.cpu, ap (λ (kept : Kept). kept.siblings) c.charge.ensures.charges.stays.kept)
 
 pub move_off-requires-clause-agree : goal.move_off-requires-clause-agree
-move_off-requires-clause-agree g c = (alike_stays _ _ refl refl refl refl).agree (c.charge.ensures.charges.stays.agree c.requires.agree)
+move_off-requires-clause-agree g c = (alike_stays _ _ refl refl refl).agree (c.charge.ensures.charges.stays.agree c.requires.agree)
 
 pub move_off-requires-clause-low : goal.move_off-requires-clause-low
 move_off-requires-clause-low g c =
-    subst (λ (siblings : List SiblingState). AreLow siblings c.args.table.now.tasks) (sym (ap (λ (core : BareCore). core.siblings) c.charge.ensures.rest)) c.requires.low
+    subst (λ (table : Table). AreLow (bare c.charge.new.core).siblings table.tasks) (sym c.charge.ensures.table)
+    (subst (λ (core : BareCore). AreLow core.siblings c.args.table.now.tasks) (sym c.charge.ensures.core) c.requires.low)
 
 pub move_off-requires-clause-stamp : goal.move_off-requires-clause-stamp
-move_off-requires-clause-stamp g c = omega (arith, c.requires.stamp, ap (λ (core : BareCore). core.next_stamp) c.charge.ensures.rest)
+move_off-requires-clause-stamp g c = omega (arith, c.requires.stamp, ap (λ (core : BareCore). core.next_stamp) c.charge.ensures.core, ap (λ (table : Table). length table.tasks) c.charge.ensures.table)
 
 pub move_off-requires-clause-touches : goal.move_off-requires-clause-touches
-move_off-requires-clause-touches g c = omega (arith, c.requires.touches, ap (λ (core : BareCore). core.task_number) c.charge.ensures.rest)
+move_off-requires-clause-touches g c = omega (arith, c.requires.touches, ap (λ (core : BareCore). core.task_number) c.charge.ensures.core, ap (λ (table : Table). length table.tasks) c.charge.ensures.table)
 
 pub set_one_away-requires : goal.set_one_away-requires
 set_one_away-requires g c = record { few = subst (λ (lanes : List (Lane g.row.Q.Denot)). length lanes ≤ 16) (sym c.deref_mut.ensures.value) c.move_off.new.core.few }
@@ -58,7 +60,7 @@ returns g c =
       room = λ beside.
           let room = room_of (at c.args.now beside) (c.args.core.now, c.args.table.now) in
           let paid = beside_after (at c.args.now beside) (charge room) in
-          let shut : room_of paid (c.charge.new.core, c.args.table.now) ≡ charge room = c.charge.ensures.charges.room beside in
+          let shut : room_of paid (c.charge.new.core, c.charge.new.table) ≡ charge room = c.charge.ensures.charges.room beside in
           let before = ap (λ (r : RoomState). with_account r account) shut ∙ closed_is (charge room) account c.close.ensures.count c.close.ensures.occupation c.close.ensures.started in
           let after : room_of paid (moved, c.move_off.new.table) ≡ move_off (closed (charge room)) cpu = c.move_off.ensures.room paid ∙ ap (λ (r : RoomState). move_off r cpu) before in
           let states : map lane_state c.set_one_away.new.lanes ≡ map (left cpu) (enumerate_from 0 room.siblings) =
@@ -72,15 +74,15 @@ returns g c =
           let room = room_of (at c.args.now beside) (c.args.core.now, c.args.table.now) in
           let own : map number_of c.set_one_away.new.lanes ≡ map number_of moved.lanes.items = c.set_one_away.ensures.numbers ∙ ap (map number_of) c.deref_mut.ensures.value in
           let charged =
-          ap (λ n. let next : Numbers = record (numbers_of c.charge.new.core) { intervals = n } in next) c.close.ensures.intervals
+          ap (λ n. let next : Numbers = record (numbers_in beside (c.charge.new.core, c.charge.new.table)) { intervals = n } in next) c.close.ensures.intervals
           ∙ c.charge.ensures.charges.numbers beside booked_before in
-          ap (λ (lanes : List (Lane g.row.Q.Denot)). let next : Numbers = record (numbers_of moved) { own = map number_of lanes } in next) kept
-          ∙ (λ i. let next : Numbers = record (numbers_of moved) { own = own i } in next)
-          ∙ c.move_off.ensures.numbers
-          ∙ ap (touched (2 * length (queued_among c.args.table.now.tasks cpu))) charged;
+          ap (λ (lanes : List (Lane g.row.Q.Denot)). let next : Numbers = record (numbers_in beside (moved, c.move_off.new.table)) { own = map number_of lanes } in next) kept
+          ∙ (λ i. let next : Numbers = record (numbers_in beside (moved, c.move_off.new.table)) { own = own i } in next)
+          ∙ ap (with_ended beside.ended) c.move_off.ensures.numbers
+          ∙ (λ i. touched (2 * length (queued_among (c.charge.ensures.table i).tasks cpu)) (charged i));
       stays =
           both_stay c.charge.ensures.charges.stays
-          (both_stay (alike_stays _ _ refl refl refl refl)
+          (both_stay (alike_stays _ _ refl refl refl)
           (both_stay c.move_off.ensures.stays
-          (alike_stays _ _ (ap (map queue_of) kept ∙ c.set_one_away.ensures.queues ∙ ap (map queue_of) c.deref_mut.ensures.value) refl refl refl)));
+          (alike_stays _ _ (ap (map queue_of) kept ∙ c.set_one_away.ensures.queues ∙ ap (map queue_of) c.deref_mut.ensures.value) refl refl)));
     }

@@ -7,7 +7,7 @@ use Rattle.core_lanes.specs.declared.queue.SiblingQueue.{Ghosts}
 use Rattle.core_lanes.specs.declared.lanes.Core.{Core}
 use Rattle.core_lanes.specs.Queued.{queued_among}
 use Rattle.core_lanes.specs.Lanes.{Beside, at, beside_after, room_of}
-use Rattle.core_lanes.specs.Numbers.{Numbers, numbers_of, booked, touched}
+use Rattle.core_lanes.specs.Numbers.{Numbers, numbers_in, booked, touched}
 use Rattle.core_lanes.specs.Changes.{IsBooked}
 use Rattle.core_lanes.proofs.Stays.{same_stays}
 use Rattle.cpu_hotplug.specs.Hotplugs.{leave_touches}
@@ -24,8 +24,10 @@ stands : {Q : Type 0} {g : Ghosts Q} (beside : Beside) (both : Core Q g × Table
 stands beside both room is = subst (λ (r : RoomState). room_of (beside_after beside r) both ≡ r) is refl
 
 -- and their books are still those of the room
-still_booked : {Q : Type 0} {g : Ghosts Q} (both : Core Q g × Table) (old room : RoomState) → old ≡ room → IsBooked old both.0 → numbers_of both.0 ≡ touched 0 (booked room (numbers_of both.0))
-still_booked both old room is kept = kept ∙ untouched (booked old (numbers_of both.0)) ∙ ap (λ (r : RoomState). touched 0 (booked r (numbers_of both.0))) is
+still_booked : {Q : Type 0} {g : Ghosts Q} (beside : Beside) (both : Core Q g × Table) (room : RoomState) → room_of beside both ≡ room → IsBooked beside both →
+    numbers_in beside both ≡ touched 0 (booked room (numbers_in beside both))
+still_booked beside both room is kept =
+    kept ∙ untouched (booked (room_of beside both) (numbers_in beside both)) ∙ ap (λ (r : RoomState). touched 0 (booked r (numbers_in beside both))) is
 
 pub returns-then-not-is_online : goal.returns-then-not-is_online
 returns-then-not-is_online g c =
@@ -39,7 +41,7 @@ returns-then-not-is_online g c =
           stands (at c.args.now beside) (c.args.core.now, c.args.table.now) (take_offline room c.args.cpu).room (ap (λ (made : Stepped). made.room) (step beside));
       numbers = λ beside kept.
           let room = room_of (at c.args.now beside) (c.args.core.now, c.args.table.now) in
-          still_booked (c.args.core.now, c.args.table.now) room (take_offline room c.args.cpu).room (ap (λ (made : Stepped). made.room) (step beside)) kept;
+          still_booked (at c.args.now beside) (c.args.core.now, c.args.table.now) (take_offline room c.args.cpu).room (ap (λ (made : Stepped). made.room) (step beside)) kept;
       unchanged = λ not_done. refl;
       stays = same_stays;
     }
@@ -57,7 +59,7 @@ returns-then-online_count-eq1 g c =
           stands (at c.args.now beside) (c.args.core.now, c.args.table.now) (take_offline room c.args.cpu).room (ap (λ (made : Stepped). made.room) (step beside));
       numbers = λ beside kept.
           let room = room_of (at c.args.now beside) (c.args.core.now, c.args.table.now) in
-          still_booked (c.args.core.now, c.args.table.now) room (take_offline room c.args.cpu).room (ap (λ (made : Stepped). made.room) (step beside)) kept;
+          still_booked (at c.args.now beside) (c.args.core.now, c.args.table.now) (take_offline room c.args.cpu).room (ap (λ (made : Stepped). made.room) (step beside)) kept;
       unchanged = λ not_done. refl;
       stays = same_stays;
     }
@@ -73,8 +75,8 @@ returns g c =
       room = λ beside.
           subst (λ (made : Stepped). room_of (beside_after (at c.args.now beside) made.room) (c.leave.new.core, c.leave.new.table) ≡ made.room) (step beside) (c.leave.ensures.room beside);
       numbers = λ beside kept.
-          subst (λ (made : Stepped). numbers_of c.leave.new.core
-          ≡ touched (leave_touches Done (length (queued_among c.args.table.now.tasks c.args.cpu))) (booked made.room (numbers_of c.args.core.now))) (step beside) (c.leave.ensures.numbers beside kept);
+          subst (λ (made : Stepped). numbers_in beside (c.leave.new.core, c.leave.new.table)
+          ≡ touched (leave_touches Done (length (queued_among c.args.table.now.tasks c.args.cpu))) (booked made.room (numbers_in beside (c.args.core.now, c.args.table.now)))) (step beside) (c.leave.ensures.numbers beside kept);
       unchanged = λ not_done. absurd (not_done refl);
       stays = c.leave.ensures.stays;
     }

@@ -42,7 +42,7 @@ returns g c table =
           ∙ ap (λ (made : Stepped). made.room) (sym (online_step room c.args.cpu false (sym (c.is_online.ensures beside table) ∙ c.if-is_online.false)));
       numbers =
           let own = numbers_kept lanes c.args.cpu lane after c.index_mut.ensures.value c.set_back.ensures.number in
-          λ i. let next : Numbers = record (numbers_of core) { own = own i } in next;
+          λ i. let next : Numbers = record (numbers_of (core, table)) { own = own i } in next;
       unchanged = λ not_done. absurd (not_done refl);
-      stays = alike_stays _ _ (queues_kept lanes c.args.cpu lane after c.index_mut.ensures.value c.set_back.ensures.queue) refl refl refl;
+      stays = alike_stays _ _ (queues_kept lanes c.args.cpu lane after c.index_mut.ensures.value c.set_back.ensures.queue) refl refl;
     }

@@ -91,8 +91,8 @@ loop-position-init g c =
     record {
       as_many = refl;
       room = λ beside. ap (λ n. let next : RoomState = record (room_of beside (core, table)) { next_stamp = core.next_stamp + n } in next) is;
-      numbers = ap (λ n. touched (2 * n) (numbers_of core)) is;
-      stays = stamped_later core _ table refl refl later;
+      numbers = ap (λ n. touched (2 * n) (numbers_of (core, table))) is;
+      stays = stamped_later core _ table refl later;
     }
 
 -- ---- the calls
@@ -228,7 +228,7 @@ loop-position-preserved g c =
                 let more = changed_more change table.tasks now.tasks position task within are at agree.table.rising done (ap (λ (one : Task). one.spec) (w.moved_to-moved.ensures beside now)) is in
                 (λ i. room_of beside (w.core-is i, w.table-is i)) ∙ w.change.ensures.room beside
                 ∙ (λ i. let next : RoomState = record (c.loop-position.invariant.room beside i) { tasks = more i } in next);
-            numbers = ap numbers_of w.core-is ∙ w.change.ensures.numbers ∙ c.loop-position.invariant.numbers;
+            numbers = (λ i. numbers_of (w.core-is i, w.table-is i)) ∙ w.change.ensures.numbers ∙ c.loop-position.invariant.numbers;
             stays = subst (Stays (core, table)) (λ i. (sym w.core-is i, sym w.table-is i)) (both_stay c.loop-position.invariant.stays w.change.ensures.stays);
           }
       | else-task w ↦
@@ -244,7 +244,7 @@ loop-position-preserved g c =
                 let more = same_more (moved_off room cpu) table.tasks now.tasks position task within are at (stays room cpu task stays_there) in
                 (λ i. room_of beside (w.core-is i, w.table-is i))
                 ∙ (λ i. let next : RoomState = record (c.loop-position.invariant.room beside i) { tasks = more i } in next);
-            numbers = ap numbers_of w.core-is ∙ c.loop-position.invariant.numbers;
+            numbers = (λ i. numbers_of (w.core-is i, w.table-is i)) ∙ c.loop-position.invariant.numbers;
             stays = subst (Stays (core, table)) (λ i. (sym w.core-is i, sym w.table-is i)) c.loop-position.invariant.stays;
           }
     ]

@@ -10,6 +10,6 @@ abbrev pub invariant-loop-position : goal.invariant-loop-position
 invariant-loop-position g l = record {
   as_many : length l.table.tasks ≡ length l.fn.table.tasks;
   room : (beside : Beside) → room_of beside (l.core, l.table) ≡ so_far (room_of beside (l.fn.core, l.fn.table)) l.cpu l.position;
-  numbers : numbers_of l.core ≡ touched (2 * length (queued_among l.fn.table.tasks l.cpu)) (numbers_of l.fn.core);
+  numbers : numbers_of (l.core, l.table) ≡ touched (2 * length (queued_among l.fn.table.tasks l.cpu)) (numbers_of (l.fn.core, l.fn.table));
   stays : Stays (l.fn.core, l.fn.table) (l.core, l.table);
 }

@@ -1,6 +1,6 @@
-use Rattle.std.proofs.Common.{◌∙◌, ap, cond, map}
+use Rattle.std.proofs.Common.{◌∙◌, ap, sym, cond, map}
 use Rattle.cs_types.specs.Room.{has_pid}
-use Rattle.task_table.specs.Table.{Table}
+use Rattle.task_table.specs.Table.{Table, total_in}
 use Rattle.task_table.proofs.Tables.{inserted_changed}
 use Rattle.fork_inherit.proofs.forking.insert.Goals as goal
 
@@ -10,4 +10,10 @@ returns-clause-inserted c =
     let added = rw c.unwrap.ensures at c.add.ensures.added in
     let changed : Table → Table = λ (table : Table). record table { tasks = map (λ other. cond (has_pid task.spec.pid other) task other) table.tasks } in
     c.change.ensures.changed ∙ ap changed added
-    ∙ ap (λ tasks. let table : Table = record c.args.table.now { tasks = tasks } in table) (inserted_changed task c.args.table.now.tasks c.requires.free)
+    ∙ (λ i. record c.args.table.now {
+      tasks = inserted_changed task c.args.table.now.tasks c.requires.free i;
+      totals = (sym c.change.ensures.changed i).totals;
+    })
+
+pub returns-clause-totals : goal.returns-clause-totals
+returns-clause-totals c pid = ap (λ (table : Table). total_in table pid) c.change.ensures.changed ∙ c.add.ensures.totals pid

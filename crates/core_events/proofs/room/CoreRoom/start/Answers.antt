@@ -1,6 +1,6 @@
-use Rattle.std.proofs.Common.{ap, subst, sym, ◌+◌, ◌∙◌, arith, refl}
+use Rattle.std.proofs.Common.{ap, subst, sym, ◌∙◌, arith, refl}
 use Rattle.cs_types.specs.declared.scenario.Scenario.{Scenario}
-use Rattle.cs_types.specs.Room.{RoomState, first_pid}
+use Rattle.cs_types.specs.Room.{RoomState}
 use Rattle.core_events.specs.Inside.{IsFold}
 use Rattle.core_events.proofs.room.CoreRoom.start.Goals as goal
 
@@ -20,6 +20,5 @@ invariant_of-result g c =
       siblings = state.siblings;
       slow = omega (arith, ap (λ (room : RoomState). room.clock) state.room);
       few_entries = omega (arith, entries.exact, most);
-      places = state.places ∙ ap (λ n. n + first_pid c.args.scenario.now.tasks) most;
       ends = state.ends ∙ most;
     })

@@ -1,5 +1,6 @@
-use Rattle.std.proofs.Common.{◌≤◌, ◌*◌, ◌++◌, ◌∷◌, [], length, ap, sym, subst, ◌∙◌, arith}
+use Rattle.std.proofs.Common.{ℕ, ◌≤◌, ◌*◌, ◌++◌, ◌∷◌, [], length, ap, sym, subst, ◌∙◌, arith}
 use Rattle.std.specs.Prelude.{IfSome, All, ◌+◌, ◌<◌, ◌^◌}
+use Rattle.std.proofs.lemmas.List.{length-map}
 use Rattle.std.proofs.lemmas.List.Elements.{All-push, All-weaker}
 use Rattle.core_events.specs.Inside.{opening_of}
 use Rattle.cs_types.specs.Guards.{GuardState}
@@ -16,16 +17,16 @@ use Rattle.cs_types.proofs.Refusals.{refused_leaves}
 use Rattle.cs_types.proofs.BalancePlaces.{places-fold_of}
 use Rattle.cs_types.proofs.Times.{timely-fold_of, clock-step}
 use Rattle.cs_types.proofs.Accounts.{IsAccounted, account_of, charged_up_to, accounted-fold_of}
-use Rattle.forceidle_account.specs.Charges.{total_at}
 use Rattle.core_events.proofs.Views.{total_kept}
 use Rattle.cs_types.proofs.Timely.{IsTimely}
 use Rattle.core_lanes.specs.declared.lane.Lane.{Lane}
-use Rattle.core_lanes.specs.Numbers.{Numbers, numbers_of, is_fresh_by}
-use Rattle.core_events.specs.State.{room_with}
+use Rattle.core_lanes.specs.Numbers.{Numbers, is_fresh_by}
+use Rattle.core_events.specs.State.{room_with, state_numbers}
 use Rattle.core_events.specs.Machine.{Machine}
 use Rattle.core_events.proofs.Playable.{most_entries-le, first_pid-low}
 use Rattle.core_events.proofs.Machines.{folds_of, timely_with, of_states, history_more, reply_more, folds_more}
 use Rattle.core_events.proofs.room.CoreRoomRoom.apply.Goals as goal
+use Rattle.task_table.specs.Table.{total_in}
 
 pub counted-reply-requires-clause-event : goal.counted-reply-requires-clause-event
 counted-reply-requires-clause-event g c =
@@ -61,8 +62,8 @@ counted-reply-requires-clause-ready g c =
           c.self.invariant.few_entries,
           most_entries-le a.scenario c.self.invariant.playable,
         );
-        totals = λ pid. subst (λ (r : RoomState). total_at a.state.core.totals pid ≤ 255 * charged_up_to (account_of r)) (sym fold)
-            (subst (λ n. n ≤ 255 * charged_up_to (account_of last)) (sym (total_kept (opening_of a) a.state a.entries.items pid folds)) (accounted.totals pid));
+        totals = λ pid. subst (λ (r : RoomState). total_in a.state.tasks pid ≤ 255 * charged_up_to (account_of r)) (sym fold)
+            (omega (arith, total_kept (opening_of a) a.state a.entries.items pid folds, accounted.totals pid));
       };
       spares = record {
         touches = omega (
@@ -89,20 +90,11 @@ counted-reply-requires-clause-ready g c =
         );
         serial = omega (arith, next_cookie-fold_of (opening_of a) a.entries.items c.self.invariant.playable.few_tasks c.self.invariant.playable.task_limit.1, ap (λ (room : RoomState). room.next_cookie) c.self.invariant.fold, a.entries.ok.0);
         pid = omega (arith, next_pid-fold_of (opening_of a) a.entries.items c.self.invariant.playable.few_tasks c.self.invariant.playable.task_limit.1, ap (λ (room : RoomState). room.next_pid) c.self.invariant.fold, a.entries.ok.0, first_pid-low a.scenario c.self.invariant.playable, c.self.invariant.few_entries, most_entries-le a.scenario c.self.invariant.playable);
-        total = omega (
-          arith,
-          c.self.invariant.places,
-          next_pid-fold_of (opening_of a) a.entries.items c.self.invariant.playable.few_tasks c.self.invariant.playable.task_limit.1,
-          ap (λ (room : RoomState). room.next_pid) c.self.invariant.fold,
-          a.entries.ok.0,
-          c.requires.spare,
-          ap (λ (m : Machine). m.spare) c.self.view_is,
-          c.self.invariant.few_entries,
-        );
         ended = omega (
           arith,
           ended-fold_of (opening_of a) a.entries.items c.self.invariant.playable.few_tasks c.self.invariant.playable.task_limit.1,
           ap (λ (room : RoomState). length room.ended) c.self.invariant.fold,
+          length-map a.state.ended.items (λ (one : ℕ × ℕ). one.0),
           a.entries.ok.0,
           c.requires.spare,
           ap (λ (m : Machine). m.spare) c.self.view_is,
@@ -142,10 +134,9 @@ invariant_of-self g c =
         c.push_reserved.ensures.len,
         c.self.invariant.slow,
         ap (λ (room : RoomState). room.clock) (c.counted-reply.ensures.step (fold_of (opening_of a) a.entries.items).intervals).room,
-        clock-step (room_with (fold_of (opening_of a) a.entries.items).intervals a.state) (is_fresh_by (numbers_of a.state.core)) c.args.event a.scenario.siblings limits,
+        clock-step (room_with (fold_of (opening_of a) a.entries.items).intervals a.state) (is_fresh_by (state_numbers a.state)) c.args.event a.scenario.siblings limits,
       );
       few_entries = omega (arith, c.push_reserved.ensures.capacity, c.self.invariant.few_entries);
-      places = c.counted-reply.ensures.stays.places ∙ c.self.invariant.places;
       ends = c.counted-reply.ensures.stays.ends ∙ c.self.invariant.ends;
     }
 

@@ -5,7 +5,6 @@ use Rattle.cs_types.specs.Room.{Opening}
 use Rattle.cs_types.specs.declared.event.Actor.TheVariants.{End}
 use Rattle.cs_types.specs.declared.event.Event.TheVariants.{Resched}
 use Rattle.cs_types.specs.declared.reply.Entry.{Entry}
-use Rattle.cs_types.specs.declared.scenario.Scenario.{Scenario}
 use Rattle.cs_types.specs.History.{History, history_of, moment_of, fold_of, reply_to}
 use Rattle.cs_types.specs.Drain.{next_to_schedule, IsDrained}
 use Rattle.cs_types.proofs.Histories.{IsLegal-history_of}
@@ -15,8 +14,8 @@ use Rattle.core_events.specs.Drain.{next_by}
 use Rattle.task_table.specs.Table.{Table}
 use Rattle.core_lanes.specs.declared.queue.SiblingQueue.{Ghosts}
 use Rattle.core_lanes.specs.Lanes.{Beside, room_of}
-use Rattle.core_lanes.specs.Numbers.{numbers_of, is_fresh_by}
-use Rattle.core_events.specs.State.{beside_of}
+use Rattle.core_lanes.specs.Numbers.{is_fresh_by}
+use Rattle.core_events.specs.State.{beside_of, state_numbers}
 use Rattle.core_events.specs.declared.room.CoreRoom.TheInside.{Inside}
 use Rattle.core_events.proofs.Machines.{folds_of, next_of}
 use Rattle.core_events.proofs.Playable.{playable_of, events_of}
@@ -25,7 +24,7 @@ use Rattle.core_events.proofs.room.CoreRoomRoom.drain.Goals as goal
 
 -- who schedules next is who the model says, after the history so far
 next_is : {Q G : Type 0} {g : Ghosts Q} (a : Inside Q G g) (invariant : IsFold a) (m : Machine) (opening : Opening) (found : Option ℕ) → machine_of a ≡ m → m.opening ≡ opening →
-    ((beside : Beside) (table : Table) → found ≡ next_by (room_of beside (a.state.core, table)) (is_fresh_by (numbers_of a.state.core))) →
+    ((beside : Beside) (table : Table) → found ≡ next_by (room_of beside (a.state.core, table)) (is_fresh_by (state_numbers a.state))) →
     found ≡ next_to_schedule (moment_of opening (history_of opening m.steps))
 next_is a invariant m opening found view_is same is =
     is (beside_of (fold_of (opening_of a) a.entries.items).intervals a.state) a.state.tasks ∙ next_of (opening_of a) a.state a.entries.items (folds_of a invariant)

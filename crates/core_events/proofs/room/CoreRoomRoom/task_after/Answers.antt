@@ -1,16 +1,18 @@
 use Rattle.std.proofs.Common.{◌≡◌, ◌^◌, ◌<◌, ap, ◌∙◌, sym, subst, arith, Option, Some}
-use Rattle.std.specs.Prelude.{IfSome}
+use Rattle.std.specs.Prelude.{IfSome, find, nat_lt, []}
 use Rattle.std.specs.Option.{option_map}
 use Rattle.core_events.specs.Inside.{opening_of}
 use Rattle.cs_types.specs.View.{task_after, task_view, task_view_after}
 use Rattle.cs_types.specs.History.{fold_of, history_of, moment_of}
 use Rattle.cs_types.specs.declared.view.TaskView.{TaskView}
-use Rattle.cs_types.specs.Room.{RoomState}
+use Rattle.cs_types.specs.Room.{RoomState, has_pid}
 use Rattle.cs_types.proofs.Times.{shown_bounded}
 use Rattle.core_events.proofs.Playable.{most_entries-le}
 use Rattle.core_events.specs.Machine.{Machine}
 use Rattle.core_events.proofs.Machines.{folds_of}
-use Rattle.core_events.proofs.Views.{task_shown, total_kept}
+use Rattle.core_events.proofs.Views.{task_shown, living_total}
+use Rattle.task_table.proofs.Rising.{find_again}
+use Rattle.cs_types.specs.declared.task.Task.{Task}
 use Rattle.core_events.proofs.room.CoreRoomRoom.task_after.Goals as goal
 
 pub returns-in_err-task-clause-view : goal.returns-in_err-task-clause-view
@@ -30,7 +32,11 @@ shown g c =
     let a = c.self.inside in
     let last = fold_of (opening_of a) a.entries.items in
     let folds = folds_of a c.self.invariant in
-    let total = c.of.ensures ∙ total_kept (opening_of a) a.state a.entries.items c.in_ok-task.task.spec.pid folds in
+    let task = c.in_ok-task.task in
+    let found = c.task_after.ensures [] in
+    let there : find (has_pid task.spec.pid) a.state.tasks.tasks ≡ Some task =
+    find_again (λ (other : Task). nat_lt c.args.pid other.spec.pid) 0 a.state.tasks.tasks task c.self.invariant.sound.agree.table.rising (sym found ∙ c.in_ok-task.was) in
+    let total = c.forced.ensures.total ∙ living_total (opening_of a) a.state a.entries.items task.spec.pid task folds c.self.invariant.sound there in
     ap Some (c.view.ensures last total)
     ∙ ap (option_map (task_view last)) (sym c.in_ok-task.was)
     ∙ task_shown (opening_of a) a.state a.entries.items c.args.pid c.task_after.result folds (c.task_after.ensures (fold_of (opening_of a) a.entries.items).intervals)

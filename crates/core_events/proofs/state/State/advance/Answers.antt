@@ -5,8 +5,8 @@ use Rattle.cs_types.specs.declared.task.Task.{Task}
 use Rattle.cs_types.specs.Room.{SiblingState}
 use Rattle.cs_types.proofs.Timely.{IsTimelyTask, IsTimelySibling}
 use Rattle.core_lanes.specs.Lanes.{lane_state, room_of, at}
-use Rattle.core_lanes.specs.Numbers.{numbers_of}
-use Rattle.core_events.specs.State.{beside_of, room_with}
+use Rattle.core_lanes.specs.Numbers.{with_ended}
+use Rattle.core_events.specs.State.{beside_of, room_with, state_numbers}
 use Rattle.core_events.proofs.States.{uncharged, lifted, both_stay, low_times}
 use Rattle.core_events.proofs.Onlines.{untouched}
 use Rattle.core_events.proofs.state.State.advance.Goals as goal
@@ -38,7 +38,7 @@ returns g c =
           uncharged (record {
             reply = ap Now clock;
             room = ap (λ n. room_of (at n beside) (c.advance-self.new.core, c.advance-self.new.table)) clock ∙ advances.room beside;
-            numbers = advances.numbers ∙ untouched (numbers_of old.core);
+            numbers = ap (with_ended old.ended.items) advances.numbers ∙ untouched (state_numbers old);
           });
-      stays = both_stay (lifted old (c.advance-self.new.core, c.advance-self.new.table) advances.stays) (record { sound = λ sound. record { agree = sound.agree; limit = sound.limit; user_top = sound.user_top; pids = sound.pids; low_pids = sound.low_pids; refs = sound.refs }; siblings = refl; places = refl; ends = refl });
+      stays = both_stay (lifted old (c.advance-self.new.core, c.advance-self.new.table) advances.stays) (record { sound = λ sound. record { agree = sound.agree; limit = sound.limit; user_top = sound.user_top; pids = sound.pids; ended = sound.ended; refs = sound.refs }; siblings = refl; ends = refl });
     }

@@ -1,17 +1,17 @@
-use Rattle.std.proofs.Common.{◌≡◌, ◌+◌, ◌<◌, ◌^◌, ap, ◌∙◌, refl, sym, subst, List, Some, None}
+use Rattle.std.proofs.Common.{◌≡◌, ◌+◌, ◌<◌, ◌^◌, ap, ◌∙◌, refl, sym, subst, Some, None}
 use Rattle.cs_types.specs.declared.event.Event.TheVariants.{Block}
 use Rattle.cs_types.specs.declared.reply.Reply.TheVariants.{Slept, Idle, Offline}
 use Rattle.cs_types.specs.declared.task.Task.{Task}
-use Rattle.cs_types.specs.Room.{RoomState, SiblingState, running_on}
+use Rattle.cs_types.specs.Room.{RoomState, running_on}
 use Rattle.cs_types.specs.Selection.{Scheduled}
 use Rattle.cs_types.specs.Accounting.{charge}
 use Rattle.cs_types.specs.Queueing.{dequeue}
 use Rattle.cs_types.specs.Step.{Stepped, run_idle, block}
 use Rattle.cs_types.proofs.Accounts.{now-charge}
-use Rattle.core_lanes.specs.Lanes.{BareCore, AreLow, beside_after, room_of}
-use Rattle.core_lanes.specs.Numbers.{Numbers, numbers_of, booked, took, touched}
+use Rattle.core_lanes.specs.Lanes.{BareCore, AreLow, beside_after, room_of, bare}
+use Rattle.core_lanes.specs.Numbers.{Numbers, booked, took, touched, with_ended}
 use Rattle.core_lanes.proofs.Stays.{both_stay, found_in, some_beside}
-use Rattle.core_events.specs.State.{beside_of, room_with}
+use Rattle.core_events.specs.State.{beside_of, room_with, state_numbers}
 use Rattle.core_events.proofs.States.{once_charged, lifted, low_times, leaves_all}
 use Rattle.core_events.proofs.Onlines.{untouched, when_running, when_offline}
 use Rattle.core_events.proofs.Sleeps.{took-touched}
@@ -19,55 +19,56 @@ use Rattle.core_events.proofs.Lows.{HasLow, low_idled, low_dequeued}
 use Rattle.core_events.proofs.Readies.{may_pick, may_touch_after, fits_found, knows_as, picked_charged}
 use Rattle.core_events.proofs.Changes.{still_below}
 use Rattle.core_events.proofs.state.State.block.Goals as goal
+use Rattle.task_table.specs.Table.{Table}
+use Rattle.core_lanes.specs.Queued.{IsOf}
 
 pub dequeue-requires-clause-touches : goal.dequeue-requires-clause-touches
 dequeue-requires-clause-touches g c =
-    subst (λ n. n + 1 < 2 ^ 64) (sym (ap (λ (b : BareCore). b.task_number) c.charge.ensures.rest)) (may_pick c.args.self.now c.requires.ready).touches
+    subst (λ n. n + 1 < 2 ^ 64) (sym (ap (λ (b : BareCore). b.task_number) c.charge.ensures.core)) (may_pick c.args.self.now c.args.cpu c.requires.cpu c.requires.ready).touches
 
 pub run_idle-requires : goal.run_idle-requires
 run_idle-requires g c = still_below (both_stay c.charge.ensures.charges.stays c.dequeue.ensures.stays) c.requires.cpu
 
-pub pick_and_balance-requires-clause-cpu : goal.pick_and_balance-requires-clause-cpu
-pick_and_balance-requires-clause-cpu g c =
-    still_below (both_stay c.charge.ensures.charges.stays (both_stay c.dequeue.ensures.stays (c.run_idle.ensures c.dequeue.new.table).stays)) c.requires.cpu
-
 pub dequeue-requires-clause-knows : goal.dequeue-requires-clause-knows
 dequeue-requires-clause-knows g c =
     let task = c.in-Some.task in
-    let there = c.in-Some.ensures.there in
+    let table = c.charge.new.table in
+    let there = subst (λ (table : Table). IsOf table.tasks task) (sym c.charge.ensures.table) c.in-Some.ensures.there in
     let agree = c.charge.ensures.charges.stays.agree c.requires.ready.sound.agree in
-    knows_as (c.charge.new.core, c.args.self.now.tasks) task task refl refl there (fits_found (c.charge.new.core, c.args.self.now.tasks) task.spec.pid task agree there)
+    knows_as (c.charge.new.core, table) task task refl refl there (fits_found (c.charge.new.core, table) task.spec.pid task agree there)
 
 pub dequeue-requires-clause-agree : goal.dequeue-requires-clause-agree
 dequeue-requires-clause-agree g c = c.charge.ensures.charges.stays.agree c.requires.ready.sound.agree
 
-pub pick_and_balance-requires-clause-may : goal.pick_and_balance-requires-clause-may
-pick_and_balance-requires-clause-may g c =
+pub pick_and_balance-requires : goal.pick_and_balance-requires
+pick_and_balance-requires g c =
     let old = c.args.self.now in
     let task = c.in-Some.task in
     let first = low_times old c.requires.ready.time in
     let low : task.vtime < 2 ^ 100 = found_in (λ (t : Task). t.vtime < 2 ^ 100) task.spec.pid old.tasks.tasks task first.vtimes c.in-Some.ensures.there in
     let idle = c.run_idle.ensures c.dequeue.new.table in
-    let rest = c.charge.ensures.rest in
-    let paid : HasLow (room_of some_beside (c.charge.new.core, old.tasks)) =
-    subst (λ (siblings : List SiblingState). AreLow siblings old.tasks.tasks) (sym (ap (λ (b : BareCore). b.siblings) rest)) first in
+    let paid_core = c.charge.ensures.core in
+    let mid = room_of some_beside (c.charge.new.core, c.charge.new.table) in
+    let paid : HasLow mid = subst (λ (table : Table). AreLow (bare c.charge.new.core).siblings table.tasks) (sym c.charge.ensures.table)
+    (subst (λ (b : BareCore). AreLow b.siblings old.tasks.tasks) (sym paid_core) first) in
     record {
+      cpu = still_below (both_stay c.charge.ensures.charges.stays (both_stay c.dequeue.ensures.stays (c.run_idle.ensures c.dequeue.new.table).stays)) c.requires.cpu;
       agree = idle.stays.agree (c.dequeue.ensures.stays.agree (c.charge.ensures.charges.stays.agree c.requires.ready.sound.agree));
       low = subst HasLow
           (sym (idle.room some_beside ∙ ap (λ (r : RoomState). run_idle r c.args.cpu) (c.dequeue.ensures.room some_beside)))
-          (low_idled (dequeue (room_of some_beside (c.charge.new.core, old.tasks)) task) c.args.cpu (low_dequeued (room_of some_beside (c.charge.new.core, old.tasks)) task low paid));
-      clock = (may_pick old c.requires.ready).clock;
-      touches = may_touch_after old c.requires.ready (numbers_of c.charge.new.core) (numbers_of c.run_idle.new.self)
-          (ap (λ (b : BareCore). b.task_number) rest) (idle.numbers ∙ c.dequeue.ensures.numbers);
+          (low_idled (dequeue mid task) c.args.cpu (low_dequeued mid task low paid));
+      clock = (may_pick old c.args.cpu c.requires.cpu c.requires.ready).clock;
+      touches = may_touch_after old c.requires.ready _ _
+          (ap (λ (b : BareCore). b.task_number) paid_core) (idle.numbers ∙ c.dequeue.ensures.numbers);
     }
 
 pub returns-then-not-is_online : goal.returns-then-not-is_online
-returns-then-not-is_online g c = leaves_all c.args.self.now (Block c.args.cpu) Offline (λ intervals. untouched (numbers_of c.args.self.now.core)) (λ intervals.
+returns-then-not-is_online g c = leaves_all c.args.self.now (Block c.args.cpu) Offline (λ intervals. untouched (state_numbers c.args.self.now)) (λ intervals.
     let room = room_with intervals c.args.self.now in
     when_offline room c.args.cpu (block room c.args.cpu (running_on room c.args.cpu)) (sym (c.is_online.ensures (beside_of intervals c.args.self.now) c.args.self.now.tasks) ∙ c.if-not-is_online.true))
 
 pub returns-in_default : goal.returns-in_default
-returns-in_default g c = leaves_all c.args.self.now (Block c.args.cpu) Idle (λ intervals. untouched (numbers_of c.args.self.now.core)) (λ intervals.
+returns-in_default g c = leaves_all c.args.self.now (Block c.args.cpu) Idle (λ intervals. untouched (state_numbers c.args.self.now)) (λ intervals.
     let room = room_with intervals c.args.self.now in
     let beside = beside_of intervals c.args.self.now in
     when_running room c.args.cpu (block room c.args.cpu) None (c.in_default.ensures.task beside) (sym (c.is_online.ensures beside c.args.self.now.tasks) ∙ c.if-not-is_online.false))
@@ -91,10 +92,10 @@ returns g c =
           once_charged (record {
             reply = ap (Slept task.spec.pid) (c.pick_and_balance.ensures.pick paid ∙ ap (λ (made : Scheduled). made.pick) scheduled) ∙ ap (λ (m : Stepped). m.reply) up;
             room = c.pick_and_balance.ensures.room paid ∙ ap (λ (made : Scheduled). made.room) scheduled ∙ ap (λ (m : Stepped). m.room) up;
-            numbers = λ kept. c.pick_and_balance.ensures.numbers
+            numbers = λ kept. ap (with_ended old.ended.items) c.pick_and_balance.ensures.numbers
                 ∙ ap (λ (numbers : Numbers). took cpu c.pick_and_balance.result numbers)
-                (idle.numbers ∙ c.dequeue.ensures.numbers ∙ ap (λ (numbers : Numbers). touched 1 numbers) (c.charge.ensures.charges.numbers beside kept))
-                ∙ took-touched room cpu task.spec.pid c.pick_and_balance.result (booked (charge room) (numbers_of old.core));
+                (ap (with_ended old.ended.items) (idle.numbers ∙ c.dequeue.ensures.numbers) ∙ ap (λ (numbers : Numbers). touched 1 numbers) (c.charge.ensures.charges.numbers beside kept))
+                ∙ took-touched room cpu task.spec.pid c.pick_and_balance.result (booked (charge room) (state_numbers old));
           });
       stays = lifted old (c.pick_and_balance.new.core, c.pick_and_balance.new.table)
           (both_stay c.charge.ensures.charges.stays (both_stay c.dequeue.ensures.stays (both_stay idle.stays c.pick_and_balance.ensures.stays)));

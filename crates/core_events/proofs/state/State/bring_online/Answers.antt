@@ -1,7 +1,7 @@
 use Rattle.std.proofs.Common.{◌∙◌, ap, sym}
 use Rattle.cs_types.specs.declared.event.Event.TheVariants.{Online}
-use Rattle.core_lanes.specs.Numbers.{numbers_of}
-use Rattle.core_events.specs.State.{beside_of, room_with}
+use Rattle.core_lanes.specs.Numbers.{with_ended}
+use Rattle.core_events.specs.State.{beside_of, room_with, state_numbers}
 use Rattle.core_events.specs.Steps.{numbers_after}
 use Rattle.core_events.proofs.States.{uncharged, lifted}
 use Rattle.core_events.proofs.Readies.{online_touches}
@@ -19,8 +19,8 @@ returns g c =
           uncharged (record {
             reply = c.hotplug_reply.ensures ∙ brings.reply beside;
             room = brings.room beside;
-            numbers = brings.numbers ∙ online_touches room cpu (numbers_of old.core) c.online.result
-                ∙ ap (λ r. numbers_after room (Online cpu) r (numbers_of old.core)) (sym c.hotplug_reply.ensures);
+            numbers = ap (with_ended old.ended.items) brings.numbers ∙ online_touches room cpu (state_numbers old) c.online.result
+                ∙ ap (λ r. numbers_after room (Online cpu) r (state_numbers old)) (sym c.hotplug_reply.ensures);
           });
       stays = lifted old (c.online.new.core, old.tasks) brings.stays;
     }

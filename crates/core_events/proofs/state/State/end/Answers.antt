@@ -1,22 +1,25 @@
-use Rattle.std.proofs.Common.{◌≡◌, ◌++◌, ◌∷◌, [], List, ap, ◌∙◌, refl, sym, subst, false, length}
-use Rattle.std.specs.Prelude.{All, Some, find, not, IsSomeAnd, ◌==◌, ◌&&◌}
+use Rattle.std.proofs.Common.{ℕ, map, ◌+◌, ◌≡◌, ◌++◌, ◌∷◌, [], List, ap, ◌∙◌, refl, sym, subst, false, length}
+use Rattle.std.specs.Prelude.{Ok, All, Some, find, not, IsSomeAnd, ◌==◌, ◌&&◌}
 use Rattle.std.specs.Result.{IsOk}
+use Rattle.std.proofs.lemmas.Bool.{cond-false}
 use Rattle.std.proofs.lemmas.List.Elements.{All-filter}
 use Rattle.cs_types.specs.declared.task.Task.{Task}
 use Rattle.cs_types.specs.Room.{RoomState, has_pid}
 use Rattle.cs_types.specs.Queueing.{dequeue}
 use Rattle.cs_types.specs.Step.{has_threads}
-use Rattle.task_table.specs.Table.{Table, IsSound as IsTable}
+use Rattle.task_table.specs.Table.{Table, IsSound as IsTable, total_among, total_in}
 use Rattle.core_lanes.specs.declared.queue.SiblingQueue.{Ghosts}
 use Rattle.core_lanes.specs.declared.lanes.Core.{Core}
 use Rattle.core_lanes.specs.Queued.{IsOf}
 use Rattle.core_lanes.specs.Lanes.{bare, room_by, room_of, IsFit, Agree}
 use Rattle.core_lanes.specs.Changes.{Becomes}
 use Rattle.core_lanes.proofs.Stays.{some_beside, found_in}
-use Rattle.core_events.specs.State.{both, beside_of, room_with, IsGiven}
+use Rattle.core_events.specs.State.{both, beside_of, room_with, IsGiven, state_numbers, IsGone}
 use Rattle.core_events.proofs.States.{lifted, both_stay}
-use Rattle.core_events.proofs.Lives.{but, but-changed, find-changed, any-changed, agree-but}
+use Rattle.core_events.proofs.Lives.{but, but-changed, find-changed, any-changed, agree-but, gone-push, total-moved}
 use Rattle.core_events.proofs.state.State.end.Goals as goal
+use Rattle.core_lanes.specs.Numbers.{with_ended}
+use Rattle.std.proofs.lemmas.List.{map_push}
 
 module _ {Q : Type 0} {g : Ghosts Q} (old new : Core Q g × Table) (task : Task) (becomes : Becomes old new (λ room. dequeue room task)) where
   -- a dequeued task is found among the tasks
@@ -55,8 +58,8 @@ pub end-requires-clause-agree : goal.end-requires-clause-agree
 end-requires-clause-agree g c =
     ((lifted c.args.self.now (c.dequeue.new.self, c.dequeue.new.table) c.dequeue.ensures.stays).sound c.requires.sound).refs
 
-pub unwrap-requires : goal.unwrap-requires
-unwrap-requires g c =
+pub unwrap-forced-requires : goal.unwrap-forced-requires
+unwrap-forced-requires g c =
     let old = both c.args.self.now in
     let mid = c.dequeue.new.self in
     let table = c.dequeue.new.table in
@@ -74,28 +77,40 @@ returns g c =
     let pid = task.spec.pid in
     let asleep : Task = record task { queued = false } in
     let gone = λ (other : Task). not (has_pid pid other) in
-    let less : Table = record table { tasks = but pid table.tasks } in
-    let ended : c.end.new.table ≡ less = rw c.unwrap.ensures at c.end.ensures.ended in
+    let less : Table = record table { tasks = but pid table.tasks; totals = c.end.new.table.totals } in
+    let ended : c.end.new.table ≡ less = rw c.unwrap-forced.ensures at c.end.ensures.ended in
     let there = found (both old) (mid, table) task c.dequeue.ensures.room c.requires.there in
+    let forced : c.unwrap-forced.result.1 ≡ total_in table pid =
+    (let is : Ok c.unwrap-forced.result ≡ Ok (asleep, total_in table pid) =
+    sym c.unwrap-forced.ensures ∙ c.end.ensures.answer (room_of some_beside (mid, table)) asleep refl there
+    ∙ cond-false _ _ _ (alone (both old) (mid, table) task c.dequeue.ensures.room (c.requires.alone [])) in
+    let same : c.unwrap-forced.result ≡ (asleep, total_in table pid) = cc in
+    ap (λ (one : Task × ℕ). one.1) same) in
+    let moved : (other : ℕ) → total_in c.end.new.table other + total_among c.push_reserved.new.self.items other ≡ total_in table other + total_among old.ended.items other =
+    λ other. ap (λ (items : List (ℕ × ℕ)). total_in c.end.new.table other + total_among items other) c.push_reserved.ensures.items
+    ∙ total-moved (total_in table) (total_in c.end.new.table) pid c.unwrap-forced.result.1 old.ended.items (rw c.unwrap-forced.ensures at c.end.ensures.totals) forced other in
     record {
       room = λ intervals.
           let beside = beside_of intervals old in
           (λ i. room_by (record beside { cookie_limit = c.end.ensures.limit i; ended = c.push_reserved.ensures.items i; next_cookie = c.end.ensures.next i }) (bare mid) (ended i))
-          ∙ ap (λ (room : RoomState). let left : RoomState = record room { tasks = but pid room.tasks; ended = room.ended ++ pid ∷ [] } in left) (c.dequeue.ensures.room beside)
-          ∙ ap (λ (tasks : List Task). let left : RoomState = record (room_with intervals old) { tasks = tasks; ended = old.ended.items ++ pid ∷ [] } in left) (but-changed asleep old.tasks.tasks);
-      numbers = c.dequeue.ensures.numbers;
+          ∙ (λ i. let left : RoomState = record (c.dequeue.ensures.room beside i) { tasks = but pid (c.dequeue.ensures.room beside i).tasks; ended = map_push (λ (one : ℕ × ℕ). one.0) old.ended.items (pid, c.unwrap-forced.result.1) i } in left)
+          ∙ ap (λ (tasks : List Task). let left : RoomState = record (room_with intervals old) { tasks = tasks; ended = map (λ one. one.0) old.ended.items ++ pid ∷ [] } in left) (but-changed asleep old.tasks.tasks);
+      numbers =
+          (λ i. record (state_numbers old) { task = mid.task_number; pick = mid.pick_number; own = (bare mid).own; intervals = mid.account.intervals; totals = λ other. moved other i })
+          ∙ ap (with_ended old.ended.items) c.dequeue.ensures.numbers;
       stays = both_stay (lifted old (mid, table) c.dequeue.ensures.stays) (record {
         sound = λ sound. record {
-          agree = subst (λ (t : Table). Agree (mid, t)) (sym ended) (agree-but mid table asleep there refl (subst IsTable ended c.end.ensures.sound) sound.agree);
+          agree = subst (λ (t : Table). Agree (mid, t)) (sym ended) (agree-but mid table asleep c.end.new.table.totals there refl (subst IsTable ended c.end.ensures.sound) sound.agree);
           limit = ap (λ (t : Table). t.limit) ended ∙ sound.limit;
           user_top = sound.user_top;
           pids = subst (λ (t : Table). All (λ (task : Task). IsGiven old.next_pid task.spec.pid) t.tasks) (sym ended)
               (All-filter gone (λ (task : Task). IsGiven old.next_pid task.spec.pid) table.tasks sound.pids);
-          low_pids = sound.low_pids;
+          ended = subst (λ items. All (IsGone old.next_pid c.end.new.table.tasks items) items) (sym c.push_reserved.ensures.items)
+              (subst (λ (t : Table). All (IsGone old.next_pid t.tasks (old.ended.items ++ (pid, c.unwrap-forced.result.1) ∷ [])) (old.ended.items ++ (pid, c.unwrap-forced.result.1) ∷ [])) (sym ended)
+              (gone-push old.next_pid pid c.unwrap-forced.result.1 table.tasks asleep old.ended.items there (found_in (λ (task : Task). IsGiven old.next_pid task.spec.pid) pid table.tasks asleep sound.pids there).1 sound.ended));
           refs = c.end.ensures.agree;
         };
         siblings = refl;
-        places = refl;
         ends = c.push_reserved.ensures.capacity;
       });
     }

@@ -7,9 +7,9 @@ use Rattle.cs_types.specs.Scenario.{IsPolicy}
 use Rattle.cs_types.specs.Room.{RoomState}
 use Rattle.cs_types.specs.Queueing.{queue_at_home}
 use Rattle.cs_types.specs.Step.{Stepped, fork, child_at_home, child_of, with_child}
-use Rattle.core_lanes.specs.Numbers.{Numbers, touched, numbers_of}
+use Rattle.core_lanes.specs.Numbers.{Numbers, touched, with_ended}
 use Rattle.core_lanes.proofs.Stays.{some_beside}
-use Rattle.core_events.specs.State.{beside_of, both, room_with}
+use Rattle.core_events.specs.State.{beside_of, both, room_with, state_numbers}
 use Rattle.core_events.proofs.States.{uncharged, lifted, both_stay, leaves_all}
 use Rattle.core_events.proofs.Readies.{fits_found, knows_as}
 use Rattle.cs_types.specs.declared.event.Event.TheVariants.{Fork}
@@ -78,7 +78,7 @@ returns-in-Ok g c =
                 ∙ ap (queue_at_home (with_child room child))
                 (c.child_at_home-task.ensures.child_at_home beside after.tasks ∙ ap (λ (now : RoomState). child_at_home now child) (born.room intervals))
                 ∙ ap (λ (m : Stepped). m.room) whole;
-            numbers = queued.numbers ∙ ap (λ (numbers : Numbers). touched 1 numbers) born.numbers;
+            numbers = ap (with_ended after.ended.items) queued.numbers ∙ ap (λ (numbers : Numbers). touched 1 numbers) born.numbers;
           });
       stays = both_stay born.stays (lifted after (c.queue_at_home.new.core, c.queue_at_home.new.table) queued.stays);
     }
@@ -88,7 +88,7 @@ returns-in-Err-NoCaller g c =
     let old = c.args.self.now in
     let makes = rw c.in-Err-NoCaller.field-0-is at c.in-Err-NoCaller.ensures in
     subst (λ (new : State _ _ _). Makes old new (Fork c.args.caller c.args.thread) NoCaller) (sym makes.1)
-    (leaves_all old (Fork c.args.caller c.args.thread) NoCaller (λ intervals. untouched (numbers_of old.core)) (λ intervals.
+    (leaves_all old (Fork c.args.caller c.args.thread) NoCaller (λ intervals. untouched (state_numbers old)) (λ intervals.
     ap (fork (room_with intervals old) c.args.thread) (sym makes.0)))
 
 pub returns-in-Err-Eagain : goal.returns-in-Err-Eagain
@@ -96,6 +96,6 @@ returns-in-Err-Eagain g c =
     let old = c.args.self.now in
     let makes = rw c.in-Err-Eagain.field-0-is at c.in-Err-Eagain.ensures in
     subst (λ (new : State _ _ _). Makes old new (Fork c.args.caller c.args.thread) (Refused Eagain)) (sym makes.3)
-    (leaves_all old (Fork c.args.caller c.args.thread) (Refused Eagain) (λ intervals. untouched (numbers_of old.core)) (λ intervals.
+    (leaves_all old (Fork c.args.caller c.args.thread) (Refused Eagain) (λ intervals. untouched (state_numbers old)) (λ intervals.
     let room = room_with intervals old in
     sym (cond-true _ (record { reply = Refused Eagain; room = room }) _ makes.2) ∙ ap (fork room c.args.thread) (sym makes.1)))

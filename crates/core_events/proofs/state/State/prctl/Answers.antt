@@ -25,7 +25,7 @@ returns-in-Go g c = record {
               limit = sound.limit;
               user_top = sound.user_top;
               pids = sound.pids;
-              low_pids = sound.low_pids;
+              ended = sound.ended;
               refs = c.in-Go.ensures.held;
             }) in
             record {
@@ -33,11 +33,10 @@ returns-in-Go g c = record {
               limit = set.limit;
               user_top = set.user_top;
               pids = set.pids;
-              low_pids = set.low_pids;
+              ended = set.ended;
               refs = Agree-put c.set_cookies.new.self.refs c.put.new.self c.set_cookies.new.self.tasks.tasks c.in-Go.decision.cookie c.put.ensures.counts set.refs;
             };
         siblings = c.set_cookies.ensures.stays.siblings;
-        places = c.set_cookies.ensures.stays.places;
         ends = c.set_cookies.ensures.stays.ends;
       };
 }
@@ -56,11 +55,10 @@ returns-in-Answer g c = record {
       limit = sound.limit;
       user_top = sound.user_top;
       pids = sound.pids;
-      low_pids = sound.low_pids;
+      ended = sound.ended;
       refs = c.in-Answer.ensures.held;
     };
     siblings = refl;
-    places = refl;
     ends = refl;
   };
 }

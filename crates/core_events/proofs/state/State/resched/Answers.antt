@@ -3,9 +3,9 @@ use Rattle.cs_types.specs.declared.event.Event.TheVariants.{Resched}
 use Rattle.cs_types.specs.declared.reply.Reply.TheVariants.{Picked, Offline}
 use Rattle.cs_types.specs.Selection.{schedule}
 use Rattle.cs_types.specs.Step.{picked}
-use Rattle.core_lanes.specs.Numbers.{numbers_of, booked, is_fresh_by}
+use Rattle.core_lanes.specs.Numbers.{booked, is_fresh_by}
 use Rattle.core_events.specs.declared.state.State.{State}
-use Rattle.core_events.specs.State.{beside_of, room_with}
+use Rattle.core_events.specs.State.{beside_of, room_with, state_numbers}
 use Rattle.core_events.specs.Steps.{MakesStep, Makes}
 use Rattle.core_events.proofs.States.{lifted, leaves_all}
 use Rattle.core_events.proofs.Onlines.{untouched, when_online, when_offline}
@@ -13,8 +13,8 @@ use Rattle.core_events.proofs.Sleeps.{took-resched}
 use Rattle.core_events.proofs.Readies.{may_schedule}
 use Rattle.core_events.proofs.state.State.resched.Goals as goal
 
-pub schedule-requires-clause-may : goal.schedule-requires-clause-may
-schedule-requires-clause-may g c = may_schedule c.args.self.now c.requires.ready
+pub schedule-requires : goal.schedule-requires
+schedule-requires g c = may_schedule c.args.self.now c.args.cpu c.requires.cpu c.requires.ready
 
 pub returns-in-Some : goal.returns-in-Some
 returns-in-Some g c =
@@ -22,7 +22,7 @@ returns-in-Some g c =
     let cpu = c.args.cpu in
     let pick = c.in-Some.pick in
     let schedules = c.in-Some.ensures.schedules in
-    let fresh = is_fresh_by (numbers_of old.core) in
+    let fresh = is_fresh_by (state_numbers old) in
     record {
       step = λ intervals.
           let beside = beside_of intervals old in
@@ -31,7 +31,7 @@ returns-in-Some g c =
           subst (MakesStep intervals old _ (Resched cpu) (Picked pick)) made (record {
             reply = ap Picked (schedules.pick beside);
             room = schedules.room beside;
-            numbers = λ kept. schedules.numbers beside kept ∙ took-resched room cpu pick (booked (schedule room fresh cpu).room (numbers_of old.core));
+            numbers = λ kept. schedules.numbers beside kept ∙ took-resched room cpu pick (booked (schedule room fresh cpu).room (state_numbers old));
           });
       stays = lifted old (c.schedule.new.core, c.schedule.new.table) schedules.stays;
     }
@@ -40,9 +40,9 @@ pub returns-in-None : goal.returns-in-None
 returns-in-None g c =
     let old = c.args.self.now in
     let cpu = c.args.cpu in
-    let fresh = is_fresh_by (numbers_of old.core) in
+    let fresh = is_fresh_by (state_numbers old) in
     subst (λ (state : State g.row.Q.Denot g.row.G.Denot g.Q.SiblingQueue). Makes old state (Resched cpu) Offline)
     (λ i. record old { core = sym c.in-None.ensures.core i; tasks = sym c.in-None.ensures.table i })
-    (leaves_all old (Resched cpu) Offline (λ intervals. untouched (numbers_of old.core)) (λ intervals.
+    (leaves_all old (Resched cpu) Offline (λ intervals. untouched (state_numbers old)) (λ intervals.
     let room = room_with intervals old in
     when_offline room cpu (picked Picked (schedule room fresh cpu)) (sym (c.in-None.ensures.online (beside_of intervals old)))))

@@ -1,22 +1,23 @@
-use Rattle.std.proofs.Common.{◌≡◌, ◌<◌, ◌∙◌, ◌+◌, refl, sym, ap, subst, map, length, arith}
+use Rattle.std.proofs.Common.{◌≢◌, ◌≡◌, ◌<◌, ◌∙◌, ◌+◌, refl, sym, ap, subst, map, length, arith}
 use Rattle.std.specs.Prelude.{All, IsTrue}
 use Rattle.std.specs.Vec.{with_items}
 use Rattle.std.proofs.lemmas.List.{with_items_is}
 use Rattle.cs_types.specs.declared.task.Task.{Task}
 use Rattle.cookie_refs.specs.Refs.{AgreeBut}
 use Rattle.cookie_refs.proofs.Agreements.{AgreeBut-with_cookie, held_cookie_is_live, own_cookie_is_live, count_of-le}
-use Rattle.forceidle_account.specs.Charges.{has_total}
 use Rattle.task_table.specs.Table.{Table}
 use Rattle.task_table.proofs.Tables.{rising_pairs}
 use Rattle.core_lanes.specs.Lanes.{BareCore, bare, lane_state, IsFit}
-use Rattle.core_lanes.specs.Numbers.{numbers_of, numbers_by, touched}
+use Rattle.core_lanes.specs.Numbers.{numbers_by, touched, with_ended}
 use Rattle.core_lanes.specs.Changes.{Kept}
 use Rattle.core_lanes.proofs.Replaced.{All-replaced}
 use Rattle.core_lanes.proofs.Stays.{alike_stays, as_many_bare, found_in, number_of, queue_of}
-use Rattle.core_events.specs.State.{beside_of, IsGiven}
+use Rattle.core_events.specs.State.{beside_of, IsGiven, state_numbers, IsGone}
 use Rattle.core_events.specs.Cookies.{flagged_for}
 use Rattle.core_events.proofs.Settings.{flagged_core, sets_one, touches_alone}
 use Rattle.core_events.proofs.state.State.set_cookie.Goals as goal
+use Rattle.cs_types.proofs.Spots.{replaced_by}
+use Rattle.std.proofs.lemmas.List.Elements.{All-weaker}
 
 pub get-requires-clause-few : goal.get-requires-clause-few
 get-requires-clause-few g c =
@@ -71,12 +72,12 @@ returns g c =
     let is : core ≡ flagged_core touches pid (bare old.core) =
     (λ i. let one : BareCore = record (bare mid) { task_number = mid.task_number + touches; siblings = flags i; own = own i } in one)
     ∙ ap (flagged_core touches pid) same in
-    let stays = alike_stays (mid, c.replace.new.table) _ queues refl refl refl in
+    let stays = alike_stays (mid, c.replace.new.table) _ queues refl refl in
     record {
       room = λ intervals.
           sets_one (beside_of intervals old) c.put.new.self.limit c.put.new.self.next touches (bare old.core) core old.tasks c.replace.new.table c.args.task c.args.cookie
           c.requires.sound.agree.table.rising there table (c.put.ensures.limit ∙ c.get.ensures.limit) (c.put.ensures.next ∙ c.get.ensures.next) is;
-      numbers = ap numbers_by is ∙ ap (λ n. touched n (numbers_of old.core)) (touches_alone c.args.task c.args.cookie touches c.touches.ensures.touches);
+      numbers = (λ i. with_ended old.ended.items (numbers_by (is i) (table i))) ∙ ap (λ n. touched n (state_numbers old)) (touches_alone c.args.task c.args.cookie touches c.touches.ensures.touches);
       stays = record {
         sound = λ sound. record {
           agree = stays.agree c.replace.ensures.agree;
@@ -85,13 +86,19 @@ returns g c =
           pids = subst (λ (t : Table). All (λ (task : Task). IsGiven old.next_pid task.spec.pid) t.tasks) (sym table)
               (All-replaced (λ (task : Task). IsGiven old.next_pid task.spec.pid) (record c.args.task { cookie = c.args.cookie }) tasks
               (found_in (λ (task : Task). IsGiven old.next_pid task.spec.pid) pid tasks c.args.task sound.pids there) sound.pids);
-          low_pids = λ one has. sound.low_pids one (subst (λ (bare : BareCore). IsTrue (has_total bare.totals one)) is has);
+          ended = subst (λ (t : Table). All (IsGone old.next_pid t.tasks old.ended.items) old.ended.items) (sym table)
+              (All-weaker (IsGone old.next_pid tasks old.ended.items) (IsGone old.next_pid (map (replaced_by (record c.args.task { cookie = c.args.cookie })) tasks) old.ended.items)
+              (λ one gone. record {
+                given = gone.given;
+                absent = All-replaced (λ (task : Task). task.spec.pid ≢ one.0) (record c.args.task { cookie = c.args.cookie }) tasks
+                    (found_in (λ (task : Task). task.spec.pid ≢ one.0) pid tasks c.args.task gone.absent there) gone.absent;
+                alone = gone.alone;
+              }) old.ended.items sound.ended);
           refs = subst (λ (t : Table). AgreeBut c.put.new.self t.tasks c.args.cookie) (sym table)
               (AgreeBut-with_cookie old.refs c.get.new.self c.put.new.self tasks c.args.cookie pid c.args.cookie c.args.task
               (rising_pairs 0 tasks sound.agree.table.rising) there c.get.ensures.counts c.put.ensures.counts sound.refs);
         };
         siblings = ap (λ (k : Kept). k.siblings) stays.kept ∙ as_many_bare old.core mid same;
-        places = ap (λ (bare : BareCore). bare.totals.spare + old.next_pid) is;
         ends = refl;
       };
     }

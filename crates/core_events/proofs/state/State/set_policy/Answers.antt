@@ -5,8 +5,8 @@ use Rattle.cs_types.specs.Room.{with_task}
 use Rattle.cs_types.specs.Step.{with_policy, set_policy, requeue}
 use Rattle.cs_types.specs.Touches.{policy_touches}
 use Rattle.core_lanes.specs.Lanes.{Knows, KnowsApart}
-use Rattle.core_lanes.specs.Numbers.{Numbers, numbers_of}
-use Rattle.core_events.specs.State.{beside_of, both, room_with}
+use Rattle.core_lanes.specs.Numbers.{Numbers, with_ended}
+use Rattle.core_events.specs.State.{beside_of, both, room_with, state_numbers}
 use Rattle.core_events.proofs.States.{uncharged, lifted, leaves_all}
 use Rattle.core_events.proofs.Onlines.{untouched}
 use Rattle.core_events.proofs.Readies.{fits_found, knows_as}
@@ -55,8 +55,8 @@ returns-else-task g c =
             room = c.change.ensures.room beside ∙ ap (with_task room) c.with_policy-changed.ensures
                 ∙ ap (λ b. cond b (requeue room changed) (with_task room changed)) (sym c.if-task.false)
                 ∙ ap (λ found. (set_policy room c.args.policy found).room) c.in-Some.ensures.task;
-            numbers = c.change.ensures.numbers ∙ untouched (numbers_of old.core)
-                ∙ found_numbers (numbers_of old.core) task _ false c.in-Some.ensures.task c.if-task.false;
+            numbers = ap (with_ended old.ended.items) c.change.ensures.numbers ∙ untouched (state_numbers old)
+                ∙ found_numbers (state_numbers old) task _ false c.in-Some.ensures.task c.if-task.false;
           });
       stays = lifted old (c.change.new.self, c.change.new.table) c.change.ensures.stays;
     }
@@ -75,12 +75,12 @@ returns-then-task g c =
             room = c.requeue.ensures.room beside ∙ ap (requeue room) c.with_policy-changed.ensures
                 ∙ ap (λ b. cond b (requeue room changed) (with_task room changed)) (sym c.if-task.true)
                 ∙ ap (λ found. (set_policy room c.args.policy found).room) c.in-Some.ensures.task;
-            numbers = c.requeue.ensures.numbers
-                ∙ found_numbers (numbers_of old.core) task _ true c.in-Some.ensures.task c.if-task.true;
+            numbers = ap (with_ended old.ended.items) c.requeue.ensures.numbers
+                ∙ found_numbers (state_numbers old) task _ true c.in-Some.ensures.task c.if-task.true;
           });
       stays = lifted old (c.requeue.new.core, c.requeue.new.table) c.requeue.ensures.stays;
     }
 
 pub returns-in_default : goal.returns-in_default
-returns-in_default g c = leaves_all c.args.self.now (SetSched c.args.pid c.args.policy) NoTask (λ intervals. untouched (numbers_of c.args.self.now.core)) (λ intervals.
+returns-in_default g c = leaves_all c.args.self.now (SetSched c.args.pid c.args.policy) NoTask (λ intervals. untouched (state_numbers c.args.self.now)) (λ intervals.
     ap (set_policy (room_with intervals c.args.self.now) c.args.policy) c.in_default.ensures.task)

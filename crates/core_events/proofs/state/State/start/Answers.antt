@@ -1,17 +1,14 @@
-use Rattle.std.proofs.Common.{◌+◌, ◌∙◌, [], sym, ap, length}
+use Rattle.std.proofs.Common.{◌≡◌, ℕ, arith, ◌+◌, ◌∙◌, [], sym, ap, length}
 use Rattle.std.proofs.lemmas.List.{length-map, length-replicate}
-use Rattle.std.specs.List.{list_any}
-use Rattle.cs_types.specs.Room.{first_pid, has_pid, asleep_tasks, idle}
+use Rattle.cs_types.specs.Room.{first_pid, asleep_tasks, idle}
+use Rattle.cs_types.specs.Accounting.{total_of}
 use Rattle.cs_types.proofs.Accounts.{total_of-none}
 use Rattle.cookie_refs.proofs.Agreements.{Agree-none}
-use Rattle.task_table.specs.Table.{Table}
+use Rattle.task_table.specs.Table.{Table, total_among, total_in}
 use Rattle.core_lanes.specs.Lanes.{BareCore, lane_state, room_by}
 use Rattle.core_lanes.specs.Numbers.{numbers_by}
-use Rattle.core_events.proofs.Starts.{own_number-start, given-asleep, cookieless-asleep, any_below}
+use Rattle.core_events.proofs.Starts.{own_number-start, given-asleep, cookieless-asleep}
 use Rattle.core_events.proofs.state.State.start.Goals as goal
-
-pub core_and_tasks-requires-clause-playable : goal.core_and_tasks-requires-clause-playable
-core_and_tasks-requires-clause-playable g c = c.requires.playable
 
 pub first_pid-requires : goal.first_pid-requires
 first_pid-requires g c = rw c.items.ensures (λ k d lt. (c.requires.playable.tasks k d lt).pid.1)
@@ -51,22 +48,19 @@ returns-clause-sound g c =
       limit = ap (λ (t : Table). t.limit) table;
       user_top = playable.user_top;
       pids = rw (tasks, pid) given;
-      low_pids = λ other has. rw pid (any_below (first_pid specs) other (asleep_tasks specs) given (ap (list_any (has_pid other)) (sym tasks) ∙ c.in_ok-core.ensures.only other has));
+      ended = rw c.in_ok-ended.ensures.items (λ k d lt. absurd (omega arith));
       refs = rw tasks (Agree-none c.in_ok-refs.refs (asleep_tasks specs) c.in_ok-refs.ensures.counts (cookieless-asleep specs));
     }
 
-pub returns-clause-places : goal.returns-clause-places
-returns-clause-places g c =
-    let pid = c.first_pid.ensures ∙ ap first_pid c.items.ensures in
-    λ i. c.in_ok-core.ensures.spare i + pid i
-
 pub returns-clause-numbers : goal.returns-clause-numbers
 returns-clause-numbers g c =
-    ap numbers_by c.in_ok-core.ensures.core
+    let totals : (pid : ℕ) → total_in c.in_ok-core.tasks pid + total_among c.in_ok-ended.ended.items pid ≡ total_of pid [] =
+    λ pid. omega (arith, c.in_ok-core.ensures.totals pid, ap (λ ended. total_among ended pid) c.in_ok-ended.ensures.items, total_of-none pid) in
+    (λ i. record (numbers_by (c.in_ok-core.ensures.core i) c.in_ok-core.tasks) { totals = λ pid. totals pid i })
     ∙ (λ i. record {
       task = 0;
       pick = 0;
       own = own_number-start 0 c.args.scenario.now.siblings i;
       intervals = 0;
-      totals = λ pid. (c.in_ok-core.ensures.zero pid ∙ sym (total_of-none pid)) i;
+      totals = λ pid. total_of pid [];
     })

@@ -1,15 +1,24 @@
-use Rattle.std.proofs.Common.{◌∙◌, ap, sym}
+use Rattle.std.proofs.Common.{arith, ◌∙◌, ap, sym}
 use Rattle.cs_types.specs.declared.event.Event.TheVariants.{Offline}
 use Rattle.cs_types.specs.Step.{take_offline}
-use Rattle.core_lanes.specs.Numbers.{numbers_of, booked}
-use Rattle.core_events.specs.State.{beside_of, room_with}
+use Rattle.core_lanes.specs.Numbers.{booked}
+use Rattle.core_events.specs.State.{beside_of, room_with, state_numbers}
 use Rattle.core_events.specs.Steps.{numbers_after}
 use Rattle.core_events.proofs.States.{lifted, low_times}
 use Rattle.core_events.proofs.Readies.{offline_touches}
 use Rattle.core_events.proofs.state.State.take_offline.Goals as goal
 
-pub offline-requires-clause-low : goal.offline-requires-clause-low
-offline-requires-clause-low g c = low_times c.args.self.now c.requires.ready.time
+pub offline-requires : goal.offline-requires
+offline-requires g c =
+    let ready = c.requires.ready in
+    record {
+      cpu = c.requires.cpu;
+      agree = ready.sound.agree;
+      low = low_times c.args.self.now ready.time;
+      paid = ready.paid;
+      stamp = omega (arith, ready.spares.stamps);
+      touches = omega (arith, ready.spares.touches);
+    }
 
 pub returns : goal.returns
 returns g c =
@@ -24,8 +33,8 @@ returns g c =
             reply = c.hotplug_reply.ensures ∙ takes.reply beside;
             room = takes.room beside;
             numbers = λ kept. takes.numbers beside kept
-                ∙ offline_touches room cpu (booked (take_offline room cpu).room (numbers_of old.core)) c.offline.result
-                ∙ ap (λ r. numbers_after room (Offline cpu) r (booked (take_offline room cpu).room (numbers_of old.core))) (sym c.hotplug_reply.ensures);
+                ∙ offline_touches room cpu (booked (take_offline room cpu).room (state_numbers old)) c.offline.result
+                ∙ ap (λ r. numbers_after room (Offline cpu) r (booked (take_offline room cpu).room (state_numbers old))) (sym c.hotplug_reply.ensures);
           };
       stays = lifted old (c.offline.new.core, c.offline.new.table) takes.stays;
     }

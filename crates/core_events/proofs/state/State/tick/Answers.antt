@@ -3,15 +3,15 @@ use Rattle.cs_types.specs.declared.event.Event.TheVariants.{Tick}
 use Rattle.cs_types.specs.declared.reply.Reply.TheVariants.{Offline}
 use Rattle.cs_types.specs.Room.{running_on}
 use Rattle.cs_types.specs.Step.{tick}
-use Rattle.core_lanes.specs.Numbers.{numbers_of, booked}
-use Rattle.core_events.specs.State.{beside_of, room_with}
+use Rattle.core_lanes.specs.Numbers.{booked}
+use Rattle.core_events.specs.State.{beside_of, room_with, state_numbers}
 use Rattle.core_events.specs.Steps.{MakesStep}
 use Rattle.core_events.proofs.States.{lifted, leaves_all}
 use Rattle.core_events.proofs.Onlines.{untouched, when_online, when_offline}
 use Rattle.core_events.proofs.state.State.tick.Goals as goal
 
 pub returns-then-not-is_online : goal.returns-then-not-is_online
-returns-then-not-is_online g c = leaves_all c.args.self.now (Tick c.args.cpu) Offline (λ intervals. untouched (numbers_of c.args.self.now.core)) (λ intervals.
+returns-then-not-is_online g c = leaves_all c.args.self.now (Tick c.args.cpu) Offline (λ intervals. untouched (state_numbers c.args.self.now)) (λ intervals.
     let room = room_with intervals c.args.self.now in
     when_offline room c.args.cpu (tick room c.args.cpu (running_on room c.args.cpu)) (sym (c.is_online.ensures (beside_of intervals c.args.self.now) c.args.self.now.tasks) ∙ c.if-not-is_online.true))
 
@@ -29,7 +29,7 @@ returns g c =
           subst (MakesStep intervals old _ _ _) up (record {
             reply = c.tick.ensures.asks beside;
             room = charges.room beside;
-            numbers = λ kept. charges.numbers beside kept ∙ untouched (booked made.room (numbers_of old.core));
+            numbers = λ kept. charges.numbers beside kept ∙ untouched (booked made.room (state_numbers old));
           });
       stays = lifted old (c.tick.new.core, c.tick.new.table) charges.stays;
     }

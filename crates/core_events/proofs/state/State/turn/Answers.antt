@@ -5,9 +5,9 @@ use Rattle.cs_types.specs.Room.{RoomState, SiblingState, sibling_of}
 use Rattle.cs_types.specs.Selection.{schedule}
 use Rattle.cs_types.specs.Steal.{stolen}
 use Rattle.cs_types.specs.Step.{Stepped, step, turn, try_steal, picked, unless_offline}
-use Rattle.core_lanes.specs.Numbers.{numbers_of, booked, is_fresh_by}
+use Rattle.core_lanes.specs.Numbers.{booked, is_fresh_by, with_ended}
 use Rattle.core_lanes.proofs.Stays.{lane_at}
-use Rattle.core_events.specs.State.{beside_of, room_with}
+use Rattle.core_events.specs.State.{beside_of, room_with, state_numbers}
 use Rattle.core_events.specs.Steps.{numbers_after}
 use Rattle.core_events.proofs.States.{uncharged, lifted, low_times, leaves_all}
 use Rattle.core_events.proofs.Onlines.{untouched, when_online, when_offline}
@@ -16,8 +16,7 @@ use Rattle.core_events.proofs.state.State.turn.Goals as goal
 
 pub try_steal-requires : goal.try_steal-requires
 try_steal-requires g c = record {
-  cpu = c.requires.cpu;
-  agree = c.requires.ready.sound.agree;
+  at = record { cpu = c.requires.cpu; agree = c.requires.ready.sound.agree };
   low = low_times c.args.self.now c.requires.ready.time;
   places = c.requires.ready.spares.places;
   stamp = omega (arith, c.requires.ready.spares.stamps);
@@ -31,16 +30,16 @@ turn_by room fresh cpu pending =
     (cond (eqb (sibling_of room cpu).place 0) (record { reply = Nothing; room = room }) (try_steal room cpu (stolen room cpu)))
 
 pub returns-then-not-is_online : goal.returns-then-not-is_online
-returns-then-not-is_online g c = leaves_all c.args.self.now (Turn c.args.cpu) Offline (λ intervals. untouched (numbers_of c.args.self.now.core)) (λ intervals.
+returns-then-not-is_online g c = leaves_all c.args.self.now (Turn c.args.cpu) Offline (λ intervals. untouched (state_numbers c.args.self.now)) (λ intervals.
     let room = room_with intervals c.args.self.now in
-    when_offline room c.args.cpu (turn room (is_fresh_by (numbers_of c.args.self.now.core)) c.args.cpu)
+    when_offline room c.args.cpu (turn room (is_fresh_by (state_numbers c.args.self.now)) c.args.cpu)
     (sym (c.is_online.ensures (beside_of intervals c.args.self.now) c.args.self.now.tasks) ∙ c.if-not-is_online.true))
 
 pub returns-then-index : goal.returns-then-index
 returns-then-index g c =
     let old = c.args.self.now in
     let cpu = c.args.cpu in
-    let fresh = is_fresh_by (numbers_of old.core) in
+    let fresh = is_fresh_by (state_numbers old) in
     let made = c.resched.ensures in
     record {
       step = λ intervals.
@@ -57,7 +56,7 @@ returns-then-index g c =
             room = subst (λ (m : Stepped). room_with m.room.intervals c.resched.new.self ≡ m.room) same here.room;
             numbers = λ kept. here.numbers kept
                 ∙ turn_as_resched room cpu c.resched.result (schedule room fresh cpu).pick _ answer
-                ∙ ap (λ (m : Stepped). numbers_after room (Turn cpu) c.resched.result (booked m.room (numbers_of old.core))) same;
+                ∙ ap (λ (m : Stepped). numbers_after room (Turn cpu) c.resched.result (booked m.room (state_numbers old))) same;
           };
       stays = made.stays;
     }
@@ -66,7 +65,7 @@ pub returns : goal.returns
 returns g c =
     let old = c.args.self.now in
     let cpu = c.args.cpu in
-    let fresh = is_fresh_by (numbers_of old.core) in
+    let fresh = is_fresh_by (state_numbers old) in
     let tried = c.try_steal.ensures in
     record {
       step = λ intervals.
@@ -79,8 +78,8 @@ returns g c =
           uncharged (record {
             reply = c.steal_reply.ensures ∙ tried.reply beside ∙ ap (λ (m : Stepped). m.reply) made;
             room = tried.room beside ∙ ap (λ (m : Stepped). m.room) made;
-            numbers = tried.numbers ∙ turn_touches room cpu (numbers_of old.core) c.try_steal.result
-                ∙ ap (λ r. numbers_after room (Turn cpu) r (numbers_of old.core)) (sym c.steal_reply.ensures);
+            numbers = ap (with_ended old.ended.items) tried.numbers ∙ turn_touches room cpu (state_numbers old) c.try_steal.result
+                ∙ ap (λ r. numbers_after room (Turn cpu) r (state_numbers old)) (sym c.steal_reply.ensures);
           });
       stays = lifted old (c.try_steal.new.core, c.try_steal.new.table) tried.stays;
     }

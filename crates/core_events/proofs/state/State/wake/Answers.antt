@@ -10,12 +10,12 @@ use Rattle.cs_types.specs.Queueing.{moved_to, rehomed, queue_at_home}
 use Rattle.cs_types.specs.Step.{Stepped, wake}
 use Rattle.core_lanes.specs.Lanes.{room_of}
 use Rattle.core_lanes.proofs.Stays.{found_in, some_beside}
-use Rattle.core_events.specs.State.{beside_of, both, room_with}
+use Rattle.core_events.specs.State.{beside_of, both, room_with, state_numbers}
 use Rattle.core_events.proofs.States.{uncharged, lifted, low_times, leaves_all}
 use Rattle.core_events.proofs.Readies.{fits_found, knows_as}
 use Rattle.cs_types.specs.declared.event.Event.TheVariants.{Wake}
 use Rattle.core_events.proofs.Onlines.{untouched}
-use Rattle.core_lanes.specs.Numbers.{numbers_of}
+use Rattle.core_lanes.specs.Numbers.{with_ended}
 use Rattle.core_events.proofs.state.State.wake.Goals as goal
 
 pub rehomed-task-requires-clause-home : goal.rehomed-task-requires-clause-home
@@ -61,16 +61,16 @@ returns g c =
           uncharged (record {
             reply = ap (λ (m : Stepped). m.reply) is ∙ ap (λ found. (wake room found).reply) c.in-Some.ensures.task;
             room = queued.room beside ∙ ap (λ (m : Stepped). m.room) is ∙ ap (λ found. (wake room found).room) c.in-Some.ensures.task;
-            numbers = queued.numbers;
+            numbers = ap (with_ended old.ended.items) queued.numbers;
           });
       stays = lifted old (c.queue_at_home.new.core, c.queue_at_home.new.table) queued.stays;
     }
 
 pub returns-in_default : goal.returns-in_default
-returns-in_default g c = leaves_all c.args.self.now (Wake c.args.pid) NoTask (λ intervals. untouched (numbers_of c.args.self.now.core)) (λ intervals.
+returns-in_default g c = leaves_all c.args.self.now (Wake c.args.pid) NoTask (λ intervals. untouched (state_numbers c.args.self.now)) (λ intervals.
     ap (wake (room_with intervals c.args.self.now)) c.in_default.ensures.task)
 
 pub returns-then-task : goal.returns-then-task
-returns-then-task g c = leaves_all c.args.self.now (Wake c.args.pid) Awake (λ intervals. untouched (numbers_of c.args.self.now.core)) (λ intervals.
+returns-then-task g c = leaves_all c.args.self.now (Wake c.args.pid) Awake (λ intervals. untouched (state_numbers c.args.self.now)) (λ intervals.
     let room = room_with intervals c.args.self.now in
     sym (cond-true c.in-Some.task.queued (record { reply = Awake; room = room }) _ c.if-task.true) ∙ ap (wake room) c.in-Some.ensures.task)

@@ -18,7 +18,7 @@ pub change-requires-clause-agree : goal.change-requires-clause-agree
 change-requires-clause-agree g c =
     let next = c.args.self.now.next_stamp in
     let later : next ≤ next + 1 = omega arith in
-    (stamped_later c.args.self.now _ c.args.table.now refl refl later).agree c.requires.agree
+    (stamped_later c.args.self.now _ c.args.table.now refl later).agree c.requires.agree
 
 pub returns : goal.returns
 returns g c =
@@ -28,5 +28,5 @@ returns g c =
     record {
       room = λ beside. touch.room beside ∙ c.change.ensures.room beside;
       numbers = touch.numbers ∙ ap (touched 1) c.change.ensures.numbers;
-      stays = both_stay (stamped_later c.args.self.now _ c.args.table.now refl refl later) (both_stay c.change.ensures.stays touch.stays);
+      stays = both_stay (stamped_later c.args.self.now _ c.args.table.now refl later) (both_stay c.change.ensures.stays touch.stays);
     }

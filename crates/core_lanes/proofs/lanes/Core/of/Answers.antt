@@ -62,7 +62,7 @@ returns-clause-bare g c =
     let shut = c.closed.ensures in
     λ i.
     let account : Account = record { count = shut.count i; occupation = shut.occupation i; started = shut.started i; intervals = shut.intervals i } in
-    let core : BareCore = record (bare_start c.args.siblings c.args.totals) { account = account; siblings = states i; own = numbers i } in
+    let core : BareCore = record (bare_start c.args.siblings) { account = account; siblings = states i; own = numbers i } in
     core
 
 pub returns-clause-held : goal.returns-clause-held

@@ -1,16 +1,14 @@
 use Rattle.std.proofs.Common.{◌≡◌, ◌<◌, ◌≤◌, sym, subst, ◌∙◌, map}
-use Rattle.std.specs.Prelude.{length, All, IsTrue}
+use Rattle.std.specs.Prelude.{length, All}
 use Rattle.std.proofs.lemmas.Bool.{eqb-true}
-use Rattle.cs_types.specs.declared.task.Task.{Task}
 use Rattle.cs_types.specs.Room.{has_pid}
 use Rattle.cs_types.proofs.Foremost.{find_passes}
 use Rattle.cs_types.proofs.Spots.{replaced_by}
-use Rattle.forceidle_account.specs.Charges.{has_total}
 use Rattle.task_table.specs.Table.{Table}
 use Rattle.core_lanes.specs.Queued.{HasOwnStamp, AreStamped}
 use Rattle.core_lanes.specs.Lanes.{BareCore, bare, IsFit, AreHeldBut}
 use Rattle.core_lanes.proofs.Queues.{others-replaced}
-use Rattle.core_lanes.proofs.Replaced.{is_of, own_stamp, stamped-replaced, totals-replaced, All-replaced}
+use Rattle.core_lanes.proofs.Replaced.{is_of, own_stamp, stamped-replaced, All-replaced}
 use Rattle.core_lanes.proofs.Stays.{found_in, as_many_bare}
 use Rattle.core_lanes.proofs.lanes.Core.replace.Goals as goal
 
@@ -62,8 +60,5 @@ returns-clause-agree g c =
       stamped = subst (λ (t : Table). AreStamped c.put.new.self.next_stamp t.tasks) (sym changed)
           (subst (λ (core : BareCore). AreStamped core.next_stamp after.tasks) (sym same)
           (stamped-replaced task apart.old before.tasks apart.there old.next_stamp c.requires.fits.stamp agree.stamped));
-      totals = subst (λ (t : Table). All (λ (one : Task). IsTrue (has_total c.put.new.self.totals one.spec.pid)) t.tasks) (sym changed)
-          (subst (λ (core : BareCore). All (λ (one : Task). IsTrue (has_total core.totals one.spec.pid)) after.tasks) (sym same)
-          (totals-replaced old.totals task before.tasks agree.totals));
       held = c.put.ensures.held;
     }

@@ -13,5 +13,5 @@ returns g c table =
     record {
       room = λ beside. rw (map-set lane_state, at) refl;
       numbers = rw (numbers_kept lanes c.args.cpu lane after c.index_mut.ensures.value refl) refl;
-      stays = alike_stays _ _ (queues_kept lanes c.args.cpu lane after c.index_mut.ensures.value refl) refl refl refl;
+      stays = alike_stays _ _ (queues_kept lanes c.args.cpu lane after c.index_mut.ensures.value refl) refl refl;
     }

@@ -6,7 +6,7 @@ use Rattle.cs_types.specs.Room.{has_pid}
 use Rattle.task_table.specs.Table.{Table}
 use Rattle.task_table.specs.Inside.{IsKept}
 use Rattle.task_table.proofs.Rising.{none_gap, find_none, with_none}
-use Rattle.task_table.proofs.Kept.{kept_of, kept_again, kept_sound, seen_as, position_within, found, found_some, kept_set, slab_len-with_value}
+use Rattle.task_table.proofs.Kept.{kept_of, kept_again, seen_as, position_within, found, found_some, kept_set, slab_len-with_value}
 use Rattle.task_table.proofs.table.TaskTable.change.Goals as goal
 
 pub returns-in_default-clause-old : goal.returns-in_default-clause-old
@@ -46,7 +46,9 @@ returns-clause-old c =
     ∙ found (kept_of _ _ _ _ _ c.self.view_is c.self.invariant) c.args.task.spec.pid c.in-Ok.position _ c.in-Ok.ensures.position c.index.ensures
 
 pub returns-clause-changed : goal.returns-clause-changed
-returns-clause-changed c = seen_as _ _ _ _ _ _ (after c) (ap (λ (t : Table). t.limit) c.self.view_is)
+returns-clause-changed c =
+    seen_as _ _ _ _ _ _ (after c) (ap (λ (t : Table). t.limit) c.self.view_is)
+    ∙ ap (λ (t : Table). let table : Table = record c.args.self.now { tasks = map (λ other. if has_pid c.args.task.spec.pid other then c.args.task else other) c.args.self.now.tasks; totals = t.totals } in table) c.self.view_is
 
 pub returns-clause-sound : goal.returns-clause-sound
-returns-clause-sound c = kept_sound (kept_again (after c))
+returns-clause-sound c = (kept_again (after c)).sound

@@ -1,9 +1,11 @@
-use Rattle.std.proofs.Common.{◌∙◌, sym, ap, arith}
+use Rattle.std.proofs.Common.{List, refl, ◌∙◌, sym, ap, arith}
 use Rattle.std.specs.Prelude.{vec_capacity}
 use Rattle.cs_types.specs.Room.{asleep, inserted}
-use Rattle.task_table.specs.Table.{Table}
-use Rattle.task_table.specs.Inside.{IsKept}
-use Rattle.task_table.proofs.Kept.{kept_of, kept_again, kept_sound, kept_length, seen_as, gap_in_entries, kept_insert, full_answer, free_answer}
+use Rattle.task_table.specs.Table.{Table, total_among, total_in}
+use Rattle.task_table.specs.Inside.{totals_of, IsKept}
+use Rattle.task_table.specs.declared.entry.Entry.{Entry}
+use Rattle.task_table.proofs.Totals.{total-insert}
+use Rattle.task_table.proofs.Kept.{kept_of, kept_again, kept_length, seen_as, gap_in_entries, kept_insert, full_answer, free_answer}
 use Rattle.task_table.proofs.table.TaskTable.insert.Goals as goal
 
 pub returns-then-len-self-clause-answer : goal.returns-then-len-self-clause-answer
@@ -37,4 +39,10 @@ pub returns-clause-added : goal.returns-clause-added
 returns-clause-added c = seen_as _ _ _ _ _ _ (after c) (ap (λ (t : Table). t.limit) c.self.view_is)
 
 pub returns-clause-sound : goal.returns-clause-sound
-returns-clause-sound c = kept_sound (kept_again (after c))
+returns-clause-sound c = (kept_again (after c)).sound
+
+pub returns-clause-totals : goal.returns-clause-totals
+returns-clause-totals c pid =
+    ap (λ (entries : List Entry). total_among (totals_of entries) pid) (rw c.unwrap.ensures at c.insert.ensures.items)
+    ∙ total-insert pid c.args.position c.self.inside.entries.items _ refl
+    ∙ ap (λ (t : Table). total_in t pid) c.self.view_is
