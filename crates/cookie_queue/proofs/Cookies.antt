@@ -11,13 +11,13 @@ use Rattle.std.specs.FinMap as fin
 use Rattle.std.specs.FinMap.{entries, entries_sorted, is_sorted, get, len, empty, empty_of_len, len-empty}
 use Rattle.std.specs.FinMap.Entries.{below_all}
 use Rattle.std.proofs.lemmas.Bool.{and_parts, cases_Bool, cases_order, cond-true, cond-false, ne_eqb, eqb-false, eqb-true}
-use lib.Dec.{T}
 use Rattle.cs_types.specs.declared.queue.Queued.{Queued}
 use Rattle.cs_types.specs.Queue.{Spot, Spots, spot_cmp, seat_cmp, spot_of, seat_of, queued_in, first_with, next_with}
 use Rattle.cs_types.proofs.Queues.{seat_total, spot_total, spot_cmp-IsAntisymmetric}
 use Rattle.order_tree.specs.Order.{Entry, Members, key_cmp, first_from, next_of}
 use Rattle.order_tree.specs.Renamed.{renamed, map_renamed}
 use Rattle.order_tree.specs.declared.key.Key.{Key}
+use Rattle.order_tree.proofs.Entries.{less_by, true_by}
 use Rattle.order_tree.proofs.Renamed.{IsRenaming, entries-map_renamed, get-map_renamed, len-map_renamed, map_renamed-insert, map_renamed-remove}
 use Rattle.order_tree.proofs.Keys.{key_total}
 use Rattle.cookie_queue.specs.Inside.{spot_at, key_at, with_cookie}
@@ -36,15 +36,6 @@ all_any [] = tt
 all_any (e ∷ es) = (tt, all_any es)
 
 -- ---- how keys of different groups compare
-
-less_at : (r : Ordering) → is_lt r ≡ true → r ≡ Less
-less_at Less h = refl
-less_at Equal h = absurd cc
-less_at Greater h = absurd cc
-
-true_by : (b : Bool) → T b → b ≡ true
-true_by true h = refl
-true_by false h = absurd h
 
 lower_group : (a b : Key) → a.group < b.group → key_cmp a b ≡ Less
 lower_group a b lt =
@@ -88,7 +79,7 @@ none_later : (q : Entry → Bool) (e : Entry) (es : List Entry) → below_all ke
     ((other : Entry) → key_cmp e.0 other.0 ≡ Less → q other ≡ false) → find q es ≡ None
 none_later q e [] below fails = refl
 none_later q e (x ∷ es) below fails =
-    cond-false (q x) (Some x) (find q es) (fails x (less_at _ (and_parts _ _ below).0)) ∙ none_later q e es (and_parts _ _ below).1 fails
+    cond-false (q x) (Some x) (find q es) (fails x (less_by _ (and_parts _ _ below).0)) ∙ none_later q e es (and_parts _ _ below).1 fails
 
 module _ (c : ℕ) (p q : Entry → Bool) (both : (e : Entry) → q e ≡ (p e && of_group c e))
     (past : (e other : Entry) → p e ≡ true → of_group c e ≡ false → key_cmp e.0 other.0 ≡ Less → of_group c other ≡ false) where

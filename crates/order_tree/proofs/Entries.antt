@@ -16,12 +16,19 @@ use Rattle.std.proofs.lemmas.List.Elements.{filter-append}
 use Rattle.std.proofs.lemmas.List.Folds.{find-append}
 use Rattle.cs_types.proofs.Queues.{said}
 
-less_by : (r : Ordering) → is_lt r ≡ true → r ≡ Less
+-- a test of a comparison that holds
+pub less_by : (r : Ordering) → is_lt r ≡ true → r ≡ Less
 less_by Less h = refl
 less_by Equal h = absurd cc
 less_by Greater h = absurd cc
 
-true_by : (b : Bool) → T b → b ≡ true
+pub equal_by : (r : Ordering) → is_eq r ≡ true → r ≡ Equal
+equal_by Less h = absurd cc
+equal_by Equal h = refl
+equal_by Greater h = absurd cc
+
+-- a test that holds, from the form in which maps say so
+pub true_by : (b : Bool) → T b → b ≡ true
 true_by true h = refl
 true_by false h = absurd h
 

@@ -3,10 +3,9 @@ use Rattle.std.proofs.Common.{◌≡◌, ℕ, true, false, cond, List, [], ◌�
 use Rattle.std.specs.Prelude.{is_some, slice_get}
 use Rattle.std.specs.List.{AllByRecursion}
 use Rattle.std.specs.Option.{option_map}
-use Rattle.std.specs.Ordering.{ordering_then, is_eq, eq_by_cmp}
+use Rattle.std.specs.Ordering.{ordering_then, eq_by_cmp}
 use Rattle.std.specs.Cmp.{nat_cmp_is}
-use Rattle.std.specs.declared.cmp.Ordering.{Ordering}
-use Rattle.std.specs.declared.cmp.Ordering.TheVariants.{Less, Equal, Greater}
+use Rattle.std.specs.declared.cmp.Ordering.TheVariants.{Equal}
 use Rattle.std.specs.FinMap as fin
 use Rattle.std.specs.FinMap.{entries, get, len, empty, empty_of_len, len-empty, get-empty, get-entries, get-insert, get-remove}
 use Rattle.std.proofs.lemmas.Bool.{cases_Bool, cond-true, cond-false}
@@ -15,13 +14,9 @@ use Rattle.cs_types.proofs.Queues as queues
 use Rattle.order_tree.specs.Order.{Entry, Members, key_cmp, first_of}
 use Rattle.order_tree.specs.Renamed.{renamed, map_renamed}
 use Rattle.order_tree.specs.Rank.{rank_at, key_at, IsRankKey, IsOfClass}
+use Rattle.order_tree.proofs.Entries.{equal_by}
 use Rattle.order_tree.proofs.Keys.{key_total, key_cmp-IsAntisymmetric}
 use Rattle.order_tree.proofs.Renamed.{IsRenaming, all_of_found, entries-map_renamed, get-map_renamed, len-map_renamed, map_renamed-insert, map_renamed-remove}
-
-equal_by : (r : Ordering) → is_eq r ≡ true → r ≡ Equal
-equal_by Less h = absurd cc
-equal_by Equal h = refl
-equal_by Greater h = absurd cc
 
 -- among such keys the ranks and the stamps decide
 pub ranks : IsRenaming key_cmp queue.key_cmp IsRankKey rank_at key_at

@@ -1,5 +1,5 @@
 -- A map whose keys have other names, in the same order: what is asked of it, and what a change makes of it.
-use Rattle.std.proofs.Common.{◌≡◌, Bool, true, false, cond, List, [], ◌∷◌, None, Some, refl, sym, ap, ◌∙◌, inl, inr}
+use Rattle.std.proofs.Common.{◌≡◌, true, cond, List, [], ◌∷◌, None, Some, refl, sym, ap, ◌∙◌, inl, inr}
 use Rattle.std.specs.Prelude.{◌&&◌, is_some, length}
 use Rattle.std.specs.List.{AllByRecursion}
 use Rattle.std.specs.Cmp.{IsTotalOrder, tied_itself}
@@ -10,13 +10,9 @@ use Rattle.std.specs.FinMap.{FinMap, IsAntisymmetric, entries, entries_sorted, i
 use Rattle.std.specs.FinMap.Entries.{below_all}
 use Rattle.std.proofs.lemmas.Bool.{cases_Bool, cond-true, cond-false}
 use Rattle.std.proofs.lemmas.List.{length-map}
-use lib.Dec.{T}
 use Rattle.cs_types.proofs.Queues.{said}
+use Rattle.order_tree.proofs.Entries.{true_by}
 use Rattle.order_tree.specs.Renamed.{renamed, map_renamed}
-
-true_by : (b : Bool) → T b → b ≡ true
-true_by true h = refl
-true_by false h = absurd h
 
 -- a fact of each key that is found is one of each entry
 pub all_of_found : {K X : Type 0} {R : K → K → Ordering} → IsTotalOrder R → (P : K → Type 0) (es : List (K × X)) →

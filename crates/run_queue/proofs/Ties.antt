@@ -1,36 +1,22 @@
 -- The tasks with cookies of a run queue: they are no more than its tasks, and a task that comes or goes keeps them so.
-use Rattle.std.proofs.Common.{◌≡◌, ◌≢◌, ℕ, ◌+◌, ◌-◌, ◌≤◌, Bool, true, false, cond, List, [], ◌∷◌, length, Option, None, Some, inl, inr, ◌⊎◌, refl, sym, ap, ◌∙◌, subst, arith}
+use Rattle.std.proofs.Common.{◌≡◌, ◌≢◌, ℕ, ◌+◌, ◌-◌, ◌≤◌, true, false, cond, List, [], ◌∷◌, length, Option, None, Some, inl, inr, ◌⊎◌, refl, sym, ap, ◌∙◌, subst, arith}
 use Rattle.std.specs.Prelude.{IsTrue, is_some}
 use Rattle.std.specs.List.{AllByRecursion}
 use Rattle.std.specs.Cmp.{IsTotalOrder, tied_itself}
-use Rattle.std.specs.Ordering.{is_lt, is_eq, eq_by_cmp}
+use Rattle.std.specs.Ordering.{is_eq, eq_by_cmp}
 use Rattle.std.specs.declared.cmp.Ordering.{Ordering}
-use Rattle.std.specs.declared.cmp.Ordering.TheVariants.{Less, Equal, Greater}
+use Rattle.std.specs.declared.cmp.Ordering.TheVariants.{Less, Equal}
 use Rattle.std.specs.FinMap as fin
 use Rattle.std.specs.FinMap.{FinMap, IsAntisymmetric, entries, entries_sorted, is_sorted, get, contains_key, len, len-entries, empty, empty_of_len, get-empty, get-entries, get-insert, get-remove, len-insert, len-remove}
 use Rattle.std.specs.FinMap.Entries.{below_all}
 use Rattle.std.proofs.lemmas.Bool.{and_parts, cases_Bool, cond-true, cond-false}
-use lib.Dec.{T}
 use Rattle.cs_types.specs.Queue.{Seat, Seats, Spot, Spots, spot_cmp}
 use Rattle.cs_types.specs.Comparisons.{most_comparisons}
 use Rattle.cs_types.proofs.Comparisons.{most_comparisons-le}
 use Rattle.cs_types.proofs.Queues.{seat_total, seat_cmp-IsAntisymmetric, spot_total, spot_cmp-IsAntisymmetric}
+use Rattle.order_tree.proofs.Entries.{less_by, equal_by, true_by}
 use Rattle.order_tree.proofs.Renamed.{all_of_found}
 use Rattle.run_queue.specs.Run.{IsTied}
-
-equal_by : (r : Ordering) → is_eq r ≡ true → r ≡ Equal
-equal_by Less h = absurd cc
-equal_by Equal h = refl
-equal_by Greater h = absurd cc
-
-less_by : (r : Ordering) → is_lt r ≡ true → r ≡ Less
-less_by Less h = refl
-less_by Equal h = absurd cc
-less_by Greater h = absurd cc
-
-true_by : (b : Bool) → T b → b ≡ true
-true_by true h = refl
-true_by false h = absurd h
 
 -- ---- what a map has after an edit
 
