@@ -147,7 +147,7 @@ class Declared:
             self.definitions |= {item.name} if folder == "specs" else set()
             self.names[crate] |= {item.name} | fields(item)
             self.owned[item.name] |= fields(item)
-            if re.match(r"pub record \S+ [({]", item.lines[0]):
+            if re.match(r"pub record \S+ [({]|abbrev pub \S+ : .*→ Type 0$", item.lines[0]):
                 self.laws[item.name].append(item)
             for owner in (file, file.removesuffix(".antt")):
                 self.owned[owner].add(item.name)
@@ -179,7 +179,8 @@ class Declared:
                     self.owned[key] |= named | self.fields_below(head.partition("ensures")[2])
 
     def fields_below(self, text):
-        """The fields of the laws that a text names, and of those that these name. A law is a record with arguments."""
+        """The fields of the laws that a text names, and of those that these name. A law is a record with
+        arguments, or a fact by another name."""
         found, left = {}, [text]
         while left:
             for name in set(WORD.findall(left.pop())) & self.laws.keys() - found.keys():

@@ -5,12 +5,14 @@
 ghost use Rattle.std.specs.Prelude.{◌≡◌, [], ◌∷◌, IfOk};
 ghost use Rattle.cs_outside.specs.Guard.{fresh};
 
-use cs_outside::{PairGuard, StdSink, StdSource};
+use cs_outside::{NoGate, PairGuard, StdSink, StdSource};
 use scenario_runner::{Status, run};
 use std::env;
 use std::io::ErrorKind;
 use std::process::ExitCode;
 use std::rt::Env;
+use std::sync::Wait;
+use std::thread::Threads;
 
 /// The words of the command line, without the program's name. Words that are no text are no command's.
 fn words<R: Env + AllocGlobal>(rt: &R) -> Result<Vec<String>, Status> {
@@ -37,15 +39,21 @@ fn guards<R: AllocGlobal>(rt: &R) -> Result<Vec<PairGuard>, Status>
     Vec::from_array(rt.alloc(), guards).map_err(|_| Status::OutOfMemory)
 }
 
-/// Runs the command. Its output is complete only once the sink is flushed.
-fn execute(rt: &HostRuntime, words: &[String]) -> Status {
+/// Runs the command over these streams. Its output is complete only once the sink is flushed.
+fn execute<R: Threads + Wait + AllocGlobal + Sync>(
+    rt: &R,
+    words: &[String],
+    source: &mut StdSource,
+    sink: &mut StdSink,
+) -> Status
+    requires source { source.old.faults ≡ 0 }
+    requires sink { sink.old.faults ≡ 0 }
+{
     let guards = match guards(rt) {
         Ok(guards) => guards,
         Err(status) => return status,
     };
-    let mut source = StdSource::over(rt.stdin());
-    let mut sink = StdSink::over(rt.stdout());
-    match run(rt, words, &mut source, &mut sink, guards) {
+    match run(rt, words, source, sink, &NoGate, guards) {
         Status::Done if sink.flush().is_err() => Status::WriteFault,
         status => status,
     }
@@ -64,8 +72,10 @@ fn exit_code(status: Status) -> u8 {
 }
 
 fn main(rt: HostRuntime) -> ExitCode {
+    let mut source = StdSource::over(rt.stdin());
+    let mut sink = StdSink::over(rt.stdout());
     let status = match words(&rt) {
-        Ok(words) => execute(&rt, &words),
+        Ok(words) => execute(&rt, &words, &mut source, &mut sink),
         Err(status) => status,
     };
     if !matches!(status, Status::Done) {

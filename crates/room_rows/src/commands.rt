@@ -3,11 +3,13 @@
 
 ghost use Rattle.std.specs.Prelude.{◌≡◌, ◌<◌};
 
-use cs_outside::{MemSink, MemSource, PairGuard};
+use cs_outside::{MemSink, MemSource, NoGate, PairGuard};
 use scenario_runner::{Status, replay, run};
 use scenario_text::BadKind;
 use std::alloc::{AllocError, Global};
 use std::process::Abort;
+use std::sync::Wait;
+use std::thread::Threads;
 
 /// Two tasks of one priority, and a higher one that preempts the first.
 const INPUT: &str = "coresched 1
@@ -100,7 +102,7 @@ pub fn sink_of<R: AllocGlobal + Abort>(rt: &R, most: usize, fails: Vec<u64>) -> 
 }
 
 /// Expects that `run` without guards ends so over these devices, and has written these bytes.
-fn expect_run<R: AllocGlobal + Abort>(
+fn expect_run<R: Threads + Wait + AllocGlobal + Sync + Abort>(
     rt: &R,
     texts: &[&str],
     source: &mut MemSource,
@@ -113,12 +115,12 @@ fn expect_run<R: AllocGlobal + Abort>(
 {
     let words = words_of(rt.alloc(), texts).expect(rt, "room");
     let guards = Vec::<PairGuard>::new(rt.alloc());
-    assert!(rt; run(rt, &words, source, sink, guards) == wanted);
+    assert!(rt; run(rt, &words, source, sink, &NoGate, guards) == wanted);
     assert!(rt; sink.bytes() == output);
 }
 
 /// Expects that the stored run is written whole, in this many calls that take at most `most` bytes.
-fn expect_played<R: AllocGlobal + Abort>(rt: &R, most: usize, calls: u64)
+fn expect_played<R: Threads + Wait + AllocGlobal + Sync + Abort>(rt: &R, most: usize, calls: u64)
     requires { 0 < most }
 {
     let mut source = source_of(rt, INPUT.as_bytes(), 4096, Vec::new(rt.alloc()));
@@ -183,7 +185,7 @@ fn sink_that_fails_at_each_call(rt: HostRuntime) {
 }
 
 /// Expects that the words are no command's, and that nothing is read for them.
-fn expect_bad_words<R: AllocGlobal + Abort>(rt: &R, texts: &[&str]) {
+fn expect_bad_words<R: Threads + Wait + AllocGlobal + Sync + Abort>(rt: &R, texts: &[&str]) {
     let mut source = source_of(rt, INPUT.as_bytes(), 4096, Vec::new(rt.alloc()));
     let mut sink = sink_of(rt, 4096, Vec::new(rt.alloc()));
     expect_run(rt, texts, &mut source, &mut sink, Status::BadWords, b"");
@@ -200,7 +202,12 @@ fn other_words(rt: HostRuntime) {
 }
 
 /// Expects that the command ends so over this text, and writes this output.
-pub fn expect_text<R: AllocGlobal + Abort>(rt: &R, text: &[u8], wanted: Status, output: &[u8]) {
+pub fn expect_text<R: Threads + Wait + AllocGlobal + Sync + Abort>(
+    rt: &R,
+    text: &[u8],
+    wanted: Status,
+    output: &[u8],
+) {
     let mut source = source_of(rt, text, 65_536, Vec::new(rt.alloc()));
     let mut sink = sink_of(rt, 4096, Vec::new(rt.alloc()));
     expect_run(rt, &["replay"], &mut source, &mut sink, wanted, output);
@@ -218,7 +225,11 @@ fn other_texts(rt: HostRuntime) {
 }
 
 /// Expects that an input of this many bytes, which is no scenario, ends so.
-fn expect_long<R: AllocGlobal + Abort>(rt: &R, bytes: usize, wanted: Status) {
+fn expect_long<R: Threads + Wait + AllocGlobal + Sync + Abort>(
+    rt: &R,
+    bytes: usize,
+    wanted: Status,
+) {
     let text = vec![in rt.alloc(); b'x'; bytes].expect(rt, "room");
     expect_text(rt, &text, wanted, b"");
 }

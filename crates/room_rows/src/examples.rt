@@ -19,6 +19,8 @@ use scenario_input::taught;
 use scenario_runner::{Status, play};
 use scenario_text::read;
 use std::process::Abort;
+use std::sync::Wait;
+use std::thread::Threads;
 
 /// The earlier deadline goes first, a deadline task forks none, and a sibling that runs idle has no task
 /// that could sleep or end. The running task becomes a fair one, and makes way.
@@ -212,7 +214,7 @@ fn output_of<R: AllocGlobal + Abort>(rt: &R, script: Script) -> Vec<u8> {
 }
 
 /// Expects that the text of the script is played to its output.
-fn expect_script<R: AllocGlobal + Abort>(rt: &R, script: Script) {
+fn expect_script<R: Threads + Wait + AllocGlobal + Sync + Abort>(rt: &R, script: Script) {
     let output = output_of(rt, script);
     expect_text(rt, script.text.as_bytes(), Status::Done, &output);
 }

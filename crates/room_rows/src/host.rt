@@ -4,11 +4,13 @@
 ghost use Rattle.std.specs.Prelude.{◌≡◌};
 
 use crate::commands::{source_of, words_of};
-use cs_outside::{MemSink, MemSource, PairGuard};
+use cs_outside::{MemSink, MemSource, NoGate, PairGuard};
 use scenario_runner::{Status, run};
 use std::alloc::{AllocError, Global};
 use std::process::Abort;
 use std::str;
+use std::sync::Wait;
+use std::thread::Threads;
 
 /// The host, and its steps before the first round.
 const HEAD: &str = concat!(
@@ -62,17 +64,21 @@ fn expect_host(rt: &impl Abort, output: &str) {
 }
 
 /// Expects that a replay over these devices is done.
-fn expect_done<R: AllocGlobal + Abort>(rt: &R, source: &mut MemSource, sink: &mut MemSink)
+fn expect_done<R: Threads + Wait + AllocGlobal + Sync + Abort>(
+    rt: &R,
+    source: &mut MemSource,
+    sink: &mut MemSink,
+)
     requires source { source.old.faults ≡ 0 }
     requires sink { sink.old.faults ≡ 0 }
 {
     let words = words_of(rt.alloc(), &["replay"]).expect(rt, "room");
     let guards = Vec::<PairGuard>::new(rt.alloc());
-    assert!(rt; run(rt, &words, source, sink, guards) == Status::Done);
+    assert!(rt; run(rt, &words, source, sink, &NoGate, guards) == Status::Done);
 }
 
 /// The sink of a replay of the host's text.
-fn replayed<R: AllocGlobal + Abort>(rt: &R) -> MemSink {
+fn replayed<R: Threads + Wait + AllocGlobal + Sync + Abort>(rt: &R) -> MemSink {
     let text = text_of_host(rt.alloc()).expect(rt, "room");
     let mut source = source_of(rt, &text, 65_536, Vec::new(rt.alloc()));
     let mut sink = MemSink::of(rt.alloc(), 131_072, 131_072, Vec::new(rt.alloc())).expect(

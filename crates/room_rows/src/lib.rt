@@ -62,6 +62,8 @@ mod parts;
 #[cfg(test)]
 mod queues;
 #[cfg(test)]
+mod races;
+#[cfg(test)]
 mod scenarios;
 #[cfg(test)]
 mod scripts;

@@ -3,7 +3,8 @@ use Rattle.std.proofs.Common.{◌≡◌, ◌≢◌, Bool, true, false, ℕ, ◌+
 use Rattle.std.specs.Prelude.{◌⊎◌, ◌↔◌, Option, Some, None, IfSome, Result, Ok, Err, String}
 use Rattle.std.specs.declared.alloc.Global.{Global}
 use Rattle.cs_types.specs.declared.scenario.Scenario.{Scenario}
-use Rattle.cs_outside.specs.Device.{Rose}
+use Rattle.cs_outside.specs.Device.{Rose, appended, WritesPrefix}
+use Rattle.room_report.specs.Report.{output_text}
 use Rattle.scenario_text.specs.declared.fault.BadKind.{BadKind}
 use Rattle.scenario_input.specs.declared.stop.Stop.{Stop}
 use Rattle.scenario_input.specs.declared.stop.Stop.TheVariants.{ReadFault, TooLong, BadScenario, BadGuard}
@@ -12,15 +13,17 @@ use Rattle.scenario_input.specs.Teaching.{BadTeach, first_bad}
 use Rattle.cs_types.specs.Scenario.{IsBuilt}
 use Rattle.scenario_text.specs.Text.{scenario_text}
 use Rattle.std.proofs.lemmas.List.{append-nil}
+use Rattle.scenario_input.specs.declared.status.Status.{Status}
 use Rattle.scenario_input.specs.declared.status.Status.TheVariants as status
 use Rattle.scenario_input.specs.Input.{Reads, IsBad, input_limit, count_read}
 use Rattle.scenario_input.specs.Stop.{status_of}
 use Rattle.scenario_input.proofs.Inputs.{count_none}
 use Rattle.scenario_input.proofs.Stops.{stop_not_done, stop_not_words, stop_not_write, stop_read, stop_long, stop_bad, stop_guard}
 use Rattle.scenario_input.proofs.Completes.{stop_complete}
-use Rattle.scenario_runner.specs.Commands.{IsReplay}
-use Rattle.scenario_runner.specs.Replay.{opened_with, Replays, BreaksOff}
-use Rattle.scenario_runner.specs.Ends.{Used, Failed, IsFaultless, IsBadGuard, EndsAsReplay}
+use Rattle.cs_types.specs.Room.{Opening}
+use Rattle.cs_types.specs.History.{History}
+use Rattle.scenario_runner.specs.Outcomes.{opened_with, Outputs, BreaksOff}
+use Rattle.scenario_runner.specs.Ends.{Used, Failed, IsFaultless, IsBadGuard, EndsAs}
 
 -- ---- what is known once the input was read, or was not
 
@@ -36,6 +39,15 @@ pub record HasRead {S T : Type 0} (caps : List ℕ) (source : Used S) (read : Re
       IsBad line kind (source.bytes source.before) (source.bytes source.after)
   pub bad_guard : (line : ℕ) (kind : GuardKind) → read ≡ Err (BadGuard line kind) →
       IsBadGuard caps line kind (source.bytes source.before) (source.bytes source.after)
+
+-- what is known once a text was written, or the sink failed
+pub record IsWritten {K : Type 0} (sink : Used K) (text : List ℕ) (ended : Status) : Type 0 where
+  pub either : (ended ≡ status.Done) ⊎ (ended ≡ status.WriteFault)
+  pub whole : ended ≡ status.Done → sink.bytes sink.after ≡ appended (sink.bytes sink.before) text
+  pub prefix : WritesPrefix (sink.bytes sink.before) text (sink.bytes sink.after)
+  pub faultless : ended ≡ status.Done → IsFaultless sink
+  pub failed : ended ≡ status.WriteFault → Rose (sink.faults sink.before) (sink.faults sink.after)
+  pub few : sink.faults sink.before < 2 ^ 64 - 1
 
 not_both : {T E : Type 0} (read : Result T E) (value : T) (error : E) → read ≡ Ok value → read ≡ Err error → ⊥
 not_both read value error is other = cc
@@ -86,16 +98,16 @@ as_told line kind bad same = let is : record { line = line; kind = kind } ≡ ba
 
 -- ---- how it ends
 
-pub ends_done : {S K T : Type 0} (words : List (String Global)) (caps : List ℕ) (source : Used S) (sink : Used K) (read : Result T Stop) (value : T) →
-    HasRead caps source read → read ≡ Ok value → IsReplay words → IsFaultless sink → (scenario : Scenario) →
-    Replays (opened_with caps scenario) (source.bytes source.before) (source.bytes source.after) (sink.bytes sink.before) (sink.bytes sink.after) →
+pub ends_done : {S K T : Type 0} (IsOwn : List (String Global) → Type 0) (IsOutcome : Opening → History → Type 0) (words : List (String Global)) (caps : List ℕ) (source : Used S) (sink : Used K) (read : Result T Stop) (value : T) →
+    HasRead caps source read → read ≡ Ok value → IsOwn words → IsFaultless sink → (scenario : Scenario) →
+    Outputs IsOutcome (opened_with caps scenario) (source.bytes source.before) (source.bytes source.after) (sink.bytes sink.before) (sink.bytes sink.after) →
     first_bad caps scenario.teaches ≡ None →
-    EndsAsReplay words caps source sink status.Done
-ends_done words caps source sink read value has is replay calm scenario replays taught =
+    EndsAs IsOwn IsOutcome words caps source sink status.Done
+ends_done IsOwn IsOutcome words caps source sink read value has is own calm scenario outputs taught =
     record {
-      done = λ _. (scenario, replays);
+      done = λ _. (scenario, outputs);
       faultless = (λ _. has.faultless (not_both read value ReadFault is), λ _. calm);
-      bad_words = (λ e. absurd cc, λ no. absurd (no replay));
+      bad_words = (λ e. absurd cc, λ no. absurd (no own));
       unread = λ e. absurd cc;
       read_fault = λ e. absurd cc;
       too_long = same_where_told (source.bytes source.before) _ (λ e. absurd (not_both read value TooLong is e)) (λ e. absurd cc) has.too_long;
@@ -106,19 +118,19 @@ ends_done words caps source sink read value has is replay calm scenario replays 
       unwritten = λ other _. absurd (other refl);
       complete = λ told words built text fits all calm_source calm_sink. inl refl;
       told = λ told bad words built text fits one calm_source.
-          absurd (not_taught caps told scenario bad _ _ text built replays.reads one taught);
+          absurd (not_taught caps told scenario bad _ _ text built outputs.reads one taught);
     }
 
-pub ends_write_fault : {S K T : Type 0} (words : List (String Global)) (caps : List ℕ) (source : Used S) (sink : Used K) (read : Result T Stop) (value : T) →
-    HasRead caps source read → read ≡ Ok value → IsReplay words → Failed sink → (scenario : Scenario) →
-    BreaksOff (opened_with caps scenario) (source.bytes source.before) (source.bytes source.after) (sink.bytes sink.before) (sink.bytes sink.after) →
+pub ends_write_fault : {S K T : Type 0} (IsOwn : List (String Global) → Type 0) (IsOutcome : Opening → History → Type 0) (words : List (String Global)) (caps : List ℕ) (source : Used S) (sink : Used K) (read : Result T Stop) (value : T) →
+    HasRead caps source read → read ≡ Ok value → IsOwn words → Failed sink → (scenario : Scenario) →
+    BreaksOff IsOutcome (opened_with caps scenario) (source.bytes source.before) (source.bytes source.after) (sink.bytes sink.before) (sink.bytes sink.after) →
     first_bad caps scenario.teaches ≡ None →
-    EndsAsReplay words caps source sink status.WriteFault
-ends_write_fault words caps source sink read value has is replay failed scenario breaks taught =
+    EndsAs IsOwn IsOutcome words caps source sink status.WriteFault
+ends_write_fault IsOwn IsOutcome words caps source sink read value has is own failed scenario breaks taught =
     record {
       done = λ e. absurd cc;
       faultless = (λ _. has.faultless (not_both read value ReadFault is), λ other. absurd (other refl));
-      bad_words = (λ e. absurd cc, λ no. absurd (no replay));
+      bad_words = (λ e. absurd cc, λ no. absurd (no own));
       unread = λ e. absurd cc;
       read_fault = λ e. absurd cc;
       too_long = same_where_told (source.bytes source.before) _ (λ e. absurd (not_both read value TooLong is e)) (λ e. absurd cc) has.too_long;
@@ -132,14 +144,37 @@ ends_write_fault words caps source sink read value has is replay failed scenario
           absurd (not_taught caps told scenario bad _ _ text built breaks.reads one taught);
     }
 
-pub ends_stopped : {S K T : Type 0} (words : List (String Global)) (caps : List ℕ) (source : Used S) (sink : Used K) (read : Result T Stop) (stop : Stop) →
-    HasRead caps source read → read ≡ Err stop → IsReplay words → sink.after ≡ sink.before →
-    EndsAsReplay words caps source sink (status_of stop)
-ends_stopped words caps source sink read stop has is replay same =
+-- what was written of a room is that of the opening that it has
+pub written_of : {K : Type 0} (sink : Used K) (opening now : Opening) (run : History) (ended : Status) → now ≡ opening → IsWritten sink (output_text now run) ended →
+    IsWritten sink (output_text opening run) ended
+written_of sink opening now run ended same written = subst (λ (o : Opening). IsWritten sink (output_text o run) ended) same written
+
+-- The run was written, or the sink failed.
+pub ends_written : {S K T : Type 0} (IsOwn : List (String Global) → Type 0) (IsOutcome : Opening → History → Type 0) (words : List (String Global)) (caps : List ℕ) (source : Used S) (sink : Used K) (read : Result T Stop) (value : T) (ended : Status) →
+    HasRead caps source read → read ≡ Ok value → IsOwn words → (scenario : Scenario) → first_bad caps scenario.teaches ≡ None →
+    Reads scenario (source.bytes source.before) (source.bytes source.after) → (run : History) → IsOutcome (opened_with caps scenario) run →
+    IsWritten sink (output_text (opened_with caps scenario) run) ended →
+    EndsAs IsOwn IsOutcome words caps source sink ended
+ends_written IsOwn IsOutcome words caps source sink read value ended has is own scenario taught reads run outcome written =
+    elim written.either [
+      | inl done ↦
+          rw done
+          (ends_done IsOwn IsOutcome words caps source sink read value has is own (written.faultless done) scenario
+          (record { reads = reads; run = run; outcome = outcome; writes = written.whole done }) taught)
+      | inr fault ↦
+          rw fault
+          (ends_write_fault IsOwn IsOutcome words caps source sink read value has is own (omega (arith, written.failed fault, written.few)) scenario
+          (record { reads = reads; run = run; outcome = outcome; writes = written.prefix }) taught)
+    ]
+
+pub ends_stopped : {S K T : Type 0} (IsOwn : List (String Global) → Type 0) (IsOutcome : Opening → History → Type 0) (words : List (String Global)) (caps : List ℕ) (source : Used S) (sink : Used K) (read : Result T Stop) (stop : Stop) →
+    HasRead caps source read → read ≡ Err stop → IsOwn words → sink.after ≡ sink.before →
+    EndsAs IsOwn IsOutcome words caps source sink (status_of stop)
+ends_stopped IsOwn IsOutcome words caps source sink read stop has is own same =
     record {
       done = λ e. absurd (stop_not_done stop e);
       faultless = (λ other. has.faultless (λ e. other (ap status_of (same_error read stop ReadFault is e))), λ _. ap sink.faults same);
-      bad_words = (λ e. absurd (stop_not_words stop e), λ no. absurd (no replay));
+      bad_words = (λ e. absurd (stop_not_words stop e), λ no. absurd (no own));
       unread = λ e. absurd (stop_not_words stop e);
       read_fault = λ e. omega (arith, has.failed (is ∙ ap Err (stop_read stop e)), has.few);
       too_long =
@@ -174,9 +209,9 @@ ends_stopped words caps source sink read stop has is replay same =
           let failed = λ (e : stop ≡ ReadFault). has.failed (is ∙ ap Err e) in
           stop_complete stop (source.bytes source.after) (source.faults source.before) (source.faults source.after) scenario long bad failed has.few built fits calm_source
 
-pub ends_unread : {S K : Type 0} (words : List (String Global)) (caps : List ℕ) (source : Used S) (sink : Used K) → (IsReplay words → ⊥) →
-    source.after ≡ source.before → sink.after ≡ sink.before → EndsAsReplay words caps source sink status.BadWords
-ends_unread words caps source sink other same same_sink =
+pub ends_unread : {S K : Type 0} (IsOwn : List (String Global) → Type 0) (IsOutcome : Opening → History → Type 0) (words : List (String Global)) (caps : List ℕ) (source : Used S) (sink : Used K) → (IsOwn words → ⊥) →
+    source.after ≡ source.before → sink.after ≡ sink.before → EndsAs IsOwn IsOutcome words caps source sink status.BadWords
+ends_unread IsOwn IsOutcome words caps source sink other same same_sink =
     let none : count_read (source.bytes source.before) (source.bytes source.after) ≡ 0 =
     ap (λ s. count_read (source.bytes source.before) (source.bytes s)) same ∙ count_none (source.bytes source.before) in
     record {

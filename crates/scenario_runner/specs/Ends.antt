@@ -10,8 +10,10 @@ use Rattle.scenario_input.specs.declared.status.Status.TheVariants.{Done, BadWor
 use Rattle.scenario_input.specs.declared.stop.GuardKind.{GuardKind}
 use Rattle.scenario_input.specs.Input.{Reads, IsBad, input_limit, count_read}
 use Rattle.scenario_input.specs.Teaching.{BadTeach, first_bad}
-use Rattle.scenario_runner.specs.Commands.{IsReplay}
-use Rattle.scenario_runner.specs.Replay.{opened_with, Replays, BreaksOff}
+use Rattle.cs_types.specs.Room.{Opening}
+use Rattle.cs_types.specs.History.{History}
+use Rattle.scenario_runner.specs.Commands.{IsReplay, IsRace}
+use Rattle.scenario_runner.specs.Outcomes.{opened_with, IsReplayHistory, IsRaceHistory, Outputs, BreaksOff}
 
 -- a device before and after a call: what it tells of its bytes, and the count of its faults
 pub record Used (D : Type 0) : Type 0 where
@@ -35,16 +37,16 @@ pub record IsBadGuard (caps : List ℕ) (at : ℕ) (what : GuardKind) (input lef
   pub reads : Reads scenario input left
   pub first : first_bad caps scenario.teaches ≡ Some (record { line = at; kind = what })
 
--- How the command `replay` ends, over a source and a sink, with guards that can be taught so many pairs each. Out of memory
--- alone is free.
-pub record EndsAsReplay {S K : Type 0} (words : List (String Global)) (caps : List ℕ) (source : Used S) (sink : Used K) (status : Status) : Type 0 where
-  -- where it is done, what was read is the text of a scenario, and what was written is its history and its report
+-- How a command ends, over a source and a sink, with guards that can be taught so many pairs each: a command of which it is
+-- known which words are its own, and what the history of a run is. Out of memory alone is free.
+pub record EndsAs {S K : Type 0} (IsOwn : List (String Global) → Type 0) (IsOutcome : Opening → History → Type 0) (words : List (String Global)) (caps : List ℕ) (source : Used S) (sink : Used K) (status : Status) : Type 0 where
+  -- where it is done, what was read is the text of a scenario, and what was written is the history of a run and its report
   pub done : status ≡ Done → (scenario : Scenario) ×
-      Replays (opened_with caps scenario) (source.bytes source.before) (source.bytes source.after) (sink.bytes sink.before) (sink.bytes sink.after)
+      Outputs IsOutcome (opened_with caps scenario) (source.bytes source.before) (source.bytes source.after) (sink.bytes sink.before) (sink.bytes sink.after)
   -- no fault of the source was counted, unless a read fault is the answer, and none of the sink, unless a write fault is
   pub faultless : (status ≢ ReadFault → IsFaultless source) × (status ≢ WriteFault → IsFaultless sink)
   -- exactly where the words are not its own, and then nothing was read
-  pub bad_words : (status ≡ BadWords) ↔ ¬ IsReplay words
+  pub bad_words : (status ≡ BadWords) ↔ ¬ IsOwn words
   pub unread : status ≡ BadWords → source.after ≡ source.before
   -- only where the source failed
   pub read_fault : status ≡ ReadFault → Failed source
@@ -62,16 +64,24 @@ pub record EndsAsReplay {S K : Type 0} (words : List (String Global)) (caps : Li
       IsBadGuard caps line kind (source.bytes source.before) (source.bytes source.after)
   -- only where the sink failed, and then a prefix of the output was written
   pub write_fault : status ≡ WriteFault → Failed sink × ((scenario : Scenario) ×
-      BreaksOff (opened_with caps scenario) (source.bytes source.before) (source.bytes source.after) (sink.bytes sink.before) (sink.bytes sink.after))
+      BreaksOff IsOutcome (opened_with caps scenario) (source.bytes source.before) (source.bytes source.after) (sink.bytes sink.before) (sink.bytes sink.after))
   -- nothing was written but where it is done or the sink failed
   pub unwritten : status ≢ Done → status ≢ WriteFault → sink.after ≡ sink.before
   -- it gives up on no scenario that can be played and all of whose teach lines can be carried out, where nothing failed
-  pub complete : (scenario : Scenario) → IsReplay words → IsBuilt scenario →
+  pub complete : (scenario : Scenario) → IsOwn words → IsBuilt scenario →
       source.bytes source.before ≡ Some (scenario_text scenario) → length (scenario_text scenario) ≤ input_limit →
       first_bad caps scenario.teaches ≡ None → IsFaultless source → IsFaultless sink →
       (status ≡ Done) ⊎ (status ≡ OutOfMemory)
   -- and where one of them cannot, it tells the first
-  pub told : (scenario : Scenario) (bad : BadTeach) → IsReplay words → IsBuilt scenario →
+  pub told : (scenario : Scenario) (bad : BadTeach) → IsOwn words → IsBuilt scenario →
       source.bytes source.before ≡ Some (scenario_text scenario) → length (scenario_text scenario) ≤ input_limit →
       first_bad caps scenario.teaches ≡ Some bad → IsFaultless source →
       (status ≡ BadGuard bad.line bad.kind) ⊎ (status ≡ OutOfMemory)
+
+-- how the command `replay` ends
+abbrev pub EndsAsReplay : {S K : Type 0} → List (String Global) → List ℕ → Used S → Used K → Status → Type 0
+EndsAsReplay = EndsAs IsReplay IsReplayHistory
+
+-- how the command `race` ends
+abbrev pub EndsAsRace : {S K : Type 0} → List (String Global) → List ℕ → Used S → Used K → Status → Type 0
+EndsAsRace = EndsAs IsRace IsRaceHistory

@@ -1,3 +1,3 @@
 pub mod Commands
-pub mod Replay
+pub mod Outcomes
 pub mod Ends

@@ -1,39 +1,40 @@
 //! The commands, each by its words.
 
-ghost use Rattle.std.specs.Prelude.{◌≡◌, ◌≢◌, ◌⊎◌, ◌↔◌, ◌+◌, ◌-◌, ◌^◌, ◌<◌, ◌≤◌, [], length, map, All, Err, None, IfOk, IfSome, IsTrue, vec_len};
+ghost use Rattle.std.specs.Prelude.{◌≡◌, ◌≢◌, ◌⊎◌, ◌↔◌, ◌+◌, ◌-◌, ◌*◌, ◌^◌, ◌<◌, ◌≤◌, [], length, map, All, Err, None, IfOk, IfSome, IsTrue, vec_len};
 ghost use Rattle.cs_outside.specs.Device.{Rose, appended, WritesPrefix};
 ghost use Rattle.room_report.specs.Report.{output_text};
-ghost use Rattle.scenario_runner.specs.Commands.{IsReplay};
 ghost use Rattle.scenario_input.specs.Input.{Reads, IsBad, input_limit, count_read};
 ghost use Rattle.scenario_input.specs.Teaching.{first_bad};
-ghost use Rattle.scenario_runner.specs.Ends.{IsBadGuard};
-ghost use Rattle.cs_types.specs.History.{file};
-ghost use Rattle.cs_types.specs.Drain.{IsDrained};
-ghost use Rattle.scenario_runner.specs.Ends.{EndsAsReplay};
+ghost use Rattle.scenario_runner.specs.Commands.{IsOnly, IsReplay, IsRace};
+ghost use Rattle.scenario_runner.specs.Outcomes.{opened_with};
+ghost use Rattle.scenario_runner.specs.Ends.{IsBadGuard, EndsAsReplay, EndsAsRace};
 
-use cs_outside::{Guard, Sink, Source};
-use cs_types::Room;
+use cs_outside::{Gate, Guard, Sink, Source};
+use cs_types::{Room, Scenario};
 use plain_room::PlainRoom;
 use room_report::output;
 use scenario_input::{Status, Stop, play, read_scenario, taught};
 use std::alloc::Global;
+use std::sync::Wait;
+use std::thread::Threads;
 
-/// The room of the scenario that the input spells, with all its steps made in the order of the lines, and
-/// the entries of the end.
-fn played<S: Source, G: Guard>(
+/// The scenario that the input spells, and the room of it before its first step, with the guards that it
+/// teaches.
+fn opened<S: Source, G: Guard>(
     alloc: Global,
     source: &mut S,
     guards: Vec<G>,
-) -> Result<PlainRoom<G>, Stop>
+) -> Result<(Scenario, PlainRoom<G>), Stop>
     requires few { vec_len guards ≤ 16 }
     requires untaught { All (λ guard. G.pairs guard ≡ []) guards.items }
     requires unasked { All (λ guard. G.asked guard ≡ 0) guards.items }
 
-    ensures reads { IfOk result (λ room. Reads room.opening.scenario (S.left source.old) (S.left source.new)) }
-    ensures guards { IfOk result (λ room. room.opening.guards ≡ length (map G.cap guards.items)) }
-    ensures taught { IfOk result (λ room. first_bad (map G.cap guards.items) room.opening.scenario.teaches ≡ None) }
-    ensures played { IfOk result (λ room.
-        IsDrained room.opening (file room.opening) (⟦<PlainRoom<G> as Room>⟧.history room)) }
+    ensures reads { IfOk result (λ opened. Reads opened.0 (S.left source.old) (S.left source.new)) }
+    ensures taught { IfOk result (λ opened. first_bad (map G.cap guards.items) opened.0.teaches ≡ None) }
+    ensures opening { IfOk result (λ opened. opened.1.opening ≡ opened_with (map G.cap guards.items) opened.0) }
+    ensures empty { IfOk result (λ opened. opened.1.steps ≡ []) }
+    ensures spare { IfOk result (λ opened.
+        opened.1.spare ≡ length opened.0.steps + opened.0.siblings * opened.0.siblings) }
 
     ensures too_long { IfSome (S.left source.old) (λ _.
         (result ≡ Err Stop.TooLong) ↔ (input_limit < count_read (S.left source.old) (S.left source.new))) }
@@ -49,18 +50,16 @@ fn played<S: Source, G: Guard>(
 {
     let scenario = read_scenario(alloc, source)?;
     let guards = taught(alloc, guards, scenario.teaches.items())?;
-    let mut room = PlainRoom::start(alloc, &scenario, guards)?;
-    play(&mut room, scenario.steps.items());
-    room.drain();
-    Ok(room)
+    let room = PlainRoom::start(alloc, &scenario, guards)?;
+    Ok((scenario, room))
 }
 
-/// Whether the words are this command's.
-fn is_replay(words: &[String]) -> bool
-    ensures { IsTrue result ↔ IsReplay words.now }
+/// Whether the words are this one, with no other.
+fn is_only(words: &[String], wanted: &str) -> bool
+    ensures { IsTrue result ↔ IsOnly wanted.now words.now }
 {
     match words {
-        [word] => word.as_str() == "replay",
+        [word] => word.as_str() == wanted,
         _ => false,
     }
 }
@@ -104,24 +103,31 @@ pub fn replay<S: Source, K: Sink, G: Guard>(
         (record { bytes = S.left; faults = S.faults; before = source.old; after = source.new })
         (record { bytes = K.written; faults = K.faults; before = sink.old; after = sink.new }) result }
 {
-    if !is_replay(words) {
+    if !is_only(words, "replay") {
         return Status::BadWords;
     }
-    match played(alloc, source, guards) {
-        Ok(room) => write_output(&room, sink),
+    match opened(alloc, source, guards) {
+        Ok((scenario, mut room)) => {
+            play(&mut room, scenario.steps.items());
+            room.drain();
+            write_output(&room, sink)
+        }
         Err(stop) => Status::from(stop),
     }
 }
 
-/// Runs the command of the words. The word `replay` is that of `replay`, and does what it does.
-/// Other words are no command's.
-pub fn run<R: AllocGlobal, S: Source, K: Sink, G: Guard>(
-    rt: &R,
-    words: &[String],
-    source: &mut S,
-    sink: &mut K,
-    guards: Vec<G>,
-) -> Status
+/// Reads a scenario to its end, lets its actors make their scripts beside each other, each in a worker of its own
+/// that passes the gate before each of its turns, makes the entries of the end, and writes what `replay` writes.
+/// It may wait for the room, and where the gate does.
+///
+/// The word is `race`. Else it asks for what `replay` asks for.
+fn race<
+    T: Threads + Wait + AllocGlobal + Sync,
+    S: Source,
+    K: Sink,
+    P: Gate + Sync,
+    G: Guard + Send,
+>(rt: &T, words: &[String], source: &mut S, sink: &mut K, gate: &P, guards: Vec<G>) -> Status
     requires source { S.faults source.old < 2 ^ 64 - 1 }
     requires sink { K.faults sink.old < 2 ^ 64 - 1 }
     requires few { vec_len guards ≤ 16 }
@@ -129,9 +135,57 @@ pub fn run<R: AllocGlobal, S: Source, K: Sink, G: Guard>(
     requires unasked { All (λ guard. G.asked guard ≡ 0) guards.items }
 
     // When each status comes, what was read for it, and what was written.
-    ensures { EndsAsReplay words.now (map G.cap guards.items)
+    ensures { EndsAsRace words.now (map G.cap guards.items)
         (record { bytes = S.left; faults = S.faults; before = source.old; after = source.new })
         (record { bytes = K.written; faults = K.faults; before = sink.old; after = sink.new }) result }
 {
-    replay(rt.alloc(), words, source, sink, guards)
+    if !is_only(words, "race") {
+        return Status::BadWords;
+    }
+    match opened(rt.alloc(), source, guards) {
+        Ok((scenario, room)) => match sibling_workers::race(rt, room, &scenario, gate) {
+            Ok(raced) => write_output(&raced, sink),
+            Err(_) => Status::OutOfMemory,
+        },
+        Err(stop) => Status::from(stop),
+    }
+}
+
+/// Runs the command of the words. The word `replay` is that of `replay`, and does what it does, without waiting.
+/// With the word `race` each actor that has a step line makes its script in a worker of its own, and the order
+/// of the entries is that in which the workers come to the room. A worker passes the gate before each of its
+/// turns, also before the one that finds its script made. Other words are no command's.
+///
+/// Else it asks for what `replay` asks for. With the word `race` it may wait, so its return is not promised.
+pub fn run<
+    T: Threads + Wait + AllocGlobal + Sync,
+    S: Source,
+    K: Sink,
+    P: Gate + Sync,
+    G: Guard + Send,
+>(rt: &T, words: &[String], source: &mut S, sink: &mut K, gate: &P, guards: Vec<G>) -> Status
+    requires source { S.faults source.old < 2 ^ 64 - 1 }
+    requires sink { K.faults sink.old < 2 ^ 64 - 1 }
+    requires few { vec_len guards ≤ 16 }
+    requires untaught { All (λ guard. G.pairs guard ≡ []) guards.items }
+    requires unasked { All (λ guard. G.asked guard ≡ 0) guards.items }
+
+    // When each status comes, what was read for it, and what was written, by the words.
+    ensures replay { IsReplay words.now → EndsAsReplay words.now (map G.cap guards.items)
+        (record { bytes = S.left; faults = S.faults; before = source.old; after = source.new })
+        (record { bytes = K.written; faults = K.faults; before = sink.old; after = sink.new }) result }
+    ensures race { IsRace words.now → EndsAsRace words.now (map G.cap guards.items)
+        (record { bytes = S.left; faults = S.faults; before = source.old; after = source.new })
+        (record { bytes = K.written; faults = K.faults; before = sink.old; after = sink.new }) result }
+
+    // Other words are refused, and no other. Nothing is read for them and nothing written.
+    ensures bad_words { (result ≡ Status.BadWords) ↔ ¬ (IsReplay words.now ⊎ IsRace words.now) }
+    ensures unread { result ≡ Status.BadWords → source.new ≡ source.old }
+    ensures unwritten { result ≡ Status.BadWords → sink.new ≡ sink.old }
+{
+    if is_only(words, "replay") {
+        replay(rt.alloc(), words, source, sink, guards)
+    } else {
+        race(rt, words, source, sink, gate, guards)
+    }
 }

@@ -1,77 +1,59 @@
-use Rattle.std.proofs.Common.{◌≡◌, refl, inl, inr, arith, map, subst}
-use Rattle.scenario_runner.proofs.Runs.{run_alone, played}
-use Rattle.scenario_runner.proofs.Endings.{ends_done, ends_write_fault, ends_stopped, ends_unread, not_true}
-use Rattle.scenario_runner.proofs.Playable.{built_playable}
+use Rattle.std.proofs.Common.{◌≡◌, ◌∙◌, refl, ap, map}
 use Rattle.cs_types.specs.Room.{Opening}
-use Rattle.cs_types.specs.History.{history_of, file}
-use Rattle.cs_types.specs.Drain.{IsDrained}
-use Rattle.cs_outside.specs.Device.{appended, WritesPrefix}
-use Rattle.room_report.specs.Report.{output_text}
-use Rattle.scenario_runner.specs.Replay.{opened_with}
+use Rattle.cs_types.specs.History.{history_of}
+use Rattle.scenario_runner.specs.Commands.{IsReplay}
+use Rattle.scenario_runner.specs.Outcomes.{opened_with, IsReplayHistory}
+use Rattle.scenario_runner.proofs.Runs.{drained_file, replay_history}
+use Rattle.scenario_runner.proofs.Endings.{ends_written, ends_stopped, ends_unread, written_of, not_true}
+use Rattle.scenario_runner.proofs.Playable.{built_playable}
 use Rattle.scenario_runner.proofs.command.replay.Goals as goal
 
 pub returns-in-Ok : goal.returns-in-Ok
 returns-in-Ok g c =
-    let scenario = c.in-Ok.room.opening.scenario in
+    let scenario = c.in-Ok.scenario in
     let opening = opened_with (map g.G.Guard.cap c.args.guards.items) scenario in
-    let same : c.in-Ok.room.opening ≡ opening = λ i. record { scenario = scenario; guards = c.in-Ok.ensures.guards i } in
-    let run = history_of c.in-Ok.room.opening c.in-Ok.room.steps in
-    let drained = subst (λ (o : Opening). IsDrained o (file o) run) same c.in-Ok.ensures.played in
-    let is_run = run_alone opening run drained in
-    let replay = c.is_replay.ensures.0 c.if-not-is_replay.false in
-    elim c.write_output.ensures.either [
-      | inl done ↦
-          rw done
-          (ends_done c.args.words.now _ _ _ c.played.result c.in-Ok.room
-          (record {
-            faultless = c.played.ensures.faultless;
-            failed = c.played.ensures.failed;
-            few = c.requires.source;
-            too_long = c.played.ensures.too_long;
-            most = c.played.ensures.most;
-            bad = c.played.ensures.bad;
-            bad_guard = c.played.ensures.bad_guard;
-          })
-          c.in-Ok.is replay (c.write_output.ensures.faultless done) scenario
-          (record {
-            reads = c.in-Ok.ensures.reads;
-            run = run;
-            is_run = is_run;
-            played = played opening run (built_playable scenario c.in-Ok.ensures.reads.built) drained;
-            writes = subst (λ (o : Opening). g.K.Sink.written c.write_output.new.sink ≡ appended (g.K.Sink.written c.args.sink.now) (output_text o run)) same (c.write_output.ensures.whole done);
-          }) c.in-Ok.ensures.taught)
-      | inr fault ↦
-          rw fault
-          (ends_write_fault c.args.words.now _ _ _ c.played.result c.in-Ok.room
-          (record {
-            faultless = c.played.ensures.faultless;
-            failed = c.played.ensures.failed;
-            few = c.requires.source;
-            too_long = c.played.ensures.too_long;
-            most = c.played.ensures.most;
-            bad = c.played.ensures.bad;
-            bad_guard = c.played.ensures.bad_guard;
-          })
-          c.in-Ok.is replay
-          (omega (arith, c.write_output.ensures.failed fault, c.requires.sink)) scenario
-          (record { reads = c.in-Ok.ensures.reads; run = run; is_run = is_run; writes = subst (λ (o : Opening). WritesPrefix (g.K.Sink.written c.args.sink.now) (output_text o run) (g.K.Sink.written c.write_output.new.sink)) same c.write_output.ensures.prefix }) c.in-Ok.ensures.taught)
-    ]
+    let played : c.play.new.room.opening ≡ opening = c.play.ensures.opening ∙ c.in-Ok.ensures.opening in
+    let run = history_of c.drain.new.self.opening c.drain.new.self.steps in
+    let drained = drained_file opening c.play.new.room.opening _ run played
+    (c.play.ensures.history ∙ ap (history_of c.in-Ok.room.opening) c.items.ensures ∙ ap (λ (o : Opening). history_of o scenario.steps) c.in-Ok.ensures.opening)
+    c.drain.ensures.entries in
+    ends_written IsReplay IsReplayHistory c.args.words.now _ _ _ c.opened.result (scenario, c.in-Ok.room) c.write_output.result
+    (record {
+      faultless = c.opened.ensures.faultless;
+      failed = c.opened.ensures.failed;
+      few = c.requires.source;
+      too_long = c.opened.ensures.too_long;
+      most = c.opened.ensures.most;
+      bad = c.opened.ensures.bad;
+      bad_guard = c.opened.ensures.bad_guard;
+    })
+    c.in-Ok.is (c.is_only.ensures.0 c.if-not-is_only.false) scenario c.in-Ok.ensures.taught c.in-Ok.ensures.reads run
+    (replay_history opening run (built_playable scenario c.in-Ok.ensures.reads.built) drained)
+    (written_of _ opening c.drain.new.self.opening run _ (c.drain.ensures.opening ∙ played)
+    (record {
+      either = c.write_output.ensures.either;
+      whole = c.write_output.ensures.whole;
+      prefix = c.write_output.ensures.prefix;
+      faultless = c.write_output.ensures.faultless;
+      failed = c.write_output.ensures.failed;
+      few = c.requires.sink;
+    }))
 
 pub returns-in-Err : goal.returns-in-Err
 returns-in-Err g c =
     rw c.from.ensures
-    (ends_stopped c.args.words.now _ _ _ c.played.result c.in-Err.stop
+    (ends_stopped IsReplay IsReplayHistory c.args.words.now _ _ _ c.opened.result c.in-Err.stop
     (record {
-      faultless = c.played.ensures.faultless;
-      failed = c.played.ensures.failed;
+      faultless = c.opened.ensures.faultless;
+      failed = c.opened.ensures.failed;
       few = c.requires.source;
-      too_long = c.played.ensures.too_long;
-      most = c.played.ensures.most;
-      bad = c.played.ensures.bad;
-      bad_guard = c.played.ensures.bad_guard;
+      too_long = c.opened.ensures.too_long;
+      most = c.opened.ensures.most;
+      bad = c.opened.ensures.bad;
+      bad_guard = c.opened.ensures.bad_guard;
     })
-    c.in-Err.is (c.is_replay.ensures.0 c.if-not-is_replay.false) refl)
+    c.in-Err.is (c.is_only.ensures.0 c.if-not-is_only.false) refl)
 
-pub returns-then-not-is_replay : goal.returns-then-not-is_replay
-returns-then-not-is_replay g c =
-    ends_unread c.args.words.now _ _ _ (λ replay. not_true c.is_replay.result c.if-not-is_replay.true (c.is_replay.ensures.1 replay)) refl refl
+pub returns-then-not-is_only : goal.returns-then-not-is_only
+returns-then-not-is_only g c =
+    ends_unread IsReplay IsReplayHistory c.args.words.now _ _ _ (λ replay. not_true c.is_only.result c.if-not-is_only.true (c.is_only.ensures.1 replay)) refl refl
