@@ -1,0 +1,87 @@
+#!/usr/bin/env python3
+"""Judges races of the built program by the rules as reference.py has them. In what a race wrote each actor has to have
+made its own step lines, in their order. And it has to be what a replay writes of the same scenario with its step lines in
+the order of the race. So each reply, the entries of the end and the report are judged too.
+
+Usage: races.py --program PATH --count N --seed S [--runs R] [--beside B]
+
+Races N random scenarios R times each, B at a time, and tells how many of them came out in more than one order. A seed
+has the same scenarios each time.
+"""
+import argparse
+import os
+import random
+import subprocess
+import sys
+import time
+from concurrent.futures import ThreadPoolExecutor
+
+sys.path.insert(0, os.path.dirname(os.path.abspath(__file__)))
+import fuzz
+import reference
+
+
+def raced(program, data):
+    """How a race of this text ended: status, standard output, standard error."""
+    result = subprocess.run([program, 'race'], input=data, capture_output=True, timeout=120)
+    return result.returncode, result.stdout, result.stderr
+
+
+def scripts(steps):
+    """The step lines of each actor, in their order."""
+    found = {}
+    for step in steps:
+        found.setdefault(step.split()[1], []).append(step)
+    return found
+
+
+def order_of(output):
+    """The step lines whose entries a race wrote, in the order of these."""
+    entries = output.decode().partition('report\n')[0].splitlines()
+    return ['step ' + entry.partition(': ')[0] for entry in entries if not entry.startswith('end ')]
+
+
+def judged(data, run):
+    """What is wrong with a run, or None; and the order of its steps."""
+    if run[0] != 0:
+        return (None if run == reference.replay(data) else 'it ended as a replay does not'), ()
+    lines = data.decode().splitlines()
+    steps = [line for line in lines if line.startswith('step ')]
+    order = order_of(run[1])
+    if scripts(order) != scripts(steps):
+        return 'an actor did not make its own steps in their order', tuple(order)
+    text = '\n'.join([line for line in lines if line not in ('end',) and not line.startswith('step ')] + order + ['end', ''])
+    return (None if run == reference.replay(text.encode()) else 'a replay in its order writes something else'), tuple(order)
+
+
+def main():
+    p = argparse.ArgumentParser()
+    p.add_argument('--program', required=True, help='the built program')
+    p.add_argument('--count', type=int, default=1000)
+    p.add_argument('--seed', type=int, default=1)
+    p.add_argument('--runs', type=int, default=5)
+    p.add_argument('--beside', type=int, default=8)
+    a = p.parse_args()
+    began, wrong, many, most = time.time(), 0, 0, 0
+    with ThreadPoolExecutor(a.beside) as pool:
+        for k in range(a.count):
+            data = fuzz.scenario(random.Random('%d/%d' % (a.seed, k)))
+            runs = list(pool.map(lambda _: raced(a.program, data), range(a.runs)))
+            told = [judged(data, run) for run in runs]
+            wrong += sum(fault is not None for fault, _ in told)
+            for (fault, _), run in zip(told, runs):
+                if fault:
+                    base = fuzz.kept('race-seed%d-%d' % (a.seed, k))
+                    fuzz.write(base + '.scenario', data)
+                    fuzz.write(base + '.got', run[1] + b'--- stderr\n' + run[2])
+                    print('WRONG: %s: %s.scenario' % (fault, base))
+            orders = len({order for _, order in told})
+            many += orders > 1
+            most = max(most, orders)
+    print('races, seed %d: %d runs of %d scenarios, %d wrong; %d scenarios came out in more than one order, one in %d of %d; %.0f s'
+          % (a.seed, a.count * a.runs, a.count, wrong, many, most, a.runs, time.time() - began))
+    return 1 if wrong else 0
+
+
+if __name__ == '__main__':
+    sys.exit(main())
