@@ -9,27 +9,11 @@ use Rattle.cs_types.specs.Order.{goes_before, is_higher_here}
 use Rattle.cs_types.proofs.Filtered.{Contains-filter_parts}
 use Rattle.task_table.specs.Table.{Rises, RisesFrom}
 use Rattle.core_lanes.specs.Queued.{queued_among, with_cookie, IsOf, AreStamped}
+use Rattle.core_lanes.proofs.Queues.{is_of}
 
 -- the tasks queued on the source with the cookie
 abbrev pub candidates : ℕ → ℕ → List Task → List Task
 candidates cookie source tasks = with_cookie cookie (queued_among tasks source)
-
--- each of a rising list is found by its pid
-is_of_at : (low : ℕ) (tasks : List Task) (task : Task) → RisesFrom low tasks → (k : ℕ) → k < length tasks → get_or tasks k task ≡ task →
-    (find (has_pid task.spec.pid) tasks ≡ Some task) × (low ≤ task.spec.pid)
-is_of_at low [] task rises k below is = absurd (omega arith)
-is_of_at low (first ∷ tasks) task rises zero below is =
-    let pid : first.spec.pid ≡ task.spec.pid = ap (λ (t : Task). t.spec.pid) is in
-    (cond-true (first.spec.pid == task.spec.pid) (Some first) (find (has_pid task.spec.pid) tasks) (eq-eqb _ _ pid) ∙ ap Some is, omega (arith, pid, rises.0))
-is_of_at low (first ∷ tasks) task rises (suc k) below is =
-    let rest = is_of_at (first.spec.pid + 1) tasks task rises.1 k (omega arith) is in
-    let above : first.spec.pid + 1 ≤ task.spec.pid = rest.1 in (
-      cond-false (first.spec.pid == task.spec.pid) (Some first) (find (has_pid task.spec.pid) tasks) (ne_eqb first.spec.pid task.spec.pid (λ e. omega (arith, e, above))) ∙ rest.0,
-      omega (arith, above, rises.0),
-    )
-
-pub is_of : (tasks : List Task) (task : Task) → Rises tasks → Contains tasks task → IsOf tasks task
-is_of tasks task rises there = (is_of_at 0 tasks task rises there.0 there.1 there.2).0
 
 -- a candidate is a task of the list, queued, and with the cookie
 pub candidate_parts : (cookie source : ℕ) (tasks : List Task) (task : Task) → Contains (candidates cookie source tasks) task →

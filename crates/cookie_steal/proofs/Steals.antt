@@ -13,7 +13,8 @@ use Rattle.core_lanes.specs.Queued.{IsOf}
 use Rattle.core_lanes.specs.declared.lane.Lane.{Lane}
 use Rattle.core_lanes.proofs.Stays.{queue_of}
 use Rattle.cookie_steal.proofs.Enumerated.{foremost_parts}
-use Rattle.cookie_steal.proofs.Candidates.{is_of, candidate_parts}
+use Rattle.cookie_steal.proofs.Candidates.{candidate_parts}
+use Rattle.core_lanes.proofs.Queues.{is_of}
 
 -- what is stolen is a task of the room
 pub stolen_there : (room : RoomState) (thief : ℕ) (task : Task) → Rises room.tasks → stolen room thief ≡ Some task → IsOf room.tasks task

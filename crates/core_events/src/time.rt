@@ -174,7 +174,8 @@ fn rotates<Q: SiblingQueue, L: Ledger>(
     task: &Task,
     steps: &mut Steps<L>,
 ) -> bool
-    requires { AgreesAt cpu (core.now, table.now) }
+    requires at { AgreesAt cpu (core.now, table.now) }
+    requires there { IsOf table.now.tasks task.now }
     ensures { (beside : Beside) → result ≡ rotates (room_of beside (core.now, table.now)) cpu task.now }
 {
     has_used_slice(task)
@@ -216,7 +217,8 @@ fn is_to_yield<Q: SiblingQueue, L: Ledger>(
     task: &Task,
     steps: &mut Steps<L>,
 ) -> bool
-    requires { AgreesAt cpu (core.now, table.now) }
+    requires at { AgreesAt cpu (core.now, table.now) }
+    requires there { IsOf table.now.tasks task.now }
     ensures { (beside : Beside) → result ≡ is_to_yield (room_of beside (core.now, table.now)) cpu task.now }
 {
     let lane = &core.lanes[cpu as usize];

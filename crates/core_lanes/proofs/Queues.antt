@@ -1,6 +1,6 @@
 -- Queues: what the queues hold once a task has left one, and once it has entered one.
-use Rattle.std.proofs.Common.{◌≡◌, ◌≢◌, ◌⊎◌, inl, inr, ℕ, zero, suc, ◌+◌, ◌<◌, Bool, true, false, cond, not, List, [], ◌∷◌, map, set, refl, subst, sym, ap, ◌∙◌, Some, arith}
-use Rattle.std.specs.Prelude.{find, ◌&&◌, ◌==◌, slice_get}
+use Rattle.std.proofs.Common.{◌≡◌, ◌≢◌, ◌⊎◌, inl, inr, ℕ, zero, suc, ◌+◌, ◌<◌, ◌≤◌, Bool, true, false, cond, not, List, [], ◌∷◌, length, map, set, get_or, refl, subst, sym, ap, ◌∙◌, Some, arith}
+use Rattle.std.specs.Prelude.{find, ◌&&◌, ◌==◌, slice_get, Contains}
 use Rattle.std.proofs.lemmas.Bool.{cond-true, cond-false, cases_Bool, eqb-true, ne_eqb, eq-eqb}
 use Rattle.cs_types.specs.declared.task.Task.{Task}
 use Rattle.cs_types.specs.declared.queue.Queued.{Queued}
@@ -13,6 +13,23 @@ use Rattle.core_lanes.specs.Queued.{queued_among, queued_at, others, IsOf}
 -- whether a task is queued on a sibling
 abbrev pub is_on : ℕ → Task → Bool
 is_on cpu task = task.queued && (task.home == cpu)
+
+-- each of a rising list is found by its pid
+is_of_at : (low : ℕ) (tasks : List Task) (task : Task) → RisesFrom low tasks → (k : ℕ) → k < length tasks → get_or tasks k task ≡ task →
+    (find (has_pid task.spec.pid) tasks ≡ Some task) × (low ≤ task.spec.pid)
+is_of_at low [] task rises k below is = absurd (omega arith)
+is_of_at low (first ∷ tasks) task rises zero below is =
+    let pid : first.spec.pid ≡ task.spec.pid = ap (λ (t : Task). t.spec.pid) is in
+    (cond-true (first.spec.pid == task.spec.pid) (Some first) (find (has_pid task.spec.pid) tasks) (eq-eqb _ _ pid) ∙ ap Some is, omega (arith, pid, rises.0))
+is_of_at low (first ∷ tasks) task rises (suc k) below is =
+    let rest = is_of_at (first.spec.pid + 1) tasks task rises.1 k (omega arith) is in
+    let above : first.spec.pid + 1 ≤ task.spec.pid = rest.1 in (
+      cond-false (first.spec.pid == task.spec.pid) (Some first) (find (has_pid task.spec.pid) tasks) (ne_eqb first.spec.pid task.spec.pid (λ e. omega (arith, e, above))) ∙ rest.0,
+      omega (arith, above, rises.0),
+    )
+
+pub is_of : (tasks : List Task) (task : Task) → Rises tasks → Contains tasks task → IsOf tasks task
+is_of tasks task rises there = (is_of_at 0 tasks task rises there.0 there.1 there.2).0
 
 -- ---- the others
 
@@ -30,7 +47,7 @@ module _ (pid : ℕ) where
   keep_head task xs ys false same = same
 
   -- where no task has the pid, all are others
-  others_none : (cpu low : ℕ) (tasks : List Task) → pid < low → RisesFrom low tasks → others pid (queued_at tasks cpu) ≡ queued_at tasks cpu
+  pub others_none : (cpu low : ℕ) (tasks : List Task) → pid < low → RisesFrom low tasks → others pid (queued_at tasks cpu) ≡ queued_at tasks cpu
   others_none cpu low [] below rises = refl
   others_none cpu low (task ∷ tasks) below rises =
       let rest = others_none cpu (task.spec.pid + 1) tasks (omega (arith, below, rises.0)) rises.1 in

@@ -9,8 +9,9 @@ use Rattle.cs_types.specs.declared.task.Task.{Task}
 use Rattle.cs_types.specs.Room.{absent, has_pid}
 use Rattle.task_table.specs.Table.{Table, IsSound as IsTable}
 use Rattle.core_lanes.proofs.Lists.{All-find}
-use Rattle.core_lanes.specs.Queued.{queued_at, AreStamped}
-use Rattle.core_lanes.specs.Lanes.{Beside, BareCore, bare, lane_state, IsFit, queues_of, MayStamp}
+use Rattle.cs_types.specs.Scenario.{IsPolicy}
+use Rattle.core_lanes.specs.Queued.{queued_at, AreStamped, HavePolicies}
+use Rattle.core_lanes.specs.Lanes.{Beside, BareCore, bare, lane_state, IsFit, Agree, queues_of, MayStamp}
 use Rattle.core_lanes.specs.Changes.{Stays, identity_of}
 use Rattle.core_lanes.specs.declared.queue.SiblingQueue.{Ghosts}
 use Rattle.core_lanes.specs.declared.lane.Lane.{Lane}
@@ -97,6 +98,11 @@ as_many_bare old new same =
 -- what holds of each task of a list holds of one that was found
 pub found_in : (P : Task → Type 0) (pid : ℕ) (tasks : List Task) (task : Task) → All P tasks → find (has_pid pid) tasks ≡ Some task → P task
 found_in P pid tasks task all found = subst (λ (one : Option Task). IfSome one P) found (All-find P (has_pid pid) tasks all)
+
+-- the policies of a table that agrees with a core keep their limits
+pub policies_of : {Q : Type 0} {g : Ghosts Q} (both : Core Q g × Table) → Agree both → HavePolicies both.1.tasks
+policies_of both agree =
+    All-weaker (IsFit (length both.0.lanes.items)) (λ (t : Task). IsPolicy t.spec.policy) (λ t fit. fit.policy) both.1.tasks agree.tasks
 
 -- ---- stamps
 

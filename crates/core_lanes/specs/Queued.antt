@@ -5,6 +5,7 @@ use Rattle.cs_types.specs.declared.task.Task.{Task}
 use Rattle.cs_types.specs.declared.queue.Queued.{Queued}
 use Rattle.cs_types.specs.Order.{class_of, priority_of, foremost, is_fair, goes_before}
 use Rattle.cs_types.specs.Queue.{queued_of}
+use Rattle.cs_types.specs.Scenario.{IsPolicy}
 use Rattle.cs_types.specs.Room.{has_pid}
 
 -- ---- the tasks of a queue
@@ -34,6 +35,10 @@ HasOwnStamp tasks task =
 pub record AreStamped (next : ℕ) (tasks : List Task) : Type 0 where
   pub below : All (λ task. IsTrue task.queued → task.stamp < next) tasks
   pub distinct : (task : Task) → IsOf tasks task → IsTrue task.queued → HasOwnStamp tasks task
+
+-- the policies of the tasks keep their limits
+abbrev pub HavePolicies : List Task → Type 0
+HavePolicies tasks = All (λ task. IsPolicy task.spec.policy) tasks
 
 -- ---- what is asked of it
 

@@ -21,6 +21,7 @@ use task_table::TaskTable;
 pub fn task_of(table: &TaskTable, pid: Pid) -> Option<Task>
     ensures task { result ≡ find (has_pid pid) table.now.tasks }
     ensures there { IfSome result (IsOf table.now.tasks) }
+    ensures sound { IsTable table.now }
 {
     table.find(pid).copied()
 }

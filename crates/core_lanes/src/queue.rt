@@ -3,7 +3,9 @@
 ghost use Rattle.std.specs.Prelude.{◌≡◌, ◌≢◌, ◌+◌, ◌<◌, ◌≤◌, ◌^◌, ℕ, List, [], length, map, IfOk, IsTrue};
 ghost use Rattle.cs_types.specs.declared.queue.Queued.{Queued};
 ghost use Rattle.cs_types.specs.Order.{first_of};
-ghost use Rattle.core_lanes.specs.Queued.{queued_among, queued_at, others, IsOf, HasOwnStamp, with_cookie, behind, smallest_vtime, has_peer, count_before};
+ghost use Rattle.cs_types.specs.Scenario.{IsPolicy};
+ghost use Rattle.core_lanes.specs.Queued.{queued_among, queued_at, others, IsOf, HasOwnStamp, with_cookie, behind, smallest_vtime, has_peer, count_before, HavePolicies};
+ghost use Rattle.task_table.specs.Table.{IsSound as IsTable};
 
 use arrayvec::ArrayVec;
 use cs_types::{Cookie, Cpu, OutOfMemory, Steps, Task};
@@ -31,6 +33,7 @@ pub trait SiblingQueue: Drop {
 
     /// The task, which the table has queued on the sibling, enters.
     fn put<L: Ledger>(&mut self, table: &TaskTable, cpu: Cpu, task: &Task, steps: &mut Steps<L>)
+        requires table { IsTable table.now }
         requires there { IsOf table.now.tasks task.now }
         requires queued { IsTrue task.now.queued }
         requires home { task.now.home ≡ cpu }
@@ -40,6 +43,7 @@ pub trait SiblingQueue: Drop {
 
     /// The task, which the table has queued on the sibling, leaves.
     fn take<L: Ledger>(&mut self, table: &TaskTable, cpu: Cpu, task: &Task, steps: &mut Steps<L>)
+        requires table { IsTable table.now }
         requires there { IsOf table.now.tasks task.now }
         requires queued { IsTrue task.now.queued }
         requires home { task.now.home ≡ cpu }
@@ -48,7 +52,8 @@ pub trait SiblingQueue: Drop {
 
     /// The first task, `None` where there is none (`pick_task`).
     fn first<L: Ledger>(&self, table: &TaskTable, cpu: Cpu, steps: &mut Steps<L>) -> Option<Task>
-        requires { holds self.now table.now.limit (queued_at table.now.tasks cpu) }
+        requires policies { HavePolicies table.now.tasks }
+        requires holds { holds self.now table.now.limit (queued_at table.now.tasks cpu) }
         ensures { result ≡ first_of (queued_among table.now.tasks cpu) };
 
     /// The first task with the cookie, which is not 0 (`sched_core_find`).
@@ -60,6 +65,7 @@ pub trait SiblingQueue: Drop {
         steps: &mut Steps<L>,
     ) -> Option<Task>
         requires cookie { cookie ≢ 0 }
+        requires policies { HavePolicies table.now.tasks }
         requires holds { holds self.now table.now.limit (queued_at table.now.tasks cpu) }
         ensures { result ≡ first_of (with_cookie cookie (queued_among table.now.tasks cpu)) };
 
@@ -72,6 +78,8 @@ pub trait SiblingQueue: Drop {
         steps: &mut Steps<L>,
     ) -> Option<Task>
         requires cookie { task.now.cookie ≢ 0 }
+        requires policy { IsPolicy task.now.spec.policy }
+        requires policies { HavePolicies table.now.tasks }
         requires holds { holds self.now table.now.limit (queued_at table.now.tasks cpu) }
         ensures { result ≡ first_of (behind task.now (with_cookie task.now.cookie (queued_among table.now.tasks cpu))) };
 
@@ -85,8 +93,7 @@ pub trait SiblingQueue: Drop {
         requires { holds self.now table.now.limit (queued_at table.now.tasks cpu) }
         ensures { result ≡ smallest_vtime (queued_among table.now.tasks cpu) };
 
-    /// Whether there is another task of the class of this one, which is one of the queue, and among real-time
-    /// tasks one of its priority.
+    /// Whether there is another task of the class of this one, and among real-time tasks one of its priority.
     fn has_peer<L: Ledger>(
         &self,
         task: &Task,
@@ -94,11 +101,13 @@ pub trait SiblingQueue: Drop {
         cpu: Cpu,
         steps: &mut Steps<L>,
     ) -> bool
+        requires there { IsOf table.now.tasks task.now }
+        requires policies { HavePolicies table.now.tasks }
         requires holds { holds self.now table.now.limit (queued_at table.now.tasks cpu) }
         ensures { result ≡ has_peer task.now (queued_among table.now.tasks cpu) };
 
     /// How many tasks there are (`nr_running`).
-    fn count(&self, table: &TaskTable, cpu: Cpu) -> u16
+    fn count(&self, table: &TaskTable, cpu: Cpu) -> u32
         requires { holds self.now table.now.limit (queued_at table.now.tasks cpu) }
         ensures { result ≡ length (queued_among table.now.tasks cpu) };
 

@@ -70,7 +70,7 @@ module _ {K X : Type 0} (R : K → K → Ordering) (es : List (K × X)) (rising 
 
 -- ---- the foremost of a list, from its end
 
-find_cons : {X : Type 0} (p : X → Bool) (x : X) (xs : List X) → p x ≡ false → find p (x ∷ xs) ≡ find p xs
+pub find_cons : {X : Type 0} (p : X → Bool) (x : X) (xs : List X) → p x ≡ false → find p (x ∷ xs) ≡ find p xs
 find_cons p x xs fail = cond-false (p x) (Some x) (find p xs) fail
 
 -- what is found in a list passes where all of the list does
@@ -99,7 +99,7 @@ and_swap false false = refl
 
 module _ {X : Type 0} (lt : X → X → Bool) (order : IsStrictWeakOrder lt) where
   -- one more element at the start is the foremost, unless the foremost of the others goes before it
-  foremost-cons : (x : X) (xs : List X) → foremost lt (x ∷ xs) ≡ Some (option_map_or (λ b. cond (lt b x) b x) (foremost lt xs) x)
+  pub foremost-cons : (x : X) (xs : List X) → foremost lt (x ∷ xs) ≡ Some (option_map_or (λ b. cond (lt b x) b x) (foremost lt xs) x)
   foremost-cons x xs = by_rest (foremost lt xs) refl where
     by_rest : (o : Option X) → foremost lt xs ≡ o → foremost lt (x ∷ xs) ≡ Some (option_map_or (λ b. cond (lt b x) b x) o x)
     by_rest None h =
@@ -132,7 +132,7 @@ module _ {X : Type 0} (lt : X → X → Bool) (order : IsStrictWeakOrder lt) whe
         ]
 
 -- orders that agree on a list have the same foremost in it
-foremost_alike : {X : Type 0} (P : X → Type 0) (lt other_lt : X → X → Bool) → ((x y : X) → P x → P y → lt x y ≡ other_lt x y) →
+pub foremost_alike : {X : Type 0} (P : X → Type 0) (lt other_lt : X → X → Bool) → ((x y : X) → P x → P y → lt x y ≡ other_lt x y) →
     (xs : List X) → AllByRecursion P xs → foremost lt xs ≡ foremost other_lt xs
 foremost_alike P lt other_lt alike xs all =
     find_alike (λ x. list_all (λ other. not (lt other x)) xs) (λ x. list_all (λ other. not (other_lt other x)) xs) xs
@@ -141,7 +141,7 @@ foremost_alike P lt other_lt alike xs all =
     (each_weaker P _ xs (λ other po. ap not (alike other x po px)) all)) all)
 
 -- the foremost of a function's values is the value of the foremost
-foremost-map : {X Y : Type 0} (lt : Y → Y → Bool) (f : X → Y) (xs : List X) →
+pub foremost-map : {X Y : Type 0} (lt : Y → Y → Bool) (f : X → Y) (xs : List X) →
     foremost lt (map f xs) ≡ option_map f (foremost (λ x y. lt (f x) (f y)) xs)
 foremost-map {X} {Y} lt f xs = found xs where
   found : (ys : List X) → find (λ y. list_all (λ other. not (lt other y)) (map f xs)) (map f ys)
@@ -163,10 +163,10 @@ is_lt-turn Greater = refl
 
 module _ {K X : Type 0} {R : K → K → Ordering} (o : IsTotalOrder R) where
   -- whether an entry's key is less than another's
-  abbrev precedes : K × X → K × X → Bool
+  abbrev pub precedes : K × X → K × X → Bool
   precedes a b = is_lt (R a.0 b.0)
 
-  precedes_order : IsStrictWeakOrder precedes
+  pub precedes_order : IsStrictWeakOrder precedes
   precedes_order = ranks_by o (λ (entry : K × X). entry.0)
 
   -- the first of these entries has the value of that one, and its key ties
@@ -289,7 +289,7 @@ higher_by-seats c d e f p q v w s t low_p low_q =
     (λ equal. ap (λ k. higher_by k c f e q p w v) (sym equal) ∙ higher_by-rank_in c f e q p w v low_q low_p ∙ ap (λ k. ltb (rank_in k f q w) (rank_in c e p v)) equal)
 
 -- a task goes before another where its seat is less
-goes_before-seats : (a b : Task) → priority_of a.spec.policy ≤ 99 → priority_of b.spec.policy ≤ 99 →
+pub goes_before-seats : (a b : Task) → priority_of a.spec.policy ≤ 99 → priority_of b.spec.policy ≤ 99 →
     is_lt (seat_cmp (entry_of a).0 (entry_of b).0) ≡ goes_before a b
 goes_before-seats a b low_a low_b =
     is_lt-seat_cmp (entry_of a).0 (entry_of b).0

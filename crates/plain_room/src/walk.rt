@@ -1,9 +1,9 @@
 //! The queue that is none: each question is answered by a walk over the table.
 
-ghost use Rattle.std.specs.Prelude.{◌≡◌, ◌≤◌, ◌==◌, ◌&&◌, length};
-ghost use Rattle.core_lanes.specs.Queued.{queued_among, is_peer_of, count_before};
+ghost use Rattle.std.specs.Prelude.{◌≡◌, ◌==◌, ◌&&◌};
+ghost use Rattle.core_lanes.specs.Queued.{is_peer_of};
 
-use core_lanes::{SiblingQueue, Stamps, goes_before, is_fair, priority_of};
+use core_lanes::{SiblingQueue, Stamps, goes_before, is_fair, new_stamps, priority_of};
 use cs_types::{Cookie, Cpu, OutOfMemory, Steps, Task};
 use std::alloc::Global;
 use std::sync::ledger::Ledger;
@@ -19,17 +19,6 @@ fn is_peer_of(task: &Task, other: &Task) -> bool
 {
     task.spec.policy.class().number() == other.spec.policy.class().number()
         && priority_of(task.spec.policy) == priority_of(other.spec.policy)
-}
-
-/// How many of the tasks queued on the sibling have a smaller stamp than this one.
-fn count_before(table: &TaskTable, cpu: Cpu, stamp: u64) -> u64
-    ensures count { result ≡ count_before (queued_among table.now.tasks cpu) stamp }
-    ensures few { result ≤ length table.now.tasks }
-{
-    table
-        .iter()
-        .filter(|task| task.queued && task.home == cpu && task.stamp < stamp)
-        .count() as u64
 }
 
 impl SiblingQueue for Walk {
@@ -133,19 +122,14 @@ impl SiblingQueue for Walk {
             && is_peer_of(task, other))
     }
 
-    fn count(&self, table: &TaskTable, cpu: Cpu) -> u16 {
+    fn count(&self, table: &TaskTable, cpu: Cpu) -> u32 {
         table
             .iter()
             .filter(|task| task.queued && task.home == cpu)
-            .count() as u16
+            .count() as u32
     }
 
     fn new_stamps(&self, table: &TaskTable, cpu: Cpu, next: u64) -> Stamps {
-        let mut stamps = Stamps::new();
-        for position in 0..table.len() as usize {
-            let task = *table.at(position).unwrap();
-            stamps.push(next + count_before(table, cpu, task.stamp));
-        }
-        stamps
+        new_stamps(table, cpu, next)
     }
 }

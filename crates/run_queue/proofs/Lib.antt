@@ -1,3 +1,4 @@
 mod Seats
 mod Runs
+mod Fair
 pub mod Ties

@@ -1,2 +1,3 @@
 pub mod Classes
 pub mod Run
+pub mod Fair

@@ -8,6 +8,7 @@ ghost use Rattle.cs_types.specs.declared.task.Task.{Task};
 ghost use Rattle.cs_types.specs.Comparisons.{most_comparisons};
 ghost use Rattle.cs_types.specs.Order.{fair_class, priority_of, first_of};
 ghost use Rattle.cs_types.specs.Queue.{seat_of, queue_of, top_of};
+ghost use Rattle.run_queue.specs.Fair.{first_in};
 
 use cs_types::{ClassQueue, OutOfMemory, Pid, Queued, Steps};
 use deadline_queue::DeadlineQueue;
@@ -131,6 +132,14 @@ impl Classes {
         if let Some(pid) = self.real_time.top(steps) {
             return Some(pid);
         }
+        self.fair.top(steps)
+    }
+
+    /// The pid of the first fair task. `None` exactly where there is none.
+    pub fn first_fair<L: Ledger>(&self, steps: &mut Steps<L>) -> Option<Pid>
+        ensures first { result ≡ first_in fair_class self.now.tasks }
+        ensures counted { steps.new ≤ steps.old + most_comparisons (map.len self.now.tasks) }
+    {
         self.fair.top(steps)
     }
 

@@ -5,8 +5,9 @@ ghost use Rattle.std.specs.FinMap as map;
 ghost use Rattle.std.specs.Option.{option_map};
 ghost use Rattle.cs_types.specs.declared.task.Task.{Task};
 ghost use Rattle.cs_types.specs.Comparisons.{most_comparisons};
-ghost use Rattle.cs_types.specs.Order.{priority_of, first_of};
+ghost use Rattle.cs_types.specs.Order.{fair_class, priority_of, first_of};
 ghost use Rattle.cs_types.specs.Queue.{IsRanked, seat_of, spot_of, queue_of, top_of, first_with, next_with};
+ghost use Rattle.run_queue.specs.Fair.{first_in};
 
 use crate::classes::Classes;
 use cookie_queue::CookieQueue;
@@ -138,6 +139,14 @@ impl RunQueue {
         ensures counted { steps.new ≤ steps.old + most_comparisons (map.len self.now.tasks) }
     {
         self.cookies.next_of(task, steps)
+    }
+
+    /// The pid of the first fair task. `None` exactly where there is none.
+    pub fn first_fair<L: Ledger>(&self, steps: &mut Steps<L>) -> Option<Pid>
+        ensures first { result ≡ first_in fair_class self.now.tasks }
+        ensures counted { steps.new ≤ steps.old + most_comparisons (map.len self.now.tasks) }
+    {
+        self.classes.first_fair(steps)
     }
 
     /// How many tasks there are.

@@ -1,13 +1,15 @@
 use Rattle.std.proofs.Common.{◌≡◌, ℕ, ◌<◌, List, ap, sym, subst, ◌∙◌, Option}
 use Rattle.std.specs.Prelude.{filter, Contains}
 use Rattle.cs_types.specs.declared.task.Task.{Task}
+use Rattle.cs_types.specs.Scenario.{IsPolicy}
 use Rattle.cs_types.specs.Room.{SiblingState}
 use Rattle.cs_types.specs.Order.{goes_before, first_of}
 use Rattle.cs_types.specs.Steal.{may_steal}
 use Rattle.cs_types.proofs.First.{goes_before_is_order}
 use Rattle.core_lanes.specs.Queued.{behind}
 use Rattle.core_lanes.specs.Lanes.{lane_state}
-use Rattle.core_lanes.proofs.Stays.{lane_at}
+use Rattle.core_lanes.proofs.Stays.{lane_at, policies_of, found_in}
+use Rattle.core_lanes.proofs.Queues.{is_of}
 use Rattle.cookie_steal.proofs.Enumerated.{IsLeft, to_go, left_first, left_next, left_found, left_none, to_go_falls}
 use Rattle.cookie_steal.proofs.Candidates.{candidates, candidate_parts, no_two_tie}
 use Rattle.cookie_steal.proofs.Steals.{queue_at}
@@ -51,6 +53,22 @@ next_with-next-requires-clause-cookie g c =
     let may = may_steal (lane_state c.index-idle.result.now) (lane_state c.index-from.result.now) in
     let left = subst (IsLeft goes_before (candidates core.cookie c.args.source tasks) may) c.in-Some.is c.loop-next.invariant in
     λ zero. c.requires.cookie (sym (candidate_parts core.cookie c.args.source tasks c.in-Some.task left.0).2 ∙ zero)
+
+pub first_with-next-requires-clause-policies : goal.first_with-next-requires-clause-policies
+first_with-next-requires-clause-policies g c = policies_of (c.args.core.now, c.args.table.now) c.requires.agree
+
+pub next_with-next-requires-clause-policies : goal.next_with-next-requires-clause-policies
+next_with-next-requires-clause-policies g c = policies_of (c.args.core.now, c.args.table.now) c.requires.agree
+
+pub next_with-next-requires-clause-policy : goal.next_with-next-requires-clause-policy
+next_with-next-requires-clause-policy g c =
+    let core = c.args.core.now in
+    let table = c.args.table.now in
+    let task = c.in-Some.task in
+    let may = may_steal (lane_state c.index-idle.result.now) (lane_state c.index-from.result.now) in
+    let left = subst (IsLeft goes_before (candidates core.cookie c.args.source table.tasks) may) c.in-Some.is c.loop-next.invariant in
+    found_in (λ (t : Task). IsPolicy t.spec.policy) task.spec.pid table.tasks task (policies_of (core, table) c.requires.agree)
+    (is_of table.tasks task c.requires.agree.table.rising (candidate_parts core.cookie c.args.source table.tasks task left.0).0)
 
 pub next_with-next-requires-clause-holds : goal.next_with-next-requires-clause-holds
 next_with-next-requires-clause-holds g c =

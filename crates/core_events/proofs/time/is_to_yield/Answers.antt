@@ -6,13 +6,13 @@ use Rattle.cs_types.specs.Room.{RoomState, SiblingState, sibling_of}
 use Rattle.cs_types.specs.Order.{is_fair}
 use Rattle.cs_types.specs.Time.{others_on, is_to_yield, patience}
 use Rattle.core_lanes.specs.Lanes.{room_of}
-use Rattle.core_lanes.proofs.Stays.{lane_at}
+use Rattle.core_lanes.proofs.Stays.{lane_at, policies_of}
 use Rattle.core_events.proofs.Peers.{fair_peers}
 use Rattle.core_events.proofs.Changes.{held_at}
 use Rattle.core_events.proofs.time.is_to_yield.Goals as goal
 
 pub has_peer-requires : goal.has_peer-requires
-has_peer-requires g c = record { holds = held_at (c.args.core.now, c.args.table.now) c.args.cpu c.index-lane.result.now c.requires.agree c.requires.cpu c.index-lane.ensures }
+has_peer-requires g c = record { there = c.requires.there; policies = policies_of (c.args.core.now, c.args.table.now) c.requires.at.agree; holds = held_at (c.args.core.now, c.args.table.now) c.args.cpu c.index-lane.result.now c.requires.at.agree c.requires.at.cpu c.index-lane.ensures }
 
 -- a fair task that has run so long while a sibling is forced idle is to yield where no other fair one is there
 where_alone : (room : RoomState) (cpu : ℕ) (task : Task) → is_fair task ≡ true → (room.forced == 0) ≡ false → ltb (sibling_of room cpu).ran patience ≡ false →
@@ -30,6 +30,6 @@ returns-then-lane-ge-PATIENCE g c beside =
     let fair : is_fair task ≡ true = search rules in
     let forced : (c.args.core.now.account.count == 0) ≡ false = search rules in
     let ran : ltb c.index-lane.result.now.ran patience ≡ false = search rules in
-    let here = lane_at c.args.core.now.lanes.items c.args.cpu c.index-lane.result.now c.requires.cpu c.index-lane.ensures in
+    let here = lane_at c.args.core.now.lanes.items c.args.cpu c.index-lane.result.now c.requires.at.cpu c.index-lane.ensures in
     ap not (c.has_peer.ensures ∙ fair_peers room c.args.cpu task fair)
     ∙ sym (where_alone room c.args.cpu task fair forced (ap (λ (sibling : SiblingState). ltb sibling.ran patience) here ∙ ran))

@@ -3,12 +3,13 @@ use Rattle.std.specs.Prelude.{◌&&◌}
 use Rattle.std.specs.List.{list_any}
 use Rattle.cs_types.specs.Time.{is_peer, others_on}
 use Rattle.core_lanes.specs.Lanes.{room_of}
+use Rattle.core_lanes.proofs.Stays.{policies_of}
 use Rattle.core_events.proofs.Peers.{rr_peers}
 use Rattle.core_events.proofs.Changes.{held_at}
 use Rattle.core_events.proofs.time.rotates.Goals as goal
 
 pub has_peer-requires : goal.has_peer-requires
-has_peer-requires g c = record { holds = held_at (c.args.core.now, c.args.table.now) c.args.cpu c.index.result.now c.requires.agree c.requires.cpu c.index.ensures }
+has_peer-requires g c = record { there = c.requires.there; policies = policies_of (c.args.core.now, c.args.table.now) c.requires.at.agree; holds = held_at (c.args.core.now, c.args.table.now) c.args.cpu c.index.result.now c.requires.at.agree c.requires.at.cpu c.index.ensures }
 
 pub returns-else-has_used_slice : goal.returns-else-has_used_slice
 returns-else-has_used_slice g c beside =

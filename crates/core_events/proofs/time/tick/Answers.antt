@@ -20,8 +20,8 @@ running_on-requires g c = still_below c.charge.ensures.charges.stays c.requires.
 
 pub rotates-rotates-requires : goal.rotates-rotates-requires
 rotates-rotates-requires g c = record {
-  cpu = still_below c.charge.ensures.charges.stays c.requires.at.cpu;
-  agree = c.charge.ensures.charges.stays.agree c.requires.at.agree;
+  at = record { cpu = still_below c.charge.ensures.charges.stays c.requires.at.cpu; agree = c.charge.ensures.charges.stays.agree c.requires.at.agree };
+  there = c.in-Some.ensures.there;
 }
 
 pub asks_at_tick-asks-requires : goal.asks_at_tick-asks-requires

@@ -5,7 +5,7 @@ use Rattle.std.proofs.lemmas.List.{take_more, map_push}
 use Rattle.std.proofs.lemmas.Option.{slice_get-get_or}
 use Rattle.cs_types.specs.declared.task.Task.{Task}
 use Rattle.core_lanes.specs.Queued.{queued_among, count_before}
-use Rattle.plain_room.proofs.walk.WalkSiblingQueue.new_stamps.Goals as goal
+use Rattle.core_lanes.proofs.stamps.new_stamps.Goals as goal
 
 pub push-requires : goal.push-requires
 push-requires c =

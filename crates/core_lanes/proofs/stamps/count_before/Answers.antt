@@ -5,7 +5,7 @@ use Rattle.std.proofs.lemmas.List.Sums.{length-filter}
 use Rattle.cs_types.specs.declared.task.Task.{Task}
 use Rattle.core_lanes.specs.Queued.{queued_among}
 use Rattle.core_lanes.proofs.Lists.{filter-filter}
-use Rattle.plain_room.proofs.walk.count_before.Goals as goal
+use Rattle.core_lanes.proofs.stamps.count_before.Goals as goal
 
 pub returns-clause-count : goal.returns-clause-count
 returns-clause-count c =

@@ -2,7 +2,7 @@ use Rattle.std.proofs.Common.{◌≡◌, ◌+◌, map, take}
 use Rattle.arrayvec.specs.ArrayVec.{array_vec_len}
 use Rattle.cs_types.specs.declared.task.Task.{Task}
 use Rattle.core_lanes.specs.Queued.{queued_among, count_before}
-use Rattle.plain_room.proofs.walk.WalkSiblingQueue.new_stamps.Given as goal
+use Rattle.core_lanes.proofs.stamps.new_stamps.Given as goal
 
 abbrev pub invariant-loop-position : goal.invariant-loop-position
 invariant-loop-position l =
