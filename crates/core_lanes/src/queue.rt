@@ -90,7 +90,8 @@ pub trait SiblingQueue: Drop {
         cpu: Cpu,
         steps: &mut Steps<L>,
     ) -> Option<u128>
-        requires { holds self.now table.now.limit (queued_at table.now.tasks cpu) }
+        requires policies { HavePolicies table.now.tasks }
+        requires holds { holds self.now table.now.limit (queued_at table.now.tasks cpu) }
         ensures { result ≡ smallest_vtime (queued_among table.now.tasks cpu) };
 
     /// Whether there is another task of the class of this one, and among real-time tasks one of its priority.
@@ -101,6 +102,7 @@ pub trait SiblingQueue: Drop {
         cpu: Cpu,
         steps: &mut Steps<L>,
     ) -> bool
+        requires table { IsTable table.now }
         requires there { IsOf table.now.tasks task.now }
         requires policies { HavePolicies table.now.tasks }
         requires holds { holds self.now table.now.limit (queued_at table.now.tasks cpu) }

@@ -9,12 +9,13 @@ use Rattle.cs_types.specs.Time.{others_on, is_overtaken}
 use Rattle.task_table.specs.Table.{Rises}
 use Rattle.core_lanes.specs.Queued.{IsOf, smallest_vtime}
 use Rattle.core_lanes.specs.Lanes.{room_of}
+use Rattle.core_lanes.proofs.Stays.{policies_of}
 use Rattle.core_events.proofs.Peers.{overtaken_by}
 use Rattle.core_events.proofs.Changes.{held_at}
 use Rattle.core_events.proofs.time.is_overtaken.Goals as goal
 
 pub smallest_vtime-requires : goal.smallest_vtime-requires
-smallest_vtime-requires g c = held_at (c.args.core.now, c.args.table.now) c.args.cpu c.index.result.now c.requires.at.agree c.requires.at.cpu c.index.ensures
+smallest_vtime-requires g c = record { policies = policies_of (c.args.core.now, c.args.table.now) c.requires.at.agree; holds = held_at (c.args.core.now, c.args.table.now) c.args.cpu c.index.result.now c.requires.at.agree c.requires.at.cpu c.index.ensures }
 
 pub returns-then-not-is_fair : goal.returns-then-not-is_fair
 returns-then-not-is_fair g c beside =

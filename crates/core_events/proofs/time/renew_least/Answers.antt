@@ -3,7 +3,7 @@ use Rattle.std.specs.Prelude.{List}
 use Rattle.std.proofs.lemmas.List.{map-set, length-set}
 use Rattle.cs_types.specs.Room.{RoomState, SiblingState, with_sibling}
 use Rattle.core_lanes.specs.Lanes.{lane_state, room_of}
-use Rattle.core_lanes.proofs.Stays.{lane_at, numbers_kept, queues_kept, alike_stays}
+use Rattle.core_lanes.proofs.Stays.{policies_of, lane_at, numbers_kept, queues_kept, alike_stays}
 use Rattle.core_events.proofs.Clocks.{least_is}
 use Rattle.core_events.proofs.Changes.{held_at}
 use Rattle.core_events.proofs.time.renew_least.Goals as goal
@@ -30,7 +30,7 @@ returns-in_default g c =
     }
 
 pub smallest_vtime-requires : goal.smallest_vtime-requires
-smallest_vtime-requires g c = held_at (c.args.core.now, c.args.table.now) c.args.cpu c.index_mut-lane.result.now c.requires.agree c.requires.cpu c.index_mut-lane.ensures.value
+smallest_vtime-requires g c = record { policies = policies_of (c.args.core.now, c.args.table.now) c.requires.agree; holds = held_at (c.args.core.now, c.args.table.now) c.args.cpu c.index_mut-lane.result.now c.requires.agree c.requires.cpu c.index_mut-lane.ensures.value }
 
 pub returns-in-Some : goal.returns-in-Some
 returns-in-Some g c =

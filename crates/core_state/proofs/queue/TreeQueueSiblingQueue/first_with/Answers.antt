@@ -1,0 +1,31 @@
+use Rattle.std.proofs.Common.{◌≡◌, Option, List, None, ap, sym, ◌∙◌}
+use Rattle.std.specs.Prelude.{◌==◌}
+use Rattle.std.specs.Option.{option_map}
+use Rattle.std.proofs.lemmas.List.Elements.{recursion_from_All}
+use Rattle.cs_types.specs.Order.{first_of}
+use Rattle.cs_types.specs.Queue.{Spots, queued_of, first_with}
+use Rattle.core_lanes.specs.Queued.{queued_among, with_cookie}
+use Rattle.core_state.proofs.Asked.{IsLow, low_among, first_with-spotted, found_first, none_of, pid_of_some, some_by}
+use Rattle.core_state.proofs.queue.TreeQueueSiblingQueue.first_with.Goals as goal
+
+pub returns-in_err-first_of : goal.returns-in_err-first_of
+returns-in_err-first_of g c =
+    let tasks = c.args.table.now.tasks in
+    let queued = queued_among tasks c.args._cpu in
+    let low = recursion_from_All IsLow queued (low_among tasks c.args._cpu c.requires.policies) in
+    c.from_residual.ensures
+    ∙ none_of (first_of (with_cookie c.args.cookie queued))
+    (sym c.in_err-first_of.was ∙ c.first_of.ensures.first ∙ ap (λ (spots : Spots). first_with spots c.args.cookie) c.requires.holds.trees.spots
+    ∙ first_with-spotted queued low c.args.cookie c.requires.cookie)
+
+pub returns : goal.returns
+returns g c =
+    let tasks = c.args.table.now.tasks in
+    let queued = queued_among tasks c.args._cpu in
+    let low = recursion_from_All IsLow queued (low_among tasks c.args._cpu c.requires.policies) in
+    let first = first_of (with_cookie c.args.cookie queued) in
+    c.task_of.ensures.task
+    ∙ some_by tasks c.in_ok-first_of.field-0.pid first (found_first tasks c.args._cpu (λ task. task.cookie == c.args.cookie) c.task_of.ensures.sound.rising)
+    (pid_of_some c.in_ok-first_of.field-0 first
+    (sym c.in_ok-first_of.was ∙ c.first_of.ensures.first ∙ ap (λ (spots : Spots). first_with spots c.args.cookie) c.requires.holds.trees.spots
+    ∙ first_with-spotted queued low c.args.cookie c.requires.cookie))

@@ -1,0 +1,42 @@
+use Rattle.std.proofs.Common.{◌≡◌, Option, List, None, ap, sym, ◌∙◌, subst}
+use Rattle.std.specs.Prelude.{◌==◌, ◌&&◌}
+use Rattle.std.specs.Option.{option_map}
+use Rattle.std.proofs.lemmas.List.Elements.{recursion_from_All}
+use Rattle.cs_types.specs.declared.queue.Queued.{Queued}
+use Rattle.cs_types.specs.declared.task.Task.{Task}
+use Rattle.cs_types.specs.Order.{goes_before, first_of}
+use Rattle.cs_types.specs.Queue.{Spots, IsRanked, queued_of, next_with}
+use Rattle.core_lanes.specs.Queued.{queued_among, with_cookie, behind}
+use Rattle.core_lanes.proofs.Lists.{filter-filter}
+use Rattle.core_state.proofs.Tasks.{is_ranked, low_priority}
+use Rattle.core_state.proofs.Asked.{IsLow, low_among, next_with-spotted, found_behind, none_of, pid_of_some, some_by}
+use Rattle.core_state.proofs.queue.TreeQueueSiblingQueue.next_with.Goals as goal
+
+pub next_of-requires : goal.next_of-requires
+next_of-requires g c = subst IsRanked (sym c.queued_of.ensures) (is_ranked c.args.task.now)
+
+pub returns-in_err-next_of : goal.returns-in_err-next_of
+returns-in_err-next_of g c =
+    let task = c.args.task.now in
+    let tasks = c.args.table.now.tasks in
+    let queued = queued_among tasks c.args._cpu in
+    let low = recursion_from_All IsLow queued (low_among tasks c.args._cpu c.requires.policies) in
+    c.from_residual.ensures
+    ∙ none_of (first_of (behind task (with_cookie task.cookie queued)))
+    (sym c.in_err-next_of.was ∙ c.next_of.ensures.next
+    ∙ (λ i. next_with (c.requires.holds.trees.spots i) (c.queued_of.ensures i))
+    ∙ next_with-spotted queued low task (low_priority task.spec.policy c.requires.policy) c.requires.cookie)
+
+pub returns : goal.returns
+returns g c =
+    let task = c.args.task.now in
+    let tasks = c.args.table.now.tasks in
+    let queued = queued_among tasks c.args._cpu in
+    let low = recursion_from_All IsLow queued (low_among tasks c.args._cpu c.requires.policies) in
+    let first = first_of (behind task (with_cookie task.cookie queued)) in
+    c.task_of.ensures.task
+    ∙ some_by tasks c.in_ok-next_of.field-0.pid first (found_behind tasks c.args._cpu task c.task_of.ensures.sound.rising)
+    (pid_of_some c.in_ok-next_of.field-0 first
+    (sym c.in_ok-next_of.was ∙ c.next_of.ensures.next
+    ∙ (λ i. next_with (c.requires.holds.trees.spots i) (c.queued_of.ensures i))
+    ∙ next_with-spotted queued low task (low_priority task.spec.policy c.requires.policy) c.requires.cookie))

@@ -1,0 +1,65 @@
+use Rattle.std.proofs.Common.{◌≡◌, ◌<◌, List, length, cond, ap, sym, ◌∙◌, subst, arith}
+use Rattle.std.specs.Prelude.{◌==◌}
+use Rattle.std.specs.FinMap as fin
+use Rattle.cs_types.specs.declared.queue.Queued.{Queued}
+use Rattle.cs_types.specs.Queue.{Seats, IsRanked, seat_of, spot_of, queued_of}
+use Rattle.core_lanes.specs.Queued.{queued_at, others}
+use Rattle.core_state.proofs.Tasks.{is_ranked}
+use Rattle.core_state.proofs.Splits.{length-split, split_at, few_queued, others_apart}
+use Rattle.core_state.proofs.Counts.{counted-put, few-put}
+use Rattle.core_state.proofs.Held.{free_seat, Holds-put}
+use Rattle.core_state.proofs.queue.TreeQueueSiblingQueue.put.Goals as goal
+
+pub enqueue-requires-clause-ranked : goal.enqueue-requires-clause-ranked
+enqueue-requires-clause-ranked g c = subst IsRanked (sym c.queued_of.ensures) (is_ranked c.args.task.now)
+
+pub enqueue-requires-clause-spare : goal.enqueue-requires-clause-spare
+enqueue-requires-clause-spare g c =
+    let task = c.args.task.now in
+    let tasks = c.args._table.now.tasks in
+    let all = queued_at tasks c.args._cpu in
+    let rest = others task.spec.pid all in
+    let long = length-split (queued_of task) all rest (split_at tasks task c.args._cpu c.requires.table.rising c.requires.there c.requires.queued c.requires.home) in
+    omega (arith, long, few_queued tasks c.args._cpu, c.requires.table.few, c.requires.holds.trees.room)
+
+pub enqueue-requires-clause-free : goal.enqueue-requires-clause-free
+enqueue-requires-clause-free g c =
+    let task = c.args.task.now in
+    let tasks = c.args._table.now.tasks in
+    let all = queued_at tasks c.args._cpu in
+    let rest = others task.spec.pid all in
+    ap (λ (queued : Queued). fin.get c.args.self.now.run.tasks (seat_of queued)) c.queued_of.ensures
+    ∙ ap (λ (seats : Seats). fin.get seats (seat_of (queued_of task))) c.requires.holds.trees.seats
+    ∙ free_seat (queued_of task) all rest (split_at tasks task c.args._cpu c.requires.table.rising c.requires.there c.requires.queued c.requires.home)
+    (others_apart tasks task c.args._cpu c.requires.table.rising c.requires.stamp)
+
+pub returns : goal.returns
+returns g c =
+    let task = c.args.task.now in
+    let tasks = c.args._table.now.tasks in
+    let all = queued_at tasks c.args._cpu in
+    let rest = others task.spec.pid all in
+    let old = c.args.self.now.run in
+    record {
+      trees = Holds-put (queued_of task) all rest
+          (split_at tasks task c.args._cpu c.requires.table.rising c.requires.there c.requires.queued c.requires.home)
+          (others_apart tasks task c.args._cpu c.requires.table.rising c.requires.stamp)
+          old c.enqueue.new.self c.args._table.now.limit c.requires.holds.trees
+          (c.enqueue.ensures.tasks ∙ ap (λ (queued : Queued). fin.insert old.tasks (seat_of queued) queued.pid) c.queued_of.ensures)
+          (c.enqueue.ensures.cookies
+          ∙ ap (λ (queued : Queued). cond (queued.cookie == 0) old.cookies (fin.insert old.cookies (spot_of queued) queued.pid)) c.queued_of.ensures)
+          c.enqueue.ensures.spare;
+      counts = counted-put (queued_of task) all rest
+          (split_at tasks task c.args._cpu c.requires.table.rising c.requires.there c.requires.queued c.requires.home)
+          c.args.self.now.kinds c.kind_of.result c.kind_of.ensures.kind c.kind_of.ensures.few c.requires.holds.counts;
+    }
+
+pub overflow_add-self : goal.overflow_add-self
+overflow_add-self g c =
+    let task = c.args.task.now in
+    let tasks = c.args._table.now.tasks in
+    let all = queued_at tasks c.args._cpu in
+    let few = few-put (queued_of task) all (others task.spec.pid all)
+    (split_at tasks task c.args._cpu c.requires.table.rising c.requires.there c.requires.queued c.requires.home)
+    c.args.self.now.kinds c.kind_of.result c.kind_of.ensures.kind c.kind_of.ensures.few c.requires.holds.counts in
+    omega (arith, few, few_queued tasks c.args._cpu, c.requires.table.few, c.requires.table.limit)

@@ -1,0 +1,9 @@
+//! The fast machine: the queues of its siblings are ordered trees.
+#![tactic(auto)]
+
+mod queue;
+mod room;
+mod task;
+
+pub use queue::TreeQueue;
+pub use room::CoreState;

@@ -1,0 +1,101 @@
+//! The queue with trees: each question is answered from the ordered trees of a run queue, and the table tells the
+//! task of a pid.
+
+use crate::task::{KINDS, is_on, kind_of, queued_of};
+use core_lanes::{SiblingQueue, Stamps, new_stamps, task_of};
+use cs_types::{Cookie, Cpu, OutOfMemory, Steps, Task};
+use run_queue::RunQueue;
+use std::alloc::Global;
+use std::sync::ledger::Ledger;
+use task_table::TaskTable;
+
+/// The queued tasks of a sibling in ordered trees, and how many there are of each kind.
+#[derive(Drop)]
+pub struct TreeQueue {
+    run: RunQueue,
+    kinds: [u16; KINDS],
+}
+
+impl SiblingQueue for TreeQueue {
+    ghost use Rattle.core_state.specs.Held.{Keeps};
+
+    ghost holds = { λ queue most tasks. Keeps queue.run queue.kinds most tasks };
+
+    fn with_capacity(alloc: Global, most: u16) -> Result<TreeQueue, OutOfMemory> {
+        let mut run = RunQueue::empty(alloc);
+        run.reserve(u32::from(most))?;
+        Ok(TreeQueue {
+            run,
+            kinds: [0; KINDS],
+        })
+    }
+
+    fn put<L: Ledger>(&mut self, _table: &TaskTable, _cpu: Cpu, task: &Task, steps: &mut Steps<L>) {
+        self.run.enqueue(queued_of(task), steps);
+        self.kinds[kind_of(task)] += 1;
+    }
+
+    fn take<L: Ledger>(
+        &mut self,
+        _table: &TaskTable,
+        _cpu: Cpu,
+        task: &Task,
+        steps: &mut Steps<L>,
+    ) {
+        self.run.dequeue(&queued_of(task), steps);
+        self.kinds[kind_of(task)] -= 1;
+    }
+
+    fn first<L: Ledger>(&self, table: &TaskTable, _cpu: Cpu, steps: &mut Steps<L>) -> Option<Task> {
+        task_of(table, self.run.first(steps)?)
+    }
+
+    fn first_with<L: Ledger>(
+        &self,
+        cookie: Cookie,
+        table: &TaskTable,
+        _cpu: Cpu,
+        steps: &mut Steps<L>,
+    ) -> Option<Task> {
+        task_of(table, self.run.first_of(cookie, steps)?.pid)
+    }
+
+    fn next_with<L: Ledger>(
+        &self,
+        task: &Task,
+        table: &TaskTable,
+        _cpu: Cpu,
+        steps: &mut Steps<L>,
+    ) -> Option<Task> {
+        task_of(table, self.run.next_of(&queued_of(task), steps)?.pid)
+    }
+
+    fn smallest_vtime<L: Ledger>(
+        &self,
+        table: &TaskTable,
+        _cpu: Cpu,
+        steps: &mut Steps<L>,
+    ) -> Option<u128> {
+        let first = task_of(table, self.run.first_fair(steps)?)?;
+        Some(first.vtime)
+    }
+
+    fn has_peer<L: Ledger>(
+        &self,
+        task: &Task,
+        _table: &TaskTable,
+        cpu: Cpu,
+        _steps: &mut Steps<L>,
+    ) -> bool {
+        let own = u16::from(is_on(task, cpu));
+        self.kinds[kind_of(task)] > own
+    }
+
+    fn count(&self, _table: &TaskTable, _cpu: Cpu) -> u32 {
+        self.run.count()
+    }
+
+    fn new_stamps(&self, table: &TaskTable, cpu: Cpu, next: u64) -> Stamps {
+        new_stamps(table, cpu, next)
+    }
+}

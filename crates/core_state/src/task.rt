@@ -1,0 +1,57 @@
+//! A task as a queue takes it. It is apart, since it alone knows the ranks of the classes.
+
+ghost use Rattle.std.specs.Prelude.{◌≡◌, ◌<◌, ◌==◌, ◌&&◌};
+ghost use Rattle.cs_types.specs.Queue.{rank_by, queued_of};
+ghost use Rattle.core_state.specs.Kinds.{kind_of};
+
+use cs_types::{Cpu, Policy, Queued, Task};
+
+/// Whether the task is queued on the sibling.
+pub fn is_on(task: &Task, cpu: Cpu) -> bool
+    ensures { result ≡ (task.now.queued && task.now.home == cpu) }
+{
+    task.queued && task.home == cpu
+}
+
+/// The number of kinds: 4 classes, and 100 ranks of real-time tasks.
+pub const KINDS: usize = 104;
+
+/// The kind of the task: its class, and of a real-time task its rank.
+pub fn kind_of(task: &Task) -> usize
+    ensures kind { result ≡ kind_of (queued_of task.now) }
+    ensures few { result < 104 }
+{
+    match task.spec.policy {
+        Policy::Stop => 0,
+        Policy::Deadline(_) => 1,
+        Policy::Fifo(priority) | Policy::Rr(priority) => {
+            4 + usize::from(99u8.saturating_sub(priority))
+        }
+        Policy::Fair(_) => 3,
+    }
+}
+
+/// The rank of the task in its class.
+fn rank_of(task: &Task) -> u128
+    ensures { result ≡ rank_by task.now.spec.policy task.now.deadline task.now.vtime }
+{
+    match task.spec.policy {
+        Policy::Stop => 0,
+        Policy::Deadline(_) => deadline_queue::rank(task.deadline),
+        Policy::Fifo(priority) | Policy::Rr(priority) => rt_queue::rank(priority),
+        Policy::Fair(_) => fair_queue::rank(task.vtime),
+    }
+}
+
+/// The task as a run queue takes it.
+pub fn queued_of(task: &Task) -> Queued
+    ensures { result ≡ queued_of task.now }
+{
+    Queued {
+        pid: task.spec.pid,
+        class: task.spec.policy.class().number(),
+        rank: rank_of(task),
+        stamp: task.stamp,
+        cookie: task.cookie,
+    }
+}
