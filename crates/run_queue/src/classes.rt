@@ -132,7 +132,7 @@ impl Classes {
         if let Some(pid) = self.real_time.top(steps) {
             return Some(pid);
         }
-        self.fair.top(steps)
+        self.first_fair(steps)
     }
 
     /// The pid of the first fair task. `None` exactly where there is none.

@@ -6,6 +6,7 @@ use Rattle.cs_types.specs.Order.{priority_of, first_of}
 use Rattle.cs_types.specs.Queue.{top_of, Seats, queue_of}
 use Rattle.cs_types.proofs.Queues.{top_of-queue_of}
 use Rattle.run_queue.proofs.Runs.{most_comparisons-ranked_in}
+use Rattle.run_queue.proofs.Fair.{first_in-joined}
 use Rattle.run_queue.proofs.Seats.{top_of-stop, top_of-deadline, top_of-real_time, top_of-fair}
 use Rattle.run_queue.proofs.classes.Classes.first.Goals as goal
 
@@ -37,8 +38,11 @@ returns-in-Some-top-2-clause-model g c = model _ _ (returns-in-Some-top-2-clause
 
 pub returns-clause-first : goal.returns-clause-first
 returns-clause-first g c =
+    let queue = c.self.inside in
+    let told = rw (← c.self.view_is) at c.first_fair.ensures.first in
+    let fair = told ∙ first_in-joined queue.stop.members queue.deadline.members queue.real_time.members queue.fair.members in
     rw (← c.self.view_is)
-    (sym (top_of-fair c.self.inside.stop.members c.self.inside.deadline.members c.self.inside.real_time.members c.self.inside.fair.members c.top-4.result (sym c.in_default.ensures.top) (sym c.in_default-top.ensures.top) (sym c.in_default-top-2.ensures.top) (sym c.top-4.ensures.top)))
+    (sym (top_of-fair queue.stop.members queue.deadline.members queue.real_time.members queue.fair.members c.first_fair.result (sym c.in_default.ensures.top) (sym c.in_default-top.ensures.top) (sym c.in_default-top-2.ensures.top) (sym fair)))
 
 pub returns-clause-model : goal.returns-clause-model
 returns-clause-model g c = model _ _ (returns-clause-first g c)
@@ -66,5 +70,5 @@ returns-clause-counted g c =
     let most_0 = most_comparisons-ranked_in c.self.inside 0 in
     let most_1 = most_comparisons-ranked_in c.self.inside 1 in
     let most_2 = most_comparisons-ranked_in c.self.inside 2 in
-    let most_3 = most_comparisons-ranked_in c.self.inside 3 in
-    rw (← c.self.view_is) (omega (arith, c.top.ensures.counted, c.top-2.ensures.counted, c.top-3.ensures.counted, c.top-4.ensures.counted))
+    let last = rw (← c.self.view_is) at c.first_fair.ensures.counted in
+    rw (← c.self.view_is) (omega (arith, c.top.ensures.counted, c.top-2.ensures.counted, c.top-3.ensures.counted, last))
