@@ -1,6 +1,6 @@
 //! What a sibling's queue is asked. It is a trait, so that one text of the events serves every kind of queue.
 
-ghost use Rattle.std.specs.Prelude.{◌≡◌, ◌≢◌, ◌+◌, ◌<◌, ◌≤◌, ◌^◌, ℕ, List, [], length, map, IfOk, IsTrue};
+ghost use Rattle.std.specs.Prelude.{◌≡◌, ◌≢◌, ◌+◌, ◌<◌, ◌≤◌, ◌^◌, ◌==◌, ◌&&◌, ℕ, List, [], length, map, IfOk, IsTrue};
 ghost use Rattle.cs_types.specs.declared.queue.Queued.{Queued};
 ghost use Rattle.cs_types.specs.Order.{first_of};
 ghost use Rattle.cs_types.specs.Scenario.{IsPolicy};
@@ -120,4 +120,11 @@ pub trait SiblingQueue: Drop {
         requires next { next + length table.now.tasks < 2 ^ 64 }
         requires holds { holds self.now table.now.limit (queued_at table.now.tasks cpu) }
         ensures { result.items ≡ map (λ task. next + count_before (queued_among table.now.tasks cpu) task.stamp) table.now.tasks };
+}
+
+/// Whether the task is queued on the sibling.
+pub fn is_on(task: &Task, cpu: Cpu) -> bool
+    ensures { result ≡ (task.now.queued && task.now.home == cpu) }
+{
+    task.queued && task.home == cpu
 }

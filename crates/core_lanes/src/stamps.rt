@@ -1,22 +1,33 @@
 //! The stamps that the tasks of a sibling get where they move to another. It is apart from the queues, since
 //! it is a walk over the table for each kind of queue.
 
-ghost use Rattle.std.specs.Prelude.{◌≡◌, ◌+◌, ◌<◌, ◌≤◌, ◌^◌, ◌==◌, ◌&&◌, length, map};
+ghost use Rattle.std.specs.Prelude.{◌≡◌, ◌+◌, ◌<◌, ◌≤◌, ◌^◌, nat_lt, length, map, count_by};
 ghost use Rattle.core_lanes.specs.Queued.{queued_among, count_before};
 
-use crate::queue::Stamps;
+use crate::queue::{Stamps, is_on};
 use cs_types::Cpu;
 use task_table::TaskTable;
 
-/// How many of the tasks queued on the sibling have a smaller stamp than this one.
-fn count_before(table: &TaskTable, cpu: Cpu, stamp: u64) -> u64
-    ensures count { result ≡ count_before (queued_among table.now.tasks cpu) stamp }
-    ensures few { result ≤ length table.now.tasks }
+/// The stamps of the tasks queued on the sibling, by rising pid of the tasks.
+fn stamps_on(table: &TaskTable, cpu: Cpu) -> Stamps
+    requires { length table.now.tasks ≤ 256 }
+    ensures { result.items ≡ map (λ task. task.stamp) (queued_among table.now.tasks cpu) }
 {
-    table
-        .iter()
-        .filter(|task| task.queued && task.home == cpu && task.stamp < stamp)
-        .count() as u64
+    let mut stamps = Stamps::new();
+    for position in 0..table.len() as usize {
+        let task = *table.at(position).unwrap();
+        if is_on(&task, cpu) {
+            stamps.push(task.stamp);
+        }
+    }
+    stamps
+}
+
+/// How many of the stamps are smaller than this one.
+fn count_below(stamps: &[u64], stamp: u64) -> u64
+    ensures { result ≡ count_by (λ other. nat_lt other stamp) stamps.now }
+{
+    stamps.iter().filter(|other| **other < stamp).count() as u64
 }
 
 /// For each task of the table, which has at most 256, this stamp and how many of the tasks queued on the
@@ -26,10 +37,11 @@ pub fn new_stamps(table: &TaskTable, cpu: Cpu, next: u64) -> Stamps
     requires next { next + length table.now.tasks < 2 ^ 64 }
     ensures { result.items ≡ map (λ task. next + count_before (queued_among table.now.tasks cpu) task.stamp) table.now.tasks }
 {
+    let queued = stamps_on(table, cpu);
     let mut stamps = Stamps::new();
     for position in 0..table.len() as usize {
         let task = *table.at(position).unwrap();
-        stamps.push(next + count_before(table, cpu, task.stamp));
+        stamps.push(next + count_below(&queued, task.stamp));
     }
     stamps
 }

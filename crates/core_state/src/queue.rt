@@ -1,8 +1,8 @@
 //! The queue with trees: each question is answered from the ordered trees of a run queue, and the table tells the
 //! task of a pid.
 
-use crate::task::{KINDS, is_on, kind_of, queued_of};
-use core_lanes::{SiblingQueue, Stamps, new_stamps, task_of};
+use crate::task::{KINDS, kind_of, queued_of};
+use core_lanes::{SiblingQueue, Stamps, is_on, new_stamps, task_of};
 use cs_types::{Cookie, Cpu, OutOfMemory, Steps, Task};
 use run_queue::RunQueue;
 use std::alloc::Global;

@@ -1,17 +1,10 @@
 //! A task as a queue takes it. It is apart, since it alone knows the ranks of the classes.
 
-ghost use Rattle.std.specs.Prelude.{◌≡◌, ◌<◌, ◌==◌, ◌&&◌};
+ghost use Rattle.std.specs.Prelude.{◌≡◌, ◌<◌};
 ghost use Rattle.cs_types.specs.Queue.{rank_by, queued_of};
 ghost use Rattle.core_state.specs.Kinds.{kind_of};
 
-use cs_types::{Cpu, Policy, Queued, Task};
-
-/// Whether the task is queued on the sibling.
-pub fn is_on(task: &Task, cpu: Cpu) -> bool
-    ensures { result ≡ (task.now.queued && task.now.home == cpu) }
-{
-    task.queued && task.home == cpu
-}
+use cs_types::{Policy, Queued, Task};
 
 /// The number of kinds: 4 classes, and 100 ranks of real-time tasks.
 pub const KINDS: usize = 104;

@@ -1,11 +1,22 @@
-use Rattle.std.proofs.Common.{ℕ, ◌≡◌, ◌+◌, ◌<◌, ◌∙◌, ◌∷◌, ◌++◌, [], ap, sym, map, take, length, get_or, arith}
-use Rattle.std.specs.Prelude.{option_copied, slice_get, unwrap_or, Some}
+use Rattle.std.proofs.Common.{ℕ, ◌≡◌, ◌+◌, ◌<◌, ◌∙◌, ◌∷◌, ◌++◌, [], ap, sym, map, take, length, get_or, ltb, List, arith}
+use Rattle.std.specs.Prelude.{option_copied, slice_get, unwrap_or, Some, filter, count_by}
 use Rattle.std.proofs.Math.Seq.{take-length}
-use Rattle.std.proofs.lemmas.List.{take_more, map_push}
+use Rattle.std.proofs.lemmas.List.{take_more, map_push, length-map}
+use Rattle.std.proofs.lemmas.List.Sums.{length-filter, count_by-le-length}
 use Rattle.std.proofs.lemmas.Option.{slice_get-get_or}
 use Rattle.cs_types.specs.declared.task.Task.{Task}
 use Rattle.core_lanes.specs.Queued.{queued_among, count_before}
+use Rattle.core_lanes.proofs.Lists.{filter-map}
+use Rattle.core_lanes.proofs.Queues.{is_on}
 use Rattle.core_lanes.proofs.stamps.new_stamps.Goals as goal
+
+-- a count of stamps is one of their tasks
+counted : (stamp : ℕ) (tasks : List Task) → count_by (λ (other : ℕ). ltb other stamp) (map (λ (t : Task). t.stamp) tasks) ≡ count_before tasks stamp
+counted stamp tasks =
+    sym (length-filter (λ (other : ℕ). ltb other stamp) (map (λ (t : Task). t.stamp) tasks))
+    ∙ ap length (filter-map (λ (t : Task). t.stamp) (λ (other : ℕ). ltb other stamp) tasks)
+    ∙ length-map (filter (λ (t : Task). ltb t.stamp stamp) tasks) (λ (t : Task). t.stamp)
+    ∙ length-filter (λ (t : Task). ltb t.stamp stamp) tasks
 
 pub push-requires : goal.push-requires
 push-requires c =
@@ -20,8 +31,12 @@ loop-position-preserved c =
     let within : position < length tasks = omega (arith, c.loop-position-test.true, c.len-position-end.ensures.len) in
     let at : slice_get tasks position ≡ Some task = sym c.at.ensures.task ∙ ap option_copied c.unwrap-task.ensures in
     let is : task ≡ get_or tasks position task = ap (λ found. unwrap_or found task) (sym at ∙ slice_get-get_or tasks position task within) in
-    let stamp : c.args.next + c.count_before.result ≡ stamp_of (get_or tasks position task) =
-    ap (λ n. c.args.next + n) c.count_before.ensures.count ∙ ap stamp_of is in
+    let queued = queued_among tasks c.args.cpu in
+    let count : c.count_below.result ≡ count_before queued task.stamp =
+    c.count_below.ensures
+    ∙ ap (λ (stamps : List ℕ). count_by (λ (other : ℕ). ltb other task.stamp) stamps) (c.deref.ensures.0 ∙ c.stamps_on-queued.ensures) ∙ counted task.stamp queued in
+    let stamp : c.args.next + c.count_below.result ≡ stamp_of (get_or tasks position task) =
+    ap (λ n. c.args.next + n) count ∙ ap stamp_of is in
     record {
       counted = omega (arith, c.push.ensures.len, c.loop-position.invariant.counted);
       made = c.push.ensures.items
@@ -36,3 +51,12 @@ returns c =
     let stamp_of : Task → ℕ = λ task. c.args.next + count_before (queued_among tasks c.args.cpu) task.stamp in
     let all : c.loop-position.position ≡ length tasks = omega (arith, c.loop-position-test.false, c.loop-position.auto.position-end, c.len-position-end.ensures.len) in
     c.loop-position.invariant.made ∙ ap (λ n. map stamp_of (take n tasks)) all ∙ ap (map stamp_of) (take-length tasks)
+
+pub overflow_add-next : goal.overflow_add-next
+overflow_add-next c =
+    let tasks = c.args.table.now.tasks in
+    let cpu = c.args.cpu in
+    let stamps = c.deref.result.now in
+    let below = count_by-le-length (λ (other : ℕ). ltb other c.unwrap-task.result.now.stamp) stamps in
+    let many = ap length (c.deref.ensures.0 ∙ c.stamps_on-queued.ensures) ∙ length-map (queued_among tasks cpu) (λ (t : Task). t.stamp) ∙ length-filter (is_on cpu) tasks in
+    omega (arith, c.count_below.ensures, below, many, count_by-le-length (is_on cpu) tasks, c.requires.next)
