@@ -1,7 +1,9 @@
-use Rattle.std.proofs.Common.{ℕ, ◌≡◌, ◌+◌, ◌<◌, ◌∙◌, ◌∷◌, ◌++◌, [], ap, sym, map, take, length, get_or, ltb, List, arith}
+use Rattle.std.proofs.Common.{ℕ, ◌≡◌, ◌+◌, ◌<◌, ◌∙◌, ◌∷◌, ◌++◌, [], ap, sym, map, take, length, get_or, ltb, cond, List, arith}
 use Rattle.std.specs.Prelude.{option_copied, slice_get, unwrap_or, Some, filter, count_by}
 use Rattle.std.proofs.Math.Seq.{take-length}
 use Rattle.std.proofs.lemmas.List.{take_more, map_push, length-map}
+use Rattle.std.specs.List.Sorted.{IsPermutation}
+use Rattle.std.proofs.lemmas.List.Sorted.{sum_by-IsPermutation}
 use Rattle.std.proofs.lemmas.List.Sums.{length-filter, count_by-le-length}
 use Rattle.std.proofs.lemmas.Option.{slice_get-get_or}
 use Rattle.cs_types.specs.declared.task.Task.{Task}
@@ -10,10 +12,12 @@ use Rattle.core_lanes.proofs.Lists.{filter-map}
 use Rattle.core_lanes.proofs.Queues.{is_on}
 use Rattle.core_lanes.proofs.stamps.new_stamps.Goals as goal
 
--- a count of stamps is one of their tasks
-counted : (stamp : ℕ) (tasks : List Task) → count_by (λ (other : ℕ). ltb other stamp) (map (λ (t : Task). t.stamp) tasks) ≡ count_before tasks stamp
-counted stamp tasks =
-    sym (length-filter (λ (other : ℕ). ltb other stamp) (map (λ (t : Task). t.stamp) tasks))
+-- a count of the stamps of tasks, in any order, is one of the tasks
+counted : (stamp : ℕ) (tasks : List Task) (stamps : List ℕ) → IsPermutation (map (λ (t : Task). t.stamp) tasks) stamps →
+    count_by (λ (other : ℕ). ltb other stamp) stamps ≡ count_before tasks stamp
+counted stamp tasks stamps same =
+    sum_by-IsPermutation (λ (other : ℕ). cond (ltb other stamp) 1 0) (map (λ (t : Task). t.stamp) tasks) stamps same
+    ∙ sym (length-filter (λ (other : ℕ). ltb other stamp) (map (λ (t : Task). t.stamp) tasks))
     ∙ ap length (filter-map (λ (t : Task). t.stamp) (λ (other : ℕ). ltb other stamp) tasks)
     ∙ length-map (filter (λ (t : Task). ltb t.stamp stamp) tasks) (λ (t : Task). t.stamp)
     ∙ length-filter (λ (t : Task). ltb t.stamp stamp) tasks
@@ -34,7 +38,8 @@ loop-position-preserved c =
     let queued = queued_among tasks c.args.cpu in
     let count : c.count_below.result ≡ count_before queued task.stamp =
     c.count_below.ensures
-    ∙ ap (λ (stamps : List ℕ). count_by (λ (other : ℕ). ltb other task.stamp) stamps) (c.deref.ensures.0 ∙ c.stamps_on-queued.ensures) ∙ counted task.stamp queued in
+    ∙ ap (λ (stamps : List ℕ). count_by (λ (other : ℕ). ltb other task.stamp) stamps) c.deref.ensures.0
+    ∙ counted task.stamp queued _ c.sorted_stamps_on-queued.ensures.same in
     let stamp : c.args.next + c.count_below.result ≡ stamp_of (get_or tasks position task) =
     ap (λ n. c.args.next + n) count ∙ ap stamp_of is in
     record {
@@ -56,7 +61,10 @@ pub overflow_add-next : goal.overflow_add-next
 overflow_add-next c =
     let tasks = c.args.table.now.tasks in
     let cpu = c.args.cpu in
-    let stamps = c.deref.result.now in
-    let below = count_by-le-length (λ (other : ℕ). ltb other c.unwrap-task.result.now.stamp) stamps in
-    let many = ap length (c.deref.ensures.0 ∙ c.stamps_on-queued.ensures) ∙ length-map (queued_among tasks cpu) (λ (t : Task). t.stamp) ∙ length-filter (is_on cpu) tasks in
-    omega (arith, c.count_below.ensures, below, many, count_by-le-length (is_on cpu) tasks, c.requires.next)
+    let stamp = c.unwrap-task.result.now.stamp in
+    let queued = queued_among tasks cpu in
+    let count = c.count_below.ensures
+    ∙ ap (λ (stamps : List ℕ). count_by (λ (other : ℕ). ltb other stamp) stamps) c.deref.ensures.0
+    ∙ counted stamp queued _ c.sorted_stamps_on-queued.ensures.same in
+    let many = length-filter (is_on cpu) tasks in
+    omega (arith, count, many, count_by-le-length (λ (t : Task). ltb t.stamp stamp) queued, count_by-le-length (is_on cpu) tasks, c.requires.next)
