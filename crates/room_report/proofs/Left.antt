@@ -1,11 +1,12 @@
 -- Left: which lines of each part are left at a index of its loop.
-use Rattle.std.proofs.Common.{◌≡◌, ℕ, suc, ◌+◌, ◌-◌, ◌<◌, ◌≤◌, Bool, List, [], ◌∷◌, ◌++◌, map, length, drop, refl, sym, ap, ◌∙◌, append_assoc, subst, arith, Option, Some, None}
-use Rattle.std.specs.Prelude.{filter, slice_get, unwrap_or, if◌then◌else◌, codes}
+use Rattle.std.proofs.Common.{◌≡◌, ℕ, suc, ◌+◌, ◌-◌, ◌<◌, ◌≤◌, Bool, List, [], ◌∷◌, ◌++◌, map, length, drop, take, refl, sym, ap, ◌∙◌, append_assoc, subst, arith, Option, Some, None}
+use Rattle.std.specs.Prelude.{filter, slice_get, unwrap_or, All, if◌then◌else◌, codes}
 use Rattle.std.specs.List.{flat_map, filter_map, cons_option, range_with_len}
 use Rattle.std.specs.Option.{option_map, IsSome}
 use Rattle.std.proofs.Math.Seq.{drop-cons}
 use Rattle.std.proofs.lemmas.Bool.{lt-ltb, ltb-true}
 use Rattle.std.proofs.lemmas.List.{drop_all}
+use Rattle.std.proofs.lemmas.List.Elements.{All-more}
 use Rattle.std.proofs.lemmas.Option.{slice_get_within, none-some, slice_get-get_or, get_or_from_slice_get}
 use Rattle.cs_types.specs.declared.task.Task.{Task}
 use Rattle.cs_types.specs.declared.view.CpuView.{CpuView}
@@ -25,6 +26,7 @@ use Rattle.cs_types.proofs.Inserted.{is_above}
 use Rattle.cs_types.proofs.Rising.{Rises, rising-fold_of, above_zero, above_next, above_none}
 use Rattle.scenario_text.specs.Words.{Word}
 use Rattle.scenario_text.specs.Text.{line, entry_text}
+use Rattle.scenario_text.specs.Entry.{FitsReply}
 use Rattle.room_report.specs.Report.{cpu_words, task_words, ended_words, guard_words, core_lines, cpu_lines, task_lines, ended_lines, guard_lines, lines_text, report_lines, report_text}
 use Rattle.room_report.proofs.Reached.{AreLeft, all_left}
 
@@ -57,6 +59,13 @@ mapped_none f (Some x) is = absurd cc
 pub entries_next : (history : History) (index : ℕ) (entry : Entry) → slice_get history index ≡ Some entry →
     flat_map entry_text (drop index history) ≡ entry_text entry ++ flat_map entry_text (drop (index + 1) history)
 entries_next history index entry at = ap (flat_map entry_text) (drop_next history index entry at)
+
+-- the numbers of the replies so far, with the next entry's
+pub fits_next : (history : History) (index : ℕ) (entry : Entry) → slice_get history index ≡ Some entry →
+    All (λ (e : Entry). FitsReply e.reply) (take index history) → FitsReply entry.reply → All (λ (e : Entry). FitsReply e.reply) (take (index + 1) history)
+fits_next history index entry at past now =
+    All-more (λ (e : Entry). FitsReply e.reply) history index entry (slice_get_within history index entry at) past
+    (subst (λ (e : Entry). FitsReply e.reply) (sym (get_or_from_slice_get history index entry entry at)) now)
 
 -- ---- siblings
 

@@ -2,12 +2,13 @@
 //! again with the rest where the sink took only a part. At an `Err` the sink has failed, and a
 //! prefix of the part is written.
 
-ghost use Rattle.std.specs.Prelude.{◌≡◌, ◌≤◌, OnOk, OnErr};
+ghost use Rattle.std.specs.Prelude.{◌≡◌, ◌≤◌, All, OnOk, OnErr};
 ghost use Rattle.std.specs.List.{flat_map};
 ghost use Rattle.cs_types.specs.Scenario.{IsPlayable};
 ghost use Rattle.cs_types.specs.History.{moment_of};
 ghost use Rattle.cs_outside.specs.Device.{appended, Rose, WritesPrefix};
 ghost use Rattle.scenario_text.specs.Text.{entry_text};
+ghost use Rattle.scenario_text.specs.Entry.{FitsReply};
 ghost use Rattle.room_report.specs.Report.{core_lines, cpu_lines, task_lines, ended_lines, guard_lines, lines_text};
 
 use crate::lines::{
@@ -26,6 +27,9 @@ pub(crate) fn write_entries<R: Room, K: Sink>(room: &R, sink: &mut K) -> Result<
     ensures faultless { OnOk result (K.faults sink.new ≡ K.faults sink.old) }
     ensures failed { OnErr result (Rose (K.faults sink.old) (K.faults sink.new)) }
     ensures counted { K.faults sink.old ≤ K.faults sink.new }
+
+    // The numbers of the replies that were written have 64 bits.
+    ensures numbers { OnOk result (All (λ entry. FitsReply entry.reply) (R.history room.now)) }
 {
     for index in 0..room.length() {
         let entry = room.entry(index).unwrap();

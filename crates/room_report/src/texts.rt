@@ -4,7 +4,7 @@ ghost use Rattle.std.specs.Prelude.{◌≡◌, ◌≤◌, All, OnOk, OnErr};
 ghost use Rattle.cs_types.specs.Room.{Opening};
 ghost use Rattle.cs_types.specs.History.{History, moment_of};
 ghost use Rattle.cs_outside.specs.Device.{appended, Rose, WritesPrefix};
-ghost use Rattle.scenario_text.specs.Entry.{IsEntry};
+ghost use Rattle.scenario_text.specs.Entry.{FitsReply, IsEntry};
 ghost use Rattle.room_report.specs.Report.{output_text, report_text};
 
 use crate::parts::{
@@ -28,6 +28,9 @@ pub fn output<R: Room, K: Sink>(room: &R, sink: &mut K) -> Result<(), Failed>
     ensures one { (opening : Opening) (history : History) → All IsEntry history → All IsEntry (R.history room.now) →
         output_text opening history ≡ output_text (R.opening room.now) (R.history room.now) →
         history ≡ R.history room.now }
+
+    // The numbers of the replies that were written have 64 bits.
+    ensures numbers { OnOk result (All (λ entry. FitsReply entry.reply) (R.history room.now)) }
 {
     write_entries(room, sink)?;
     report(room, sink)

@@ -1,6 +1,6 @@
 -- Endings: what holds of a run, status by status.
 use Rattle.std.proofs.Common.{◌≡◌, ◌≢◌, Bool, true, false, ℕ, ◌+◌, ◌-◌, ◌^◌, ◌<◌, ◌≤◌, List, ◌++◌, length, refl, sym, inl, inr, ap, ◌∙◌, subst, arith}
-use Rattle.std.specs.Prelude.{◌⊎◌, ◌↔◌, Option, Some, None, IfSome, Result, Ok, Err, String}
+use Rattle.std.specs.Prelude.{◌⊎◌, ◌↔◌, Option, Some, None, IfSome, Result, Ok, Err, String, All}
 use Rattle.std.specs.declared.alloc.Global.{Global}
 use Rattle.cs_types.specs.declared.scenario.Scenario.{Scenario}
 use Rattle.cs_outside.specs.Device.{Rose, appended, WritesPrefix}
@@ -12,6 +12,7 @@ use Rattle.scenario_input.specs.declared.stop.GuardKind.{GuardKind}
 use Rattle.scenario_input.specs.Teaching.{BadTeach, first_bad}
 use Rattle.cs_types.specs.Scenario.{IsBuilt}
 use Rattle.scenario_text.specs.Text.{scenario_text}
+use Rattle.scenario_text.specs.Entry.{FitsReply, IsMade, IsEntry}
 use Rattle.std.proofs.lemmas.List.{append-nil}
 use Rattle.scenario_input.specs.declared.status.Status.{Status}
 use Rattle.scenario_input.specs.declared.status.Status.TheVariants as status
@@ -40,11 +41,17 @@ pub record HasRead {S T : Type 0} (caps : List ℕ) (source : Used S) (read : Re
   pub bad_guard : (line : ℕ) (kind : GuardKind) → read ≡ Err (BadGuard line kind) →
       IsBadGuard caps line kind (source.bytes source.before) (source.bytes source.after)
 
--- what is known once a text was written, or the sink failed
-pub record IsWritten {K : Type 0} (sink : Used K) (text : List ℕ) (ended : Status) : Type 0 where
+-- the step of each entry is one that is made
+abbrev pub AreMade : History → Type 0
+AreMade run = All (λ entry. IsMade entry.actor entry.event) run
+
+-- what is known once the output of a run was written, or the sink failed
+pub record IsWritten {K : Type 0} (sink : Used K) (opening : Opening) (run : History) (ended : Status) : Type 0 where
   pub either : (ended ≡ status.Done) ⊎ (ended ≡ status.WriteFault)
-  pub whole : ended ≡ status.Done → sink.bytes sink.after ≡ appended (sink.bytes sink.before) text
-  pub prefix : WritesPrefix (sink.bytes sink.before) text (sink.bytes sink.after)
+  pub whole : ended ≡ status.Done → sink.bytes sink.after ≡ appended (sink.bytes sink.before) (output_text opening run)
+  pub prefix : WritesPrefix (sink.bytes sink.before) (output_text opening run) (sink.bytes sink.after)
+  pub one : (begun : Opening) (other : History) → All IsEntry other → All IsEntry run → output_text begun other ≡ output_text opening run → other ≡ run
+  pub numbers : ended ≡ status.Done → All (λ entry. FitsReply entry.reply) run
   pub faultless : ended ≡ status.Done → IsFaultless sink
   pub failed : ended ≡ status.WriteFault → Rose (sink.faults sink.before) (sink.faults sink.after)
   pub few : sink.faults sink.before < 2 ^ 64 - 1
@@ -145,27 +152,31 @@ ends_write_fault IsOwn IsOutcome words caps source sink read value has is own fa
     }
 
 -- what was written of a room is that of the opening that it has
-pub written_of : {K : Type 0} (sink : Used K) (opening now : Opening) (run : History) (ended : Status) → now ≡ opening → IsWritten sink (output_text now run) ended →
-    IsWritten sink (output_text opening run) ended
-written_of sink opening now run ended same written = subst (λ (o : Opening). IsWritten sink (output_text o run) ended) same written
+pub written_of : {K : Type 0} (sink : Used K) (opening now : Opening) (run : History) (ended : Status) → now ≡ opening → IsWritten sink now run ended →
+    IsWritten sink opening run ended
+written_of sink opening now run ended same written = subst (λ (o : Opening). IsWritten sink o run ended) same written
 
 -- The run was written, or the sink failed.
 pub ends_written : {S K T : Type 0} (IsOwn : List (String Global) → Type 0) (IsOutcome : Opening → History → Type 0) (words : List (String Global)) (caps : List ℕ) (source : Used S) (sink : Used K) (read : Result T Stop) (value : T) (ended : Status) →
     HasRead caps source read → read ≡ Ok value → IsOwn words → (scenario : Scenario) → first_bad caps scenario.teaches ≡ None →
     Reads scenario (source.bytes source.before) (source.bytes source.after) → (run : History) → IsOutcome (opened_with caps scenario) run →
-    IsWritten sink (output_text (opened_with caps scenario) run) ended →
+    AreMade run → IsWritten sink (opened_with caps scenario) run ended →
     EndsAs IsOwn IsOutcome words caps source sink ended
-ends_written IsOwn IsOutcome words caps source sink read value ended has is own scenario taught reads run outcome written =
+ends_written IsOwn IsOutcome words caps source sink read value ended has is own scenario taught reads run outcome made written =
     elim written.either [
       | inl done ↦
           rw done
           (ends_done IsOwn IsOutcome words caps source sink read value has is own (written.faultless done) scenario
-          (record { reads = reads; run = run; outcome = outcome; writes = written.whole done }) taught)
+          (record { reads = reads; run = run; outcome = outcome; writes = written.whole done; spelled = spelled done }) taught)
       | inr fault ↦
           rw fault
           (ends_write_fault IsOwn IsOutcome words caps source sink read value has is own (omega (arith, written.failed fault, written.few)) scenario
           (record { reads = reads; run = run; outcome = outcome; writes = written.prefix }) taught)
-    ]
+    ] where
+      spelled : ended ≡ status.Done → (begun : Opening) (other : History) → All IsEntry other →
+          output_text begun other ≡ output_text (opened_with caps scenario) run → other ≡ run
+      spelled done begun other is same =
+          written.one begun other is (λ k d lt. record { made = made k d lt; reply = written.numbers done k d lt }) same
 
 pub ends_stopped : {S K T : Type 0} (IsOwn : List (String Global) → Type 0) (IsOutcome : Opening → History → Type 0) (words : List (String Global)) (caps : List ℕ) (source : Used S) (sink : Used K) (read : Result T Stop) (stop : Stop) →
     HasRead caps source read → read ≡ Err stop → IsOwn words → sink.after ≡ sink.before →

@@ -1,24 +1,33 @@
 -- Outcomes: what the history of a run is, by its command, and what is read and written where that is done, and where the
 -- sink failed.
-use Rattle.std.specs.Prelude.{◌≡◌, ◌≢◌, ℕ, List, [], ◌∷◌, ◌++◌, length, Option, IfSome}
+use Rattle.std.specs.Prelude.{◌≡◌, ◌≢◌, ℕ, ◌<◌, List, [], ◌∷◌, ◌++◌, length, filter, sum_by, not, All, Option, IfSome}
 use Rattle.cs_types.specs.declared.event.Actor.{Actor}
 use Rattle.cs_types.specs.declared.event.Actor.TheVariants.{End}
 use Rattle.cs_types.specs.declared.reply.Entry.{Entry}
 use Rattle.cs_types.specs.declared.scenario.Scenario.{Scenario}
-use Rattle.cs_types.specs.Room.{Opening}
-use Rattle.cs_types.specs.Scenario.{script}
+use Rattle.cs_types.specs.Room.{Opening, RoomState}
+use Rattle.cs_types.specs.Scenario.{script, is_actor}
+use Rattle.cs_types.specs.Accounting.{share, charges}
+use Rattle.cs_types.specs.View.{forced_of}
 use Rattle.cs_types.specs.Touches.{selection_of}
 use Rattle.cs_types.specs.History.{History, IsLegal, fold_of, events_by, file}
 use Rattle.cs_types.specs.Shuffles.{IsShuffle}
 use Rattle.cs_types.specs.Drain.{pending, IsDrained}
 use Rattle.cs_types.specs.Laws.{SelectsForTheCore, scheduling_room, cpu_of, IsSettled, RunOneCookie}
 use Rattle.cs_outside.specs.Device.{appended, WritesPrefix}
+use Rattle.scenario_text.specs.Entry.{IsEntry}
 use Rattle.room_report.specs.Report.{output_text}
 use Rattle.scenario_input.specs.Input.{Reads}
 
 -- what a machine begins with that plays a scenario with guards which can be taught so many pairs each
 abbrev pub opened_with : List ℕ → Scenario → Opening
 opened_with caps scenario = record { scenario = scenario; guards = length caps }
+
+-- The forced-idle totals of a room divide its recorded intervals: what each task was charged, by its pid, is the sum of the
+-- shares of the intervals that charge it, and no share is divided by 0.
+pub record DividesIntervals (room : RoomState) : Type 0 where
+  pub sums : (pid : ℕ) → forced_of room pid ≡ sum_by share (filter (charges pid) room.intervals)
+  pub divisors : All (λ interval. 0 < interval.occupation) room.intervals
 
 -- What is so of the history of each run.
 pub record IsPlayed (opening : Opening) (run : History) : Type 0 where
@@ -31,6 +40,8 @@ pub record IsPlayed (opening : Opening) (run : History) : Type 0 where
   pub selections : (past : History) (entry : Entry) (rest : History) → run ≡ past ++ entry ∷ rest →
       IfSome (selection_of entry.reply) (λ pick.
       SelectsForTheCore (scheduling_room (fold_of opening past) entry.event) (cpu_of entry.event) pick (fold_of opening (past ++ entry ∷ [])))
+  -- at each moment the forced-idle totals divide the recorded intervals
+  pub totals : (past rest : History) → run ≡ past ++ rest → DividesIntervals (fold_of opening past)
   -- at its end no sibling is pending, and all that do not run idle run living tasks with one cookie
   pub nobody_pending : pending (fold_of opening run) ≡ []
   pub one_cookie : RunOneCookie (fold_of opening run)
@@ -41,22 +52,31 @@ pub record IsReplayHistory (opening : Opening) (run : History) : Type 0 where
   pub alone : (other : History) → IsDrained opening (file opening) other → other ≡ run
   pub played : IsPlayed opening run
 
+-- the entries of a history that are not of the end
+abbrev pub before_end : History → History
+before_end history = filter (λ entry. not (is_actor entry.actor End)) history
+
 -- The history is that of a race: a legal shuffle of all scripts, and then the entries of the end. After that shuffle no other
 -- is.
 pub record IsRaceHistory (opening : Opening) (run : History) : Type 0 where
   pub shuffled : History
+  -- it is what the history has before the entries of the end
+  pub before : shuffled ≡ before_end run
   pub legal : IsLegal opening shuffled
   pub shuffle : IsShuffle opening.scenario shuffled
   pub drained : IsDrained opening shuffled run
   pub alone : (other : History) → IsDrained opening shuffled other → other ≡ run
   pub played : IsPlayed opening run
 
--- The input was read as a scenario, and what was written is the output of a run of it: the line of each entry, and its report.
+-- The input was read as a scenario, and what was written is the output of a run of it: the line of each entry, and its
+-- report. So the text spells the run.
 pub record Outputs (IsOutcome : Opening → History → Type 0) (opening : Opening) (input left written now : Option (List ℕ)) : Type 0 where
   pub reads : Reads opening.scenario input left
   pub run : History
   pub outcome : IsOutcome opening run
   pub writes : now ≡ appended written (output_text opening run)
+  -- that is the output of no other history, whatever it begins with
+  pub spelled : (begun : Opening) (other : History) → All IsEntry other → output_text begun other ≡ output_text opening run → other ≡ run
 
 -- Or a prefix of that output was written.
 pub record BreaksOff (IsOutcome : Opening → History → Type 0) (opening : Opening) (input left written now : Option (List ℕ)) : Type 0 where

@@ -1,7 +1,10 @@
 //! The commands, each by its words.
 
 ghost use Rattle.std.specs.Prelude.{◌≡◌, ◌≢◌, ◌⊎◌, ◌↔◌, ◌+◌, ◌-◌, ◌*◌, ◌^◌, ◌<◌, ◌≤◌, [], length, map, All, Err, None, IfOk, IfSome, IsTrue, vec_len};
+ghost use Rattle.cs_types.specs.Room.{Opening};
+ghost use Rattle.cs_types.specs.History.{History};
 ghost use Rattle.cs_outside.specs.Device.{Rose, appended, WritesPrefix};
+ghost use Rattle.scenario_text.specs.Entry.{FitsReply, IsEntry};
 ghost use Rattle.room_report.specs.Report.{output_text};
 ghost use Rattle.scenario_input.specs.Input.{Reads, IsBad, input_limit, count_read};
 ghost use Rattle.scenario_input.specs.Teaching.{first_bad};
@@ -72,6 +75,12 @@ fn write_output<R: Room, K: Sink>(room: &R, sink: &mut K) -> Status
 
     ensures faultless { result ≡ Status.Done → K.faults sink.new ≡ K.faults sink.old }
     ensures failed { result ≡ Status.WriteFault → Rose (K.faults sink.old) (K.faults sink.new) }
+
+    // No other history has this text.
+    ensures one { (opening : Opening) (history : History) → All IsEntry history → All IsEntry (R.history room.now) →
+        output_text opening history ≡ output_text (R.opening room.now) (R.history room.now) →
+        history ≡ R.history room.now }
+    ensures numbers { result ≡ Status.Done → All (λ entry. FitsReply entry.reply) (R.history room.now) }
 {
     match output(room, sink) {
         Ok(()) => Status::Done,

@@ -1,9 +1,9 @@
-use Rattle.std.proofs.Common.{refl, ◌∙◌, sym, ap, arith}
+use Rattle.std.proofs.Common.{refl, ◌∙◌, sym, ap, arith, rules}
 use Rattle.std.specs.List.{flat_map}
 use Rattle.std.proofs.lemmas.List.{drop_all}
 use Rattle.scenario_text.specs.Text.{entry_text}
 use Rattle.room_report.proofs.Reached.{reached_more, reached_prefix, whole_prefix, reached_end}
-use Rattle.room_report.proofs.Left.{entries_next}
+use Rattle.room_report.proofs.Left.{entries_next, fits_next}
 use Rattle.room_report.proofs.parts.write_entries.Goals as goal
 
 pub returns-in_err-entry_text-clause-prefix : goal.returns-in_err-entry_text-clause-prefix
@@ -18,6 +18,9 @@ loop-index-preserved g c = record {
       (entries_next (g.R.Room.history c.args.room.now) c.loop-index.index c.unwrap-entry.result (sym c.entry.ensures ∙ c.unwrap-entry.ensures))
       refl c.in_ok-entry_text.ensures.ok;
   faultless = c.in_ok-entry_text.ensures.faultless ∙ c.loop-index.invariant.faultless;
+  numbers =
+      fits_next (g.R.Room.history c.args.room.now) c.loop-index.index c.unwrap-entry.result (sym c.entry.ensures ∙ c.unwrap-entry.ensures)
+      c.loop-index.invariant.numbers (search rules);
 }
 
 pub returns-clause-prefix : goal.returns-clause-prefix

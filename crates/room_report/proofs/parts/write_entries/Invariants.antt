@@ -1,6 +1,7 @@
-use Rattle.std.proofs.Common.{◌≡◌, drop}
+use Rattle.std.proofs.Common.{◌≡◌, All, drop, take}
 use Rattle.std.specs.List.{flat_map}
 use Rattle.scenario_text.specs.Text.{entry_text}
+use Rattle.scenario_text.specs.Entry.{FitsReply}
 use Rattle.room_report.proofs.Reached.{Reached}
 use Rattle.room_report.proofs.parts.write_entries.Given as goal
 
@@ -11,4 +12,5 @@ invariant-loop-index g l =
     record {
       reached : Reached (written l.fn.sink) (flat_map entry_text (g.R.Room.history l.room)) (flat_map entry_text (drop l.index (g.R.Room.history l.room))) (written l.sink);
       faultless : faults l.sink ≡ faults l.fn.sink;
+      numbers : All (λ entry. FitsReply entry.reply) (take l.index (g.R.Room.history l.room));
     }

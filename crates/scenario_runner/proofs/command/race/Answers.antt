@@ -1,10 +1,10 @@
-use Rattle.std.proofs.Common.{◌≡◌, ◌∙◌, refl, map, subst}
+use Rattle.std.proofs.Common.{◌∙◌, refl, map, subst}
 use Rattle.cs_types.specs.Room.{Opening}
 use Rattle.cs_types.specs.History.{history_of}
 use Rattle.sibling_workers.specs.Race.{IsRaced}
 use Rattle.scenario_runner.specs.Commands.{IsRace}
 use Rattle.scenario_runner.specs.Outcomes.{opened_with, IsRaceHistory}
-use Rattle.scenario_runner.proofs.Runs.{race_history}
+use Rattle.scenario_runner.proofs.Runs.{race_history, race_made}
 use Rattle.scenario_runner.proofs.Endings.{ends_written, ends_stopped, written_of}
 use Rattle.scenario_runner.proofs.Playable.{built_playable}
 use Rattle.scenario_runner.proofs.command.race.Goals as goal
@@ -27,11 +27,14 @@ returns-in-Ok-race g c =
     })
     c.in-Ok.is (c.is_only.ensures.0 c.if-not-is_only.false) scenario c.in-Ok.ensures.taught c.in-Ok.ensures.reads run
     (race_history opening run (built_playable scenario c.in-Ok.ensures.reads.built) raced)
+    (race_made opening run (built_playable scenario c.in-Ok.ensures.reads.built) raced)
     (written_of _ opening c.in-Ok-race.raced.opening run _ (c.in-Ok-race.ensures.opening ∙ c.in-Ok.ensures.opening)
     (record {
       either = c.write_output.ensures.either;
       whole = c.write_output.ensures.whole;
       prefix = c.write_output.ensures.prefix;
+      one = c.write_output.ensures.one;
+      numbers = c.write_output.ensures.numbers;
       faultless = c.write_output.ensures.faultless;
       failed = c.write_output.ensures.failed;
       few = c.requires.sink;

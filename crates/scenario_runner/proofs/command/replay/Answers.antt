@@ -3,7 +3,7 @@ use Rattle.cs_types.specs.Room.{Opening}
 use Rattle.cs_types.specs.History.{history_of}
 use Rattle.scenario_runner.specs.Commands.{IsReplay}
 use Rattle.scenario_runner.specs.Outcomes.{opened_with, IsReplayHistory}
-use Rattle.scenario_runner.proofs.Runs.{drained_file, replay_history}
+use Rattle.scenario_runner.proofs.Runs.{drained_file, replay_history, replay_made}
 use Rattle.scenario_runner.proofs.Endings.{ends_written, ends_stopped, ends_unread, written_of, not_true}
 use Rattle.scenario_runner.proofs.Playable.{built_playable}
 use Rattle.scenario_runner.proofs.command.replay.Goals as goal
@@ -29,11 +29,14 @@ returns-in-Ok g c =
     })
     c.in-Ok.is (c.is_only.ensures.0 c.if-not-is_only.false) scenario c.in-Ok.ensures.taught c.in-Ok.ensures.reads run
     (replay_history opening run (built_playable scenario c.in-Ok.ensures.reads.built) drained)
+    (replay_made opening run (built_playable scenario c.in-Ok.ensures.reads.built) drained)
     (written_of _ opening c.drain.new.self.opening run _ (c.drain.ensures.opening ∙ played)
     (record {
       either = c.write_output.ensures.either;
       whole = c.write_output.ensures.whole;
       prefix = c.write_output.ensures.prefix;
+      one = c.write_output.ensures.one;
+      numbers = c.write_output.ensures.numbers;
       faultless = c.write_output.ensures.faultless;
       failed = c.write_output.ensures.failed;
       few = c.requires.sink;
