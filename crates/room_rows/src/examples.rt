@@ -1,6 +1,7 @@
 //! Worked examples of core scheduling: from the text to the entries and the report, and what the machine
 //! shows at the end.
 
+ghost use Rattle.std.specs.Prelude.{◌≡◌, ◌+◌, ◌*◌, ◌≤◌, [], length};
 ghost use Rattle.cs_types.specs.Scenario.{IsPlayable};
 
 use crate::commands::{expect_text, joined, only, sink_of};
@@ -12,7 +13,7 @@ use crate::scripts::{
     STALE_PICK, Script, THREE_SHARES, TIE_OF_LEADS, TWO_SHARES,
 };
 use cs_outside::PairGuard;
-use cs_types::{Actor, Cookie, Cpu, Entry, Event, Kind, Pid, Reply, Room};
+use cs_types::{Actor, Cookie, Cpu, Entry, Event, Kind, Pid, Reply, Room, Scenario};
 use plain_room::PlainRoom;
 use room_report::{output, report};
 use scenario_input::taught;
@@ -257,16 +258,27 @@ fn scripts_of_moves(rt: HostRuntime) {
     expect_script(&rt, SAME_POLICY);
 }
 
-/// The machine of a script after all its steps, before the entries of the end. It has no guards.
-fn played<R: AllocGlobal + Abort>(rt: &R, script: Script) -> PlainRoom<PairGuard>
-    ensures { IsPlayable result.opening.scenario }
+/// The scenario of this text, and the machine of it before its first step. It has no guards.
+pub fn opened<R: AllocGlobal + Abort>(rt: &R, text: &str) -> (Scenario, PlainRoom<PairGuard>)
+    ensures playable { IsPlayable result.0 }
+    ensures scenario { result.1.opening.scenario ≡ result.0 }
+    ensures empty { result.1.steps ≡ [] }
+    ensures spare { length result.0.steps + result.0.siblings * result.0.siblings ≤ result.1.spare }
 {
-    let scenario = read(rt.alloc(), script.text.as_bytes()).expect(rt, "a scenario");
+    let scenario = read(rt.alloc(), text.as_bytes()).expect(rt, "a scenario");
     let list = Vec::<PairGuard>::new(rt.alloc());
     let guards = taught(rt.alloc(), list, scenario.teaches.items())
         .ok()
         .expect(rt, "room");
-    let mut room = PlainRoom::start(rt.alloc(), &scenario, guards).expect(rt, "room");
+    let room = PlainRoom::start(rt.alloc(), &scenario, guards).expect(rt, "room");
+    (scenario, room)
+}
+
+/// The machine of a script after all its steps, before the entries of the end. It has no guards.
+fn played<R: AllocGlobal + Abort>(rt: &R, script: Script) -> PlainRoom<PairGuard>
+    ensures { IsPlayable result.opening.scenario }
+{
+    let (scenario, mut room) = opened(rt, script.text);
     play(&mut room, scenario.steps.items());
     room
 }

@@ -63,33 +63,52 @@ fn expect_host(rt: &impl Abort, output: &str) {
     assert!(rt; report.starts_with("clock 220000000\n"));
 }
 
-/// Expects that a replay over these devices is done.
+/// Expects the first two lines of the first caller, and the first of the report.
+fn expect_race(rt: &impl Abort, output: &str) {
+    let (entries, report) = output.split_once("report\n").expect(rt, "a report");
+    let mut lines = entries.lines().filter(|line| line.starts_with("c0 "));
+    assert!(rt; lines.next() == Some("c0 prctl 10 1 0 1 0: 0"));
+    assert!(rt; lines.next() == Some("c0 prctl 20 1 0 1 0: 0"));
+    assert!(rt; report.starts_with("clock 220000000\n"));
+}
+
+/// Expects that the command of this word is done over these devices.
 fn expect_done<R: Threads + Wait + AllocGlobal + Sync + Abort>(
     rt: &R,
+    word: &str,
     source: &mut MemSource,
     sink: &mut MemSink,
 )
     requires source { source.old.faults ≡ 0 }
     requires sink { sink.old.faults ≡ 0 }
 {
-    let words = words_of(rt.alloc(), &["replay"]).expect(rt, "room");
+    let words = words_of(rt.alloc(), &[word]).expect(rt, "room");
     let guards = Vec::<PairGuard>::new(rt.alloc());
     assert!(rt; run(rt, &words, source, sink, &NoGate, guards) == Status::Done);
 }
 
-/// The sink of a replay of the host's text.
-fn replayed<R: Threads + Wait + AllocGlobal + Sync + Abort>(rt: &R) -> MemSink {
+/// The sink of the command of this word, after the host's text.
+fn sink_after<R: Threads + Wait + AllocGlobal + Sync + Abort>(rt: &R, word: &str) -> MemSink {
     let text = text_of_host(rt.alloc()).expect(rt, "room");
     let mut source = source_of(rt, &text, 65_536, Vec::new(rt.alloc()));
     let mut sink = MemSink::of(rt.alloc(), 131_072, 131_072, Vec::new(rt.alloc())).expect(
         rt, "room",
     );
-    expect_done(rt, &mut source, &mut sink);
+    expect_done(rt, word, &mut source, &mut sink);
     sink
 }
 
 #[test]
 fn host_of_two_guests(rt: HostRuntime) {
-    let sink = replayed(&rt);
+    let sink = sink_after(&rt, "replay");
     expect_host(&rt, str::from_utf8(sink.bytes()).expect(&rt, "a text"));
+}
+
+// Again and again, since two races may differ.
+#[test]
+fn race_of_two_guests(rt: HostRuntime) {
+    for _ in 0..2 {
+        let sink = sink_after(&rt, "race");
+        expect_race(&rt, str::from_utf8(sink.bytes()).expect(&rt, "a text"));
+    }
 }

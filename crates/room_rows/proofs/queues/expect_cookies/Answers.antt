@@ -1,7 +1,7 @@
 use Rattle.std.proofs.Common.{◌≡◌, ℕ, true, false, inl, inr, refl, sym, ap, ◌∙◌}
 use Rattle.std.specs.Prelude.{IsTrue, is_some}
-use Rattle.std.specs.FinMap.{empty, insert, get, contains_key, get-empty, get-insert}
-use Rattle.cs_types.specs.Queue.{Spot, Spots, seat_cmp, spot_cmp, spot_of}
+use Rattle.std.specs.FinMap.{empty, insert, contains_key, get-empty, get-insert}
+use Rattle.cs_types.specs.Queue.{Spot, seat_cmp, spot_cmp}
 use Rattle.cs_types.proofs.Queues.{seat_total, spot_total, spot_cmp-IsAntisymmetric}
 use Rattle.run_queue.proofs.Ties.{had-insert}
 use Rattle.room_rows.proofs.queues.expect_cookies.Goals as goal
