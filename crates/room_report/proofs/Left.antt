@@ -28,7 +28,7 @@ use Rattle.scenario_text.specs.Words.{Word}
 use Rattle.scenario_text.specs.Text.{line, entry_text}
 use Rattle.scenario_text.specs.Entry.{FitsReply}
 use Rattle.room_report.specs.Report.{cpu_words, task_words, ended_words, guard_words, core_lines, cpu_lines, task_lines, ended_lines, guard_lines, lines_text, report_lines, report_text}
-use Rattle.room_report.proofs.Reached.{AreLeft, all_left}
+use Rattle.scenario_text.proofs.Reached.{AreLeft, all_left}
 
 -- ---- lists
 

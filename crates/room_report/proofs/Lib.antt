@@ -1,4 +1,3 @@
-mod Reached
 mod Left
 mod Pieces
 mod Spelled

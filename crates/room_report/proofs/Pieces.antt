@@ -1,12 +1,8 @@
 -- Pieces: the longer lines, put together from their pieces.
-use Rattle.std.proofs.Common.{◌≡◌, ℕ, List, [], ◌∷◌, ◌++◌, ap, ◌∙◌, append_assoc}
+use Rattle.std.proofs.Common.{◌≡◌, [], ◌∷◌, ◌++◌, append_assoc}
 use Rattle.std.specs.Prelude.{codes}
 use Rattle.scenario_text.specs.Words.{Word}
 use Rattle.scenario_text.specs.Text.{line}
-
--- a piece is put after what is there
-pub put : (old new piece all : List ℕ) → old ≡ all → new ≡ old ++ piece → new ≡ all ++ piece
-put old new piece all so_far then = then ∙ ap (λ (bytes : List ℕ). bytes ++ piece) so_far
 
 pub core_text : (cookie forced occupation : Word) →
     (((((codes "core " ++ cookie) ++ codes " forced ") ++ forced) ++ codes " occupation ") ++ occupation) ++ codes "\n"

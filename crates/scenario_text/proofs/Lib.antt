@@ -13,3 +13,5 @@ pub mod Texts
 pub mod Scenarios
 pub mod Replies
 pub mod Entries
+pub mod Joined
+pub mod Reached

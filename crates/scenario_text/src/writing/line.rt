@@ -1,12 +1,12 @@
 //! A line while it is put together. It lies on the stack and can take the longest entry, so it
 //! takes no memory and cannot fail, and a sink is given it whole.
 
-ghost use Rattle.std.specs.Prelude.{◌≡◌, ◌+◌, ◌≤◌, [], ◌∷◌, ◌++◌, length, decimal};
-ghost use Rattle.scenario_text.specs.Words.{policy_word, made_words, actor_word, ask_words, child_word, event_words, deed_words, reply_words, pick_words, kind_word, run_word, errno_word};
+ghost use Rattle.std.specs.Prelude.{◌≡◌, ◌+◌, ◌≤◌, [], ◌∷◌, ◌++◌, length, codes, decimal};
+ghost use Rattle.scenario_text.specs.Words.{policy_word, flag_word, creds_words, made_words, actor_word, ask_words, child_word, event_words, deed_words, reply_words, pick_words, kind_word, run_word, errno_word};
 ghost use Rattle.scenario_text.specs.Text.{line_room, spaced, entry_text};
 
 use arrayvec::ArrayString;
-use cs_types::{Actor, Ask, Cpu, Entry, Errno, Event, Kind, Pick, Pid, Policy, Reply};
+use cs_types::{Actor, Ask, Cpu, Creds, Entry, Errno, Event, Kind, Pick, Pid, Policy, Reply};
 use itoa::{Buffer, Integer};
 use std::marker::Model;
 
@@ -55,7 +55,8 @@ impl Line {
         self.text("\n");
     }
 
-    fn made(&mut self, actor: Actor, event: Event)
+    /// Who makes a step, and what is done.
+    pub(crate) fn made(&mut self, actor: Actor, event: Event)
         requires { length self.old + 76 ≤ line_room }
         ensures text { self.new ≡ self.old ++ spaced (made_words actor event) }
         ensures longest { length self.new ≤ length self.old + 76 }
@@ -132,7 +133,8 @@ impl Line {
         }
     }
 
-    fn policy(&mut self, policy: Policy)
+    /// A policy.
+    pub(crate) fn policy(&mut self, policy: Policy)
         requires { length self.old + 23 ≤ line_room }
         ensures text { self.new ≡ self.old ++ policy_word policy }
         ensures longest { length self.new ≤ length self.old + 23 }
@@ -156,6 +158,32 @@ impl Line {
                 self.number(nice);
             }
         }
+    }
+
+    /// A task's credentials.
+    pub(crate) fn creds(&mut self, creds: Creds)
+        requires { length self.old + 71 ≤ line_room }
+        ensures text { self.new ≡ self.old ++ spaced (creds_words creds) }
+        ensures longest { length self.new ≤ length self.old + 71 }
+    {
+        self.number(creds.ruid);
+        self.further(creds.euid);
+        self.further(creds.suid);
+        self.further(creds.rgid);
+        self.further(creds.egid);
+        self.further(creds.sgid);
+        self.flag(creds.cap);
+        self.flag(creds.mm);
+        self.flag(creds.dumpable);
+    }
+
+    /// A space, and 1 for yes, 0 for no.
+    fn flag(&mut self, flag: bool)
+        requires { length self.old + 2 ≤ line_room }
+        ensures text { self.new ≡ self.old ++ (codes " " ++ flag_word flag) }
+        ensures longest { length self.new ≤ length self.old + 2 }
+    {
+        self.text(if flag { " 1" } else { " 0" });
     }
 
     fn child(&mut self, is_thread: bool)
@@ -313,6 +341,16 @@ impl Line {
         ensures longest { length self.new ≤ length self.old + length name.now + 1 + N.MAX_STR_LEN }
     {
         self.text(name);
+        self.text(" ");
+        self.number(number);
+    }
+
+    /// A space, and one more number.
+    pub(crate) fn further<N: Integer>(&mut self, number: N)
+        requires { length self.old + 1 + N.MAX_STR_LEN ≤ line_room }
+        ensures text { self.new ≡ self.old ++ (codes " " ++ N.text number) }
+        ensures longest { length self.new ≤ length self.old + 1 + N.MAX_STR_LEN }
+    {
         self.text(" ");
         self.number(number);
     }

@@ -1,5 +1,6 @@
 use Rattle.std.proofs.Common.{◌∙◌}
-use Rattle.room_report.proofs.Pieces.{put, core_text}
+use Rattle.scenario_text.proofs.Joined.{put}
+use Rattle.room_report.proofs.Pieces.{core_text}
 use Rattle.room_report.proofs.lines.core_line.Goals as goal
 
 pub returns : goal.returns

@@ -1,5 +1,6 @@
 use Rattle.std.proofs.Common.{◌∙◌, ap, List, ℕ, ◌++◌}
-use Rattle.room_report.proofs.Pieces.{put, task_text}
+use Rattle.scenario_text.proofs.Joined.{put}
+use Rattle.room_report.proofs.Pieces.{task_text}
 use Rattle.room_report.proofs.lines.task_line.Goals as goal
 
 pub returns : goal.returns

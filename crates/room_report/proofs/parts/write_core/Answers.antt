@@ -4,7 +4,7 @@ use Rattle.cs_types.specs.declared.view.CoreView.{CoreView}
 use Rattle.cs_types.specs.History.{moment_of}
 use Rattle.scenario_text.specs.Text.{line}
 use Rattle.room_report.specs.Report.{lines_text, clock_words, numbers_words, core_words, intervals_words, core_lines}
-use Rattle.room_report.proofs.Reached.{all_left, none_left, line_more, line_prefix}
+use Rattle.scenario_text.proofs.Reached.{all_left, none_left, line_more, line_prefix}
 use Rattle.room_report.proofs.parts.write_core.Goals as goal
 
 pub returns-in_err-write_all-clause-prefix : goal.returns-in_err-write_all-clause-prefix

@@ -2,7 +2,7 @@ use Rattle.std.proofs.Common.{refl, ◌∙◌, sym, ap, arith, rules}
 use Rattle.std.specs.List.{flat_map}
 use Rattle.std.proofs.lemmas.List.{drop_all}
 use Rattle.scenario_text.specs.Text.{entry_text}
-use Rattle.room_report.proofs.Reached.{reached_more, reached_prefix, whole_prefix, reached_end}
+use Rattle.scenario_text.proofs.Reached.{reached_more, reached_prefix, whole_prefix, reached_end}
 use Rattle.room_report.proofs.Left.{entries_next, fits_next}
 use Rattle.room_report.proofs.parts.write_entries.Goals as goal
 

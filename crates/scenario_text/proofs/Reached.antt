@@ -1,11 +1,11 @@
 -- Reached: how far a text is written that goes out piece by piece.
 use Rattle.std.proofs.Common.{◌≡◌, ℕ, suc, ◌+◌, ◌≤◌, min, List, [], ◌∷◌, ◌++◌, length, take, refl, sym, ap, ◌∙◌, append_assoc, subst, arith, Option, Some, None}
+use Rattle.std.specs.List.{flat_map}
 use Rattle.std.proofs.lemmas.List.Concat.{flat_map-append}
 use Rattle.std.proofs.lemmas.List.{append-nil, take_all, take_min, take-append-le}
 use Rattle.cs_outside.specs.Device.{appended, WritesPrefix}
 use Rattle.scenario_text.specs.Words.{Word}
 use Rattle.scenario_text.specs.Text.{line}
-use Rattle.room_report.specs.Report.{lines_text}
 
 appended-appended : (before : Option (List ℕ)) (a b : List ℕ) → appended (appended before a) b ≡ appended before (a ++ b)
 appended-appended None a b = refl
@@ -71,6 +71,10 @@ pub whole_prefix : (before : Option (List ℕ)) (whole : List ℕ) (now : Option
 whole_prefix before whole now written = (length whole, written ∙ ap (appended before) (sym (take_all (length whole) whole (omega arith))))
 
 -- ---- lines
+
+-- these lines, each with its line feed
+abbrev lines_text : List (List Word) → List ℕ
+lines_text lines = flat_map line lines
 
 -- of the whole text these lines are left
 pub record AreLeft (before : Option (List ℕ)) (whole : List ℕ) (left : List (List Word)) (now : Option (List ℕ)) : Type 0 where
