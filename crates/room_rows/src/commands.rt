@@ -3,6 +3,7 @@
 
 ghost use Rattle.std.specs.Prelude.{◌≡◌, ◌<◌};
 
+use crate::scenarios::text_of_steps;
 use cs_outside::{MemSink, MemSource, NoGate, PairGuard};
 use scenario_runner::{Status, replay, run};
 use scenario_text::BadKind;
@@ -119,14 +120,44 @@ fn expect_run<R: Threads + Wait + AllocGlobal + Sync + Abort>(
     assert!(rt; sink.bytes() == output);
 }
 
-/// Expects that the stored run is written whole, in this many calls that take at most `most` bytes.
+/// The same of `replay`.
+fn expect_replay<R: AllocGlobal + Abort>(
+    rt: &R,
+    texts: &[&str],
+    source: &mut MemSource,
+    sink: &mut MemSink,
+    wanted: Status,
+    output: &[u8],
+)
+    requires source { source.old.faults ≡ 0 }
+    requires sink { sink.old.faults ≡ 0 }
+{
+    let words = words_of(rt.alloc(), texts).expect(rt, "room");
+    let guards = Vec::<PairGuard>::new(rt.alloc());
+    assert!(rt; replay(rt.alloc(), &words, source, sink, guards) == wanted);
+    assert!(rt; sink.bytes() == output);
+}
+
+/// Expects that `run` and `replay` write the stored run whole, in this many calls that take at most `most`
+/// bytes.
 fn expect_played<R: Threads + Wait + AllocGlobal + Sync + Abort>(rt: &R, most: usize, calls: u64)
     requires { 0 < most }
 {
+    let output = joined(rt.alloc(), &LINES).expect(rt, "room");
     let mut source = source_of(rt, INPUT.as_bytes(), 4096, Vec::new(rt.alloc()));
     let mut sink = sink_of(rt, most, Vec::new(rt.alloc()));
-    let output = joined(rt.alloc(), &LINES).expect(rt, "room");
     expect_run(
+        rt,
+        &["replay"],
+        &mut source,
+        &mut sink,
+        Status::Done,
+        &output,
+    );
+    assert!(rt; sink.calls() == calls);
+    let mut source = source_of(rt, INPUT.as_bytes(), 4096, Vec::new(rt.alloc()));
+    let mut sink = sink_of(rt, most, Vec::new(rt.alloc()));
+    expect_replay(
         rt,
         &["replay"],
         &mut source,
@@ -144,36 +175,39 @@ fn stored_scenario_is_played(rt: HostRuntime) {
     expect_played(&rt, 1, OUTPUT_BYTES);
 }
 
-/// Expects that `replay` without guards ends so over the stored input, and has written these lines. The source gives
-/// a byte at a time. It fails at the one call, and the sink at the other, where they come to it.
-fn expect_replay<R: AllocGlobal + Abort>(
+/// Expects that `run` and `replay` end so over the stored input, and write these lines. The source gives a
+/// byte at a time. It fails at the one call, and the sink at the other, where they come to it.
+fn expect_faults<R: Threads + Wait + AllocGlobal + Sync + Abort>(
     rt: &R,
     read: u64,
     write: u64,
     wanted: Status,
     lines: &[&str],
 ) {
+    let output = joined(rt.alloc(), lines).expect(rt, "room");
     let mut source = source_of(rt, INPUT.as_bytes(), 1, only(rt, read));
     let mut sink = sink_of(rt, 4096, only(rt, write));
-    let words = words_of(rt.alloc(), &["replay"]).expect(rt, "room");
-    let guards = Vec::<PairGuard>::new(rt.alloc());
-    assert!(rt; replay(rt.alloc(), &words, &mut source, &mut sink, guards) == wanted);
-    assert!(rt; sink.bytes() == joined(rt.alloc(), lines).expect(rt, "room").as_slice());
+    expect_run(rt, &["replay"], &mut source, &mut sink, wanted, &output);
+    let mut source = source_of(rt, INPUT.as_bytes(), 1, only(rt, read));
+    let mut sink = sink_of(rt, 4096, only(rt, write));
+    expect_replay(rt, &["replay"], &mut source, &mut sink, wanted, &output);
 }
 
+// A source gives a byte at a call, and then tells its end. What is set for a later call never comes.
 #[test]
 fn source_that_fails_at_each_call(rt: HostRuntime) {
     let bytes = INPUT.len() as u64;
     for call in 1..bytes + 2 {
-        expect_replay(&rt, call, 0, Status::ReadFault, &[]);
+        expect_faults(&rt, call, 0, Status::ReadFault, &[]);
     }
-    expect_replay(&rt, bytes + 2, 0, Status::Done, &LINES);
+    expect_faults(&rt, bytes + 2, 0, Status::Done, &LINES);
 }
 
+// A sink takes a line at a call.
 #[test]
 fn sink_that_fails_at_each_call(rt: HostRuntime) {
     for call in 1..18 {
-        expect_replay(
+        expect_faults(
             &rt,
             0,
             call,
@@ -181,14 +215,18 @@ fn sink_that_fails_at_each_call(rt: HostRuntime) {
             &LINES[..call as usize - 1],
         );
     }
-    expect_replay(&rt, 0, 18, Status::Done, &LINES);
+    expect_faults(&rt, 0, 18, Status::Done, &LINES);
 }
 
-/// Expects that the words are no command's, and that nothing is read for them.
+/// Expects that the words are none of `run` or `replay`, and that nothing is read for them.
 fn expect_bad_words<R: Threads + Wait + AllocGlobal + Sync + Abort>(rt: &R, texts: &[&str]) {
     let mut source = source_of(rt, INPUT.as_bytes(), 4096, Vec::new(rt.alloc()));
     let mut sink = sink_of(rt, 4096, Vec::new(rt.alloc()));
     expect_run(rt, texts, &mut source, &mut sink, Status::BadWords, b"");
+    assert!(rt; source.calls() == 0);
+    let mut source = source_of(rt, INPUT.as_bytes(), 4096, Vec::new(rt.alloc()));
+    let mut sink = sink_of(rt, 4096, Vec::new(rt.alloc()));
+    expect_replay(rt, texts, &mut source, &mut sink, Status::BadWords, b"");
     assert!(rt; source.calls() == 0);
 }
 
@@ -213,15 +251,35 @@ pub fn expect_text<R: Threads + Wait + AllocGlobal + Sync + Abort>(
     expect_run(rt, &["replay"], &mut source, &mut sink, wanted, output);
 }
 
+/// Texts that are no scenario's: an empty one, and others that break one rule each. A version, a number of
+/// siblings twice, the limit of tasks, distinct pids, an earlier leader, and what stands at the end.
+const OTHER_TEXTS: [&str; 9] = [
+    "",
+    "coresched 1\nsiblings 2\nlimits 4 4 65536\nend",
+    "coresched 3\nsiblings 2\nlimits 4 4 65536\nend\n",
+    "coresched 1\nsiblings 9\nlimits 4 4 65536\nend\n",
+    "coresched 1\nsiblings 02\nlimits 4 4 65536\nend\n",
+    "coresched 1\nsiblings 2\nlimits 1 8 65536
+task 1 1 1 0 fifo:10 1000 1000 1000 1000 1000 1000 0 1 1
+task 2 2 2 0 fifo:10 1000 1000 1000 1000 1000 1000 0 1 1
+end\n",
+    "coresched 1\nsiblings 2\nlimits 8 8 65536
+task 1 1 1 0 fifo:10 1000 1000 1000 1000 1000 1000 0 1 1
+task 1 1 1 0 fifo:10 1000 1000 1000 1000 1000 1000 0 1 1
+end\n",
+    "coresched 1\nsiblings 2\nlimits 8 8 65536
+task 2 1 1 0 fifo:10 1000 1000 1000 1000 1000 1000 0 1 1
+end\n",
+    "coresched 1\nsiblings 2\nlimits 4 4 65536\nend\n\n",
+];
+
 #[test]
 fn other_texts(rt: HostRuntime) {
-    expect_text(&rt, b"", UNBUILT, b"");
-    expect_text(
-        &rt,
-        b"coresched 1\nsiblings 2\nlimits 8 8 65536\nend",
-        UNBUILT,
-        b"",
-    );
+    for text in &OTHER_TEXTS {
+        expect_text(&rt, text.as_bytes(), UNBUILT, b"");
+    }
+    let text = text_of_steps(rt.alloc(), 100_001).expect(&rt, "room");
+    expect_text(&rt, &text, UNBUILT, b"");
 }
 
 /// Expects that an input of this many bytes, which is no scenario, ends so.

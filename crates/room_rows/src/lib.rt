@@ -69,3 +69,5 @@ mod scenarios;
 mod scripts;
 #[cfg(test)]
 mod strangers;
+#[cfg(test)]
+mod written;

@@ -238,7 +238,7 @@ fn refuses_other_texts(rt: HostRuntime) {
 }
 
 /// A text of a head, one task and this many steps.
-fn text_of_steps(alloc: Global, count: usize) -> Result<Vec<u8>, AllocError> {
+pub fn text_of_steps(alloc: Global, count: usize) -> Result<Vec<u8>, AllocError> {
     let mut text = HEAD.as_bytes().to_vec(alloc)?;
     for _ in 0..count {
         text.extend_from_slice(b"step s0 turn\n")?;
