@@ -163,9 +163,9 @@ pub record KeepsLimits (most : ℕ) (scenario : Scenario) : Type 0 where
 abbrev pub IsPlayable : Scenario → Type 0
 IsPlayable scenario = KeepsLimits 16 scenario
 
--- a scenario that can be written and played: its core has 1 to 8 siblings
-abbrev pub IsBuilt : Scenario → Type 0
-IsBuilt scenario = KeepsLimits 8 scenario
+-- a valid scenario, which a text can have: its core has 1 to 8 siblings
+abbrev pub IsValid : Scenario → Type 0
+IsValid scenario = KeepsLimits 8 scenario
 
 -- ---- scripts
 

@@ -52,11 +52,6 @@ const LINES: [&str; 17] = [
 /// How many bytes the lines have.
 const OUTPUT_BYTES: u64 = 437;
 
-const UNBUILT: Status = Status::BadScenario {
-    line: 0,
-    kind: BadKind::Unbuilt,
-};
-
 /// The text of these lines.
 pub fn joined(alloc: Global, lines: &[&str]) -> Result<Vec<u8>, AllocError> {
     let mut text = Vec::new(alloc);
@@ -251,35 +246,76 @@ pub fn expect_text<R: Threads + Wait + AllocGlobal + Sync + Abort>(
     expect_run(rt, &["replay"], &mut source, &mut sink, wanted, output);
 }
 
-/// Texts that are no scenario's: an empty one, and others that break one rule each. A version, a number of
-/// siblings twice, the limit of tasks, distinct pids, an earlier leader, and what stands at the end.
-const OTHER_TEXTS: [&str; 9] = [
-    "",
-    "coresched 1\nsiblings 2\nlimits 4 4 65536\nend",
-    "coresched 3\nsiblings 2\nlimits 4 4 65536\nend\n",
-    "coresched 1\nsiblings 9\nlimits 4 4 65536\nend\n",
-    "coresched 1\nsiblings 02\nlimits 4 4 65536\nend\n",
-    "coresched 1\nsiblings 2\nlimits 1 8 65536
+/// Texts that are no scenario's, each with its first bad line and what is wrong with it: an empty one, and others
+/// that break one rule each. A version, a number of siblings twice, the limit of tasks, distinct pids, an earlier
+/// leader, and what stands at the end.
+const OTHER_TEXTS: [(u32, BadKind, &str); 9] = [
+    (1, BadKind::Cut, ""),
+    (
+        4,
+        BadKind::Cut,
+        "coresched 1\nsiblings 2\nlimits 4 4 65536\nend",
+    ),
+    (
+        1,
+        BadKind::Shape,
+        "coresched 3\nsiblings 2\nlimits 4 4 65536\nend\n",
+    ),
+    (
+        2,
+        BadKind::Number,
+        "coresched 1\nsiblings 9\nlimits 4 4 65536\nend\n",
+    ),
+    (
+        2,
+        BadKind::Number,
+        "coresched 1\nsiblings 02\nlimits 4 4 65536\nend\n",
+    ),
+    (
+        5,
+        BadKind::Full,
+        "coresched 1\nsiblings 2\nlimits 1 8 65536
 task 1 1 1 0 fifo:10 1000 1000 1000 1000 1000 1000 0 1 1
 task 2 2 2 0 fifo:10 1000 1000 1000 1000 1000 1000 0 1 1
 end\n",
-    "coresched 1\nsiblings 2\nlimits 8 8 65536
+    ),
+    (
+        5,
+        BadKind::Twice,
+        "coresched 1\nsiblings 2\nlimits 8 8 65536
 task 1 1 1 0 fifo:10 1000 1000 1000 1000 1000 1000 0 1 1
 task 1 1 1 0 fifo:10 1000 1000 1000 1000 1000 1000 0 1 1
 end\n",
-    "coresched 1\nsiblings 2\nlimits 8 8 65536
+    ),
+    (
+        4,
+        BadKind::Leader,
+        "coresched 1\nsiblings 2\nlimits 8 8 65536
 task 2 1 1 0 fifo:10 1000 1000 1000 1000 1000 1000 0 1 1
 end\n",
-    "coresched 1\nsiblings 2\nlimits 4 4 65536\nend\n\n",
+    ),
+    (
+        5,
+        BadKind::After,
+        "coresched 1\nsiblings 2\nlimits 4 4 65536\nend\n\n",
+    ),
 ];
 
 #[test]
 fn other_texts(rt: HostRuntime) {
-    for text in &OTHER_TEXTS {
-        expect_text(&rt, text.as_bytes(), UNBUILT, b"");
+    for (line, kind, text) in &OTHER_TEXTS {
+        let wanted = Status::BadScenario {
+            line: *line,
+            kind: *kind,
+        };
+        expect_text(&rt, text.as_bytes(), wanted, b"");
     }
     let text = text_of_steps(rt.alloc(), 100_001).expect(&rt, "room");
-    expect_text(&rt, &text, UNBUILT, b"");
+    let wanted = Status::BadScenario {
+        line: 100_005,
+        kind: BadKind::Full,
+    };
+    expect_text(&rt, &text, wanted, b"");
 }
 
 /// Expects that an input of this many bytes, which is no scenario, ends so.
@@ -294,6 +330,10 @@ fn expect_long<R: Threads + Wait + AllocGlobal + Sync + Abort>(
 
 #[test]
 fn input_that_is_too_long(rt: HostRuntime) {
-    expect_long(&rt, 16_777_216, UNBUILT);
+    let wanted = Status::BadScenario {
+        line: 1,
+        kind: BadKind::Cut,
+    };
+    expect_long(&rt, 16_777_216, wanted);
     expect_long(&rt, 16_777_217, Status::TooLong);
 }

@@ -1,5 +1,5 @@
-//! Texts of scenarios: one that is read, texts that are no scenario's, one for each rule of the
-//! grammar, and the limit of steps on both sides.
+//! Texts of scenarios: one that is read, texts that are no scenario's, one for each rule of the grammar with
+//! its first bad line and kind, and the limit of steps on both sides.
 
 use cs_types::{Scenario, TaskSpec};
 use scenario_text::{BadKind, ReadFault, read};
@@ -54,98 +54,586 @@ fn items_are_reversed(rt: HostRuntime) {
 const HEAD: &str =
     "coresched 1\nsiblings 2\nlimits 8 8 65536\ntask 1 1 1 0 fifo:10 0 0 0 0 0 0 0 1 1\n";
 
-/// For each rule a text that breaks it alone, behind a colon. Each `|` of it is a line feed.
-const REFUSED_TEXTS: &str = "some line:
-the version:coresched 2|siblings 2|limits 8 8 65536|end|
-the least number of siblings:coresched 1|siblings 0|limits 8 8 65536|end|
-the greatest number of siblings:coresched 1|siblings 9|limits 8 8 65536|end|
-the least limit:coresched 1|siblings 2|limits 0 8 65536|end|
-the greatest limit:coresched 1|siblings 2|limits 8 257 65536|end|
-the least top:coresched 1|siblings 2|limits 8 8 8191|end|
-the greatest top:coresched 1|siblings 2|limits 8 8 9223372036854775808|end|
-the limit of tasks:coresched 1|siblings 2|limits 1 8 65536|task 1 1 1 0 fifo:10 0 0 0 0 0 0 0 1 1|task 2 2 2 0 fifo:10 0 0 0 0 0 0 0 1 1|end|";
+/// A rule, the first bad line of a text that breaks it alone, what is wrong with that line, and the text.
+/// Each `|` of it is a line feed.
+type Refused = (&'static str, u32, BadKind, &'static str);
 
-/// The same of texts that go on after the head and the task, with steps.
-const REFUSED_STEPS: &str = "a last line feed:end
-an end:
-nothing after the end:end|step s0 turn|
-one space:step  s0 turn|end|
-no space at the end:step s0 turn |end|
-no blank line:|end|
-a known word:pause|end|
-no word more:step s0 turn 1|end|
-no leading 0:step c0 wake 01|end|
-no sign:step c0 wake +1|end|
-the greatest pid of a step:step c0 wake 1000000|end|
-the callers:step c8 wake 1|end|
-a sibling's own event:step c0 turn|end|
-a caller's event:step s0 wake 1|end|
-an actor's sibling:step s2 turn|end|
-the greatest command:step c0 prctl 1 4294967296 0 0 0|end|
-the greatest target:step c0 prctl 1 2 2147483648 0 0|end|
-the least target:step c0 prctl 1 2 -2147483649 0 0|end|
-no sign of a target 0:step c0 prctl 1 2 -0 0 0|end|
-a sign before digits:step c0 prctl 1 2 - 0 0|end|
-no leading 0 behind a sign:step c0 prctl 1 2 -01 0 0|end|
-no sign of a scope:step c0 prctl 1 2 1 -1 0|end|
-the greatest scope:step c0 prctl 1 1 0 4294967296 0|end|
-the greatest address:step c0 prctl 1 0 0 0 18446744073709551616|end|
-five arguments:step c0 prctl 1 1 0 0|end|
-a call's own actor:step s0 prctl 1 1 0 0 0|end|
-a fork's own actor:step s0 fork 1 thread|end|
-an exit's own actor:step c0 exit|end|
-a tick's own actor:step c0 tick|end|
-an advance's own actor:step s0 advance 1|end|
-the least advance:step c0 advance 0|end|
-the greatest advance:step c0 advance 1000000001|end|
-what a child is:step c0 fork 1 task|end|
-the least pid of a fork:step c0 fork 0 thread|end|
-a schedule's own actor:step c0 resched|end|
-a policy of a change:step c0 setsched 1|end|
-the greatest priority of a change:step c0 setsched 1 fifo:100|end|
-the least pid of a change:step c0 setsched 0 stop|end|
-a change's own actor:step s0 setsched 1 stop|end|
-a sibling that leaves:step c0 offline 2|end|
-a sibling that comes back:step c0 online 01|end|";
+/// Texts that are no scenario's.
+const REFUSED_TEXTS: [Refused; 14] = [
+    ("some line", 1, BadKind::Cut, ""),
+    ("a whole first line", 1, BadKind::Cut, "coresched 1"),
+    (
+        "the version",
+        1,
+        BadKind::Shape,
+        "coresched 2|siblings 2|limits 8 8 65536|end|",
+    ),
+    (
+        "the first line's case",
+        1,
+        BadKind::Shape,
+        "Coresched 1|siblings 2|limits 8 8 65536|end|",
+    ),
+    (
+        "the second line",
+        2,
+        BadKind::Shape,
+        "coresched 1|limits 8 8 65536|end|",
+    ),
+    (
+        "the least number of siblings",
+        2,
+        BadKind::Number,
+        "coresched 1|siblings 0|limits 8 8 65536|end|",
+    ),
+    (
+        "the greatest number of siblings",
+        2,
+        BadKind::Number,
+        "coresched 1|siblings 9|limits 8 8 65536|end|",
+    ),
+    (
+        "the third line",
+        3,
+        BadKind::Shape,
+        "coresched 1|siblings 2|end|",
+    ),
+    (
+        "the least limit",
+        3,
+        BadKind::Number,
+        "coresched 1|siblings 2|limits 0 8 65536|end|",
+    ),
+    (
+        "the greatest limit",
+        3,
+        BadKind::Number,
+        "coresched 1|siblings 2|limits 8 257 65536|end|",
+    ),
+    (
+        "the least top",
+        3,
+        BadKind::Number,
+        "coresched 1|siblings 2|limits 8 8 8191|end|",
+    ),
+    (
+        "the greatest top",
+        3,
+        BadKind::Number,
+        "coresched 1|siblings 2|limits 8 8 9223372036854775808|end|",
+    ),
+    (
+        "the limit of tasks",
+        5,
+        BadKind::Full,
+        "coresched 1|siblings 2|limits 1 8 65536|task 1 1 1 0 fifo:10 0 0 0 0 0 0 0 1 1|task 2 2 2 0 fifo:10 0 0 0 0 0 0 0 1 1|end|",
+    ),
+    (
+        "the first of two bad lines",
+        2,
+        BadKind::Number,
+        "coresched 1|siblings 9|limit|end|",
+    ),
+];
+
+/// The same, behind the head and the task, whose lines are four, with steps.
+const REFUSED_STEPS: [Refused; 55] = [
+    ("a last line feed", 5, BadKind::Cut, "end"),
+    ("an end", 5, BadKind::Cut, ""),
+    ("an end behind a step", 6, BadKind::Cut, "step s0 turn|"),
+    (
+        "nothing after the end",
+        6,
+        BadKind::After,
+        "end|step s0 turn|",
+    ),
+    ("no line after the end", 6, BadKind::After, "end||"),
+    (
+        "no part of a line after the end",
+        6,
+        BadKind::After,
+        "end|x",
+    ),
+    ("one end", 6, BadKind::After, "end|end|"),
+    ("one space", 5, BadKind::Shape, "step  s0 turn|end|"),
+    (
+        "no space at the end",
+        5,
+        BadKind::Shape,
+        "step s0 turn |end|",
+    ),
+    (
+        "no space at the start",
+        5,
+        BadKind::Shape,
+        " step s0 turn|end|",
+    ),
+    (
+        "no empty word in a number's place",
+        5,
+        BadKind::Shape,
+        "step c0 wake |end|",
+    ),
+    ("no blank line", 5, BadKind::Shape, "|end|"),
+    ("a known word", 5, BadKind::Shape, "pause|end|"),
+    ("no word more", 5, BadKind::Shape, "step s0 turn 1|end|"),
+    ("an event", 5, BadKind::Shape, "step s0|end|"),
+    ("no leading 0", 5, BadKind::Number, "step c0 wake 01|end|"),
+    ("no sign", 5, BadKind::Number, "step c0 wake +1|end|"),
+    ("digits", 5, BadKind::Number, "step c0 wake one|end|"),
+    (
+        "the greatest pid of a step",
+        5,
+        BadKind::Number,
+        "step c0 wake 1000000|end|",
+    ),
+    ("the callers", 5, BadKind::Number, "step c8 wake 1|end|"),
+    (
+        "a caller's number",
+        5,
+        BadKind::Number,
+        "step c wake 1|end|",
+    ),
+    ("a sibling's number", 5, BadKind::Number, "step s turn|end|"),
+    ("an actor's letter", 5, BadKind::Shape, "step x0 turn|end|"),
+    (
+        "a sibling's own event",
+        5,
+        BadKind::Shape,
+        "step c0 turn|end|",
+    ),
+    ("a caller's event", 5, BadKind::Shape, "step s0 wake 1|end|"),
+    (
+        "the form before a number",
+        5,
+        BadKind::Shape,
+        "step s9 wake 1|end|",
+    ),
+    (
+        "an actor's sibling",
+        5,
+        BadKind::Number,
+        "step s2 turn|end|",
+    ),
+    (
+        "the greatest command",
+        5,
+        BadKind::Number,
+        "step c0 prctl 1 4294967296 0 0 0|end|",
+    ),
+    (
+        "the greatest target",
+        5,
+        BadKind::Number,
+        "step c0 prctl 1 2 2147483648 0 0|end|",
+    ),
+    (
+        "the least target",
+        5,
+        BadKind::Number,
+        "step c0 prctl 1 2 -2147483649 0 0|end|",
+    ),
+    (
+        "no sign of a target 0",
+        5,
+        BadKind::Number,
+        "step c0 prctl 1 2 -0 0 0|end|",
+    ),
+    (
+        "a sign before digits",
+        5,
+        BadKind::Number,
+        "step c0 prctl 1 2 - 0 0|end|",
+    ),
+    (
+        "no leading 0 behind a sign",
+        5,
+        BadKind::Number,
+        "step c0 prctl 1 2 -01 0 0|end|",
+    ),
+    (
+        "no sign of a scope",
+        5,
+        BadKind::Number,
+        "step c0 prctl 1 2 1 -1 0|end|",
+    ),
+    (
+        "the greatest scope",
+        5,
+        BadKind::Number,
+        "step c0 prctl 1 1 0 4294967296 0|end|",
+    ),
+    (
+        "the greatest address",
+        5,
+        BadKind::Number,
+        "step c0 prctl 1 0 0 0 18446744073709551616|end|",
+    ),
+    (
+        "five arguments",
+        5,
+        BadKind::Shape,
+        "step c0 prctl 1 1 0 0|end|",
+    ),
+    (
+        "a call's own actor",
+        5,
+        BadKind::Shape,
+        "step s0 prctl 1 1 0 0 0|end|",
+    ),
+    (
+        "a fork's own actor",
+        5,
+        BadKind::Shape,
+        "step s0 fork 1 thread|end|",
+    ),
+    (
+        "an exit's own actor",
+        5,
+        BadKind::Shape,
+        "step c0 exit|end|",
+    ),
+    ("a tick's own actor", 5, BadKind::Shape, "step c0 tick|end|"),
+    (
+        "an advance's own actor",
+        5,
+        BadKind::Shape,
+        "step s0 advance 1|end|",
+    ),
+    (
+        "the least advance",
+        5,
+        BadKind::Number,
+        "step c0 advance 0|end|",
+    ),
+    (
+        "the greatest advance",
+        5,
+        BadKind::Number,
+        "step c0 advance 1000000001|end|",
+    ),
+    (
+        "what a child is",
+        5,
+        BadKind::Shape,
+        "step c0 fork 1 task|end|",
+    ),
+    (
+        "what a child is before its parent's pid",
+        5,
+        BadKind::Shape,
+        "step c0 fork 0 task|end|",
+    ),
+    (
+        "the least pid of a fork",
+        5,
+        BadKind::Number,
+        "step c0 fork 0 thread|end|",
+    ),
+    (
+        "a schedule's own actor",
+        5,
+        BadKind::Shape,
+        "step c0 resched|end|",
+    ),
+    (
+        "a policy of a change",
+        5,
+        BadKind::Shape,
+        "step c0 setsched 1|end|",
+    ),
+    (
+        "a known policy of a change",
+        5,
+        BadKind::Shape,
+        "step c0 setsched 0 nice:1|end|",
+    ),
+    (
+        "the greatest priority of a change",
+        5,
+        BadKind::Number,
+        "step c0 setsched 1 fifo:100|end|",
+    ),
+    (
+        "the least pid of a change",
+        5,
+        BadKind::Number,
+        "step c0 setsched 0 stop|end|",
+    ),
+    (
+        "a change's own actor",
+        5,
+        BadKind::Shape,
+        "step s0 setsched 1 stop|end|",
+    ),
+    (
+        "a sibling that leaves",
+        5,
+        BadKind::Number,
+        "step c0 offline 2|end|",
+    ),
+    (
+        "a sibling that comes back",
+        5,
+        BadKind::Number,
+        "step c0 online 01|end|",
+    ),
+];
 
 /// The same, with tasks.
-const REFUSED_TASKS: &str =
-    "the greatest pid of a task:task 10000 1 1 0 fifo:10 0 0 0 0 0 0 0 1 1|end|
-a task's sibling:task 2 2 2 2 fifo:10 0 0 0 0 0 0 0 1 1|end|
-the policy:task 2 2 2 0 nice:10 0 0 0 0 0 0 0 1 1|end|
-the stop task's lack of a number:task 2 2 2 0 stop:1 0 0 0 0 0 0 0 1 1|end|
-a number of each other policy:task 2 2 2 0 fifo 0 0 0 0 0 0 0 1 1|end|
-the least relative deadline:task 2 2 2 0 dl:0 0 0 0 0 0 0 0 1 1|end|
-the greatest relative deadline:task 2 2 2 0 dl:1000000001 0 0 0 0 0 0 0 1 1|end|
-the least priority:task 2 2 2 0 fifo:0 0 0 0 0 0 0 0 1 1|end|
-the greatest priority:task 2 2 2 0 fifo:100 0 0 0 0 0 0 0 1 1|end|
-the least priority of RR:task 2 2 2 0 rr:0 0 0 0 0 0 0 0 1 1|end|
-the greatest priority of RR:task 2 2 2 0 rr:100 0 0 0 0 0 0 0 1 1|end|
-no leading 0 of a priority:task 2 2 2 0 rr:07 0 0 0 0 0 0 0 1 1|end|
-the least nice value:task 2 2 2 0 fair:-21 0 0 0 0 0 0 0 1 1|end|
-the greatest nice value:task 2 2 2 0 fair:20 0 0 0 0 0 0 0 1 1|end|
-no sign of a nice value 0:task 2 2 2 0 fair:-0 0 0 0 0 0 0 0 1 1|end|
-no other sign of a nice value:task 2 2 2 0 fair:+5 0 0 0 0 0 0 0 1 1|end|
-the greatest id:task 2 2 2 0 fifo:10 0 0 0 0 0 65536 0 1 1|end|
-a flag:task 2 2 2 0 fifo:10 0 0 0 0 0 0 0 1 2|end|
-distinct pids:task 1 1 1 0 fifo:10 0 0 0 0 0 0 0 1 1|end|
-an earlier leader:task 2 3 3 0 fifo:10 0 0 0 0 0 0 0 1 1|end|
-the leader's process group:task 2 1 2 0 fifo:10 0 0 0 0 0 0 0 1 1|end|
-a leader of its own group:task 2 1 1 0 fifo:10 0 0 0 0 0 0 0 1 1|task 3 2 1 0 fifo:10 0 0 0 0 0 0 0 1 1|end|
-tasks before steps:step s0 turn|task 2 2 2 0 fifo:10 0 0 0 0 0 0 0 1 1|end|";
+const REFUSED_TASKS: [Refused; 31] = [
+    (
+        "the greatest pid of a task",
+        5,
+        BadKind::Number,
+        "task 10000 1 1 0 fifo:10 0 0 0 0 0 0 0 1 1|end|",
+    ),
+    (
+        "the least thread group",
+        5,
+        BadKind::Number,
+        "task 2 0 2 0 fifo:10 0 0 0 0 0 0 0 1 1|end|",
+    ),
+    (
+        "the greatest thread group",
+        5,
+        BadKind::Number,
+        "task 2 10000 2 0 fifo:10 0 0 0 0 0 0 0 1 1|end|",
+    ),
+    (
+        "a task's sibling",
+        5,
+        BadKind::Number,
+        "task 2 2 2 2 fifo:10 0 0 0 0 0 0 0 1 1|end|",
+    ),
+    (
+        "the policy",
+        5,
+        BadKind::Shape,
+        "task 2 2 2 0 nice:10 0 0 0 0 0 0 0 1 1|end|",
+    ),
+    (
+        "the policy before a number",
+        5,
+        BadKind::Shape,
+        "task 0 2 2 0 nice:10 0 0 0 0 0 0 0 1 1|end|",
+    ),
+    (
+        "the stop task's lack of a number",
+        5,
+        BadKind::Shape,
+        "task 2 2 2 0 stop:1 0 0 0 0 0 0 0 1 1|end|",
+    ),
+    (
+        "a number of each other policy",
+        5,
+        BadKind::Shape,
+        "task 2 2 2 0 fifo 0 0 0 0 0 0 0 1 1|end|",
+    ),
+    (
+        "some number behind the colon",
+        5,
+        BadKind::Number,
+        "task 2 2 2 0 fifo: 0 0 0 0 0 0 0 1 1|end|",
+    ),
+    (
+        "one number behind the colon",
+        5,
+        BadKind::Number,
+        "task 2 2 2 0 fifo:1:2 0 0 0 0 0 0 0 1 1|end|",
+    ),
+    (
+        "the least relative deadline",
+        5,
+        BadKind::Number,
+        "task 2 2 2 0 dl:0 0 0 0 0 0 0 0 1 1|end|",
+    ),
+    (
+        "the greatest relative deadline",
+        5,
+        BadKind::Number,
+        "task 2 2 2 0 dl:1000000001 0 0 0 0 0 0 0 1 1|end|",
+    ),
+    (
+        "the least priority",
+        5,
+        BadKind::Number,
+        "task 2 2 2 0 fifo:0 0 0 0 0 0 0 0 1 1|end|",
+    ),
+    (
+        "the greatest priority",
+        5,
+        BadKind::Number,
+        "task 2 2 2 0 fifo:100 0 0 0 0 0 0 0 1 1|end|",
+    ),
+    (
+        "the least priority of RR",
+        5,
+        BadKind::Number,
+        "task 2 2 2 0 rr:0 0 0 0 0 0 0 0 1 1|end|",
+    ),
+    (
+        "the greatest priority of RR",
+        5,
+        BadKind::Number,
+        "task 2 2 2 0 rr:100 0 0 0 0 0 0 0 1 1|end|",
+    ),
+    (
+        "no leading 0 of a priority",
+        5,
+        BadKind::Number,
+        "task 2 2 2 0 rr:07 0 0 0 0 0 0 0 1 1|end|",
+    ),
+    (
+        "the least nice value",
+        5,
+        BadKind::Number,
+        "task 2 2 2 0 fair:-21 0 0 0 0 0 0 0 1 1|end|",
+    ),
+    (
+        "the greatest nice value",
+        5,
+        BadKind::Number,
+        "task 2 2 2 0 fair:20 0 0 0 0 0 0 0 1 1|end|",
+    ),
+    (
+        "no sign of a nice value 0",
+        5,
+        BadKind::Number,
+        "task 2 2 2 0 fair:-0 0 0 0 0 0 0 0 1 1|end|",
+    ),
+    (
+        "no other sign of a nice value",
+        5,
+        BadKind::Number,
+        "task 2 2 2 0 fair:+5 0 0 0 0 0 0 0 1 1|end|",
+    ),
+    (
+        "the greatest id",
+        5,
+        BadKind::Number,
+        "task 2 2 2 0 fifo:10 0 0 0 0 0 65536 0 1 1|end|",
+    ),
+    (
+        "a flag",
+        5,
+        BadKind::Number,
+        "task 2 2 2 0 fifo:10 0 0 0 0 0 0 0 1 2|end|",
+    ),
+    (
+        "all words of a task",
+        5,
+        BadKind::Shape,
+        "task 2 2 2 0 fifo:10 0 0 0 0 0 0 0 1|end|",
+    ),
+    (
+        "no sixteenth word",
+        5,
+        BadKind::Shape,
+        "task 2 2 2 0 fifo:10 0 0 0 0 0 0 0 1 1 0|end|",
+    ),
+    (
+        "distinct pids",
+        5,
+        BadKind::Twice,
+        "task 1 1 1 0 fifo:10 0 0 0 0 0 0 0 1 1|end|",
+    ),
+    (
+        "distinct pids before a leader",
+        5,
+        BadKind::Twice,
+        "task 1 3 3 0 fifo:10 0 0 0 0 0 0 0 1 1|end|",
+    ),
+    (
+        "an earlier leader",
+        5,
+        BadKind::Leader,
+        "task 2 3 3 0 fifo:10 0 0 0 0 0 0 0 1 1|end|",
+    ),
+    (
+        "the leader's process group",
+        5,
+        BadKind::Leader,
+        "task 2 1 2 0 fifo:10 0 0 0 0 0 0 0 1 1|end|",
+    ),
+    (
+        "a leader of its own group",
+        6,
+        BadKind::Leader,
+        "task 2 1 1 0 fifo:10 0 0 0 0 0 0 0 1 1|task 3 2 1 0 fifo:10 0 0 0 0 0 0 0 1 1|end|",
+    ),
+    (
+        "tasks before steps",
+        6,
+        BadKind::Shape,
+        "step s0 turn|task 2 2 2 0 fifo:10 0 0 0 0 0 0 0 1 1|end|",
+    ),
+];
 
 /// The same, with teach lines.
-const REFUSED_TEACHES: &str = "the greatest guard:teach 16 0 0|end|
-the greatest user of a caller:teach 0 65536 0|end|
-the greatest user of a target:teach 0 0 65536|end|
-no leading 0 of a guard:teach 00 0 0|end|
-two users:teach 0 0|end|
-tasks before teach lines:teach 0 0 0|task 2 2 2 0 stop 0 0 0 0 0 0 0 1 1|end|
-teach lines before steps:step s0 turn|teach 0 0 0|end|
-the greatest guard of a load:step c0 load 16|end|
-a load's own actor:step s0 load 0|end|
-the greatest guard of an unload:step c0 unload 16|end|
-a guard of an unload:step c0 unload|end|";
+const REFUSED_TEACHES: [Refused; 11] = [
+    (
+        "the greatest guard",
+        5,
+        BadKind::Number,
+        "teach 16 0 0|end|",
+    ),
+    (
+        "the greatest user of a caller",
+        5,
+        BadKind::Number,
+        "teach 0 65536 0|end|",
+    ),
+    (
+        "the greatest user of a target",
+        5,
+        BadKind::Number,
+        "teach 0 0 65536|end|",
+    ),
+    (
+        "no leading 0 of a guard",
+        5,
+        BadKind::Number,
+        "teach 00 0 0|end|",
+    ),
+    ("two users", 5, BadKind::Shape, "teach 0 0|end|"),
+    (
+        "tasks before teach lines",
+        6,
+        BadKind::Shape,
+        "teach 0 0 0|task 2 2 2 0 stop 0 0 0 0 0 0 0 1 1|end|",
+    ),
+    (
+        "teach lines before steps",
+        6,
+        BadKind::Shape,
+        "step s0 turn|teach 0 0 0|end|",
+    ),
+    (
+        "the greatest guard of a load",
+        5,
+        BadKind::Number,
+        "step c0 load 16|end|",
+    ),
+    (
+        "a load's own actor",
+        5,
+        BadKind::Shape,
+        "step s0 load 0|end|",
+    ),
+    (
+        "the greatest guard of an unload",
+        5,
+        BadKind::Number,
+        "step c0 unload 16|end|",
+    ),
+    (
+        "a guard of an unload",
+        5,
+        BadKind::Shape,
+        "step c0 unload|end|",
+    ),
+];
 
 /// A tick, and for each argument of the other events the least and the greatest.
 const STEPS: &str = "step c0 load 0
@@ -205,36 +693,28 @@ fn reads_policies(rt: HostRuntime) {
     }
 }
 
-fn is_refused(alloc: Global, text: &[u8]) -> bool {
+/// Whether the text is refused, with this first bad line and what is wrong with it.
+fn is_refused(alloc: Global, text: &[u8], line: u32, kind: BadKind) -> bool {
     matches!(
         read(alloc, text),
-        Err(ReadFault::Bad {
-            line: 0,
-            kind: BadKind::Unbuilt,
-        })
+        Err(ReadFault::Bad { line: found, kind: what }) if found == line && what == kind
     )
 }
 
-/// Expects that a text is refused behind the head. Before its colon stands the rule that it breaks.
-fn expect_refused_line<R: AllocGlobal + Abort>(rt: &R, head: &str, line: &str) {
-    let (rule, rest) = line.split_once(':').expect(rt, line);
-    let text = text_of(rt.alloc(), head, rest).expect(rt, "room");
-    assert!(rt; is_refused(rt.alloc(), &text), "{rule}");
-}
-
 /// Expects that each of these texts is refused behind the head.
-fn expect_refused<R: AllocGlobal + Abort>(rt: &R, head: &str, texts: &str) {
-    for line in texts.lines() {
-        expect_refused_line(rt, head, line);
+fn expect_refused<R: AllocGlobal + Abort>(rt: &R, head: &str, texts: &[Refused]) {
+    for (rule, line, kind, rest) in texts {
+        let text = text_of(rt.alloc(), head, rest).expect(rt, "room");
+        assert!(rt; is_refused(rt.alloc(), &text, *line, *kind), "{rule}");
     }
 }
 
 #[test]
 fn refuses_other_texts(rt: HostRuntime) {
-    expect_refused(&rt, "", REFUSED_TEXTS);
-    expect_refused(&rt, HEAD, REFUSED_STEPS);
-    expect_refused(&rt, HEAD, REFUSED_TASKS);
-    expect_refused(&rt, HEAD, REFUSED_TEACHES);
+    expect_refused(&rt, "", &REFUSED_TEXTS);
+    expect_refused(&rt, HEAD, &REFUSED_STEPS);
+    expect_refused(&rt, HEAD, &REFUSED_TASKS);
+    expect_refused(&rt, HEAD, &REFUSED_TEACHES);
 }
 
 /// A text of a head, one task and this many steps.
@@ -256,7 +736,7 @@ fn reads_100000_steps(rt: HostRuntime) {
 #[test]
 fn refuses_100001_steps(rt: HostRuntime) {
     let text = text_of_steps(rt.alloc(), 100_001).expect(&rt, "room");
-    assert!(rt; is_refused(rt.alloc(), &text));
+    assert!(rt; is_refused(rt.alloc(), &text, 100_005, BadKind::Full));
 }
 
 /// A text of a head, one task and this many teach lines.
@@ -281,5 +761,5 @@ fn reads_64_teaches(rt: HostRuntime) {
 #[test]
 fn refuses_65_teaches(rt: HostRuntime) {
     let text = text_of_teaches(rt.alloc(), 65).expect(&rt, "room");
-    assert!(rt; is_refused(rt.alloc(), &text));
+    assert!(rt; is_refused(rt.alloc(), &text, 69, BadKind::Full));
 }

@@ -2,11 +2,11 @@
 use Rattle.std.specs.Prelude.{◌≡◌, ℕ, ◌-◌, List, [], length, Option, Some, IfSome}
 use Rattle.std.specs.Option.{option_map_or}
 use Rattle.cs_types.specs.declared.scenario.Scenario.{Scenario}
-use Rattle.cs_types.specs.Scenario.{IsBuilt}
+use Rattle.cs_types.specs.Scenario.{IsValid}
 use Rattle.cs_outside.specs.Device.{prepended}
 use Rattle.scenario_text.specs.declared.fault.BadKind.{BadKind}
-use Rattle.scenario_text.specs.declared.fault.BadKind.TheVariants.{Unbuilt}
 use Rattle.scenario_text.specs.Text.{scenario_text}
+use Rattle.scenario_text.specs.Faults.{lines_in, IsFirstBad}
 use Rattle.scenario_text.specs.Reader.{HasNoScenario}
 
 -- the most bytes that an input may have (this project's rule)
@@ -21,16 +21,14 @@ count_read before now = option_map_or length before 0 - option_map_or length now
 abbrev pub IsReadAs : Option (List ℕ) → List ℕ → Option (List ℕ) → Type 0
 IsReadAs before bytes now = (before ≡ prepended bytes now) × IfSome now (λ left. left ≡ [])
 
--- the input is the text of a scenario that can be played, and of no other, and was read to its end
+-- the input is the text of a valid scenario, and of no other, and was read to its end
 pub record Reads (scenario : Scenario) (input left : Option (List ℕ)) : Type 0 where
-  pub built : IsBuilt scenario
+  pub valid : IsValid scenario
   pub read : IsReadAs input (scenario_text scenario) left
-  pub alone : (other : Scenario) → IsBuilt other → scenario_text other ≡ scenario_text scenario → other ≡ scenario
+  pub alone : (other : Scenario) → IsValid other → scenario_text other ≡ scenario_text scenario → other ≡ scenario
 
--- the input was read to its end, and is the text of no scenario that can be played, which is said of the text
--- as a whole
-pub record IsBad (at : ℕ) (what : BadKind) (before now : Option (List ℕ)) : Type 0 where
-  pub line : at ≡ 0
-  pub kind : what ≡ Unbuilt
+-- the input was read to its end, is the text of no valid scenario, and this is its first bad line, with the first kind that holds
+pub record IsBad (line : ℕ) (kind : BadKind) (before now : Option (List ℕ)) : Type 0 where
+  pub first : IfSome before (λ bytes. IsFirstBad (lines_in bytes) line kind)
   pub ended : IfSome before (λ _. now ≡ Some [])
   pub text : IfSome before HasNoScenario

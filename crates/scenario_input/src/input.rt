@@ -1,7 +1,8 @@
 //! Reading the input to its end, and the scenario that it spells.
 
-ghost use Rattle.std.specs.Prelude.{◌≡◌, ◌≢◌, ◌+◌, ◌<◌, ◌≤◌, ◌↔◌, Err, IfOk, IfSome};
+ghost use Rattle.std.specs.Prelude.{◌≡◌, ◌≢◌, ◌⊎◌, ◌+◌, ◌<◌, ◌≤◌, ◌↔◌, Some, Err, IfOk, IfSome, length};
 ghost use Rattle.cs_outside.specs.Device.{Rose};
+ghost use Rattle.scenario_text.specs.Faults.{lines_in, IsFirstBad};
 ghost use Rattle.scenario_input.specs.Input.{IsReadAs, IsBad, Reads, input_limit, count_read};
 
 use crate::stop::Stop;
@@ -59,6 +60,9 @@ pub fn read_scenario<S: Source>(alloc: Global, source: &mut S) -> Result<Scenari
         count_read (S.left source.old) (S.left source.new) ≤ input_limit + 1) }
     ensures bad { (line : _) (kind : _) → result ≡ Err (Stop.BadScenario line kind) →
         IsBad line kind (S.left source.old) (S.left source.new) }
+    ensures first { (bytes : _) (line : _) (kind : _) → S.left source.old ≡ Some bytes → length bytes ≤ input_limit →
+        IsFirstBad (lines_in bytes) line kind → result ≢ Err Stop.ReadFault →
+        (result ≡ Err (Stop.BadScenario line kind)) ⊎ (result ≡ Err Stop.OutOfMemory) }
     ensures guards { (line : _) (kind : _) → result ≢ Err (Stop.BadGuard line kind) }
 
     ensures faultless { result ≢ Err Stop.ReadFault → S.faults source.new ≡ S.faults source.old }

@@ -14,8 +14,8 @@ pub enum Status {
     /// The words are no command's. Nothing was read.
     #[error("bad words")]
     BadWords,
-    /// The input was read to its end, and no scenario that can be played has this text. Line 0 is
-    /// the text as a whole.
+    /// The input was read to its end, and no valid scenario has this text. This is its first bad line, and
+    /// what is wrong with it.
     #[error("line {line}: {kind:?}")]
     BadScenario { line: u32, kind: BadKind },
     /// The input is a scenario, and its first teach line that cannot be carried out is this one: it names

@@ -24,7 +24,7 @@ pub enum Stop {
     ReadFault,
     /// More than 16,777,216 bytes were read.
     TooLong,
-    /// The input was read to its end, and no scenario that can be played has this text.
+    /// The input was read to its end, and no valid scenario has this text. This is its first bad line.
     BadScenario { line: u32, kind: BadKind },
     /// The input is a scenario, and this is its first teach line that cannot be carried out.
     BadGuard { line: u32, kind: GuardKind },

@@ -7,18 +7,20 @@ use Rattle.cs_outside.specs.Device.{Rose, appended, WritesPrefix}
 use Rattle.room_report.specs.Report.{output_text}
 use Rattle.scenario_text.specs.declared.fault.BadKind.{BadKind}
 use Rattle.scenario_input.specs.declared.stop.Stop.{Stop}
-use Rattle.scenario_input.specs.declared.stop.Stop.TheVariants.{ReadFault, TooLong, BadScenario, BadGuard}
+use Rattle.scenario_input.specs.declared.stop.Stop.TheVariants.{ReadFault, TooLong, BadScenario, BadGuard, OutOfMemory}
 use Rattle.scenario_input.specs.declared.stop.GuardKind.{GuardKind}
 use Rattle.scenario_input.specs.Teaching.{BadTeach, first_bad}
-use Rattle.cs_types.specs.Scenario.{IsBuilt}
+use Rattle.cs_types.specs.Scenario.{IsValid}
 use Rattle.scenario_text.specs.Text.{scenario_text}
+use Rattle.scenario_text.specs.Faults.{lines_in, IsFirstBad}
+use Rattle.scenario_text.proofs.Scenarios.{none_of}
 use Rattle.scenario_text.specs.Entry.{FitsReply, IsMade, IsEntry}
 use Rattle.std.proofs.lemmas.List.{append-nil}
 use Rattle.scenario_input.specs.declared.status.Status.{Status}
 use Rattle.scenario_input.specs.declared.status.Status.TheVariants as status
 use Rattle.scenario_input.specs.Input.{Reads, IsBad, input_limit, count_read}
 use Rattle.scenario_input.specs.Stop.{status_of}
-use Rattle.scenario_input.proofs.Inputs.{count_none}
+use Rattle.scenario_input.proofs.Inputs.{count_none, read_bytes}
 use Rattle.scenario_input.proofs.Stops.{stop_not_done, stop_not_words, stop_not_write, stop_read, stop_long, stop_bad, stop_guard}
 use Rattle.scenario_input.proofs.Completes.{stop_complete}
 use Rattle.cs_types.specs.Room.{Opening}
@@ -38,6 +40,8 @@ pub record HasRead {S T : Type 0} (caps : List ℕ) (source : Used S) (read : Re
       count_read (source.bytes source.before) (source.bytes source.after) ≤ input_limit + 1)
   pub bad : (line : ℕ) (kind : BadKind) → read ≡ Err (BadScenario line kind) →
       IsBad line kind (source.bytes source.before) (source.bytes source.after)
+  pub first : (bytes : List ℕ) (line : ℕ) (kind : BadKind) → source.bytes source.before ≡ Some bytes → length bytes ≤ input_limit →
+      IsFirstBad (lines_in bytes) line kind → read ≢ Err ReadFault → (read ≡ Err (BadScenario line kind)) ⊎ (read ≡ Err OutOfMemory)
   pub bad_guard : (line : ℕ) (kind : GuardKind) → read ≡ Err (BadGuard line kind) →
       IsBadGuard caps line kind (source.bytes source.before) (source.bytes source.after)
 
@@ -78,24 +82,29 @@ same_error read one other is too = cc
 -- ---- the one scenario of an input
 
 -- An input that is the text of one scenario, and was read as another's, is that of one.
-same_scenario : (scenario other : Scenario) (input left : Option (List ℕ)) → input ≡ Some (scenario_text scenario) → IsBuilt scenario → Reads other input left → scenario ≡ other
-same_scenario scenario other input None text built reads = let wrong : Some (scenario_text scenario) ≡ None = sym text ∙ reads.read.0 in absurd cc
-same_scenario scenario other input (Some left) text built reads =
+same_scenario : (scenario other : Scenario) (input left : Option (List ℕ)) → input ≡ Some (scenario_text scenario) → IsValid scenario → Reads other input left → scenario ≡ other
+same_scenario scenario other input None text valid reads = let wrong : Some (scenario_text scenario) ≡ None = sym text ∙ reads.read.0 in absurd cc
+same_scenario scenario other input (Some left) text valid reads =
     let is : Some (scenario_text scenario) ≡ Some (scenario_text other ++ left) = sym text ∙ reads.read.0 in
     let told : scenario_text scenario ≡ scenario_text other ++ left = cc in
-    reads.alone scenario built (told ∙ ap (λ (rest : List ℕ). scenario_text other ++ rest) reads.read.1 ∙ append-nil (scenario_text other))
+    reads.alone scenario valid (told ∙ ap (λ (rest : List ℕ). scenario_text other ++ rest) reads.read.1 ∙ append-nil (scenario_text other))
+
+-- An input with a bad line was not read as a scenario's.
+not_bad : (other : Scenario) (bytes : List ℕ) (line : ℕ) (kind : BadKind) (input left : Option (List ℕ)) → input ≡ Some bytes → IsFirstBad (lines_in bytes) line kind → ¬ (Reads other input left)
+not_bad other bytes line kind input left told bad reads =
+    none_of bytes line kind bad other (record { valid = reads.valid; text = sym (read_bytes input left bytes (scenario_text other) told reads.read) })
 
 -- So one of whose lines the first is bad was not taught.
-not_taught : (caps : List ℕ) (scenario other : Scenario) (bad : BadTeach) (input left : Option (List ℕ)) → input ≡ Some (scenario_text scenario) → IsBuilt scenario → Reads other input left →
+not_taught : (caps : List ℕ) (scenario other : Scenario) (bad : BadTeach) (input left : Option (List ℕ)) → input ≡ Some (scenario_text scenario) → IsValid scenario → Reads other input left →
     first_bad caps scenario.teaches ≡ Some bad → first_bad caps other.teaches ≡ None → ⊥
-not_taught caps scenario other bad input left text built reads one all =
-    let wrong : Some bad ≡ None = sym one ∙ ap (λ (s : Scenario). first_bad caps s.teaches) (same_scenario scenario other input left text built reads) ∙ all in absurd cc
+not_taught caps scenario other bad input left text valid reads one all =
+    let wrong : Some bad ≡ None = sym one ∙ ap (λ (s : Scenario). first_bad caps s.teaches) (same_scenario scenario other input left text valid reads) ∙ all in absurd cc
 
 -- The first bad line that is told is the one.
-first_told : (caps : List ℕ) (scenario : Scenario) (line : ℕ) (kind : GuardKind) (input left : Option (List ℕ)) → input ≡ Some (scenario_text scenario) → IsBuilt scenario →
+first_told : (caps : List ℕ) (scenario : Scenario) (line : ℕ) (kind : GuardKind) (input left : Option (List ℕ)) → input ≡ Some (scenario_text scenario) → IsValid scenario →
     IsBadGuard caps line kind input left → first_bad caps scenario.teaches ≡ Some (record { line = line; kind = kind })
-first_told caps scenario line kind input left text built bad =
-    ap (λ (s : Scenario). first_bad caps s.teaches) (same_scenario scenario bad.scenario input left text built bad.reads) ∙ bad.first
+first_told caps scenario line kind input left text valid bad =
+    ap (λ (s : Scenario). first_bad caps s.teaches) (same_scenario scenario bad.scenario input left text valid bad.reads) ∙ bad.first
 
 both_none : (bad : Option BadTeach) (one : BadTeach) → bad ≡ Some one → bad ≡ None → ⊥
 both_none bad one some none = let wrong : Some one ≡ None = sym some ∙ none in absurd cc
@@ -123,9 +132,10 @@ ends_done IsOwn IsOutcome words caps source sink read value has is own calm scen
       bad_guard = λ line kind e. absurd cc;
       write_fault = λ e. absurd cc;
       unwritten = λ other _. absurd (other refl);
-      complete = λ told words built text fits all calm_source calm_sink. inl refl;
-      told = λ told bad words built text fits one calm_source.
-          absurd (not_taught caps told scenario bad _ _ text built outputs.reads one taught);
+      complete = λ told words valid text fits all calm_source calm_sink. inl refl;
+      told_line = λ bytes line kind words told fits bad calm_source. absurd (not_bad scenario bytes line kind _ _ told bad outputs.reads);
+      told = λ told bad words valid text fits one calm_source.
+          absurd (not_taught caps told scenario bad _ _ text valid outputs.reads one taught);
     }
 
 pub ends_write_fault : {S K T : Type 0} (IsOwn : List (String Global) → Type 0) (IsOutcome : Opening → History → Type 0) (words : List (String Global)) (caps : List ℕ) (source : Used S) (sink : Used K) (read : Result T Stop) (value : T) →
@@ -146,9 +156,10 @@ ends_write_fault IsOwn IsOutcome words caps source sink read value has is own fa
       bad_guard = λ line kind e. absurd cc;
       write_fault = λ _. (failed, (scenario, breaks));
       unwritten = λ _ other. absurd (other refl);
-      complete = λ told words built text fits all calm_source calm_sink. absurd (omega (arith, failed, calm_sink));
-      told = λ told bad words built text fits one calm_source.
-          absurd (not_taught caps told scenario bad _ _ text built breaks.reads one taught);
+      complete = λ told words valid text fits all calm_source calm_sink. absurd (omega (arith, failed, calm_sink));
+      told_line = λ bytes line kind words told fits bad calm_source. absurd (not_bad scenario bytes line kind _ _ told bad breaks.reads);
+      told = λ told bad words valid text fits one calm_source.
+          absurd (not_taught caps told scenario bad _ _ text valid breaks.reads one taught);
     }
 
 -- what was written of a room is that of the opening that it has
@@ -195,22 +206,28 @@ ends_stopped IsOwn IsOutcome words caps source sink read stop has is own same =
       bad_guard = λ line kind e. has.bad_guard line kind (is ∙ ap Err (stop_guard stop line kind e));
       write_fault = λ e. absurd (stop_not_write stop e);
       unwritten = λ _ _. same;
-      complete = λ scenario words built text fits all calm_source calm_sink. elim (why scenario built text fits calm_source) [
+      complete = λ scenario words valid text fits all calm_source calm_sink. elim (why scenario valid text fits calm_source) [
         | inl memory ↦ inr memory
         | inr guard ↦
             let bad = has.bad_guard guard.0 guard.1 (is ∙ ap Err guard.2) in
-            absurd (both_none _ _ (first_told caps scenario guard.0 guard.1 _ _ text built bad) all)
+            absurd (both_none _ _ (first_told caps scenario guard.0 guard.1 _ _ text valid bad) all)
       ];
-      told = λ scenario bad words built text fits one calm_source. elim (why scenario built text fits calm_source) [
+      told_line = λ bytes line kind words told fits bad calm_source.
+          let calm = λ (e : read ≡ Err ReadFault). let rose = has.failed e in let few = has.few in absurd (omega (arith, calm_source)) in
+          elim (has.first bytes line kind told fits bad calm) [
+            | inl found ↦ inl (ap status_of (same_error read stop (BadScenario line kind) is found))
+            | inr memory ↦ inr (ap status_of (same_error read stop OutOfMemory is memory))
+          ];
+      told = λ scenario bad words valid text fits one calm_source. elim (why scenario valid text fits calm_source) [
         | inl memory ↦ inr memory
         | inr guard ↦
-            let told = first_told caps scenario guard.0 guard.1 _ _ text built (has.bad_guard guard.0 guard.1 (is ∙ ap Err guard.2)) in
+            let told = first_told caps scenario guard.0 guard.1 _ _ text valid (has.bad_guard guard.0 guard.1 (is ∙ ap Err guard.2)) in
             inl (ap status_of guard.2 ∙ as_told guard.0 guard.1 bad (sym told ∙ one))
       ];
     } where
-      why : (scenario : Scenario) → IsBuilt scenario → source.bytes source.before ≡ Some (scenario_text scenario) → length (scenario_text scenario) ≤ input_limit → IsFaultless source →
+      why : (scenario : Scenario) → IsValid scenario → source.bytes source.before ≡ Some (scenario_text scenario) → length (scenario_text scenario) ≤ input_limit → IsFaultless source →
           (status_of stop ≡ status.OutOfMemory) ⊎ ((line : ℕ) × (kind : GuardKind) × (stop ≡ BadGuard line kind))
-      why scenario built text fits calm_source =
+      why scenario valid text fits calm_source =
           let long = λ (e : stop ≡ TooLong).
           (subst
           (λ (told : Option (List ℕ)). IfSome told (λ _. (read ≡ Err TooLong) ↔ (input_limit < count_read told (source.bytes source.after)))) text has.too_long).0
@@ -218,7 +235,7 @@ ends_stopped IsOwn IsOutcome words caps source sink read stop has is own same =
           let bad = λ (line : ℕ) (kind : BadKind) (e : stop ≡ BadScenario line kind).
           subst (λ (told : Option (List ℕ)). IsBad line kind told (source.bytes source.after)) text (has.bad line kind (is ∙ ap Err e)) in
           let failed = λ (e : stop ≡ ReadFault). has.failed (is ∙ ap Err e) in
-          stop_complete stop (source.bytes source.after) (source.faults source.before) (source.faults source.after) scenario long bad failed has.few built fits calm_source
+          stop_complete stop (source.bytes source.after) (source.faults source.before) (source.faults source.after) scenario long bad failed has.few valid fits calm_source
 
 pub ends_unread : {S K : Type 0} (IsOwn : List (String Global) → Type 0) (IsOutcome : Opening → History → Type 0) (words : List (String Global)) (caps : List ℕ) (source : Used S) (sink : Used K) → (IsOwn words → ⊥) →
     source.after ≡ source.before → sink.after ≡ sink.before → EndsAs IsOwn IsOutcome words caps source sink status.BadWords
@@ -237,6 +254,7 @@ ends_unread IsOwn IsOutcome words caps source sink other same same_sink =
       bad_guard = λ line kind e. absurd cc;
       write_fault = λ e. absurd cc;
       unwritten = λ _ _. same_sink;
-      complete = λ scenario words built text fits all calm_source calm_sink. absurd (other words);
-      told = λ scenario bad words built text fits one calm_source. absurd (other words);
+      complete = λ scenario words valid text fits all calm_source calm_sink. absurd (other words);
+      told_line = λ bytes line kind words told fits bad calm_source. absurd (other words);
+      told = λ scenario bad words valid text fits one calm_source. absurd (other words);
     }

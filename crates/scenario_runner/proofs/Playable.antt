@@ -1,22 +1,22 @@
 -- What can be written can be played.
 use Rattle.std.proofs.Common.{arith}
 use Rattle.cs_types.specs.declared.scenario.Scenario.{Scenario}
-use Rattle.cs_types.specs.Scenario.{IsBuilt, IsPlayable}
+use Rattle.cs_types.specs.Scenario.{IsValid, IsPlayable}
 
-pub built_playable : (scenario : Scenario) → IsBuilt scenario → IsPlayable scenario
-built_playable scenario built =
+pub valid_playable : (scenario : Scenario) → IsValid scenario → IsPlayable scenario
+valid_playable scenario valid =
     record {
-      siblings = (built.siblings.0, omega (arith, built.siblings.1));
-      task_limit = built.task_limit;
-      cookie_limit = built.cookie_limit;
-      user_top = built.user_top;
-      tasks = built.tasks;
-      distinct = built.distinct;
-      led = built.led;
-      few_tasks = built.few_tasks;
-      teaches = built.teaches;
-      numbered = built.numbered;
-      few_teaches = built.few_teaches;
-      steps = built.steps;
-      few_steps = built.few_steps;
+      siblings = (valid.siblings.0, omega (arith, valid.siblings.1));
+      task_limit = valid.task_limit;
+      cookie_limit = valid.cookie_limit;
+      user_top = valid.user_top;
+      tasks = valid.tasks;
+      distinct = valid.distinct;
+      led = valid.led;
+      few_tasks = valid.few_tasks;
+      teaches = valid.teaches;
+      numbered = valid.numbered;
+      few_teaches = valid.few_teaches;
+      steps = valid.steps;
+      few_steps = valid.few_steps;
     }

@@ -2,9 +2,10 @@
 use Rattle.std.specs.Prelude.{◌≡◌, ◌≢◌, ◌⊎◌, ◌↔◌, ℕ, ◌+◌, ◌<◌, ◌≤◌, List, length, Option, Some, None, IfSome, String}
 use Rattle.std.specs.declared.alloc.Global.{Global}
 use Rattle.cs_types.specs.declared.scenario.Scenario.{Scenario}
-use Rattle.cs_types.specs.Scenario.{IsBuilt}
+use Rattle.cs_types.specs.Scenario.{IsValid}
 use Rattle.scenario_text.specs.declared.fault.BadKind.{BadKind}
 use Rattle.scenario_text.specs.Text.{scenario_text}
+use Rattle.scenario_text.specs.Faults.{lines_in, IsFirstBad}
 use Rattle.scenario_input.specs.declared.status.Status.{Status}
 use Rattle.scenario_input.specs.declared.status.Status.TheVariants.{Done, BadWords, BadScenario, BadGuard, TooLong, ReadFault, WriteFault, OutOfMemory}
 use Rattle.scenario_input.specs.declared.stop.GuardKind.{GuardKind}
@@ -56,7 +57,7 @@ pub record EndsAs {S K : Type 0} (IsOwn : List (String Global) → Type 0) (IsOu
   -- no more is read than one byte beyond that
   pub most : IfSome (source.bytes source.before) (λ _.
       count_read (source.bytes source.before) (source.bytes source.after) ≤ input_limit + 1)
-  -- only where the input was read to its end and no scenario has that text
+  -- only where the input was read to its end and no valid scenario has that text, with its first bad line and kind
   pub bad_scenario : (line : ℕ) (kind : BadKind) → status ≡ BadScenario line kind →
       IsBad line kind (source.bytes source.before) (source.bytes source.after)
   -- only where the input is a scenario, and this is its first teach line that cannot be carried out
@@ -67,13 +68,17 @@ pub record EndsAs {S K : Type 0} (IsOwn : List (String Global) → Type 0) (IsOu
       BreaksOff IsOutcome (opened_with caps scenario) (source.bytes source.before) (source.bytes source.after) (sink.bytes sink.before) (sink.bytes sink.after))
   -- nothing was written but where it is done or the sink failed
   pub unwritten : status ≢ Done → status ≢ WriteFault → sink.after ≡ sink.before
-  -- it gives up on no scenario that can be played and all of whose teach lines can be carried out, where nothing failed
-  pub complete : (scenario : Scenario) → IsOwn words → IsBuilt scenario →
+  -- it gives up on no valid scenario all of whose teach lines can be carried out, where nothing failed
+  pub complete : (scenario : Scenario) → IsOwn words → IsValid scenario →
       source.bytes source.before ≡ Some (scenario_text scenario) → length (scenario_text scenario) ≤ input_limit →
       first_bad caps scenario.teaches ≡ None → IsFaultless source → IsFaultless sink →
       (status ≡ Done) ⊎ (status ≡ OutOfMemory)
-  -- and where one of them cannot, it tells the first
-  pub told : (scenario : Scenario) (bad : BadTeach) → IsOwn words → IsBuilt scenario →
+  -- where the input has a first bad line, it tells that and its first kind
+  pub told_line : (bytes : List ℕ) (line : ℕ) (kind : BadKind) → IsOwn words →
+      source.bytes source.before ≡ Some bytes → length bytes ≤ input_limit → IsFirstBad (lines_in bytes) line kind → IsFaultless source →
+      (status ≡ BadScenario line kind) ⊎ (status ≡ OutOfMemory)
+  -- and where a teach line cannot be carried out, it tells the first
+  pub told : (scenario : Scenario) (bad : BadTeach) → IsOwn words → IsValid scenario →
       source.bytes source.before ≡ Some (scenario_text scenario) → length (scenario_text scenario) ≤ input_limit →
       first_bad caps scenario.teaches ≡ Some bad → IsFaultless source →
       (status ≡ BadGuard bad.line bad.kind) ⊎ (status ≡ OutOfMemory)

@@ -6,6 +6,7 @@ ghost use Rattle.cs_types.specs.History.{History};
 ghost use Rattle.cs_outside.specs.Device.{Rose, appended, WritesPrefix};
 ghost use Rattle.scenario_text.specs.Entry.{FitsReply, IsEntry};
 ghost use Rattle.room_report.specs.Report.{output_text};
+ghost use Rattle.scenario_text.specs.Faults.{lines_in, IsFirstBad};
 ghost use Rattle.scenario_input.specs.Input.{Reads, IsBad, input_limit, count_read};
 ghost use Rattle.scenario_input.specs.Teaching.{first_bad};
 ghost use Rattle.scenario_runner.specs.Commands.{IsOnly, IsReplay, IsRace};
@@ -45,6 +46,9 @@ fn opened<S: Source, G: Guard>(
         count_read (S.left source.old) (S.left source.new) ≤ input_limit + 1) }
     ensures bad { (line : _) (kind : _) → result ≡ Err (Stop.BadScenario line kind) →
         IsBad line kind (S.left source.old) (S.left source.new) }
+    ensures first { (bytes : _) (line : _) (kind : _) → S.left source.old ≡ Some bytes → length bytes ≤ input_limit →
+        IsFirstBad (lines_in bytes) line kind → result ≢ Err Stop.ReadFault →
+        (result ≡ Err (Stop.BadScenario line kind)) ⊎ (result ≡ Err Stop.OutOfMemory) }
     ensures bad_guard { (line : _) (kind : _) → result ≡ Err (Stop.BadGuard line kind) →
         IsBadGuard (map G.cap guards.items) line kind (S.left source.old) (S.left source.new) }
     ensures faultless { result ≢ Err Stop.ReadFault → S.faults source.new ≡ S.faults source.old }

@@ -1,22 +1,38 @@
 -- Cuts: where bytes are cut at separators, a text into lines and a line into words.
-use Rattle.std.proofs.Common.{◌≡◌, ℕ, ◌+◌, ◌-◌, ◌<◌, ◌≤◌, Bool, true, false, cond, eqb, ltb, leb, List, [], ◌∷◌, ◌++◌, length, get_or, take, drop, Option, Some, None, Ok, Err, refl, sym, ap, ◌∙◌, arith, inl, inr, take_all, suc, map}
+use Rattle.std.proofs.Common.{◌≡◌, ◌≢◌, ℕ, ◌+◌, ◌-◌, ◌≤◌, Bool, true, false, cond, eqb, ltb, leb, List, [], ◌∷◌, ◌++◌, length, take, drop, Option, Some, None, Ok, Err, refl, sym, ap, ◌∙◌, arith, inl, inr, ◌⊎◌, append_assoc, take_all, suc, map, zero-le}
 use Rattle.std.specs.Borrow.{Bor}
-use Rattle.std.specs.List.{position_or_len, slice_split, onto_first}
+use Rattle.std.specs.Prelude.{◌&&◌, not}
+use Rattle.std.specs.List.{position_or_len, slice_split, onto_first, list_any}
 use Rattle.std.proofs.Math.ListN.{get_or-map}
-use Rattle.std.proofs.lemmas.Bool.{ne_eqb, lt-leb, cases_lt, lt-ltb, le-ltb, le-leb, cond-true, cond-false}
-use Rattle.std.proofs.lemmas.List.{length-drop, get_or-drop, length-take, length-map, map-append, take_more}
+use Rattle.std.proofs.lemmas.Bool.{false_from_ne_true, ne_eqb, lt-leb, cases_lt, lt-ltb, le-ltb, le-leb, eq-eqb, cond-true, cond-false}
+use Rattle.std.proofs.lemmas.List.{length-drop, get_or-drop, length-map, length-append, map-append, append-nil}
+use Rattle.std.proofs.lemmas.List.Folds.{list_any-append}
+use Rattle.std.proofs.Math.Bool.{or-true}
 use Rattle.std.proofs.lemmas.List.Splits.{slice_split_none, slice_split_first}
-use Rattle.std.proofs.lemmas.List.Sums.{fails_before_first}
+use Rattle.std.proofs.lemmas.List.Sums.{fails_before_first, position_or_len_is}
+use Rattle.memchr.specs.Find.{IsFirstByte, is_byte}
+use Rattle.scenario_text.specs.declared.fault.BadKind.TheVariants.{Cut, Shape}
 use Rattle.scenario_text.specs.Words.{Word}
-use Rattle.scenario_text.specs.Reading.{Read, refused, ◌>>=◌, pieces, words_in, lines_in, parts, lent, after, texts, Reads, Takes, few, line_at, end_of}
-
-abbrev read : {A : Type 0} → A → Read A
-read x = Ok x
+use Rattle.scenario_text.specs.Faults.{pieces, words_in, lines_in, is_nothing}
+use Rattle.scenario_text.specs.Reading.{Read, ◌>>=◌, parts, lent, after, texts, Reads, Takes, used, line_at}
 
 -- where the first separator is, as `position` answers
 abbrev pub place_of : ℕ → List ℕ → Option ℕ
 place_of separator bytes =
     let place = position_or_len (λ byte. eqb byte separator) bytes in cond (ltb place (length bytes)) (Some place) None
+
+-- and as a search for the byte does
+pub first_is : (separator : ℕ) (bytes : List ℕ) (r : Option ℕ) → IsFirstByte (is_byte separator) bytes r → r ≡ place_of separator bytes
+first_is separator bytes None none =
+    let test = λ (byte : ℕ). eqb byte separator in
+    let place : position_or_len test bytes ≡ length bytes =
+    position_or_len_is test bytes (length bytes) 0 (omega arith) (λ k below. false_from_ne_true _ (none k zero-le below)) (λ below. absurd (omega arith)) in
+    sym (ap (λ (p : ℕ). cond (ltb p (length bytes)) (Some p) None) place ∙ ap (λ (b : Bool). cond b (Some (length bytes)) None) (le-ltb _ _ (omega arith)))
+first_is separator bytes (Some end) found =
+    let test = λ (byte : ℕ). eqb byte separator in
+    let place : position_or_len test bytes ≡ end =
+    position_or_len_is test bytes end 0 (omega (arith, found.0.high)) (λ k below. false_from_ne_true _ (found.0.before k zero-le below)) (λ below. found.1) in
+    sym (ap (λ (p : ℕ). cond (ltb p (length bytes)) (Some p) None) place ∙ ap (λ (b : Bool). cond b (Some end) None) (lt-ltb _ _ found.0.high))
 
 pub uncut : (separator : ℕ) (bytes : List ℕ) → None ≡ place_of separator bytes → pieces separator bytes ≡ bytes ∷ []
 unfolding pieces
@@ -61,27 +77,49 @@ has_piece separator (byte ∷ bytes) =
 
 -- ---- the words of a line
 
-module _ (all : List Word) (words : List (Bor Word)) (n : ℕ) (first : texts words ≡ take n all) where
-  -- one more word
-  pub texts_push : (word : Bor Word) → n < length all → word.now ≡ get_or all n word.now → texts (words ++ word ∷ []) ≡ take (n + 1) all
-  texts_push word more is =
-      map-append (λ (w : Bor Word). w.now) words (word ∷ [])
-      ∙ ap (λ (ws : List Word). ws ++ word.now ∷ []) first
-      ∙ ap (λ (w : Word). take n all ++ w ∷ []) is
-      ∙ sym (take_more all n word.now more)
+abbrev pub is_empty : Word → Bool
+is_empty word = eqb (length word) 0
 
-  count : length words ≡ length (take n all)
-  count = sym (length-map words (λ (w : Bor Word). w.now)) ∙ ap length first
+and_no : (b : Bool) → (b && false) ≡ false
+and_no true = refl
+and_no false = refl
 
-  -- a word too many
-  pub too_many : n < length all → length words ≡ 15 → few all ≡ refused
-  too_many more full = cond-false (leb (length all) 15) (Ok all) refused (lt-leb _ _ (omega (arith, count, length-take n all)))
+abbrev refused : Read (List Word)
+refused = Err Shape
 
-  -- no word is left
-  pub all_words : n ≡ length all → length words ≤ 15 → few all ≡ Ok (texts words)
-  all_words done fits =
-      cond-true (leb (length all) 15) (Ok all) refused (le-leb _ _ (omega (arith, count, length-take n all)))
-      ∙ ap read (sym (first ∙ take_all _ _ (omega arith)))
+-- one more word
+pub one_more : (all more left : List Word) (words new : List (Bor Word)) (word : Bor Word) → all ≡ texts words ++ left → left ≡ word.now ∷ more → new ≡ words ++ word ∷ [] → all ≡ texts new ++ more
+one_more all more left words new word cut next is =
+    cut
+    ∙ ap (λ (ws : List Word). texts words ++ ws) next
+    ∙ sym (append_assoc (texts words) (word.now ∷ []) more)
+    ∙ ap (λ (ws : List Word). ws ++ more) (sym (map-append (λ (w : Bor Word). w.now) words (word ∷ [])) ∙ ap texts (sym is))
+
+-- that is not empty
+pub none_more : (words new : List (Bor Word)) (word : Bor Word) → list_any is_empty (texts words) ≡ false → length word.now ≢ 0 → new ≡ words ++ word ∷ [] → list_any is_empty (texts new) ≡ false
+none_more words new word none some is =
+    ap (λ (ws : List (Bor Word)). list_any is_empty (texts ws)) is
+    ∙ ap (list_any is_empty) (map-append (λ (w : Bor Word). w.now) words (word ∷ []))
+    ∙ list_any-append is_empty (texts words) (word.now ∷ [])
+    ∙ rw (none, ne_eqb (length word.now) 0 some) refl
+
+-- a word too many, or an empty one
+pub bad_word : (all more : List Word) (words : List (Bor Word)) (word : Bor Word) → all ≡ texts words ++ word.now ∷ more → (length word.now ≡ 0) ⊎ (length words ≡ 15) → used all ≡ Err Shape
+bad_word all more words word cut (inl empty) =
+    let here : is_empty word.now ≡ true = eq-eqb (length word.now) 0 empty in
+    let some : list_any is_empty all ≡ true = ap (list_any is_empty) cut ∙ list_any-append is_empty (texts words) (word.now ∷ more) ∙ rw here (or-true _) in
+    cond-false _ (Ok all) refused (ap (λ (b : Bool). leb (length all) 15 && not b) some ∙ and_no (leb (length all) 15))
+bad_word all more words word cut (inr full) =
+    let count : length all ≡ length (texts words) + suc (length more) = ap length cut ∙ length-append (texts words) (word.now ∷ more) in
+    let long : leb (length all) 15 ≡ false = lt-leb _ _ (omega (arith, count, length-map words (λ (w : Bor Word). w.now))) in
+    cond-false _ (Ok all) refused (ap (λ (b : Bool). b && not (list_any is_empty all)) long)
+
+-- no word is left
+pub all_words : (all : List Word) (words : List (Bor Word)) → all ≡ texts words ++ [] → length words ≤ 15 → list_any is_empty (texts words) ≡ false → used all ≡ Ok (texts words)
+all_words all words cut fits none =
+    let whole : all ≡ texts words = cut ∙ append-nil (texts words) in
+    let short : leb (length (texts words)) 15 ≡ true = le-leb _ _ (omega (arith, length-map words (λ (w : Bor Word). w.now))) in
+    ap used whole ∙ cond-true _ (Ok (texts words)) refused (rw (short, none) refl)
 
 -- words are seen alike where they are lent
 pub lent_is : (words : List (Bor Word)) → lent words ≡ parts (texts words)
@@ -107,11 +145,16 @@ Takes-then view (Ok x) read rest h = rw h refl
 Takes-then view (Err refusal) read rest h = rw h refl
 
 -- the words of the first line, and the lines after it
-pub line_at-lines_in : (text line rest : List ℕ) → pieces 10 text ≡ line ∷ pieces 10 rest → line_at (lines_in text) ≡ (few (words_in line) >>= λ words. Ok (words, lines_in rest))
+pub line_at-lines_in : (text line rest : List ℕ) → pieces 10 text ≡ line ∷ pieces 10 rest → line_at (lines_in text) ≡ (used (words_in line) >>= λ words. Ok (words, lines_in rest))
 unfolding lines_in
 line_at-lines_in text line rest cut =
     let more = has_piece 10 rest in
     rw (cut, more.is) refl
+
+-- the only line is not ended
+pub line_at-uncut : (text : List ℕ) → pieces 10 text ≡ text ∷ [] → line_at (lines_in text) ≡ Err Cut
+unfolding lines_in
+line_at-uncut text uncut = rw uncut refl
 
 -- a line of a byte and more is more than an empty word
 not_blank : (byte : ℕ) (line : List ℕ) → words_in (byte ∷ line) ≡ [] ∷ [] → ⊥
@@ -123,20 +166,29 @@ not_blank byte line =
       | false ↦ λ e. let whole : (byte ∷ rest.first) ∷ rest.more ≡ [] ∷ [] = ap (onto_first byte) (sym rest.is) ∙ e in absurd cc
     ]
 
-goes_on : (words : List Word) (lines : List (List Word)) → (words ≡ [] ∷ [] → ⊥) → end_of (words ∷ lines) ≡ refused
-goes_on [] lines h = refl
-goes_on ([] ∷ []) lines h = absurd (h refl)
-goes_on ([] ∷ word ∷ words) lines h = refl
-goes_on ((byte ∷ word) ∷ words) lines h = refl
+some_left : (words : List Word) (lines : List (List Word)) → (words ≡ [] ∷ [] → ⊥) → is_nothing (words ∷ lines) ≡ false
+some_left [] lines h = refl
+some_left ([] ∷ []) [] h = absurd (h refl)
+some_left ([] ∷ []) (line ∷ lines) h = refl
+some_left ([] ∷ word ∷ words) lines h = refl
+some_left ((byte ∷ word) ∷ words) lines h = refl
 
 -- nothing is left only where no byte is
-pub end_of-lines_in : (text : List ℕ) → end_of (lines_in text) ≡ cond (eqb (length text) 0) (Ok tt) refused
+pub is_nothing-lines_in : (text : List ℕ) → is_nothing (lines_in text) ≡ eqb (length text) 0
 unfolding lines_in words_in pieces
-end_of-lines_in [] = refl
-end_of-lines_in (byte ∷ text) =
+is_nothing-lines_in [] = refl
+is_nothing-lines_in (byte ∷ text) =
     let rest = has_piece 10 text in
-    elim (eqb byte 10) as (λ b. end_of (map words_in (cond b ([] ∷ slice_split (λ x. eqb x 10) text) (onto_first byte (slice_split (λ x. eqb x 10) text)))) ≡ refused) [
+    elim (eqb byte 10) as (λ b. is_nothing (map words_in (cond b ([] ∷ slice_split (λ x. eqb x 10) text) (onto_first byte (slice_split (λ x. eqb x 10) text)))) ≡ false) [
       | true ↦ rw rest.is refl
-      | false ↦ rw rest.is (goes_on (words_in (byte ∷ rest.first)) (map words_in rest.more) (not_blank byte rest.first))
+      | false ↦ rw rest.is (some_left (words_in (byte ∷ rest.first)) (map words_in rest.more) (not_blank byte rest.first))
     ]
-    ∙ sym (cond-false (eqb (suc (length text)) 0) (Ok tt) refused (ne_eqb (suc (length text)) 0 (λ e. omega arith)))
+    ∙ sym (ne_eqb (suc (length text)) 0 (λ e. omega arith))
+
+-- a text has a line at least
+pub some_lines : (text : List ℕ) → 1 ≤ length (lines_in text)
+unfolding lines_in
+some_lines text =
+    let some = has_piece 10 text in
+    let count : length (map words_in (pieces 10 text)) ≡ suc (length (map words_in some.more)) = ap (λ (ps : List (List ℕ)). length (map words_in ps)) some.is in
+    omega arith

@@ -27,12 +27,14 @@ use Rattle.cs_types.specs.Scenario.{IsPolicy, IsAsk, IsEvent}
 use Rattle.scenario_text.specs.Words.{Word, policy_word, actor_word, ask_words, child_word, event_words, deed_words, made_words, run_word, kind_word, errno_word, pick_words, reply_words}
 use Rattle.scenario_text.specs.Text.{spaced, entry_text}
 use Rattle.scenario_text.specs.Entry.{FitsPick, FitsReply, IsMade, IsEntry}
-use Rattle.scenario_text.specs.Reading.{Read, ◌>>=◌, words_in, parts, number_of, step_of}
+use Rattle.scenario_text.specs.Grammar.{value}
+use Rattle.scenario_text.specs.Faults.{words_in}
+use Rattle.scenario_text.specs.Reading.{Read, parts, step_line}
 use Rattle.scenario_text.proofs.Numbers.{IsSignedWithin, number_again}
-use Rattle.scenario_text.proofs.Tasks.{nice_is}
+use Rattle.scenario_text.proofs.Fields.{nice_is}
 use Rattle.scenario_text.proofs.Steps.{by, pid_is, sibling_within, caller_within, step_again}
 use Rattle.scenario_text.proofs.Texts.{lacks, IsPlain, plain_word, plain_decimal, decimal_lacks, lacks-append, words_in-spaced, spaced_lacks}
-use Rattle.scenario_text.proofs.Scenarios.{plain_made}
+use Rattle.scenario_text.proofs.Plain.{plain_made}
 use Rattle.scenario_text.proofs.Replies.{one_reply}
 
 -- ---- a cut
@@ -266,13 +268,14 @@ cut_made actor event is = cut_words (actor_word actor) (deed_words actor event) 
 abbrev read_made : Word → List Word → Read Step
 read_made actor deed =
     if get_or actor 0 0 == 101
-    then (number_of 0 255 (get_or deed 1 []) >>= λ cpu. Ok (by End (Resched cpu)))
-    else step_of 16 actor (parts deed)
+    then Ok (by End (Resched (value (get_or deed 1 []))))
+    else step_line 16 (parts (codes "step" ∷ actor ∷ deed))
 
 made_again : (actor : Actor) (event : Event) → IsMade actor event → read_made (actor_word actor) (deed_words actor event) ≡ Ok (by actor event)
 made_again (Sibling i) event is = step_again 16 (Sibling i) event (omega arith) is
 made_again (Caller j) event is = step_again 16 (Caller j) event (omega arith) is
-made_again End (Resched cpu) is = rw (number_again 0 255 cpu (omega arith) (omega arith, omega arith)) refl
+made_again End (Resched cpu) is =
+    let again = number_again 0 255 cpu (omega arith) (omega arith, omega arith) in rw again.same refl
 made_again End event is = absurd is
 
 one_step : (a b : Step) → IsMade a.actor a.event → IsMade b.actor b.event → made_words a.actor a.event ≡ made_words b.actor b.event → a ≡ b

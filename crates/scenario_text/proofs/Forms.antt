@@ -1,27 +1,19 @@
 -- Forms: what is read from a line after the head is spelled by its words, and what is spelled so is read.
-use Rattle.std.proofs.Common.{◌≡◌, ℕ, ◌<◌, false, eqb, leb, List, ◌∷◌, length, drop, Ok, refl, sym, ap, subst, ◌∙◌, arith}
-use Rattle.std.proofs.lemmas.Bool.{eqb-true, leb-true, le-leb, or_parts}
-use Rattle.std.proofs.lemmas.List.{nil_from_length}
+use Rattle.std.proofs.Common.{◌≡◌, ℕ, ◌≤◌, ◌<◌, Bool, true, false, cond, eqb, List, [], ◌∷◌, length, Ok, Err, refl, sym, subst, arith}
 use Rattle.std.specs.Prelude.{◌||◌, codes}
-use Rattle.cs_types.specs.declared.event.Actor.{Actor}
-use Rattle.cs_types.specs.declared.event.Actor.TheVariants.{Sibling, Caller, End}
-use Rattle.cs_types.specs.declared.event.Event.{Event}
-use Rattle.cs_types.specs.declared.event.Event.TheVariants.{Turn, Resched, Block, Exit, Tick, Wake, Advance, Fork, Prctl, SetSched, Offline, Online, Load, Unload}
-use Rattle.cs_types.specs.declared.event.Step.{Step}
-use Rattle.cs_types.specs.declared.scenario.Teach.{Teach}
-use Rattle.cs_types.specs.declared.task.TaskSpec.{TaskSpec}
+use Rattle.std.proofs.lemmas.Bool.{eqb-true, or_parts}
 use Rattle.cs_types.specs.Scenario.{IsTask, IsTeach, IsStep}
+use Rattle.scenario_text.specs.declared.fault.BadKind.TheVariants.{Shape}
 use Rattle.scenario_text.specs.declared.line.Place.{Place}
 use Rattle.scenario_text.specs.declared.line.ScenarioLine.{ScenarioLine}
 use Rattle.scenario_text.specs.declared.line.ScenarioLine.TheVariants as forms
-use Rattle.scenario_text.specs.Words.{Word, task_words, teach_words, actor_word, event_words, made_words}
+use Rattle.scenario_text.specs.Words.{Word, task_words, teach_words}
 use Rattle.scenario_text.specs.Text.{step_words, end_words}
-use Rattle.scenario_text.specs.Reading.{◌>>=◌, Read, Parts, parts, reading_named, step_of, task_line, teach_line, step_line, end_line, line_forms, line_of, few}
-use Rattle.scenario_text.proofs.Readings.{Each, each_ok, each_refused, each_bind, each_if, each_when, each_first, first_word, after_is}
-use Rattle.scenario_text.proofs.Numbers.{taken}
-use Rattle.scenario_text.proofs.Tasks.{task_rest, each_task, task_again}
-use Rattle.scenario_text.proofs.Teaches.{teach_rest, each_teach, teach_again}
-use Rattle.scenario_text.proofs.Steps.{by, each_step, step_again}
+use Rattle.scenario_text.specs.Grammar.{is_word, task_form, teach_form}
+use Rattle.scenario_text.specs.Reading.{◌>>=◌, parts, Read, read_in, task_value, teach_value, step_line, line_of}
+use Rattle.scenario_text.proofs.Fields.{word_is}
+use Rattle.scenario_text.proofs.Tasks.{task_is, task_again, teach_is, teach_again}
+use Rattle.scenario_text.proofs.Steps.{step_is, step_again}
 
 -- the words of a line
 abbrev pub line_words : ScenarioLine → List Word
@@ -37,105 +29,71 @@ IsLine siblings place (forms.Teach teach) = IsTeach teach × (teach.line ≡ pla
 IsLine siblings place (forms.Step step) = IsStep siblings step
 IsLine siblings place forms.End = Unit {0}
 
--- a line that is spelled by these words
-abbrev ReadsLine : ℕ → Place → List Word → ScenarioLine → Type 0
-ReadsLine siblings place words line = (words ≡ line_words line) × IsLine siblings place line
+-- what is read after another reading
+bound : {A B : Type 0} (r : Read A) (f : A → B) (y : B) → (r >>= λ x. Ok (f x)) ≡ Ok y → (x : A) × (r ≡ Ok x) × (f x ≡ y)
+bound (Ok x) f y e = (x, refl, cc)
+bound (Err kind) f y e = absurd cc
 
--- each of the four lines, by the words after its first
+module _ (siblings : ℕ) (some : 1 ≤ siblings) (few : siblings < 256) (place : Place) where
+  -- a line that is spelled by these words
+  abbrev Says : List Word → ScenarioLine → Type 0
+  Says words line = (words ≡ line_words line) × IsLine siblings place line
 
-each_task_line : (siblings : ℕ) (place : Place) (rest : List Word) → Each (task_line siblings place (parts rest)) (ReadsLine siblings place (codes "task" ∷ rest))
-unfolding task_line
-each_task_line siblings place rest =
-    each_if (place.is_after_teach || place.is_after_step) _ _ _ (λ is. each_refused _)
-    (λ before.
-    let none = or_parts place.is_after_teach place.is_after_step before in
-    each_bind _ _ _ _ (each_task siblings rest) (λ task is. each_ok _ _ (is.0, (is.1, none.0, none.1))))
+  task_says : (words : List Word) (line : ScenarioLine) (late : Bool) → (place.is_after_teach || place.is_after_step) ≡ late → cond late (Err Shape) (read_in ((task_form siblings, task_value) ∷ []) (parts words) >>= λ task. Ok (forms.Task task)) ≡ Ok line → Says words line
+  task_says words line true h e = absurd cc
+  task_says words line false h e =
+      let read = bound (read_in ((task_form siblings, task_value) ∷ []) (parts words)) forms.Task line e in
+      let is = task_is siblings words read.0 some few read.1 in
+      let early = or_parts place.is_after_teach place.is_after_step h in
+      rw (← read.2) (is.0, (is.1, early.0, early.1))
 
-each_teach_line : (siblings : ℕ) (place : Place) (rest : List Word) → Each (teach_line place (parts rest)) (ReadsLine siblings place (codes "teach" ∷ rest))
-unfolding teach_line
-each_teach_line siblings place rest =
-    each_if place.is_after_step _ _ _ (λ is. each_refused _)
-    (λ before.
-    each_bind _ _ _ _ (each_teach place.number rest) (λ teach is. each_ok _ _ (is.words_are, (is.is, is.line_is, before))))
+  teach_says : (words : List Word) (line : ScenarioLine) (late : Bool) → place.is_after_step ≡ late → cond late (Err Shape) (read_in ((teach_form, teach_value place.number) ∷ []) (parts words) >>= λ teach. Ok (forms.Teach teach)) ≡ Ok line → Says words line
+  teach_says words line true h e = absurd cc
+  teach_says words line false h e =
+      let read = bound (read_in ((teach_form, teach_value place.number) ∷ []) (parts words)) forms.Teach line e in
+      let is = teach_is place.number words read.0 read.1 in
+      rw (← read.2) (is.0, (is.1, is.2, h))
 
-each_step_line : (siblings : ℕ) (place : Place) (rest : List Word) → Each (step_line siblings (parts rest)) (ReadsLine siblings place (codes "step" ∷ rest))
-unfolding step_line
-each_step_line siblings place rest =
-    let actor = (parts rest).at 0 in
-    each_when (leb 1 (length rest)) _ _ (λ some.
-    each_bind _ _ _ _ (subst (λ (p : Parts). Each (step_of siblings actor p) (λ step. (codes "step" ∷ actor ∷ drop 1 rest ≡ step_words step) × IsStep siblings step)) (sym (after_is 1 rest)) (each_step siblings actor (drop 1 rest)))
-    (λ step is.
-    each_ok _ _ (ap (λ (ws : List Word). codes "step" ∷ ws) (first_word rest (leb-true _ _ some)) ∙ is.0, is.1)))
+  step_says : (rest : List Word) (line : ScenarioLine) → (step_line siblings (parts (codes "step" ∷ rest)) >>= λ step. Ok (forms.Step step)) ≡ Ok line → Says (codes "step" ∷ rest) line
+  step_says rest line e =
+      let read = bound (step_line siblings (parts (codes "step" ∷ rest))) forms.Step line e in
+      let is = step_is siblings rest read.0 some few read.1 in
+      rw (← read.2) is
 
-each_end_line : (siblings : ℕ) (place : Place) (rest : List Word) → Each (end_line (parts rest)) (ReadsLine siblings place (codes "end" ∷ rest))
-unfolding end_line
-each_end_line siblings place rest =
-    each_when (eqb (length rest) 0) _ _ (λ none.
-    each_ok _ _ (ap (λ (ws : List Word). codes "end" ∷ ws) (nil_from_length rest (eqb-true _ _ none)), tt))
+  end_says : (rest : List Word) (line : ScenarioLine) (alone : Bool) → eqb (length (codes "end" ∷ rest)) 1 ≡ alone → cond alone (Ok forms.End) (Err Shape) ≡ Ok line → Says (codes "end" ∷ rest) line
+  end_says [] line true h e = let same : forms.End ≡ line = cc in rw (← same) (refl, tt)
+  end_says (word ∷ rest) line true h e = let one = eqb-true _ _ h in absurd (omega arith)
+  end_says rest line false h e = absurd cc
 
-pub each_line : (siblings : ℕ) (place : Place) (words : List Word) → Each (line_of siblings place (parts words)) (ReadsLine siblings place words)
-unfolding line_of
-each_line siblings place words =
-    let rest = drop 1 words in
-    each_first (ReadsLine siblings place) words (line_forms siblings place) (
-      each_task_line siblings place rest,
-      (
-        each_teach_line siblings place rest,
-        (each_step_line siblings place rest, (each_end_line siblings place rest, tt)),
-      ),
-    )
+  -- the same of a name that is known
+  known : (name word : Word) (rest : List Word) (line : ScenarioLine) → is_word name word ≡ true → line_of siblings place (parts (name ∷ rest)) ≡ Ok line →
+      (line_of siblings place (parts (word ∷ rest)) ≡ Ok line → Says (word ∷ rest) line) → Says (name ∷ rest) line
+  known name word rest line h e says =
+      let same = word_is name word h in
+      subst (λ (w : Word). Says (w ∷ rest) line) (sym same) (says (subst (λ (w : Word). line_of siblings place (parts (w ∷ rest)) ≡ Ok line) same e))
 
-step_line_again : (siblings : ℕ) (actor : Actor) (event : Event) → siblings < 256 → IsStep siblings (by actor event) → step_line siblings (parts (made_words actor event)) ≡ Ok (forms.Step (by actor event))
-unfolding step_line
-step_line_again siblings actor event small is =
-    rw (le-leb 1 (length (made_words actor event)) (omega arith))
-    (ap (λ (p : Parts). step_of siblings (actor_word actor) p >>= λ s. taken (forms.Step s)) (after_is 1 (made_words actor event))
-    ∙ ap (λ (read : Read Step). read >>= λ s. taken (forms.Step s)) (step_again siblings actor event small is))
+  named : (name : Word) (rest : List Word) (line : ScenarioLine) (is0 is1 is2 is3 : Bool) → is_word name (codes "task") ≡ is0 → is_word name (codes "teach") ≡ is1 → is_word name (codes "step") ≡ is2 → is_word name (codes "end") ≡ is3 →
+      line_of siblings place (parts (name ∷ rest)) ≡ Ok line → Says (name ∷ rest) line
+  unfolding line_of
+  named name rest line true is1 is2 is3 h0 h1 h2 h3 e =
+      known name (codes "task") rest line h0 e (task_says (codes "task" ∷ rest) line (place.is_after_teach || place.is_after_step) refl)
+  named name rest line false true is2 is3 h0 h1 h2 h3 e =
+      known name (codes "teach") rest line h1 e (teach_says (codes "teach" ∷ rest) line place.is_after_step refl)
+  named name rest line false false true is3 h0 h1 h2 h3 e =
+      known name (codes "step") rest line h2 e (step_says rest line)
+  named name rest line false false false true h0 h1 h2 h3 e =
+      known name (codes "end") rest line h3 e (end_says rest line (eqb (length (codes "end" ∷ rest)) 1) refl)
+  named name rest line false false false false h0 h1 h2 h3 e = let wrong = rw (h0, h1, h2, h3) at e in absurd cc
 
-task_line_again : (siblings : ℕ) (place : Place) (task : TaskSpec) → siblings < 256 → IsLine siblings place (forms.Task task) → task_line siblings place (parts (task_rest task)) ≡ Ok (forms.Task task)
-unfolding task_line
-task_line_again siblings place task small is = rw (is.1, is.2, task_again siblings task small is.0) refl
-
-teach_line_again : (siblings : ℕ) (place : Place) (teach : Teach) → IsLine siblings place (forms.Teach teach) → teach_line place (parts (teach_rest teach)) ≡ Ok (forms.Teach teach)
-unfolding teach_line
-teach_line_again siblings place teach is = rw (is.2, sym is.1, teach_again teach is.0) refl
+  pub line_is : (words : List Word) (line : ScenarioLine) → line_of siblings place (parts words) ≡ Ok line → Says words line
+  unfolding line_of
+  line_is [] line e = absurd cc
+  line_is (name ∷ rest) line e =
+      named name rest line (is_word name (codes "task")) (is_word name (codes "teach")) (is_word name (codes "step")) (is_word name (codes "end")) refl refl refl refl e
 
 pub line_again : (siblings : ℕ) (place : Place) (line : ScenarioLine) → siblings < 256 → IsLine siblings place line → line_of siblings place (parts (line_words line)) ≡ Ok line
-unfolding line_of reading_named end_line
-line_again siblings place (forms.Task task) small is =
-    ap (task_line siblings place) (after_is 1 (task_words task)) ∙ task_line_again siblings place task small is
-line_again siblings place (forms.Teach teach) small is =
-    ap (teach_line place) (after_is 1 (teach_words teach)) ∙ teach_line_again siblings place teach is
-line_again siblings place (forms.Step step) small is =
-    rw (le-leb 1 (length (step_words step)) (omega arith))
-    (ap (step_line siblings) (after_is 1 (step_words step)) ∙ step_line_again siblings step.actor step.event small is)
+unfolding line_of
+line_again siblings place (forms.Task task) small is = rw (is.1, is.2, task_again siblings task small is.0) refl
+line_again siblings place (forms.Teach teach) small is = rw (is.2, sym is.1, teach_again teach is.0) refl
+line_again siblings place (forms.Step step) small is = rw (step_again siblings step.actor step.event small is) refl
 line_again siblings place forms.End small is = refl
-
-few_event : (actor : Word) (event : Event) → few (codes "step" ∷ actor ∷ event_words event) ≡ Ok (codes "step" ∷ actor ∷ event_words event)
-few_event actor (Turn cpu) = refl
-few_event actor (Resched cpu) = refl
-few_event actor (Block cpu) = refl
-few_event actor (Exit cpu) = refl
-few_event actor (Tick cpu) = refl
-few_event actor (Wake pid) = refl
-few_event actor (Advance delta) = refl
-few_event actor (Fork caller thread) = refl
-few_event actor (Prctl caller ask) = refl
-few_event actor (SetSched pid policy) = refl
-few_event actor (Offline cpu) = refl
-few_event actor (Online cpu) = refl
-few_event actor (Load index) = refl
-few_event actor (Unload index) = refl
-
-few_step : (actor : Actor) (event : Event) → few (codes "step" ∷ made_words actor event) ≡ Ok (codes "step" ∷ made_words actor event)
-few_step (Sibling i) event = few_event (actor_word (Sibling i)) event
-few_step (Caller j) event = few_event (actor_word (Caller j)) event
-few_step End (Resched cpu) = refl
-few_step End event = few_event (actor_word End) event
-
--- no line has too many words
-pub few_words : (line : ScenarioLine) → few (line_words line) ≡ Ok (line_words line)
-few_words (forms.Task task) = refl
-few_words (forms.Teach teach) = refl
-few_words (forms.Step step) = few_step step.actor step.event
-few_words forms.End = refl

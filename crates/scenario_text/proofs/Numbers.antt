@@ -1,17 +1,17 @@
--- Numbers: a word that is read as a number is the number's decimal, and that decimal is read as the number.
-use Rattle.std.proofs.Common.{◌≡◌, ℕ, suc, ◌^◌, ◌<◌, ◌≤◌, Bool, true, false, cond, eqb, leb, [], ◌∷◌, length, get_or, Result, Ok, Err, refl, sym, ap, subst, ◌∙◌, arith, inl, inr}
+-- Numbers: a word that is a number is the decimal of its value, and the decimal of a number has that value.
+use Rattle.std.proofs.Common.{◌≡◌, ℕ, suc, ◌^◌, ◌<◌, ◌≤◌, true, false, eqb, leb, [], ◌∷◌, length, get_or, Result, Ok, Err, refl, sym, arith, inl, inr}
 use Rattle.std.specs.Prelude.{decimal, ◌&&◌, ◌||◌, not, ℤ, pos, negsuc}
 use Rattle.std.specs.Char.{is_ascii_digit}
 use Rattle.std.specs.Str.{all_ascii_digits, IsUtf8}
 use Rattle.std.specs.Str.Parse.{digits_value, ParsesUnsigned}
-use Rattle.std.proofs.lemmas.Bool.{cases_eq, ne_eqb, and_parts, leb-true, le-leb, cond-true, cond-false, false_from_ne_true, false≢true, both_ways}
+use Rattle.std.proofs.lemmas.Bool.{cases_eq, ne_eqb, and_parts, leb-true, le-leb, false_from_ne_true, false≢true, both_ways}
 use Rattle.std.proofs.lemmas.Bool.Decides.{nat_tests}
 use Rattle.std.proofs.lemmas.Str.{IsUtf8-from_ascii}
 use Rattle.std.proofs.lemmas.Str.Parse.{IsNumeralModel, numerals_by_value, tells_all_ascii_digits, digit_at, parse_plain}
 use Rattle.std.proofs.lemmas.Fmt.{decimal_digit, decimal_is_IsNumeral, first_decimal, decimal-digits_value, IsAscii-from_digits}
 use Rattle.cs_types.specs.Scenario.{IsWithin}
 use Rattle.scenario_text.specs.Words.{Word}
-use Rattle.scenario_text.specs.Reading.{Read, refused, is_canonical, is_number, number_of}
+use Rattle.scenario_text.specs.Grammar.{is_canonical, value, is_number}
 
 -- the words that `parse` reads
 digits_model : IsNumeralModel (λ ds. all_ascii_digits ds ≡ true) (digits_value 10)
@@ -60,76 +60,67 @@ decimal_unsigned n fits =
 
 -- ---- numbers from low to high
 
-abbrev pub taken : {A : Type 0} → A → Read A
-taken x = Ok x
-
--- a choice of something or nothing was something
-pub kept : {A : Type 0} (b : Bool) (r : Read A) (x : A) → cond b r refused ≡ Ok x → (b ≡ true) × (r ≡ Ok x)
-kept true r x e = (refl, e)
-kept false r x e = absurd cc
-
-pub taken_is : {A : Type 0} (b : Bool) (x y : A) → cond b (taken x) refused ≡ Ok y → (b ≡ true) × (x ≡ y)
-taken_is true x y e = (refl, cc)
-taken_is false x y e = absurd cc
-
 record IsNumber (low high : ℕ) (word : Word) : Type 0 where
   canonical : is_canonical word ≡ true
   digits : all_ascii_digits word ≡ true
-  from : low ≤ digits_value 10 word
-  to : digits_value 10 word ≤ high
+  from : low ≤ value word
+  to : value word ≤ high
 
 number_parts : (low high : ℕ) (word : Word) → is_number low high word ≡ true → IsNumber low high word
+unfolding is_number
 number_parts low high word h =
-    let a = and_parts (is_canonical word && all_ascii_digits word && leb low (digits_value 10 word)) (leb (digits_value 10 word) high) h in
-    let b = and_parts (is_canonical word && all_ascii_digits word) (leb low (digits_value 10 word)) a.0 in
+    let a = and_parts (is_canonical word && all_ascii_digits word && leb low (value word)) (leb (value word) high) h in
+    let b = and_parts (is_canonical word && all_ascii_digits word) (leb low (value word)) a.0 in
     let c = and_parts (is_canonical word) (all_ascii_digits word) b.0 in
     record { canonical = c.0; digits = c.1; from = leb-true _ _ b.1; to = leb-true _ _ a.1 }
 
 number_whole : (low high : ℕ) (word : Word) → IsNumber low high word → is_number low high word ≡ true
+unfolding is_number
 number_whole low high word h =
     rw (h.canonical, h.digits, le-leb _ _ h.from, le-leb _ _ h.to) refl
 
--- what is read is spelled so
-pub number_takes : (low high : ℕ) (word : Word) (n : ℕ) → high < 2 ^ 64 → number_of low high word ≡ Ok n → (word ≡ decimal n) × IsWithin low high n
-unfolding number_of
-number_takes low high word n small h =
-    let read = taken_is (is_number low high word) (digits_value 10 word) n h in
-    let parts = number_parts low high word read.0 in
+-- a word that is a number is spelled as its value is
+pub number_is : (low high : ℕ) (word : Word) → high < 2 ^ 64 → is_number low high word ≡ true → (word ≡ decimal (value word)) × IsWithin low high (value word)
+number_is low high word small h =
+    let parts = number_parts low high word h in
     let first = canonical word parts.canonical in
     let spelled = decimal-digits_value digits_model word parts.digits first.some first.zero_alone (omega arith) in
-    subst (λ (v : ℕ). (word ≡ decimal v) × IsWithin low high v) read.1 (sym spelled, (parts.from, parts.to))
+    (sym spelled, (parts.from, parts.to))
 
--- what is spelled so is read
-pub number_again : (low high n : ℕ) → high < 2 ^ 64 → IsWithin low high n → number_of low high (decimal n) ≡ Ok n
-unfolding number_of
+-- what a number spells is right
+pub record Spells (low high n : ℕ) : Type 0 where
+  pub right : is_number low high (decimal n) ≡ true
+  pub same : value (decimal n) ≡ n
+
+pub number_again : (low high n : ℕ) → high < 2 ^ 64 → IsWithin low high n → Spells low high n
 number_again low high n small within =
     let numeral = decimal_is_IsNumeral n (omega arith) in
     let same = numeral.1 in
-    let is_one = number_whole low high (decimal n) (record {
-      canonical = decimal_canonical n (omega arith);
-      digits = digits_model.from (decimal n) numeral.0.1;
-      from = omega arith;
-      to = omega arith;
-    }) in
-    cond-true (is_number low high (decimal n)) (Ok (digits_value 10 (decimal n))) refused is_one ∙ ap taken same
+    record {
+      right = number_whole low high (decimal n) (record {
+        canonical = decimal_canonical n (omega arith);
+        digits = digits_model.from (decimal n) numeral.0.1;
+        from = omega arith;
+        to = omega arith;
+      });
+      same = same;
+    }
 
 -- ---- what the code finds
 
-no_number : (low high : ℕ) (word : Word) → (IsNumber low high word → ⊥) → number_of low high word ≡ refused
-unfolding number_of
+no_number : (low high : ℕ) (word : Word) → (IsNumber low high word → ⊥) → is_number low high word ≡ false
 no_number low high word fails =
-    cond-false (is_number low high word) (Ok (digits_value 10 word)) refused
-    (false_from_ne_true (is_number low high word) (λ h. fails (number_parts low high word h)))
+    false_from_ne_true (is_number low high word) (λ h. fails (number_parts low high word h))
 
-pub not_canonical : (low high : ℕ) (word : Word) → is_canonical word ≡ false → number_of low high word ≡ refused
+pub not_canonical : (low high : ℕ) (word : Word) → is_canonical word ≡ false → is_number low high word ≡ false
 not_canonical low high word fails = no_number low high word (λ h. both_ways (is_canonical word) fails h.canonical)
 
 -- bytes that are no text are no digits
-pub not_text : (low high : ℕ) (word : Word) → ¬ (IsUtf8 word) → number_of low high word ≡ refused
+pub not_text : (low high : ℕ) (word : Word) → ¬ (IsUtf8 word) → is_number low high word ≡ false
 not_text low high word h =
     no_number low high word (λ parts. h (IsUtf8-from_ascii word (IsAscii-from_digits word (digits_model.to word parts.digits))))
 
-pub not_parsed : {E : Type 0} (low high : ℕ) (word : Word) (e : E) → high < 2 ^ 64 → is_canonical word ≡ true → ParsesUnsigned 64 10 word (Err e) → number_of low high word ≡ refused
+pub not_parsed : {E : Type 0} (low high : ℕ) (word : Word) (e : E) → high < 2 ^ 64 → is_canonical word ≡ true → ParsesUnsigned 64 10 word (Err e) → is_number low high word ≡ false
 not_parsed low high word e small first h =
     let begins = canonical word first in
     no_number low high word (λ parts. parse_plain digits_model 64 word (Err e) h (λ plus. omega arith) (parts.digits, begins.some, omega arith))
@@ -137,10 +128,10 @@ not_parsed low high word e small first h =
 abbrev known : ℕ → Result ℕ (Unit {0})
 known n = Ok n
 
-pub parsed : (low high : ℕ) (word : Word) (n : ℕ) → is_canonical word ≡ true → ParsesUnsigned 64 10 word (known n) → number_of low high word ≡ cond (leb low n && leb n high) (Ok n) refused
-unfolding number_of
+pub parsed : (low high : ℕ) (word : Word) (n : ℕ) → is_canonical word ≡ true → ParsesUnsigned 64 10 word (known n) → (is_number low high word ≡ (leb low n && leb n high)) × (n ≡ value word)
+unfolding is_number
 parsed low high word n first h =
     let begins = canonical word first in
     let read = parse_plain digits_model 64 word (known n) h (λ plus. omega arith) in
-    let value : digits_value 10 word ≡ n = sym read.1 in
-    rw (first, read.0.0, value) refl
+    let same : value word ≡ n = sym read.1 in
+    (rw (first, read.0.0, same) refl, read.1)

@@ -1,5 +1,5 @@
 -- Replies: the words of a reply spell it alone. They are read again, by what each word begins.
-use Rattle.std.proofs.Common.{◌≡◌, ℕ, ◌^◌, ◌<◌, Bool, true, false, List, [], ◌∷◌, drop, get_or, Ok, Err, refl, sym, ap, ◌∙◌, arith}
+use Rattle.std.proofs.Common.{◌≡◌, ℕ, ◌^◌, ◌<◌, Bool, true, false, List, [], ◌∷◌, drop, get_or, refl, sym, ap, ◌∙◌, arith}
 use Rattle.std.specs.Prelude.{◌==◌, ◌||◌, if◌then◌else◌, codes, decimal}
 use Rattle.std.specs.Str.{bytes_eq}
 use Rattle.std.proofs.lemmas.Bool.{cond_both, eqb-true}
@@ -13,18 +13,14 @@ use Rattle.cs_types.specs.declared.reply.Reply.TheVariants.{Picked, Nothing, Sto
 use Rattle.cs_types.specs.declared.reply.Reply.TheVariants as answer
 use Rattle.scenario_text.specs.Words.{Word, run_word, kind_word, pick_words, errno_word, reply_words}
 use Rattle.scenario_text.specs.Entry.{FitsPick, FitsReply}
-use Rattle.scenario_text.specs.Reading.{Read, number_of}
+use Rattle.scenario_text.specs.Grammar.{value, is_number}
 use Rattle.scenario_text.proofs.Numbers.{number_again}
 
 -- ---- the reader
 
-abbrev value : Read ℕ → ℕ
-value (Ok n) = n
-value (Err refusal) = 0
-
 -- the number that a word spells, 0 where it spells none
 abbrev number : Word → ℕ
-number word = value (number_of 0 18446744073709551615 word)
+number word = if is_number 0 18446744073709551615 word then value word else 0
 
 abbrev word_at : List Word → ℕ → Word
 word_at words k = get_or words k []
@@ -81,10 +77,11 @@ reply_of words =
 -- ---- what is spelled is read again
 
 number-decimal : (n : ℕ) → n < 2 ^ 64 → number (decimal n) ≡ n
-number-decimal n fits = ap value (number_again 0 18446744073709551615 n (omega arith) (omega arith, omega arith))
+number-decimal n fits =
+    let again = number_again 0 18446744073709551615 n (omega arith) (omega arith, omega arith) in rw (again.right, again.same) refl
 
 number-idle : number (codes "idle") ≡ 0
-unfolding number_of
+unfolding is_number
 number-idle = refl
 
 number-run_word : (n : ℕ) → n < 2 ^ 64 → number (run_word n) ≡ n

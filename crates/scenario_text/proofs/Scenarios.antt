@@ -1,45 +1,41 @@
--- Scenarios: what is read from a text is the scenario of the text, and the text of a scenario is read as it.
-use Rattle.std.proofs.Common.{◌≡◌, ℕ, ◌<◌, Bool, true, false, List, [], ◌∷◌, ◌++◌, map, Result, Ok, Err, refl, sym, ap, subst, ◌∙◌, arith, append_assoc, inl, inr}
-use Rattle.std.specs.Prelude.{◌⊎◌, MatchResult, IfOk, IfErr, decimal, codes}
-use Rattle.std.specs.Fmt.{signed_decimal}
-use Rattle.std.specs.List.{AllByRecursion}
-use Rattle.std.proofs.lemmas.List.Elements.{recursion_from_All, All-nil}
-use Rattle.cs_types.specs.declared.task.Policy.{Policy}
-use Rattle.cs_types.specs.declared.task.Policy.TheVariants.{Stop, Deadline, Fifo, Rr, Fair}
+-- Scenarios: what is read from a text is the scenario of the text, and no line of a scenario's text is bad.
+use Rattle.std.proofs.Common.{◌≡◌, ℕ, ◌+◌, ◌<◌, List, [], ◌∷◌, ◌++◌, length, map, get_or, Result, Ok, Err, refl, sym, ap, subst, ◌∙◌, arith, append_assoc, inl, inr, All}
+use Rattle.std.specs.Prelude.{◌⊎◌, MatchResult, IfOk, IfErr, IsErrAnd, codes}
+use Rattle.std.specs.List.{AllByRecursion, range_with_len}
+use Rattle.std.proofs.lemmas.List.{append-nil, length-map}
+use Rattle.std.proofs.lemmas.List.Elements.{recursion_from_All}
 use Rattle.cs_types.specs.declared.task.TaskSpec.{TaskSpec}
-use Rattle.cs_types.specs.declared.event.Actor.{Actor}
-use Rattle.cs_types.specs.declared.event.Actor.TheVariants.{Sibling, Caller, End}
-use Rattle.cs_types.specs.declared.event.Ask.{Ask}
-use Rattle.cs_types.specs.declared.event.Event.{Event}
-use Rattle.cs_types.specs.declared.event.Event.TheVariants.{Turn, Resched, Block, Exit, Tick, Wake, Advance, Fork, Prctl, SetSched, Offline, Online, Load, Unload}
 use Rattle.cs_types.specs.declared.event.Step.{Step}
 use Rattle.cs_types.specs.declared.scenario.Scenario.{Scenario}
 use Rattle.cs_types.specs.declared.scenario.Teach.{Teach}
-use Rattle.cs_types.specs.Scenario.{IsPolicy, IsTask, IsTeach, IsAsk, IsEvent, IsStep, IsBuilt}
-use Rattle.scenario_text.specs.declared.fault.BadKind.TheVariants.{Unbuilt}
+use Rattle.cs_types.specs.Scenario.{IsTask, IsTeach, IsStep, IsValid}
+use Rattle.scenario_text.specs.declared.fault.BadKind.{BadKind}
 use Rattle.scenario_text.specs.declared.fault.ReadFault.{ReadFault}
 use Rattle.scenario_text.specs.declared.fault.ReadFault.TheVariants.{Bad, OutOfMemory}
 use Rattle.scenario_text.specs.declared.head.Head.{Head}
-use Rattle.scenario_text.specs.Words.{Word, flag_word, policy_word, creds_words, task_words, teach_words, actor_word, ask_words, child_word, event_words, made_words}
-use Rattle.scenario_text.specs.Text.{line, version_words, siblings_words, limits_words, step_words, end_words, scenario_lines}
-use Rattle.scenario_text.specs.Reading.{Read, refused, Gives, Contents, nothing_planned, lines_in, head_at, plan_of, scenario_of}
-use Rattle.scenario_text.specs.Reader.{IsTextOf, HasNoScenario, HasOneScenario}
-use Rattle.scenario_text.proofs.Readings.{bind, ok_is}
-use Rattle.scenario_text.proofs.Tasks.{nice_is}
-use Rattle.scenario_text.proofs.Steps.{by, pid_is, sibling_within, caller_within}
-use Rattle.scenario_text.proofs.Heads.{IsHead, head_lines, each_head, head_again}
-use Rattle.scenario_text.proofs.Building.{IsPlan, plan_lines, end_lines, has_first, each_plan, plan_again}
-use Rattle.scenario_text.proofs.Texts.{IsPlain, ArePlain, plain_word, plain_decimal, plain_signed, pick_plain-append, ArePlain-append, lines_in-flat_map, text_is}
+use Rattle.scenario_text.specs.Words.{Word, task_words, teach_words}
+use Rattle.scenario_text.specs.Text.{step_words, end_words, scenario_lines, scenario_text}
+use Rattle.scenario_text.specs.Faults.{lines_in, is_named, named, IsFirstBad}
+use Rattle.scenario_text.specs.Reader.{IsTextOf, HasNoScenario, HasOneScenario, Tells}
+use Rattle.scenario_text.specs.Grammar.{task_form, teach_form}
+use Rattle.scenario_text.specs.Reading.{parts, read_in, task_value, teach_value, step_line, siblings_reading, limits_reading, head_words, Contents, IsHead, head_lines, IsPlan, plan_lines, nothing, ReadsLines}
+use Rattle.scenario_text.proofs.Texts.{lines_in-flat_map, text_is}
+use Rattle.scenario_text.proofs.Heads.{count_again, limits_again}
+use Rattle.scenario_text.proofs.Tasks.{task_again, teach_again}
+use Rattle.scenario_text.proofs.Steps.{step_again}
+use Rattle.scenario_text.proofs.Plain.{plain_scenario}
+use Rattle.scenario_text.proofs.Drafts.{ok_is, draft_lines, filter-append, tasks_named, teaches_named, steps_named}
+use Rattle.scenario_text.proofs.Firsts.{one_first}
+use Rattle.scenario_text.proofs.Again.{none_bad}
 
--- ---- the lines of a scenario
+-- ---- a scenario, as its head and its plan
 
--- what stands after the last line feed
-abbrev nothing : List (List Word)
-nothing = ([] ∷ []) ∷ []
-
-abbrev head_of_scenario : Scenario → Head
-head_of_scenario s =
+abbrev pub head_of : Scenario → Head
+head_of s =
     record { siblings = s.siblings; task_limit = s.task_limit; cookie_limit = s.cookie_limit; user_top = s.user_top }
+
+abbrev pub plan_of : Scenario → Contents
+plan_of s = record { tasks = s.tasks; teaches = s.teaches; steps = s.steps }
 
 abbrev made_of : Head → Contents → Scenario
 made_of head plan =
@@ -53,228 +49,206 @@ made_of head plan =
       steps = plan.steps;
     }
 
-empty_plan : (siblings limit : ℕ) → IsPlan siblings limit nothing_planned
-empty_plan siblings limit = record {
-  tasks = All-nil (IsTask siblings);
-  distinct = λ i j d lt below. absurd (omega arith);
-  led = λ k d below. absurd (omega arith);
-  few_tasks = omega arith;
-  teaches = All-nil IsTeach;
-  numbered = refl;
-  few_teaches = omega arith;
-  steps = All-nil (IsStep siblings);
-  few_steps = omega arith;
+-- what is read is spelled so
+pub made_is : (head : Head) (plan : Contents) (lines rest : List (List Word)) → IsHead head → lines ≡ head_lines head ++ rest → IsPlan head.siblings head.task_limit plan → rest ≡ plan_lines plan ++ end_words ∷ nothing →
+    IsValid (made_of head plan) × (lines ≡ scenario_lines (made_of head plan) ++ nothing)
+made_is head plan lines rest h cut p left = (
+  record {
+    siblings = h.siblings;
+    task_limit = h.task_limit;
+    cookie_limit = h.cookie_limit;
+    user_top = h.user_top;
+    tasks = p.tasks;
+    distinct = p.distinct;
+    led = p.led;
+    few_tasks = p.few_tasks;
+    teaches = p.teaches;
+    numbered = p.numbered;
+    few_teaches = p.few_teaches;
+    steps = p.steps;
+    few_steps = p.few_steps;
+  },
+  cut ∙ ap (λ (ls : List (List Word)). head_lines head ++ ls) (left ∙ sym (append_assoc (plan_lines plan) (end_words ∷ []) nothing)),
+)
+
+-- and a valid scenario is made up of these
+pub head_is : (s : Scenario) → IsValid s → IsHead (head_of s)
+head_is s valid =
+    record { siblings = valid.siblings; task_limit = valid.task_limit; cookie_limit = valid.cookie_limit; user_top = valid.user_top }
+
+pub plan_is : (s : Scenario) → IsValid s → IsPlan s.siblings s.task_limit (plan_of s)
+plan_is s valid = record {
+  tasks = valid.tasks;
+  distinct = valid.distinct;
+  led = valid.led;
+  few_tasks = valid.few_tasks;
+  teaches = valid.teaches;
+  numbered = valid.numbered;
+  few_teaches = valid.few_teaches;
+  steps = valid.steps;
+  few_steps = valid.few_steps;
 }
 
--- what is read is spelled so
-scenario_takes : (lines : List (List Word)) (scenario : Scenario) → scenario_of lines ≡ Ok scenario → IsBuilt scenario × (lines ≡ scenario_lines scenario ++ nothing)
-unfolding scenario_of
-scenario_takes lines scenario e =
-    bind (head_at lines) _ scenario e (λ head first e0.
-    bind (plan_of head.0 nothing_planned head.1) _ scenario e0 (λ plan second e1.
-    let h = (each_head lines).all head first in
-    let p = (each_plan head.0 head.1 nothing_planned (empty_plan head.0.siblings head.0.task_limit)).all plan second in
-    let made = made_of head.0 plan in
-    let built : IsBuilt made = record {
-      siblings = h.1.siblings;
-      task_limit = h.1.task_limit;
-      cookie_limit = h.1.cookie_limit;
-      user_top = h.1.user_top;
-      tasks = p.is.tasks;
-      distinct = p.is.distinct;
-      led = p.is.led;
-      few_tasks = p.is.few_tasks;
-      teaches = p.is.teaches;
-      numbered = p.is.numbered;
-      few_teaches = p.is.few_teaches;
-      steps = p.is.steps;
-      few_steps = p.is.few_steps;
-    } in
-    let rest : head.1 ≡ plan_lines plan ++ end_lines = p.lines_are in
-    let whole : lines ≡ scenario_lines made ++ nothing =
-    h.0
-    ∙ ap (λ (ls : List (List Word)). head_lines head.0 ++ ls) (rest ∙ sym (append_assoc (plan_lines plan) (end_words ∷ []) nothing)) in
-    subst (λ (s : Scenario). IsBuilt s × (lines ≡ scenario_lines s ++ nothing)) (ok_is made scenario e1) (built, whole)))
+-- the lines of a scenario's text
+text_lines : (bytes : List ℕ) (s : Scenario) → IsTextOf bytes s → lines_in bytes ≡ scenario_lines s ++ nothing
+text_lines bytes s is = ap lines_in is.text ∙ lines_in-flat_map (scenario_lines s) (plain_scenario s is.valid)
 
--- what is spelled so is read
-scenario_again : (scenario : Scenario) → IsBuilt scenario → scenario_of (scenario_lines scenario ++ nothing) ≡ Ok scenario
-unfolding scenario_of
-scenario_again scenario built =
-    let head = head_of_scenario scenario in
-    let plan : Contents = record { tasks = scenario.tasks; teaches = scenario.teaches; steps = scenario.steps } in
-    let is_head : IsHead head = record {
-      siblings = built.siblings;
-      task_limit = built.task_limit;
-      cookie_limit = built.cookie_limit;
-      user_top = built.user_top;
-    } in
-    let is_plan : IsPlan head.siblings head.task_limit plan = record {
-      tasks = built.tasks;
-      distinct = built.distinct;
-      led = built.led;
-      few_tasks = built.few_tasks;
-      teaches = built.teaches;
-      numbered = built.numbered;
-      few_teaches = built.few_teaches;
-      steps = built.steps;
-      few_steps = built.few_steps;
-    } in
-    let few : head.siblings < 256 = let two = built.siblings in omega arith in
-    let lines = plan_lines plan ++ end_lines in
-    let some = has_first (plan_lines plan) end_words nothing in
-    let start : head_at (head_lines head ++ lines) ≡ Ok (head, lines) =
-    ap (λ (ls : List (List Word)). head_at (head_lines head ++ ls)) some.2
-    ∙ head_again head some.0 some.1 is_head
-    ∙ ap (λ (ls : List (List Word)). Ok (head, ls)) (sym some.2) in
-    ap (λ (ls : List (List Word)). scenario_of (head_lines head ++ ls)) (append_assoc (plan_lines plan) (end_words ∷ []) nothing)
-    ∙ rw (start, plan_again head plan few is_plan) refl
+pub found_is : (bytes : List ℕ) (s : Scenario) → ReadsLines (lines_in bytes) (Ok s) → IsTextOf bytes s
+found_is bytes s read = record { valid = read.0; text = text_is bytes (scenario_lines s) read.1 }
 
--- ---- plain words
+-- ---- one scenario
 
-plain_flag : (flag : Bool) → IsPlain (flag_word flag)
-plain_flag true = plain_word _ refl refl
-plain_flag false = plain_word _ refl refl
+same_cons : {X : Type 0} (x y : X) (xs ys : List X) → x ∷ xs ≡ y ∷ ys → (x ≡ y) × (xs ≡ ys)
+same_cons x y xs ys e = (cc, cc)
 
-plain_policy : (policy : Policy) → IsPolicy policy → IsPlain (policy_word policy)
-plain_policy Stop is = plain_word _ refl refl
-plain_policy (Deadline relative) is =
-    pick_plain-append (codes "dl:") (decimal relative) (plain_word _ refl refl) (plain_decimal relative (omega arith))
-plain_policy (Fifo priority) is =
-    pick_plain-append (codes "fifo:") (decimal priority) (plain_word _ refl refl) (plain_decimal priority (omega arith))
-plain_policy (Rr priority) is =
-    pick_plain-append (codes "rr:") (decimal priority) (plain_word _ refl refl) (plain_decimal priority (omega arith))
-plain_policy (Fair nice) is =
-    pick_plain-append (codes "fair:") (signed_decimal nice) (plain_word _ refl refl) (plain_signed 20 19 nice (omega arith) (omega arith) ((nice_is nice).1 is))
+not_cons : {X : Type 0} (x : X) (xs : List X) → x ∷ xs ≡ [] → ⊥
+not_cons x xs e = absurd cc
 
-plain_task : (siblings : ℕ) (task : TaskSpec) → siblings < 256 → IsTask siblings task → AllByRecursion IsPlain (task_words task)
-plain_task siblings task few is =
-    let ids = is.creds in
-    let cpu = is.cpu in
-    let creds : AllByRecursion IsPlain (creds_words task.creds) =
-    (plain_decimal task.creds.ruid (omega arith), (plain_decimal task.creds.euid (omega arith), (plain_decimal task.creds.suid (omega arith), (plain_decimal task.creds.rgid (omega arith), (plain_decimal task.creds.egid (omega arith), (plain_decimal task.creds.sgid (omega arith), (plain_flag task.creds.cap, (plain_flag task.creds.mm, (plain_flag task.creds.dumpable, tt))))))))) in
-    (plain_word _ refl refl, (plain_decimal task.pid (omega (arith, is.pid)), (plain_decimal task.tgid (omega (arith, is.tgid)), (plain_decimal task.pgid (omega (arith, is.pgid)), (plain_decimal task.cpu (omega arith), (plain_policy task.policy is.policy, creds))))))
+-- lists that are spelled alike
+map_same : {X Y : Type 0} (f : X → Y) (P : X → Type 0) → ((x y : X) → P x → P y → f x ≡ f y → x ≡ y) → (xs ys : List X) → AllByRecursion P xs → AllByRecursion P ys → map f xs ≡ map f ys → xs ≡ ys
+map_same f P same [] [] are are' e = refl
+map_same f P same [] (y ∷ ys) are are' e = absurd (not_cons (f y) (map f ys) (sym e))
+map_same f P same (x ∷ xs) [] are are' e = absurd (not_cons (f x) (map f xs) e)
+map_same f P same (x ∷ xs) (y ∷ ys) are are' e =
+    let parts = same_cons (f x) (f y) (map f xs) (map f ys) e in
+    let first = same x y are.0 are'.0 parts.0 in
+    let rest = map_same f P same xs ys are.1 are'.1 parts.1 in
+    λ i. first i ∷ rest i
 
-plain_actor : (siblings : ℕ) (actor : Actor) (event : Event) → siblings < 256 → IsStep siblings (by actor event) → IsPlain (actor_word actor)
-plain_actor siblings (Sibling i) event few is =
-    let within = sibling_within siblings i event is in
-    pick_plain-append (codes "s") (decimal i) (plain_word _ refl refl) (plain_decimal i (omega arith))
-plain_actor siblings (Caller j) event few is =
-    let within = caller_within siblings j event is in
-    pick_plain-append (codes "c") (decimal j) (plain_word _ refl refl) (plain_decimal j (omega arith))
-plain_actor siblings End event few is = absurd is.actor
+task_same : (siblings : ℕ) → siblings < 256 → (task other : TaskSpec) → IsTask siblings task → IsTask siblings other → task_words task ≡ task_words other → task ≡ other
+task_same siblings few task other is is' e =
+    ok_is task other (sym (task_again siblings task few is) ∙ ap (λ (ws : List Word). read_in ((task_form siblings, task_value) ∷ []) (parts ws)) e ∙ task_again siblings other few is')
 
-plain_ask : (ask : Ask) → IsAsk ask → AllByRecursion IsPlain (ask_words ask)
-plain_ask ask is =
-    (plain_decimal ask.cmd (omega (arith, is.cmd)), (plain_signed 2147483648 2147483647 ask.pid (omega arith) (omega arith) ((pid_is ask.pid).1 is.pid), (plain_decimal ask.scope (omega (arith, is.scope)), (plain_decimal ask.addr is.addr, tt))))
+step_same : (siblings : ℕ) → siblings < 256 → (step other : Step) → IsStep siblings step → IsStep siblings other → step_words step ≡ step_words other → step ≡ other
+step_same siblings few step other is is' e =
+    ok_is step other (sym (step_again siblings step.actor step.event few is) ∙ ap (λ (ws : List Word). step_line siblings (parts ws)) e ∙ step_again siblings other.actor other.event few is')
 
-plain_child : (thread : Bool) → IsPlain (child_word thread)
-plain_child true = plain_word _ refl refl
-plain_child false = plain_word _ refl refl
+-- what a teach line says, beside its number
+abbrev told : Teach → ℕ × List Word
+told teach = (teach.line, teach_words teach)
 
-plain_event : (siblings : ℕ) (event : Event) → siblings < 256 → IsEvent siblings event → AllByRecursion IsPlain (event_words event)
-plain_event siblings (Turn cpu) few is = (plain_word _ refl refl, tt)
-plain_event siblings (Resched cpu) few is = (plain_word _ refl refl, tt)
-plain_event siblings (Block cpu) few is = (plain_word _ refl refl, tt)
-plain_event siblings (Exit cpu) few is = (plain_word _ refl refl, tt)
-plain_event siblings (Tick cpu) few is = (plain_word _ refl refl, tt)
-plain_event siblings (Wake pid) few is = (plain_word _ refl refl, (plain_decimal pid (omega arith), tt))
-plain_event siblings (Advance delta) few is = (plain_word _ refl refl, (plain_decimal delta (omega arith), tt))
-plain_event siblings (Fork caller thread) few is =
-    (plain_word _ refl refl, (plain_decimal caller (omega arith), (plain_child thread, tt)))
-plain_event siblings (Prctl caller ask) few is =
-    (plain_word _ refl refl, (plain_decimal caller (omega (arith, is.0)), plain_ask ask is.1))
-plain_event siblings (SetSched pid policy) few is =
-    (plain_word _ refl refl, (plain_decimal pid (omega (arith, is.0)), (plain_policy policy is.1, tt)))
-plain_event siblings (Offline cpu) few is = (plain_word _ refl refl, (plain_decimal cpu (omega arith), tt))
-plain_event siblings (Online cpu) few is = (plain_word _ refl refl, (plain_decimal cpu (omega arith), tt))
-plain_event siblings (Load index) few is = (plain_word _ refl refl, (plain_decimal index (omega arith), tt))
-plain_event siblings (Unload index) few is = (plain_word _ refl refl, (plain_decimal index (omega arith), tt))
+teach_same : (teach other : Teach) → IsTeach teach → IsTeach other → told teach ≡ told other → teach ≡ other
+teach_same teach other is is' e =
+    ok_is teach other (sym (teach_again teach is) ∙ ap (λ (p : ℕ × List Word). read_in ((teach_form, teach_value p.0) ∷ []) (parts p.1)) e ∙ teach_again other is')
 
-pub plain_made : (siblings : ℕ) (actor : Actor) (event : Event) → siblings < 256 → IsStep siblings (by actor event) → AllByRecursion IsPlain (made_words actor event)
-plain_made siblings (Sibling i) event few is =
-    (plain_actor siblings (Sibling i) event few is, plain_event siblings event few is.event)
-plain_made siblings (Caller j) event few is =
-    (plain_actor siblings (Caller j) event few is, plain_event siblings event few is.event)
-plain_made siblings End event few is = absurd is.actor
+abbrev both : {X A B : Type 0} → (X → A) → (X → B) → X → A × B
+both f g x = (f x, g x)
 
-plain_step : (siblings : ℕ) (step : Step) → siblings < 256 → IsStep siblings step → AllByRecursion IsPlain (step_words step)
-plain_step siblings step few is = (plain_word _ refl refl, plain_made siblings step.actor step.event few is)
+map_pair : {X A B : Type 0} (f : X → A) (g : X → B) (xs ys : List X) → map f xs ≡ map f ys → map g xs ≡ map g ys → map (both f g) xs ≡ map (both f g) ys
+map_pair f g [] [] e k = refl
+map_pair f g [] (y ∷ ys) e k = absurd (not_cons (f y) (map f ys) (sym e))
+map_pair f g (x ∷ xs) [] e k = absurd (not_cons (f x) (map f xs) e)
+map_pair f g (x ∷ xs) (y ∷ ys) e k =
+    let first = same_cons (f x) (f y) (map f xs) (map f ys) e in
+    let second = same_cons (g x) (g y) (map g xs) (map g ys) k in
+    let rest = map_pair f g xs ys first.1 second.1 in
+    λ i. (first.0 i, second.0 i) ∷ rest i
 
-plain_tasks : (siblings : ℕ) (tasks : List TaskSpec) → siblings < 256 → AllByRecursion (IsTask siblings) tasks → ArePlain (map task_words tasks)
-plain_tasks siblings [] few is = tt
-plain_tasks siblings (task ∷ tasks) few is = (plain_task siblings task few is.0, plain_tasks siblings tasks few is.1)
+-- the lines of one form among those of a text
+abbrev whole : Scenario → List (List Word)
+whole s = draft_lines (head_of s) (plan_of s) ++ end_words ∷ nothing
 
-plain_teaches : (teaches : List Teach) → AllByRecursion IsTeach teaches → ArePlain (map teach_words teaches)
-plain_teaches [] is = tt
-plain_teaches (teach ∷ teaches) is =
-    let words : AllByRecursion IsPlain (teach_words teach) = (plain_word _ refl refl, (plain_decimal teach.guard (omega (arith, is.0.guard)), (plain_decimal teach.from (omega (arith, is.0.from)), (plain_decimal teach.to (omega (arith, is.0.to)), tt)))) in
-    (words, plain_teaches teaches is.1)
+tasks_of : (s : Scenario) → named (codes "task") (whole s) ≡ map task_words s.tasks
+tasks_of s =
+    filter-append (is_named (codes "task")) (draft_lines (head_of s) (plan_of s)) (end_words ∷ nothing)
+    ∙ append-nil (named (codes "task") (draft_lines (head_of s) (plan_of s)))
+    ∙ tasks_named (head_of s) (plan_of s)
 
-plain_steps : (siblings : ℕ) (steps : List Step) → siblings < 256 → AllByRecursion (IsStep siblings) steps → ArePlain (map step_words steps)
-plain_steps siblings [] few is = tt
-plain_steps siblings (step ∷ steps) few is = (plain_step siblings step few is.0, plain_steps siblings steps few is.1)
+teaches_of : (s : Scenario) → named (codes "teach") (whole s) ≡ map teach_words s.teaches
+teaches_of s =
+    filter-append (is_named (codes "teach")) (draft_lines (head_of s) (plan_of s)) (end_words ∷ nothing)
+    ∙ append-nil (named (codes "teach") (draft_lines (head_of s) (plan_of s)))
+    ∙ teaches_named (head_of s) (plan_of s)
 
-plain_scenario : (scenario : Scenario) → IsBuilt scenario → ArePlain (scenario_lines scenario)
-plain_scenario s built =
-    let few : s.siblings < 256 = let two = built.siblings in omega arith in
-    let word : IsPlain (codes "end") = plain_word _ refl refl in
-    let tasks = plain_tasks s.siblings s.tasks few (recursion_from_All (IsTask s.siblings) s.tasks built.tasks) in
-    let teaches = plain_teaches s.teaches (recursion_from_All IsTeach s.teaches built.teaches) in
-    let steps = plain_steps s.siblings s.steps few (recursion_from_All (IsStep s.siblings) s.steps built.steps) in
-    let version : AllByRecursion IsPlain version_words = (plain_word _ refl refl, (plain_word _ refl refl, tt)) in
-    let siblings : AllByRecursion IsPlain (siblings_words s) = (plain_word _ refl refl, (plain_decimal s.siblings (omega arith), tt)) in
-    let limits : AllByRecursion IsPlain (limits_words s) = (
-      plain_word _ refl refl,
-      (
-        plain_decimal s.task_limit (omega (arith, built.task_limit)),
-        (
-          plain_decimal s.cookie_limit (omega (arith, built.cookie_limit)),
-          (plain_decimal s.user_top (omega (arith, built.user_top)), tt),
-        ),
-      ),
-    ) in
-    let settings = ArePlain-append (map task_words s.tasks) (map teach_words s.teaches) tasks teaches in
-    let plan = ArePlain-append (map task_words s.tasks ++ map teach_words s.teaches) (map step_words s.steps) settings steps in
-    (version, (siblings, (limits, ArePlain-append (map task_words s.tasks ++ map teach_words s.teaches ++ map step_words s.steps) (end_words ∷ []) plan ((word, tt), tt))))
+steps_of : (s : Scenario) → named (codes "step") (whole s) ≡ map step_words s.steps
+steps_of s =
+    filter-append (is_named (codes "step")) (draft_lines (head_of s) (plan_of s)) (end_words ∷ nothing)
+    ∙ append-nil (named (codes "step") (draft_lines (head_of s) (plan_of s)))
+    ∙ steps_named (head_of s) (plan_of s)
+
+whole_is : (s : Scenario) → scenario_lines s ++ nothing ≡ whole s
+whole_is s = ap (λ (ls : List (List Word)). head_lines (head_of s) ++ ls) (append_assoc (plan_lines (plan_of s)) (end_words ∷ []) nothing)
+
+module _ (s t : Scenario) (is : IsValid s) (is' : IsValid t) (e : whole s ≡ whole t) where
+  same_siblings : s.siblings ≡ t.siblings
+  same_siblings =
+      ok_is s.siblings t.siblings
+      (sym (count_again s.siblings is.siblings) ∙ ap (λ (ls : List (List Word)). read_in siblings_reading (parts (get_or ls 1 []))) e ∙ count_again t.siblings is'.siblings)
+
+  same_head : head_of s ≡ head_of t
+  same_head =
+      ok_is (head_of s) (head_of t)
+      (sym (limits_again (head_of s) (head_is s is))
+      ∙ ap (λ (n : ℕ). read_in (limits_reading n) (parts (head_words (head_of s)))) same_siblings
+      ∙ ap (λ (ls : List (List Word)). read_in (limits_reading t.siblings) (parts (get_or ls 2 []))) e
+      ∙ limits_again (head_of t) (head_is t is'))
+
+  few : t.siblings < 256
+  few = let two = is'.siblings in omega arith
+
+  same_tasks : s.tasks ≡ t.tasks
+  same_tasks =
+      map_same task_words (IsTask t.siblings) (task_same t.siblings few) s.tasks t.tasks
+      (recursion_from_All (IsTask t.siblings) s.tasks (subst (λ (n : ℕ). All (IsTask n) s.tasks) same_siblings is.tasks))
+      (recursion_from_All (IsTask t.siblings) t.tasks is'.tasks)
+      (sym (tasks_of s) ∙ ap (named (codes "task")) e ∙ tasks_of t)
+
+  same_steps : s.steps ≡ t.steps
+  same_steps =
+      map_same step_words (IsStep t.siblings) (step_same t.siblings few) s.steps t.steps
+      (recursion_from_All (IsStep t.siblings) s.steps (subst (λ (n : ℕ). All (IsStep n) s.steps) same_siblings is.steps))
+      (recursion_from_All (IsStep t.siblings) t.steps is'.steps)
+      (sym (steps_of s) ∙ ap (named (codes "step")) e ∙ steps_of t)
+
+  same_teaches : s.teaches ≡ t.teaches
+  same_teaches =
+      let words : map teach_words s.teaches ≡ map teach_words t.teaches = sym (teaches_of s) ∙ ap (named (codes "teach")) e ∙ teaches_of t in
+      let count : length s.teaches ≡ length t.teaches = sym (length-map s.teaches teach_words) ∙ ap length words ∙ length-map t.teaches teach_words in
+      let numbers : map (λ teach. teach.line) s.teaches ≡ map (λ teach. teach.line) t.teaches =
+      is.numbered
+      ∙ ap (λ (ts : List TaskSpec). range_with_len (length ts + 4) (length s.teaches)) same_tasks
+      ∙ ap (range_with_len (length t.tasks + 4)) count
+      ∙ sym is'.numbered in
+      map_same told IsTeach teach_same s.teaches t.teaches (recursion_from_All IsTeach s.teaches is.teaches) (recursion_from_All IsTeach t.teaches is'.teaches)
+      (map_pair (λ teach. teach.line) teach_words s.teaches t.teaches numbers words)
+
+  same_scenario : s ≡ t
+  same_scenario = λ i. made_of (same_head i) (record { tasks = same_tasks i; teaches = same_teaches i; steps = same_steps i })
+
+pub one_scenario : (bytes : List ℕ) → HasOneScenario bytes
+one_scenario bytes s t is is' =
+    same_scenario s t is.valid is'.valid (sym (whole_is s) ∙ sym (text_lines bytes s is) ∙ text_lines bytes t is' ∙ whole_is t)
+
+-- the text of a valid scenario is that of no other
+pub text_is_its_own : (scenario : Scenario) → IsValid scenario → (other : Scenario) → IsTextOf (scenario_text scenario) other → other ≡ scenario
+text_is_its_own scenario valid other is =
+    one_scenario (scenario_text scenario) other scenario is (record { valid = valid; text = refl })
 
 -- ---- the reader
 
--- a text is read as the scenario that it is the text of
-text_again : (bytes : List ℕ) (scenario : Scenario) → IsTextOf bytes scenario → scenario_of (lines_in bytes) ≡ Ok scenario
-text_again bytes scenario is =
-    ap (λ (b : List ℕ). scenario_of (lines_in b)) is.text
-    ∙ ap scenario_of (lines_in-flat_map (scenario_lines scenario) (plain_scenario scenario is.built))
-    ∙ scenario_again scenario is.built
+-- a text with a bad line is no scenario's
+pub none_of : (bytes : List ℕ) (number : ℕ) (kind : BadKind) → IsFirstBad (lines_in bytes) number kind → HasNoScenario bytes
+none_of bytes number kind bad s is =
+    none_bad (head_of s) (head_is s is.valid) (plan_of s) (plan_is s is.valid) number kind
+    (subst (λ (ls : List (List Word)). IsFirstBad ls number kind) (text_lines bytes s is ∙ whole_is s) bad)
 
--- and only so
-text_takes : (bytes : List ℕ) (scenario : Scenario) → scenario_of (lines_in bytes) ≡ Ok scenario → IsTextOf bytes scenario
-text_takes bytes scenario e =
-    let taken = scenario_takes (lines_in bytes) scenario e in
-    record { built = taken.0; text = text_is bytes (scenario_lines scenario) taken.1 }
+pub found_of : (bytes : List ℕ) (r : Result Scenario ReadFault) → ReadsLines (lines_in bytes) r → IfOk r (IsTextOf bytes)
+found_of bytes (Ok s) read = found_is bytes s read
+found_of bytes (Err fault) read = tt
 
-pub one_scenario : (bytes : List ℕ) → HasOneScenario bytes
-one_scenario bytes scenario other is is' =
-    ok_is scenario other (sym (text_again bytes scenario is) ∙ text_again bytes other is')
+pub only_of : (bytes : List ℕ) (r : Result Scenario ReadFault) → ReadsLines (lines_in bytes) r → (s : Scenario) → IsTextOf bytes s → MatchResult r (λ read. read ≡ s) (λ fault. fault ≡ OutOfMemory)
+only_of bytes (Ok found) read s is = one_scenario bytes found s (found_is bytes found read) is
+only_of bytes (Err OutOfMemory) read s is = refl
+only_of bytes (Err (Bad number kind)) read s is = absurd (none_of bytes number kind read s is)
 
-pub is_found : (bytes : List ℕ) (r : Result Scenario ReadFault) → Gives (λ s. s) r (scenario_of (lines_in bytes)) → IfOk r (IsTextOf bytes)
-is_found bytes (Ok scenario) given = text_takes bytes scenario given
-is_found bytes (Err fault) given = tt
+pub told_of : (bytes : List ℕ) (r : Result Scenario ReadFault) → ReadsLines (lines_in bytes) r → IfErr r (Tells (lines_in bytes))
+told_of bytes (Ok found) read = tt
+told_of bytes (Err fault) read = read
 
-abbrev nothing_read : Read Scenario
-nothing_read = refused
-
-pub is_only : (bytes : List ℕ) (r : Result Scenario ReadFault) → Gives (λ s. s) r (scenario_of (lines_in bytes)) → (scenario : Scenario) → IsTextOf bytes scenario → MatchResult r (λ read. read ≡ scenario) (λ fault. fault ≡ OutOfMemory)
-is_only bytes (Ok read) given scenario is = ok_is read scenario (sym given ∙ text_again bytes scenario is)
-is_only bytes (Err OutOfMemory) given scenario is = refl
-is_only bytes (Err (Bad line kind)) given scenario is =
-    let bad : nothing_read ≡ Ok scenario = sym given.0 ∙ text_again bytes scenario is in absurd cc
-
-pub is_fault : (bytes : List ℕ) (r : Result Scenario ReadFault) → Gives (λ s. s) r (scenario_of (lines_in bytes)) → IfErr r (λ fault. (fault ≡ Bad 0 Unbuilt) ⊎ (fault ≡ OutOfMemory))
-is_fault bytes (Ok read) given = tt
-is_fault bytes (Err OutOfMemory) given = inr refl
-is_fault bytes (Err (Bad line kind)) given = inl (rw (given.1, given.2) refl)
-
-pub is_unbuilt : (bytes : List ℕ) (r : Result Scenario ReadFault) → Gives (λ s. s) r (scenario_of (lines_in bytes)) → r ≡ Err (Bad 0 Unbuilt) → HasNoScenario bytes
-is_unbuilt bytes (Ok read) given e scenario is = absurd cc
-is_unbuilt bytes (Err fault) given e scenario is =
-    let same : fault ≡ OutOfMemory = is_only bytes (Err fault) given scenario is in absurd cc
+pub bad_of : (bytes : List ℕ) (r : Result Scenario ReadFault) → ReadsLines (lines_in bytes) r → (number : ℕ) (kind : BadKind) → IsFirstBad (lines_in bytes) number kind →
+    IsErrAnd r (λ fault. (fault ≡ Bad number kind) ⊎ (fault ≡ OutOfMemory))
+bad_of bytes (Ok found) read number kind bad = absurd (none_of bytes number kind bad found (found_is bytes found read))
+bad_of bytes (Err OutOfMemory) read number kind bad = inr refl
+bad_of bytes (Err (Bad line found)) read number kind bad =
+    let same = one_first (lines_in bytes) line number found kind read bad in
+    inl (λ i. Bad (same.0 i) (same.1 i))

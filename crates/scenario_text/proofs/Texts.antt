@@ -11,7 +11,7 @@ use Rattle.std.proofs.lemmas.Str.Parse.{digit_from_value}
 use Rattle.std.proofs.lemmas.Fmt.{decimal_is_IsNumeral}
 use Rattle.scenario_text.specs.Words.{Word}
 use Rattle.scenario_text.specs.Text.{spaced, line}
-use Rattle.scenario_text.specs.Reading.{pieces, words_in, lines_in}
+use Rattle.scenario_text.specs.Faults.{pieces, words_in, lines_in}
 use Rattle.scenario_text.proofs.Numbers.{IsSignedWithin}
 
 -- ---- plain words

@@ -1,5 +1,7 @@
 pub mod Words
 pub mod Text
-pub mod Reading
+pub mod Grammar
+pub mod Faults
 pub mod Reader
+pub mod Reading
 pub mod Entry

@@ -1,82 +1,33 @@
--- Reading: what the reader takes from a text, line by line. Of a line it first sees which form it has, by its
--- first word and the count of them, then reads the words of that form, and then asks whether the line may follow
--- those before it.
-use Rattle.std.specs.Prelude.{◌≡◌, ◌≤◌, ℕ, ◌+◌, ◌-◌, Bool, true, false, ◌&&◌, ◌||◌, ◌==◌, ℤ, pos, negsuc, not, nat_le, nat_lt, if◌then◌else◌, List, [], ◌∷◌, length, slice_index, slice_index_or, map, take, drop, codes, ◌++◌, Result, Ok, Err}
+-- Reading: what the words of a line are read as, by the forms that the line may have.
+use Rattle.std.specs.Prelude.{◌≡◌, ◌≤◌, ◌<◌, ℕ, suc, ◌+◌, ◌-◌, Bool, true, ◌&&◌, ◌||◌, ◌==◌, not, nat_le, nat_lt, ℤ, pos, negsuc, if◌then◌else◌, List, [], ◌∷◌, ◌++◌, length, map, take, drop, All, decimal, slice_index_or, None, codes, Result, Ok, Err}
+use Rattle.std.specs.List.{list_any}
 use Rattle.std.specs.Borrow.{Bor}
-use Rattle.std.specs.Char.{is_ascii_digit}
-use Rattle.std.specs.List.{slice_split, list_any}
-use Rattle.std.specs.Str.{all_ascii_digits, bytes_eq}
-use Rattle.std.specs.Str.Parse.{digits_value}
 use Rattle.cs_types.specs.declared.task.Policy.{Policy}
 use Rattle.cs_types.specs.declared.task.Policy.TheVariants.{Stop, Deadline, Fifo, Rr, Fair}
-use Rattle.cs_types.specs.declared.task.Creds.{Creds}
 use Rattle.cs_types.specs.declared.task.TaskSpec.{TaskSpec}
 use Rattle.cs_types.specs.declared.event.Actor.TheVariants.{Sibling, Caller}
 use Rattle.cs_types.specs.declared.event.Ask.{Ask}
 use Rattle.cs_types.specs.declared.event.Event.{Event}
 use Rattle.cs_types.specs.declared.event.Event.TheVariants.{Turn, Resched, Block, Exit, Tick, Wake, Advance, Fork, Prctl, SetSched, Offline, Online, Load, Unload}
 use Rattle.cs_types.specs.declared.event.Step.{Step}
-use Rattle.cs_types.specs.declared.scenario.Scenario.{Scenario}
 use Rattle.cs_types.specs.declared.scenario.Teach.{Teach}
+use Rattle.cs_types.specs.declared.scenario.Scenario.{Scenario}
+use Rattle.cs_types.specs.Scenario.{IsWithin, IsTask, AreDistinct, AreLed, IsTeach, AreNumbered, IsStep, IsValid}
+use Rattle.scenario_text.specs.declared.fault.BadKind.{BadKind}
+use Rattle.scenario_text.specs.declared.fault.BadKind.TheVariants.{Cut, Shape, Number, Twice, Leader, Full}
 use Rattle.scenario_text.specs.declared.head.Head.{Head}
 use Rattle.scenario_text.specs.declared.line.Place.{Place}
 use Rattle.scenario_text.specs.declared.line.ScenarioLine.{ScenarioLine}
 use Rattle.scenario_text.specs.declared.line.ScenarioLine.TheVariants as forms
 use Rattle.scenario_text.specs.declared.plan.Plan.{Plan}
-use Rattle.scenario_text.specs.declared.fault.BadKind.TheVariants.{Unbuilt}
-use Rattle.scenario_text.specs.declared.fault.Refused.{Refused}
 use Rattle.scenario_text.specs.declared.fault.ReadFault.{ReadFault}
-use Rattle.scenario_text.specs.declared.fault.ReadFault.TheVariants.{Bad, OutOfMemory}
-use Rattle.scenario_text.specs.Words.{Word}
+use Rattle.scenario_text.specs.Words.{Word, task_words, teach_words}
+use Rattle.scenario_text.specs.Text.{version_words, step_words, end_words, scenario_lines}
+use Rattle.scenario_text.specs.Faults.{kind_of}
+use Rattle.scenario_text.specs.Reader.{Tells}
+use Rattle.scenario_text.specs.Grammar.{is_word, begins, behind, has_minus, value, is_number, keyword, number, signed, sibling, named_pid, guard, child, policy, Form, version_form, siblings_form, limits_form, task_form, teach_form}
 
--- ---- pieces
-
--- what stands round the separators
-unfoldable pub pieces : ℕ → List ℕ → List (List ℕ)
-pieces separator bytes = slice_split (λ byte. byte == separator) bytes
-
--- the words of a line, which stand round its spaces
-unfoldable pub words_in : List ℕ → List Word
-words_in line = pieces 32 line
-
--- the lines of a text, each as its words; the last is what stands after the last line feed
-unfoldable pub lines_in : List ℕ → List (List Word)
-lines_in text = map words_in (pieces 10 text)
-
--- the texts of words that are lent
-abbrev pub texts : List (Bor Word) → List Word
-texts words = map (λ word. word.now) words
-
--- ---- what is read, or refused
-
-abbrev pub Read : Type 0 → Type 0
-Read A = Result A Refused
-
-abbrev pub refused : {A : Type 0} → Read A
-refused = Err (record {})
-
-infixl 10 ◌>>=◌
-abbrev pub ◌>>=◌ : {A B : Type 0} → Read A → (A → Read B) → Read B
-Ok x >>= f = f x
-Err refusal >>= f = Err refusal
-
--- a fact that a line needs
-abbrev pub check : Bool → Read (Unit {0})
-check holds = if holds then Ok tt else refused
-
--- what a function returned, seen by view, is what reading gives
-abbrev pub Reads : {X Y : Type 0} → (X → Y) → Read X → Read Y → Type 0
-Reads view (Ok x) read = read ≡ Ok (view x)
-Reads view (Err refusal) read = read ≡ Err refusal
-
--- the same, with the rest that the function left
-abbrev pub Takes : {X Y A : Type 0} → (X → Y) → Read X → List A → Read (Y × List A) → Type 0
-Takes view (Ok x) rest read = read ≡ Ok (view x, rest)
-Takes view (Err refusal) rest read = read ≡ Err refusal
-
--- ---- the forms of lines
-
--- words, as a reader sees them: how many there are, and the word at each place from 0
+-- words, as a pattern sees them: how many there are, and the word at each place from 0
 pub record Parts : Type 0 where
   pub count : ℕ
   pub at : ℕ → Word
@@ -92,356 +43,243 @@ lent words = record { count = length words; at = λ k. (slice_index_or words k (
 abbrev pub after : ℕ → Parts → Parts
 after n words = record { count = words.count - n; at = λ k. words.at (n + k) }
 
--- whether the word is this keyword
-abbrev pub is_word : Word → Word → Bool
-is_word word keyword = bytes_eq word keyword
+-- ---- forms
 
--- what the form reads that a word names
-unfoldable pub reading_named : {A : Type 0} → List (Word × Read A) → Word → Read A
-reading_named [] name = refused
-reading_named (form ∷ forms) name = if is_word name form.0 then form.1 else reading_named forms name
+-- the words from this place on have the shapes of the fields
+abbrev pub shaped : ℕ → Form → Parts → Bool
+shaped k [] words = true
+shaped k (field ∷ fields) words = field.has_shape (words.at k) && shaped (suc k) fields words
 
--- whether the word begins with this mark
-abbrev pub begins : Word → Word → Bool
-begins word mark = bytes_eq (take (length mark) word) mark
+-- and are right in them
+abbrev pub righted : ℕ → Form → Parts → Bool
+righted k [] words = true
+righted k (field ∷ fields) words = field.is_right (words.at k) && righted (suc k) fields words
 
--- what the form whose mark the word begins with reads from what stands after the mark
-unfoldable pub reading_after : {A : Type 0} → List (Word × (Word → Read A)) → Word → Read A
-reading_after [] word = refused
-reading_after (form ∷ forms) word =
-    if begins word form.0 then form.1 (drop (length form.0) word) else reading_after forms word
+abbrev pub has : Form → Parts → Bool
+has form words = (words.count == length form) && shaped 0 form words
 
--- ---- numbers
+abbrev pub Read : Type 0 → Type 0
+Read A = Result A BadKind
 
--- whether the word begins with a digit, and with 0 only where it is `0`
-abbrev pub is_canonical : Word → Bool
-is_canonical word = is_ascii_digit (slice_index word 0) && ((length word == 1) || not (slice_index word 0 == 48))
+-- forms, with what a line of each says
+abbrev pub Readings : Type 0 → Type 0
+Readings A = List (Form × (Parts → A))
 
--- whether the word is a number from low to high
-abbrev pub is_number : ℕ → ℕ → Word → Bool
-is_number low high word =
-    is_canonical word && all_ascii_digits word && nat_le low (digits_value 10 word) && nat_le (digits_value 10 word) high
+-- what the first form reads whose shape the words have
+abbrev pub read_in : {A : Type 0} → Readings A → Parts → Read A
+read_in [] words = Err Shape
+read_in (form ∷ forms) words =
+    if has form.0 words then (if righted 0 form.0 words then Ok (form.1 words) else Err Number) else read_in forms words
 
--- the number from low to high that the word spells
-unfoldable pub number_of : ℕ → ℕ → Word → Read ℕ
-number_of low high word = if is_number low high word then Ok (digits_value 10 word) else refused
+-- ---- what words say
 
--- the number from -below to above that the word spells: `-` and a magnitude, or a number from 0
-unfoldable pub signed_of : ℕ → ℕ → Word → Read ℤ
-signed_of below above word =
-    if slice_index word 0 == 45
-    then (number_of 1 below (drop 1 word) >>= λ magnitude. Ok (negsuc (magnitude - 1)))
-    else (number_of 0 above word >>= λ number. Ok (pos number))
+abbrev pub signed_value : Word → ℤ
+signed_value word = if has_minus word then negsuc (value (drop 1 word) - 1) else pos (value word)
 
--- 1 for yes, 0 for no
-unfoldable pub flag_of : Word → Read Bool
-flag_of word = reading_named ((codes "1", Ok true) ∷ (codes "0", Ok false) ∷ []) word
+abbrev pub flag_value : Word → Bool
+flag_value word = value word == 1
 
--- a sibling that the core has
-unfoldable pub cpu_of : ℕ → Word → Read ℕ
-cpu_of siblings word = do
-  cpu ← number_of 0 255 word
-  if nat_lt cpu siblings then Ok cpu else refused
-
--- ---- tasks
-
--- the policy of the number from low to high that the word spells
-unfoldable pub numbered : (ℕ → Policy) → ℕ → ℕ → Word → Read Policy
-numbered policy low high word = do
-  number ← number_of low high word
-  Ok (policy number)
-
--- the policy of the nice value that the word spells
-unfoldable pub fair_of : Word → Read Policy
-fair_of word = do
-  nice ← signed_of 20 19 word
-  Ok (Fair nice)
-
--- `stop`, or what stands before the first colon names the policy, and a number stands after it
-unfoldable pub policy_of : Word → Read Policy
-policy_of word =
+abbrev pub policy_value : Word → Policy
+policy_value word =
     if is_word word (codes "stop")
-    then Ok Stop
-    else reading_after (
-    (codes "dl:", numbered Deadline 1 1000000000)
-    ∷ (codes "fifo:", numbered Fifo 1 99)
-    ∷ (codes "rr:", numbered Rr 1 99)
-    ∷ (codes "fair:", fair_of)
+    then Stop
+    else (if begins word (codes "dl:")
+    then Deadline (value (behind (codes "dl:") word))
+    else (if begins word (codes "fifo:")
+    then Fifo (value (behind (codes "fifo:") word))
+    else (if begins word (codes "rr:") then Rr (value (behind (codes "rr:") word)) else Fair (signed_value (behind (codes "fair:") word)))))
+
+-- what the fields of a task line say
+abbrev pub task_value : Parts → TaskSpec
+task_value words =
+    record {
+      pid = value (words.at 1);
+      tgid = value (words.at 2);
+      pgid = value (words.at 3);
+      cpu = value (words.at 4);
+      policy = policy_value (words.at 5);
+      creds = record {
+        ruid = value (words.at 6);
+        euid = value (words.at 7);
+        suid = value (words.at 8);
+        rgid = value (words.at 9);
+        egid = value (words.at 10);
+        sgid = value (words.at 11);
+        cap = flag_value (words.at 12);
+        mm = flag_value (words.at 13);
+        dumpable = flag_value (words.at 14);
+      };
+    }
+
+-- what the fields of a teach line say, which is the line of this number
+abbrev pub teach_value : ℕ → Parts → Teach
+teach_value line words =
+    record { line = line; guard = value (words.at 1); from = value (words.at 2); to = value (words.at 3) }
+
+-- what the four words after the caller of `prctl` say
+abbrev pub ask_value : Parts → Ask
+ask_value words =
+    record { cmd = value (words.at 2); pid = signed_value (words.at 3); scope = value (words.at 4); addr = value (words.at 5) }
+
+-- the forms of events, with what each says
+
+abbrev pub sibling_readings : Readings (ℕ → Event)
+sibling_readings =
+    (keyword (codes "turn") ∷ [], λ words. Turn)
+    ∷ (keyword (codes "resched") ∷ [], λ words. Resched)
+    ∷ (keyword (codes "block") ∷ [], λ words. Block)
+    ∷ (keyword (codes "exit") ∷ [], λ words. Exit)
+    ∷ (keyword (codes "tick") ∷ [], λ words. Tick)
     ∷ []
-    ) word
 
--- what stands after the policy
-unfoldable pub creds_of : Parts → Read Creds
-creds_of words =
-    if words.count == 9
-    then (do
-      ruid ← number_of 0 65535 (words.at 0)
-      euid ← number_of 0 65535 (words.at 1)
-      suid ← number_of 0 65535 (words.at 2)
-      rgid ← number_of 0 65535 (words.at 3)
-      egid ← number_of 0 65535 (words.at 4)
-      sgid ← number_of 0 65535 (words.at 5)
-      cap ← flag_of (words.at 6)
-      mm ← flag_of (words.at 7)
-      dumpable ← flag_of (words.at 8)
-      Ok (record {
-        ruid = ruid;
-        euid = euid;
-        suid = suid;
-        rgid = rgid;
-        egid = egid;
-        sgid = sgid;
-        cap = cap;
-        mm = mm;
-        dumpable = dumpable;
-      }))
-    else refused
-
--- what stands after the word `task`
-unfoldable pub task_of : ℕ → Parts → Read TaskSpec
-task_of siblings words =
-    if nat_le 5 words.count
-    then (do
-      pid ← number_of 1 9999 (words.at 0)
-      tgid ← number_of 1 9999 (words.at 1)
-      pgid ← number_of 1 9999 (words.at 2)
-      cpu ← cpu_of siblings (words.at 3)
-      policy ← policy_of (words.at 4)
-      creds ← creds_of (after 5 words)
-      Ok (record { pid = pid; tgid = tgid; pgid = pgid; cpu = cpu; policy = policy; creds = creds }))
-    else refused
-
--- ---- what guards are taught
-
--- what stands after the word `teach`, on the line of this number
-unfoldable pub teach_of : ℕ → Parts → Read Teach
-teach_of line words =
-    if words.count == 3
-    then (do
-      guard ← number_of 0 15 (words.at 0)
-      from ← number_of 0 65535 (words.at 1)
-      to ← number_of 0 65535 (words.at 2)
-      Ok (record { line = line; guard = guard; from = from; to = to }))
-    else refused
-
--- ---- steps
-
--- what a sibling does
-unfoldable pub sibling_event_of : ℕ → Parts → Read Event
-sibling_event_of cpu words =
-    if words.count == 1
-    then reading_named (
-    (codes "turn", Ok (Turn cpu))
-    ∷ (codes "resched", Ok (Resched cpu))
-    ∷ (codes "block", Ok (Block cpu))
-    ∷ (codes "exit", Ok (Exit cpu))
-    ∷ (codes "tick", Ok (Tick cpu))
+abbrev pub caller_readings : ℕ → Readings Event
+caller_readings siblings =
+    (keyword (codes "wake") ∷ named_pid ∷ [], λ words. Wake (value (words.at 1)))
+    ∷ (keyword (codes "advance") ∷ number 1 1000000000 ∷ [], λ words. Advance (value (words.at 1)))
+    ∷ (keyword (codes "fork") ∷ named_pid ∷ child ∷ [], λ words. Fork (value (words.at 1)) (is_word (words.at 2) (codes "thread")))
+    ∷ (keyword (codes "prctl") ∷ named_pid ∷ number 0 4294967295 ∷ signed 2147483648 2147483647 ∷ number 0 4294967295 ∷ number 0 18446744073709551615 ∷ [], λ words. Prctl (value (words.at 1)) (ask_value words))
+    ∷ (keyword (codes "setsched") ∷ named_pid ∷ policy ∷ [], λ words. SetSched (value (words.at 1)) (policy_value (words.at 2)))
+    ∷ (keyword (codes "offline") ∷ sibling siblings ∷ [], λ words. Offline (value (words.at 1)))
+    ∷ (keyword (codes "online") ∷ sibling siblings ∷ [], λ words. Online (value (words.at 1)))
+    ∷ (keyword (codes "load") ∷ guard ∷ [], λ words. Load (value (words.at 1)))
+    ∷ (keyword (codes "unload") ∷ guard ∷ [], λ words. Unload (value (words.at 1)))
     ∷ []
-    ) (words.at 0)
-    else refused
 
--- the arguments of `prctl`
-unfoldable pub ask_of : Word → Word → Word → Word → Read Ask
-ask_of cmd target scope addr = do
-  cmd ← number_of 0 4294967295 cmd
-  pid ← signed_of 2147483648 2147483647 target
-  scope ← number_of 0 4294967295 scope
-  addr ← number_of 0 18446744073709551615 addr
-  Ok (record { cmd = cmd; pid = pid; scope = scope; addr = addr })
+-- what is read, where a number besides is right
+abbrev pub joined : {A B : Type 0} → Read A → Bool → (A → B) → Read B
+joined (Err kind) right f = Err kind
+joined (Ok x) right f = if right then Ok (f x) else Err Number
 
-unfoldable pub wake_of : Word → Read Event
-wake_of pid = do
-  pid ← number_of 1 999999 pid
-  Ok (Wake pid)
+-- what stands behind `s` and after it
+abbrev pub sibling_step : ℕ → Word → Parts → Read Step
+sibling_step siblings digits event =
+    joined (read_in sibling_readings event) (is_number 0 (siblings - 1) digits) (λ make. record { actor = Sibling (value digits); event = make (value digits) })
 
--- how far the clock goes on, in ns
-unfoldable pub advance_of : Word → Read Event
-advance_of delta = do
-  delta ← number_of 1 1000000000 delta
-  Ok (Advance delta)
-
--- `thread` or `process`
-unfoldable pub child_of : Word → Read Bool
-child_of word = reading_named ((codes "thread", Ok true) ∷ (codes "process", Ok false) ∷ []) word
-
-unfoldable pub fork_of : Word → Word → Read Event
-fork_of caller child = do
-  caller ← number_of 1 999999 caller
-  thread ← child_of child
-  Ok (Fork caller thread)
-
-unfoldable pub prctl_of : Word → Word → Word → Word → Word → Read Event
-prctl_of caller cmd target scope addr = do
-  caller ← number_of 1 999999 caller
-  ask ← ask_of cmd target scope addr
-  Ok (Prctl caller ask)
-
--- a task, and the policy that it gets
-unfoldable pub setsched_of : Word → Word → Read Event
-setsched_of pid policy = do
-  pid ← number_of 1 999999 pid
-  policy ← policy_of policy
-  Ok (SetSched pid policy)
-
--- what happens to a sibling that the core has
-unfoldable pub hotplug_of : (ℕ → Event) → ℕ → Word → Read Event
-hotplug_of event siblings cpu = do
-  cpu ← cpu_of siblings cpu
-  Ok (event cpu)
-
--- what happens to the guard of a number
-unfoldable pub guard_event_of : (ℕ → Event) → Word → Read Event
-guard_event_of event index = do
-  index ← number_of 0 15 index
-  Ok (event index)
-
--- what a caller does, in a core with this number of siblings
-unfoldable pub caller_event_of : ℕ → Parts → Read Event
-caller_event_of siblings words =
-    if words.count == 2
-    then reading_named (
-    (codes "wake", wake_of (words.at 1))
-    ∷ (codes "advance", advance_of (words.at 1))
-    ∷ (codes "offline", hotplug_of Offline siblings (words.at 1))
-    ∷ (codes "online", hotplug_of Online siblings (words.at 1))
-    ∷ (codes "load", guard_event_of Load (words.at 1))
-    ∷ (codes "unload", guard_event_of Unload (words.at 1))
-    ∷ []
-    ) (words.at 0)
-    else (if words.count == 3
-    then reading_named (
-    (codes "fork", fork_of (words.at 1) (words.at 2)) ∷ (codes "setsched", setsched_of (words.at 1) (words.at 2)) ∷ []
-    ) (words.at 0)
-    else (if words.count == 6
-    then reading_named (
-    (codes "prctl", prctl_of (words.at 1) (words.at 2) (words.at 3) (words.at 4) (words.at 5)) ∷ []
-    ) (words.at 0)
-    else refused))
-
--- what the sibling of this number does
-unfoldable pub sibling_step_of : ℕ → Word → Parts → Read Step
-sibling_step_of siblings digits words = do
-  cpu ← cpu_of siblings digits
-  event ← sibling_event_of cpu words
-  Ok (record { actor = Sibling cpu; event = event })
-
--- what the caller of this number does
-unfoldable pub caller_step_of : ℕ → Word → Parts → Read Step
-caller_step_of siblings digits words = do
-  caller ← number_of 0 7 digits
-  event ← caller_event_of siblings words
-  Ok (record { actor = Caller caller; event = event })
-
--- what stands after the word `step`
-unfoldable pub step_of : ℕ → Word → Parts → Read Step
-step_of siblings [] event = refused
-step_of siblings (kind ∷ digits) event =
-    if kind == 115
-    then sibling_step_of siblings digits event
-    else (if kind == 99 then caller_step_of siblings digits event else refused)
+-- what stands behind `c` and after it
+abbrev pub caller_step : ℕ → Word → Parts → Read Step
+caller_step siblings digits event =
+    joined (read_in (caller_readings siblings) event) (is_number 0 7 digits) (λ event. record { actor = Caller (value digits); event = event })
 
 -- ---- lines
 
--- at most as many words as the longest form has
-abbrev pub few : List Word → Read (List Word)
-few words = if nat_le (length words) 15 then Ok words else refused
+infixl 10 ◌>>=◌
+abbrev pub ◌>>=◌ : {A B : Type 0} → Read A → (A → Read B) → Read B
+Ok x >>= f = f x
+Err kind >>= f = Err kind
 
--- the words of a line that these lines follow, the last of which is what stands after the last line feed
-abbrev pub before : List (List Word) → List Word → Read (List Word)
-before [] words = refused
-before (next ∷ lines) words = few words
+-- the texts of words that are lent
+abbrev pub texts : List (Bor Word) → List Word
+texts words = map (λ word. word.now) words
 
--- the next line
+-- what a function returned, seen by view, is what reading gives
+abbrev pub Reads : {X Y : Type 0} → (X → Y) → Read X → Read Y → Type 0
+Reads view (Ok x) read = read ≡ Ok (view x)
+Reads view (Err kind) read = read ≡ Err kind
+
+-- the same, with the rest that the function left
+abbrev pub Takes : {X Y A : Type 0} → (X → Y) → Read X → List A → Read (Y × List A) → Type 0
+Takes view (Ok x) rest read = read ≡ Ok (view x, rest)
+Takes view (Err kind) rest read = read ≡ Err kind
+
+-- at most as many words as the longest form has, and none of them empty
+abbrev pub usable : List Word → Bool
+usable words = nat_le (length words) 15 && not (list_any (λ word. length word == 0) words)
+
+abbrev pub used : List Word → Read (List Word)
+used words = if usable words then Ok words else Err Shape
+
+-- the next line, which another has to follow
 abbrev pub line_at : List (List Word) → Read (List Word × List (List Word))
-line_at [] = refused
-line_at (words ∷ lines) = do
-  words ← before lines words
-  Ok (words, lines)
+line_at [] = Err Cut
+line_at (words ∷ []) = Err Cut
+line_at (words ∷ next ∷ lines) = used words >>= λ words. Ok (words, next ∷ lines)
 
--- nothing stands after the last line feed
-abbrev pub end_of : List (List Word) → Read (Unit {0})
-end_of (([] ∷ []) ∷ []) = Ok tt
-end_of lines = refused
+-- the next line, read in one of these forms
+unfoldable pub line_as : {A : Type 0} → Readings A → List (List Word) → Read (A × List (List Word))
+line_as readings lines = do
+  taken ← line_at lines
+  x ← read_in readings (parts taken.0)
+  Ok (x, taken.1)
+
+-- none of the first so many lines is bad
+abbrev pub AreGood : List (List Word) → ℕ → Type 0
+AreGood lines count = (k : ℕ) → k < count → kind_of (take k lines) (drop k lines) ≡ None
 
 -- ---- the head
 
--- `coresched 1`
-unfoldable pub version_of : Parts → Read (Unit {0})
-version_of words =
-    if words.count == 2
-    then reading_named ((codes "coresched", check (is_word (words.at 1) (codes "1"))) ∷ []) (words.at 0)
-    else refused
+abbrev pub version_reading : Readings (Unit {0})
+version_reading = (version_form, λ words. tt) ∷ []
 
--- `siblings` COUNT
-unfoldable pub siblings_of : Parts → Read ℕ
-siblings_of words =
-    if words.count == 2
-    then reading_named ((codes "siblings", number_of 1 8 (words.at 1)) ∷ []) (words.at 0)
-    else refused
+abbrev pub siblings_reading : Readings ℕ
+siblings_reading = (siblings_form, λ words. value (words.at 1)) ∷ []
 
--- TASKS COOKIES TOP, in a core with this number of siblings
-unfoldable pub limits_of : ℕ → Word → Word → Word → Read Head
-limits_of siblings tasks cookies top = do
-  tasks ← number_of 1 256 tasks
-  cookies ← number_of 1 256 cookies
-  top ← number_of 8192 9223372036854775807 top
-  Ok (record { siblings = siblings; task_limit = tasks; cookie_limit = cookies; user_top = top })
+-- what the fields of the third line say, in a core with this number of siblings
+abbrev pub head_value : ℕ → Parts → Head
+head_value siblings words =
+    record { siblings = siblings; task_limit = value (words.at 1); cookie_limit = value (words.at 2); user_top = value (words.at 3) }
 
--- `limits` TASKS COOKIES TOP
-unfoldable pub head_of : ℕ → Parts → Read Head
-head_of siblings words =
-    if words.count == 4
-    then reading_named ((codes "limits", limits_of siblings (words.at 1) (words.at 2) (words.at 3)) ∷ []) (words.at 0)
-    else refused
+abbrev pub limits_reading : ℕ → Readings Head
+limits_reading siblings = (limits_form, head_value siblings) ∷ []
 
-unfoldable pub head_at : List (List Word) → Read (Head × List (List Word))
-head_at lines = do
-  first ← line_at lines
-  version ← version_of (parts first.0)
-  second ← line_at first.1
-  siblings ← siblings_of (parts second.0)
-  third ← line_at second.1
-  head ← head_of siblings (parts third.0)
-  Ok (head, third.1)
+-- the numbers of a head
+pub record IsHead (head : Head) : Type 0 where
+  pub siblings : IsWithin 1 8 head.siblings
+  pub task_limit : IsWithin 1 256 head.task_limit
+  pub cookie_limit : IsWithin 1 256 head.cookie_limit
+  pub user_top : IsWithin 8192 9223372036854775807 head.user_top
+
+-- the words of the second line and of the third
+
+abbrev pub count_words : ℕ → List Word
+count_words siblings = codes "siblings" ∷ decimal siblings ∷ []
+
+abbrev pub head_words : Head → List Word
+head_words head =
+    codes "limits" ∷ decimal head.task_limit ∷ decimal head.cookie_limit ∷ decimal head.user_top ∷ []
+
+abbrev pub head_lines : Head → List (List Word)
+head_lines head = version_words ∷ count_words head.siblings ∷ head_words head ∷ []
+
+-- the head of these lines, with the lines that are left; or their first bad line
+abbrev pub ReadsHead : List (List Word) → Result Head ReadFault → List (List Word) → Type 0
+ReadsHead lines (Ok head) rest = IsHead head × (lines ≡ head_lines head ++ rest) × AreGood lines 3 × (1 ≤ length rest)
+ReadsHead lines (Err fault) rest = Tells lines fault
 
 -- ---- the lines after the head
 
--- a task line after a teach line or a step line is refused
-unfoldable pub task_line : ℕ → Place → Parts → Read ScenarioLine
+-- what a line at this place may be, in a core with this number of siblings
+
+abbrev pub task_line : ℕ → Place → Parts → Read ScenarioLine
 task_line siblings place words =
     if place.is_after_teach || place.is_after_step
-    then refused
-    else (task_of siblings words >>= λ task. Ok (forms.Task task))
+    then Err Shape
+    else (read_in ((task_form siblings, task_value) ∷ []) words >>= λ task. Ok (forms.Task task))
 
--- a teach line after a step line is refused
-unfoldable pub teach_line : Place → Parts → Read ScenarioLine
+abbrev pub teach_line : Place → Parts → Read ScenarioLine
 teach_line place words =
-    if place.is_after_step then refused else (teach_of place.number words >>= λ teach. Ok (forms.Teach teach))
+    if place.is_after_step
+    then Err Shape
+    else (read_in ((teach_form, teach_value place.number) ∷ []) words >>= λ teach. Ok (forms.Teach teach))
 
-unfoldable pub step_line : ℕ → Parts → Read ScenarioLine
+abbrev pub step_line : ℕ → Parts → Read Step
 step_line siblings words =
-    if nat_le 1 words.count
-    then (step_of siblings (words.at 0) (after 1 words) >>= λ step. Ok (forms.Step step))
-    else refused
+    if nat_le 2 words.count
+    then (if begins (words.at 1) (codes "s")
+    then sibling_step siblings (behind (codes "s") (words.at 1)) (after 2 words)
+    else (if begins (words.at 1) (codes "c")
+    then caller_step siblings (behind (codes "c") (words.at 1)) (after 2 words)
+    else Err Shape))
+    else Err Shape
 
-unfoldable pub end_line : Parts → Read ScenarioLine
-end_line words = if words.count == 0 then Ok forms.End else refused
-
--- what the words after the first say, by what the first names
-abbrev pub line_forms : ℕ → Place → Parts → List (Word × Read ScenarioLine)
-line_forms siblings place words =
-    (codes "task", task_line siblings place words)
-    ∷ (codes "teach", teach_line place words)
-    ∷ (codes "step", step_line siblings words)
-    ∷ (codes "end", end_line words)
-    ∷ []
-
--- a line after the head at this place, in a core with this number of siblings
 unfoldable pub line_of : ℕ → Place → Parts → Read ScenarioLine
 line_of siblings place words =
-    if nat_le 1 words.count
-    then reading_named (line_forms siblings place (after 1 words)) (words.at 0)
-    else refused
+    if is_word (words.at 0) (codes "task")
+    then task_line siblings place words
+    else (if is_word (words.at 0) (codes "teach")
+    then teach_line place words
+    else (if is_word (words.at 0) (codes "step")
+    then (step_line siblings words >>= λ step. Ok (forms.Step step))
+    else (if is_word (words.at 0) (codes "end") && words.count == 1 then Ok forms.End else Err Shape)))
 
 -- ---- the plan: the tasks, the teach lines and the steps that are read
 
@@ -472,104 +310,64 @@ place_after plan =
     }
 
 -- whether none of the tasks has the task's pid
-unfoldable pub is_fresh : List TaskSpec → TaskSpec → Bool
-is_fresh tasks task = not (list_any (λ other. other.pid == task.pid) tasks)
+unfoldable pub has_fresh_pid : List TaskSpec → TaskSpec → Bool
+has_fresh_pid tasks task = not (list_any (λ other. other.pid == task.pid) tasks)
 
 -- whether the task leads its own thread group, or one of the tasks leads it and has the same process group
-unfoldable pub is_led : List TaskSpec → TaskSpec → Bool
-is_led tasks task =
+unfoldable pub has_leader : List TaskSpec → TaskSpec → Bool
+has_leader tasks task =
     (task.tgid == task.pid)
     || list_any (λ leader. (leader.pid == task.tgid) && (leader.tgid == leader.pid) && (leader.pgid == task.pgid)) tasks
 
--- the task may follow: with a pid of its own, led, and as one of the tasks that may live at once
-unfoldable pub task_check : ℕ → TaskSpec → Contents → Read (Unit {0})
-task_check limit task plan = do
-  fresh ← check (is_fresh plan.tasks task)
-  led ← check (is_led plan.tasks task)
-  check (nat_lt (length plan.tasks) limit)
+-- what holds, or a fault of this kind
+abbrev pub check : BadKind → Bool → Read (Unit {0})
+check kind holds = if holds then Ok tt else Err kind
 
--- one more teach line may follow
-unfoldable pub teach_check : Contents → Read (Unit {0})
-teach_check plan = check (nat_lt (length plan.teaches) 64)
-
--- one more step may follow
-unfoldable pub step_check : Contents → Read (Unit {0})
-step_check plan = check (nat_lt (length plan.steps) 100000)
-
--- the line may follow
-abbrev pub line_check : ℕ → ScenarioLine → Contents → Read (Unit {0})
-line_check limit (forms.Task task) plan = task_check limit task plan
-line_check limit (forms.Teach teach) plan = teach_check plan
-line_check limit (forms.Step step) plan = step_check plan
+-- the line may follow those of the plan
+unfoldable pub line_check : ℕ → ScenarioLine → Contents → Read (Unit {0})
+line_check limit (forms.Task task) plan = do
+  fresh ← check Twice (has_fresh_pid plan.tasks task)
+  led ← check Leader (has_leader plan.tasks task)
+  check Full (nat_lt (length plan.tasks) limit)
+line_check limit (forms.Teach teach) plan = check Full (nat_lt (length plan.teaches) 64)
+line_check limit (forms.Step step) plan = check Full (nat_lt (length plan.steps) 100000)
 line_check limit forms.End plan = Ok tt
-
--- the line that the words spell, which may follow those of the plan
-unfoldable pub follower_of : Head → Contents → List Word → Read ScenarioLine
-follower_of head plan words = do
-  line ← line_of head.siblings (place_after plan) (parts words)
-  follows ← line_check head.task_limit line plan
-  Ok line
 
 -- the next line, which may follow those of the plan
 unfoldable pub next_of : Head → Contents → List (List Word) → Read (ScenarioLine × List (List Word))
 next_of head plan lines = do
   taken ← line_at lines
-  line ← follower_of head plan taken.0
+  line ← line_of head.siblings (place_after plan) (parts taken.0)
+  follows ← line_check head.task_limit line plan
   Ok (line, taken.1)
 
-abbrev pub with_task : TaskSpec → Contents → Contents
-with_task task plan = record plan { tasks = plan.tasks ++ task ∷ [] }
+-- what a plan keeps, in a core of so many siblings where so many tasks may live at once
+pub record IsPlan (siblings limit : ℕ) (plan : Contents) : Type 0 where
+  pub tasks : All (IsTask siblings) plan.tasks
+  pub distinct : AreDistinct plan.tasks
+  pub led : AreLed plan.tasks
+  pub few_tasks : length plan.tasks ≤ limit
+  pub teaches : All IsTeach plan.teaches
+  pub numbered : AreNumbered (length plan.tasks) plan.teaches
+  pub few_teaches : length plan.teaches ≤ 64
+  pub steps : All (IsStep siblings) plan.steps
+  pub few_steps : length plan.steps ≤ 100000
 
-abbrev pub with_teach : Teach → Contents → Contents
-with_teach teach plan = record plan { teaches = plan.teaches ++ teach ∷ [] }
+-- the words of a plan's lines
+abbrev pub plan_lines : Contents → List (List Word)
+plan_lines plan = map task_words plan.tasks ++ map teach_words plan.teaches ++ map step_words plan.steps
 
-abbrev pub with_step : Step → Contents → Contents
-with_step step plan = record plan { steps = plan.steps ++ step ∷ [] }
+-- what stands behind the last line feed
+abbrev pub nothing : List (List Word)
+nothing = ([] ∷ []) ∷ []
 
--- one answer for each form of a line
-abbrev pub match_line : {A : Type 0} → ScenarioLine → (TaskSpec → A) → (Teach → A) → (Step → A) → A → A
-match_line (forms.Task task) f g h x = f task
-match_line (forms.Teach teach) f g h x = g teach
-match_line (forms.Step step) f g h x = h step
-match_line forms.End f g h x = x
+-- the plan of the lines behind a head, after which nothing stands; or the first bad line of all
+abbrev pub ReadsPlan : Head → List (List Word) → Result Plan ReadFault → Type 0
+ReadsPlan head lines (Ok plan) =
+    IsPlan head.siblings head.task_limit (contents plan) × (lines ≡ plan_lines (contents plan) ++ end_words ∷ nothing)
+ReadsPlan head lines (Err fault) = Tells (head_lines head ++ lines) fault
 
--- the plan of the lines up to `end`, after what is read
-unfoldable pub plan_of : Head → Contents → List (List Word) → Read Contents
-plan_of head plan [] = refused
-plan_of head plan (words ∷ lines) = do
-  words ← before lines words
-  line ← follower_of head plan words
-  match_line line
-      (λ task. plan_of head (with_task task plan) lines)
-      (λ teach. plan_of head (with_teach teach plan) lines)
-      (λ step. plan_of head (with_step step plan) lines)
-      (end_of lines >>= λ end. Ok plan)
-
--- the scenario of a text
-unfoldable pub scenario_of : List (List Word) → Read Scenario
-scenario_of lines = do
-  head ← head_at lines
-  plan ← plan_of head.0 nothing_planned head.1
-  Ok (
-      record {
-        siblings = head.0.siblings;
-        task_limit = head.0.task_limit;
-        cookie_limit = head.0.cookie_limit;
-        user_top = head.0.user_top;
-        tasks = plan.tasks;
-        teaches = plan.teaches;
-        steps = plan.steps;
-      }
-      )
-
--- ---- what a reader that may be out of memory returned
-
--- a fault is out of memory, or the text is refused
-abbrev pub Fails : {Y : Type 0} → ReadFault → Read Y → Type 0
-Fails OutOfMemory read = Unit {0}
-Fails (Bad line kind) read = (read ≡ refused) × (line ≡ 0) × (kind ≡ Unbuilt)
-
--- what a function returned, seen by view, is what reading gives, unless it was out of memory
-abbrev pub Gives : {X Y : Type 0} → (X → Y) → Result X ReadFault → Read Y → Type 0
-Gives view (Ok x) read = read ≡ Ok (view x)
-Gives view (Err fault) read = Fails fault read
+-- the scenario of these lines, or their first bad line
+abbrev pub ReadsLines : List (List Word) → Result Scenario ReadFault → Type 0
+ReadsLines lines (Ok scenario) = IsValid scenario × (lines ≡ scenario_lines scenario ++ nothing)
+ReadsLines lines (Err fault) = Tells lines fault

@@ -1,21 +1,34 @@
 //! Why a text is no scenario.
 
-ghost use Rattle.std.specs.Prelude.{◌≡◌};
+ghost use Rattle.std.specs.Prelude.{◌≡◌, MatchResult, Ok, Err};
 
 use std::alloc::{AllocError, AllocFailed};
 use thiserror::Error;
 
-/// What is wrong with a text.
+/// What is wrong with a line. Of a line on which more than one of these holds, the first is told.
 #[derive(Clone, Copy, Debug, PartialEq, Eq)]
 pub enum BadKind {
-    /// It is the text of no scenario that can be played.
-    Unbuilt,
+    /// It stands after the `end` line.
+    After,
+    /// No line feed ends it, or the text ends before the `end` line: then it is the line after the last one.
+    Cut,
+    /// It has no form that may stand in its place.
+    Shape,
+    /// A word in a number's place is no canonical decimal, or out of its range.
+    Number,
+    /// It is a task line with the pid of an earlier one.
+    Twice,
+    /// It is a task line whose thread group is led neither by the task nor by an earlier one that has the
+    /// same process group.
+    Leader,
+    /// It is one line of its form too many: a task above the limit, a 65th teach line or a 100,001st step.
+    Full,
 }
 
 /// Why a text was not read.
 #[derive(Debug, Drop, Error)]
 pub enum ReadFault {
-    /// It is no scenario's. Line 0 is the text as a whole.
+    /// It is no scenario's. This is its first bad line, counted from 1, and what is wrong with it.
     #[error("line {line}: {kind:?}")]
     Bad { line: u32, kind: BadKind },
     /// There was no memory for what it says.
@@ -23,21 +36,13 @@ pub enum ReadFault {
     OutOfMemory,
 }
 
-/// A line is refused, by the first of the tests that it fails.
-#[derive(Clone, Copy)]
-pub(crate) struct Refused;
-
-impl From<Refused> for ReadFault {
-    ghost use Rattle.scenario_text.specs.declared.fault.BadKind.TheVariants.{Unbuilt};
-    ghost use Rattle.scenario_text.specs.declared.fault.ReadFault.TheVariants.{Bad};
-
-    ghost from_gives = { λ _ e. e ≡ Bad 0 Unbuilt };
-
-    fn from(_: Refused) -> Self {
-        ReadFault::Bad {
-            line: 0,
-            kind: BadKind::Unbuilt,
-        }
+/// What was read from the line of this number, or the line's fault.
+pub(crate) fn on_line<T: Drop>(read: Result<T, BadKind>, line: u32) -> Result<T, ReadFault>
+    ensures { MatchResult read (λ x. result ≡ Ok x) (λ kind. result ≡ Err (ReadFault.Bad line kind)) }
+{
+    match read {
+        Ok(x) => Ok(x),
+        Err(kind) => Err(ReadFault::Bad { line, kind }),
     }
 }
 

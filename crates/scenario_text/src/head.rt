@@ -1,10 +1,10 @@
 //! The head of a scenario: its first three lines, each of which stands once and in its place. The
 //! lines after it, which come in any number, are separate.
 
-ghost use Rattle.std.specs.Prelude.{◌≡◌};
-ghost use Rattle.scenario_text.specs.Reading.{Takes, lent, version_of, siblings_of, head_of, head_at};
+ghost use Rattle.std.specs.Prelude.{◌≡◌, ◌≤◌, length};
+ghost use Rattle.scenario_text.specs.Reading.{lent, read_in, Takes, line_as, version_reading, siblings_reading, limits_reading, ReadsHead};
 
-use crate::fault::Refused;
+use crate::fault::{BadKind, ReadFault, on_line};
 use crate::lines::Lines;
 use crate::number::parse_number;
 use crate::words::is_word;
@@ -31,33 +31,30 @@ pub(crate) struct Head {
 }
 
 /// `coresched` and the version, which is 1.
-#[tactic(auto, unfolding(crate::specs::Reading::reading_named, crate::specs::Reading::version_of))]
-fn parse_version(words: &[&[u8]]) -> Result<(), Refused>
-    ensures { result ≡ version_of (lent words.now) }
+fn parse_version(words: &[&[u8]]) -> Result<(), BadKind>
+    ensures { result ≡ read_in version_reading (lent words.now) }
 {
     match *words {
         [name, version] if is_word(name, "coresched") && is_word(version, "1") => Ok(()),
-        _ => Err(Refused),
+        _ => Err(BadKind::Shape),
     }
 }
 
 /// `siblings` and their count.
-#[tactic(auto, unfolding(crate::specs::Reading::reading_named, crate::specs::Reading::siblings_of))]
-fn parse_siblings(words: &[&[u8]]) -> Result<u8, Refused>
-    ensures { result ≡ siblings_of (lent words.now) }
+fn parse_siblings(words: &[&[u8]]) -> Result<u8, BadKind>
+    ensures { result ≡ read_in siblings_reading (lent words.now) }
 {
     match *words {
         [name, count] if is_word(name, "siblings") => {
             Ok(parse_number(count, 1, MOST_SIBLINGS_IN_TEXT)? as u8)
         }
-        _ => Err(Refused),
+        _ => Err(BadKind::Shape),
     }
 }
 
 /// `limits` and the limits, in a core with this number of siblings.
-#[tactic(auto, unfolding(crate::specs::Reading::reading_named, crate::specs::Reading::head_of, crate::specs::Reading::limits_of))]
-fn parse_limits(words: &[&[u8]], siblings: u8) -> Result<Head, Refused>
-    ensures { result ≡ head_of siblings (lent words.now) }
+fn parse_limits(words: &[&[u8]], siblings: u8) -> Result<Head, BadKind>
+    ensures { result ≡ read_in (limits_reading siblings) (lent words.now) }
 {
     match *words {
         [name, tasks, cookies, top] if is_word(name, "limits") => Ok(Head {
@@ -66,16 +63,40 @@ fn parse_limits(words: &[&[u8]], siblings: u8) -> Result<Head, Refused>
             cookie_limit: parse_number(cookies, 1, MOST_LIMIT)? as u16,
             user_top: parse_number(top, LEAST_TOP, MOST_TOP)?,
         }),
-        _ => Err(Refused),
+        _ => Err(BadKind::Shape),
     }
 }
 
-/// What the next three lines say.
-#[tactic(auto, using(crate::proofs::Cuts::lent_is), unfolding(crate::specs::Reading::head_at))]
-pub(crate) fn next_head(lines: &mut Lines<'_>) -> Result<Head, Refused>
-    ensures { Takes (λ head. head) result lines.new (head_at lines.old) }
+/// The first line.
+#[tactic(auto, using(crate::proofs::Cuts::lent_is), unfolding(crate::specs::Reading::line_as))]
+fn next_version(lines: &mut Lines<'_>) -> Result<(), BadKind>
+    ensures { Takes (λ said. said) result lines.new (line_as version_reading lines.old) }
 {
-    parse_version(lines.next_line()?.as_slice())?;
-    let siblings = parse_siblings(lines.next_line()?.as_slice())?;
+    parse_version(lines.next_line()?.as_slice())
+}
+
+/// The second line.
+#[tactic(auto, using(crate::proofs::Cuts::lent_is), unfolding(crate::specs::Reading::line_as))]
+fn next_siblings(lines: &mut Lines<'_>) -> Result<u8, BadKind>
+    ensures { Takes (λ siblings. siblings) result lines.new (line_as siblings_reading lines.old) }
+{
+    parse_siblings(lines.next_line()?.as_slice())
+}
+
+/// The third line, in a core with this number of siblings.
+#[tactic(auto, using(crate::proofs::Cuts::lent_is), unfolding(crate::specs::Reading::line_as))]
+fn next_limits(lines: &mut Lines<'_>, siblings: u8) -> Result<Head, BadKind>
+    ensures { Takes (λ head. head) result lines.new (line_as (limits_reading siblings) lines.old) }
+{
     parse_limits(lines.next_line()?.as_slice(), siblings)
+}
+
+/// What the next three lines say, which are the first of a text.
+pub(crate) fn next_head(lines: &mut Lines<'_>) -> Result<Head, ReadFault>
+    requires { 1 ≤ length lines.old }
+    ensures { ReadsHead lines.old result lines.new }
+{
+    on_line(next_version(lines), 1)?;
+    let siblings = on_line(next_siblings(lines), 2)?;
+    on_line(next_limits(lines, siblings), 3)
 }

@@ -2,9 +2,10 @@
 //! lines speaks of their words alone, and of no line feeds.
 
 ghost use Rattle.std.specs.Prelude.{◌≡◌};
-ghost use Rattle.scenario_text.specs.Reading.{lines_in, texts, Takes, line_at, end_of};
+ghost use Rattle.scenario_text.specs.Faults.{lines_in, is_nothing};
+ghost use Rattle.scenario_text.specs.Reading.{texts, Takes, line_at};
 
-use crate::fault::Refused;
+use crate::fault::BadKind;
 use crate::pieces::cut;
 use crate::words::{Words, words_of};
 use std::marker::Model;
@@ -17,7 +18,7 @@ pub(crate) struct Lines<'a> {
 
 impl<'a> Model for Lines<'a> {
     ghost use Rattle.std.specs.Prelude.{List, ℕ};
-    ghost use Rattle.scenario_text.specs.Reading.{lines_in};
+    ghost use Rattle.scenario_text.specs.Faults.{lines_in};
 
     ghost Value = { List (List (List ℕ)) };
 
@@ -32,25 +33,22 @@ impl<'a> Lines<'a> {
         Lines { rest: text }
     }
 
-    /// The words of the next line. A line that no line feed ends is refused.
-    #[tactic(auto, unfolding(crate::specs::Reading::lines_in))]
-    pub fn next_line(&mut self) -> Result<Words<'a>, Refused>
+    /// The words of the next line, which a line feed has to end.
+    #[tactic(auto, unfolding(crate::specs::Faults::lines_in))]
+    pub fn next_line(&mut self) -> Result<Words<'a>, BadKind>
         ensures { Takes (λ words. texts words.items) result self.new (line_at self.old) }
     {
         let Some((line, rest)) = cut(self.rest, b'\n') else {
-            return Err(Refused);
+            return Err(BadKind::Cut);
         };
         self.rest = rest;
         words_of(line)
     }
 
-    /// A text of which anything is left, be it a line with no line feed, is refused.
-    pub fn end(&self) -> Result<(), Refused>
-        ensures { result ≡ end_of self.now }
+    /// Whether no byte is left.
+    pub fn is_empty(&self) -> bool
+        ensures { result ≡ is_nothing self.now }
     {
-        if !self.rest.is_empty() {
-            return Err(Refused);
-        }
-        Ok(())
+        self.rest.is_empty()
     }
 }

@@ -1,12 +1,13 @@
 //! Numbers, as words spell them: decimal digits with no leading 0, and no sign but the `-` of a negative
 //! number. It is separate since every form of a line but the last has them.
 
-ghost use Rattle.std.specs.Prelude.{◌≡◌, IfOk, pos, neg_ℤ, ◌≤ℤ◌};
+ghost use Rattle.std.specs.Prelude.{◌≡◌, ◌-◌, true, false, MatchResult, IfOk, pos, neg_ℤ, ◌≤ℤ◌};
 ghost use Rattle.cs_types.specs.Scenario.{IsWithin};
-ghost use Rattle.scenario_text.specs.Reading.{is_canonical, number_of, signed_of, flag_of, cpu_of};
+ghost use Rattle.scenario_text.specs.declared.fault.BadKind.TheVariants.{Number};
+ghost use Rattle.scenario_text.specs.Grammar.{is_canonical, is_number, is_signed, value};
+ghost use Rattle.scenario_text.specs.Reading.{signed_value, flag_value};
 
-use crate::fault::Refused;
-use crate::words::is_word;
+use crate::fault::BadKind;
 use cs_types::Cpu;
 use std::str;
 
@@ -18,30 +19,32 @@ fn is_canonical(word: &[u8]) -> bool
 }
 
 /// The number from `low` to `high` that the word spells.
-pub(crate) fn parse_number(word: &[u8], low: u64, high: u64) -> Result<u64, Refused>
-    ensures spelled { result ≡ number_of low high word.now }
+pub(crate) fn parse_number(word: &[u8], low: u64, high: u64) -> Result<u64, BadKind>
+    ensures spelled { MatchResult result (λ n. (is_number low high word.now ≡ true) × (n ≡ value word.now))
+        (λ kind. (is_number low high word.now ≡ false) × (kind ≡ Number)) }
     ensures within { IfOk result (λ n. IsWithin low high n) }
 {
     if !is_canonical(word) {
-        return Err(Refused);
+        return Err(BadKind::Number);
     }
     let Ok(text) = str::from_utf8(word) else {
-        return Err(Refused);
+        return Err(BadKind::Number);
     };
     let Ok(number) = text.parse::<u64>() else {
-        return Err(Refused);
+        return Err(BadKind::Number);
     };
     if !(low..=high).contains(&number) {
-        return Err(Refused);
+        return Err(BadKind::Number);
     }
     Ok(number)
 }
 
 /// The number from `-below` to `above` that the word spells: where it is negative, `-` and the digits of
 /// its magnitude.
-#[tactic(auto, unfolding(crate::specs::Reading::signed_of))]
-pub(crate) fn parse_signed(word: &[u8], below: u32, above: u32) -> Result<i64, Refused>
-    ensures spelled { result ≡ signed_of below above word.now }
+#[tactic(auto, unfolding(crate::specs::Grammar::is_signed))]
+pub(crate) fn parse_signed(word: &[u8], below: u32, above: u32) -> Result<i64, BadKind>
+    ensures spelled { MatchResult result (λ n. (is_signed below above word.now ≡ true) × (n ≡ signed_value word.now))
+        (λ kind. (is_signed below above word.now ≡ false) × (kind ≡ Number)) }
     ensures least { IfOk result (λ number. neg_ℤ (pos below) ≤ℤ number) }
     ensures most { IfOk result (λ number. number ≤ℤ pos above) }
 {
@@ -52,27 +55,17 @@ pub(crate) fn parse_signed(word: &[u8], below: u32, above: u32) -> Result<i64, R
 }
 
 /// 1 for yes and 0 for no.
-#[tactic(auto, unfolding(crate::specs::Reading::reading_named, crate::specs::Reading::flag_of))]
-pub(crate) fn parse_flag(word: &[u8]) -> Result<bool, Refused>
-    ensures { result ≡ flag_of word.now }
+pub(crate) fn parse_flag(word: &[u8]) -> Result<bool, BadKind>
+    ensures { MatchResult result (λ is. (is_number 0 1 word.now ≡ true) × (is ≡ flag_value word.now))
+        (λ kind. (is_number 0 1 word.now ≡ false) × (kind ≡ Number)) }
 {
-    if is_word(word, "1") {
-        Ok(true)
-    } else if is_word(word, "0") {
-        Ok(false)
-    } else {
-        Err(Refused)
-    }
+    Ok(parse_number(word, 0, 1)? == 1)
 }
 
-/// The number of a sibling that the core has.
-#[tactic(auto, unfolding(crate::specs::Reading::cpu_of))]
-pub(crate) fn parse_cpu(word: &[u8], siblings: u8) -> Result<Cpu, Refused>
-    ensures { result ≡ cpu_of siblings word.now }
+/// One of the siblings of a core, which has this number of them.
+pub(crate) fn parse_cpu(word: &[u8], siblings: u8) -> Result<Cpu, BadKind>
+    ensures { MatchResult result (λ cpu. (is_number 0 (siblings - 1) word.now ≡ true) × (cpu ≡ value word.now))
+        (λ kind. (is_number 0 (siblings - 1) word.now ≡ false) × (kind ≡ Number)) }
 {
-    let cpu = parse_number(word, 0, u8::MAX as u64)? as u8;
-    if cpu >= siblings {
-        return Err(Refused);
-    }
-    Ok(cpu)
+    Ok(parse_number(word, 0, siblings.saturating_sub(1) as u64)? as u8)
 }

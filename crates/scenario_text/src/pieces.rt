@@ -1,14 +1,17 @@
 //! Where bytes are cut at a separator. It is separate since the lines of a text, which stand round line
 //! feeds, and the words of a line, which stand round spaces, are cut alike.
 
-ghost use Rattle.std.specs.Prelude.{◌≡◌, [], ◌∷◌, MatchOption};
-ghost use Rattle.scenario_text.specs.Reading.{pieces};
+ghost use Rattle.std.specs.Prelude.{◌≡◌, ◌<◌, [], ◌∷◌, length, MatchOption, IfSome};
+ghost use Rattle.scenario_text.specs.Faults.{pieces};
+
+use memchr::memchr;
 
 /// What stands before the first separator, and what stands after it. `None` where there is none.
 pub(crate) fn cut(bytes: &[u8], separator: u8) -> Option<(&[u8], &[u8])>
-    ensures { MatchOption result (pieces separator bytes.now ≡ bytes.now ∷ [])
+    ensures pieces { MatchOption result (pieces separator bytes.now ≡ bytes.now ∷ [])
         (λ parts. pieces separator bytes.now ≡ parts.0.now ∷ pieces separator parts.1.now) }
+    ensures shorter { IfSome result (λ parts. length parts.1.now < length bytes.now) }
 {
-    let end = bytes.iter().position(|byte| *byte == separator)?;
+    let end = memchr(separator, bytes)?;
     Some((&bytes[..end], &bytes[end + 1..]))
 }

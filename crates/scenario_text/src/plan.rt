@@ -2,9 +2,9 @@
 //! are the rules that take more than one line: distinct pids, leaders, and how many there may be.
 
 ghost use Rattle.std.specs.Prelude.{◌≡◌};
-ghost use Rattle.scenario_text.specs.Reading.{is_fresh, is_led};
+ghost use Rattle.scenario_text.specs.Reading.{has_fresh_pid, has_leader};
 
-use crate::fault::Refused;
+use crate::fault::BadKind;
 use crate::line::{Place, ScenarioLine};
 use cs_types::{Step, TaskSpec, Teach};
 use std::alloc::Global;
@@ -27,18 +27,18 @@ pub(crate) struct Plan {
 }
 
 /// Whether none of the tasks has the task's pid.
-#[tactic(auto, unfolding(crate::specs::Reading::is_fresh))]
-fn is_fresh(tasks: &[TaskSpec], task: &TaskSpec) -> bool
-    ensures { result ≡ is_fresh tasks.now task.now }
+#[tactic(auto, unfolding(crate::specs::Reading::has_fresh_pid))]
+fn has_fresh_pid(tasks: &[TaskSpec], task: &TaskSpec) -> bool
+    ensures { result ≡ has_fresh_pid tasks.now task.now }
 {
     !tasks.iter().any(|other| other.pid == task.pid)
 }
 
 /// Whether the task leads its own thread group, or one of the tasks leads it and has the same
 /// process group.
-#[tactic(auto, unfolding(crate::specs::Reading::is_led))]
-fn is_led(tasks: &[TaskSpec], task: &TaskSpec) -> bool
-    ensures { result ≡ is_led tasks.now task.now }
+#[tactic(auto, unfolding(crate::specs::Reading::has_leader))]
+fn has_leader(tasks: &[TaskSpec], task: &TaskSpec) -> bool
+    ensures { result ≡ has_leader tasks.now task.now }
 {
     task.tgid == task.pid
         || tasks.iter().any(|leader| {
@@ -47,7 +47,10 @@ fn is_led(tasks: &[TaskSpec], task: &TaskSpec) -> bool
 }
 
 impl Plan {
-    ghost use Rattle.scenario_text.specs.Reading.{contents, nothing_planned, HasFewLines, place_after, task_check, teach_check, step_check, line_check};
+    ghost use Rattle.std.specs.Prelude.{nat_lt};
+    ghost use Rattle.scenario_text.specs.declared.fault.BadKind.TheVariants.{Full};
+    ghost use Rattle.scenario_text.specs.declared.line.ScenarioLine.TheVariants as forms;
+    ghost use Rattle.scenario_text.specs.Reading.{contents, nothing_planned, HasFewLines, place_after, check, line_check};
 
     /// A plan of no task, no teach line and no step.
     pub fn new(alloc: Global) -> Self
@@ -76,52 +79,41 @@ impl Plan {
 
     /// Whether the task may follow: with a pid of its own, led, and as one of the tasks that may
     /// live at once.
-    #[tactic(auto, unfolding(crate::specs::Reading::task_check))]
-    fn check_task(&self, task: &TaskSpec, limit: u16) -> Result<(), Refused>
-        ensures { result ≡ task_check limit task.now (contents self.now) }
+    #[tactic(auto, unfolding(crate::specs::Reading::line_check))]
+    fn check_task(&self, task: &TaskSpec, limit: u16) -> Result<(), BadKind>
+        ensures { result ≡ line_check limit (forms.Task task.now) (contents self.now) }
     {
-        if !is_fresh(&self.tasks, task) {
-            return Err(Refused);
+        if !has_fresh_pid(&self.tasks, task) {
+            return Err(BadKind::Twice);
         }
-        if !is_led(&self.tasks, task) {
-            return Err(Refused);
+        if !has_leader(&self.tasks, task) {
+            return Err(BadKind::Leader);
         }
         if self.tasks.len() >= limit as usize {
-            return Err(Refused);
+            return Err(BadKind::Full);
         }
         Ok(())
     }
 
-    /// Whether one more teach line may follow.
-    #[tactic(auto, unfolding(crate::specs::Reading::teach_check))]
-    fn check_teach(&self) -> Result<(), Refused>
-        ensures { result ≡ teach_check (contents self.now) }
+    /// Whether one more line of a form of which the plan has so many may follow.
+    fn check_count(count: usize, most: usize) -> Result<(), BadKind>
+        ensures { result ≡ check Full (nat_lt count most) }
     {
-        if self.teaches.len() >= MOST_TEACHES {
-            return Err(Refused);
-        }
-        Ok(())
-    }
-
-    /// Whether one more step may follow.
-    #[tactic(auto, unfolding(crate::specs::Reading::step_check))]
-    fn check_step(&self) -> Result<(), Refused>
-        ensures { result ≡ step_check (contents self.now) }
-    {
-        if self.steps.len() >= MOST_STEPS {
-            return Err(Refused);
+        if count >= most {
+            return Err(BadKind::Full);
         }
         Ok(())
     }
 
     /// Whether the line may follow, where `limit` tasks may live at once.
-    pub fn check(&self, line: &ScenarioLine, limit: u16) -> Result<(), Refused>
+    #[tactic(auto, unfolding(crate::specs::Reading::line_check))]
+    pub fn check(&self, line: &ScenarioLine, limit: u16) -> Result<(), BadKind>
         ensures { result ≡ line_check limit line.now (contents self.now) }
     {
         match line {
             ScenarioLine::Task(task) => self.check_task(task, limit),
-            ScenarioLine::Teach(_) => self.check_teach(),
-            ScenarioLine::Step(_) => self.check_step(),
+            ScenarioLine::Teach(_) => Self::check_count(self.teaches.len(), MOST_TEACHES),
+            ScenarioLine::Step(_) => Self::check_count(self.steps.len(), MOST_STEPS),
             ScenarioLine::End => Ok(()),
         }
     }

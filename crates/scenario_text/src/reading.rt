@@ -1,11 +1,12 @@
 //! The reader of scenario texts: the public call, over lines and the plan.
 
-ghost use Rattle.std.specs.Prelude.{◌≡◌, ◌⊎◌, MatchResult, IfOk, IfErr, IsErrOf};
+ghost use Rattle.std.specs.Prelude.{ℕ, ◌≡◌, ◌⊎◌, ◌≤◌, ◌++◌, length, MatchResult, IfOk, IfErr, IsErrAnd};
 ghost use Rattle.cs_types.specs.declared.scenario.Scenario.{Scenario};
-ghost use Rattle.scenario_text.specs.Reading.{Takes, Gives, contents, nothing_planned, HasFewLines, next_of, plan_of, scenario_of};
-ghost use Rattle.scenario_text.specs.Reader.{IsTextOf, HasNoScenario, HasOneScenario};
+ghost use Rattle.scenario_text.specs.Faults.{lines_in, IsFirstBad};
+ghost use Rattle.scenario_text.specs.Reader.{IsTextOf, HasNoScenario, HasOneScenario, Tells};
+ghost use Rattle.scenario_text.specs.Reading.{Takes, contents, HasFewLines, next_of, IsHead, head_lines, AreGood, ReadsPlan, ReadsLines};
 
-use crate::fault::{BadKind, ReadFault, Refused};
+use crate::fault::{BadKind, ReadFault, on_line};
 use crate::head::{Head, next_head};
 use crate::line::{ScenarioLine, parse_line};
 use crate::lines::Lines;
@@ -14,8 +15,8 @@ use cs_types::{List, Scenario};
 use std::alloc::Global;
 
 /// The next line, which may follow those of the plan.
-#[tactic(auto, using(crate::proofs::Cuts::lent_is), unfolding(crate::specs::Reading::next_of, crate::specs::Reading::follower_of))]
-fn next_line(lines: &mut Lines<'_>, head: Head, plan: &Plan) -> Result<ScenarioLine, Refused>
+#[tactic(auto, using(crate::proofs::Cuts::lent_is), unfolding(crate::specs::Reading::next_of))]
+fn next_line(lines: &mut Lines<'_>, head: Head, plan: &Plan) -> Result<ScenarioLine, BadKind>
     requires { HasFewLines (contents plan.now) }
     ensures { Takes (λ line. line) result lines.new (next_of head (contents plan.now) lines.old) }
 {
@@ -27,25 +28,33 @@ fn next_line(lines: &mut Lines<'_>, head: Head, plan: &Plan) -> Result<ScenarioL
 
 /// The tasks, the teach lines and the steps of the lines up to `end`, after which nothing stands.
 fn read_plan(alloc: Global, lines: &mut Lines<'_>, head: Head) -> Result<Plan, ReadFault>
-    ensures { Gives contents result (plan_of head nothing_planned lines.old) }
+    requires head { IsHead head }
+    requires some { 1 ≤ length lines.old }
+    requires good { AreGood (head_lines head ++ lines.old) 3 }
+    ensures { ReadsPlan head lines.old result }
 {
     let mut plan = Plan::new(alloc);
     loop {
-        match next_line(lines, head, &plan)? {
+        match on_line(next_line(lines, head, &plan), plan.place().number)? {
             ScenarioLine::Task(task) => plan.tasks.push(task)?,
             ScenarioLine::Teach(teach) => plan.teaches.push(teach)?,
             ScenarioLine::Step(step) => plan.steps.push(step)?,
             ScenarioLine::End => break,
         }
     }
-    lines.end()?;
+    if !lines.is_empty() {
+        return Err(ReadFault::Bad {
+            line: plan.place().number + 1,
+            kind: BadKind::After,
+        });
+    }
     Ok(plan)
 }
 
 /// The scenario of the lines, after which nothing stands.
-#[tactic(auto, unfolding(crate::specs::Reading::scenario_of))]
 fn read_lines(alloc: Global, mut lines: Lines<'_>) -> Result<Scenario, ReadFault>
-    ensures { Gives (λ scenario. scenario) result (scenario_of lines.entry) }
+    requires { 1 ≤ length lines }
+    ensures { ReadsLines lines.entry result }
 {
     let head = next_head(&mut lines)?;
     let plan = read_plan(alloc, &mut lines, head)?;
@@ -68,9 +77,9 @@ fn read_lines(alloc: Global, mut lines: Lines<'_>) -> Result<Scenario, ReadFault
 ///
 /// # Errors
 ///
-/// [`ReadFault::Bad`], on line 0 and of the kind [`BadKind::Unbuilt`](crate::BadKind::Unbuilt),
-/// where the bytes are no text of a scenario that can be played, and [`ReadFault::OutOfMemory`]
-/// where there is no memory for its tasks, teach lines and steps.
+/// [`ReadFault::Bad`] exactly where the bytes are the text of no valid scenario: with the first line that
+/// is bad, counted from 1, and the first of the kinds of [`BadKind`](crate::BadKind) that hold of it.
+/// [`ReadFault::OutOfMemory`] where there is no memory for its tasks, teach lines and steps.
 pub fn read(alloc: Global, bytes: &[u8]) -> Result<Scenario, ReadFault>
     // What is read is the scenario of the text.
     ensures found { IfOk result (IsTextOf bytes.now) }
@@ -82,9 +91,15 @@ pub fn read(alloc: Global, bytes: &[u8]) -> Result<Scenario, ReadFault>
     // A text has one scenario at most.
     ensures one { HasOneScenario bytes.now }
 
-    // A text is refused as a whole, and only where it has no scenario.
-    ensures fault { IfErr result (λ fault. (fault ≡ ReadFault.Bad 0 BadKind.Unbuilt) ⊎ (fault ≡ ReadFault.OutOfMemory)) }
-    ensures unbuilt { IsErrOf result (ReadFault.Bad 0 BadKind.Unbuilt) → HasNoScenario bytes.now }
+    // A fault tells the first bad line and its first kind.
+    ensures told { IfErr result (Tells (lines_in bytes.now)) }
+
+    // Where there is a first bad line it is told, unless it is out of memory.
+    ensures bad { (line : ℕ) (kind : BadKind) → IsFirstBad (lines_in bytes.now) line kind →
+        IsErrAnd result (λ fault. (fault ≡ ReadFault.Bad line kind) ⊎ (fault ≡ ReadFault.OutOfMemory)) }
+
+    // A text with a bad line is no scenario's.
+    ensures none { (line : ℕ) (kind : BadKind) → IsFirstBad (lines_in bytes.now) line kind → HasNoScenario bytes.now }
 {
     read_lines(alloc, Lines::of(bytes))
 }

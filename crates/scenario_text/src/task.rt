@@ -1,10 +1,12 @@
 //! Tasks, as the words of a task line spell them. What a task may not be for the sake of others is
 //! elsewhere, with the plan.
 
-ghost use Rattle.std.specs.Prelude.{◌≡◌};
-ghost use Rattle.scenario_text.specs.Reading.{lent, number_of, signed_of, policy_of, creds_of, task_of};
+ghost use Rattle.std.specs.Prelude.{◌≡◌, [], ◌∷◌, true, false, codes, MatchResult};
+ghost use Rattle.scenario_text.specs.declared.fault.BadKind.TheVariants.{Number};
+ghost use Rattle.scenario_text.specs.Grammar.{is_word, is_number, is_signed, value, policy, task_form};
+ghost use Rattle.scenario_text.specs.Reading.{lent, read_in, signed_value, policy_value, task_value};
 
-use crate::fault::Refused;
+use crate::fault::BadKind;
 use crate::number::{parse_cpu, parse_flag, parse_number, parse_signed};
 use crate::words::is_word;
 use cs_types::{Creds, Pid, Policy, TaskSpec};
@@ -28,23 +30,36 @@ const MOST_NICE_ABOVE: u32 = 19;
 const MOST_ID: u64 = 65535;
 
 /// A real-time priority.
-fn parse_priority(word: &[u8]) -> Result<u8, Refused>
-    ensures { result ≡ number_of 1 99 word.now }
+fn parse_priority(word: &[u8]) -> Result<u8, BadKind>
+    ensures { MatchResult result (λ n. (is_number 1 99 word.now ≡ true) × (n ≡ value word.now))
+        (λ kind. (is_number 1 99 word.now ≡ false) × (kind ≡ Number)) }
 {
     Ok(parse_number(word, 1, MOST_PRIORITY)? as u8)
 }
 
 /// A nice value.
-fn parse_nice(word: &[u8]) -> Result<i8, Refused>
-    ensures { result ≡ signed_of 20 19 word.now }
+fn parse_nice(word: &[u8]) -> Result<i8, BadKind>
+    ensures { MatchResult result (λ n. (is_signed 20 19 word.now ≡ true) × (n ≡ signed_value word.now))
+        (λ kind. (is_signed 20 19 word.now ≡ false) × (kind ≡ Number)) }
 {
     Ok(parse_signed(word, MOST_NICE_BELOW, MOST_NICE_ABOVE)? as i8)
 }
 
+/// Whether the word is `stop`, or begins with the name of a policy and a colon.
+pub(crate) fn has_policy_shape(word: &[u8]) -> bool
+    ensures { result ≡ policy.has_shape word.now }
+{
+    if is_word(word, "stop") {
+        return true;
+    }
+    let is_real_time = word.starts_with(b"fifo:") || word.starts_with(b"rr:");
+    word.starts_with(b"dl:") || is_real_time || word.starts_with(b"fair:")
+}
+
 /// `stop`, or the name of a policy, a colon and its number.
-#[tactic(auto, unfolding(crate::specs::Reading::reading_after, crate::specs::Reading::numbered, crate::specs::Reading::fair_of, crate::specs::Reading::policy_of))]
-pub(crate) fn parse_policy(word: &[u8]) -> Result<Policy, Refused>
-    ensures { result ≡ policy_of word.now }
+pub(crate) fn parse_policy(word: &[u8]) -> Result<Policy, BadKind>
+    ensures { MatchResult result (λ said. (policy.is_right word.now ≡ true) × (said ≡ policy_value word.now))
+        (λ kind. (policy.is_right word.now ≡ false) × (kind ≡ Number)) }
 {
     if is_word(word, "stop") {
         Ok(Policy::Stop)
@@ -57,59 +72,70 @@ pub(crate) fn parse_policy(word: &[u8]) -> Result<Policy, Refused>
     } else if let Some(nice) = word.strip_prefix(b"fair:") {
         Ok(Policy::Fair(parse_nice(nice)?))
     } else {
-        Err(Refused)
+        Err(BadKind::Number)
     }
 }
 
 /// A task, a thread group or a process group.
-fn parse_pid(word: &[u8]) -> Result<Pid, Refused>
-    ensures { result ≡ number_of 1 9999 word.now }
+fn parse_pid(word: &[u8]) -> Result<Pid, BadKind>
+    ensures { MatchResult result (λ n. (is_number 1 9999 word.now ≡ true) × (n ≡ value word.now))
+        (λ kind. (is_number 1 9999 word.now ≡ false) × (kind ≡ Number)) }
 {
     Ok(parse_number(word, 1, MOST_PID)? as u32)
 }
 
 /// A user or a group.
-pub(crate) fn parse_id(word: &[u8]) -> Result<u32, Refused>
-    ensures { result ≡ number_of 0 65535 word.now }
+pub(crate) fn parse_id(word: &[u8]) -> Result<u32, BadKind>
+    ensures { MatchResult result (λ n. (is_number 0 65535 word.now ≡ true) × (n ≡ value word.now))
+        (λ kind. (is_number 0 65535 word.now ≡ false) × (kind ≡ Number)) }
 {
     Ok(parse_number(word, 0, MOST_ID)? as u32)
 }
 
-/// What stands after the policy: who the task is, and what it may do.
-#[tactic(auto, unfolding(crate::specs::Reading::creds_of))]
-fn parse_creds(words: &[&[u8]]) -> Result<Creds, Refused>
-    ensures { result ≡ creds_of (lent words.now) }
+/// The words of a task line, in a core with this number of siblings. The first of them is `task`.
+pub(crate) fn parse_task(words: &[&[u8]], siblings: u8) -> Result<TaskSpec, BadKind>
+    requires { is_word ((lent words.now).at 0) (codes "task") ≡ true }
+    ensures { result ≡ read_in ((task_form siblings, task_value) ∷ []) (lent words.now) }
 {
-    let [ruid, euid, suid, rgid, egid, sgid, cap, mm, dumpable] = *words else {
-        return Err(Refused);
+    let [
+        _,
+        pid,
+        tgid,
+        pgid,
+        cpu,
+        policy,
+        ruid,
+        euid,
+        suid,
+        rgid,
+        egid,
+        sgid,
+        cap,
+        mm,
+        dumpable,
+    ] = *words
+    else {
+        return Err(BadKind::Shape);
     };
-    Ok(Creds {
-        ruid: parse_id(ruid)?,
-        euid: parse_id(euid)?,
-        suid: parse_id(suid)?,
-        rgid: parse_id(rgid)?,
-        egid: parse_id(egid)?,
-        sgid: parse_id(sgid)?,
-        cap: parse_flag(cap)?,
-        mm: parse_flag(mm)?,
-        dumpable: parse_flag(dumpable)?,
-    })
-}
-
-/// What stands after the word `task`, in a core with this number of siblings.
-#[tactic(auto, unfolding(crate::specs::Reading::task_of))]
-pub(crate) fn parse_task(words: &[&[u8]], siblings: u8) -> Result<TaskSpec, Refused>
-    ensures { result ≡ task_of siblings (lent words.now) }
-{
-    let [pid, tgid, pgid, cpu, policy, ref creds @ ..] = *words else {
-        return Err(Refused);
-    };
+    if !has_policy_shape(policy) {
+        return Err(BadKind::Shape);
+    }
     Ok(TaskSpec {
         pid: parse_pid(pid)?,
         tgid: parse_pid(tgid)?,
         pgid: parse_pid(pgid)?,
         cpu: parse_cpu(cpu, siblings)?,
         policy: parse_policy(policy)?,
-        creds: parse_creds(creds)?,
+        creds: Creds {
+            ruid: parse_id(ruid)?,
+            euid: parse_id(euid)?,
+            suid: parse_id(suid)?,
+            rgid: parse_id(rgid)?,
+            egid: parse_id(egid)?,
+            sgid: parse_id(sgid)?,
+            cap: parse_flag(cap)?,
+            mm: parse_flag(mm)?,
+            dumpable: parse_flag(dumpable)?,
+        },
     })
 }

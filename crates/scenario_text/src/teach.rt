@@ -1,9 +1,11 @@
 //! What guards are taught, as the words of a teach line spell it.
 
-ghost use Rattle.std.specs.Prelude.{◌≡◌};
-ghost use Rattle.scenario_text.specs.Reading.{lent, number_of, teach_of};
+ghost use Rattle.std.specs.Prelude.{◌≡◌, [], ◌∷◌, true, false, codes, MatchResult};
+ghost use Rattle.scenario_text.specs.declared.fault.BadKind.TheVariants.{Number};
+ghost use Rattle.scenario_text.specs.Grammar.{is_word, is_number, value, teach_form};
+ghost use Rattle.scenario_text.specs.Reading.{lent, read_in, teach_value};
 
-use crate::fault::Refused;
+use crate::fault::BadKind;
 use crate::number::parse_number;
 use crate::task::parse_id;
 use cs_types::Teach;
@@ -12,19 +14,20 @@ use cs_types::Teach;
 const MOST_GUARD: u64 = 15;
 
 /// The number of a guard.
-pub(crate) fn parse_guard(word: &[u8]) -> Result<u8, Refused>
-    ensures { result ≡ number_of 0 15 word.now }
+pub(crate) fn parse_guard(word: &[u8]) -> Result<u8, BadKind>
+    ensures { MatchResult result (λ n. (is_number 0 15 word.now ≡ true) × (n ≡ value word.now))
+        (λ kind. (is_number 0 15 word.now ≡ false) × (kind ≡ Number)) }
 {
     Ok(parse_number(word, 0, MOST_GUARD)? as u8)
 }
 
-/// What stands after the word `teach`, on the line of this number.
-#[tactic(auto, unfolding(crate::specs::Reading::teach_of))]
-pub(crate) fn parse_teach(words: &[&[u8]], line: u32) -> Result<Teach, Refused>
-    ensures { result ≡ teach_of line (lent words.now) }
+/// The words of a teach line, which is the line of this number. The first of them is `teach`.
+pub(crate) fn parse_teach(words: &[&[u8]], line: u32) -> Result<Teach, BadKind>
+    requires { is_word ((lent words.now).at 0) (codes "teach") ≡ true }
+    ensures { result ≡ read_in ((teach_form, teach_value line) ∷ []) (lent words.now) }
 {
-    let [guard, from, to] = *words else {
-        return Err(Refused);
+    let [_, guard, from, to] = *words else {
+        return Err(BadKind::Shape);
     };
     Ok(Teach {
         line,

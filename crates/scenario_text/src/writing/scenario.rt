@@ -3,9 +3,12 @@
 
 ghost use Rattle.std.specs.Prelude.{◌≡◌, ◌≤◌, [], ◌∷◌, List, OnOk, OnErr, map};
 ghost use Rattle.std.specs.List.{flat_map};
+ghost use Rattle.cs_types.specs.declared.scenario.Scenario.{Scenario};
+ghost use Rattle.cs_types.specs.Scenario.{IsValid};
 ghost use Rattle.cs_outside.specs.Device.{appended, Rose, WritesPrefix};
 ghost use Rattle.scenario_text.specs.Words.{Word, task_words, teach_words};
 ghost use Rattle.scenario_text.specs.Text.{line, version_words, siblings_words, limits_words, step_words, scenario_text};
+ghost use Rattle.scenario_text.specs.Reader.{IsTextOf};
 
 use super::line::Line;
 use cs_outside::{Failed, Sink, write_all};
@@ -117,6 +120,7 @@ fn write_lines<T: Lined, K: Sink>(items: &[T], sink: &mut K) -> Result<(), Faile
 /// the sink took only a part. It takes no memory.
 ///
 /// At an `Err` the sink has failed, and a prefix of the text is written.
+#[tactic(auto, using(crate::proofs::Scenarios::text_is_its_own))]
 pub fn scenario_text<K: Sink>(scenario: &Scenario, sink: &mut K) -> Result<(), Failed>
     ensures ok { OnOk result (K.written sink.new ≡ appended (K.written sink.old) (scenario_text scenario.now)) }
     ensures prefix { WritesPrefix (K.written sink.old) (scenario_text scenario.now) (K.written sink.new) }
@@ -124,6 +128,9 @@ pub fn scenario_text<K: Sink>(scenario: &Scenario, sink: &mut K) -> Result<(), F
     ensures faultless { OnOk result (K.faults sink.new ≡ K.faults sink.old) }
     ensures failed { OnErr result (Rose (K.faults sink.old) (K.faults sink.new)) }
     ensures counted { K.faults sink.old ≤ K.faults sink.new }
+
+    // The text of a valid scenario is that of no other, so it is read back as that scenario.
+    ensures read_back { IsValid scenario.now → (other : Scenario) → IsTextOf (scenario_text scenario.now) other → other ≡ scenario.now }
 {
     write_head(scenario, sink)?;
     write_lines(scenario.tasks.items(), sink)?;

@@ -1,6 +1,9 @@
-use Rattle.std.proofs.Common.{◌≡◌, ◌∙◌, ℕ, List, sym, ap, map, length, arith}
+use Rattle.std.proofs.Common.{◌≡◌, ◌∙◌, ℕ, List, Result, Ok, Err, sym, ap, map, length, arith, inl, inr}
+use Rattle.std.specs.Prelude.{◌⊎◌}
+use Rattle.std.proofs.lemmas.Result.{err_from_is_err_and}
 use Rattle.std.proofs.lemmas.List.{length-map}
 use Rattle.std.proofs.lemmas.List.FromFn.{length-map-range_with_len}
+use Rattle.scenario_input.specs.declared.stop.Stop.TheVariants.{ReadFault, BadScenario, OutOfMemory}
 use Rattle.scenario_input.specs.Teaching.{first_bad}
 use Rattle.cs_types.specs.Room.{Opening}
 use Rattle.cs_types.specs.Guards.{GuardList, on_bench, guards_on_bench}
@@ -32,3 +35,39 @@ returns-clause-opening g c =
 
 pub returns-clause-taught : goal.returns-clause-taught
 returns-clause-taught g c = ap (first_bad (map g.G.Guard.cap c.args.guards.items)) (sym c.items.ensures) ∙ c.in_ok-guards.ensures.all
+
+-- What was read is one thing.
+not_both : {T E : Type 0} (read : Result T E) (value : T) (error : E) → read ≡ Ok value → read ≡ Err error → ⊥
+not_both read value error is other = cc
+
+neither : {T E : Type 0} (read : Result T E) (value : T) (one other : E) {A : Type 0} → read ≡ Ok value → (read ≡ Err one) ⊎ (read ≡ Err other) → A
+neither read value one other is (inl first) = absurd (not_both read value one is first)
+neither read value one other is (inr second) = absurd (not_both read value other is second)
+
+same_error : {T E : Type 0} (read : Result T E) (one other : E) → read ≡ Err one → read ≡ Err other → one ≡ other
+same_error read one other is too = cc
+
+pub returns-in_err-scenario-clause-bad : goal.returns-in_err-scenario-clause-bad
+returns-in_err-scenario-clause-bad g c line kind e =
+    let stop = err_from_is_err_and c.from_residual.result c.from_residual.ensures.1 in
+    c.read_scenario.ensures.bad line kind (c.in_err-scenario.was ∙ ap Err (sym stop.2 ∙ same_error c.from_residual.result stop.0 (BadScenario line kind) stop.1 e))
+
+pub returns-in_err-scenario-clause-first : goal.returns-in_err-scenario-clause-first
+returns-in_err-scenario-clause-first g c bytes line kind told fits bad calm =
+    let stop = err_from_is_err_and c.from_residual.result c.from_residual.ensures.1 in
+    let same = same_error c.read_scenario.result c.in_err-scenario.field-0.0 in
+    let was = c.in_err-scenario.was in
+    elim (c.read_scenario.ensures.first bytes line kind told fits bad (λ e. calm (stop.1 ∙ ap Err (stop.2 ∙ same ReadFault was e)))) [
+      | inl found ↦ inl (stop.1 ∙ ap Err (stop.2 ∙ same (BadScenario line kind) was found))
+      | inr memory ↦ inr (stop.1 ∙ ap Err (stop.2 ∙ same OutOfMemory was memory))
+    ]
+
+pub returns-in_err-guards-clause-first : goal.returns-in_err-guards-clause-first
+returns-in_err-guards-clause-first g c bytes line kind told fits bad calm =
+    neither c.read_scenario.result c.in_ok-scenario.scenario _ _ c.in_ok-scenario.was
+    (c.read_scenario.ensures.first bytes line kind told fits bad (not_both c.read_scenario.result c.in_ok-scenario.scenario _ c.in_ok-scenario.was))
+
+pub returns-clause-first : goal.returns-clause-first
+returns-clause-first g c bytes line kind told fits bad calm =
+    neither c.read_scenario.result c.in_ok-scenario.scenario _ _ c.in_ok-scenario.was
+    (c.read_scenario.ensures.first bytes line kind told fits bad (not_both c.read_scenario.result c.in_ok-scenario.scenario _ c.in_ok-scenario.was))

@@ -6,7 +6,7 @@ use Rattle.scenario_runner.specs.Commands.{IsRace}
 use Rattle.scenario_runner.specs.Outcomes.{opened_with, IsRaceHistory}
 use Rattle.scenario_runner.proofs.Runs.{race_history, race_made}
 use Rattle.scenario_runner.proofs.Endings.{ends_written, ends_stopped, written_of}
-use Rattle.scenario_runner.proofs.Playable.{built_playable}
+use Rattle.scenario_runner.proofs.Playable.{valid_playable}
 use Rattle.scenario_runner.proofs.command.race.Goals as goal
 
 pub returns-in-Ok-race : goal.returns-in-Ok-race
@@ -23,11 +23,12 @@ returns-in-Ok-race g c =
       too_long = c.opened.ensures.too_long;
       most = c.opened.ensures.most;
       bad = c.opened.ensures.bad;
+      first = c.opened.ensures.first;
       bad_guard = c.opened.ensures.bad_guard;
     })
     c.in-Ok.is (c.is_only.ensures.0 c.if-not-is_only.false) scenario c.in-Ok.ensures.taught c.in-Ok.ensures.reads run
-    (race_history opening run (built_playable scenario c.in-Ok.ensures.reads.built) raced)
-    (race_made opening run (built_playable scenario c.in-Ok.ensures.reads.built) raced)
+    (race_history opening run (valid_playable scenario c.in-Ok.ensures.reads.valid) raced)
+    (race_made opening run (valid_playable scenario c.in-Ok.ensures.reads.valid) raced)
     (written_of _ opening c.in-Ok-race.raced.opening run _ (c.in-Ok-race.ensures.opening ∙ c.in-Ok.ensures.opening)
     (record {
       either = c.write_output.ensures.either;
@@ -51,6 +52,7 @@ returns g c =
       too_long = c.opened.ensures.too_long;
       most = c.opened.ensures.most;
       bad = c.opened.ensures.bad;
+      first = c.opened.ensures.first;
       bad_guard = c.opened.ensures.bad_guard;
     })
     c.in-Err.is (c.is_only.ensures.0 c.if-not-is_only.false) refl)

@@ -5,7 +5,7 @@ use Rattle.scenario_runner.specs.Commands.{IsReplay}
 use Rattle.scenario_runner.specs.Outcomes.{opened_with, IsReplayHistory}
 use Rattle.scenario_runner.proofs.Runs.{drained_file, replay_history, replay_made}
 use Rattle.scenario_runner.proofs.Endings.{ends_written, ends_stopped, ends_unread, written_of, not_true}
-use Rattle.scenario_runner.proofs.Playable.{built_playable}
+use Rattle.scenario_runner.proofs.Playable.{valid_playable}
 use Rattle.scenario_runner.proofs.command.replay.Goals as goal
 
 pub returns-in-Ok : goal.returns-in-Ok
@@ -25,11 +25,12 @@ returns-in-Ok g c =
       too_long = c.opened.ensures.too_long;
       most = c.opened.ensures.most;
       bad = c.opened.ensures.bad;
+      first = c.opened.ensures.first;
       bad_guard = c.opened.ensures.bad_guard;
     })
     c.in-Ok.is (c.is_only.ensures.0 c.if-not-is_only.false) scenario c.in-Ok.ensures.taught c.in-Ok.ensures.reads run
-    (replay_history opening run (built_playable scenario c.in-Ok.ensures.reads.built) drained)
-    (replay_made opening run (built_playable scenario c.in-Ok.ensures.reads.built) drained)
+    (replay_history opening run (valid_playable scenario c.in-Ok.ensures.reads.valid) drained)
+    (replay_made opening run (valid_playable scenario c.in-Ok.ensures.reads.valid) drained)
     (written_of _ opening c.drain.new.self.opening run _ (c.drain.ensures.opening ∙ played)
     (record {
       either = c.write_output.ensures.either;
@@ -53,6 +54,7 @@ returns-in-Err g c =
       too_long = c.opened.ensures.too_long;
       most = c.opened.ensures.most;
       bad = c.opened.ensures.bad;
+      first = c.opened.ensures.first;
       bad_guard = c.opened.ensures.bad_guard;
     })
     c.in-Err.is (c.is_only.ensures.0 c.if-not-is_only.false) refl)

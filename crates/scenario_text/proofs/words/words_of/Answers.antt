@@ -1,27 +1,47 @@
-use Rattle.std.proofs.Common.{ℕ, eqb, take, sym, ap, ◌∙◌, rules, tests, arith}
-use Rattle.std.proofs.lemmas.Bool.{eqb-true, eqb-false}
-use Rattle.std.proofs.lemmas.List.{length_push}
-use Rattle.std.proofs.lemmas.Iterator.Consumers.{YieldsList-turn, YieldsList-end}
-use Rattle.std.proofs.lemmas.Iterator.Splits.{YieldsList-from_slice_split}
-use Rattle.scenario_text.specs.Reading.{pieces, words_in, texts}
-use Rattle.scenario_text.proofs.Cuts.{texts_push, too_many, all_words}
+use Rattle.std.proofs.Common.{◌∙◌, Err, List, [], ◌++◌, sym, ap}
+use Rattle.std.proofs.lemmas.Result.{err_from_is_err_and}
+use Rattle.scenario_text.specs.Words.{Word}
+use Rattle.scenario_text.specs.Faults.{words_in}
+use Rattle.scenario_text.specs.Reading.{texts}
+use Rattle.scenario_text.proofs.Cuts.{one_more, none_more, bad_word, all_words}
 use Rattle.scenario_text.proofs.words.words_of.Goals as goal
 
-pub returns-then-is_full : goal.returns-then-is_full
-unfolding words_in pieces
-returns-then-is_full c =
-    let turn = YieldsList-turn (YieldsList-from_slice_split {s = c.into_iter-word-iterator.result} _ (λ byte. eqb byte 32) c.args.line.now (cc) (cc) (cc) (λ x r q k. search (rules, tests))) c.loop-word.yielded _ c.loop-word.yielded_by _ _ c.in-Some.word c.in-Some.is c.next.ensures.steps in
-    too_many _ _ _ c.loop-word.invariant.0 turn.0 (omega (arith, eqb-true _ _ (sym c.if-is_full.ensures.value)))
+pub returns-in_err-add : goal.returns-in_err-add
+unfolding words_in
+returns-in_err-add c =
+    let words = c.loop-word.words.items in
+    let fault = err_from_is_err_and c.from_residual.result c.from_residual.ensures.1 in
+    let cut = c.loop-word.invariant.0 ∙ ap (λ (ws : List Word). texts words ++ ws) c.in-Some.ensures.pieces in
+    rw (fault.1, fault.2)
+    (bad_word (words_in c.args.line.now) (words_in c.in-Some.more.now) words c.in-Some.word cut c.in_err-add.ensures.1 ∙ ap Err (sym c.in_err-add.ensures.0))
 
 pub loop-word-preserved : goal.loop-word-preserved
-unfolding words_in pieces
+unfolding words_in
 loop-word-preserved c =
-    let turn = YieldsList-turn (YieldsList-from_slice_split {s = c.into_iter-word-iterator.result} _ (λ byte. eqb byte 32) c.args.line.now (cc) (cc) (cc) (λ x r q k. search (rules, tests))) c.loop-word.yielded _ c.loop-word.yielded_by _ _ c.in-Some.word c.in-Some.is c.next.ensures.steps in
-    let more = texts_push _ _ _ c.loop-word.invariant.0 c.in-Some.word turn.0 turn.1 in
-    (ap texts c.push.ensures.items ∙ more ∙ ap (λ (n : ℕ). take n (words_in c.args.line.now)) (sym (length_push c.loop-word.yielded c.in-Some.word)), omega (arith, c.push.ensures.len, eqb-false _ _ (sym c.if-is_full.ensures.value)))
+    let words = c.loop-word.words.items in
+    let new = c.add.new.words.items in
+    let added = c.in_ok-add.ensures in (
+      one_more (words_in c.args.line.now) (words_in c.in-Some.more.now) (words_in c.loop-word.rest.now) words new c.in-Some.word c.loop-word.invariant.0 c.in-Some.ensures.pieces added.0,
+      added.2,
+      none_more words new c.in-Some.word c.loop-word.invariant.2 added.1 added.0,
+    )
+
+pub returns-in_err-add-2 : goal.returns-in_err-add-2
+unfolding words_in
+returns-in_err-add-2 c =
+    let words = c.loop-word.words.items in
+    let fault = err_from_is_err_and c.from_residual-in_err-add-2.result c.from_residual-in_err-add-2.ensures.1 in
+    let cut = c.loop-word.invariant.0 ∙ ap (λ (ws : List Word). texts words ++ ws) c.in_default.ensures.pieces in
+    rw (fault.1, fault.2)
+    (bad_word (words_in c.args.line.now) [] words c.loop-word.rest cut c.in_err-add-2.ensures.1 ∙ ap Err (sym c.in_err-add-2.ensures.0))
 
 pub returns : goal.returns
-unfolding words_in pieces
+unfolding words_in
 returns c =
-    let turn = YieldsList-end (YieldsList-from_slice_split {s = c.into_iter-word-iterator.result} _ (λ byte. eqb byte 32) c.args.line.now (cc) (cc) (cc) (λ x r q k. search (rules, tests))) c.loop-word.yielded _ c.loop-word.yielded_by _ _ c.in-None.is c.next.ensures.steps in
-    all_words _ _ _ c.loop-word.invariant.0 turn.1 c.loop-word.invariant.1
+    let words = c.loop-word.words.items in
+    let new = c.add-2.new.words.items in
+    let added = c.in_ok-add-2.ensures in
+    all_words (words_in c.args.line.now) new
+    (one_more (words_in c.args.line.now) [] (words_in c.loop-word.rest.now) words new c.loop-word.rest c.loop-word.invariant.0 c.in_default.ensures.pieces added.0)
+    added.2
+    (none_more words new c.loop-word.rest c.loop-word.invariant.2 added.1 added.0)

@@ -1,7 +1,15 @@
-use Rattle.std.proofs.Common.{◌≡◌, ◌≤◌, length, take}
-use Rattle.scenario_text.specs.Reading.{texts, words_in}
+use Rattle.std.proofs.Common.{◌≡◌, ◌≤◌, false, ◌++◌, length}
+use Rattle.std.specs.List.{list_any}
+use Rattle.scenario_text.specs.Faults.{words_in}
+use Rattle.scenario_text.specs.Reading.{texts}
+use Rattle.scenario_text.proofs.Cuts.{is_empty}
 use Rattle.scenario_text.proofs.words.words_of.Given as goal
 
 abbrev pub invariant-loop-word : goal.invariant-loop-word
 invariant-loop-word l =
-    (texts l.words.items ≡ take (length l.yielded) (words_in l.line)) × (length l.words.items ≤ 15)
+    (words_in l.line ≡ texts l.words.items ++ words_in l.rest)
+    × (length l.words.items ≤ 15)
+    × (list_any is_empty (texts l.words.items) ≡ false)
+
+abbrev pub decreases-loop-word : goal.decreases-loop-word
+decreases-loop-word l = length l.rest

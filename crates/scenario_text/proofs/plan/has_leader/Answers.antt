@@ -4,11 +4,11 @@ use Rattle.std.proofs.lemmas.Bool.{ne_eqb}
 use Rattle.std.proofs.lemmas.Iterator.{YieldsList-from_slice}
 use Rattle.std.proofs.lemmas.Iterator.Search.{any_from_yields_List}
 use Rattle.cs_types.specs.declared.task.TaskSpec.{TaskSpec}
-use Rattle.scenario_text.specs.Reading.{is_led}
-use Rattle.scenario_text.proofs.plan.is_led.Goals as goal
+use Rattle.scenario_text.specs.Reading.{has_leader}
+use Rattle.scenario_text.proofs.plan.has_leader.Goals as goal
 
 pub returns-else-task : goal.returns-else-task
-unfolding is_led
+unfolding has_leader
 returns-else-task c =
     let task = c.args.task.now in
     rw (ne_eqb task.tgid task.pid c.if-task.false)

@@ -1,0 +1,192 @@
+-- Grammar: the forms that a line of a scenario can have. A form is a list of fields, one for each word of the line.
+use Rattle.std.specs.Prelude.{ℕ, ◌-◌, Bool, true, false, ◌&&◌, ◌||◌, ◌==◌, not, nat_le, if◌then◌else◌, List, [], ◌∷◌, ◌++◌, length, take, drop, slice_index, codes, map}
+use Rattle.std.specs.Char.{is_ascii_digit}
+use Rattle.std.specs.Str.{all_ascii_digits, bytes_eq}
+use Rattle.std.specs.Str.Parse.{digits_value}
+use Rattle.scenario_text.specs.Words.{Word}
+
+-- ---- words
+
+-- whether the word is this keyword
+abbrev pub is_word : Word → Word → Bool
+is_word word keyword = bytes_eq word keyword
+
+-- whether the word begins with this mark
+abbrev pub begins : Word → Word → Bool
+begins word mark = bytes_eq (take (length mark) word) mark
+
+-- what stands behind the mark
+abbrev pub behind : Word → Word → Word
+behind mark word = drop (length mark) word
+
+-- whether the word begins with a digit, and with 0 only where it is `0`
+abbrev pub is_canonical : Word → Bool
+is_canonical word = is_ascii_digit (slice_index word 0) && ((length word == 1) || not (slice_index word 0 == 48))
+
+-- the number that a word of digits spells
+abbrev pub value : Word → ℕ
+value word = digits_value 10 word
+
+-- whether the word is the canonical decimal of a number from low to high
+unfoldable pub is_number : ℕ → ℕ → Word → Bool
+is_number low high word = is_canonical word && all_ascii_digits word && nat_le low (value word) && nat_le (value word) high
+
+-- whether the word begins with `-`
+abbrev pub has_minus : Word → Bool
+has_minus word = slice_index word 0 == 45
+
+-- whether the word is the canonical decimal of a number from -below to above
+unfoldable pub is_signed : ℕ → ℕ → Word → Bool
+is_signed below above word = if has_minus word then is_number 1 below (drop 1 word) else is_number 0 above word
+
+-- ---- fields
+
+-- What may stand in the place of a word: words of some shape, of which some are right.
+pub record Field : Type 0 where
+  pub has_shape : Word → Bool
+  pub is_right : Word → Bool
+
+-- this word alone
+abbrev pub keyword : Word → Field
+keyword name = record { has_shape = λ word. is_word word name; is_right = λ word. is_word word name }
+
+-- a number from low to high; any word has its shape
+abbrev pub number : ℕ → ℕ → Field
+number low high = record { has_shape = λ word. true; is_right = is_number low high }
+
+-- a number from -below to above
+abbrev pub signed : ℕ → ℕ → Field
+signed below above = record { has_shape = λ word. true; is_right = is_signed below above }
+
+-- a mark, and behind it what the field takes
+abbrev pub marked : Word → Field → Field
+marked mark field =
+    record {
+      has_shape = λ word. begins word mark && field.has_shape (behind mark word);
+      is_right = λ word. begins word mark && field.is_right (behind mark word);
+    }
+
+-- what the first of these fields takes whose shape the word has
+abbrev pub one_of : List Field → Field
+one_of [] = record { has_shape = λ word. false; is_right = λ word. false }
+one_of (field ∷ fields) =
+    record {
+      has_shape = λ word. field.has_shape word || (one_of fields).has_shape word;
+      is_right = λ word. if field.has_shape word then field.is_right word else (one_of fields).is_right word;
+    }
+
+-- 1 for yes, 0 for no
+abbrev pub flag : Field
+flag = number 0 1
+
+-- one of the siblings of a core with this number of them
+abbrev pub sibling : ℕ → Field
+sibling siblings = number 0 (siblings - 1)
+
+-- the pid of a task line
+abbrev pub pid : Field
+pid = number 1 9999
+
+-- the pid that a caller names, of a task or of none
+abbrev pub named_pid : Field
+named_pid = number 1 999999
+
+-- a user or a group
+abbrev pub id : Field
+id = number 0 65535
+
+-- a guard
+abbrev pub guard : Field
+guard = number 0 15
+
+-- what a child is
+abbrev pub child : Field
+child = one_of (keyword (codes "thread") ∷ keyword (codes "process") ∷ [])
+
+-- `stop`, or a policy's name, a colon, and its number: a relative deadline in ns, a priority or a nice value
+abbrev pub policy : Field
+policy =
+    one_of (
+    keyword (codes "stop")
+    ∷ marked (codes "dl:") (number 1 1000000000)
+    ∷ marked (codes "fifo:") (number 1 99)
+    ∷ marked (codes "rr:") (number 1 99)
+    ∷ marked (codes "fair:") (signed 20 19)
+    ∷ []
+    )
+
+-- ---- forms
+
+abbrev pub Form : Type 0
+Form = List Field
+
+-- whether a line has as many words as the form has fields, each of the shape of its field
+unfoldable pub has_shape : Form → List Word → Bool
+has_shape [] [] = true
+has_shape [] (word ∷ words) = false
+has_shape (field ∷ fields) [] = false
+has_shape (field ∷ fields) (word ∷ words) = field.has_shape word && has_shape fields words
+
+-- whether each word of a line of that shape is right
+unfoldable pub is_right : Form → List Word → Bool
+is_right [] words = true
+is_right (field ∷ fields) [] = true
+is_right (field ∷ fields) (word ∷ words) = field.is_right word && is_right fields words
+
+abbrev pub version_form : Form
+version_form = keyword (codes "coresched") ∷ keyword (codes "1") ∷ []
+
+-- `siblings` COUNT
+abbrev pub siblings_form : Form
+siblings_form = keyword (codes "siblings") ∷ number 1 8 ∷ []
+
+-- `limits` TASKS COOKIES TOP
+abbrev pub limits_form : Form
+limits_form = keyword (codes "limits") ∷ number 1 256 ∷ number 1 256 ∷ number 8192 9223372036854775807 ∷ []
+
+-- `task` PID TGID PGID CPU POLICY RUID EUID SUID RGID EGID SGID CAP MM DUMP
+abbrev pub task_form : ℕ → Form
+task_form siblings =
+    keyword (codes "task") ∷ pid ∷ pid ∷ pid ∷ sibling siblings ∷ policy
+    ∷ id ∷ id ∷ id ∷ id ∷ id ∷ id ∷ flag ∷ flag ∷ flag ∷ []
+
+-- `teach` GUARD FROM TO
+abbrev pub teach_form : Form
+teach_form = keyword (codes "teach") ∷ guard ∷ id ∷ id ∷ []
+
+abbrev pub end_form : Form
+end_form = keyword (codes "end") ∷ []
+
+-- what a sibling does, to itself
+abbrev pub sibling_events : List Form
+sibling_events =
+    (keyword (codes "turn") ∷ [])
+    ∷ (keyword (codes "resched") ∷ [])
+    ∷ (keyword (codes "block") ∷ [])
+    ∷ (keyword (codes "exit") ∷ [])
+    ∷ (keyword (codes "tick") ∷ [])
+    ∷ []
+
+-- what a caller does, in a core with this number of siblings
+abbrev pub caller_events : ℕ → List Form
+caller_events siblings =
+    (keyword (codes "wake") ∷ named_pid ∷ [])
+    ∷ (keyword (codes "advance") ∷ number 1 1000000000 ∷ [])
+    ∷ (keyword (codes "fork") ∷ named_pid ∷ child ∷ [])
+    ∷ (keyword (codes "prctl") ∷ named_pid ∷ number 0 4294967295 ∷ signed 2147483648 2147483647 ∷ number 0 4294967295 ∷ number 0 18446744073709551615 ∷ [])
+    ∷ (keyword (codes "setsched") ∷ named_pid ∷ policy ∷ [])
+    ∷ (keyword (codes "offline") ∷ sibling siblings ∷ [])
+    ∷ (keyword (codes "online") ∷ sibling siblings ∷ [])
+    ∷ (keyword (codes "load") ∷ guard ∷ [])
+    ∷ (keyword (codes "unload") ∷ guard ∷ [])
+    ∷ []
+
+-- `step`, an actor and an event
+abbrev pub step_form : Field → Form → Form
+step_form actor event = keyword (codes "step") ∷ actor ∷ event
+
+-- `s`I and a sibling's event, or `c`J and a caller's, in a core with this number of siblings
+abbrev pub step_forms : ℕ → List Form
+step_forms siblings =
+    map (step_form (marked (codes "s") (sibling siblings))) sibling_events
+    ++ map (step_form (marked (codes "c") (number 0 7))) (caller_events siblings)
