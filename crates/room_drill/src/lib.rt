@@ -1,0 +1,15 @@
+//! The drill: a scenario that a seed gives alone, for a quick look at a machine, and what is told of
+//! its run. A generator draws the scenario, so it needs no input.
+#![tactic(auto)]
+
+mod events;
+mod generator;
+mod policies;
+mod scenario;
+mod size;
+mod tally;
+mod tasks;
+mod texts;
+
+pub use scenario::generate;
+pub use texts::summary;
