@@ -108,16 +108,16 @@ passes : (number first last : ℕ) → last < number → not (nat_lt number firs
 passes number first last past = grind arith
 
 -- the row that has the number draws
-pub row_takes : {X : Type 0} (one : Row X) (rows : List (Row X)) (last : Row X) (number : ℕ) → one.first ≤ number → number ≤ one.last →
+pub row_takes : {X : Type 0} (one : Row X) (rows : List (Row X)) (last : Row X) (number : ℕ) → one.from ≤ number → number ≤ one.to →
     by_one_of (one ∷ rows) last number ≡ one.draws
 row_takes one rows last number from to =
-    ap (λ (test : Bool). if test then one.draws else by_one_of rows last number) (takes number one.first one.last from to)
+    ap (λ (test : Bool). if test then one.draws else by_one_of rows last number) (takes number one.from one.to from to)
 
 -- a row that ends before the number does not
-pub row_passes : {X : Type 0} (one : Row X) (rows : List (Row X)) (last : Row X) (number : ℕ) → one.last < number →
+pub row_passes : {X : Type 0} (one : Row X) (rows : List (Row X)) (last : Row X) (number : ℕ) → one.to < number →
     by_one_of (one ∷ rows) last number ≡ by_one_of rows last number
 row_passes one rows last number past =
-    ap (λ (test : Bool). if test then one.draws else by_one_of rows last number) (passes number one.first one.last past)
+    ap (λ (test : Bool). if test then one.draws else by_one_of rows last number) (passes number one.from one.to past)
 
 -- ---- values made of draws
 

@@ -36,18 +36,19 @@ in_turn first (suc count) draws = made_of_two (λ value values. value ∷ values
 
 -- ---- tables
 
--- a row: what is drawn at the numbers from the first to the last
+-- a row: what is drawn at the numbers from one to another
 pub record Row (X : Type 0) : Type 0 where
-  pub first : ℕ
-  pub last : ℕ
+  pub from : ℕ
+  pub to : ℕ
   pub draws : Draws X
 
+-- the row of these numbers
 abbrev pub row : {X : Type 0} → ℕ → ℕ → Draws X → Row X
-row first last draws = record { first = first; last = last; draws = draws }
+row from to draws = record { from = from; to = to; draws = draws }
 
 -- whether a row has a number
 abbrev pub has : {X : Type 0} → Row X → ℕ → Bool
-has at number = not (nat_lt number at.first) && not (nat_lt at.last number)
+has at number = not (nat_lt number at.from) && not (nat_lt at.to number)
 
 -- rows, the last of them apart
 pub record Table (X : Type 0) : Type 0 where

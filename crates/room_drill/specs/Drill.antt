@@ -14,7 +14,8 @@ use Rattle.room_drill.specs.Draws.{Draws, draw, and_then, made, made_of_two, in_
 
 -- ---- policies
 
--- real-time priorities from 1 to 99, relative deadlines from 1 to 50 ms, and nice values from -20 to 19
+-- a policy, by a number below 4: real-time priorities from 1 to 99, relative deadlines from 1 to 50 ms, and nice values
+-- from -20 to 19
 abbrev pub policy_table : Table Policy
 policy_table =
     record {
@@ -25,6 +26,7 @@ policy_table =
       last = row 3 3 (made (λ n. Fair (pos n -ℤ pos 20)) (draw 40));
     }
 
+-- the policy of a row that is drawn
 unfoldable pub drawn_policy : Draws Policy
 drawn_policy = and_then (draw 4) (by_row policy_table)
 
@@ -50,6 +52,7 @@ abbrev pub drill_task : ℕ → Policy → TaskSpec
 drill_task pid policy =
     record { pid = pid; tgid = pid; pgid = pid; cpu = (pid - 1) % 4; policy = policy; creds = drill_creds }
 
+-- the task of a pid, with a drawn policy
 abbrev pub drawn_task : ℕ → Draws TaskSpec
 drawn_task pid = made (drill_task pid) drawn_policy
 
@@ -67,6 +70,7 @@ drawn_pid = made (λ n. 1 + n) (draw 24)
 abbrev pub asks : ℕ → ℕ → ℕ → Event
 asks cmd caller target = Prctl caller (record { cmd = cmd; pid = pos target; scope = 0; addr = 0 })
 
+-- what is done, by a number below 20
 abbrev pub event_table : Table Event
 event_table =
     record {
@@ -95,9 +99,11 @@ actor_of (Block cpu) = Sibling cpu
 actor_of (Exit cpu) = Sibling cpu
 actor_of event = Caller 0
 
+-- the event of a row that is drawn
 unfoldable pub drawn_event : Draws Event
 drawn_event = and_then (draw 20) (by_row event_table)
 
+-- a drawn event, and who makes it
 abbrev pub drawn_step : Draws Step
 drawn_step = made (λ event. record { actor = actor_of event; event = event }) drawn_event
 

@@ -17,6 +17,7 @@ use Rattle.room_drill.specs.declared.tally.Tally.{Tally}
 
 -- ---- what is counted
 
+-- whether a sibling chose for itself alone
 abbrev pub is_plain : Kind → Bool
 is_plain Selected = false
 is_plain Adopted = false

@@ -1,4 +1,4 @@
-//! The steps that are drawn.
+//! The steps that are drawn: what is done, and who does it.
 
 ghost use Rattle.std.specs.Prelude.{◌≡◌, ◌<◌};
 ghost use Rattle.room_drill.specs.Draws.{made_of_two};
@@ -8,9 +8,10 @@ use crate::generator::Generator;
 use crate::size::{SIBLINGS, TASKS};
 use cs_types::{Actor, Ask, Cpu, Event, Pid, Step};
 
-/// The commands of `prctl` that are drawn, `PR_SCHED_CORE_CREATE` and `PR_SCHED_CORE_SHARE_TO`.
+/// `PR_SCHED_CORE_CREATE`.
 const CREATE: u32 = 1;
 
+/// `PR_SCHED_CORE_SHARE_TO`.
 const SHARE_TO: u32 = 2;
 
 /// The longest advance of the clock, in ns.
@@ -21,22 +22,24 @@ fn actor_of(event: Event) -> Actor
     ensures { result ≡ actor_of event }
 {
     match event {
-        Event::Turn(cpu) => Actor::Sibling(cpu),
-        Event::Resched(cpu) => Actor::Sibling(cpu),
-        Event::Tick(cpu) => Actor::Sibling(cpu),
-        Event::Block(cpu) => Actor::Sibling(cpu),
-        Event::Exit(cpu) => Actor::Sibling(cpu),
+        Event::Turn(cpu)
+        | Event::Resched(cpu)
+        | Event::Tick(cpu)
+        | Event::Block(cpu)
+        | Event::Exit(cpu) => Actor::Sibling(cpu),
         _ => Actor::Caller(0),
     }
 }
 
 impl Generator {
+    /// One of the siblings.
     fn cpu(&mut self) -> Cpu
         ensures { (result, self.new) ≡ drawn_cpu self.old }
     {
         self.below(SIBLINGS) as u8
     }
 
+    /// One of the tasks that there are at the start.
     fn pid(&mut self) -> Pid
         ensures drawn { (result, self.new) ≡ drawn_pid self.old }
         ensures few { result < 25 }
@@ -44,6 +47,7 @@ impl Generator {
         1 + self.below(TASKS)
     }
 
+    /// A call with this command, over another task alone.
     fn prctl(&mut self, cmd: u32) -> Event
         ensures { (result, self.new) ≡ made_of_two (asks cmd) drawn_pid drawn_pid self.old }
     {
@@ -60,6 +64,7 @@ impl Generator {
         }
     }
 
+    /// What is done next.
     fn event(&mut self) -> Event
         ensures { (result, self.new) ≡ drawn_event self.old }
     {

@@ -5,9 +5,10 @@ ghost use Rattle.room_drill.specs.Draws.{draw};
 
 use std::marker::Model;
 
-/// What a word is multiplied by, and what is added to it, for the next one.
+/// What a word is multiplied by for the next one.
 const MULTIPLIER: u64 = 6_364_136_223_846_793_005;
 
+/// What is added to the product.
 const INCREMENT: u64 = 1_442_695_040_888_963_407;
 
 /// How many low bits of a word are left out of a number: they repeat soonest.
@@ -37,13 +38,13 @@ impl Generator {
         }
     }
 
-    /// The next number, below this one.
-    pub fn below(&mut self, most: u32) -> u32
-        requires { 0 < most }
-        ensures drawn { (result, self.new) ≡ draw most self.old }
-        ensures below { result < most }
+    /// The next number, below the limit, which is above 0.
+    pub fn below(&mut self, limit: u32) -> u32
+        requires { 0 < limit }
+        ensures drawn { (result, self.new) ≡ draw limit self.old }
+        ensures below { result < limit }
     {
         self.word = self.word.wrapping_mul(MULTIPLIER).wrapping_add(INCREMENT);
-        (self.word >> LOW_BITS) as u32 % most
+        (self.word >> LOW_BITS) as u32 % limit
     }
 }

@@ -6,17 +6,19 @@ ghost use Rattle.room_drill.specs.Drill.{drawn_policy};
 use crate::generator::Generator;
 use cs_types::Policy;
 
-/// A real-time priority, from 1 on, is below this.
+/// How many real-time priorities there are, from 1 on.
 const PRIORITIES: u32 = 99;
 
-/// How many relative deadlines there are, and how far apart they are, in ns.
+/// How many relative deadlines there are, the multiples of the first.
 const DEADLINES: u32 = 50;
 
-const DEADLINE_APART: u64 = 1_000_000;
+/// The first of the relative deadlines, in ns.
+const FIRST_DEADLINE: u64 = 1_000_000;
 
-/// How many nice values there are, and how far below 0 the least is.
+/// How many nice values there are.
 const NICES: u32 = 40;
 
+/// How many of the nice values are below 0.
 const NICES_BELOW: i8 = 20;
 
 impl Generator {
@@ -27,7 +29,7 @@ impl Generator {
         match self.below(4) {
             0 => Policy::Fifo(1 + self.below(PRIORITIES) as u8),
             1 => Policy::Rr(1 + self.below(PRIORITIES) as u8),
-            2 => Policy::Deadline(DEADLINE_APART * (1 + u64::from(self.below(DEADLINES)))),
+            2 => Policy::Deadline(FIRST_DEADLINE * (1 + u64::from(self.below(DEADLINES)))),
             _ => Policy::Fair(self.below(NICES) as i8 - NICES_BELOW),
         }
     }

@@ -105,7 +105,7 @@ const GROWTH: Script = script!(
 );
 
 /// A task forks up to the limit of tasks, under its cookie, and its children end.
-const FORK_AND_EXIT: Script = script!(
+pub const FORK_AND_EXIT: Script = script!(
     2,
     "3 8 65536",
     [(1, "fair:0", 0)],
@@ -275,7 +275,7 @@ pub fn opened<R: AllocGlobal + Abort>(rt: &R, text: &str) -> (Scenario, PlainRoo
 }
 
 /// The machine of a script after all its steps, before the entries of the end. It has no guards.
-fn played<R: AllocGlobal + Abort>(rt: &R, script: Script) -> PlainRoom<PairGuard>
+pub fn played<R: AllocGlobal + Abort>(rt: &R, script: Script) -> PlainRoom<PairGuard>
     ensures { IsPlayable result.opening.scenario }
 {
     let (scenario, mut room) = opened(rt, script.text);

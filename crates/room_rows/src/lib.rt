@@ -46,6 +46,8 @@ mod commands;
 #[cfg(test)]
 mod devices;
 #[cfg(test)]
+mod drills;
+#[cfg(test)]
 mod examples;
 #[cfg(test)]
 mod guards;

@@ -5,5 +5,5 @@ use Rattle.room_drill.proofs.generator.Generator.below.Goals as goal
 
 pub returns-clause-drawn : goal.returns-clause-drawn
 returns-clause-drawn c =
-    ap (λ (w : ℕ). let drawn : ℕ × ℕ = (w / 2 ^ 33 % c.args.most, w) in drawn) (word_is c.self.inside.word)
-    ∙ draw_is c.args.most c.self.inside.word ∙ ap (draw c.args.most) c.self.view_is
+    ap (λ (w : ℕ). let drawn : ℕ × ℕ = (w / 2 ^ 33 % c.args.limit, w) in drawn) (word_is c.self.inside.word)
+    ∙ draw_is c.args.limit c.self.inside.word ∙ ap (draw c.args.limit) c.self.view_is

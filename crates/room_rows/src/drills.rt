@@ -1,0 +1,199 @@
+//! The drill: the scenarios of some seeds, by the lines of their texts, and the summaries of worked examples.
+
+use crate::commands::{joined, only, sink_of};
+use crate::examples::{FORK_AND_EXIT, played};
+use crate::moves::{LAST_TASK_STOLEN, STEAL};
+use crate::scripts::{FORCED_IDLE, Script};
+use cs_outside::MemSink;
+use cs_types::Room;
+use room_drill::{generate, summary};
+use scenario_text::scenario_text;
+use std::process::Abort;
+
+/// The lines of seed 1328 up to its 18th step, by which each event has come.
+const EVERY_EVENT: [&str; 45] = [
+    "coresched 1\n",
+    "siblings 4\n",
+    "limits 64 16 1048576\n",
+    "task 1 1 1 0 dl:23000000 1000 1000 1000 1000 1000 1000 0 1 1\n",
+    "task 2 2 2 1 rr:82 1000 1000 1000 1000 1000 1000 0 1 1\n",
+    "task 3 3 3 2 rr:67 1000 1000 1000 1000 1000 1000 0 1 1\n",
+    "task 4 4 4 3 fair:-11 1000 1000 1000 1000 1000 1000 0 1 1\n",
+    "task 5 5 5 0 dl:50000000 1000 1000 1000 1000 1000 1000 0 1 1\n",
+    "task 6 6 6 1 fifo:66 1000 1000 1000 1000 1000 1000 0 1 1\n",
+    "task 7 7 7 2 rr:20 1000 1000 1000 1000 1000 1000 0 1 1\n",
+    "task 8 8 8 3 fifo:60 1000 1000 1000 1000 1000 1000 0 1 1\n",
+    "task 9 9 9 0 rr:34 1000 1000 1000 1000 1000 1000 0 1 1\n",
+    "task 10 10 10 1 fifo:10 1000 1000 1000 1000 1000 1000 0 1 1\n",
+    "task 11 11 11 2 fifo:64 1000 1000 1000 1000 1000 1000 0 1 1\n",
+    "task 12 12 12 3 rr:77 1000 1000 1000 1000 1000 1000 0 1 1\n",
+    "task 13 13 13 0 fifo:17 1000 1000 1000 1000 1000 1000 0 1 1\n",
+    "task 14 14 14 1 dl:13000000 1000 1000 1000 1000 1000 1000 0 1 1\n",
+    "task 15 15 15 2 dl:32000000 1000 1000 1000 1000 1000 1000 0 1 1\n",
+    "task 16 16 16 3 fair:-10 1000 1000 1000 1000 1000 1000 0 1 1\n",
+    "task 17 17 17 0 dl:21000000 1000 1000 1000 1000 1000 1000 0 1 1\n",
+    "task 18 18 18 1 fair:11 1000 1000 1000 1000 1000 1000 0 1 1\n",
+    "task 19 19 19 2 dl:35000000 1000 1000 1000 1000 1000 1000 0 1 1\n",
+    "task 20 20 20 3 dl:41000000 1000 1000 1000 1000 1000 1000 0 1 1\n",
+    "task 21 21 21 0 dl:8000000 1000 1000 1000 1000 1000 1000 0 1 1\n",
+    "task 22 22 22 1 fair:-19 1000 1000 1000 1000 1000 1000 0 1 1\n",
+    "task 23 23 23 2 dl:15000000 1000 1000 1000 1000 1000 1000 0 1 1\n",
+    "task 24 24 24 3 rr:59 1000 1000 1000 1000 1000 1000 0 1 1\n",
+    "step c0 offline 3\n",
+    "step s3 tick\n",
+    "step s1 turn\n",
+    "step s2 turn\n",
+    "step s3 turn\n",
+    "step s0 block\n",
+    "step c0 online 2\n",
+    "step c0 prctl 23 1 2 0 0\n",
+    "step c0 fork 23 process\n",
+    "step s0 exit\n",
+    "step c0 advance 3289883\n",
+    "step s2 turn\n",
+    "step s1 turn\n",
+    "step c0 setsched 10 fifo:38\n",
+    "step c0 wake 8\n",
+    "step s2 resched\n",
+    "step c0 fork 14 process\n",
+    "step c0 prctl 2 2 22 0 0\n",
+];
+
+/// What is expected of the scenario of a seed.
+#[derive(Clone, Copy)]
+struct Drawn {
+    seed: u32,
+    /// The first lines of its text.
+    first: &'static [&'static str],
+    /// The last lines of its text.
+    last: &'static [&'static str],
+    /// How many bytes its text has.
+    bytes: usize,
+}
+
+/// Seeds at both ends, and two others.
+const DRAWN: [Drawn; 4] = [
+    Drawn {
+        seed: 0,
+        first: &[
+            "coresched 1\n",
+            "siblings 4\n",
+            "limits 64 16 1048576\n",
+            "task 1 1 1 0 fair:4 1000 1000 1000 1000 1000 1000 0 1 1\n",
+            "task 2 2 2 1 rr:20 1000 1000 1000 1000 1000 1000 0 1 1\n",
+        ],
+        last: &["step c0 wake 20\n", "step c0 wake 20\n", "end\n"],
+        bytes: 342_529,
+    },
+    Drawn {
+        seed: 1,
+        first: &[
+            "coresched 1\n",
+            "siblings 4\n",
+            "limits 64 16 1048576\n",
+            "task 1 1 1 0 dl:4000000 1000 1000 1000 1000 1000 1000 0 1 1\n",
+            "task 2 2 2 1 fifo:49 1000 1000 1000 1000 1000 1000 0 1 1\n",
+        ],
+        last: &["step s2 tick\n", "step s0 resched\n", "end\n"],
+        bytes: 342_989,
+    },
+    Drawn {
+        seed: 1_328,
+        first: &EVERY_EVENT,
+        last: &["step c0 prctl 5 1 17 0 0\n", "step c0 wake 10\n", "end\n"],
+        bytes: 344_347,
+    },
+    Drawn {
+        seed: 4_294_967_295,
+        first: &[
+            "coresched 1\n",
+            "siblings 4\n",
+            "limits 64 16 1048576\n",
+            "task 1 1 1 0 fair:16 1000 1000 1000 1000 1000 1000 0 1 1\n",
+            "task 2 2 2 1 fifo:96 1000 1000 1000 1000 1000 1000 0 1 1\n",
+        ],
+        last: &["step s1 turn\n", "step s0 tick\n", "end\n"],
+        bytes: 343_010,
+    },
+];
+
+/// Expects this scenario of its seed.
+fn expect_drawn<R: AllocGlobal + Abort>(rt: &R, wanted: Drawn) {
+    let scenario = generate(rt.alloc(), wanted.seed).expect(rt, "room");
+    assert!(rt; scenario.tasks.items().len() == 24 && scenario.steps.items().len() == 20_000);
+    let mut sink = MemSink::of(rt.alloc(), wanted.bytes, 4096, Vec::new(rt.alloc())).expect(
+        rt, "room",
+    );
+    scenario_text(&scenario, &mut sink).expect(rt, "no fault");
+    assert!(rt; sink.bytes().len() == wanted.bytes);
+    assert!(rt;
+        sink.bytes().starts_with(
+            joined(rt.alloc(), wanted.first)
+                .expect(rt, "room")
+                .as_slice()
+        )
+    );
+    assert!(rt;
+        sink.bytes().ends_with(
+            joined(rt.alloc(), wanted.last)
+                .expect(rt, "room")
+                .as_slice()
+        )
+    );
+}
+
+#[test]
+fn scenarios_are_drawn(rt: HostRuntime) {
+    for wanted in &DRAWN {
+        expect_drawn(&rt, *wanted);
+    }
+}
+
+/// Expects that the summary of an example tells these lines, after the entries of the end, and then the report.
+fn expect_summary<R: AllocGlobal + Abort>(rt: &R, script: Script, lines: &str) {
+    let mut room = played(rt, script);
+    let siblings = u64::from(room.siblings());
+    assert!(rt; siblings * siblings <= room.spare());
+    room.drain();
+    let mut sink = sink_of(rt, 7, Vec::new(rt.alloc()));
+    summary(7, &room, &mut sink).expect(rt, "a sink that takes all");
+    assert!(rt;
+        sink.bytes()
+            == joined(rt.alloc(), &[lines, script.report])
+                .expect(rt, "room")
+                .as_slice()
+    );
+}
+
+/// Expects a part of the summary of an example: the sink fails at its second line.
+fn expect_cut_summary<R: AllocGlobal + Abort>(rt: &R, script: Script) {
+    let room = played(rt, script);
+    let mut sink = sink_of(rt, 4096, only(rt, 2));
+    assert!(rt; summary(4_294_967_295, &room, &mut sink).is_err());
+    assert!(rt; sink.bytes() == b"drill 4294967295 steps 20000 entries 10\n".as_slice());
+}
+
+#[test]
+fn summaries_of_a_machine(rt: HostRuntime) {
+    expect_summary(
+        &rt,
+        FORCED_IDLE,
+        "drill 7 steps 20000 entries 10\npicks 2 0 0\nsteals 0 1\n",
+    );
+    expect_summary(
+        &rt,
+        STEAL,
+        "drill 7 steps 20000 entries 23\npicks 4 4 0\nsteals 1 0\n",
+    );
+    expect_summary(
+        &rt,
+        LAST_TASK_STOLEN,
+        "drill 7 steps 20000 entries 12\npicks 4 1 0\nsteals 1 0\n",
+    );
+    expect_summary(
+        &rt,
+        FORK_AND_EXIT,
+        "drill 7 steps 20000 entries 12\npicks 4 0 1\nsteals 0 0\n",
+    );
+    expect_cut_summary(&rt, FORCED_IDLE);
+}
