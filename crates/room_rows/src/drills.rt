@@ -150,7 +150,7 @@ fn scenarios_are_drawn(rt: HostRuntime) {
 }
 
 /// Expects that the summary of an example tells these lines, after the entries of the end, and then the report.
-fn expect_summary<R: AllocGlobal + Abort>(rt: &R, script: Script, lines: &str) {
+fn expect_summary<R: AllocGlobal + Abort>(rt: &R, script: Script, lines: &'static str) {
     let mut room = played(rt, script);
     let siblings = u64::from(room.siblings());
     assert!(rt; siblings * siblings <= room.spare());
