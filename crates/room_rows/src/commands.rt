@@ -5,7 +5,7 @@ ghost use Rattle.std.specs.Prelude.{◌≡◌, ◌<◌};
 
 use crate::scenarios::text_of_steps;
 use cs_outside::{MemSink, MemSource, NoGate, PairGuard};
-use scenario_runner::{Status, replay, run};
+use scenario_runner::{Status, drill, replay, run};
 use scenario_text::BadKind;
 use std::alloc::{AllocError, Global};
 use std::process::Abort;
@@ -213,7 +213,27 @@ fn sink_that_fails_at_each_call(rt: HostRuntime) {
     expect_faults(&rt, 0, 18, Status::Done, &LINES);
 }
 
-/// Expects that the words are none of `run` or `replay`, and that nothing is read for them.
+/// Lists of words that are no command's: other words, words too many and too few, an option, and seeds that are no
+/// numbers or too large.
+const OTHER_WORDS: [&'static [&'static str]; 15] = [
+    &[],
+    &[""],
+    &["run"],
+    &["Replay"],
+    &["replay", "x"],
+    &["race", "replay"],
+    &["help"],
+    &["--help"],
+    &["-"],
+    &["--", "replay"],
+    &["drill"],
+    &["drill", "007"],
+    &["drill", "+7"],
+    &["drill", "4294967296"],
+    &["drill", "1", "2"],
+];
+
+/// Expects that the words are none of `run`, `replay` or `drill`, and that nothing is read for them.
 fn expect_bad_words<R: Threads + Wait + AllocGlobal + Sync + Abort>(rt: &R, texts: &[&str]) {
     let mut source = source_of(rt, INPUT.as_bytes(), 4096, Vec::new(rt.alloc()));
     let mut sink = sink_of(rt, 4096, Vec::new(rt.alloc()));
@@ -223,15 +243,33 @@ fn expect_bad_words<R: Threads + Wait + AllocGlobal + Sync + Abort>(rt: &R, text
     let mut sink = sink_of(rt, 4096, Vec::new(rt.alloc()));
     expect_replay(rt, texts, &mut source, &mut sink, Status::BadWords, b"");
     assert!(rt; source.calls() == 0);
+    let words = words_of(rt.alloc(), texts).expect(rt, "room");
+    let mut sink = sink_of(rt, 4096, Vec::new(rt.alloc()));
+    assert!(rt; drill(rt.alloc(), &words, &mut sink) == Status::BadWords);
+    assert!(rt; sink.calls() == 0);
 }
 
 #[test]
 fn other_words(rt: HostRuntime) {
-    expect_bad_words(&rt, &[]);
-    expect_bad_words(&rt, &["run"]);
-    expect_bad_words(&rt, &["Replay"]);
-    expect_bad_words(&rt, &["replay", "x"]);
-    expect_bad_words(&rt, &["--help"]);
+    for texts in &OTHER_WORDS {
+        expect_bad_words(&rt, texts);
+    }
+}
+
+// The words of one call are not those of the other.
+#[test]
+fn words_of_another_call(rt: HostRuntime) {
+    for texts in [["replay"].as_slice(), ["race"].as_slice()] {
+        let words = words_of(rt.alloc(), texts).expect(&rt, "room");
+        let mut sink = sink_of(&rt, 4096, Vec::new(rt.alloc()));
+        assert!(rt; drill(rt.alloc(), &words, &mut sink) == Status::BadWords);
+    }
+    for texts in [["drill", "1"].as_slice(), ["race"].as_slice()] {
+        let mut source = source_of(&rt, INPUT.as_bytes(), 4096, Vec::new(rt.alloc()));
+        let mut sink = sink_of(&rt, 4096, Vec::new(rt.alloc()));
+        expect_replay(&rt, texts, &mut source, &mut sink, Status::BadWords, b"");
+        assert!(rt; source.calls() == 0);
+    }
 }
 
 /// Expects that the command ends so over this text, and writes this output.

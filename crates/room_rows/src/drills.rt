@@ -1,14 +1,17 @@
 //! The drill: the scenarios of some seeds, by the lines of their texts, and the summaries of worked examples.
 
-use crate::commands::{joined, only, sink_of};
+use crate::commands::{joined, only, sink_of, source_of, words_of};
 use crate::examples::{FORK_AND_EXIT, played};
 use crate::moves::{LAST_TASK_STOLEN, STEAL};
 use crate::scripts::{FORCED_IDLE, Script};
-use cs_outside::MemSink;
+use cs_outside::{MemSink, NoGate, PairGuard};
 use cs_types::Room;
 use room_drill::{generate, summary};
+use scenario_runner::{Status, drill, run};
 use scenario_text::scenario_text;
 use std::process::Abort;
+use std::sync::Wait;
+use std::thread::Threads;
 
 /// The lines of seed 1328 up to its 18th step, by which each event has come.
 const EVERY_EVENT: [&str; 45] = [
@@ -196,4 +199,46 @@ fn summaries_of_a_machine(rt: HostRuntime) {
         "drill 7 steps 20000 entries 12\npicks 4 0 1\nsteals 0 0\n",
     );
     expect_cut_summary(&rt, FORCED_IDLE);
+}
+
+/// The first lines that the drill of seed 1 prints.
+const FIRST_LINES: &str = "drill 1 steps 20000 entries 20000
+picks 306 20 1174
+steals 2 11
+report
+clock 2418059194
+";
+
+/// What `run` writes with the words `drill` and this seed, to a sink that fails at this call. It reads nothing, and ends so.
+fn drilled<R: Threads + Wait + AllocGlobal + Sync + Abort>(
+    rt: &R,
+    seed: &str,
+    fails: u64,
+    wanted: Status,
+) -> MemSink {
+    let words = words_of(rt.alloc(), &["drill", seed]).expect(rt, "room");
+    let guards = Vec::<PairGuard>::new(rt.alloc());
+    let mut source = source_of(rt, b"coresched 1\n", 4096, Vec::new(rt.alloc()));
+    let mut sink =
+        MemSink::of(rt.alloc(), 16_384, 4096, only(rt, fails)).expect(rt, "room");
+    assert!(rt; run(rt, &words, &mut source, &mut sink, &NoGate, guards) == wanted);
+    assert!(rt; source.calls() == 0);
+    sink
+}
+
+// The same at each run, and by the call of the command alone.
+#[test]
+fn command_drill(rt: HostRuntime) {
+    let first = drilled(&rt, "1", 0, Status::Done);
+    assert!(rt; first.bytes().starts_with(FIRST_LINES.as_bytes()) && first.bytes().ends_with(b"done\n"));
+    let again = drilled(&rt, "1", 0, Status::Done);
+    assert!(rt; again.bytes() == first.bytes());
+    let words = words_of(rt.alloc(), &["drill", "1"]).expect(&rt, "room");
+    let mut sink = MemSink::of(rt.alloc(), 16_384, 7, Vec::new(rt.alloc())).expect(&rt, "room");
+    assert!(rt; drill(rt.alloc(), &words, &mut sink) == Status::Done);
+    assert!(rt; sink.bytes() == first.bytes());
+    let last = drilled(&rt, "4294967295", 0, Status::Done);
+    assert!(rt; last.bytes().starts_with(b"drill 4294967295 steps 20000 entries "));
+    let cut = drilled(&rt, "1", 3, Status::WriteFault);
+    assert!(rt; cut.bytes() == b"drill 1 steps 20000 entries 20000\npicks 306 20 1174\n".as_slice());
 }

@@ -1,7 +1,6 @@
 -- Endings: what holds of a run, status by status.
 use Rattle.std.proofs.Common.{◌≡◌, ◌≢◌, Bool, true, false, ℕ, ◌+◌, ◌-◌, ◌^◌, ◌<◌, ◌≤◌, List, ◌++◌, length, refl, sym, inl, inr, ap, ◌∙◌, subst, arith}
-use Rattle.std.specs.Prelude.{◌⊎◌, ◌↔◌, Option, Some, None, IfSome, Result, Ok, Err, String, All}
-use Rattle.std.specs.declared.alloc.Global.{Global}
+use Rattle.std.specs.Prelude.{◌⊎◌, ◌↔◌, Option, Some, None, IfSome, Result, Ok, Err, All}
 use Rattle.cs_types.specs.declared.scenario.Scenario.{Scenario}
 use Rattle.cs_outside.specs.Device.{Rose, appended, WritesPrefix}
 use Rattle.room_report.specs.Report.{output_text}
@@ -20,7 +19,7 @@ use Rattle.scenario_input.specs.declared.status.Status.{Status}
 use Rattle.scenario_input.specs.declared.status.Status.TheVariants as status
 use Rattle.scenario_input.specs.Input.{Reads, IsBad, input_limit, count_read}
 use Rattle.scenario_input.specs.Stop.{status_of}
-use Rattle.scenario_input.proofs.Inputs.{count_none, read_bytes}
+use Rattle.scenario_input.proofs.Inputs.{read_bytes}
 use Rattle.scenario_input.proofs.Stops.{stop_not_done, stop_not_words, stop_not_write, stop_read, stop_long, stop_bad, stop_guard}
 use Rattle.scenario_input.proofs.Completes.{stop_complete}
 use Rattle.cs_types.specs.Room.{Opening}
@@ -114,17 +113,16 @@ as_told line kind bad same = let is : record { line = line; kind = kind } ≡ ba
 
 -- ---- how it ends
 
-pub ends_done : {S K T : Type 0} (IsOwn : List (String Global) → Type 0) (IsOutcome : Opening → History → Type 0) (words : List (String Global)) (caps : List ℕ) (source : Used S) (sink : Used K) (read : Result T Stop) (value : T) →
-    HasRead caps source read → read ≡ Ok value → IsOwn words → IsFaultless sink → (scenario : Scenario) →
+pub ends_done : {S K T : Type 0} (IsOutcome : Opening → History → Type 0) (caps : List ℕ) (source : Used S) (sink : Used K) (read : Result T Stop) (value : T) →
+    HasRead caps source read → read ≡ Ok value → IsFaultless sink → (scenario : Scenario) →
     Outputs IsOutcome (opened_with caps scenario) (source.bytes source.before) (source.bytes source.after) (sink.bytes sink.before) (sink.bytes sink.after) →
     first_bad caps scenario.teaches ≡ None →
-    EndsAs IsOwn IsOutcome words caps source sink status.Done
-ends_done IsOwn IsOutcome words caps source sink read value has is own calm scenario outputs taught =
+    EndsAs IsOutcome caps source sink status.Done
+ends_done IsOutcome caps source sink read value has is calm scenario outputs taught =
     record {
       done = λ _. (scenario, outputs);
       faultless = (λ _. has.faultless (not_both read value ReadFault is), λ _. calm);
-      bad_words = (λ e. absurd cc, λ no. absurd (no own));
-      unread = λ e. absurd cc;
+      good_words = λ e. absurd cc;
       read_fault = λ e. absurd cc;
       too_long = same_where_told (source.bytes source.before) _ (λ e. absurd (not_both read value TooLong is e)) (λ e. absurd cc) has.too_long;
       most = has.most;
@@ -132,23 +130,22 @@ ends_done IsOwn IsOutcome words caps source sink read value has is own calm scen
       bad_guard = λ line kind e. absurd cc;
       write_fault = λ e. absurd cc;
       unwritten = λ other _. absurd (other refl);
-      complete = λ told words valid text fits all calm_source calm_sink. inl refl;
-      told_line = λ bytes line kind words told fits bad calm_source. absurd (not_bad scenario bytes line kind _ _ told bad outputs.reads);
-      told = λ told bad words valid text fits one calm_source.
+      complete = λ told valid text fits all calm_source calm_sink. inl refl;
+      told_line = λ bytes line kind told fits bad calm_source. absurd (not_bad scenario bytes line kind _ _ told bad outputs.reads);
+      told = λ told bad valid text fits one calm_source.
           absurd (not_taught caps told scenario bad _ _ text valid outputs.reads one taught);
     }
 
-pub ends_write_fault : {S K T : Type 0} (IsOwn : List (String Global) → Type 0) (IsOutcome : Opening → History → Type 0) (words : List (String Global)) (caps : List ℕ) (source : Used S) (sink : Used K) (read : Result T Stop) (value : T) →
-    HasRead caps source read → read ≡ Ok value → IsOwn words → Failed sink → (scenario : Scenario) →
+pub ends_write_fault : {S K T : Type 0} (IsOutcome : Opening → History → Type 0) (caps : List ℕ) (source : Used S) (sink : Used K) (read : Result T Stop) (value : T) →
+    HasRead caps source read → read ≡ Ok value → Failed sink → (scenario : Scenario) →
     BreaksOff IsOutcome (opened_with caps scenario) (source.bytes source.before) (source.bytes source.after) (sink.bytes sink.before) (sink.bytes sink.after) →
     first_bad caps scenario.teaches ≡ None →
-    EndsAs IsOwn IsOutcome words caps source sink status.WriteFault
-ends_write_fault IsOwn IsOutcome words caps source sink read value has is own failed scenario breaks taught =
+    EndsAs IsOutcome caps source sink status.WriteFault
+ends_write_fault IsOutcome caps source sink read value has is failed scenario breaks taught =
     record {
       done = λ e. absurd cc;
       faultless = (λ _. has.faultless (not_both read value ReadFault is), λ other. absurd (other refl));
-      bad_words = (λ e. absurd cc, λ no. absurd (no own));
-      unread = λ e. absurd cc;
+      good_words = λ e. absurd cc;
       read_fault = λ e. absurd cc;
       too_long = same_where_told (source.bytes source.before) _ (λ e. absurd (not_both read value TooLong is e)) (λ e. absurd cc) has.too_long;
       most = has.most;
@@ -156,9 +153,9 @@ ends_write_fault IsOwn IsOutcome words caps source sink read value has is own fa
       bad_guard = λ line kind e. absurd cc;
       write_fault = λ _. (failed, (scenario, breaks));
       unwritten = λ _ other. absurd (other refl);
-      complete = λ told words valid text fits all calm_source calm_sink. absurd (omega (arith, failed, calm_sink));
-      told_line = λ bytes line kind words told fits bad calm_source. absurd (not_bad scenario bytes line kind _ _ told bad breaks.reads);
-      told = λ told bad words valid text fits one calm_source.
+      complete = λ told valid text fits all calm_source calm_sink. absurd (omega (arith, failed, calm_sink));
+      told_line = λ bytes line kind told fits bad calm_source. absurd (not_bad scenario bytes line kind _ _ told bad breaks.reads);
+      told = λ told bad valid text fits one calm_source.
           absurd (not_taught caps told scenario bad _ _ text valid breaks.reads one taught);
     }
 
@@ -168,20 +165,20 @@ pub written_of : {K : Type 0} (sink : Used K) (opening now : Opening) (run : His
 written_of sink opening now run ended same written = subst (λ (o : Opening). IsWritten sink o run ended) same written
 
 -- The run was written, or the sink failed.
-pub ends_written : {S K T : Type 0} (IsOwn : List (String Global) → Type 0) (IsOutcome : Opening → History → Type 0) (words : List (String Global)) (caps : List ℕ) (source : Used S) (sink : Used K) (read : Result T Stop) (value : T) (ended : Status) →
-    HasRead caps source read → read ≡ Ok value → IsOwn words → (scenario : Scenario) → first_bad caps scenario.teaches ≡ None →
+pub ends_written : {S K T : Type 0} (IsOutcome : Opening → History → Type 0) (caps : List ℕ) (source : Used S) (sink : Used K) (read : Result T Stop) (value : T) (ended : Status) →
+    HasRead caps source read → read ≡ Ok value → (scenario : Scenario) → first_bad caps scenario.teaches ≡ None →
     Reads scenario (source.bytes source.before) (source.bytes source.after) → (run : History) → IsOutcome (opened_with caps scenario) run →
     AreMade run → IsWritten sink (opened_with caps scenario) run ended →
-    EndsAs IsOwn IsOutcome words caps source sink ended
-ends_written IsOwn IsOutcome words caps source sink read value ended has is own scenario taught reads run outcome made written =
+    EndsAs IsOutcome caps source sink ended
+ends_written IsOutcome caps source sink read value ended has is scenario taught reads run outcome made written =
     elim written.either [
       | inl done ↦
           rw done
-          (ends_done IsOwn IsOutcome words caps source sink read value has is own (written.faultless done) scenario
+          (ends_done IsOutcome caps source sink read value has is (written.faultless done) scenario
           (record { reads = reads; run = run; outcome = outcome; writes = written.whole done; spelled = spelled done }) taught)
       | inr fault ↦
           rw fault
-          (ends_write_fault IsOwn IsOutcome words caps source sink read value has is own (omega (arith, written.failed fault, written.few)) scenario
+          (ends_write_fault IsOutcome caps source sink read value has is (omega (arith, written.failed fault, written.few)) scenario
           (record { reads = reads; run = run; outcome = outcome; writes = written.prefix }) taught)
     ] where
       spelled : ended ≡ status.Done → (begun : Opening) (other : History) → All IsEntry other →
@@ -189,15 +186,14 @@ ends_written IsOwn IsOutcome words caps source sink read value ended has is own 
       spelled done begun other is same =
           written.one begun other is (λ k d lt. record { made = made k d lt; reply = written.numbers done k d lt }) same
 
-pub ends_stopped : {S K T : Type 0} (IsOwn : List (String Global) → Type 0) (IsOutcome : Opening → History → Type 0) (words : List (String Global)) (caps : List ℕ) (source : Used S) (sink : Used K) (read : Result T Stop) (stop : Stop) →
-    HasRead caps source read → read ≡ Err stop → IsOwn words → sink.after ≡ sink.before →
-    EndsAs IsOwn IsOutcome words caps source sink (status_of stop)
-ends_stopped IsOwn IsOutcome words caps source sink read stop has is own same =
+pub ends_stopped : {S K T : Type 0} (IsOutcome : Opening → History → Type 0) (caps : List ℕ) (source : Used S) (sink : Used K) (read : Result T Stop) (stop : Stop) →
+    HasRead caps source read → read ≡ Err stop → sink.after ≡ sink.before →
+    EndsAs IsOutcome caps source sink (status_of stop)
+ends_stopped IsOutcome caps source sink read stop has is same =
     record {
       done = λ e. absurd (stop_not_done stop e);
       faultless = (λ other. has.faultless (λ e. other (ap status_of (same_error read stop ReadFault is e))), λ _. ap sink.faults same);
-      bad_words = (λ e. absurd (stop_not_words stop e), λ no. absurd (no own));
-      unread = λ e. absurd (stop_not_words stop e);
+      good_words = λ e. absurd (stop_not_words stop e);
       read_fault = λ e. omega (arith, has.failed (is ∙ ap Err (stop_read stop e)), has.few);
       too_long =
           same_where_told (source.bytes source.before) _ (λ e. ap status_of (same_error read stop TooLong is e)) (λ e. is ∙ ap Err (stop_long stop e)) has.too_long;
@@ -206,19 +202,19 @@ ends_stopped IsOwn IsOutcome words caps source sink read stop has is own same =
       bad_guard = λ line kind e. has.bad_guard line kind (is ∙ ap Err (stop_guard stop line kind e));
       write_fault = λ e. absurd (stop_not_write stop e);
       unwritten = λ _ _. same;
-      complete = λ scenario words valid text fits all calm_source calm_sink. elim (why scenario valid text fits calm_source) [
+      complete = λ scenario valid text fits all calm_source calm_sink. elim (why scenario valid text fits calm_source) [
         | inl memory ↦ inr memory
         | inr guard ↦
             let bad = has.bad_guard guard.0 guard.1 (is ∙ ap Err guard.2) in
             absurd (both_none _ _ (first_told caps scenario guard.0 guard.1 _ _ text valid bad) all)
       ];
-      told_line = λ bytes line kind words told fits bad calm_source.
+      told_line = λ bytes line kind told fits bad calm_source.
           let calm = λ (e : read ≡ Err ReadFault). let rose = has.failed e in let few = has.few in absurd (omega (arith, calm_source)) in
           elim (has.first bytes line kind told fits bad calm) [
             | inl found ↦ inl (ap status_of (same_error read stop (BadScenario line kind) is found))
             | inr memory ↦ inr (ap status_of (same_error read stop OutOfMemory is memory))
           ];
-      told = λ scenario bad words valid text fits one calm_source. elim (why scenario valid text fits calm_source) [
+      told = λ scenario bad valid text fits one calm_source. elim (why scenario valid text fits calm_source) [
         | inl memory ↦ inr memory
         | inr guard ↦
             let told = first_told caps scenario guard.0 guard.1 _ _ text valid (has.bad_guard guard.0 guard.1 (is ∙ ap Err guard.2)) in
@@ -236,25 +232,3 @@ ends_stopped IsOwn IsOutcome words caps source sink read stop has is own same =
           subst (λ (told : Option (List ℕ)). IsBad line kind told (source.bytes source.after)) text (has.bad line kind (is ∙ ap Err e)) in
           let failed = λ (e : stop ≡ ReadFault). has.failed (is ∙ ap Err e) in
           stop_complete stop (source.bytes source.after) (source.faults source.before) (source.faults source.after) scenario long bad failed has.few valid fits calm_source
-
-pub ends_unread : {S K : Type 0} (IsOwn : List (String Global) → Type 0) (IsOutcome : Opening → History → Type 0) (words : List (String Global)) (caps : List ℕ) (source : Used S) (sink : Used K) → (IsOwn words → ⊥) →
-    source.after ≡ source.before → sink.after ≡ sink.before → EndsAs IsOwn IsOutcome words caps source sink status.BadWords
-ends_unread IsOwn IsOutcome words caps source sink other same same_sink =
-    let none : count_read (source.bytes source.before) (source.bytes source.after) ≡ 0 =
-    ap (λ s. count_read (source.bytes source.before) (source.bytes s)) same ∙ count_none (source.bytes source.before) in
-    record {
-      done = λ e. absurd cc;
-      faultless = (λ _. ap source.faults same, λ _. ap sink.faults same_sink);
-      bad_words = (λ _. other, λ _. refl);
-      unread = λ _. same;
-      read_fault = λ e. absurd cc;
-      too_long = where_told (source.bytes source.before) (λ e. absurd cc, λ more. absurd (omega (arith, more, none)));
-      most = where_told (source.bytes source.before) (omega (arith, none));
-      bad_scenario = λ line kind e. absurd cc;
-      bad_guard = λ line kind e. absurd cc;
-      write_fault = λ e. absurd cc;
-      unwritten = λ _ _. same_sink;
-      complete = λ scenario words valid text fits all calm_source calm_sink. absurd (other words);
-      told_line = λ bytes line kind words told fits bad calm_source. absurd (other words);
-      told = λ scenario bad words valid text fits one calm_source. absurd (other words);
-    }

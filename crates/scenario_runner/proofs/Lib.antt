@@ -1,4 +1,5 @@
-pub mod OneWord
 pub mod Endings
 pub mod Playable
+pub mod Asked
+pub mod Drills
 mod Runs

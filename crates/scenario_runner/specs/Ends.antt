@@ -1,6 +1,5 @@
--- Ends: how a command ends. When each status comes, what was read for it, and what was written.
-use Rattle.std.specs.Prelude.{◌≡◌, ◌≢◌, ◌⊎◌, ◌↔◌, ℕ, ◌+◌, ◌<◌, ◌≤◌, List, length, Option, Some, None, IfSome, String}
-use Rattle.std.specs.declared.alloc.Global.{Global}
+-- Ends: how a command ends with its own words. When each status comes, what was read for it, and what was written.
+use Rattle.std.specs.Prelude.{◌≡◌, ◌≢◌, ◌⊎◌, ◌↔◌, ℕ, ◌+◌, ◌<◌, ◌≤◌, List, length, Option, Some, None, IfSome}
 use Rattle.cs_types.specs.declared.scenario.Scenario.{Scenario}
 use Rattle.cs_types.specs.Scenario.{IsValid}
 use Rattle.scenario_text.specs.declared.fault.BadKind.{BadKind}
@@ -13,8 +12,9 @@ use Rattle.scenario_input.specs.Input.{Reads, IsBad, input_limit, count_read}
 use Rattle.scenario_input.specs.Teaching.{BadTeach, first_bad}
 use Rattle.cs_types.specs.Room.{Opening}
 use Rattle.cs_types.specs.History.{History}
-use Rattle.scenario_runner.specs.Commands.{IsReplay, IsRace}
-use Rattle.scenario_runner.specs.Outcomes.{opened_with, IsReplayHistory, IsRaceHistory, Outputs, BreaksOff}
+use Rattle.command_words.specs.declared.command.Command.{Command}
+use Rattle.command_words.specs.declared.command.Command.TheVariants.{Replay, Race, Drill}
+use Rattle.scenario_runner.specs.Outcomes.{opened_with, IsReplayHistory, IsRaceHistory, Outputs, BreaksOff, DrillOutputs, DrillBreaksOff}
 
 -- a device before and after a call: what it tells of its bytes, and the count of its faults
 pub record Used (D : Type 0) : Type 0 where
@@ -38,17 +38,16 @@ pub record IsBadGuard (caps : List ℕ) (at : ℕ) (what : GuardKind) (input lef
   pub reads : Reads scenario input left
   pub first : first_bad caps scenario.teaches ≡ Some (record { line = at; kind = what })
 
--- How a command ends, over a source and a sink, with guards that can be taught so many pairs each: a command of which it is
--- known which words are its own, and what the history of a run is. Out of memory alone is free.
-pub record EndsAs {S K : Type 0} (IsOwn : List (String Global) → Type 0) (IsOutcome : Opening → History → Type 0) (words : List (String Global)) (caps : List ℕ) (source : Used S) (sink : Used K) (status : Status) : Type 0 where
-  -- where it is done, what was read is the text of a scenario, and what was written is the history of a run and its report
+-- How a command ends that plays an input, over a source and a sink, with guards that can be taught so many pairs each, where
+-- it is known what the history of a run is. Out of memory alone is free.
+pub record EndsAs {S K : Type 0} (IsOutcome : Opening → History → Type 0) (caps : List ℕ) (source : Used S) (sink : Used K) (status : Status) : Type 0 where
+  -- where it is done, what was read is the text of a scenario, and what was written is the history of its run and its report
   pub done : status ≡ Done → (scenario : Scenario) ×
       Outputs IsOutcome (opened_with caps scenario) (source.bytes source.before) (source.bytes source.after) (sink.bytes sink.before) (sink.bytes sink.after)
   -- no fault of the source was counted, unless a read fault is the answer, and none of the sink, unless a write fault is
   pub faultless : (status ≢ ReadFault → IsFaultless source) × (status ≢ WriteFault → IsFaultless sink)
-  -- exactly where the words are not its own, and then nothing was read
-  pub bad_words : (status ≡ BadWords) ↔ ¬ IsOwn words
-  pub unread : status ≡ BadWords → source.after ≡ source.before
+  -- its own words are never bad
+  pub good_words : status ≢ BadWords
   -- only where the source failed
   pub read_fault : status ≡ ReadFault → Failed source
   -- exactly where more bytes were read than an input may have, which a source tells that tells its bytes
@@ -69,24 +68,44 @@ pub record EndsAs {S K : Type 0} (IsOwn : List (String Global) → Type 0) (IsOu
   -- nothing was written but where it is done or the sink failed
   pub unwritten : status ≢ Done → status ≢ WriteFault → sink.after ≡ sink.before
   -- it gives up on no valid scenario all of whose teach lines can be carried out, where nothing failed
-  pub complete : (scenario : Scenario) → IsOwn words → IsValid scenario →
+  pub complete : (scenario : Scenario) → IsValid scenario →
       source.bytes source.before ≡ Some (scenario_text scenario) → length (scenario_text scenario) ≤ input_limit →
       first_bad caps scenario.teaches ≡ None → IsFaultless source → IsFaultless sink →
       (status ≡ Done) ⊎ (status ≡ OutOfMemory)
   -- where the input has a first bad line, it tells that and its first kind
-  pub told_line : (bytes : List ℕ) (line : ℕ) (kind : BadKind) → IsOwn words →
+  pub told_line : (bytes : List ℕ) (line : ℕ) (kind : BadKind) →
       source.bytes source.before ≡ Some bytes → length bytes ≤ input_limit → IsFirstBad (lines_in bytes) line kind → IsFaultless source →
       (status ≡ BadScenario line kind) ⊎ (status ≡ OutOfMemory)
   -- and where a teach line cannot be carried out, it tells the first
-  pub told : (scenario : Scenario) (bad : BadTeach) → IsOwn words → IsValid scenario →
+  pub told : (scenario : Scenario) (bad : BadTeach) → IsValid scenario →
       source.bytes source.before ≡ Some (scenario_text scenario) → length (scenario_text scenario) ≤ input_limit →
       first_bad caps scenario.teaches ≡ Some bad → IsFaultless source →
       (status ≡ BadGuard bad.line bad.kind) ⊎ (status ≡ OutOfMemory)
 
 -- how the command `replay` ends
-abbrev pub EndsAsReplay : {S K : Type 0} → List (String Global) → List ℕ → Used S → Used K → Status → Type 0
-EndsAsReplay = EndsAs IsReplay IsReplayHistory
+abbrev pub EndsAsReplay : {S K : Type 0} → List ℕ → Used S → Used K → Status → Type 0
+EndsAsReplay = EndsAs IsReplayHistory
 
 -- how the command `race` ends
-abbrev pub EndsAsRace : {S K : Type 0} → List (String Global) → List ℕ → Used S → Used K → Status → Type 0
-EndsAsRace = EndsAs IsRace IsRaceHistory
+abbrev pub EndsAsRace : {S K : Type 0} → List ℕ → Used S → Used K → Status → Type 0
+EndsAsRace = EndsAs IsRaceHistory
+
+-- How the command `drill` ends, by its seed. It has no input. Out of memory alone is free.
+pub record EndsAsDrill {K : Type 0} (seed : ℕ) (sink : Used K) (status : Status) : Type 0 where
+  -- there is no other end
+  pub either : (status ≡ Done) ⊎ ((status ≡ WriteFault) ⊎ (status ≡ OutOfMemory))
+  -- where it is done, what was written is the output of the drill
+  pub done : status ≡ Done → DrillOutputs seed (sink.bytes sink.before) (sink.bytes sink.after)
+  -- only where the sink failed, and then a prefix of that was written
+  pub write_fault : status ≡ WriteFault → Failed sink × DrillBreaksOff seed (sink.bytes sink.before) (sink.bytes sink.after)
+  -- no fault of the sink was counted, unless a write fault is the answer
+  pub faultless : status ≢ WriteFault → IsFaultless sink
+  -- without memory nothing was written
+  pub unwritten : status ≡ OutOfMemory → sink.after ≡ sink.before
+
+-- how each command ends
+abbrev pub EndsBy : {S K : Type 0} → Command → List ℕ → Used S → Used K → Status → Type 0
+EndsBy Replay caps source sink status = EndsAsReplay caps source sink status
+EndsBy Race caps source sink status = EndsAsRace caps source sink status
+-- a drill reads nothing
+EndsBy (Drill seed) caps source sink status = EndsAsDrill seed sink status × (source.after ≡ source.before)

@@ -17,6 +17,8 @@ use Rattle.cs_types.specs.Laws.{SelectsForTheCore, scheduling_room, cpu_of, IsSe
 use Rattle.cs_outside.specs.Device.{appended, WritesPrefix}
 use Rattle.scenario_text.specs.Entry.{IsEntry}
 use Rattle.room_report.specs.Report.{output_text}
+use Rattle.room_drill.specs.Drill.{drill_scenario}
+use Rattle.room_drill.specs.Summary.{summary_text}
 use Rattle.scenario_input.specs.Input.{Reads}
 
 -- what a machine begins with that plays a scenario with guards which can be taught so many pairs each
@@ -84,3 +86,19 @@ pub record BreaksOff (IsOutcome : Opening → History → Type 0) (opening : Ope
   pub run : History
   pub outcome : IsOutcome opening run
   pub writes : WritesPrefix written (output_text opening run) now
+
+-- what a machine begins with that plays the drill of a seed: no guard is handed in
+abbrev pub drill_opening : ℕ → Opening
+drill_opening seed = record { scenario = drill_scenario seed; guards = 0 }
+
+-- What was written is the output of a drill: the summary of a replay of its scenario, and its report.
+pub record DrillOutputs (seed : ℕ) (written now : Option (List ℕ)) : Type 0 where
+  pub run : History
+  pub outcome : IsReplayHistory (drill_opening seed) run
+  pub writes : now ≡ appended written (summary_text seed (drill_opening seed) run)
+
+-- Or a prefix of that output was written.
+pub record DrillBreaksOff (seed : ℕ) (written now : Option (List ℕ)) : Type 0 where
+  pub run : History
+  pub outcome : IsReplayHistory (drill_opening seed) run
+  pub writes : WritesPrefix written (summary_text seed (drill_opening seed) run) now

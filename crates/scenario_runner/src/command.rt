@@ -1,102 +1,25 @@
 //! The commands, each by its words.
 
-ghost use Rattle.std.specs.Prelude.{◌≡◌, ◌≢◌, ◌⊎◌, ◌↔◌, ◌+◌, ◌-◌, ◌*◌, ◌^◌, ◌<◌, ◌≤◌, [], length, map, All, Err, None, IfOk, IfSome, IsTrue, vec_len};
-ghost use Rattle.cs_types.specs.Room.{Opening};
-ghost use Rattle.cs_types.specs.History.{History};
-ghost use Rattle.cs_outside.specs.Device.{Rose, appended, WritesPrefix};
-ghost use Rattle.scenario_text.specs.Entry.{FitsReply, IsEntry};
-ghost use Rattle.room_report.specs.Report.{output_text};
-ghost use Rattle.scenario_text.specs.Faults.{lines_in, IsFirstBad};
-ghost use Rattle.scenario_input.specs.Input.{Reads, IsBad, input_limit, count_read};
-ghost use Rattle.scenario_input.specs.Teaching.{first_bad};
-ghost use Rattle.scenario_runner.specs.Commands.{IsOnly, IsReplay, IsRace};
-ghost use Rattle.scenario_runner.specs.Outcomes.{opened_with};
-ghost use Rattle.scenario_runner.specs.Ends.{IsBadGuard, EndsAsReplay, EndsAsRace};
+ghost use Rattle.std.specs.Prelude.{◌≡◌, ◌↔◌, ℕ, ◌-◌, ◌^◌, ◌<◌, ◌≤◌, [], map, All, vec_len};
+ghost use Rattle.command_words.specs.declared.command.Command.{Command as SomeCommand};
+ghost use Rattle.command_words.specs.declared.command.Command.TheVariants.{Replay, Drill};
+ghost use Rattle.command_words.specs.Asks.{Asks};
+ghost use Rattle.scenario_runner.specs.Ends.{EndsAsReplay, EndsAsDrill, EndsBy};
 
+use crate::drilled::drilled;
+use crate::played::{raced, replayed};
+use command_words::{Command, command_of, drill_seed, is_replay};
 use cs_outside::{Gate, Guard, Sink, Source};
-use cs_types::{Room, Scenario};
-use plain_room::PlainRoom;
-use room_report::output;
-use scenario_input::{Status, Stop, play, read_scenario, taught};
+use scenario_input::Status;
 use std::alloc::Global;
 use std::sync::Wait;
 use std::thread::Threads;
 
-/// The scenario that the input spells, and the room of it before its first step, with the guards that it
-/// teaches.
-fn opened<S: Source, G: Guard>(
-    alloc: Global,
-    source: &mut S,
-    guards: Vec<G>,
-) -> Result<(Scenario, PlainRoom<G>), Stop>
-    requires few { vec_len guards ≤ 16 }
-    requires untaught { All (λ guard. G.pairs guard ≡ []) guards.items }
-    requires unasked { All (λ guard. G.asked guard ≡ 0) guards.items }
-
-    ensures reads { IfOk result (λ opened. Reads opened.0 (S.left source.old) (S.left source.new)) }
-    ensures taught { IfOk result (λ opened. first_bad (map G.cap guards.items) opened.0.teaches ≡ None) }
-    ensures opening { IfOk result (λ opened. opened.1.opening ≡ opened_with (map G.cap guards.items) opened.0) }
-    ensures empty { IfOk result (λ opened. opened.1.steps ≡ []) }
-    ensures spare { IfOk result (λ opened.
-        opened.1.spare ≡ length opened.0.steps + opened.0.siblings * opened.0.siblings) }
-
-    ensures too_long { IfSome (S.left source.old) (λ _.
-        (result ≡ Err Stop.TooLong) ↔ (input_limit < count_read (S.left source.old) (S.left source.new))) }
-    ensures most { IfSome (S.left source.old) (λ _.
-        count_read (S.left source.old) (S.left source.new) ≤ input_limit + 1) }
-    ensures bad { (line : _) (kind : _) → result ≡ Err (Stop.BadScenario line kind) →
-        IsBad line kind (S.left source.old) (S.left source.new) }
-    ensures first { (bytes : _) (line : _) (kind : _) → S.left source.old ≡ Some bytes → length bytes ≤ input_limit →
-        IsFirstBad (lines_in bytes) line kind → result ≢ Err Stop.ReadFault →
-        (result ≡ Err (Stop.BadScenario line kind)) ⊎ (result ≡ Err Stop.OutOfMemory) }
-    ensures bad_guard { (line : _) (kind : _) → result ≡ Err (Stop.BadGuard line kind) →
-        IsBadGuard (map G.cap guards.items) line kind (S.left source.old) (S.left source.new) }
-    ensures faultless { result ≢ Err Stop.ReadFault → S.faults source.new ≡ S.faults source.old }
-    ensures failed { result ≡ Err Stop.ReadFault → Rose (S.faults source.old) (S.faults source.new) }
-    ensures counted { S.faults source.old ≤ S.faults source.new }
-{
-    let scenario = read_scenario(alloc, source)?;
-    let guards = taught(alloc, guards, scenario.teaches.items())?;
-    let room = PlainRoom::start(alloc, &scenario, guards)?;
-    Ok((scenario, room))
-}
-
-/// Whether the words are this one, with no other.
-fn is_only(words: &[String], wanted: &str) -> bool
-    ensures { IsTrue result ↔ IsOnly wanted.now words.now }
-{
-    match words {
-        [word] => word.as_str() == wanted,
-        _ => false,
-    }
-}
-
-/// Writes the line of each entry and the report, and says how that ended.
-fn write_output<R: Room, K: Sink>(room: &R, sink: &mut K) -> Status
-    ensures either { (result ≡ Status.Done) ⊎ (result ≡ Status.WriteFault) }
-    ensures whole { result ≡ Status.Done → K.written sink.new ≡ appended (K.written sink.old) (output_text (R.opening room.now) (R.history room.now)) }
-    ensures prefix { WritesPrefix (K.written sink.old) (output_text (R.opening room.now) (R.history room.now)) (K.written sink.new) }
-
-    ensures faultless { result ≡ Status.Done → K.faults sink.new ≡ K.faults sink.old }
-    ensures failed { result ≡ Status.WriteFault → Rose (K.faults sink.old) (K.faults sink.new) }
-
-    // No other history has this text.
-    ensures one { (opening : Opening) (history : History) → All IsEntry history → All IsEntry (R.history room.now) →
-        output_text opening history ≡ output_text (R.opening room.now) (R.history room.now) →
-        history ≡ R.history room.now }
-    ensures numbers { result ≡ Status.Done → All (λ entry. FitsReply entry.reply) (R.history room.now) }
-{
-    match output(room, sink) {
-        Ok(()) => Status::Done,
-        Err(_) => Status::WriteFault,
-    }
-}
-
 /// Reads a scenario to its end, makes its steps in the order of their lines and then the entries of the
 /// end, and writes the line of each entry and the report, each line in one piece. It waits for nobody and always returns.
 ///
-/// The word is `replay`. Both counts of faults have to be below 2^64 - 1. At most 16 guards are handed in,
-/// which refuse nobody yet and were never asked. The scenario teaches them before it is played, and they are
+/// The word is `replay`; other words are refused. Both counts of faults have to be below 2^64 - 1. At most 16 guards are
+/// handed in, which refuse nobody yet and were never asked. The scenario teaches them before it is played, and they are
 /// dropped at the end.
 pub fn replay<S: Source, K: Sink, G: Guard>(
     alloc: Global,
@@ -112,62 +35,49 @@ pub fn replay<S: Source, K: Sink, G: Guard>(
     requires unasked { All (λ guard. G.asked guard ≡ 0) guards.items }
 
     // When each status comes, what was read for it, and what was written.
-    ensures { EndsAsReplay words.now (map G.cap guards.items)
+    ensures ends { Asks Replay words.now → EndsAsReplay (map G.cap guards.items)
         (record { bytes = S.left; faults = S.faults; before = source.old; after = source.new })
         (record { bytes = K.written; faults = K.faults; before = sink.old; after = sink.new }) result }
+
+    // Other words are refused, and no other. Nothing is read for them and nothing written.
+    ensures bad_words { (result ≡ Status.BadWords) ↔ ¬ Asks Replay words.now }
+    ensures unread { result ≡ Status.BadWords → source.new ≡ source.old }
+    ensures unwritten { result ≡ Status.BadWords → sink.new ≡ sink.old }
 {
-    if !is_only(words, "replay") {
+    if !is_replay(alloc, words) {
         return Status::BadWords;
     }
-    match opened(alloc, source, guards) {
-        Ok((scenario, mut room)) => {
-            play(&mut room, scenario.steps.items());
-            room.drain();
-            write_output(&room, sink)
-        }
-        Err(stop) => Status::from(stop),
-    }
+    replayed(alloc, source, sink, guards)
 }
 
-/// Reads a scenario to its end, lets its actors make their scripts beside each other, each in a worker of its own
-/// that passes the gate before each of its turns, makes the entries of the end, and writes what `replay` writes.
-/// It may wait for the room, and where the gate does.
+/// Draws the scenario of a seed, makes its steps in their order and then the entries of the end, and writes how many
+/// entries, picks and steal tries there were, and the report, each line in one piece. It reads nothing, waits for nobody
+/// and always returns.
 ///
-/// The word is `race`. Else it asks for what `replay` asks for.
-fn race<
-    T: Threads + Wait + AllocGlobal + Sync,
-    S: Source,
-    K: Sink,
-    P: Gate + Sync,
-    G: Guard + Send,
->(rt: &T, words: &[String], source: &mut S, sink: &mut K, gate: &P, guards: Vec<G>) -> Status
-    requires source { S.faults source.old < 2 ^ 64 - 1 }
+/// The words are `drill` and the seed, a decimal number from 0 to 4294967295 with no sign and no leading 0 but in `0`
+/// itself; other words are refused. The sink's count of faults has to be below 2^64 - 1.
+pub fn drill<K: Sink>(alloc: Global, words: &[String], sink: &mut K) -> Status
     requires sink { K.faults sink.old < 2 ^ 64 - 1 }
-    requires few { vec_len guards ≤ 16 }
-    requires untaught { All (λ guard. G.pairs guard ≡ []) guards.items }
-    requires unasked { All (λ guard. G.asked guard ≡ 0) guards.items }
 
-    // When each status comes, what was read for it, and what was written.
-    ensures { EndsAsRace words.now (map G.cap guards.items)
-        (record { bytes = S.left; faults = S.faults; before = source.old; after = source.new })
+    // When each status comes, and what was written.
+    ensures ends { (seed : ℕ) → Asks (Drill seed) words.now → EndsAsDrill seed
         (record { bytes = K.written; faults = K.faults; before = sink.old; after = sink.new }) result }
+
+    // Other words are refused, and no other. Nothing is written for them.
+    ensures bad_words { (result ≡ Status.BadWords) ↔ ((seed : ℕ) → ¬ Asks (Drill seed) words.now) }
+    ensures unwritten { result ≡ Status.BadWords → sink.new ≡ sink.old }
 {
-    if !is_only(words, "race") {
-        return Status::BadWords;
-    }
-    match opened(rt.alloc(), source, guards) {
-        Ok((scenario, room)) => match sibling_workers::race(rt, room, &scenario, gate) {
-            Ok(raced) => write_output(&raced, sink),
-            Err(_) => Status::OutOfMemory,
-        },
-        Err(stop) => Status::from(stop),
+    match drill_seed(alloc, words) {
+        Some(seed) => drilled(alloc, seed, sink),
+        None => Status::BadWords,
     }
 }
 
-/// Runs the command of the words. The word `replay` is that of `replay`, and does what it does, without waiting.
-/// With the word `race` each actor that has a step line makes its script in a worker of its own, and the order
-/// of the entries is that in which the workers come to the room. A worker passes the gate before each of its
-/// turns, also before the one that finds its script made. Other words are no command's.
+/// Runs the command of the words. The words of `replay` and of `drill` are those of these calls, and it does what they
+/// do, without waiting. With the word `race` a scenario is read as for `replay`. Each actor that has a step line makes its
+/// script in a worker of its own, and the order of the entries is that in which the workers come to the room. A worker
+/// passes the gate before each of its turns, also before the one that finds its script made. Other words are no
+/// command's.
 ///
 /// Else it asks for what `replay` asks for. With the word `race` it may wait, so its return is not promised.
 pub fn run<
@@ -183,22 +93,20 @@ pub fn run<
     requires untaught { All (λ guard. G.pairs guard ≡ []) guards.items }
     requires unasked { All (λ guard. G.asked guard ≡ 0) guards.items }
 
-    // When each status comes, what was read for it, and what was written, by the words.
-    ensures replay { IsReplay words.now → EndsAsReplay words.now (map G.cap guards.items)
-        (record { bytes = S.left; faults = S.faults; before = source.old; after = source.new })
-        (record { bytes = K.written; faults = K.faults; before = sink.old; after = sink.new }) result }
-    ensures race { IsRace words.now → EndsAsRace words.now (map G.cap guards.items)
+    // When each status comes, what was read for it, and what was written, by the command of the words.
+    ensures ends { (command : SomeCommand) → Asks command words.now → EndsBy command (map G.cap guards.items)
         (record { bytes = S.left; faults = S.faults; before = source.old; after = source.new })
         (record { bytes = K.written; faults = K.faults; before = sink.old; after = sink.new }) result }
 
     // Other words are refused, and no other. Nothing is read for them and nothing written.
-    ensures bad_words { (result ≡ Status.BadWords) ↔ ¬ (IsReplay words.now ⊎ IsRace words.now) }
+    ensures bad_words { (result ≡ Status.BadWords) ↔ ((command : SomeCommand) → ¬ Asks command words.now) }
     ensures unread { result ≡ Status.BadWords → source.new ≡ source.old }
     ensures unwritten { result ≡ Status.BadWords → sink.new ≡ sink.old }
 {
-    if is_only(words, "replay") {
-        replay(rt.alloc(), words, source, sink, guards)
-    } else {
-        race(rt, words, source, sink, gate, guards)
+    match command_of(rt.alloc(), words) {
+        Some(Command::Replay) => replayed(rt.alloc(), source, sink, guards),
+        Some(Command::Race) => raced(rt, source, sink, gate, guards),
+        Some(Command::Drill { seed }) => drilled(rt.alloc(), seed, sink),
+        None => Status::BadWords,
     }
 }

@@ -2,6 +2,8 @@
 #![tactic(auto)]
 
 mod command;
+mod drilled;
+mod played;
 
-pub use command::{replay, run};
+pub use command::{drill, replay, run};
 pub use scenario_input::{GuardKind, Status, play};

@@ -1,12 +1,11 @@
 use Rattle.std.proofs.Common.{◌≡◌, ◌∙◌, refl, ap, map}
 use Rattle.cs_types.specs.Room.{Opening}
 use Rattle.cs_types.specs.History.{history_of}
-use Rattle.scenario_runner.specs.Commands.{IsReplay}
 use Rattle.scenario_runner.specs.Outcomes.{opened_with, IsReplayHistory}
 use Rattle.scenario_runner.proofs.Runs.{drained_file, replay_history, replay_made}
-use Rattle.scenario_runner.proofs.Endings.{ends_written, ends_stopped, ends_unread, written_of, not_true}
+use Rattle.scenario_runner.proofs.Endings.{ends_written, ends_stopped, written_of}
 use Rattle.scenario_runner.proofs.Playable.{valid_playable}
-use Rattle.scenario_runner.proofs.command.replay.Goals as goal
+use Rattle.scenario_runner.proofs.played.replayed.Goals as goal
 
 pub returns-in-Ok : goal.returns-in-Ok
 returns-in-Ok g c =
@@ -17,7 +16,7 @@ returns-in-Ok g c =
     let drained = drained_file opening c.play.new.room.opening _ run played
     (c.play.ensures.history ∙ ap (history_of c.in-Ok.room.opening) c.items.ensures ∙ ap (λ (o : Opening). history_of o scenario.steps) c.in-Ok.ensures.opening)
     c.drain.ensures.entries in
-    ends_written IsReplay IsReplayHistory c.args.words.now _ _ _ c.opened.result (scenario, c.in-Ok.room) c.write_output.result
+    ends_written IsReplayHistory _ _ _ c.opened.result (scenario, c.in-Ok.room) c.write_output.result
     (record {
       faultless = c.opened.ensures.faultless;
       failed = c.opened.ensures.failed;
@@ -28,7 +27,7 @@ returns-in-Ok g c =
       first = c.opened.ensures.first;
       bad_guard = c.opened.ensures.bad_guard;
     })
-    c.in-Ok.is (c.is_only.ensures.0 c.if-not-is_only.false) scenario c.in-Ok.ensures.taught c.in-Ok.ensures.reads run
+    c.in-Ok.is scenario c.in-Ok.ensures.taught c.in-Ok.ensures.reads run
     (replay_history opening run (valid_playable scenario c.in-Ok.ensures.reads.valid) drained)
     (replay_made opening run (valid_playable scenario c.in-Ok.ensures.reads.valid) drained)
     (written_of _ opening c.drain.new.self.opening run _ (c.drain.ensures.opening ∙ played)
@@ -46,7 +45,7 @@ returns-in-Ok g c =
 pub returns-in-Err : goal.returns-in-Err
 returns-in-Err g c =
     rw c.from.ensures
-    (ends_stopped IsReplay IsReplayHistory c.args.words.now _ _ _ c.opened.result c.in-Err.stop
+    (ends_stopped IsReplayHistory _ _ _ c.opened.result c.in-Err.stop
     (record {
       faultless = c.opened.ensures.faultless;
       failed = c.opened.ensures.failed;
@@ -57,8 +56,4 @@ returns-in-Err g c =
       first = c.opened.ensures.first;
       bad_guard = c.opened.ensures.bad_guard;
     })
-    c.in-Err.is (c.is_only.ensures.0 c.if-not-is_only.false) refl)
-
-pub returns-then-not-is_only : goal.returns-then-not-is_only
-returns-then-not-is_only g c =
-    ends_unread IsReplay IsReplayHistory c.args.words.now _ _ _ (λ replay. not_true c.is_only.result c.if-not-is_only.true (c.is_only.ensures.1 replay)) refl refl
+    c.in-Err.is refl)

@@ -9,7 +9,7 @@ use Rattle.cs_types.specs.Room.{Opening}
 use Rattle.cs_types.specs.Guards.{GuardList, on_bench, guards_on_bench}
 use Rattle.cs_types.specs.declared.scenario.Scenario.{Scenario}
 use Rattle.cs_types.specs.declared.scenario.Teach.{Teach}
-use Rattle.scenario_runner.proofs.command.opened.Goals as goal
+use Rattle.scenario_runner.proofs.played.opened.Goals as goal
 
 -- as many guards are on the bench as were put there
 count_on_bench : (guards : GuardList) (teaches : List Teach) (count : ℕ) → guards ≡ guards_on_bench teaches count → length guards.all ≡ count

@@ -2,12 +2,11 @@ use Rattle.std.proofs.Common.{◌∙◌, refl, map, subst}
 use Rattle.cs_types.specs.Room.{Opening}
 use Rattle.cs_types.specs.History.{history_of}
 use Rattle.sibling_workers.specs.Race.{IsRaced}
-use Rattle.scenario_runner.specs.Commands.{IsRace}
 use Rattle.scenario_runner.specs.Outcomes.{opened_with, IsRaceHistory}
 use Rattle.scenario_runner.proofs.Runs.{race_history, race_made}
 use Rattle.scenario_runner.proofs.Endings.{ends_written, ends_stopped, written_of}
 use Rattle.scenario_runner.proofs.Playable.{valid_playable}
-use Rattle.scenario_runner.proofs.command.race.Goals as goal
+use Rattle.scenario_runner.proofs.played.raced.Goals as goal
 
 pub returns-in-Ok-race : goal.returns-in-Ok-race
 returns-in-Ok-race g c =
@@ -15,7 +14,7 @@ returns-in-Ok-race g c =
     let opening = opened_with (map g.G.Guard.cap c.args.guards.items) scenario in
     let run = history_of c.in-Ok-race.raced.opening c.in-Ok-race.raced.steps in
     let raced = subst (λ (o : Opening). IsRaced o run) c.in-Ok.ensures.opening c.in-Ok-race.ensures.raced in
-    ends_written IsRace IsRaceHistory c.args.words.now _ _ _ c.opened.result (scenario, c.in-Ok.room) c.write_output.result
+    ends_written IsRaceHistory _ _ _ c.opened.result (scenario, c.in-Ok.room) c.write_output.result
     (record {
       faultless = c.opened.ensures.faultless;
       failed = c.opened.ensures.failed;
@@ -26,7 +25,7 @@ returns-in-Ok-race g c =
       first = c.opened.ensures.first;
       bad_guard = c.opened.ensures.bad_guard;
     })
-    c.in-Ok.is (c.is_only.ensures.0 c.if-not-is_only.false) scenario c.in-Ok.ensures.taught c.in-Ok.ensures.reads run
+    c.in-Ok.is scenario c.in-Ok.ensures.taught c.in-Ok.ensures.reads run
     (race_history opening run (valid_playable scenario c.in-Ok.ensures.reads.valid) raced)
     (race_made opening run (valid_playable scenario c.in-Ok.ensures.reads.valid) raced)
     (written_of _ opening c.in-Ok-race.raced.opening run _ (c.in-Ok-race.ensures.opening ∙ c.in-Ok.ensures.opening)
@@ -44,7 +43,7 @@ returns-in-Ok-race g c =
 pub returns : goal.returns
 returns g c =
     rw c.from.ensures
-    (ends_stopped IsRace IsRaceHistory c.args.words.now _ _ _ c.opened.result c.in-Err.stop
+    (ends_stopped IsRaceHistory _ _ _ c.opened.result c.in-Err.stop
     (record {
       faultless = c.opened.ensures.faultless;
       failed = c.opened.ensures.failed;
@@ -55,4 +54,4 @@ returns g c =
       first = c.opened.ensures.first;
       bad_guard = c.opened.ensures.bad_guard;
     })
-    c.in-Err.is (c.is_only.ensures.0 c.if-not-is_only.false) refl)
+    c.in-Err.is refl)

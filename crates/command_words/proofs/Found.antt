@@ -1,0 +1,19 @@
+-- Found: the command that is found in words is the one that they ask for, and no other.
+use Rattle.std.proofs.Common.{◌≡◌, ◌↔◌, ◌∙◌, sym, List, Option, Some, None}
+use Rattle.std.specs.Prelude.{◌≢◌, String}
+use Rattle.std.specs.declared.alloc.Global.{Global}
+use Rattle.command_words.specs.declared.command.Command.{Command}
+use Rattle.command_words.specs.Asks.{Asks}
+
+-- what is found in words: the command that they ask for, or nothing
+abbrev pub Finds : Option Command → List (String Global) → Type 0
+Finds found words = (command : Command) → (found ≡ Some command) ↔ Asks command words
+
+pub only : (found : Option Command) (words : List (String Global)) (mine command : Command) → Finds found words → found ≡ Some mine → Asks command words → mine ≡ command
+only found words mine command finds is asks = let same : Some mine ≡ Some command = sym is ∙ (finds command).1 asks in cc
+
+pub not_asked : (found : Option Command) (words : List (String Global)) (mine command : Command) → Finds found words → found ≡ Some mine → mine ≢ command → ¬ Asks command words
+not_asked found words mine command finds is other asks = other (only found words mine command finds is asks)
+
+pub none_asked : (found : Option Command) (words : List (String Global)) → Finds found words → found ≡ None → (command : Command) → ¬ Asks command words
+none_asked found words finds is command asks = let wrong : None ≡ Some command = sym is ∙ (finds command).1 asks in cc

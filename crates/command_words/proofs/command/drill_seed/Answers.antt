@@ -1,0 +1,29 @@
+use Rattle.std.proofs.Common.{◌≡◌, ◌∙◌, ap, Some}
+use Rattle.command_words.specs.declared.command.Command.TheVariants.{Replay, Race, Drill}
+use Rattle.command_words.proofs.Found.{none_asked, not_asked, only}
+use Rattle.command_words.proofs.command.drill_seed.Goals as goal
+
+pub returns-in-Some-Drill : goal.returns-in-Some-Drill
+returns-in-Some-Drill c =
+    let is = c.in-Some-Drill.is ∙ ap Some c.in-Some-Drill.field-0-is in
+    λ seed. (
+      λ e. let same : c.in-Some-Drill.seed ≡ seed = cc in (c.command_of.ensures.asked (Drill seed)).0 (is ∙ ap (λ n. Some (Drill n)) same),
+      λ asks. let same = only c.command_of.result c.args.words.now (Drill c.in-Some-Drill.seed) (Drill seed) c.command_of.ensures.asked is asks in cc,
+    )
+
+pub returns-in-Some-Replay : goal.returns-in-Some-Replay
+returns-in-Some-Replay c =
+    λ seed. (
+      λ e. absurd cc,
+      λ asks. absurd (not_asked c.command_of.result c.args.words.now Replay (Drill seed) c.command_of.ensures.asked (c.in-Some-Replay.is ∙ ap Some c.in-Some-Replay.field-0-is) (λ e. cc) asks),
+    )
+
+pub returns-in-Some-Race : goal.returns-in-Some-Race
+returns-in-Some-Race c =
+    λ seed. (
+      λ e. absurd cc,
+      λ asks. absurd (not_asked c.command_of.result c.args.words.now Race (Drill seed) c.command_of.ensures.asked (c.in-Some-Race.is ∙ ap Some c.in-Some-Race.field-0-is) (λ e. cc) asks),
+    )
+
+pub returns-in-None : goal.returns-in-None
+returns-in-None c = λ seed. (λ e. absurd cc, λ asks. absurd (none_asked c.command_of.result c.args.words.now c.command_of.ensures.asked c.in-None.is (Drill seed) asks))

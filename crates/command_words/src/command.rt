@@ -1,0 +1,67 @@
+//! The commands, each by its words.
+
+ghost use Rattle.std.specs.Prelude.{◌≡◌, ◌↔◌, ℕ, IsTrue, Some};
+ghost use Rattle.command_words.specs.declared.command.Command.TheVariants.{Replay, Drill};
+ghost use Rattle.command_words.specs.Asks.{Asks};
+
+use crate::parser::parsed;
+use crate::seed::canonical;
+use std::alloc::Global;
+
+/// What the program is asked to do.
+#[derive(Clone, Copy, Debug, PartialEq, Eq)]
+pub enum Command {
+    /// `replay`: a scenario is played in the order of its lines.
+    Replay,
+    /// `race`: each actor of a scenario makes its script in a worker of its own.
+    Race,
+    /// `drill` and a seed: the scenario that the seed gives is played.
+    Drill { seed: u32 },
+}
+
+/// The command that the words spell letter by letter. It takes no memory.
+fn spelled(words: &[String]) -> Option<Command>
+    ensures asked { (command : Command) → (result ≡ Some command) ↔ Asks command words.now }
+{
+    match words {
+        [word] if word.as_str() == "replay" => Some(Command::Replay),
+        [word] if word.as_str() == "race" => Some(Command::Race),
+        [word, number] if word.as_str() == "drill" => {
+            canonical(number).map(|seed| Command::Drill { seed })
+        }
+        _ => None,
+    }
+}
+
+/// The command that the words ask for, or `None` where they are no command's. A seed is a decimal number below
+/// 4,294,967,296, with no sign and no leading 0 but in `0` itself. Where there is no memory to parse the words,
+/// they are looked at letter by letter, so the answer is the same with little memory and with much.
+pub fn command_of(alloc: Global, words: &[String]) -> Option<Command>
+    ensures asked { (command : Command) → (result ≡ Some command) ↔ Asks command words.now }
+{
+    parsed(alloc, words).unwrap_or_else(|_| spelled(words))
+}
+
+/// Whether the words ask for a replay.
+pub fn is_replay(alloc: Global, words: &[String]) -> bool
+    ensures { IsTrue result ↔ Asks Replay words.now }
+{
+    match command_of(alloc, words) {
+        Some(Command::Replay) => true,
+        Some(Command::Race) => false,
+        Some(Command::Drill { .. }) => false,
+        None => false,
+    }
+}
+
+/// The seed of the drill that the words ask for, or `None` where they ask for none.
+pub fn drill_seed(alloc: Global, words: &[String]) -> Option<u32>
+    ensures { (seed : ℕ) → (result ≡ Some seed) ↔ Asks (Drill seed) words.now }
+{
+    match command_of(alloc, words) {
+        Some(Command::Drill { seed }) => Some(seed),
+        Some(Command::Replay) => None,
+        Some(Command::Race) => None,
+        None => None,
+    }
+}

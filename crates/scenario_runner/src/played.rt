@@ -1,0 +1,139 @@
+//! The commands that play an input, once their words are read.
+
+ghost use Rattle.std.specs.Prelude.{◌≡◌, ◌≢◌, ◌⊎◌, ◌↔◌, ◌+◌, ◌-◌, ◌*◌, ◌^◌, ◌<◌, ◌≤◌, [], length, map, All, Err, None, IfOk, IfSome, vec_len};
+ghost use Rattle.cs_types.specs.Room.{Opening};
+ghost use Rattle.cs_types.specs.History.{History};
+ghost use Rattle.cs_outside.specs.Device.{Rose, appended, WritesPrefix};
+ghost use Rattle.scenario_text.specs.Entry.{FitsReply, IsEntry};
+ghost use Rattle.room_report.specs.Report.{output_text};
+ghost use Rattle.scenario_text.specs.Faults.{lines_in, IsFirstBad};
+ghost use Rattle.scenario_input.specs.Input.{Reads, IsBad, input_limit, count_read};
+ghost use Rattle.scenario_input.specs.Teaching.{first_bad};
+ghost use Rattle.scenario_runner.specs.Outcomes.{opened_with};
+ghost use Rattle.scenario_runner.specs.Ends.{IsBadGuard, EndsAsReplay, EndsAsRace};
+
+use cs_outside::{Gate, Guard, Sink, Source};
+use cs_types::{Room, Scenario};
+use plain_room::PlainRoom;
+use room_report::output;
+use scenario_input::{Status, Stop, play, read_scenario, taught};
+use std::alloc::Global;
+use std::sync::Wait;
+use std::thread::Threads;
+
+/// The scenario that the input spells, and the room of it before its first step, with the guards that it
+/// teaches.
+fn opened<S: Source, G: Guard>(
+    alloc: Global,
+    source: &mut S,
+    guards: Vec<G>,
+) -> Result<(Scenario, PlainRoom<G>), Stop>
+    requires few { vec_len guards ≤ 16 }
+    requires untaught { All (λ guard. G.pairs guard ≡ []) guards.items }
+    requires unasked { All (λ guard. G.asked guard ≡ 0) guards.items }
+
+    ensures reads { IfOk result (λ opened. Reads opened.0 (S.left source.old) (S.left source.new)) }
+    ensures taught { IfOk result (λ opened. first_bad (map G.cap guards.items) opened.0.teaches ≡ None) }
+    ensures opening { IfOk result (λ opened. opened.1.opening ≡ opened_with (map G.cap guards.items) opened.0) }
+    ensures empty { IfOk result (λ opened. opened.1.steps ≡ []) }
+    ensures spare { IfOk result (λ opened.
+        opened.1.spare ≡ length opened.0.steps + opened.0.siblings * opened.0.siblings) }
+
+    ensures too_long { IfSome (S.left source.old) (λ _.
+        (result ≡ Err Stop.TooLong) ↔ (input_limit < count_read (S.left source.old) (S.left source.new))) }
+    ensures most { IfSome (S.left source.old) (λ _.
+        count_read (S.left source.old) (S.left source.new) ≤ input_limit + 1) }
+    ensures bad { (line : _) (kind : _) → result ≡ Err (Stop.BadScenario line kind) →
+        IsBad line kind (S.left source.old) (S.left source.new) }
+    ensures first { (bytes : _) (line : _) (kind : _) → S.left source.old ≡ Some bytes → length bytes ≤ input_limit →
+        IsFirstBad (lines_in bytes) line kind → result ≢ Err Stop.ReadFault →
+        (result ≡ Err (Stop.BadScenario line kind)) ⊎ (result ≡ Err Stop.OutOfMemory) }
+    ensures bad_guard { (line : _) (kind : _) → result ≡ Err (Stop.BadGuard line kind) →
+        IsBadGuard (map G.cap guards.items) line kind (S.left source.old) (S.left source.new) }
+    ensures faultless { result ≢ Err Stop.ReadFault → S.faults source.new ≡ S.faults source.old }
+    ensures failed { result ≡ Err Stop.ReadFault → Rose (S.faults source.old) (S.faults source.new) }
+    ensures counted { S.faults source.old ≤ S.faults source.new }
+{
+    let scenario = read_scenario(alloc, source)?;
+    let guards = taught(alloc, guards, scenario.teaches.items())?;
+    let room = PlainRoom::start(alloc, &scenario, guards)?;
+    Ok((scenario, room))
+}
+
+/// Writes the line of each entry and the report, and says how that ended.
+fn write_output<R: Room, K: Sink>(room: &R, sink: &mut K) -> Status
+    ensures either { (result ≡ Status.Done) ⊎ (result ≡ Status.WriteFault) }
+    ensures whole { result ≡ Status.Done → K.written sink.new ≡ appended (K.written sink.old) (output_text (R.opening room.now) (R.history room.now)) }
+    ensures prefix { WritesPrefix (K.written sink.old) (output_text (R.opening room.now) (R.history room.now)) (K.written sink.new) }
+
+    ensures faultless { result ≡ Status.Done → K.faults sink.new ≡ K.faults sink.old }
+    ensures failed { result ≡ Status.WriteFault → Rose (K.faults sink.old) (K.faults sink.new) }
+
+    // No other history has this text.
+    ensures one { (opening : Opening) (history : History) → All IsEntry history → All IsEntry (R.history room.now) →
+        output_text opening history ≡ output_text (R.opening room.now) (R.history room.now) →
+        history ≡ R.history room.now }
+    ensures numbers { result ≡ Status.Done → All (λ entry. FitsReply entry.reply) (R.history room.now) }
+{
+    match output(room, sink) {
+        Ok(()) => Status::Done,
+        Err(_) => Status::WriteFault,
+    }
+}
+
+/// Reads a scenario to its end, makes its steps in the order of their lines and then the entries of the end, and
+/// writes the line of each entry and the report.
+pub(crate) fn replayed<S: Source, K: Sink, G: Guard>(
+    alloc: Global,
+    source: &mut S,
+    sink: &mut K,
+    guards: Vec<G>,
+) -> Status
+    requires source { S.faults source.old < 2 ^ 64 - 1 }
+    requires sink { K.faults sink.old < 2 ^ 64 - 1 }
+    requires few { vec_len guards ≤ 16 }
+    requires untaught { All (λ guard. G.pairs guard ≡ []) guards.items }
+    requires unasked { All (λ guard. G.asked guard ≡ 0) guards.items }
+
+    ensures { EndsAsReplay (map G.cap guards.items)
+        (record { bytes = S.left; faults = S.faults; before = source.old; after = source.new })
+        (record { bytes = K.written; faults = K.faults; before = sink.old; after = sink.new }) result }
+{
+    match opened(alloc, source, guards) {
+        Ok((scenario, mut room)) => {
+            play(&mut room, scenario.steps.items());
+            room.drain();
+            write_output(&room, sink)
+        }
+        Err(stop) => Status::from(stop),
+    }
+}
+
+/// Reads a scenario to its end, lets its actors make their scripts beside each other, each in a worker of its own
+/// that passes the gate before each of its turns, makes the entries of the end, and writes what a replay writes.
+/// It may wait for the room, and where the gate does.
+pub(crate) fn raced<
+    T: Threads + Wait + AllocGlobal + Sync,
+    S: Source,
+    K: Sink,
+    P: Gate + Sync,
+    G: Guard + Send,
+>(rt: &T, source: &mut S, sink: &mut K, gate: &P, guards: Vec<G>) -> Status
+    requires source { S.faults source.old < 2 ^ 64 - 1 }
+    requires sink { K.faults sink.old < 2 ^ 64 - 1 }
+    requires few { vec_len guards ≤ 16 }
+    requires untaught { All (λ guard. G.pairs guard ≡ []) guards.items }
+    requires unasked { All (λ guard. G.asked guard ≡ 0) guards.items }
+
+    ensures { EndsAsRace (map G.cap guards.items)
+        (record { bytes = S.left; faults = S.faults; before = source.old; after = source.new })
+        (record { bytes = K.written; faults = K.faults; before = sink.old; after = sink.new }) result }
+{
+    match opened(rt.alloc(), source, guards) {
+        Ok((scenario, room)) => match sibling_workers::race(rt, room, &scenario, gate) {
+            Ok(raced) => write_output(&raced, sink),
+            Err(_) => Status::OutOfMemory,
+        },
+        Err(stop) => Status::from(stop),
+    }
+}
