@@ -7,6 +7,7 @@ ghost use Rattle.cs_outside.specs.Guard.{pair_guard_cap, fresh};
 ghost use Rattle.cs_outside.specs.declared.guard.TeachFault.TheVariants.{Full};
 
 use crate::guard::{Guard, TeachFault};
+use crate::pairs::lists;
 use arrayvec::ArrayVec;
 use std::marker::Model;
 
@@ -26,13 +27,6 @@ impl Model for PairGuard {
     ghost Value = { PairGuardState };
 
     ghost view = { λ guard. record { pairs = guard.pairs.items; asked = guard.asked } };
-}
-
-/// Whether the pair of real user ids, a caller's and a target's, is one of these.
-fn lists(pairs: &[(u32, u32)], from: u32, to: u32) -> bool
-    ensures { result ≡ list_any (is_pair (from, to)) pairs.now }
-{
-    pairs.iter().any(|pair| from == pair.0 && to == pair.1)
 }
 
 impl PairGuard {
