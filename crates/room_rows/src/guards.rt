@@ -5,7 +5,7 @@ ghost use Rattle.std.specs.Prelude.{◌≡◌, ◌≤◌, [], All, vec_len};
 
 use crate::commands::{joined, sink_of, source_of, words_of};
 use crate::strangers::LongGuard;
-use cs_outside::{Guard, NullGuard, PairGuard, TeachFault};
+use cs_outside::{Guard, ListGuard, NullGuard, PairGuard, TeachFault};
 use cs_types::GuardPlace;
 use ptrace_check::{Guards, LoadAnswer, TeachAnswer, UnloadAnswer};
 use scenario_runner::{GuardKind, Status, replay};
@@ -69,7 +69,7 @@ fn empty_scenario(rt: HostRuntime) {
 }
 
 /// Two tasks of one user. The first guard refuses that user its own. Line 6 is the teach line.
-const WORKED: &str = concat!(
+pub const WORKED: &str = concat!(
     "coresched 1\nsiblings 2\nlimits 8 8 65536\n",
     "task 1 1 1 0 fair:0 1000 1000 1000 1000 1000 1000 0 1 1\n",
     "task 2 2 2 0 fair:0 1000 1000 1000 1000 1000 1000 0 1 1\n",
@@ -219,6 +219,51 @@ fn null_guard(rt: HostRuntime) {
     assert!(rt; guard.asked() == 1);
 }
 
+/// One guard that takes memory for its pairs, and can be taught one.
+fn listed<R: AllocGlobal + Abort>(rt: &R) -> Vec<ListGuard>
+    ensures one { vec_len result ≡ 1 }
+    ensures untaught { All (λ guard. guard.pairs ≡ []) result.items }
+    ensures unasked { All (λ guard. guard.asked ≡ 0) result.items }
+{
+    Vec::from_array(rt.alloc(), [ListGuard::with_cap(rt.alloc(), 1)]).expect(rt, "room")
+}
+
+/// The same scenario where there is no second guard.
+const LISTED_OUTPUT: &str = concat!(
+    "c0 prctl 1 2 2 0 0: 0\nc0 load 0: Loaded\nc0 load 0: NoGuard\nc0 load 1: NoGuard\n",
+    "c0 prctl 1 2 2 0 0: EPERM\nc0 prctl 1 2 1 0 0: 0\nc0 unload 0: Dropped\n",
+    "c0 prctl 1 2 2 0 0: 0\nc0 unload 0: NoGuard\nc0 load 7: NoGuard\n",
+    "report\nclock 0\nnumbers 0 0\ncore 0 forced 0 occupation 0\nintervals 0\n",
+    "cpu 0 online runs idle number 0\ncpu 1 online runs idle number 0\n",
+    "task 1 cpu 0 asleep cookie 0 forced 0 vtime 0\n",
+    "task 2 cpu 0 asleep cookie 0 forced 0 vtime 0\n",
+    "guard 0 dropped asked 1\ndone\n",
+);
+
+// It is full with one pair, so a second teach line cannot be carried out.
+#[test]
+fn list_guard_of_one_pair(rt: HostRuntime) {
+    let text = WORKED.as_bytes();
+    expect_guarded(&rt, text, listed(&rt), Status::Done, &[LISTED_OUTPUT]);
+    let (head, steps) = WORKED
+        .split_once("teach 0 1000 1000\n")
+        .expect(&rt, "a teach line");
+    let line = "teach 0 1000 1000\n";
+    let text = joined(rt.alloc(), &[head, line, line, steps]).expect(&rt, "room");
+    let full = bad_guard(7, GuardKind::Full);
+    expect_guarded(&rt, &text, listed(&rt), full, &[]);
+}
+
+#[test]
+fn list_guard(rt: HostRuntime) {
+    let mut guard = ListGuard::with_cap(rt.alloc(), 1);
+    assert!(rt; guard.teach(1, 2).is_ok());
+    assert!(rt; matches!(guard.teach(3, 4), Err(TeachFault::Full { cap: 1 })));
+    assert!(rt; !guard.allows(1, 2));
+    assert!(rt; guard.allows(3, 4));
+    assert!(rt; guard.asked() == 2);
+}
+
 /// Expects that the first guard is taught, and none that is not there.
 fn expect_teach(rt: &impl Abort, guards: &mut Guards<PairGuard>) {
     assert!(rt; matches!(guards.teach(0, 1, 2), TeachAnswer::Taught));
@@ -251,12 +296,12 @@ fn guards_of_a_core(rt: HostRuntime) {
 }
 
 /// A counter of drops.
-fn counter<R: AllocGlobal + Abort>(rt: &R) -> Arc<AtomicU64, Global> {
+pub fn counter<R: AllocGlobal + Abort>(rt: &R) -> Arc<AtomicU64, Global> {
     Arc::new(rt.alloc(), AtomicU64::new(0)).expect(rt, "room")
 }
 
 /// Two guards of a stranger's, whose drops are counted there.
-fn two_long<R: AllocGlobal + Abort>(rt: &R, drops: &Arc<AtomicU64, Global>) -> Vec<LongGuard>
+pub fn two_long<R: AllocGlobal + Abort>(rt: &R, drops: &Arc<AtomicU64, Global>) -> Vec<LongGuard>
     ensures two { vec_len result ≡ 2 }
     ensures untaught { All (λ guard. guard.pairs.items ≡ []) result.items }
     ensures unasked { All (λ guard. guard.asked ≡ 0) result.items }
@@ -269,7 +314,7 @@ fn two_long<R: AllocGlobal + Abort>(rt: &R, drops: &Arc<AtomicU64, Global>) -> V
 }
 
 /// Expects that so many guards were let go.
-fn expect_drops(rt: &impl Abort, drops: &Arc<AtomicU64, Global>, wanted: u64) {
+pub fn expect_drops(rt: &impl Abort, drops: &Arc<AtomicU64, Global>, wanted: u64) {
     assert!(rt; drops.load(Ordering::SeqCst) == wanted);
 }
 

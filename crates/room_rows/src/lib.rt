@@ -48,6 +48,8 @@ mod devices;
 #[cfg(test)]
 mod drills;
 #[cfg(test)]
+mod drops;
+#[cfg(test)]
 mod examples;
 #[cfg(test)]
 mod guards;

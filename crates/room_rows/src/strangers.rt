@@ -1,4 +1,4 @@
-//! A guard that somebody else wrote, against the trait alone. It stands in a file of its own, as it would in a
+//! Guards that somebody else wrote, against the trait alone. They stand in a file of their own, as they would in a
 //! crate of theirs.
 
 ghost use Rattle.std.specs.Prelude.{◌≡◌, []};
@@ -68,6 +68,49 @@ impl Guard for LongGuard {
     fn allows(&mut self, from: u32, to: u32) -> bool {
         self.asked += 1;
         !lists(&self.pairs, from, to)
+    }
+
+    fn asked(&self) -> u64 {
+        self.asked
+    }
+}
+
+/// A guard that never has memory for a pair. Its drop is counted.
+pub struct PoorGuard {
+    asked: u64,
+    drops: Arc<AtomicU64, Global>,
+}
+
+impl Drop for PoorGuard {
+    fn drop(self) {
+        let PoorGuard { asked: _, drops } = self;
+        drops.fetch_add(1, Ordering::SeqCst);
+    }
+}
+
+impl PoorGuard {
+    /// One that was never asked. Its drop is counted there.
+    pub fn empty(drops: Arc<AtomicU64, Global>) -> PoorGuard
+        ensures unasked { result.asked ≡ 0 }
+    {
+        PoorGuard { asked: 0, drops }
+    }
+}
+
+impl Guard for PoorGuard {
+    ghost pairs = { λ _. [] };
+
+    ghost cap = { λ _. 1 };
+
+    ghost asked = { λ guard. guard.asked };
+
+    fn teach(&mut self, _from: u32, _to: u32) -> Result<(), TeachFault> {
+        Err(TeachFault::OutOfMemory)
+    }
+
+    fn allows(&mut self, _from: u32, _to: u32) -> bool {
+        self.asked += 1;
+        true
     }
 
     fn asked(&self) -> u64 {
