@@ -103,13 +103,17 @@ none_more words new word none some is =
     ∙ list_any-append is_empty (texts words) (word.now ∷ [])
     ∙ rw (none, ne_eqb (length word.now) 0 some) refl
 
+-- counted
+pub counted_more : (words new : List (Bor Word)) (word : Bor Word) (count : ℕ) → length words ≡ count → new ≡ words ++ word ∷ [] → length new ≡ count + 1
+counted_more words new word count counted is = omega (arith, ap length is, length-append words (word ∷ []))
+
 -- a word too many, or an empty one
-pub bad_word : (all more : List Word) (words : List (Bor Word)) (word : Bor Word) → all ≡ texts words ++ word.now ∷ more → (length word.now ≡ 0) ⊎ (length words ≡ 15) → used all ≡ Err Shape
-bad_word all more words word cut (inl empty) =
+pub bad_word : (all more : List Word) (words : List (Bor Word)) (count : ℕ) (word : Bor Word) → length words ≡ count → all ≡ texts words ++ word.now ∷ more → (length word.now ≡ 0) ⊎ (count ≡ 15) → used all ≡ Err Shape
+bad_word all more words count word counted cut (inl empty) =
     let here : is_empty word.now ≡ true = eq-eqb (length word.now) 0 empty in
     let some : list_any is_empty all ≡ true = ap (list_any is_empty) cut ∙ list_any-append is_empty (texts words) (word.now ∷ more) ∙ rw here (or-true _) in
     cond-false _ (Ok all) refused (ap (λ (b : Bool). leb (length all) 15 && not b) some ∙ and_no (leb (length all) 15))
-bad_word all more words word cut (inr full) =
+bad_word all more words count word counted cut (inr full) =
     let count : length all ≡ length (texts words) + suc (length more) = ap length cut ∙ length-append (texts words) (word.now ∷ more) in
     let long : leb (length all) 15 ≡ false = lt-leb _ _ (omega (arith, count, length-map words (λ (w : Bor Word). w.now))) in
     cond-false _ (Ok all) refused (ap (λ (b : Bool). b && not (list_any is_empty all)) long)

@@ -1,14 +1,17 @@
 -- Numbers: a word that is a number is the decimal of its value, and the decimal of a number has that value.
-use Rattle.std.proofs.Common.{◌≡◌, ℕ, suc, ◌^◌, ◌<◌, ◌≤◌, true, false, eqb, leb, [], ◌∷◌, length, get_or, Result, Ok, Err, refl, sym, arith, inl, inr}
+use Rattle.std.proofs.Common.{◌≡◌, ◌∙◌, ℕ, Bool, zero, suc, ◌+◌, ◌*◌, ◌^◌, ◌<◌, ◌≤◌, true, false, eqb, leb, List, [], ◌∷◌, length, get_or, take, refl, sym, ap, arith, ◌⊎◌, inl, inr}
 use Rattle.std.specs.Prelude.{decimal, ◌&&◌, ◌||◌, not, ℤ, pos, negsuc}
-use Rattle.std.specs.Char.{is_ascii_digit}
-use Rattle.std.specs.Str.{all_ascii_digits, IsUtf8}
-use Rattle.std.specs.Str.Parse.{digits_value, ParsesUnsigned}
+use Rattle.std.specs.List.{list_all}
+use Rattle.std.specs.Char.{is_ascii_digit, digit_value}
+use Rattle.std.specs.Str.{all_ascii_digits}
+use Rattle.std.specs.Str.Parse.{digits_value}
 use Rattle.std.proofs.lemmas.Bool.{cases_eq, ne_eqb, and_parts, leb-true, le-leb, false_from_ne_true, false≢true, both_ways}
 use Rattle.std.proofs.lemmas.Bool.Decides.{nat_tests}
-use Rattle.std.proofs.lemmas.Str.{IsUtf8-from_ascii}
-use Rattle.std.proofs.lemmas.Str.Parse.{IsNumeralModel, numerals_by_value, tells_all_ascii_digits, digit_at, parse_plain}
-use Rattle.std.proofs.lemmas.Fmt.{decimal_digit, decimal_is_IsNumeral, first_decimal, decimal-digits_value, IsAscii-from_digits}
+use Rattle.std.proofs.lemmas.List.Folds.{list_all_more}
+use Rattle.std.proofs.lemmas.Int.Digits.{digits_value_more}
+use Rattle.std.proofs.Math.Bool.{and-false}
+use Rattle.std.proofs.lemmas.Str.Parse.{IsNumeralModel, numerals_by_value, tells_all_ascii_digits, digit_at, digits_value-take-le}
+use Rattle.std.proofs.lemmas.Fmt.{decimal_digit, decimal_is_IsNumeral, first_decimal, decimal-digits_value}
 use Rattle.cs_types.specs.Scenario.{IsWithin}
 use Rattle.scenario_text.specs.Words.{Word}
 use Rattle.scenario_text.specs.Grammar.{is_canonical, value, is_number}
@@ -115,23 +118,34 @@ no_number low high word fails =
 pub not_canonical : (low high : ℕ) (word : Word) → is_canonical word ≡ false → is_number low high word ≡ false
 not_canonical low high word fails = no_number low high word (λ h. both_ways (is_canonical word) fails h.canonical)
 
--- bytes that are no text are no digits
-pub not_text : (low high : ℕ) (word : Word) → ¬ (IsUtf8 word) → is_number low high word ≡ false
-not_text low high word h =
-    no_number low high word (λ parts. h (IsUtf8-from_ascii word (IsAscii-from_digits word (digits_model.to word parts.digits))))
+-- each byte so far is a digit, and the next one is
+all_digits : (ds : List ℕ) → all_ascii_digits ds ≡ list_all is_ascii_digit ds
+all_digits [] = refl
+all_digits (d ∷ ds) = ap (λ (b : Bool). is_ascii_digit d && b) (all_digits ds)
 
-pub not_parsed : {E : Type 0} (low high : ℕ) (word : Word) (e : E) → high < 2 ^ 64 → is_canonical word ≡ true → ParsesUnsigned 64 10 word (Err e) → is_number low high word ≡ false
-not_parsed low high word e small first h =
-    let begins = canonical word first in
-    no_number low high word (λ parts. parse_plain digits_model 64 word (Err e) h (λ plus. omega arith) (parts.digits, begins.some, omega arith))
+pub digits_more : (ds : List ℕ) (i : ℕ) → i < length ds → all_ascii_digits (take i ds) ≡ true → is_ascii_digit (get_or ds i 0) ≡ true → all_ascii_digits (take (i + 1) ds) ≡ true
+digits_more ds i inside before here =
+    all_digits (take (i + 1) ds) ∙ list_all_more is_ascii_digit ds i 0 inside ∙ rw (sym (all_digits (take i ds)) ∙ before, here) refl
 
-abbrev known : ℕ → Result ℕ (Unit {0})
-known n = Ok n
+-- or is none
+pub digits_fail : (ds : List ℕ) (i : ℕ) → i < length ds → is_ascii_digit (get_or ds i 0) ≡ false → all_ascii_digits ds ≡ false
+digits_fail [] i inside fails = absurd (omega arith)
+digits_fail (d ∷ ds) zero inside fails = ap (λ (b : Bool). b && all_ascii_digits ds) fails
+digits_fail (d ∷ ds) (suc i) inside fails = ap (λ (b : Bool). is_ascii_digit d && b) (digits_fail ds i (omega arith) fails) ∙ and-false (is_ascii_digit d)
 
-pub parsed : (low high : ℕ) (word : Word) (n : ℕ) → is_canonical word ≡ true → ParsesUnsigned 64 10 word (known n) → (is_number low high word ≡ (leb low n && leb n high)) × (n ≡ value word)
+-- where the first digits are too many, all are
+pub too_large : (ds : List ℕ) (i : ℕ) → i < length ds → 2 ^ 64 ≤ value (take i ds) * 10 + digit_value (get_or ds i 0) → 2 ^ 64 ≤ value ds
+too_large ds i inside large =
+    omega (arith, digits_value_more 10 ds i inside, digits_value-take-le 10 ds (i + 1) (omega arith))
+
+-- a word that is no digits, or of a number of more than 64 bits
+abbrev pub IsNoNumber : List ℕ → Type 0
+IsNoNumber word = (all_ascii_digits word ≡ false) ⊎ (2 ^ 64 ≤ value word)
+
+pub not_digits : (low high : ℕ) (word : Word) → high < 2 ^ 64 → IsNoNumber word → is_number low high word ≡ false
+not_digits low high word small (inl fails) = no_number low high word (λ parts. both_ways (all_ascii_digits word) fails parts.digits)
+not_digits low high word small (inr large) = no_number low high word (λ parts. omega (arith, parts.to))
+
+pub right_digits : (low high : ℕ) (word : Word) → is_canonical word ≡ true → all_ascii_digits word ≡ true → is_number low high word ≡ (leb low (value word) && leb (value word) high)
 unfolding is_number
-parsed low high word n first h =
-    let begins = canonical word first in
-    let read = parse_plain digits_model 64 word (known n) h (λ plus. omega arith) in
-    let same : value word ≡ n = sym read.1 in
-    (rw (first, read.0.0, same) refl, read.1)
+right_digits low high word first digits = rw (first, digits) refl

@@ -7,7 +7,7 @@ ghost use Rattle.scenario_text.specs.Reading.{lent, read_in, Takes, line_as, ver
 use crate::fault::{BadKind, ReadFault, on_line};
 use crate::lines::Lines;
 use crate::number::parse_number;
-use crate::words::is_word;
+use crate::words::{is_word, slots};
 
 /// The greatest number of SMT siblings of a core. The least is 1.
 const MOST_SIBLINGS_IN_TEXT: u64 = 8;
@@ -72,7 +72,7 @@ fn parse_limits(words: &[&[u8]], siblings: u8) -> Result<Head, BadKind>
 fn next_version(lines: &mut Lines<'_>) -> Result<(), BadKind>
     ensures { Takes (λ said. said) result lines.new (line_as version_reading lines.old) }
 {
-    parse_version(lines.next_line()?.as_slice())
+    parse_version(lines.next_line(&mut slots())?)
 }
 
 /// The second line.
@@ -80,7 +80,7 @@ fn next_version(lines: &mut Lines<'_>) -> Result<(), BadKind>
 fn next_siblings(lines: &mut Lines<'_>) -> Result<u8, BadKind>
     ensures { Takes (λ siblings. siblings) result lines.new (line_as siblings_reading lines.old) }
 {
-    parse_siblings(lines.next_line()?.as_slice())
+    parse_siblings(lines.next_line(&mut slots())?)
 }
 
 /// The third line, in a core with this number of siblings.
@@ -88,7 +88,7 @@ fn next_siblings(lines: &mut Lines<'_>) -> Result<u8, BadKind>
 fn next_limits(lines: &mut Lines<'_>, siblings: u8) -> Result<Head, BadKind>
     ensures { Takes (λ head. head) result lines.new (line_as (limits_reading siblings) lines.old) }
 {
-    parse_limits(lines.next_line()?.as_slice(), siblings)
+    parse_limits(lines.next_line(&mut slots())?, siblings)
 }
 
 /// What the next three lines say, which are the first of a text.

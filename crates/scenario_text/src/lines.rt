@@ -7,7 +7,7 @@ ghost use Rattle.scenario_text.specs.Reading.{texts, Takes, line_at};
 
 use crate::fault::BadKind;
 use crate::pieces::cut;
-use crate::words::{Words, words_of};
+use crate::words::{Slots, words_of};
 use std::marker::Model;
 
 /// The lines of a text that are still to be taken.
@@ -33,16 +33,17 @@ impl<'a> Lines<'a> {
         Lines { rest: text }
     }
 
-    /// The words of the next line, which a line feed has to end.
+    /// The words of the next line, which a line feed has to end. They are put into the slots, in place of
+    /// another line's.
     #[tactic(auto, unfolding(crate::specs::Faults::lines_in))]
-    pub fn next_line(&mut self) -> Result<Words<'a>, BadKind>
-        ensures { Takes (λ words. texts words.items) result self.new (line_at self.old) }
+    pub fn next_line<'r>(&mut self, slots: &'r mut Slots<'a>) -> Result<&'r [&'a [u8]], BadKind>
+        ensures { Takes (λ words. texts words.now) result self.new (line_at self.old) }
     {
         let Some((line, rest)) = cut(self.rest, b'\n') else {
             return Err(BadKind::Cut);
         };
         self.rest = rest;
-        words_of(line)
+        words_of(line, slots)
     }
 
     /// Whether no byte is left.

@@ -1,7 +1,8 @@
 //! Numbers, as words spell them: decimal digits with no leading 0, and no sign but the `-` of a negative
 //! number. It is separate since every form of a line but the last has them.
 
-ghost use Rattle.std.specs.Prelude.{◌≡◌, ◌-◌, true, false, MatchResult, IfOk, pos, neg_ℤ, ◌≤ℤ◌};
+ghost use Rattle.std.specs.Prelude.{◌≡◌, ◌⊎◌, ◌-◌, ◌^◌, ◌≤◌, true, false, MatchOption, MatchResult, IfOk, pos, neg_ℤ, ◌≤ℤ◌};
+ghost use Rattle.std.specs.Str.{all_ascii_digits};
 ghost use Rattle.cs_types.specs.Scenario.{IsWithin};
 ghost use Rattle.scenario_text.specs.declared.fault.BadKind.TheVariants.{Number};
 ghost use Rattle.scenario_text.specs.Grammar.{is_canonical, is_number, is_signed, value};
@@ -9,13 +10,27 @@ ghost use Rattle.scenario_text.specs.Reading.{signed_value, flag_value};
 
 use crate::fault::BadKind;
 use cs_types::Cpu;
-use std::str;
 
 /// Whether the word begins with a digit, and with 0 only where it is `0`.
 fn is_canonical(word: &[u8]) -> bool
     ensures { result ≡ is_canonical word.now }
 {
     matches!(word, [b'0'] | [b'1'..=b'9', ..])
+}
+
+/// The number that the digits spell. `None` where one of the bytes is none, or the number has more than 64 bits.
+fn parse_digits(digits: &[u8]) -> Option<u64>
+    ensures { MatchOption result ((all_ascii_digits digits.now ≡ false) ⊎ (2 ^ 64 ≤ value digits.now))
+        (λ n. (all_ascii_digits digits.now ≡ true) × (n ≡ value digits.now)) }
+{
+    let mut number: u64 = 0;
+    for digit in digits {
+        if !digit.is_ascii_digit() {
+            return None;
+        }
+        number = number.checked_mul(10)?.checked_add((*digit - b'0') as u64)?;
+    }
+    Some(number)
 }
 
 /// The number from `low` to `high` that the word spells.
@@ -27,10 +42,7 @@ pub(crate) fn parse_number(word: &[u8], low: u64, high: u64) -> Result<u64, BadK
     if !is_canonical(word) {
         return Err(BadKind::Number);
     }
-    let Ok(text) = str::from_utf8(word) else {
-        return Err(BadKind::Number);
-    };
-    let Ok(number) = text.parse::<u64>() else {
+    let Some(number) = parse_digits(word) else {
         return Err(BadKind::Number);
     };
     if !(low..=high).contains(&number) {

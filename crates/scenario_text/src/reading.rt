@@ -11,17 +11,24 @@ use crate::head::{Head, next_head};
 use crate::line::{ScenarioLine, parse_line};
 use crate::lines::Lines;
 use crate::plan::Plan;
+use crate::words::{Slots, slots};
 use cs_types::{List, Scenario};
 use std::alloc::Global;
 
-/// The next line, which may follow those of the plan.
+/// The next line, which may follow those of the plan. Its words are put into the slots, in place of
+/// another line's.
 #[tactic(auto, using(crate::proofs::Cuts::lent_is), unfolding(crate::specs::Reading::next_of))]
-fn next_line(lines: &mut Lines<'_>, head: Head, plan: &Plan) -> Result<ScenarioLine, BadKind>
+fn next_line<'a>(
+    lines: &mut Lines<'a>,
+    slots: &mut Slots<'a>,
+    head: Head,
+    plan: &Plan,
+) -> Result<ScenarioLine, BadKind>
     requires { HasFewLines (contents plan.now) }
     ensures { Takes (λ line. line) result lines.new (next_of head (contents plan.now) lines.old) }
 {
-    let words = lines.next_line()?;
-    let line = parse_line(words.as_slice(), head.siblings, plan.place())?;
+    let words = lines.next_line(slots)?;
+    let line = parse_line(words, head.siblings, plan.place())?;
     plan.check(&line, head.task_limit)?;
     Ok(line)
 }
@@ -34,8 +41,10 @@ fn read_plan(alloc: Global, lines: &mut Lines<'_>, head: Head) -> Result<Plan, R
     ensures { ReadsPlan head lines.old result }
 {
     let mut plan = Plan::new(alloc);
+    let mut slots = slots();
     loop {
-        match on_line(next_line(lines, head, &plan), plan.place().number)? {
+        let number = plan.place().number;
+        match on_line(next_line(lines, &mut slots, head, &plan), number)? {
             ScenarioLine::Task(task) => plan.tasks.push(task)?,
             ScenarioLine::Teach(teach) => plan.teaches.push(teach)?,
             ScenarioLine::Step(step) => plan.steps.push(step)?,

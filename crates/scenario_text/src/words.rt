@@ -1,51 +1,63 @@
 //! The words of a line, cut before any of them is looked at, since a line's form is told by them all.
 
-ghost use Rattle.std.specs.Prelude.{◌≡◌, ◌≢◌, ◌⊎◌, ◌≤◌, [], ◌∷◌, ◌++◌, length, MatchResult};
+ghost use Rattle.std.specs.Prelude.{◌≡◌, ◌≢◌, ◌⊎◌, ◌+◌, ◌<◌, ◌≤◌, [], ◌∷◌, ◌++◌, length, take, MatchResult};
 ghost use Rattle.scenario_text.specs.declared.fault.BadKind.TheVariants.{Shape};
 ghost use Rattle.scenario_text.specs.Faults.{words_in};
 ghost use Rattle.scenario_text.specs.Grammar.{is_word};
 ghost use Rattle.scenario_text.specs.Reading.{texts, Reads, used};
 
 use crate::fault::BadKind;
-use crate::pieces::cut;
-use arrayvec::ArrayVec;
+use crate::pieces::cut_near;
 
 /// How many words a line has at most: as many as the longest form, a task.
 const MOST_WORDS: usize = 15;
 
-/// The words of a line, in their order. They lie on the stack, and take no memory.
-pub(crate) type Words<'a> = ArrayVec<&'a [u8], MOST_WORDS>;
+/// Where the words of a line are put. It lies on the stack, and one serves all lines.
+pub(crate) type Slots<'a> = [&'a [u8]; MOST_WORDS];
 
-/// Puts one more word on the list. A line of more words than any form has is refused, and so is an empty word.
-fn add<'a>(words: &mut Words<'a>, word: &'a [u8]) -> Result<(), BadKind>
+/// Slots in which no word is yet.
+pub(crate) fn slots<'a>() -> Slots<'a> {
+    [&[]; MOST_WORDS]
+}
+
+/// Puts one more word behind the first `count`. A line of more words than any form has is refused, and so is
+/// an empty word.
+fn put<'a>(slots: &mut Slots<'a>, count: usize, word: &'a [u8]) -> Result<(), BadKind>
+    requires { count ≤ 15 }
     ensures { MatchResult result
-        (λ _. (words.new.items ≡ words.old.items ++ word.entry ∷ []) × (length word.now ≢ 0) × (length words.new.items ≤ 15))
-        (λ kind. (kind ≡ Shape) × ((length word.now ≡ 0) ⊎ (length words.old.items ≡ 15))) }
+        (λ _. (take (count + 1) slots.new ≡ take count slots.old ++ word.entry ∷ []) × (length word.now ≢ 0) × (count < 15))
+        (λ kind. (kind ≡ Shape) × ((length word.now ≡ 0) ⊎ (count ≡ 15))) }
 {
-    if word.is_empty() || words.is_full() {
+    if word.is_empty() || count == MOST_WORDS {
         return Err(BadKind::Shape);
     }
-    words.push(word);
+    slots[count] = word;
     Ok(())
 }
 
-/// The words of the line, between which single spaces stand.
-pub(crate) fn words_of(line: &[u8]) -> Result<Words<'_>, BadKind>
-    ensures { Reads (λ words. texts words.items) result (used (words_in line.now)) }
+/// The words of the line, between which single spaces stand. They are put into the slots, in place of another
+/// line's.
+pub(crate) fn words_of<'r, 'a>(
+    line: &'a [u8],
+    slots: &'r mut Slots<'a>,
+) -> Result<&'r [&'a [u8]], BadKind>
+    ensures { Reads (λ words. texts words.now) result (used (words_in line.now)) }
 {
-    let mut words = ArrayVec::new();
+    let mut count = 0;
     let mut rest = line;
-    while let Some((word, more)) = cut(rest, b' ') {
-        add(&mut words, word)?;
+    while let Some((word, more)) = cut_near(rest, b' ') {
+        put(slots, count, word)?;
+        count += 1;
         rest = more;
     }
-    add(&mut words, rest)?;
-    Ok(words)
+    put(slots, count, rest)?;
+    Ok(&slots[..count + 1])
 }
 
 /// Whether the word is this keyword.
 pub(crate) fn is_word(word: &[u8], keyword: &str) -> bool
     ensures { result ≡ is_word word.now keyword.now }
 {
-    word == keyword.as_bytes()
+    // A comparison of beginnings costs no call.
+    word.len() == keyword.len() && keyword.as_bytes().starts_with(word)
 }

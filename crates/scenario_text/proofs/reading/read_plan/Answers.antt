@@ -19,7 +19,7 @@ returns-in_err-task c =
     let lines = c.loop-plan.lines in
     let all = head_lines head ++ c.args.lines.now in
     let fault = err_from_is_err_and c.from_residual.result c.from_residual.ensures.1 in
-    let on = subst (λ (p : Place). OnLine c.next_line.result p.number c.on_line.result) c.place.ensures c.on_line.ensures in
+    let on = subst (λ (p : Place). OnLine c.next_line.result p.number c.on_line.result) c.place-number.ensures c.on_line.ensures in
     rw (fault.1, fault.2)
     (told_fault (next_of head plan lines) c.next_line.new.lines (place_after plan).number all c.next_line.result c.on_line.result c.next_line.ensures on
     (refused head c.requires.head c.args.lines.now plan lines c.loop-plan.invariant) _ c.in_err-task.was)
@@ -29,7 +29,7 @@ loop-plan-smaller-in-Continue-branch-3 c =
     let head = c.args.head in
     let plan = contents c.loop-plan.plan in
     let lines = c.loop-plan.lines in
-    let taken = told_line (next_of head plan lines) c.next_line.new.lines c.place.result.number c.next_line.result c.on_line.result c.next_line.ensures c.on_line.ensures _ c.in_ok-task.was in
+    let taken = told_line (next_of head plan lines) c.next_line.new.lines c.place-number.result.number c.next_line.result c.on_line.result c.next_line.ensures c.on_line.ensures _ c.in_ok-task.was in
     let next = next_good head c.requires.head plan c.loop-plan.invariant.is lines _ _ taken in
     omega (arith, ap length next.lines_are, ap length next.rest_is)
 
@@ -41,7 +41,7 @@ loop-plan-preserved-in-Continue-branch-3 c =
     let rest = c.next_line.new.lines in
     let so_far = c.loop-plan.invariant in
     let task = c.in-Task.task in
-    let taken = told_line (next_of head plan lines) rest c.place.result.number c.next_line.result c.on_line.result c.next_line.ensures c.on_line.ensures _ c.in_ok-task.was in
+    let taken = told_line (next_of head plan lines) rest c.place-number.result.number c.next_line.result c.on_line.result c.next_line.ensures c.on_line.ensures _ c.in_ok-task.was in
     let next = next_good head c.requires.head plan so_far.is lines (forms.Task task) rest (taken ∙ ap (λ (line : ScenarioLine). Ok (line, rest)) c.in-Task.is) in
     let grows = task_grows head.siblings head.task_limit plan task so_far.is next.fits.0 next.fits.1 next.fits.2 next.checked in
     subst (λ (tasks : List TaskSpec). ReadSoFar head c.args.lines.now (record plan { tasks = tasks }) rest) (sym c.in_ok-push-in-Task.ensures.items)
@@ -52,7 +52,7 @@ loop-plan-smaller-in-Continue-branch-4 c =
     let head = c.args.head in
     let plan = contents c.loop-plan.plan in
     let lines = c.loop-plan.lines in
-    let taken = told_line (next_of head plan lines) c.next_line.new.lines c.place.result.number c.next_line.result c.on_line.result c.next_line.ensures c.on_line.ensures _ c.in_ok-task.was in
+    let taken = told_line (next_of head plan lines) c.next_line.new.lines c.place-number.result.number c.next_line.result c.on_line.result c.next_line.ensures c.on_line.ensures _ c.in_ok-task.was in
     let next = next_good head c.requires.head plan c.loop-plan.invariant.is lines _ _ taken in
     omega (arith, ap length next.lines_are, ap length next.rest_is)
 
@@ -64,7 +64,7 @@ loop-plan-preserved-in-Continue-branch-4 c =
     let rest = c.next_line.new.lines in
     let so_far = c.loop-plan.invariant in
     let teach = c.in-Teach.teach in
-    let taken = told_line (next_of head plan lines) rest c.place.result.number c.next_line.result c.on_line.result c.next_line.ensures c.on_line.ensures _ c.in_ok-task.was in
+    let taken = told_line (next_of head plan lines) rest c.place-number.result.number c.next_line.result c.on_line.result c.next_line.ensures c.on_line.ensures _ c.in_ok-task.was in
     let next = next_good head c.requires.head plan so_far.is lines (forms.Teach teach) rest (taken ∙ ap (λ (line : ScenarioLine). Ok (line, rest)) c.in-Teach.is) in
     let grows = teach_grows head.siblings head.task_limit plan teach so_far.is next.fits next.checked in
     subst (λ (teaches : List Teach). ReadSoFar head c.args.lines.now (record plan { teaches = teaches }) rest) (sym c.in_ok-push-in-Teach.ensures.items)
@@ -75,7 +75,7 @@ loop-plan-smaller c =
     let head = c.args.head in
     let plan = contents c.loop-plan.plan in
     let lines = c.loop-plan.lines in
-    let taken = told_line (next_of head plan lines) c.next_line.new.lines c.place.result.number c.next_line.result c.on_line.result c.next_line.ensures c.on_line.ensures _ c.in_ok-task.was in
+    let taken = told_line (next_of head plan lines) c.next_line.new.lines c.place-number.result.number c.next_line.result c.on_line.result c.next_line.ensures c.on_line.ensures _ c.in_ok-task.was in
     let next = next_good head c.requires.head plan c.loop-plan.invariant.is lines _ _ taken in
     omega (arith, ap length next.lines_are, ap length next.rest_is)
 
@@ -87,7 +87,7 @@ loop-plan-preserved c =
     let rest = c.next_line.new.lines in
     let so_far = c.loop-plan.invariant in
     let step = c.in-Step.step in
-    let taken = told_line (next_of head plan lines) rest c.place.result.number c.next_line.result c.on_line.result c.next_line.ensures c.on_line.ensures _ c.in_ok-task.was in
+    let taken = told_line (next_of head plan lines) rest c.place-number.result.number c.next_line.result c.on_line.result c.next_line.ensures c.on_line.ensures _ c.in_ok-task.was in
     let next = next_good head c.requires.head plan so_far.is lines (forms.Step step) rest (taken ∙ ap (λ (line : ScenarioLine). Ok (line, rest)) c.in-Step.is) in
     let grows = step_grows head.siblings head.task_limit plan step so_far.is next.fits next.checked in
     subst (λ (steps : List Step). ReadSoFar head c.args.lines.now (record plan { steps = steps }) rest) (sym c.in_ok-push-in-Step.ensures.items)
@@ -100,9 +100,9 @@ returns-then-not-is_empty c =
     let lines = c.loop-plan.lines in
     let rest = c.next_line.new.lines in
     let so_far = c.loop-plan.invariant in
-    let taken = told_line (next_of head plan lines) rest c.place.result.number c.next_line.result c.on_line.result c.next_line.ensures c.on_line.ensures _ c.in_ok-task.was in
+    let taken = told_line (next_of head plan lines) rest c.place-number.result.number c.next_line.result c.on_line.result c.next_line.ensures c.on_line.ensures _ c.in_ok-task.was in
     let next = next_good head c.requires.head plan so_far.is lines forms.End rest (taken ∙ ap (λ (line : ScenarioLine). Ok (line, rest)) c.in-End.is) in
-    rw c.place-then-not-is_empty.ensures (late head c.requires.head c.args.lines.now plan lines so_far rest next (sym c.if-not-is_empty.ensures))
+    rw c.place.ensures (late head c.requires.head c.args.lines.now plan lines so_far rest next (sym c.if-not-is_empty.ensures))
 
 pub returns : goal.returns
 returns c =
@@ -111,6 +111,6 @@ returns c =
     let lines = c.loop-plan.lines in
     let rest = c.next_line.new.lines in
     let so_far = c.loop-plan.invariant in
-    let taken = told_line (next_of head plan lines) rest c.place.result.number c.next_line.result c.on_line.result c.next_line.ensures c.on_line.ensures _ c.in_ok-task.was in
+    let taken = told_line (next_of head plan lines) rest c.place-number.result.number c.next_line.result c.on_line.result c.next_line.ensures c.on_line.ensures _ c.in_ok-task.was in
     let next = next_good head c.requires.head plan so_far.is lines forms.End rest (taken ∙ ap (λ (line : ScenarioLine). Ok (line, rest)) c.in-End.is) in
     complete head c.requires.head c.args.lines.now plan lines so_far rest next (sym c.if-not-is_empty.ensures)

@@ -1,4 +1,4 @@
-use Rattle.std.proofs.Common.{◌≡◌, ◌≤◌, false, ◌++◌, length}
+use Rattle.std.proofs.Common.{◌≡◌, ◌≤◌, false, ◌++◌, length, take}
 use Rattle.std.specs.List.{list_any}
 use Rattle.scenario_text.specs.Faults.{words_in}
 use Rattle.scenario_text.specs.Reading.{texts}
@@ -7,9 +7,10 @@ use Rattle.scenario_text.proofs.words.words_of.Given as goal
 
 abbrev pub invariant-loop-word : goal.invariant-loop-word
 invariant-loop-word l =
-    (words_in l.line ≡ texts l.words.items ++ words_in l.rest)
-    × (length l.words.items ≤ 15)
-    × (list_any is_empty (texts l.words.items) ≡ false)
+    (words_in l.line ≡ texts (take l.count l.slots) ++ words_in l.rest)
+    × (l.count ≤ 15)
+    × (list_any is_empty (texts (take l.count l.slots)) ≡ false)
+    × (length (take l.count l.slots) ≡ l.count)
 
 abbrev pub decreases-loop-word : goal.decreases-loop-word
 decreases-loop-word l = length l.rest
