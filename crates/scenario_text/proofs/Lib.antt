@@ -5,6 +5,7 @@ pub mod Fields
 pub mod Judging
 pub mod Said
 pub mod Heads
+pub mod TaskLines
 pub mod Tasks
 pub mod Steps
 pub mod Told
