@@ -73,7 +73,7 @@ rising_entries low (entry ∷ entries) (task ∷ tasks) index rises (suc i) zero
 rising_entries low (entry ∷ entries) (task ∷ tasks) index rises (suc i) (suc j) d le within =
     rising_entries (task.spec.pid + 1) entries tasks (cc) rises.1 i j d (omega arith) (omega arith)
 
-at_from : (low pid : ℕ) (entries : List Entry) (tasks : List Task) → IsIndexOf entries tasks → RisesFrom low tasks →
+pub at_from : (low pid : ℕ) (entries : List Entry) (tasks : List Task) → IsIndexOf entries tasks → RisesFrom low tasks →
     (position : ℕ) → position < length entries → ((d : Entry) → (get_or entries position d).pid ≡ pid) → IsAt pid position tasks
 at_from low pid [] tasks index rises position within here = absurd (omega arith)
 at_from low pid (entry ∷ entries) [] index rises position within here = absurd cc

@@ -5,6 +5,7 @@
 mod entry;
 mod fault;
 mod group;
+mod places;
 mod table;
 mod tasks;
 

@@ -11,6 +11,7 @@ ghost use Rattle.task_table.specs.Positions.{IsAt, IsGap};
 use crate::entry::{Entry, position_above, position_of};
 use crate::fault::AddFault;
 use crate::group::Group;
+use crate::places::Places;
 use crate::tasks::Tasks;
 use cs_types::{OutOfMemory, Pid, Task, TaskSpec};
 use slab::Slab;
@@ -24,6 +25,7 @@ pub struct TaskTable {
     slots: Slab<Task>,
     /// An entry for each task, by rising pid.
     entries: Vec<Entry>,
+    places: Places,
     limit: u16,
 }
 
@@ -70,6 +72,7 @@ impl TaskTable {
         Ok(TaskTable {
             slots: Slab::with_capacity(alloc, limit as usize)?,
             entries: Vec::with_capacity(alloc, limit as usize)?,
+            places: Places::none(alloc)?,
             limit,
         })
     }
@@ -79,7 +82,23 @@ impl TaskTable {
         ensures position { MatchResult result (λ position. IsAt pid position self.now.tasks) (λ position. IsGap pid position self.now.tasks) }
         ensures sound { IsSound self.now }
     {
-        position_of(&self.entries, pid)
+        match self.noted(pid) {
+            Some(position) => Ok(position),
+            None => position_of(&self.entries, pid),
+        }
+    }
+
+    /// The position of the task with the pid, where it is the one that was noted.
+    fn noted(&self, pid: Pid) -> Option<usize>
+        ensures { IfSome result (λ position. IsAt pid position self.now.tasks) }
+    {
+        let position = self.places.of(pid)?;
+        let noted = self.entries.get(position)?;
+        if noted.pid == pid {
+            Some(position)
+        } else {
+            None
+        }
     }
 
     /// Puts a task asleep into the table, charged nothing yet. `Twice` comes exactly where a task has its pid, and else
@@ -118,6 +137,7 @@ impl TaskTable {
             forced: 0,
         };
         self.entries.insert(position, entry).unwrap();
+        self.places.note(&self.entries, position);
         Ok(())
     }
 
@@ -200,6 +220,7 @@ impl TaskTable {
         };
         let entry = self.entries.remove(position);
         let task = self.slots.remove(entry.key);
+        self.places.note(&self.entries, position);
         Some((task, entry.forced))
     }
 

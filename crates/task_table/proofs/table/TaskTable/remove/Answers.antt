@@ -39,7 +39,7 @@ remove-task-requires c =
     let there = found_some kept c.args.pid c.in-Ok.position _ c.in-Ok.ensures.position c.remove-entry.ensures.value in
     ap is_some there.1
 
-after : (c : goal.After-remove-task) → IsKept c.remove-task.new.self c.remove-entry.new.self.items
+after : (c : goal.After-note) → IsKept c.remove-task.new.self c.remove-entry.new.self.items
     (vec_capacity c.remove-entry.new.self) c.self.inside.limit (filter (λ task. not (has_pid c.args.pid task)) c.args.self.now.tasks)
 after c =
     let kept = kept_of _ _ _ _ _ c.self.view_is c.self.invariant in
