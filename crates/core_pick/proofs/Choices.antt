@@ -1,18 +1,17 @@
 -- What the code chooses is the model's choice, and what it counts are the model's counts.
-use Rattle.std.proofs.Common.{◌≡◌, ℕ, suc, ◌+◌, ◌-◌, ◌<◌, ◌≤◌, Bool, true, false, cond, List, [], ◌∷◌, ◌++◌, map, length, get_or, refl, sym, ap, ◌∙◌, append_assoc, arith}
+use Rattle.std.proofs.Common.{◌≡◌, ℕ, suc, ◌+◌, ◌-◌, ◌<◌, ◌≤◌, false, cond, List, [], ◌∷◌, ◌++◌, map, length, get_or, refl, sym, ap, ◌∙◌, append_assoc, arith}
 use Rattle.std.specs.Prelude.{◌||◌, ◌&&◌, ◌==◌, filter, count_by, All, Option, Some, None, is_none, is_some, IfSome, not}
 use Rattle.std.specs.List.{list_any, list_all, range_with_len}
 use Rattle.std.specs.Option.{option_and_then}
 use Rattle.std.proofs.lemmas.Bool.{cond-false, ne_eqb}
-use Rattle.std.proofs.lemmas.List.{map-append}
-use Rattle.std.proofs.lemmas.List.Elements.{filter-append, All-map, All-filter}
-use Rattle.std.proofs.lemmas.List.FromFn.{get_or-map-range_with_len}
+use Rattle.std.proofs.lemmas.List.Elements.{filter-append, All-map, All-filter, All-append, All-head, All-tail}
+use Rattle.std.proofs.lemmas.List.FromFn.{get_or-map-range_with_len, get_or-range_with_len, length-range_with_len}
 use Rattle.cs_types.specs.Room.{RoomState, is_online, online, online_from, queued_on}
 use Rattle.cs_types.specs.Order.{first_of, goes_before, foremost, outranks}
 use Rattle.cs_types.specs.Selection.{first_on, cookie_of, pid_of, snapshot_of, queued_with, choice, is_forced, forced_count, occupation_of, is_run, task_after_selection, lead_from}
 use Rattle.cs_types.specs.declared.task.Task.{Task}
 use Rattle.core_pick.specs.declared.choice.Choice.{Choice}
-use Rattle.core_pick.specs.Choice.{choice_at, choices_of, task_after_choices}
+use Rattle.core_pick.specs.Choice.{first_among, firsts_of, choice_at, choices_of, task_after_choices}
 use Rattle.core_lanes.proofs.Lists.{count_at, any_at, range_more, All-find}
 
 -- a first with another cookie makes way for what the search gives
@@ -64,46 +63,65 @@ choice_in room core cpu d lt = get_or-map-range_with_len (choice_at room core) 0
 
 -- ---- the firsts
 
--- the firsts of those of some siblings that are online, and of those from one to another
-abbrev pub firsts_of : RoomState → List ℕ → List (Option Task)
-firsts_of room cpus = map (first_on room) (filter (is_online room) cpus)
+-- the online siblings from one to another
+abbrev pub online_between : RoomState → ℕ → ℕ → List ℕ
+online_between room from to = filter (is_online room) (range_with_len from (to - from))
 
-abbrev pub firsts_between : RoomState → ℕ → ℕ → List (Option Task)
-firsts_between room from to = firsts_of room (range_with_len from (to - from))
-
-firsts_of-append : (room : RoomState) (cpus more : List ℕ) → firsts_of room (cpus ++ more) ≡ firsts_of room cpus ++ firsts_of room more
-firsts_of-append room cpus more =
-    ap (map (first_on room)) (filter-append (is_online room) cpus more) ∙ map-append (first_on room) (filter (is_online room) cpus) (filter (is_online room) more)
-
--- the firsts so far, after one more sibling
-pub firsts_step : (room : RoomState) (from cpu : ℕ) → from ≤ cpu → (initial before now : List (Option Task)) → before ≡ initial ++ firsts_between room from cpu →
-    now ≡ before ++ cond (is_online room cpu) (first_on room cpu ∷ []) [] → now ≡ initial ++ firsts_between room from (cpu + 1)
-firsts_step room from cpu le initial before now so_far step =
+-- those so far, after one more sibling
+pub online_step : (room : RoomState) (from cpu : ℕ) → from ≤ cpu → (initial before now : List ℕ) → before ≡ initial ++ online_between room from cpu →
+    now ≡ before ++ cond (is_online room cpu) (cpu ∷ []) [] → now ≡ initial ++ online_between room from (cpu + 1)
+online_step room from cpu le initial before now so_far step =
     let n = cpu - from in
     let one_more : suc n ≡ cpu + 1 - from = omega arith in
     let there : cpu ≡ from + n = omega arith in
-    let more = cond (is_online room cpu) (first_on room cpu ∷ []) [] in
+    let more = cond (is_online room cpu) (cpu ∷ []) [] in
     step
-    ∙ ap (λ (firsts : List (Option Task)). firsts ++ more) so_far
-    ∙ append_assoc initial (firsts_between room from cpu) more
-    ∙ ap (λ (firsts : List (Option Task)). initial ++ firsts)
-    (ap (λ (firsts : List (Option Task)). firsts_between room from cpu ++ firsts) (first_where (is_online room cpu) ∙ ap (λ (m : ℕ). firsts_of room (m ∷ [])) there)
-    ∙ sym (firsts_of-append room (range_with_len from n) ((from + n) ∷ []))
-    ∙ ap (firsts_of room) (sym (range_more from n))
-    ∙ ap (λ m. firsts_of room (range_with_len from m)) one_more) where
-      first_where : (b : Bool) → cond b (first_on room cpu ∷ []) [] ≡ map (first_on room) (cond b (cpu ∷ []) [])
-      first_where true = refl
-      first_where false = refl
+    ∙ ap (λ (cpus : List ℕ). cpus ++ more) so_far
+    ∙ append_assoc initial (online_between room from cpu) more
+    ∙ ap (λ (cpus : List ℕ). initial ++ cpus)
+    (ap (λ (m : ℕ). online_between room from cpu ++ filter (is_online room) (m ∷ [])) there
+    ∙ sym (filter-append (is_online room) (range_with_len from n) ((from + n) ∷ []))
+    ∙ ap (filter (is_online room)) (sym (range_more from n))
+    ∙ ap (λ m. filter (is_online room) (range_with_len from m)) one_more)
 
--- what is pushed from a sibling on, and then up to it, are the firsts from it on
-pub firsts_pushed : (room : RoomState) (cpu count : ℕ) (none later all firsts : List (Option Task)) → count ≡ length room.siblings → none ≡ [] →
-    later ≡ none ++ firsts_between room cpu count → all ≡ later ++ firsts_between room 0 cpu → firsts ≡ all → firsts ≡ map (first_on room) (online_from room cpu)
-firsts_pushed room cpu count none later all firsts counted empty first second same =
+-- what is pushed from a sibling on, and then up to it, are the online ones from it on
+pub online_pushed : (room : RoomState) (cpu count : ℕ) (none later all order : List ℕ) → count ≡ length room.siblings → none ≡ [] →
+    later ≡ none ++ online_between room cpu count → all ≡ later ++ online_between room 0 cpu → order ≡ all → order ≡ online_from room cpu
+online_pushed room cpu count none later all order counted empty first second same =
     let whole : cpu - 0 ≡ cpu = omega arith in
     same
     ∙ second
-    ∙ (λ i. (first ∙ (λ j. empty j ++ firsts_between room cpu (counted j))) i ++ firsts_of room (range_with_len 0 (whole i)))
-    ∙ sym (firsts_of-append room (range_with_len cpu (length room.siblings - cpu)) (range_with_len 0 cpu))
+    ∙ (λ i. (first ∙ (λ j. empty j ++ online_between room cpu (counted j))) i ++ filter (is_online room) (range_with_len 0 (whole i)))
+    ∙ sym (filter-append (is_online room) (range_with_len cpu (length room.siblings - cpu)) (range_with_len 0 cpu))
+
+-- they are siblings of the room
+pub online_within : (room : RoomState) (cpu : ℕ) → cpu ≤ length room.siblings → All (λ other. other < length room.siblings) (online_from room cpu)
+online_within room cpu le =
+    let count = length room.siblings in
+    let P : ℕ → Type 0 = λ other. other < count in
+    All-filter (is_online room) P (range_with_len cpu (count - cpu) ++ range_with_len 0 cpu)
+    (All-append P (range_with_len cpu (count - cpu)) (range_with_len 0 cpu) (below cpu (count - cpu) count (omega arith)) (below 0 cpu count (omega arith))) where
+      below : (from n count : ℕ) → from + n ≤ count → All (λ other. other < count) (range_with_len from n)
+      below from n count fits k d lt =
+          let inside : k < n = omega (arith, length-range_with_len from n) in
+          let there = get_or-range_with_len from n k d inside in
+          omega (arith, there)
+
+-- the first of a sibling is found among those of all
+pub first_is : (room : RoomState) (firsts : List (Option Task)) → firsts ≡ firsts_of room → (cpu : ℕ) → cpu < length room.siblings →
+    first_among firsts cpu ≡ first_on room cpu
+first_is room firsts are cpu below =
+    ap (λ (fs : List (Option Task)). first_among fs cpu) are
+    ∙ get_or-map-range_with_len (first_on room) 0 (length room.siblings) cpu cpu None below (omega arith)
+
+-- the firsts of some siblings are found among those of all
+pub firsts_among : (room : RoomState) (firsts : List (Option Task)) → firsts ≡ firsts_of room →
+    (cpus : List ℕ) → All (λ cpu. cpu < length room.siblings) cpus → map (first_among firsts) cpus ≡ map (first_on room) cpus
+firsts_among room firsts are [] within = refl
+firsts_among room firsts are (cpu ∷ cpus) within =
+    let P : ℕ → Type 0 = λ cpu. cpu < length room.siblings in
+    let first = first_is room firsts are cpu (All-head P cpu cpus within) in
+    λ i. first i ∷ firsts_among room firsts are cpus (All-tail P cpu cpus within) i
 
 -- each first is a task of the room
 pub All-firsts : (P : Task → Type 0) (room : RoomState) (cpus : List ℕ) → All P room.tasks → All (λ first. IfSome first P) (map (first_on room) cpus)

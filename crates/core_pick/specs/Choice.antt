@@ -3,13 +3,21 @@ use Rattle.std.specs.Prelude.{ℕ, Bool, ◌&&◌, if◌then◌else◌, List, le
 use Rattle.std.specs.Option.{option_and_then}
 use Rattle.std.specs.List.{list_any, range_with_len}
 use Rattle.cs_types.specs.Room.{RoomState, SiblingState, absent, has_pid, is_online}
-use Rattle.cs_types.specs.Selection.{is_run, pid_of, is_fair_task, choice, is_forced}
+use Rattle.cs_types.specs.Selection.{first_on, is_run, pid_of, is_fair_task, choice, is_forced}
 use Rattle.core_pick.specs.declared.choice.Choice.{Choice}
 use Rattle.cs_types.specs.declared.task.Task.{Task}
 
 -- the snapshot of a sibling among these
 abbrev pub snapshot_in : List SiblingState → ℕ → ℕ
 snapshot_in siblings cpu = (slice_index_or siblings cpu absent).snapshot
+
+-- the first of a sibling among those of all, which stand in the order of their numbers
+abbrev pub first_among : List (Option Task) → ℕ → Option Task
+first_among firsts cpu = slice_index_or firsts cpu None
+
+-- the firsts of all siblings
+abbrev pub firsts_of : RoomState → List (Option Task)
+firsts_of room = map (first_on room) (range_with_len 0 (length room.siblings))
 
 -- what a sibling gets for a core cookie
 abbrev pub choice_at : RoomState → ℕ → ℕ → Choice

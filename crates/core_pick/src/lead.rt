@@ -5,16 +5,19 @@ ghost use Rattle.std.specs.Option.{option_map_or, option_and_then};
 ghost use Rattle.cs_types.specs.Order.{foremost, outranks};
 ghost use Rattle.sibling_priority.specs.Offers.{IsFirst, class_of_first, rank_of_first};
 ghost use Rattle.core_lanes.specs.Lanes.{lane_state};
-ghost use Rattle.core_pick.specs.Choice.{snapshot_in};
+ghost use Rattle.core_pick.specs.Choice.{snapshot_in, first_among};
 
 use crate::choice::MOST_SIBLINGS;
 use arrayvec::ArrayVec;
 use core_lanes::Lane;
-use cs_types::{Policy, Task};
+use cs_types::{Cpu, Policy, Task};
 use sibling_priority::{IDLE, Offer, lead};
 
-/// The first tasks of siblings, none for one that runs idle.
+/// The first task of each sibling, none for one with no task, in the order of their numbers.
 pub type Firsts = ArrayVec<Option<Task>, MOST_SIBLINGS>;
+
+/// Siblings in the order in which one looks at them.
+pub type Order = ArrayVec<Cpu, MOST_SIBLINGS>;
 
 /// The place of a first task within its class, the smaller the higher.
 fn rank_of(task: &Task) -> u128
@@ -56,22 +59,24 @@ fn offer<Q: Drop>(first: Option<Task>, lanes: &[Lane<Q>]) -> Offer
     }
 }
 
-/// The earliest of the first tasks of these siblings than which no other is higher, none for idle.
-pub fn lead_of<Q: Drop>(firsts: &[Option<Task>], lanes: &[Lane<Q>]) -> Option<Task>
-    requires few { length firsts.now ≤ 16 }
+/// The earliest of the first tasks of these siblings than which no other is higher, none for idle. The first tasks
+/// are those of all siblings.
+pub fn lead_of<Q: Drop>(order: &[Cpu], firsts: &[Option<Task>], lanes: &[Lane<Q>]) -> Option<Task>
+    requires few { length order.now ≤ 16 }
+    requires within { All (λ cpu. cpu < length firsts.now) order.now }
     requires priorities { All IsFirst firsts.now }
     requires homes { All (λ first. IfSome first (λ task. task.home < length lanes.now)) firsts.now }
     requires vtimes { All (λ first. IfSome first (λ task. task.vtime < 2 ^ 127)) firsts.now }
     requires snapshots { All (λ sibling. sibling.snapshot < 2 ^ 127) (map lane_state lanes.now) }
     ensures { result ≡
-        option_and_then (λ first. first) (foremost (outranks (snapshot_in (map lane_state lanes.now))) firsts.now) }
+        option_and_then (λ first. first) (foremost (outranks (snapshot_in (map lane_state lanes.now))) (map (first_among firsts.now) order.now)) }
 {
     let mut offers: ArrayVec<Offer, MOST_SIBLINGS> = ArrayVec::new();
-    for first in firsts {
-        offers.push(offer(*first, lanes));
+    for cpu in order {
+        offers.push(offer(firsts[*cpu as usize], lanes));
     }
     if offers.is_empty() {
         return None;
     }
-    firsts[lead(&offers)]
+    firsts[order[lead(&offers)] as usize]
 }

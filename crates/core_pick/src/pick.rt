@@ -2,20 +2,21 @@
 
 ghost use Rattle.std.specs.Prelude.{◌≡◌, ℕ, ◌+◌, ◌^◌, ◌<◌, length, ◌==◌, ◌&&◌, ◌||◌, is_some, None, IfSome, IfNone, if◌then◌else◌};
 ghost use Rattle.cs_types.specs.Room.{sibling_of, is_online};
-ghost use Rattle.cs_types.specs.Selection.{cookie_of, lead_from, pid_of, choice, forced_count, is_plain, adopt, pick_plain, select_for, select, pick_anew, adopt_or_pick_anew, balance, schedule};
+ghost use Rattle.cs_types.specs.Selection.{first_on, cookie_of, lead_from, pid_of, choice, forced_count, is_plain, adopt, pick_plain, select_for, select, pick_anew, adopt_or_pick_anew, balance, schedule};
 ghost use Rattle.task_table.specs.Table.{Table};
 ghost use Rattle.core_lanes.specs.Lanes.{Beside, at, room_of, AgreesAt};
 ghost use Rattle.core_lanes.specs.Numbers.{numbers_of, is_fresh_by};
 ghost use Rattle.core_lanes.specs.Changes.{Stays};
+ghost use Rattle.core_pick.specs.Choice.{firsts_of};
 ghost use Rattle.core_pick.specs.Schedules.{MayPick, MaySchedule, Schedules, ChargesAndSchedules};
 
 use crate::account::charge;
 use crate::balance::balance;
 use crate::choice::{forced_count, occupation, update_siblings, update_tasks};
-use crate::selection::{choices, cookie_of, is_fair_task, lead_from, pid_of};
+use crate::selection::{choices, cookie_of, firsts, is_fair_task, lead_from, pid_of};
 use crate::sibling::{run, run_first};
 use core_lanes::{Core, SiblingQueue};
-use cs_types::{Cookie, Cpu, Kind, Pick, Pid, Steps};
+use cs_types::{Cookie, Cpu, Kind, Pick, Pid, Steps, Task};
 use std::sync::ledger::Ledger;
 use task_table::TaskTable;
 
@@ -59,32 +60,21 @@ fn is_cookieless(core: Cookie, forced: u8, first: Cookie) -> bool
     core == 0 && forced == 0 && first == 0
 }
 
-/// Whether no cookie takes part in a schedule of the sibling.
-fn is_plain<Q: SiblingQueue, L: Ledger>(
-    core: &Core<Q>,
-    table: &TaskTable,
-    cpu: Cpu,
-    steps: &mut Steps<L>,
-) -> bool
-    requires { AgreesAt cpu (core.now, table.now) }
-    ensures { (beside : Beside) → result ≡ is_plain (room_of beside (core.now, table.now)) cpu }
+/// Whether no cookie takes part in a schedule of the sibling with this first task.
+fn is_plain<Q: SiblingQueue>(core: &Core<Q>, first: Option<Task>) -> bool
+    ensures { (beside : Beside) (table : Table) (cpu : ℕ) → let room = room_of beside (core.now, table) in
+        first ≡ first_on room cpu → result ≡ is_plain room cpu }
 {
-    let cookie = cookie_of(core.first_on(table, cpu, steps));
-    is_cookieless(core.cookie, core.account.count(), cookie)
+    is_cookieless(core.cookie, core.account.count(), cookie_of(first))
 }
 
-/// The sibling runs the first of its own queue.
-fn pick_plain<Q: SiblingQueue, L: Ledger>(
-    core: &mut Core<Q>,
-    table: &TaskTable,
-    cpu: Cpu,
-    steps: &mut Steps<L>,
-) -> Pick
-    requires at { AgreesAt cpu (core.old, table.now) }
+/// The sibling runs this, the first of its own queue.
+fn pick_plain<Q: SiblingQueue>(core: &mut Core<Q>, cpu: Cpu, first: Option<Task>) -> Pick
+    requires cpu { cpu < length core.old.lanes.items }
     requires touches { core.old.task_number + 1 < 2 ^ 64 }
-    ensures { (now : ℕ) → Schedules now (core.old, table.now) (core.new, table.now) cpu result (λ room. pick_plain room cpu) }
+    ensures { (now : ℕ) (table : Table) → ((beside : Beside) → first ≡ first_on (room_of beside (core.old, table)) cpu) →
+        Schedules now (core.old, table) (core.new, table) cpu result (λ room. pick_plain room cpu) }
 {
-    let first = core.first_on(table, cpu, steps);
     let pid = pid_of(first);
     core.account.close();
     run_first(&mut core.lanes[cpu as usize], pid, is_fair_task(first));
@@ -108,16 +98,19 @@ fn renews_snapshots(before: u8, after: u8) -> bool
 }
 
 /// Gives each online sibling its choice for this core cookie, in a selection that the one sibling
-/// makes, and answers what that one runs.
+/// makes, where these are their first tasks, and answers what that one runs.
 fn select_for<Q: SiblingQueue, L: Ledger>(
     core: &mut Core<Q>,
     table: &mut TaskTable,
     cpu: Cpu,
+    firsts: &[Option<Task>],
     cookie: Cookie,
     now: u64,
     steps: &mut Steps<L>,
 ) -> Option<Pid>
     requires at { AgreesAt cpu (core.old, table.old) }
+    requires firsts { (beside : Beside) → firsts.now ≡ firsts_of (room_of beside (core.old, table.old)) }
+    requires each { length firsts.now ≡ length core.old.lanes.items }
     requires lead { (beside : Beside) → cookie ≡ cookie_of (lead_from (room_of beside (core.old, table.old)) cpu) }
     requires clock { now < 2 ^ 56 }
     ensures room { (beside : Beside) →
@@ -127,7 +120,7 @@ fn select_for<Q: SiblingQueue, L: Ledger>(
     ensures run { (beside : Beside) → result ≡ pid_of (choice (room_of beside (core.old, table.old)) cookie cpu) }
     ensures forced { (beside : Beside) → core.new.account.count ≡ forced_count (room_of beside (core.old, table.old)) cookie }
 {
-    let choices = choices(core, table, cookie, steps);
+    let choices = choices(core, table, firsts, cookie, steps);
     let choices = choices.as_slice();
     let forced = forced_count(choices);
     let occupation = occupation(choices);
@@ -139,19 +132,23 @@ fn select_for<Q: SiblingQueue, L: Ledger>(
     choices[cpu as usize].run
 }
 
-/// The sibling makes a selection for the core, under the cookie of its lead.
+/// The sibling, whose first task this is, makes a selection for the core, under the cookie of its lead.
 fn select<Q: SiblingQueue, L: Ledger>(
     core: &mut Core<Q>,
     table: &mut TaskTable,
     cpu: Cpu,
+    first: Option<Task>,
     now: u64,
     steps: &mut Steps<L>,
 ) -> Pick
-    requires { MayPick now cpu (core.old, table.old) }
+    requires may { MayPick now cpu (core.old, table.old) }
+    requires first { (beside : Beside) → first ≡ first_on (room_of beside (core.old, table.old)) cpu }
     ensures { Schedules now (core.old, table.old) (core.new, table.new) cpu result (λ room. select room cpu) }
 {
-    let cookie = cookie_of(lead_from(core, table, cpu, steps));
-    let run = select_for(core, table, cpu, cookie, now, steps);
+    let firsts = firsts(core, table, cpu, first, steps);
+    let firsts = firsts.as_slice();
+    let cookie = cookie_of(lead_from(core, table, firsts, cpu));
+    let run = select_for(core, table, cpu, firsts, cookie, now, steps);
     core.touch();
     core.pick_number = core.task_number;
     core.lanes[cpu as usize].number = core.pick_number;
@@ -176,10 +173,11 @@ fn pick_anew<Q: SiblingQueue, L: Ledger>(
     requires { MayPick now cpu (core.old, table.old) }
     ensures { Schedules now (core.old, table.old) (core.new, table.new) cpu result (λ room. pick_anew room cpu) }
 {
-    if is_plain(core, table, cpu, steps) {
-        pick_plain(core, table, cpu, steps)
+    let first = core.first_on(table, cpu, steps);
+    if is_plain(core, first) {
+        pick_plain(core, cpu, first)
     } else {
-        select(core, table, cpu, now, steps)
+        select(core, table, cpu, first, now, steps)
     }
 }
 

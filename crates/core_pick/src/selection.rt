@@ -8,10 +8,11 @@ ghost use Rattle.cs_types.specs.Room.{is_online};
 ghost use Rattle.cs_types.specs.Order.{first_of};
 ghost use Rattle.cs_types.specs.Selection.{first_on, queued_with, cookie_of, pid_of, is_fair_task, choice, lead_from};
 ghost use Rattle.core_lanes.specs.Lanes.{Beside, room_of, Agree, AgreesAt, HasLowTimes};
-ghost use Rattle.core_pick.specs.Choice.{choice_at};
+ghost use Rattle.task_table.specs.Table.{Table};
+ghost use Rattle.core_pick.specs.Choice.{choice_at, firsts_of};
 
 use crate::choice::{Choice, Choices};
-use crate::lead::{Firsts, lead_of};
+use crate::lead::{Firsts, Order, lead_of};
 use core_lanes::{Core, SiblingQueue, is_fair};
 use cs_types::{Cookie, Cpu, Pid, Steps, Task};
 use std::sync::ledger::Ledger;
@@ -57,18 +58,19 @@ fn choice<Q: SiblingQueue, L: Ledger>(
     }
 }
 
-/// What a sibling gets for a core cookie.
+/// What a sibling with this first task gets for a core cookie.
 fn choice_at<Q: SiblingQueue, L: Ledger>(
     core: &Core<Q>,
     table: &TaskTable,
+    first: Option<Task>,
     cookie: Cookie,
     cpu: Cpu,
     steps: &mut Steps<L>,
 ) -> Choice
     requires { AgreesAt cpu (core.now, table.now) }
-    ensures { (beside : Beside) → result ≡ choice_at (room_of beside (core.now, table.now)) cookie cpu }
+    ensures { (beside : Beside) → first ≡ first_on (room_of beside (core.now, table.now)) cpu →
+        result ≡ choice_at (room_of beside (core.now, table.now)) cookie cpu }
 {
-    let first = core.first_on(table, cpu, steps);
     let chosen = choice(core, table, first, cookie, cpu, steps);
     let is_online = core.is_online(cpu);
     Choice {
@@ -79,64 +81,100 @@ fn choice_at<Q: SiblingQueue, L: Ledger>(
     }
 }
 
-/// What each sibling gets for a core cookie.
+/// What each sibling gets for a core cookie, where these are their first tasks.
 pub fn choices<Q: SiblingQueue, L: Ledger>(
     core: &Core<Q>,
     table: &TaskTable,
+    firsts: &[Option<Task>],
     cookie: Cookie,
     steps: &mut Steps<L>,
 ) -> Choices
-    requires { Agree (core.now, table.now) }
-    ensures each { (beside : Beside) → result.items ≡
-        map (choice_at (room_of beside (core.now, table.now)) cookie) (range_with_len 0 (length core.now.lanes.items)) }
+    requires agree { Agree (core.now, table.now) }
+    requires each { length firsts.now ≡ length core.now.lanes.items }
+    ensures each { (beside : Beside) → let room = room_of beside (core.now, table.now) in
+        firsts.now ≡ firsts_of room → result.items ≡ map (choice_at room cookie) (range_with_len 0 (length core.now.lanes.items)) }
     ensures length { length result.items ≡ length core.now.lanes.items }
 {
     let mut choices = Choices::new();
     for cpu in 0..core.lanes.len() {
-        choices.push(choice_at(core, table, cookie, cpu as u8, steps));
+        let first = firsts[cpu];
+        choices.push(choice_at(core, table, first, cookie, cpu as u8, steps));
     }
     choices
 }
 
-/// Puts the firsts of the online siblings from one on up to another after the others.
-fn push_firsts<Q: SiblingQueue, L: Ledger>(
-    firsts: &mut Firsts,
+/// The first task of a sibling, where this is that of the sibling of its own.
+fn first_beside<Q: SiblingQueue, L: Ledger>(
     core: &Core<Q>,
     table: &TaskTable,
-    from: Cpu,
-    to: Cpu,
+    own: Cpu,
+    first: Option<Task>,
+    cpu: Cpu,
     steps: &mut Steps<L>,
-)
-    requires agree { Agree (core.now, table.now) }
+) -> Option<Task>
+    requires { AgreesAt cpu (core.now, table.now) }
+    ensures { (beside : Beside) → let room = room_of beside (core.now, table.now) in
+        first ≡ first_on room own → result ≡ first_on room cpu }
+{
+    if cpu == own {
+        first
+    } else {
+        core.first_on(table, cpu, steps)
+    }
+}
+
+/// The first task of each sibling, of which this is the one's.
+pub fn firsts<Q: SiblingQueue, L: Ledger>(
+    core: &Core<Q>,
+    table: &TaskTable,
+    own: Cpu,
+    first: Option<Task>,
+    steps: &mut Steps<L>,
+) -> Firsts
+    requires { Agree (core.now, table.now) }
+    ensures each { (beside : Beside) → let room = room_of beside (core.now, table.now) in
+        first ≡ first_on room own → result.items ≡ firsts_of room }
+    ensures length { length result.items ≡ length core.now.lanes.items }
+{
+    let mut firsts = Firsts::new();
+    for cpu in 0..core.lanes.len() {
+        firsts.push(first_beside(core, table, own, first, cpu as u8, steps));
+    }
+    firsts
+}
+
+/// Puts the online siblings from one on up to another after the others.
+fn push_online<Q: SiblingQueue>(order: &mut Order, core: &Core<Q>, from: Cpu, to: Cpu)
     requires ordered { from ≤ to }
     requires within { to ≤ length core.now.lanes.items }
-    requires spare { array_vec_len firsts.old + (to - from) ≤ 16 }
-    ensures pushed { (beside : Beside) → let room = room_of beside (core.now, table.now) in
-        firsts.new.items ≡ firsts.old.items ++ map (first_on room) (filter (is_online room) (range_with_len from (to - from))) }
-    ensures length { array_vec_len firsts.new ≤ array_vec_len firsts.old + (to - from) }
+    requires spare { array_vec_len order.old + (to - from) ≤ 16 }
+    ensures pushed { (beside : Beside) (table : Table) →
+        order.new.items ≡ order.old.items ++ filter (is_online (room_of beside (core.now, table))) (range_with_len from (to - from)) }
+    ensures length { array_vec_len order.new ≤ array_vec_len order.old + (to - from) }
 {
     for cpu in from..to {
         if core.is_online(cpu) {
-            firsts.push(core.first_on(table, cpu, steps));
+            order.push(cpu);
         }
     }
 }
 
-/// The lead of a selection that the sibling makes, none for idle.
-pub fn lead_from<Q: SiblingQueue, L: Ledger>(
+/// The lead of a selection that the sibling makes, where these are the first tasks, none for idle.
+pub fn lead_from<Q: SiblingQueue>(
     core: &Core<Q>,
     table: &TaskTable,
+    firsts: &[Option<Task>],
     cpu: Cpu,
-    steps: &mut Steps<L>,
 ) -> Option<Task>
     requires at { AgreesAt cpu (core.now, table.now) }
     requires low { HasLowTimes (core.now, table.now) }
+    requires firsts { (beside : Beside) → firsts.now ≡ firsts_of (room_of beside (core.now, table.now)) }
     ensures { (beside : Beside) → result ≡ lead_from (room_of beside (core.now, table.now)) cpu }
 {
-    let mut firsts = Firsts::new();
-    push_firsts(&mut firsts, core, table, cpu, core.lanes.len() as u8, steps);
-    push_firsts(&mut firsts, core, table, 0, cpu, steps);
-    lead_of(&firsts, &core.lanes)
+    let mut order = Order::new();
+    push_online(&mut order, core, cpu, core.lanes.len() as u8);
+    push_online(&mut order, core, 0, cpu);
+    lead_of(&order, firsts, &core.lanes)
 }
 
 /// The task's pid, none for idle.

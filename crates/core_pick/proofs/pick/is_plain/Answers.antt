@@ -4,7 +4,7 @@ use Rattle.cs_types.specs.Selection.{cookie_of}
 use Rattle.core_pick.proofs.pick.is_plain.Goals as goal
 
 pub returns : goal.returns
-returns g c beside =
-    let cookie = c.cookie_of-cookie.ensures ∙ ap cookie_of (c.first_on.ensures beside) in
+returns g c beside table cpu is_first =
+    let cookie = c.cookie_of.ensures ∙ ap cookie_of is_first in
     let count = c.count.ensures.count in
     c.is_cookieless.ensures ∙ (λ i. (c.args.core.now.cookie == 0) && (count i == 0) && (cookie i == 0))

@@ -9,13 +9,13 @@ returns-then-is_plain g c =
     let now = c.args.now in
     Schedules-same now (c.args.core.now, c.args.table.now) (c.pick_plain.new.core, c.args.table.now) c.args.cpu c.pick_plain.result (λ room. pick_plain room c.args.cpu) (λ room. pick_anew room c.args.cpu)
     (λ beside. let room = room_of (at now beside) (c.args.core.now, c.args.table.now) in
-    ap (λ b. cond b (pick_plain room c.args.cpu) (select room c.args.cpu)) (sym (c.is_plain.ensures (at now beside)) ∙ c.if-is_plain.true))
-    (c.pick_plain.ensures now)
+    ap (λ b. cond b (pick_plain room c.args.cpu) (select room c.args.cpu)) (sym (c.is_plain.ensures (at now beside) c.args.table.now c.args.cpu (c.first_on-first.ensures (at now beside))) ∙ c.if-is_plain.true))
+    (c.pick_plain.ensures now c.args.table.now (λ beside. c.first_on-first.ensures beside))
 
 pub returns-else-is_plain : goal.returns-else-is_plain
 returns-else-is_plain g c =
     let now = c.args.now in
     Schedules-same now (c.args.core.now, c.args.table.now) (c.select.new.core, c.select.new.table) c.args.cpu c.select.result (λ room. select room c.args.cpu) (λ room. pick_anew room c.args.cpu)
     (λ beside. let room = room_of (at now beside) (c.args.core.now, c.args.table.now) in
-    ap (λ b. cond b (pick_plain room c.args.cpu) (select room c.args.cpu)) (sym (c.is_plain.ensures (at now beside)) ∙ c.if-is_plain.false))
+    ap (λ b. cond b (pick_plain room c.args.cpu) (select room c.args.cpu)) (sym (c.is_plain.ensures (at now beside) c.args.table.now c.args.cpu (c.first_on-first.ensures (at now beside))) ∙ c.if-is_plain.false))
     c.select.ensures

@@ -11,31 +11,31 @@ use Rattle.core_lanes.proofs.Stays.{lane_at, numbers_kept, queues_kept, alike_st
 use Rattle.core_pick.proofs.pick.pick_plain.Goals as goal
 
 pub returns : goal.returns
-returns g c now =
+returns g c now table is_first =
     let old = c.args.core.now in
     let cpu = c.args.cpu in
     let lanes = old.lanes.items in
     let lane = c.index_mut.result.now in
     let after = c.run_first.new.lane in
     let is = c.index_mut.ensures.value in
-    let touch = c.touch.ensures c.args.table.now in
+    let touch = c.touch.ensures table in
     let own = numbers_kept lanes cpu lane after is c.run_first.ensures.number in
     record {
       pick = λ beside.
-          let run = c.unwrap_or.ensures ∙ ap (λ pid. unwrap_or pid 0) (c.pid_of-pid.ensures ∙ ap pid_of (c.first_on-first.ensures (at now beside))) in
+          let run = c.unwrap_or.ensures ∙ ap (λ pid. unwrap_or pid 0) (c.pid_of-pid.ensures ∙ ap pid_of (is_first (at now beside))) in
           λ i. let pick : Pick = record { kind = Plain; run = run i; core = 0; forced = 0 } in pick;
       room = λ beside.
-          let room = room_of (at now beside) (old, c.args.table.now) in
-          let first = c.first_on-first.ensures (at now beside) in
+          let room = room_of (at now beside) (old, table) in
+          let first = is_first (at now beside) in
           let run = c.pid_of-pid.ensures ∙ ap pid_of first in
           let fair = c.is_fair_task.ensures ∙ ap is_fair_task first in
-          let was = sym (lane_at lanes cpu lane c.requires.at.cpu is) in
+          let was = sym (lane_at lanes cpu lane c.requires.cpu is) in
           let state : lane_state after ≡ record (running (sibling_of room cpu) (pid_of (first_on room cpu))) { snapshot = cond (is_fair_task (first_on room cpu)) (sibling_of room cpu).least (sibling_of room cpu).snapshot } =
           c.run_first.ensures.state ∙ (λ i. record (running (was i) (run i)) { snapshot = cond (fair i) (was i).least (was i).snapshot }) in
           let siblings = map-set lane_state lanes cpu after ∙ ap (set (map lane_state lanes) cpu) state in
           touch.room (at now beside)
           ∙ (λ i. record room { siblings = siblings i; forced = c.close.ensures.count i; occupation = c.close.ensures.occupation i; started = c.close.ensures.started i });
       numbers = touch.numbers
-          ∙ ap (touched 1) (λ i. let numbers : Numbers = record (numbers_of (old, c.args.table.now)) { own = own i; intervals = c.close.ensures.intervals i } in numbers);
+          ∙ ap (touched 1) (λ i. let numbers : Numbers = record (numbers_of (old, table)) { own = own i; intervals = c.close.ensures.intervals i } in numbers);
       stays = both_stay (alike_stays _ _ (queues_kept lanes cpu lane after is c.run_first.ensures.queue) refl refl) touch.stays;
     }

@@ -1,4 +1,4 @@
-use Rattle.std.proofs.Common.{◌∙◌, ◌+◌, ◌<◌, ◌≤◌, ◌^◌, ap, sym, set, subst, refl}
+use Rattle.std.proofs.Common.{◌∙◌, ◌+◌, ◌<◌, ◌≤◌, ◌^◌, length, ap, sym, set, subst, refl}
 use Rattle.std.specs.Prelude.{unwrap_or}
 use Rattle.std.proofs.Math.ListN.{length-set}
 use Rattle.std.proofs.lemmas.List.{map-set}
@@ -14,16 +14,25 @@ use Rattle.core_lanes.specs.Changes.{Kept}
 use Rattle.core_lanes.proofs.Stays.{number_of, queues_kept, alike_stays, both_stay}
 use Rattle.core_pick.proofs.pick.select.Goals as goal
 
+pub lead_from-requires-clause-firsts : goal.lead_from-requires-clause-firsts
+lead_from-requires-clause-firsts g c beside = c.as_slice-firsts.ensures.value ∙ c.firsts-firsts.ensures.each beside (c.requires.first beside)
+
+pub select_for-run-requires-clause-firsts : goal.select_for-run-requires-clause-firsts
+select_for-run-requires-clause-firsts g c beside = c.as_slice-firsts.ensures.value ∙ c.firsts-firsts.ensures.each beside (c.requires.first beside)
+
+pub select_for-run-requires-clause-each : goal.select_for-run-requires-clause-each
+select_for-run-requires-clause-each g c = ap length c.as_slice-firsts.ensures.value ∙ c.firsts-firsts.ensures.length
+
 pub select_for-run-requires-clause-lead : goal.select_for-run-requires-clause-lead
 select_for-run-requires-clause-lead g c beside = c.cookie_of-cookie.ensures ∙ ap cookie_of (c.lead_from.ensures beside)
 
 pub touch-requires : goal.touch-requires
-touch-requires g c = subst (λ n. n + 1 < 2 ^ 64) (sym (ap (λ (n : Numbers). n.task) c.select_for-run.ensures.numbers)) c.requires.touches
+touch-requires g c = subst (λ n. n + 1 < 2 ^ 64) (sym (ap (λ (n : Numbers). n.task) c.select_for-run.ensures.numbers)) c.requires.may.touches
 
 pub index_mut-requires : goal.index_mut-requires
 index_mut-requires g c =
     let kept = (c.touch.ensures c.select_for-run.new.table).stays.kept ∙ c.select_for-run.ensures.stays.kept in
-    subst (λ n. c.args.cpu < n) (sym (c.touch.new.self.lanes.ok.0 ∙ ap (λ (k : Kept). k.siblings) kept)) c.requires.cpu
+    subst (λ n. c.args.cpu < n) (sym (c.touch.new.self.lanes.ok.0 ∙ ap (λ (k : Kept). k.siblings) kept)) c.requires.may.cpu
 
 pub invariant_of-core : goal.invariant_of-core
 invariant_of-core g c = record { few = subst (λ n. n ≤ 16) (sym (length-set c.touch.new.self.lanes.items c.args.cpu _)) c.touch.new.self.few }

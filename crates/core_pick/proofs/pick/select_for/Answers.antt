@@ -16,7 +16,7 @@ use Rattle.core_pick.proofs.pick.select_for.Goals as goal
 pub begin-requires-clause-occupied : goal.begin-requires-clause-occupied
 begin-requires-clause-occupied g c some =
     let room = room_of some_beside (c.args.core.now, c.args.table.now) in
-    let are = choices_are room c.args.cookie (length c.args.core.now.lanes.items) c.as_slice-choices.result.now (length-map c.args.core.now.lanes.items lane_state) (c.as_slice-choices.ensures.value ∙ c.choices-choices.ensures.each some_beside) in
+    let are = choices_are room c.args.cookie (length c.args.core.now.lanes.items) c.as_slice-choices.result.now (length-map c.args.core.now.lanes.items lane_state) (c.as_slice-choices.ensures.value ∙ c.choices-choices.ensures.each some_beside (c.requires.firsts some_beside)) in
     let lead = c.requires.lead some_beside in
     let below : c.args.cpu < length room.siblings = omega (arith, length-map c.args.core.now.lanes.items lane_state, c.requires.at.cpu) in
     let has : 0 < forced_count room (cookie_of (lead_from room c.args.cpu)) = subst (λ n. 0 < n) (forced_is room c.args.cookie _ _ c.forced_count-forced.ensures are ∙ ap (forced_count room) lead) some in
@@ -25,14 +25,14 @@ begin-requires-clause-occupied g c some =
 pub returns-clause-run : goal.returns-clause-run
 returns-clause-run g c beside =
     let room = room_of beside (c.args.core.now, c.args.table.now) in
-    let are = choices_are room c.args.cookie (length c.args.core.now.lanes.items) c.as_slice-choices.result.now (length-map c.args.core.now.lanes.items lane_state) (c.as_slice-choices.ensures.value ∙ c.choices-choices.ensures.each beside) in
+    let are = choices_are room c.args.cookie (length c.args.core.now.lanes.items) c.as_slice-choices.result.now (length-map c.args.core.now.lanes.items lane_state) (c.as_slice-choices.ensures.value ∙ c.choices-choices.ensures.each beside (c.requires.firsts beside)) in
     ap (λ (choices : List Choice). (get_or choices c.args.cpu _).run) are
     ∙ ap (λ (choice : Choice). choice.run) (choice_in room c.args.cookie c.args.cpu _ (omega (arith, length-map c.args.core.now.lanes.items lane_state, c.requires.at.cpu)))
 
 pub returns-clause-forced : goal.returns-clause-forced
 returns-clause-forced g c beside =
     let room = room_of beside (c.args.core.now, c.args.table.now) in
-    let are = choices_are room c.args.cookie (length c.args.core.now.lanes.items) c.as_slice-choices.result.now (length-map c.args.core.now.lanes.items lane_state) (c.as_slice-choices.ensures.value ∙ c.choices-choices.ensures.each beside) in
+    let are = choices_are room c.args.cookie (length c.args.core.now.lanes.items) c.as_slice-choices.result.now (length-map c.args.core.now.lanes.items lane_state) (c.as_slice-choices.ensures.value ∙ c.choices-choices.ensures.each beside (c.requires.firsts beside)) in
     c.begin.ensures.count ∙ forced_is room c.args.cookie _ _ c.forced_count-forced.ensures are
 
 pub returns-clause-room : goal.returns-clause-room
@@ -40,7 +40,7 @@ unfolding select_for
 returns-clause-room g c beside =
     let now = at c.args.now beside in
     let room = room_of now (c.args.core.now, c.args.table.now) in
-    let are = choices_are room c.args.cookie (length c.args.core.now.lanes.items) c.as_slice-choices.result.now (length-map c.args.core.now.lanes.items lane_state) (c.as_slice-choices.ensures.value ∙ c.choices-choices.ensures.each now) in
+    let are = choices_are room c.args.cookie (length c.args.core.now.lanes.items) c.as_slice-choices.result.now (length-map c.args.core.now.lanes.items lane_state) (c.as_slice-choices.ensures.value ∙ c.choices-choices.ensures.each now (c.requires.firsts now)) in
     let forced = forced_is room c.args.cookie _ _ c.forced_count-forced.ensures are in
     let occupation = occupation_is room c.args.cookie _ _ c.occupation-occupation.ensures are in
     let count = c.count.ensures.count in

@@ -5,8 +5,7 @@ use Rattle.core_pick.specs.declared.choice.Choice.{Choice}
 use Rattle.core_pick.proofs.selection.choice_at.Goals as goal
 
 pub returns : goal.returns
-returns g c beside =
-    let first = c.first_on-first.ensures beside in
+returns g c beside first =
     let chosen = c.choice-chosen.ensures beside first in
     let run = c.pid_of.ensures ∙ ap pid_of chosen in
     let online = c.is_online-is_online.ensures beside c.args.table.now in

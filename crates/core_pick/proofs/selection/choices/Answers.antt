@@ -1,19 +1,24 @@
-use Rattle.std.proofs.Common.{◌≡◌, ◌∙◌, ap, refl, map, length, arith}
+use Rattle.std.proofs.Common.{◌≡◌, ◌∙◌, ◌<◌, ap, refl, map, length, arith}
 use Rattle.std.specs.List.{range_with_len}
+use Rattle.std.proofs.lemmas.List.{length-map}
 use Rattle.std.proofs.lemmas.List.FromFn.{map-range_with_len_more}
-use Rattle.core_lanes.specs.Lanes.{room_of}
+use Rattle.core_lanes.specs.Lanes.{lane_state, room_of}
 use Rattle.core_pick.specs.Choice.{choice_at}
+use Rattle.core_pick.proofs.Choices.{first_is}
 use Rattle.core_pick.proofs.selection.choices.Goals as goal
 
 pub loop-cpu-preserved : goal.loop-cpu-preserved
 loop-cpu-preserved g c = record {
   counted = omega (arith, c.push.ensures.len, c.loop-cpu.invariant.counted);
-  made = λ beside.
-      rw (c.push.ensures.items, c.loop-cpu.invariant.made beside, c.choice_at.ensures beside, map-range_with_len_more (choice_at (room_of beside (c.args.core.now, c.args.table.now)) c.args.cookie) 0 c.loop-cpu.cpu c.loop-cpu.cpu (omega arith)) refl;
+  made = λ beside are.
+      let room = room_of beside (c.args.core.now, c.args.table.now) in
+      let below : c.loop-cpu.cpu < length room.siblings = omega (arith, c.loop-cpu-test.true, c.len-cpu-end.ensures, c.args.core.now.lanes.ok.0, length-map c.args.core.now.lanes.items lane_state) in
+      let made = c.choice_at.ensures beside (first_is room c.args.firsts.now are c.loop-cpu.cpu below) in
+      rw (c.push.ensures.items, c.loop-cpu.invariant.made beside are, made, map-range_with_len_more (choice_at room c.args.cookie) 0 c.loop-cpu.cpu c.loop-cpu.cpu (omega arith)) refl;
 }
 
 pub returns-clause-each : goal.returns-clause-each
-returns-clause-each g c beside =
+returns-clause-each g c beside are =
     let core = c.args.core.now in
     let all : c.loop-cpu.cpu ≡ length core.lanes.items = omega (arith, core.lanes.ok.0, c.loop-cpu-test.false, c.loop-cpu.auto.cpu-end) in
-    c.loop-cpu.invariant.made beside ∙ ap (λ n. map (choice_at (room_of beside (core, c.args.table.now)) c.args.cookie) (range_with_len 0 n)) all
+    c.loop-cpu.invariant.made beside are ∙ ap (λ n. map (choice_at (room_of beside (core, c.args.table.now)) c.args.cookie) (range_with_len 0 n)) all

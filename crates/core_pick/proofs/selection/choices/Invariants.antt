@@ -2,11 +2,12 @@ use Rattle.std.proofs.Common.{◌≡◌, map}
 use Rattle.std.specs.List.{range_with_len}
 use Rattle.arrayvec.specs.ArrayVec.{array_vec_len}
 use Rattle.core_lanes.specs.Lanes.{Beside, room_of}
-use Rattle.core_pick.specs.Choice.{choice_at}
+use Rattle.core_pick.specs.Choice.{choice_at, firsts_of}
 use Rattle.core_pick.proofs.selection.choices.Given as goal
 
 abbrev pub invariant-loop-cpu : goal.invariant-loop-cpu
 invariant-loop-cpu g l = record {
   counted : array_vec_len l.choices ≡ l.cpu;
-  made : (beside : Beside) → l.choices.items ≡ map (choice_at (room_of beside (l.core, l.table)) l.cookie) (range_with_len 0 l.cpu);
+  made : (beside : Beside) → l.firsts ≡ firsts_of (room_of beside (l.core, l.table)) →
+      l.choices.items ≡ map (choice_at (room_of beside (l.core, l.table)) l.cookie) (range_with_len 0 l.cpu);
 }
