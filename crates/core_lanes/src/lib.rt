@@ -11,5 +11,5 @@ mod stamps;
 pub use lane::Lane;
 pub use lanes::{Core, task_of};
 pub use order::{goes_before, is_fair, is_higher, priority_of};
-pub use queue::{MOST_TASKS, SiblingQueue, Stamps, is_on};
-pub use stamps::new_stamps;
+pub use queue::{MOST_TASKS, SiblingQueue, is_on};
+pub use stamps::{Stamps, count_before, sorted_stamps_on};

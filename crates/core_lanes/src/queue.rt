@@ -1,13 +1,12 @@
 //! What a sibling's queue is asked. It is a trait, so that one text of the events serves every kind of queue.
 
-ghost use Rattle.std.specs.Prelude.{◌≡◌, ◌≢◌, ◌+◌, ◌<◌, ◌≤◌, ◌^◌, ◌==◌, ◌&&◌, ℕ, List, [], length, map, IfOk, IsTrue};
+ghost use Rattle.std.specs.Prelude.{◌≡◌, ◌≢◌, ◌==◌, ◌&&◌, ℕ, List, [], length, IfOk, IsTrue};
 ghost use Rattle.cs_types.specs.declared.queue.Queued.{Queued};
 ghost use Rattle.cs_types.specs.Order.{first_of};
 ghost use Rattle.cs_types.specs.Scenario.{IsPolicy};
-ghost use Rattle.core_lanes.specs.Queued.{queued_among, queued_at, others, IsOf, HasOwnStamp, with_cookie, behind, smallest_vtime, has_peer, count_before, HavePolicies};
+ghost use Rattle.core_lanes.specs.Queued.{queued_among, queued_at, others, IsOf, HasOwnStamp, with_cookie, behind, smallest_vtime, has_peer, HavePolicies};
 ghost use Rattle.task_table.specs.Table.{IsSound as IsTable};
 
-use arrayvec::ArrayVec;
 use cs_types::{Cookie, Cpu, OutOfMemory, Steps, Task};
 use std::alloc::Global;
 use std::sync::ledger::Ledger;
@@ -15,9 +14,6 @@ use task_table::TaskTable;
 
 /// The most tasks that live at once.
 pub const MOST_TASKS: usize = 256;
-
-/// A stamp for each task of a table, by rising pid.
-pub type Stamps = ArrayVec<u64, MOST_TASKS>;
 
 /// The queued tasks of one sibling (`struct rq`). The tasks themselves stand in a table, which each call is
 /// handed: what the queue is asked is answered of the tasks that the table has queued on the sibling, and the
@@ -112,14 +108,6 @@ pub trait SiblingQueue: Drop {
     fn count(&self, table: &TaskTable, cpu: Cpu) -> u32
         requires { holds self.now table.now.limit (queued_at table.now.tasks cpu) }
         ensures { result ≡ length (queued_among table.now.tasks cpu) };
-
-    /// For each task of the table, which has at most 256, this stamp and how many tasks of the queue have a
-    /// smaller one: so the tasks of the queue get new stamps in the order of those that they have.
-    fn new_stamps(&self, table: &TaskTable, cpu: Cpu, next: u64) -> Stamps
-        requires few { length table.now.tasks ≤ 256 }
-        requires next { next + length table.now.tasks < 2 ^ 64 }
-        requires holds { holds self.now table.now.limit (queued_at table.now.tasks cpu) }
-        ensures { result.items ≡ map (λ task. next + count_before (queued_among table.now.tasks cpu) task.stamp) table.now.tasks };
 }
 
 /// Whether the task is queued on the sibling.

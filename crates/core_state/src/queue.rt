@@ -2,7 +2,7 @@
 //! task of a pid.
 
 use crate::task::{KINDS, kind_of, queued_of};
-use core_lanes::{SiblingQueue, Stamps, is_on, new_stamps, task_of};
+use core_lanes::{SiblingQueue, is_on, task_of};
 use cs_types::{Cookie, Cpu, OutOfMemory, Steps, Task};
 use run_queue::RunQueue;
 use std::alloc::Global;
@@ -93,9 +93,5 @@ impl SiblingQueue for TreeQueue {
 
     fn count(&self, _table: &TaskTable, _cpu: Cpu) -> u32 {
         self.run.count()
-    }
-
-    fn new_stamps(&self, table: &TaskTable, cpu: Cpu, next: u64) -> Stamps {
-        new_stamps(table, cpu, next)
     }
 }

@@ -2,7 +2,7 @@
 use Rattle.std.proofs.Common.{◌≡◌, ◌⊎◌, inl, inr, ℕ, zero, suc, ◌+◌, ◌<◌, true, false, cond, List, [], ◌∷◌, ◌++◌, map, take, drop, set, refl, sym, ap, ◌∙◌, length, length-append, length-drop, length-take, get_or, arith, Some, eq-eqb, ne_eqb}
 use Rattle.std.specs.Prelude.{find, unwrap_or, slice_get, ◌&&◌, ◌==◌}
 use Rattle.std.proofs.Math.Seq.{take-length, drop-length}
-use Rattle.std.proofs.lemmas.List.{length-map, append-nil, set-get_or, get_or-map}
+use Rattle.std.proofs.lemmas.List.{length-map, append-nil, set-get_or}
 use Rattle.std.proofs.lemmas.Option.{slice_get-get_or}
 use Rattle.std.proofs.lemmas.Bool.{cond-true, cond-false, cases_Bool}
 use Rattle.cs_types.specs.declared.task.Task.{Task}
@@ -142,11 +142,3 @@ moved_is old now cpu to stamp task moved same to_is is queued home stamp_is =
 -- and what does not move is
 pub stays : (room : RoomState) (cpu : ℕ) (task : Task) → (task.queued && (task.home == cpu)) ≡ false → task ≡ moved_off room cpu task
 stays room cpu task not_there = sym (cond-false (task.queued && (task.home == cpu)) _ task not_there)
-
--- the stamp at a place is that of the task there
-pub stamp_at : (queued tasks : List Task) (next place : ℕ) (task : Task) (stamps : List ℕ) → place < length tasks → stamps ≡ map (λ one. next + count_before queued one.stamp) tasks →
-    task ≡ get_or tasks place task → get_or stamps place 0 ≡ next + count_before queued task.stamp
-stamp_at queued tasks next place task stamps within are was =
-    ap (λ (list : List ℕ). get_or list place 0) are
-    ∙ get_or-map (λ (one : Task). next + count_before queued one.stamp) tasks place task 0 within
-    ∙ ap (λ (one : Task). next + count_before queued one.stamp) (sym was)

@@ -7,7 +7,7 @@ ghost use Rattle.core_lanes.specs.Changes.{Touches};
 ghost use Rattle.cpu_hotplug.specs.Leaves.{move_off};
 
 use crate::away::lowest_other;
-use core_lanes::{Core, SiblingQueue};
+use core_lanes::{Core, SiblingQueue, count_before, sorted_stamps_on};
 use cs_types::{Cpu, Steps, Task};
 use std::sync::ledger::Ledger;
 use task_table::TaskTable;
@@ -27,16 +27,16 @@ pub fn move_off<Q: SiblingQueue, L: Ledger>(
     ensures { Touches (2 * length (queued_among table.old.tasks cpu)) (core.old, table.old) (core.new, table.new) (λ room. move_off room cpu) }
 {
     let to = lowest_other(core, cpu);
-    let queue = &core.lanes[cpu as usize].queue;
-    let count = u64::from(queue.count(table, cpu));
-    let stamps = queue.new_stamps(table, cpu, core.next_stamp);
+    let next = core.next_stamp;
+    let count = u64::from(core.lanes[cpu as usize].queue.count(table, cpu));
+    let stamps = sorted_stamps_on(table, cpu);
     core.next_stamp += count;
     core.task_number += 2 * count;
     for position in 0..table.len() as usize {
         let task = *table.at(position).unwrap();
         if task.queued && task.home == cpu {
             let moved = core.moved_to(to, task);
-            let stamp = stamps[position];
+            let stamp = next + count_before(&stamps, task.stamp);
             core.change(table, Task { stamp, ..moved }, steps);
         }
     }

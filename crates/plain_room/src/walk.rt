@@ -3,7 +3,7 @@
 ghost use Rattle.std.specs.Prelude.{◌≡◌, ◌==◌, ◌&&◌};
 ghost use Rattle.core_lanes.specs.Queued.{is_peer_of};
 
-use core_lanes::{SiblingQueue, Stamps, goes_before, is_fair, new_stamps, priority_of};
+use core_lanes::{SiblingQueue, goes_before, is_fair, priority_of};
 use cs_types::{Cookie, Cpu, OutOfMemory, Steps, Task};
 use std::alloc::Global;
 use std::sync::ledger::Ledger;
@@ -127,9 +127,5 @@ impl SiblingQueue for Walk {
             .iter()
             .filter(|task| task.queued && task.home == cpu)
             .count() as u32
-    }
-
-    fn new_stamps(&self, table: &TaskTable, cpu: Cpu, next: u64) -> Stamps {
-        new_stamps(table, cpu, next)
     }
 }

@@ -1,5 +1,5 @@
-use Rattle.std.proofs.Common.{ℕ, ◌≡◌, ◌+◌, ◌<◌, ◌≤◌, ◌∙◌, ◌∷◌, ◌++◌, [], List, Bool, true, false, ap, sym, map, take, length, get_or, cond, arith}
-use Rattle.std.specs.Prelude.{◌==◌, ◌&&◌, option_copied, slice_get, unwrap_or, Some, filter}
+use Rattle.std.proofs.Common.{ℕ, ◌≡◌, ◌+◌, ◌<◌, ◌∙◌, ◌∷◌, ◌++◌, [], List, Bool, true, false, ap, sym, map, take, length, get_or, cond, arith}
+use Rattle.std.specs.Prelude.{option_copied, slice_get, unwrap_or, Some}
 use Rattle.arrayvec.specs.ArrayVec.{ArrayVec, array_vec_len}
 use Rattle.std.proofs.Math.Seq.{take-length}
 use Rattle.std.proofs.lemmas.List.{map_push, append-nil}

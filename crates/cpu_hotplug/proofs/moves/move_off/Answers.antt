@@ -1,4 +1,4 @@
-use Rattle.std.proofs.Common.{Bor, Option, None, inl, inr, ◌≡◌, ◌+◌, ◌*◌, ◌<◌, ◌≤◌, ◌^◌, false, true, refl, subst, sym, ap, ◌∙◌, arith, length, get_or, Some, eq-eqb, ne_eqb}
+use Rattle.std.proofs.Common.{Bor, Option, None, inl, inr, ◌≡◌, ◌+◌, ◌*◌, ◌<◌, ◌≤◌, ◌^◌, false, true, refl, subst, sym, ap, ◌∙◌, arith, length, get_or, ltb, Some, eq-eqb, ne_eqb}
 use Rattle.std.specs.Prelude.{◌==◌, ◌&&◌, All, List, option_copied, slice_get}
 use Rattle.std.specs.Option.{IsSome}
 use Rattle.std.proofs.Math.Bool.{and-false}
@@ -16,7 +16,7 @@ use Rattle.core_lanes.specs.Lanes.{room_of, IsFit, MayStamp}
 use Rattle.core_lanes.specs.Numbers.{numbers_of, touched}
 use Rattle.core_lanes.specs.Changes.{Kept, Stays}
 use Rattle.core_lanes.proofs.Stays.{some_beside, queue_at, both_stay, found_in, stamped_later}
-use Rattle.cpu_hotplug.proofs.Places.{mapped_all, task_was, found_then, same_more, there, changed_more, so_far, moved_is, stays, stamp_at}
+use Rattle.cpu_hotplug.proofs.Places.{mapped_all, task_was, found_then, same_more, there, changed_more, so_far, moved_is, stays}
 use Rattle.cpu_hotplug.proofs.Stamps.{may_stamp}
 use Rattle.cpu_hotplug.proofs.moves.move_off.Goals as goal
 use Rattle.cpu_hotplug.proofs.moves.move_off.Goals.{then-task+then-task-cpu, else-task, else-task-via-then-task+else-task-cpu, else-task-via-else-task}
@@ -31,13 +31,8 @@ count-requires g c =
     let lane = c.index.result.now in
     c.requires.agree.held c.args.cpu lane.queue (queue_at c.args.core.now.lanes.items c.args.cpu lane c.requires.cpu c.index.ensures)
 
-pub new_stamps-stamps-requires-clause-few : goal.new_stamps-stamps-requires-clause-few
-new_stamps-stamps-requires-clause-few g c = omega (arith, c.requires.agree.table.few, c.requires.agree.few_tasks)
-
-pub new_stamps-stamps-requires-clause-holds : goal.new_stamps-stamps-requires-clause-holds
-new_stamps-stamps-requires-clause-holds g c =
-    let lane = c.index.result.now in
-    c.requires.agree.held c.args.cpu lane.queue (queue_at c.args.core.now.lanes.items c.args.cpu lane c.requires.cpu c.index.ensures)
+pub sorted_stamps_on-stamps-requires : goal.sorted_stamps_on-stamps-requires
+sorted_stamps_on-stamps-requires g c = omega (arith, c.requires.agree.table.few, c.requires.agree.few_tasks)
 
 pub overflow_mul-core : goal.overflow_mul-core
 overflow_mul-core g c =
@@ -126,15 +121,22 @@ moved_to-moved-requires-clause-home g c =
     let fits = All-get_or (IsFit (length c.loop-position.core.lanes.items)) now.tasks position task within (c.loop-position.invariant.stays.agree c.requires.agree).tasks in
     omega (arith, fits.home, ap (λ (one : Task). one.home) is)
 
-pub bounds-deref-position : goal.bounds-deref-position
-bounds-deref-position g c =
+pub count_before-requires : goal.count_before-requires
+count_before-requires g c = rw c.deref.ensures.0 c.sorted_stamps_on-stamps.ensures.sorted
+
+pub overflow_add-stamp : goal.overflow_add-stamp
+overflow_add-stamp g c =
     let tasks = c.args.table.now.tasks in
+    let queued = queued_among tasks c.args.cpu in
+    let stamp = c.unwrap-task.result.now.stamp in
+    let count : c.count_before.result ≡ count_before queued stamp = c.count_before.ensures queued (rw c.deref.ensures.0 c.sorted_stamps_on-stamps.ensures.same) in
     omega (
       arith,
-      ap length (c.deref.ensures.0 ∙ c.new_stamps-stamps.ensures),
-      length-map tasks (λ (task : Task). c.args.core.now.next_stamp + count_before (queued_among tasks c.args.cpu) task.stamp),
-      c.loop-position-test.true,
-      c.len-position-end.ensures.len,
+      count,
+      c.requires.stamp,
+      count_by-le-length (λ (task : Task). ltb task.stamp stamp) queued,
+      length-filter (λ (task : Task). task.queued && (task.home == c.args.cpu)) tasks,
+      count_by-le-length (λ (task : Task). task.queued && (task.home == c.args.cpu)) tasks,
     )
 
 pub change-requires-clause-agree : goal.change-requires-clause-agree
@@ -176,10 +178,10 @@ change-requires-clause-knows g c =
     let agree = c.loop-position.invariant.stays.agree c.requires.agree in
     let many : length c.loop-position.core.lanes.items ≡ length core.lanes.items = ap (λ (kept : Kept). kept.siblings) c.loop-position.invariant.stays.kept in
     let moved = c.moved_to-moved.ensures some_beside now in
-    let done : Task = record c.moved_to-moved.result { stamp = get_or c.deref.result.now position 0 } in
+    let done : Task = record c.moved_to-moved.result { stamp = core.next_stamp + c.count_before.result } in
     let spec : done.spec ≡ task.spec = ap (λ (one : Task). one.spec) moved in
     let on : (task.queued && (task.home == cpu)) ≡ true = λ i. c.if-task.true i && eq-eqb task.home cpu c.if-task-cpu.true i in
-    let stamp = stamp_at (queued_among table.tasks cpu) table.tasks core.next_stamp position task c.deref.result.now within (c.deref.ensures.0 ∙ c.new_stamps-stamps.ensures) was in
+    let stamp = ap (λ n. core.next_stamp + n) (c.count_before.ensures (queued_among table.tasks cpu) (rw c.deref.ensures.0 c.sorted_stamps_on-stamps.ensures.same)) in
     let policy = (found_in (IsFit (length core.lanes.items)) task.spec.pid table.tasks task c.requires.agree.tasks found).policy in
     record {
       known = record {
@@ -211,7 +213,7 @@ loop-position-preserved g c =
     let agree = c.loop-position.invariant.stays.agree c.requires.agree in
     elim c.if-task.branch [
       | then-task+then-task-cpu w ↦
-          let done : Task = record w.moved_to-moved.result { stamp = get_or w.deref.result.now position 0 } in
+          let done : Task = record w.moved_to-moved.result { stamp = core.next_stamp + w.count_before.result } in
           record {
             as_many =
                 ap (λ t. length t.tasks) w.table-is ∙ ap (λ (room : RoomState). length room.tasks) (w.change.ensures.room some_beside)
@@ -222,8 +224,8 @@ loop-position-preserved g c =
                 let are = ap (λ (one : RoomState). one.tasks) (c.loop-position.invariant.room beside) in
                 let same = ap (λ (one : RoomState). one.siblings) (c.loop-position.invariant.room beside) in
                 let was = task_was change table.tasks now.tasks position task within are at in
-                let stamp = stamp_at (queued_among table.tasks cpu) table.tasks core.next_stamp position task w.deref.result.now within (w.deref.ensures.0 ∙ c.new_stamps-stamps.ensures) was in
-                let is = moved_is room (room_of beside (c.loop-position.core, now)) cpu c.lowest_other-to.result (get_or w.deref.result.now position 0) task w.moved_to-moved.result same
+                let stamp = ap (λ n. core.next_stamp + n) (w.count_before.ensures (queued_among table.tasks cpu) (rw w.deref.ensures.0 c.sorted_stamps_on-stamps.ensures.same)) in
+                let is = moved_is room (room_of beside (c.loop-position.core, now)) cpu c.lowest_other-to.result (core.next_stamp + w.count_before.result) task w.moved_to-moved.result same
                 (c.lowest_other-to.ensures.lowest beside table) (w.moved_to-moved.ensures beside now) w.if-task.true w.if-task-cpu.true stamp in
                 let more = changed_more change table.tasks now.tasks position task within are at agree.table.rising done (ap (λ (one : Task). one.spec) (w.moved_to-moved.ensures beside now)) is in
                 (λ i. room_of beside (w.core-is i, w.table-is i)) ∙ w.change.ensures.room beside
