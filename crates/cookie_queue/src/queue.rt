@@ -7,7 +7,7 @@ ghost use Rattle.cs_types.specs.Queue.{IsRanked, spot_of, first_with, next_with}
 ghost use Rattle.cookie_queue.specs.Inside.{key_at, with_cookie};
 
 use cs_types::{Cookie, OutOfMemory, Pid, Queued, Steps};
-use order_tree::{Key, OrderTree};
+use order_tree::{Key, RecentTree};
 use std::alloc::Global;
 use std::marker::Model;
 use std::sync::ledger::Ledger;
@@ -16,7 +16,7 @@ use std::sync::ledger::Ledger;
 /// comparisons, and among n tasks makes at most twice the number of binary digits of n, and two more.
 #[derive(Drop)]
 pub struct CookieQueue {
-    tree: OrderTree,
+    tree: RecentTree,
 }
 
 impl Model for CookieQueue {
@@ -39,7 +39,7 @@ impl CookieQueue {
         ensures spare { result.spare ≡ 0 }
     {
         CookieQueue {
-            tree: OrderTree::empty(alloc),
+            tree: RecentTree::empty(alloc),
         }
     }
 

@@ -6,3 +6,4 @@ pub mod Placed
 pub mod Members
 pub mod Renamed
 pub mod Ranks
+pub mod Recents

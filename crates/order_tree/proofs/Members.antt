@@ -7,7 +7,7 @@ use Rattle.std.specs.declared.cmp.Ordering.TheVariants.{Less, Equal, Greater}
 use Rattle.std.specs.FinMap as fin
 use Rattle.std.specs.FinMap.{from_sorted, is_sorted, entries-from_sorted, get-from_sorted, len}
 use Rattle.std.specs.FinMap.Entries.{length_without}
-use Rattle.cs_types.specs.Comparisons.{digits, most_comparisons}
+use Rattle.cs_types.specs.Comparisons.{digits}
 use Rattle.cs_types.proofs.Queues.{said, len-from_sorted}
 use Rattle.cs_types.proofs.Foremost.{find_same}
 use Rattle.order_tree.specs.Order.{Entry, Members, key_cmp, first_of, first_from, next_of}
@@ -17,12 +17,12 @@ use Rattle.order_tree.proofs.Entries.{from_sorted-put, from_sorted-without}
 use Rattle.order_tree.proofs.Keys.{key_total, key_cmp-IsAntisymmetric}
 use Rattle.order_tree.proofs.Placed.{sought}
 
-not_below : (r : Ordering) → reaches true r ≡ not (is_lt r)
+pub not_below : (r : Ordering) → reaches true r ≡ not (is_lt r)
 not_below Less = refl
 not_below Equal = refl
 not_below Greater = refl
 
-above : (r : Ordering) → reaches false r ≡ is_gt r
+pub above : (r : Ordering) → reaches false r ≡ is_gt r
 above Less = refl
 above Equal = refl
 above Greater = refl
@@ -49,9 +49,9 @@ module _ (es : List Entry) (rising : is_sorted key_cmp es ≡ true) where
   get-map_of key = get-from_sorted key_cmp es key (said rising)
 
   -- a call that counts a comparison a level keeps within the bound
-  pub within : (old new height : ℕ) → new ≤ old + height → height ≤ 2 * digits (length es) → new ≤ old + most_comparisons (len map_of)
+  pub within : (old new height : ℕ) → new ≤ old + height → height ≤ 2 * digits (length es) → new ≤ old + 2 * digits (len map_of)
   within old new height counted shallow =
-      subst (λ n. new ≤ old + most_comparisons n) (sym (len-from_sorted key_cmp es rising)) (omega arith)
+      subst (λ n. new ≤ old + 2 * digits n) (sym (len-from_sorted key_cmp es rising)) (omega arith)
 
   pub find-free : (members : Members) → map_of ≡ members → (key : Key) → fin.get members key ≡ None → fin.find key_cmp key es ≡ None
   find-free members is key free = sym (get-map_of key) ∙ ap (λ (m : Members). fin.get m key) is ∙ free

@@ -1,6 +1,6 @@
 -- A tree that was taken apart: where a key goes, and what a change of a side makes of the whole.
 use Rattle.std.proofs.Common.{◌≡◌, ℕ, ◌+◌, ◌*◌, ◌<◌, ◌≤◌, Bool, true, false, cond, List, ◌∷◌, ◌++◌, Box, Option, None, Some, length, refl, sym, ap, ◌∙◌, subst, arith, length-append}
-use Rattle.std.specs.Prelude.{is_some}
+use Rattle.std.specs.Prelude.{[], IsTrue, is_some, slice_get}
 use Rattle.std.specs.FinMap.{find, put, is_sorted}
 use Rattle.std.specs.FinMap.Entries.{length-put, length_without}
 use Rattle.std.specs.declared.cmp.Ordering.{Ordering}
@@ -136,18 +136,29 @@ module _ {whole left : Branch} {entry : Entry} {right : Branch} (root : IsRoot w
     -- ---- a search for the first key above a given one, or at it
 
     module _ (at : Bool) where
-      seek-left : reaches at (key_cmp entry.0 key) ≡ true → sought key at whole.entries ≡ option_or (sought key at left.entries) (Some entry)
+      pub seek-left : reaches at (key_cmp entry.0 key) ≡ true → sought key at whole.entries ≡ option_or (sought key at left.entries) (Some entry)
       seek-left pass = ap (sought key at) root.entries ∙ find_passes-left key_total key (reaches at) left.entries entry right.entries pass
-
-      pub seek-root : reaches at (key_cmp entry.0 key) ≡ true → sought key at left.entries ≡ None → sought key at whole.entries ≡ Some entry
-      seek-root pass none = seek-left pass ∙ ap (λ found. option_or found (Some entry)) none
-
-      pub seek-lower : reaches at (key_cmp entry.0 key) ≡ true → (found : Option Entry) → found ≡ sought key at left.entries → (found ≡ None → ⊥) →
-          found ≡ sought key at whole.entries
-      seek-lower pass None is some = absurd (some refl)
-      seek-lower pass (Some e) is some = sym (seek-left pass ∙ ap (λ found. option_or found (Some entry)) (sym is))
 
       pub seek-right : reaches at (key_cmp entry.0 key) ≡ false → sought key at whole.entries ≡ sought key at right.entries
       seek-right fail =
           ap (sought key at) root.entries
           ∙ find_passes-right key_total key (reaches at) left.entries entry right.entries root.fork.rising refl refl fail
+
+-- what stands first where the left side is not empty
+pub first-joined : (left right : List Entry) (entry : Entry) → (left ≡ [] → ⊥) → slice_get (left ++ entry ∷ right) 0 ≡ slice_get left 0
+first-joined [] right entry some = absurd (some refl)
+first-joined (e ∷ left) right entry some = refl
+
+-- entries that a call says are not empty
+pub not_empty : {es : List Entry} (empty : Bool) → (IsTrue empty → es ≡ []) × (es ≡ [] → IsTrue empty) → empty ≡ false → es ≡ [] → ⊥
+not_empty true says is none = cc
+not_empty false says is none = let h = says.1 none in cc
+
+pub option_or-None : {A : Type 0} (o : Option A) → option_or o None ≡ o
+option_or-None None = refl
+option_or-None (Some x) = refl
+
+-- the last of three choices, where the second is made
+pub option_or-Some : {A : Type 0} (o : Option A) (x : A) (other : Option A) → option_or (option_or o (Some x)) other ≡ option_or o (Some x)
+option_or-Some None x other = refl
+option_or-Some (Some y) x other = refl

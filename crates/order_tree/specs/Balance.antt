@@ -6,10 +6,16 @@ use Rattle.order_tree.specs.Branch.{Branch}
 use Rattle.order_tree.specs.declared.tree.Node.{Node}
 use Rattle.std.specs.declared.alloc.Global.{Global}
 use Rattle.std.specs.Prelude.{Box}
+use Rattle.std.specs.Borrow.{Bor}
+use Rattle.std.specs.Option.{option_map}
 
 -- the entry of a node
 abbrev pub entry_in : Node → Entry
 entry_in node = (node.key, node.pid)
+
+-- the entry of a node that is lent, if one is
+abbrev pub entry_at : Option (Bor Node) → Option Entry
+entry_at node = option_map (λ node. entry_in node.now) node
 
 -- the entries of the two sides with one between them
 abbrev pub joined : Branch → Entry → Branch → List Entry

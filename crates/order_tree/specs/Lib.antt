@@ -4,3 +4,4 @@ pub mod Balance
 pub mod Inside
 pub mod Renamed
 pub mod Rank
+pub mod Recent

@@ -5,8 +5,10 @@
 mod key;
 mod order;
 mod rank;
+mod recent;
 mod tree;
 
 pub use key::Key;
 pub use order::OrderTree;
 pub use rank::RankTree;
+pub use recent::RecentTree;

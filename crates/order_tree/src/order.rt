@@ -1,9 +1,10 @@
 //! The tree with the nodes that are spare. It is apart since here alone memory is taken.
 
-ghost use Rattle.std.specs.Prelude.{◌≡◌, ◌+◌, ◌<◌, ◌≤◌, max, None, OnOk, OnErr, if◌then◌else◌, length, vec_capacity};
+ghost use Rattle.std.specs.Prelude.{◌≡◌, ◌+◌, ◌*◌, ◌^◌, ◌<◌, ◌≤◌, max, None, OnOk, OnErr, if◌then◌else◌, length, vec_capacity};
 ghost use Rattle.std.specs.FinMap as map;
-ghost use Rattle.cs_types.specs.Comparisons.{most_comparisons};
+ghost use Rattle.cs_types.specs.Comparisons.{digits};
 ghost use Rattle.order_tree.specs.Order.{first_of, first_from, next_of};
+ghost use Rattle.order_tree.specs.Balance.{entry_at};
 
 use crate::key::Key;
 use crate::tree::{Node, Tree};
@@ -14,7 +15,7 @@ use std::mem;
 use std::sync::ledger::Ledger;
 
 /// Pids at keys, in rising order of the keys. A call that looks for a key counts each comparison of two
-/// keys, and among n keys makes at most twice the number of binary digits of n, and two more.
+/// keys, and among n keys makes at most twice the number of binary digits of n.
 #[derive(Drop)]
 pub struct OrderTree {
     tree: Tree,
@@ -83,7 +84,7 @@ impl OrderTree {
         requires free { map.get self.old.members key ≡ None }
         ensures members { self.new.members ≡ map.insert self.old.members key pid }
         ensures spare { self.new.spare + 1 ≡ self.old.spare }
-        ensures counted { steps.new ≤ steps.old + most_comparisons (map.len self.old.members) }
+        ensures counted { steps.new ≤ steps.old + 2 * digits (map.len self.old.members) }
     {
         let mut node = self.nodes.pop().unwrap();
         node.hold(key, pid);
@@ -97,7 +98,7 @@ impl OrderTree {
         ensures found { result ≡ map.contains_key self.old.members key.now }
         ensures members { self.new.members ≡ map.remove self.old.members key.now }
         ensures spare { self.new.spare ≡ self.old.spare + (if result then 1 else 0) }
-        ensures counted { steps.new ≤ steps.old + most_comparisons (map.len self.old.members) }
+        ensures counted { steps.new ≤ steps.old + 2 * digits (map.len self.old.members) }
     {
         let (tree, taken) = mem::replace(&mut self.tree, Tree::empty()).remove(key, steps);
         self.tree = tree;
@@ -116,32 +117,41 @@ impl OrderTree {
         ensures counted { steps.new ≡ steps.old }
     {
         let _ = steps;
-        self.tree.first()
+        entry_of(self.tree.first())
     }
 
     /// The least key that is not below this one, and the pid there. `None` exactly where each key is
     /// below it.
     pub fn first_from<L: Ledger>(&self, key: &Key, steps: &mut Steps<L>) -> Option<(Key, Pid)>
         ensures first { result ≡ first_from self.now.members key.now }
-        ensures counted { steps.new ≤ steps.old + most_comparisons (map.len self.now.members) }
+        ensures counted { steps.new ≤ steps.old + 2 * digits (map.len self.now.members) }
     {
-        self.tree.seek(key, true, steps)
+        entry_of(self.tree.seek(key, true, None, steps))
     }
 
     /// The least key that is above this one, and the pid there. `None` exactly where no key is above it.
     pub fn next<L: Ledger>(&self, key: &Key, steps: &mut Steps<L>) -> Option<(Key, Pid)>
         ensures next { result ≡ next_of self.now.members key.now }
-        ensures counted { steps.new ≤ steps.old + most_comparisons (map.len self.now.members) }
+        ensures counted { steps.new ≤ steps.old + 2 * digits (map.len self.now.members) }
     {
-        self.tree.seek(key, false, steps)
+        entry_of(self.tree.seek(key, false, None, steps))
     }
 
     /// How many keys there are.
     pub fn len(&self) -> u32
-        ensures { result ≡ map.len self.now.members }
+        ensures count { result ≡ map.len self.now.members }
+        ensures few { result + self.now.spare < 2 ^ 32 }
     {
         self.count
     }
+}
+
+/// The entry of a node, if there is one.
+fn entry_of(node: Option<&Node>) -> Option<(Key, Pid)>
+    ensures { result ≡ entry_at node.entry }
+{
+    let node = node?;
+    Some(node.entry())
 }
 
 /// Adds nodes until there are `n`. There are places for as many.

@@ -6,7 +6,7 @@ ghost use Rattle.std.specs.FinMap.{empty};
 ghost use Rattle.order_tree.specs.Rank.{key_at};
 
 use crate::key::Key;
-use crate::order::OrderTree;
+use crate::recent::RecentTree;
 use cs_types::{ClassQueue, OutOfMemory, Pid, Steps};
 use std::alloc::Global;
 use std::marker::Model;
@@ -15,7 +15,7 @@ use std::sync::ledger::Ledger;
 /// The tasks of a scheduling class on one sibling, by rising rank and then by rising stamp.
 #[derive(Drop)]
 pub struct RankTree {
-    tree: OrderTree,
+    tree: RecentTree,
 }
 
 impl Model for RankTree {
@@ -40,7 +40,7 @@ impl RankTree {
         ensures spare { result.spare ≡ 0 }
     {
         RankTree {
-            tree: OrderTree::empty(alloc),
+            tree: RecentTree::empty(alloc),
         }
     }
 }

@@ -1,12 +1,13 @@
 //! The tree: its nodes, and how they keep in balance.
 
-ghost use Rattle.std.specs.Prelude.{◌≡◌, ◌+◌, ◌*◌, ◌^◌, ◌<◌, ◌≤◌, [], ◌++◌, length, max, IsTrue, None, MatchOption, is_some, slice_get};
+ghost use Rattle.std.specs.Prelude.{◌≡◌, ◌+◌, ◌*◌, ◌^◌, ◌<◌, ◌≤◌, [], ◌++◌, length, max, ◌↔◌, IsTrue, None, MatchOption, is_some, slice_get};
 ghost use Rattle.std.specs.List as list;
+ghost use Rattle.std.specs.Option.{option_or};
 ghost use Rattle.std.specs.FinMap.{find, put, is_sorted};
 ghost use Rattle.cs_types.specs.Comparisons.{digits};
 ghost use Rattle.order_tree.specs.Order.{key_cmp};
 ghost use Rattle.order_tree.specs.Branch.{without, reaches};
-ghost use Rattle.order_tree.specs.Balance.{entry_in, joined, fewest, DifferBy, IsRoot, IsSettled, IsFirst};
+ghost use Rattle.order_tree.specs.Balance.{entry_in, entry_at, joined, fewest, DifferBy, IsRoot, IsSettled, IsFirst};
 
 use crate::key::Key;
 use cs_types::{Pid, Steps};
@@ -76,6 +77,13 @@ impl Node {
         }
     }
 
+    /// Its entry.
+    pub fn entry(&self) -> (Key, Pid)
+        ensures { result ≡ entry_in self.now }
+    {
+        (self.key, self.pid)
+    }
+
     /// Writes an entry over the node's.
     pub fn hold(&mut self, key: Key, pid: Pid)
         ensures { entry_in self.new ≡ (key, pid) }
@@ -117,35 +125,47 @@ impl Tree {
         Some(Parts { left, node, right })
     }
 
-    /// The first entry of all. It compares no key.
-    pub fn first(&self) -> Option<(Key, Pid)>
-        ensures { result ≡ slice_get self.now.entries 0 }
+    /// Whether it has no entry.
+    fn is_empty(&self) -> bool
+        ensures { IsTrue result ↔ self.now.entries ≡ [] }
     {
-        match &self.root {
-            None => None,
-            Some(node) => match node.left.first() {
-                None => Some((node.key, node.pid)),
-                found => found,
-            },
-        }
+        self.root.is_none()
     }
 
-    /// The first entry whose key is above this one, or also at it where `at` is true.
-    pub fn seek<L: Ledger>(&self, key: &Key, at: bool, steps: &mut Steps<L>) -> Option<(Key, Pid)>
-        ensures found { result ≡ list.find (λ entry. reaches at (key_cmp entry.0 key.now)) self.now.entries }
-        ensures shallow { self.now.height ≤ 2 * digits (length self.now.entries) }
-        ensures counted { steps.new ≤ steps.old + self.now.height }
+    /// The node of the first entry of all. It compares no key.
+    pub fn first(&self) -> Option<&Node>
+        ensures { entry_at result ≡ slice_get self.now.entries 0 }
     {
         let Some(node) = &self.root else {
             return None;
         };
-        steps.tick();
-        if !reaches(node.key.cmp(key), at) {
-            return node.right.seek(key, at, steps);
+        if node.left.is_empty() {
+            return Some(node);
         }
-        match node.left.seek(key, at, steps) {
-            None => Some((node.key, node.pid)),
-            found => found,
+        node.left.first()
+    }
+
+    /// The node of the first entry whose key is above this one, or also at it where `at` is true. Where there is
+    /// none, `other`.
+    pub fn seek<'a, L: Ledger>(
+        &'a self,
+        key: &Key,
+        at: bool,
+        other: Option<&'a Node>,
+        steps: &mut Steps<L>,
+    ) -> Option<&'a Node>
+        ensures found { entry_at result ≡ option_or (list.find (λ entry. reaches at (key_cmp entry.0 key.now)) self.now.entries) (entry_at other.entry) }
+        ensures shallow { self.now.height ≤ 2 * digits (length self.now.entries) }
+        ensures counted { steps.new ≤ steps.old + self.now.height }
+    {
+        let Some(node) = &self.root else {
+            return other;
+        };
+        steps.tick();
+        if reaches(node.key.cmp(key), at) {
+            node.left.seek(key, at, Some(node), steps)
+        } else {
+            node.right.seek(key, at, other, steps)
         }
     }
 
@@ -213,7 +233,7 @@ impl Tree {
 }
 
 /// Whether a key that compares so with another is above it, or at it where `at` is true.
-fn reaches(order: Ordering, at: bool) -> bool
+pub fn reaches(order: Ordering, at: bool) -> bool
     ensures { result ≡ reaches at order }
 {
     match order {

@@ -3,5 +3,5 @@ use Rattle.cs_types.proofs.Queues.{len-from_sorted}
 use Rattle.order_tree.specs.Order.{key_cmp}
 use Rattle.order_tree.proofs.order.OrderTree.len.Goals as goal
 
-pub returns : goal.returns
-returns c = rw (← c.self.view_is) (sym (len-from_sorted key_cmp c.self.inside.tree.entries c.self.invariant.rising ∙ c.self.invariant.counted))
+pub returns-clause-count : goal.returns-clause-count
+returns-clause-count c = rw (← c.self.view_is) (sym (len-from_sorted key_cmp c.self.inside.tree.entries c.self.invariant.rising ∙ c.self.invariant.counted))

@@ -1,0 +1,184 @@
+//! A tree beside which the entry stands that was put last. It is apart, since it knows a tree by its contract
+//! alone.
+
+ghost use Rattle.std.specs.Prelude.{◌≡◌, ◌+◌, ◌<◌, ◌≤◌, max, None, OnOk, OnErr, if◌then◌else◌};
+ghost use Rattle.std.specs.FinMap as map;
+ghost use Rattle.cs_types.specs.Comparisons.{most_comparisons};
+ghost use Rattle.order_tree.specs.Order.{first_of, first_from, next_of};
+ghost use Rattle.order_tree.specs.Recent.{lesser, reaching, is_at};
+
+use crate::key::Key;
+use crate::order::OrderTree;
+use crate::tree::reaches;
+use cs_types::{OutOfMemory, Pid, Steps};
+use std::alloc::Global;
+use std::cmp::Ordering;
+use std::marker::Model;
+use std::mem;
+use std::sync::ledger::Ledger;
+
+/// Pids at keys, in rising order of the keys. To put a pid and then to take it out again changes no tree, so
+/// that the key of a running task can change often. A call that looks for a key counts each comparison of two
+/// keys, and among n keys makes at most twice the number of binary digits of n, and two more.
+#[derive(Drop)]
+pub struct RecentTree {
+    tree: OrderTree,
+    /// What was put last, where it was not taken out since.
+    recent: Option<(Key, Pid)>,
+}
+
+impl Model for RecentTree {
+    ghost use Rattle.order_tree.specs.Order.{Ordered};
+    ghost use Rattle.order_tree.specs.Branch.{ordered_code};
+
+    ghost Value = { Ordered };
+
+    ghost coded = { ordered_code };
+
+    ghost use Rattle.order_tree.specs.Recent.{ordered_with, StandsBeside};
+
+    ghost view = { λ order. ordered_with order.recent order.tree };
+
+    ghost invariant = { λ order. StandsBeside order.recent order.tree };
+}
+
+impl RecentTree {
+    /// No key, and no spare node. It takes no memory.
+    pub fn empty(alloc: Global) -> RecentTree
+        ensures members { result.members ≡ map.empty }
+        ensures spare { result.spare ≡ 0 }
+    {
+        RecentTree {
+            tree: OrderTree::empty(alloc),
+            recent: None,
+        }
+    }
+
+    /// Raises `spare` to `n` keys where it is below. This call alone takes memory. An `Err`, for want of
+    /// it or where there would be more than 4294967295 keys, changes nothing.
+    pub fn reserve(&mut self, n: u32) -> Result<(), OutOfMemory>
+        ensures members { self.new.members ≡ self.old.members }
+        ensures spare { OnOk result (self.new.spare ≡ max n self.old.spare) }
+        ensures err { OnErr result (self.new.spare ≡ self.old.spare) }
+    {
+        let Some(most) = n.checked_add(u32::from(self.recent.is_some())) else {
+            return Err(OutOfMemory);
+        };
+        self.tree.reserve(most)
+    }
+
+    /// Puts a pid at a key where none is.
+    pub fn insert<L: Ledger>(&mut self, key: Key, pid: Pid, steps: &mut Steps<L>)
+        requires spare { 0 < self.old.spare }
+        requires free { map.get self.old.members key ≡ None }
+        ensures members { self.new.members ≡ map.insert self.old.members key pid }
+        ensures spare { self.new.spare + 1 ≡ self.old.spare }
+        ensures counted { steps.new ≤ steps.old + most_comparisons (map.len self.old.members) }
+    {
+        if let Some((last, other)) = mem::replace(&mut self.recent, Some((key, pid))) {
+            self.tree.insert(last, other, steps);
+        }
+    }
+
+    /// Takes out the pid at a key. `false` comes exactly where none is there, and then nothing changes.
+    pub fn remove<L: Ledger>(&mut self, key: &Key, steps: &mut Steps<L>) -> bool
+        ensures found { result ≡ map.contains_key self.old.members key.now }
+        ensures members { self.new.members ≡ map.remove self.old.members key.now }
+        ensures spare { self.new.spare ≡ self.old.spare + (if result then 1 else 0) }
+        ensures counted { steps.new ≤ steps.old + most_comparisons (map.len self.old.members) }
+    {
+        if is_at(self.recent, key, steps) {
+            self.recent = None;
+            return true;
+        }
+        self.tree.remove(key, steps)
+    }
+
+    /// The least key, and the pid there. `None` exactly where there is no key.
+    pub fn first<L: Ledger>(&self, steps: &mut Steps<L>) -> Option<(Key, Pid)>
+        ensures first { result ≡ first_of self.now.members }
+        ensures counted { steps.new ≤ steps.old + 1 }
+    {
+        let first = self.tree.first(steps);
+        lesser(self.recent, first, steps)
+    }
+
+    /// The least key that is not below this one, and the pid there. `None` exactly where each key is
+    /// below it.
+    pub fn first_from<L: Ledger>(&self, key: &Key, steps: &mut Steps<L>) -> Option<(Key, Pid)>
+        ensures first { result ≡ first_from self.now.members key.now }
+        ensures counted { steps.new ≤ steps.old + most_comparisons (map.len self.now.members) }
+    {
+        let found = self.tree.first_from(key, steps);
+        lesser(reaching(self.recent, key, true, steps), found, steps)
+    }
+
+    /// The least key that is above this one, and the pid there. `None` exactly where no key is above it.
+    pub fn next<L: Ledger>(&self, key: &Key, steps: &mut Steps<L>) -> Option<(Key, Pid)>
+        ensures next { result ≡ next_of self.now.members key.now }
+        ensures counted { steps.new ≤ steps.old + most_comparisons (map.len self.now.members) }
+    {
+        let found = self.tree.next(key, steps);
+        lesser(reaching(self.recent, key, false, steps), found, steps)
+    }
+
+    /// How many keys there are.
+    pub fn len(&self) -> u32
+        ensures { result ≡ map.len self.now.members }
+    {
+        self.tree.len() + u32::from(self.recent.is_some())
+    }
+}
+
+/// Whether the entry, if there is one, is at this key.
+fn is_at<L: Ledger>(entry: Option<(Key, Pid)>, key: &Key, steps: &mut Steps<L>) -> bool
+    ensures at { result ≡ is_at entry key.now }
+    ensures counted { steps.new ≤ steps.old + 1 }
+{
+    let Some((other, _)) = entry else {
+        return false;
+    };
+    steps.tick();
+    matches!(key.cmp(&other), Ordering::Equal)
+}
+
+/// The entry, where its key is above this one, or also at it where `at` is true.
+fn reaching<L: Ledger>(
+    entry: Option<(Key, Pid)>,
+    key: &Key,
+    at: bool,
+    steps: &mut Steps<L>,
+) -> Option<(Key, Pid)>
+    ensures reaching { result ≡ reaching at key.now entry }
+    ensures counted { steps.new ≤ steps.old + 1 }
+{
+    let (other, pid) = entry?;
+    steps.tick();
+    if reaches(other.cmp(key), at) {
+        Some((other, pid))
+    } else {
+        None
+    }
+}
+
+/// The entry with the lesser key. Where one is not there it is the other.
+fn lesser<L: Ledger>(
+    one: Option<(Key, Pid)>,
+    other: Option<(Key, Pid)>,
+    steps: &mut Steps<L>,
+) -> Option<(Key, Pid)>
+    ensures lesser { result ≡ lesser one other }
+    ensures counted { steps.new ≤ steps.old + 1 }
+{
+    let Some(left) = one else {
+        return other;
+    };
+    let Some(right) = other else {
+        return one;
+    };
+    steps.tick();
+    match left.0.cmp(&right.0) {
+        Ordering::Less => one,
+        _ => other,
+    }
+}
