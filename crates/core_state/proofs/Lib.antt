@@ -6,3 +6,4 @@ pub mod Found
 pub mod Asked
 pub mod Vtimes
 pub mod Counts
+pub mod Crosses
