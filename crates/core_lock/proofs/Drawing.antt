@@ -1,13 +1,13 @@
 -- Drawing: drawing a ticket keeps the rule.
-use Rattle.std.proofs.Common.{◌≡◌, ◌≢◌, ℕ, ◌+◌, ◌-◌, ◌%◌, ◌^◌, ◌<◌, ◌≤◌, List, [], ◌∷◌, ◌++◌, length, drop, set, get_or, refl, sym, ap, ◌∙◌, subst, arith, Option, Some, get_or-set_other, get_or-set_same, length-set, length-drop}
-use Rattle.std.specs.Prelude.{All, sum_by}
+use Rattle.std.proofs.Common.{◌≡◌, ℕ, ◌+◌, ◌%◌, ◌^◌, ◌<◌, ◌≤◌, List, [], ◌∷◌, length, drop, set, get_or, refl, sym, ap, ◌∙◌, subst, arith, Option, get_or-set_other, get_or-set_same, length-set, length-drop}
+use Rattle.std.specs.Prelude.{sum_by}
 use Rattle.std.proofs.lemmas.List.Elements.{All-head}
 use Rattle.std.proofs.lemmas.List.Sums.{sum_by-set}
 use mathlib.Core.Logic.{dite}
 use mathlib.Core.Option.{none, some}
 use native.Mathlib.Decide.{ℕ_discrete}
 use lib.ListN.{get_elem?}
-use Rattle.atomic_table.specs.Table.{State, Me, step, keeps, Allows, stepped}
+use Rattle.atomic_table.specs.Table.{State, Me, step, keeps, Allows}
 use Rattle.cs_types.specs.declared.event.Step.{Step}
 use Rattle.cs_types.specs.Room.{Opening}
 use Rattle.cs_types.specs.History.{History}
@@ -16,7 +16,7 @@ use Rattle.core_lock.specs.declared.view.Beginning.{Beginning}
 use Rattle.core_lock.specs.declared.view.View.{View}
 use Rattle.core_lock.specs.declared.view.View.TheVariants.{Idle, Waiting}
 use Rattle.core_lock.specs.Lists.{list_at}
-use Rattle.core_lock.specs.Board.{Books, IsOwned, IsWaiting, IsHolding, Knows, IsKept, drawn}
+use Rattle.core_lock.specs.Board.{Books, IsOwned, Knows, IsKept, drawn}
 use Rattle.core_lock.proofs.Keeping.{put, put_here, put_else, seats_stay, knows_stays, parts_or}
 
 -- the steps of a list that have no ticket are no more after one is drawn
@@ -25,9 +25,9 @@ no_more : (left : List (List Step)) (number other : ℕ) → number < length lef
 no_more left number other lt =
     dite (ℕ_discrete other number)
     (λ e. let same = get_or-set_same left number (drop 1 (list_at left number)) [] lt in
-      let shorter = length-drop 1 (list_at left number) in
-      subst (λ (k : ℕ). length (list_at (set left number (drop 1 (list_at left number))) k) ≤ length (list_at left k)) (sym e)
-      (omega (arith, ap (length {A = Step}) same, shorter)))
+    let shorter = length-drop 1 (list_at left number) in
+    subst (λ (k : ℕ). length (list_at (set left number (drop 1 (list_at left number))) k) ≤ length (list_at left k)) (sym e)
+    (omega (arith, ap (length {A = Step}) same, shorter)))
     (λ ne. omega (arith, ap (length {A = Step}) (get_or-set_other left number other (drop 1 (list_at left number)) [] ne)))
 
 module _ {R : Type 0} (opening : R → Opening) (history : R → History) (spare : R → ℕ) (begun : Beginning R) where
@@ -68,48 +68,50 @@ module _ {R : Type 0} (opening : R → Opening) (history : R → History) (spare
         as_many = length-set b.left n (drop 1 l) ∙ k.as_many;
         own = k.own;
         no_other = k.no_other;
-        views = seats_stay (Knows begun now) s.views seat (Waiting begun has b.ticket)
-            (refl, record {
-              owned = record {
-                number = mine.number;
-                owner = mine.owner;
-                made = mine.made;
-                steps = omega (arith, mine.steps, some_left, shorter, ap (length {A = Step}) (get_or-set_same b.left n (drop 1 l) [] lt));
-                seen = mine.seen;
-                note = mine.note;
-              };
-              drew = put_here b.queue b.ticket seat;
-              not_served = k.behind;
-              drawn = omega arith;
-              not_out = k.ahead;
-            })
+        views = seats_stay (Knows begun now) s.views seat (Waiting begun has b.ticket) (
+          refl,
+          record {
+            owned = record {
+              number = mine.number;
+              owner = mine.owner;
+              made = mine.made;
+              steps = omega (arith, mine.steps, some_left, shorter, ap (length {A = Step}) (get_or-set_same b.left n (drop 1 l) [] lt));
+              seen = mine.seen;
+              note = mine.note;
+            };
+            drew = put_here b.queue b.ticket seat;
+            not_served = k.behind;
+            drawn = omega arith;
+            not_out = k.ahead;
+          },
+        )
             (λ other view apart there.
-              let owned : (count : ℕ) (p : Progress) → IsOwned begun.lists b other count p → IsOwned begun.lists now other count p =
-              λ count p o. record {
-                number = o.number;
-                owner = o.owner;
-                made = o.made;
-                steps = ap (λ (ss : List Step). p.made + length ss + count) (get_or-set_other b.left n p.number (drop 1 l) [] (λ e. apart (sym o.owner ∙ ap b.owner e ∙ mine.owner))) ∙ o.steps;
-                seen = o.seen;
-                note = o.note;
-              }
-              in
-              knows_stays begun b now other owned
-              (λ p t w. record {
-                owned = owned 1 p w.owned;
-                drew = put_else b.queue b.ticket seat t (λ e. omega (arith, w.drawn, e)) ∙ w.drew;
-                not_served = w.not_served;
-                drawn = omega (arith, w.drawn);
-                not_out = w.not_out;
-              })
-              (λ p t h. record {
-                owned = owned 1 p h.owned;
-                drew = put_else b.queue b.ticket seat t (λ e. omega (arith, h.served, k.ahead h.out, e)) ∙ h.drew;
-                served = h.served;
-                out = h.out;
-                whole = h.whole;
-              })
-              view (k.views other view there));
+            let owned : (count : ℕ) (p : Progress) → IsOwned begun.lists b other count p → IsOwned begun.lists now other count p =
+            λ count p o. record {
+              number = o.number;
+              owner = o.owner;
+              made = o.made;
+              steps = ap (λ (ss : List Step). p.made + length ss + count) (get_or-set_other b.left n p.number (drop 1 l) [] (λ e. apart (sym o.owner ∙ ap b.owner e ∙ mine.owner))) ∙ o.steps;
+              seen = o.seen;
+              note = o.note;
+            }
+            in
+            knows_stays begun b now other owned
+            (λ p t w. record {
+              owned = owned 1 p w.owned;
+              drew = put_else b.queue b.ticket seat t (λ e. omega (arith, w.drawn, e)) ∙ w.drew;
+              not_served = w.not_served;
+              drawn = omega (arith, w.drawn);
+              not_out = w.not_out;
+            })
+            (λ p t h. record {
+              owned = owned 1 p h.owned;
+              drew = put_else b.queue b.ticket seat t (λ e. omega (arith, h.served, k.ahead h.out, e)) ∙ h.drew;
+              served = h.served;
+              out = h.out;
+              whole = h.whole;
+            })
+            view (k.views other view there));
       }
 
   pub draws : (slots seat : ℕ) (from : Beginning R) (has : Progress) → has.made < length (list_at from.lists has.number) →

@@ -1,6 +1,6 @@
 -- Entries: what one entry more does to the entries of an actor.
-use Rattle.std.proofs.Common.{◌≡◌, ◌≢◌, ℕ, ◌+◌, ◌<◌, ◌≤◌, Bool, true, false, List, [], ◌∷◌, ◌++◌, map, take, length, get_or, refl, sym, ap, ◌∙◌, subst, inl, inr, arith, append_assoc, append-nil, Some, length-append}
-use Rattle.std.specs.Prelude.{filter, slice_get, All}
+use Rattle.std.proofs.Common.{◌≡◌, ℕ, ◌+◌, ◌≤◌, true, false, List, [], ◌∷◌, ◌++◌, map, take, length, get_or, refl, sym, ap, ◌∙◌, subst, inl, inr, arith, append_assoc, Some, length-append}
+use Rattle.std.specs.Prelude.{slice_get, All}
 use Rattle.std.proofs.lemmas.Bool.{cases_Bool}
 use Rattle.std.proofs.lemmas.List.{map-append, take_more}
 use Rattle.std.proofs.lemmas.Option.{slice_get_within, get_or_from_slice_get}
@@ -8,12 +8,11 @@ use Rattle.std.proofs.lemmas.List.Elements.{All-get_or}
 use mathlib.Core.List.{IsPrefix}
 use Rattle.cs_types.specs.declared.event.Actor.{Actor}
 use Rattle.cs_types.specs.declared.event.Actor.TheVariants.{Sibling, Caller, End}
-use Rattle.cs_types.specs.declared.event.Event.{Event}
 use Rattle.cs_types.specs.declared.event.Step.{Step}
 use Rattle.cs_types.specs.declared.reply.Entry.{Entry}
 use Rattle.cs_types.specs.Scenario.{is_actor}
 use Rattle.cs_types.specs.History.{History, events_by}
-use Rattle.core_lock.specs.Lists.{list_at, actor_of, events_first}
+use Rattle.core_lock.specs.Lists.{actor_of, events_first}
 
 -- an actor is itself
 pub is_actor-same : (actor : Actor) → is_actor actor actor ≡ true

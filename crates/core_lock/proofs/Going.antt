@@ -1,6 +1,6 @@
 -- Going: how a pass goes on by a step, and by a reading.
-use Rattle.std.proofs.Common.{◌≡◌, ◌≢◌, ℕ, ◌+◌, ◌^◌, ◌<◌, ◌≤◌, List, [], ◌∷◌, ◌++◌, length, refl, sym, ap, ◌∙◌, subst, arith, Option, Some, append_assoc}
-use Rattle.std.specs.Prelude.{All, slice_get}
+use Rattle.std.proofs.Common.{◌≡◌, ℕ, ◌+◌, ◌^◌, ◌<◌, List, [], ◌∷◌, ◌++◌, refl, sym, ap, ◌∙◌, subst, arith, Option, Some, append_assoc}
+use Rattle.std.specs.Prelude.{slice_get}
 use Rattle.std.proofs.lemmas.Option.{slice_get_within}
 use mathlib.Core.List.{IsPrefix}
 use Rattle.atomic_table.specs.Seated.{TableId}
@@ -79,8 +79,8 @@ grows_next before now reply next =
     let rest = next.grows.0 ++ entry_with next.made reply ∷ [] in (
       rest,
       sym (append_assoc before.progress.seen next.grows.0 (entry_with next.made reply ∷ []))
-      ∙ ap (λ (h : History). h ++ entry_with next.made reply ∷ []) next.grows.1
-      ∙ sym (ap (λ (p : PassState). p.progress.seen) next.ends),
+          ∙ ap (λ (h : History). h ++ entry_with next.made reply ∷ []) next.grows.1
+          ∙ sym (ap (λ (p : PassState). p.progress.seen) next.ends),
     )
 
 module _ {R : Type 0} (opening : R → Opening) (spare : R → ℕ) where

@@ -1,5 +1,5 @@
 -- Hands: the room in the hands of a seat that has the turn.
-use Rattle.std.proofs.Common.{◌≡◌, ◌≢◌, ℕ, ◌+◌, ◌<◌, List, [], ◌∷◌, ◌++◌, length, refl, sym, ap, ◌∙◌, subst, arith, Option, Some, None, unwrap_or, length-append}
+use Rattle.std.proofs.Common.{◌≡◌, ℕ, ◌+◌, List, [], ◌∷◌, ◌++◌, length, sym, ap, ◌∙◌, arith, Option, Some, unwrap_or, length-append}
 use Rattle.std.specs.Prelude.{slice_get}
 use Rattle.atomic_table.specs.Table.{Me, rest}
 use Rattle.cs_types.specs.declared.event.Step.{Step}
@@ -9,7 +9,6 @@ use Rattle.cs_types.specs.History.{History}
 use Rattle.core_lock.specs.declared.view.Progress.{Progress}
 use Rattle.core_lock.specs.declared.view.Beginning.{Beginning}
 use Rattle.core_lock.specs.declared.view.View.{View}
-use Rattle.core_lock.specs.declared.view.View.TheVariants.{Holding}
 use Rattle.core_lock.specs.Lists.{list_at}
 use Rattle.core_lock.specs.Board.{HasTurn, entry_with}
 use Rattle.core_lock.proofs.Passing.{IsAfter}

@@ -1,12 +1,10 @@
 -- Keeping: what a step of one seat leaves to the others.
-use Rattle.std.proofs.Common.{◌≡◌, ◌≢◌, ℕ, ◌+◌, ◌<◌, ◌≤◌, List, [], ◌∷◌, ◌++◌, length, set, get_or, refl, sym, ap, ◌∙◌, subst, ⊎_elim, inl, inr, ◌⊎◌, arith, zero, suc}
-use Rattle.std.specs.Prelude.{All}
+use Rattle.std.proofs.Common.{◌≡◌, ◌≢◌, ℕ, List, [], ◌∷◌, set, refl, sym, subst, ⊎_elim}
 use Rattle.std.proofs.lemmas.List.Elements.{All-weaker}
-use mathlib.Core.Option.{some, some-ne-none, some-injective}
+use mathlib.Core.Option.{some}
 use native.Mathlib.Decide.{ℕ_discrete}
 use lib.ListN.{get_elem?}
 use Rattle.atomic_table.proofs.Lists.{at_set}
-use Rattle.cs_types.specs.declared.event.Step.{Step}
 use Rattle.core_lock.specs.declared.view.Progress.{Progress}
 use Rattle.core_lock.specs.declared.view.Beginning.{Beginning}
 use Rattle.core_lock.specs.declared.view.View.{View}

@@ -6,3 +6,7 @@ pub mod Passing
 pub mod Hands
 pub mod Reading
 pub mod Going
+pub mod Dealing
+pub mod Coming
+pub mod Giving
+pub mod Ending

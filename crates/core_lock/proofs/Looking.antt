@@ -1,6 +1,5 @@
 -- Looking: a look at the ticket that is served keeps the rule, and the seat takes the room where the ticket is its own.
-use Rattle.std.proofs.Common.{◌≡◌, ◌≢◌, ℕ, ◌+◌, ◌-◌, ◌%◌, ◌^◌, ◌<◌, ◌≤◌, ◌⊎◌, Bool, true, false, List, [], ◌∷◌, ◌++◌, length, set, get_or, refl, sym, ap, ◌∙◌, subst, inl, inr, arith, Option, Some, append-nil}
-use Rattle.std.specs.Prelude.{All}
+use Rattle.std.proofs.Common.{◌≡◌, ◌≢◌, ℕ, Bool, true, false, List, [], ◌∷◌, length, set, get_or, refl, sym, ap, ◌∙◌, subst, inl, inr, arith, Option, Some, append-nil}
 use Rattle.std.proofs.lemmas.Bool.{cases_Bool, true≢false}
 use mathlib.Core.Logic.{dite}
 use mathlib.Core.Option.{none, some}
@@ -10,7 +9,6 @@ use lib.ListN.{get_elem?}
 use lib.Seq.{set-get_or}
 use Rattle.atomic_table.specs.Table.{State, Me, Act, step, keeps, takes, Valid, Allows, stepped, carried_after}
 use Rattle.atomic_table.proofs.Lists.{set_again}
-use Rattle.cs_types.specs.declared.event.Step.{Step}
 use Rattle.cs_types.specs.Room.{Opening}
 use Rattle.cs_types.specs.History.{History, events_by}
 use Rattle.core_lock.specs.declared.view.Progress.{Progress}
@@ -18,7 +16,7 @@ use Rattle.core_lock.specs.declared.view.Beginning.{Beginning}
 use Rattle.core_lock.specs.declared.view.View.{View}
 use Rattle.core_lock.specs.declared.view.View.TheVariants.{Waiting, Holding}
 use Rattle.core_lock.specs.Lists.{list_at, actor_of, events_first}
-use Rattle.core_lock.specs.Board.{Books, IsOwned, IsWaiting, IsHolding, Knows, IsRoomAt, HasSlot, IsKept, HasTurn, looked}
+use Rattle.core_lock.specs.Board.{Books, IsOwned, IsWaiting, Knows, IsRoomAt, HasSlot, IsKept, HasTurn, looked}
 use Rattle.core_lock.proofs.Keeping.{seats_stay, knows_stays, parts_or}
 
 module _ {R : Type 0} (opening : R → Opening) (history : R → History) (spare : R → ℕ) (begun : Beginning R) where
@@ -57,34 +55,36 @@ module _ {R : Type 0} (opening : R → Opening) (history : R → History) (spare
         as_many = k.as_many;
         own = k.own;
         no_other = k.no_other;
-        views = seats_stay (Knows begun now) s.views seat (Holding begun (record has { seen = history room }) ticket)
-            (refl, record {
-              owned = record {
-                number = mine.number;
-                owner = mine.owner;
-                made = mine.made;
-                steps = mine.steps;
-                seen = ([], append-nil (history room) ∙ is_room.tells);
-                note = mine.note;
-              };
-              drew = waits.drew;
-              served = sym served;
-              out = refl;
-              whole = is_room.tells;
-            })
+        views = seats_stay (Knows begun now) s.views seat (Holding begun (record has { seen = history room }) ticket) (
+          refl,
+          record {
+            owned = record {
+              number = mine.number;
+              owner = mine.owner;
+              made = mine.made;
+              steps = mine.steps;
+              seen = ([], append-nil (history room) ∙ is_room.tells);
+              note = mine.note;
+            };
+            drew = waits.drew;
+            served = sym served;
+            out = refl;
+            whole = is_room.tells;
+          },
+        )
             (λ other view apart there.
-              knows_stays begun b now other (owned other)
-              (λ p t w. record {
-                owned = owned other 1 p w.owned;
-                drew = w.drew;
-                not_served = w.not_served;
-                drawn = w.drawn;
-                not_out = λ _.
-                    let ne : t ≢ ticket = λ e. apart (sym w.drew ∙ ap b.queue e ∙ waits.drew) in
-                    omega (arith, w.not_served, served, ne);
-              })
-              (λ p t h. absurd (true≢false (sym h.out ∙ home)))
-              view (k.views other view there));
+            knows_stays begun b now other (owned other)
+            (λ p t w. record {
+              owned = owned other 1 p w.owned;
+              drew = w.drew;
+              not_served = w.not_served;
+              drawn = w.drawn;
+              not_out = λ _.
+                  let ne : t ≢ ticket = λ e. apart (sym w.drew ∙ ap b.queue e ∙ waits.drew) in
+                  omega (arith, w.not_served, served, ne);
+            })
+            (λ p t h. absurd (true≢false (sym h.out ∙ home)))
+            view (k.views other view there));
       }
 
   -- nothing changes where another ticket is served
@@ -112,37 +112,37 @@ module _ {R : Type 0} (opening : R → Opening) (history : R → History) (spare
       in
       dite (ℕ_discrete (get_or s.words 1 0) ticket)
       (λ here.
-        let served : length b.past ≡ ticket = sym found ∙ here in
-        let home = at_home s k seat ticket has waits served in
-        let slot : HasSlot opening history spare begun b.past false s.homes = subst (λ (o : Bool). HasSlot opening history spare begun b.past o s.homes) home k.slot in
-        let room = slot.0 in
-        let is_room = slot.2 in
-        let w : View R = Holding begun (record has { seen = history room }) ticket in
-        let own : events_by (actor_of (list_at begun.lists has.number)) (history room) ≡ events_first has.made (list_at begun.lists has.number) =
-        subst (λ (z : History × ℕ). events_by (actor_of (list_at begun.lists has.number)) z.0 ≡ events_first z.1 (list_at begun.lists has.number)) (λ i. (sym is_room.tells i, mine.made i)) (k.own has.number mine.number)
-        in
-        let as_long : length (history room) ≡ length b.past = ap (λ (h : History). length h) is_room.tells in
-        let turn : HasTurn opening history spare begun has ticket room (w, (0, Some room) ∷ []) = record {
-          me = refl;
-          grows = subst (λ (h : History). mathlib.Core.List.IsPrefix has.seen h) (sym is_room.tells) mine.seen;
-          own = own;
-          noted = omega (arith, mine.note, as_long);
-          opens = is_room.opens;
-          spares = omega (arith, is_room.spares, as_long);
-          more = omega (arith, is_room.spares, waits.drawn, served, k.enough);
-        } in (
-          w,
-          takes 0 (Some room),
-          ap (λ (hs : List (maybe.Option (Option R))). get_elem? hs 0) slot.1,
-          subst Rule (λ i. record {
-            words = sym (set-get_or s.words 1 0) i;
-            homes = sym (ap (λ (hs : List (maybe.Option (Option R))). set hs 0 none) slot.1) i;
-            views = set s.views seat w;
-          }) (look_kept s k seat ticket has room waits served home is_room),
-          λ begun' has' ticket' e.
-              subst (λ (z : Beginning R × Progress × ℕ). (get_or s.words 1 0 ≡ z.2 → (r : R) × HasTurn opening history spare z.0 z.1 z.2 r (w, (0, Some room) ∷ [])) × (get_or s.words 1 0 ≢ z.2 → (w, (0, Some room) ∷ []) ≡ me))
-              (parts begun' has' ticket' e) ((λ _. (room, turn)), λ other. absurd (other here)),
-        ))
+      let served : length b.past ≡ ticket = sym found ∙ here in
+      let home = at_home s k seat ticket has waits served in
+      let slot : HasSlot opening history spare begun b.past false s.homes = subst (λ (o : Bool). HasSlot opening history spare begun b.past o s.homes) home k.slot in
+      let room = slot.0 in
+      let is_room = slot.2 in
+      let w : View R = Holding begun (record has { seen = history room }) ticket in
+      let own : events_by (actor_of (list_at begun.lists has.number)) (history room) ≡ events_first has.made (list_at begun.lists has.number) =
+      subst (λ (z : History × ℕ). events_by (actor_of (list_at begun.lists has.number)) z.0 ≡ events_first z.1 (list_at begun.lists has.number)) (λ i. (sym is_room.tells i, mine.made i)) (k.own has.number mine.number)
+      in
+      let as_long : length (history room) ≡ length b.past = ap (λ (h : History). length h) is_room.tells in
+      let turn : HasTurn opening history spare begun has ticket room (w, (0, Some room) ∷ []) = record {
+        me = refl;
+        grows = subst (λ (h : History). mathlib.Core.List.IsPrefix has.seen h) (sym is_room.tells) mine.seen;
+        own = own;
+        noted = omega (arith, mine.note, as_long);
+        opens = is_room.opens;
+        spares = omega (arith, is_room.spares, as_long);
+        more = omega (arith, is_room.spares, waits.drawn, served, k.enough);
+      } in (
+        w,
+        takes 0 (Some room),
+        ap (λ (hs : List (maybe.Option (Option R))). get_elem? hs 0) slot.1,
+        subst Rule (λ i. record {
+          words = sym (set-get_or s.words 1 0) i;
+          homes = sym (ap (λ (hs : List (maybe.Option (Option R))). set hs 0 none) slot.1) i;
+          views = set s.views seat w;
+        }) (look_kept s k seat ticket has room waits served home is_room),
+        λ begun' has' ticket' e.
+            subst (λ (z : Beginning R × Progress × ℕ). (get_or s.words 1 0 ≡ z.2 → (r : R) × HasTurn opening history spare z.0 z.1 z.2 r (w, (0, Some room) ∷ [])) × (get_or s.words 1 0 ≢ z.2 → (w, (0, Some room) ∷ []) ≡ me))
+            (parts begun' has' ticket' e) ((λ _. (room, turn)), λ other. absurd (other here)),
+      ))
       (λ not_here. (
         Waiting begun has ticket,
         keeps,

@@ -1,6 +1,6 @@
 -- Passing: making a step in the room and passing the turn on keeps the rule.
 use Rattle.std.proofs.Common.{◌≡◌, ◌≢◌, ℕ, ◌+◌, ◌-◌, ◌%◌, ◌^◌, ◌<◌, ◌≤◌, Bool, true, false, List, [], ◌∷◌, ◌++◌, length, set, get_or, refl, sym, ap, ◌∙◌, subst, arith, Option, Some, length-append}
-use Rattle.std.specs.Prelude.{All, slice_get}
+use Rattle.std.specs.Prelude.{slice_get}
 use Rattle.std.proofs.lemmas.List.Elements.{All-get_or}
 use mathlib.Core.Logic.{dite}
 use mathlib.Core.Option.{none, some}
@@ -21,7 +21,7 @@ use Rattle.core_lock.specs.declared.view.Beginning.{Beginning}
 use Rattle.core_lock.specs.declared.view.View.{View}
 use Rattle.core_lock.specs.declared.view.View.TheVariants.{Idle, Holding}
 use Rattle.core_lock.specs.Lists.{list_at, actor_of, IsList, events_first}
-use Rattle.core_lock.specs.Board.{entry_with, Books, IsOwned, IsWaiting, IsHolding, Knows, IsRoomAt, HasSlot, IsKept, passed}
+use Rattle.core_lock.specs.Board.{entry_with, Books, IsOwned, IsHolding, Knows, HasSlot, IsKept, passed}
 use Rattle.core_lock.proofs.Keeping.{put, put_here, put_else, seats_stay, knows_stays, parts_or}
 use Rattle.core_lock.proofs.Entries.{is_actor-same, events_by-own, events_by-else, events_first-more, actor_at-is, prefix-more}
 
@@ -66,11 +66,15 @@ module _ {R : Type 0} (opening : R → Opening) (history : R → History) (spare
       record {
         books = now;
         words = ap (λ (ws : List ℕ). set ws 1 ((length b.past + 1) % 18446744073709551616)) k.words ∙ ap (λ (t : ℕ). b.ticket ∷ t ∷ []) small;
-        slot = (room, ap (λ (hs : List (maybe.Option (Option R))). set hs 0 (some (Some room))) empty, record {
-          opens = after.opens;
-          tells = now_is;
-          spares = subst (λ (h : History). spare room + length h ≡ spare begun.room) now_is after.spares;
-        });
+        slot = (
+          room,
+          ap (λ (hs : List (maybe.Option (Option R))). set hs 0 (some (Some room))) empty,
+          record {
+            opens = after.opens;
+            tells = now_is;
+            spares = subst (λ (h : History). spare room + length h ≡ spare begun.room) now_is after.spares;
+          },
+        );
         behind = omega (arith, ahead, longer);
         ahead = λ out. absurd (Rattle.std.proofs.lemmas.Bool.false≢true out);
         busy = λ out. absurd (Rattle.std.proofs.lemmas.Bool.false≢true out);
@@ -80,47 +84,49 @@ module _ {R : Type 0} (opening : R → Opening) (history : R → History) (spare
         as_many = k.as_many;
         own = λ number lt. dite (ℕ_discrete number n)
             (λ e. subst (λ (m : ℕ). events_by (actor_of (list_at begun.lists m)) now.past ≡ events_first (now.made m) (list_at begun.lists m)) (sym e)
-              (events_by-own (actor_of steps) b.past entry (ap (λ (a : Actor). is_actor a (actor_of steps)) by ∙ is_actor-same (actor_of steps))
-              ∙ ap (λ (es : List Event). es ++ made.event ∷ []) (k.own n mine.number ∙ ap (λ (m : ℕ). events_first m steps) mine.made)
-              ∙ sym (events_first-more has.made steps made after.is_next)
-              ∙ ap (λ (m : ℕ). events_first m steps) (sym (put_here b.made n (has.made + 1)))))
+            (events_by-own (actor_of steps) b.past entry (ap (λ (a : Actor). is_actor a (actor_of steps)) by ∙ is_actor-same (actor_of steps))
+            ∙ ap (λ (es : List Event). es ++ made.event ∷ []) (k.own n mine.number ∙ ap (λ (m : ℕ). events_first m steps) mine.made)
+            ∙ sym (events_first-more has.made steps made after.is_next)
+            ∙ ap (λ (m : ℕ). events_first m steps) (sym (put_here b.made n (has.made + 1)))))
             (λ ne.
-              events_by-else (actor_of (list_at begun.lists number)) b.past entry
-              (ap (λ (a : Actor). is_actor a (actor_of (list_at begun.lists number))) by ∙ k.lists.apart n number mine.number lt (λ e. ne (sym e)))
-              ∙ k.own number lt
-              ∙ ap (λ (m : ℕ). events_first m (list_at begun.lists number)) (sym (put_else b.made n (has.made + 1) number ne)));
+            events_by-else (actor_of (list_at begun.lists number)) b.past entry
+            (ap (λ (a : Actor). is_actor a (actor_of (list_at begun.lists number))) by ∙ k.lists.apart n number mine.number lt (λ e. ne (sym e)))
+            ∙ k.own number lt
+            ∙ ap (λ (m : ℕ). events_first m (list_at begun.lists number)) (sym (put_else b.made n (has.made + 1) number ne)));
         no_other = λ actor other.
             events_by-else actor b.past entry (ap (λ (a : Actor). is_actor a actor) by ∙ other n mine.number) ∙ k.no_other actor other;
-        views = seats_stay (Knows begun now) s.views seat (Idle begun (new ∷ []))
-            (refl, Rattle.std.proofs.lemmas.List.Elements.All-cons (IsOwned begun.lists now seat 0) new [] (record {
-              number = mine.number;
-              owner = mine.owner;
-              made = put_here b.made n (has.made + 1);
-              steps = omega (arith, mine.steps);
-              seen = ([], Rattle.std.proofs.Common.append-nil (history room) ∙ now_is);
-              note = omega (arith, mine.note, longer);
-            }) (Rattle.std.proofs.lemmas.List.Elements.All-nil (IsOwned begun.lists now seat 0)))
+        views = seats_stay (Knows begun now) s.views seat (Idle begun (new ∷ [])) (
+          refl,
+          Rattle.std.proofs.lemmas.List.Elements.All-cons (IsOwned begun.lists now seat 0) new [] (record {
+            number = mine.number;
+            owner = mine.owner;
+            made = put_here b.made n (has.made + 1);
+            steps = omega (arith, mine.steps);
+            seen = ([], Rattle.std.proofs.Common.append-nil (history room) ∙ now_is);
+            note = omega (arith, mine.note, longer);
+          }) (Rattle.std.proofs.lemmas.List.Elements.All-nil (IsOwned begun.lists now seat 0)),
+        )
             (λ other view apart there.
-              let owned : (count : ℕ) (p : Progress) → IsOwned begun.lists b other count p → IsOwned begun.lists now other count p =
-              λ count p o. record {
-                number = o.number;
-                owner = o.owner;
-                made = put_else b.made n (has.made + 1) p.number (λ e. apart (sym o.owner ∙ ap b.owner e ∙ mine.owner)) ∙ o.made;
-                steps = o.steps;
-                seen = prefix-more p.seen b.past (entry ∷ []) o.seen;
-                note = omega (arith, o.note, longer);
-              }
-              in
-              knows_stays begun b now other owned
-              (λ p t w. record {
-                owned = owned 1 p w.owned;
-                drew = w.drew;
-                not_served = omega (arith, w.not_out holds.out, longer);
-                drawn = w.drawn;
-                not_out = λ out. absurd (Rattle.std.proofs.lemmas.Bool.false≢true out);
-              })
-              (λ p t h. absurd (apart (sym h.drew ∙ ap b.queue (h.served ∙ sym holds.served) ∙ holds.drew)))
-              view (k.views other view there));
+            let owned : (count : ℕ) (p : Progress) → IsOwned begun.lists b other count p → IsOwned begun.lists now other count p =
+            λ count p o. record {
+              number = o.number;
+              owner = o.owner;
+              made = put_else b.made n (has.made + 1) p.number (λ e. apart (sym o.owner ∙ ap b.owner e ∙ mine.owner)) ∙ o.made;
+              steps = o.steps;
+              seen = prefix-more p.seen b.past (entry ∷ []) o.seen;
+              note = omega (arith, o.note, longer);
+            }
+            in
+            knows_stays begun b now other owned
+            (λ p t w. record {
+              owned = owned 1 p w.owned;
+              drew = w.drew;
+              not_served = omega (arith, w.not_out holds.out, longer);
+              drawn = w.drawn;
+              not_out = λ out. absurd (Rattle.std.proofs.lemmas.Bool.false≢true out);
+            })
+            (λ p t h. absurd (apart (sym h.drew ∙ ap b.queue (h.served ∙ sym holds.served) ∙ holds.drew)))
+            view (k.views other view there));
       }
 
   abbrev Passed : State (Option R) (View R) → ℕ → ℕ → Beginning R → Progress → ℕ → R → Type 0

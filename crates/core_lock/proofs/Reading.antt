@@ -1,6 +1,5 @@
 -- Reading: reading the length keeps the rule.
-use Rattle.std.proofs.Common.{◌≡◌, ◌≢◌, ℕ, ◌+◌, ◌<◌, ◌≤◌, List, [], ◌∷◌, length, set, get_or, refl, sym, ap, ◌∙◌, subst, arith, Option}
-use Rattle.std.specs.Prelude.{All}
+use Rattle.std.proofs.Common.{◌≡◌, ℕ, ◌+◌, ◌≤◌, List, [], ◌∷◌, length, set, get_or, refl, sym, ap, subst, arith, Option}
 use Rattle.std.proofs.lemmas.List.Elements.{All-head, All-cons, All-nil}
 use mathlib.Core.Option.{none, some}
 use lib.ListN.{get_elem?}
@@ -43,15 +42,17 @@ module _ {R : Type 0} (opening : R → Opening) (history : R → History) (spare
         as_many = k.as_many;
         own = k.own;
         no_other = k.no_other;
-        views = seats_stay (Knows begun b) s.views seat (Idle from (now ∷ []))
-            (known.0, All-cons (IsOwned begun.lists b seat 0) now [] (record {
-              number = mine.number;
-              owner = mine.owner;
-              made = mine.made;
-              steps = mine.steps;
-              seen = mine.seen;
-              note = omega arith;
-            }) (All-nil (IsOwned begun.lists b seat 0)))
+        views = seats_stay (Knows begun b) s.views seat (Idle from (now ∷ [])) (
+          known.0,
+          All-cons (IsOwned begun.lists b seat 0) now [] (record {
+            number = mine.number;
+            owner = mine.owner;
+            made = mine.made;
+            steps = mine.steps;
+            seen = mine.seen;
+            note = omega arith;
+          }) (All-nil (IsOwned begun.lists b seat 0)),
+        )
             (λ other view _ there. k.views other view there);
       }
 

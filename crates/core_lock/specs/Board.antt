@@ -1,6 +1,6 @@
 -- Board: the rule of the lock's table, between any two steps, and what each kind of step tells.
 -- The rooms are of any type: what one of them began with, its history, and how many entries it can still take are given.
-use Rattle.std.specs.Prelude.{◌≡◌, ◌≢◌, ℕ, ◌+◌, ◌^◌, ◌<◌, ◌≤◌, Bool, true, false, if◌then◌else◌, ◌==◌, List, [], ◌∷◌, ◌++◌, map, length, All, Option, Some, sum_by}
+use Rattle.std.specs.Prelude.{◌≡◌, ◌≢◌, ℕ, ◌+◌, ◌^◌, ◌<◌, ◌≤◌, Bool, true, false, List, [], ◌∷◌, ◌++◌, map, length, All, Option, Some, sum_by}
 use Rattle.std.specs.List.{range_with_len}
 use mathlib.Core.Option as maybe
 use mathlib.Core.List.{IsPrefix}

@@ -13,7 +13,7 @@ use Rattle.cs_types.specs.History.{History, IsLegal, events_by}
 use Rattle.core_lock.specs.declared.view.Progress.{Progress}
 use Rattle.core_lock.specs.declared.view.Beginning.{Beginning}
 use Rattle.core_lock.specs.declared.view.View.{View}
-use Rattle.core_lock.specs.declared.view.View.TheVariants.{Gone, Idle, Waiting, Holding}
+use Rattle.core_lock.specs.declared.view.View.TheVariants.{Idle}
 use Rattle.core_lock.specs.Lists.{list_at, actor_of, IsList, events_first}
 use Rattle.core_lock.specs.Board.{fresh, entry_with}
 
@@ -60,10 +60,12 @@ pub record MakesNext (before : PassState) (reply : Reply) (now : PassState) : Ty
   pub past : History
   pub grows : IsPrefix before.progress.seen past
   pub place : before.progress.note ≤ length past
-  pub ends : now ≡ record before { progress = record before.progress {
-    made = before.progress.made + 1;
-    seen = past ++ entry_with made reply ∷ [];
-  } }
+  pub ends : now ≡ record before {
+    progress = record before.progress {
+      made = before.progress.made + 1;
+      seen = past ++ entry_with made reply ∷ [];
+    };
+  }
 
 -- the opening of no lock, for a seat that is no pass's
 abbrev pub no_opening : Opening

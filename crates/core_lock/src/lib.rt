@@ -3,6 +3,7 @@
 
 mod board;
 mod pass;
+mod seats;
 mod shared;
 mod spent;
 mod turns;

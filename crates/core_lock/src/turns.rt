@@ -9,8 +9,8 @@ ghost use Rattle.core_lock.specs.Lists.{list_at};
 ghost use Rattle.core_lock.specs.Board.{HasTurn, HasMade};
 
 use crate::board::{Draw, Look, PassOn, Place, SERVING, TICKET, Top};
-use cs_types::{Reply, Room, Step};
 use crossbeam_utils::Backoff;
+use cs_types::{Reply, Room, Step};
 use std::sync::Wait;
 
 /// Draws a ticket for the next step of the seat's list.

@@ -1,4 +1,4 @@
-use Rattle.std.proofs.Common.{rules, ◌≡◌, ◌+◌, ◌%◌, ◌^◌, [], ◌∷◌, sym, subst}
+use Rattle.std.proofs.Common.{rules, ◌+◌, ◌%◌, ◌^◌, sym, subst}
 use mathlib.Core.Option.{none}
 use Rattle.atomic_table.specs.Table.{Me, Allows, step}
 use Rattle.core_lock.specs.Board.{IsKept, drawn}
@@ -12,6 +12,6 @@ fetch_add-requires g c =
       c.requires.table.0,
       search rules,
       subst (λ (m : Me _ _). Allows (IsKept g.R.Room.opening g.R.Room.history g.R.Room.spare top.key.value) top.table_id.slots c.args.seat.now.id m 0 (λ n. (n + 1) % 2 ^ 64)
-        (drawn (step top.table_id.slots 0 1 0 none) m)) (sym ready.2)
-      (draws g.R.Room.opening g.R.Room.history g.R.Room.spare top.key.value top.table_id.slots c.args.seat.now.id ready.0 ready.1 ready.3),
+          (drawn (step top.table_id.slots 0 1 0 none) m)) (sym ready.2)
+          (draws g.R.Room.opening g.R.Room.history g.R.Room.spare top.key.value top.table_id.slots c.args.seat.now.id ready.0 ready.1 ready.3),
     )

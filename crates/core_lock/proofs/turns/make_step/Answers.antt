@@ -5,8 +5,7 @@ use Rattle.std.specs.Option.{IsSome}
 use Rattle.cs_types.specs.Room.{Opening}
 use Rattle.cs_types.specs.Scenario.{IsEvent}
 use Rattle.cs_types.specs.History.{History, IsLegal}
-use Rattle.core_lock.specs.declared.view.Beginning.{Beginning}
-use Rattle.core_lock.specs.declared.view.View.TheVariants.{Idle, Holding}
+use Rattle.core_lock.specs.declared.view.View.TheVariants.{Idle}
 use Rattle.core_lock.specs.Board.{IsKept, passed, entry_with}
 use Rattle.core_lock.proofs.Passing.{passes_on}
 use Rattle.core_lock.proofs.Hands.{takes_room, same_room, put_room, after_turn}
@@ -58,9 +57,9 @@ fetch_add-requires g c =
       c.exchange-2.ensures.0 ∙ (c.exchange.ensures.0 ∙ c.requires.table.0),
       search rules,
       subst (λ (m : Me _ _). Allows (IsKept g.R.Room.opening g.R.Room.history g.R.Room.spare top.key.value) top.table_id.slots c.exchange-2.new.seat.id m 1 (λ n. (n + 1) % 2 ^ 64)
-        (passed g.R.Room.history (step top.table_id.slots 1 1 0 none) m)) (sym now)
-      (passes_on g.R.Room.opening g.R.Room.history g.R.Room.spare top.key.value top.table_id.slots c.exchange-2.new.seat.id t.0 (record t.1 { seen = g.R.Room.history t.3 }) t.2 c.apply-reply.new.self
-      c.args.step c.apply-reply.result after),
+          (passed g.R.Room.history (step top.table_id.slots 1 1 0 none) m)) (sym now)
+          (passes_on g.R.Room.opening g.R.Room.history g.R.Room.spare top.key.value top.table_id.slots c.exchange-2.new.seat.id t.0 (record t.1 { seen = g.R.Room.history t.3 }) t.2 c.apply-reply.new.self
+          c.args.step c.apply-reply.result after),
     )
 
 pub returns-clause-made : goal.returns-clause-made

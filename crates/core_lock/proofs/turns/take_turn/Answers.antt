@@ -1,4 +1,4 @@
-use Rattle.std.proofs.Common.{rules, ◌≡◌, [], ◌∷◌, sym, subst, ◌∙◌}
+use Rattle.std.proofs.Common.{rules, sym, subst, ◌∙◌}
 use mathlib.Core.Option.{none}
 use Rattle.atomic_table.specs.Table.{Me, Allows, step}
 use Rattle.core_lock.specs.Board.{IsKept, looked}
@@ -12,8 +12,8 @@ load-requires g c =
       c.loop.invariant.0 ∙ c.requires.table.0,
       search rules,
       subst (λ (m : Me _ _). Allows (IsKept g.R.Room.opening g.R.Room.history g.R.Room.spare top.key.value) top.table_id.slots c.loop.seat.id m 1 (λ n. n)
-        (looked g.R.Room.opening g.R.Room.history g.R.Room.spare (step top.table_id.slots 1 0 0 none) m)) (sym (c.loop.invariant.1 ∙ waits.2))
-      (looks g.R.Room.opening g.R.Room.history g.R.Room.spare top.key.value top.table_id.slots c.loop.seat.id waits.0 waits.1 c.args.ticket),
+          (looked g.R.Room.opening g.R.Room.history g.R.Room.spare (step top.table_id.slots 1 0 0 none) m)) (sym (c.loop.invariant.1 ∙ waits.2))
+          (looks g.R.Room.opening g.R.Room.history g.R.Room.spare top.key.value top.table_id.slots c.loop.seat.id waits.0 waits.1 c.args.ticket),
     )
 
 pub returns-then-load-ticket-clause-turn : goal.returns-then-load-ticket-clause-turn

@@ -1,8 +1,8 @@
-use Rattle.std.proofs.Common.{rules, refl, ◌≡◌, ◌+◌, ◌<◌, ◌≤◌, length, [], ◌∷◌, ◌++◌, sym, ap, subst, ◌∙◌, arith, Some}
+use Rattle.std.proofs.Common.{refl, ◌≡◌, ◌+◌, [], ◌∷◌, ◌++◌, sym, ap, subst, ◌∙◌, Some}
 use Rattle.std.specs.Prelude.{slice_get}
 use Rattle.core_lock.specs.Lists.{list_at}
 use Rattle.core_lock.specs.Board.{entry_with}
-use Rattle.core_lock.specs.Passes.{Lock, PassState, list_of, lock_of, pass_of}
+use Rattle.core_lock.specs.Passes.{PassState, list_of, lock_of, pass_of}
 use Rattle.core_lock.proofs.Going.{state_is, same_table, goes_on, tells_next, grows_next, own_is, legal_is, is_event, one_more_fits}
 use Rattle.std.proofs.lemmas.Option.{slice_get_within}
 use Rattle.core_lock.proofs.shared.Shared.call.Goals as goal

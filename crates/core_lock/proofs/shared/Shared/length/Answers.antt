@@ -1,7 +1,6 @@
-use Rattle.std.proofs.Common.{rules, refl, ◌≡◌, ◌+◌, ◌≤◌, length, [], ◌∷◌, sym, ap, subst, ◌∙◌}
+use Rattle.std.proofs.Common.{rules, ◌+◌, ◌≤◌, length, sym, ap, subst, ◌∙◌}
 use mathlib.Core.Option.{none}
 use Rattle.atomic_table.specs.Table.{Me, Allows, step}
-use Rattle.core_lock.specs.declared.view.Progress.{Progress}
 use Rattle.core_lock.specs.Board.{IsKept, noted}
 use Rattle.core_lock.specs.Passes.{PassState, lock_of, pass_of}
 use Rattle.core_lock.proofs.Reading.{notes}
@@ -17,7 +16,7 @@ load-requires g c =
       same_table g.R.Room.opening g.R.Room.spare seat.table_id top.table_id p.begun top.key.value p.has c.args.pass.now c.args.self.now is c.self.view_is c.requires.lock,
       search rules,
       subst (λ (m : Me _ _). Allows (IsKept g.R.Room.opening g.R.Room.history g.R.Room.spare top.key.value) top.table_id.slots seat.id m 1 (λ n. n) (noted (step top.table_id.slots 1 0 0 none) m)) (sym p.idle)
-      (notes g.R.Room.opening g.R.Room.history g.R.Room.spare top.key.value top.table_id.slots seat.id p.begun p.has),
+          (notes g.R.Room.opening g.R.Room.history g.R.Room.spare top.key.value top.table_id.slots seat.id p.begun p.has),
     )
 
 pub invariant_of-pass : goal.invariant_of-pass
