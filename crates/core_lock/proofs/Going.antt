@@ -73,16 +73,6 @@ module _ {R : Type 0} (opening : R → Opening) (history : R → History) (spare
       subst (λ (z : PassState × PassState). MakesNext z.0 reply z.1) (λ i. (sym is i, sym now_is i))
       (record { made = made; is_next = next; past = history room; grows = turn.grows; place = turn.noted; ends = refl })
 
--- what a pass sees grows by its next step
-pub grows_next : (before now : PassState) (reply : Reply) → MakesNext before reply now → IsPrefix before.progress.seen now.progress.seen
-grows_next before now reply next =
-    let rest = next.grows.0 ++ entry_with next.made reply ∷ [] in (
-      rest,
-      sym (append_assoc before.progress.seen next.grows.0 (entry_with next.made reply ∷ []))
-          ∙ ap (λ (h : History). h ++ entry_with next.made reply ∷ []) next.grows.1
-          ∙ sym (ap (λ (p : PassState). p.progress.seen) next.ends),
-    )
-
 module _ {R : Type 0} (opening : R → Opening) (spare : R → ℕ) where
   -- what each pass keeps, of what contracts see of it
   pub own_is : (table : TableId) (me : Me (Option R) (View R)) (steps : List Step) (count : ℕ) (p : IsPass opening me steps count) (now : PassState) →

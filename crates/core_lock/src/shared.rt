@@ -79,12 +79,8 @@ impl<R: Room> Shared<R> {
     pub fn call<W: Wait>(&self, rt: &W, pass: &mut Pass<R>) -> Result<Reply, Spent>
         requires lock { pass.old.lock ≡ self.now }
 
-        ensures lock { pass.new.lock ≡ self.now }
-        ensures number { pass.new.progress.number ≡ pass.old.progress.number }
-
-        // What the pass sees grows by its next step, which comes last, and by what others made before it.
+        // What the pass sees grows by what others made, and then by its next step, which comes last.
         ensures made { IfOk result (λ reply. MakesNext pass.old reply pass.new) }
-        ensures grows { IsPrefix pass.old.progress.seen pass.new.progress.seen }
         ensures legal { IsLegal pass.new.lock.opening pass.new.progress.seen }
 
         // The actor's entries are the steps that the pass made, each once and in order.
