@@ -1,4 +1,5 @@
 pub mod Steps
 pub mod Turns
+pub mod Placed
 pub mod Whole
 pub mod Workers

@@ -2,3 +2,4 @@ pub mod Scripts
 pub mod Turns
 pub mod Scripted
 pub mod Race
+pub mod Working

@@ -9,8 +9,10 @@ mod scripted;
 mod scripts;
 mod shared;
 mod turn;
+mod working;
 
 pub use named::Named;
 pub use racing::race;
 pub use scripted::Scripted;
 pub use turn::Turn;
+pub use working::work;
