@@ -7,23 +7,23 @@ ghost use Rattle.cs_types.specs.Scenario.{IsValid};
 ghost use Rattle.scenario_runner.specs.Outcomes.{drill_opening};
 ghost use Rattle.scenario_runner.specs.Ends.{EndsAsDrill};
 
+use core_state::CoreState;
 use cs_outside::{NullGuard, Sink};
 use cs_types::{OutOfMemory, Room};
-use plain_room::PlainRoom;
 use ptrace_check::Guards;
 use room_drill::{generate, summary};
 use scenario_input::{Status, play};
 use std::alloc::Global;
 
 /// The room of the seed's scenario after its steps and the entries of the end. No guard is handed in.
-fn drilled_room(alloc: Global, seed: u32) -> Result<PlainRoom<NullGuard>, OutOfMemory>
+fn drilled_room(alloc: Global, seed: u32) -> Result<CoreState<NullGuard>, OutOfMemory>
     ensures opening { IfOk result (λ room. room.opening ≡ drill_opening seed) }
     ensures valid { IfOk result (λ room. IsValid room.opening.scenario) }
     ensures drained { IfOk result (λ room. IsDrained room.opening (file room.opening) (history_of room.opening room.steps)) }
 {
     let scenario = generate(alloc, seed)?;
     let guards = Guards::of(alloc, Vec::new(alloc))?;
-    let mut room = PlainRoom::start(alloc, &scenario, guards)?;
+    let mut room = CoreState::start(alloc, &scenario, guards)?;
     play(&mut room, scenario.steps.items());
     room.drain();
     Ok(room)

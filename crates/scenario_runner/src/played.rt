@@ -12,9 +12,9 @@ ghost use Rattle.scenario_input.specs.Teaching.{first_bad};
 ghost use Rattle.scenario_runner.specs.Outcomes.{opened_with};
 ghost use Rattle.scenario_runner.specs.Ends.{IsBadGuard, EndsAsReplay, EndsAsRace};
 
+use core_state::CoreState;
 use cs_outside::{Gate, Guard, Sink, Source};
 use cs_types::{Room, Scenario};
-use plain_room::PlainRoom;
 use room_report::output;
 use scenario_input::{Status, Stop, play, read_scenario, taught};
 use std::alloc::Global;
@@ -27,7 +27,7 @@ fn opened<S: Source, G: Guard>(
     alloc: Global,
     source: &mut S,
     guards: Vec<G>,
-) -> Result<(Scenario, PlainRoom<G>), Stop>
+) -> Result<(Scenario, CoreState<G>), Stop>
     requires few { vec_len guards ≤ 16 }
     requires untaught { All (λ guard. G.pairs guard ≡ []) guards.items }
     requires unasked { All (λ guard. G.asked guard ≡ 0) guards.items }
@@ -56,7 +56,7 @@ fn opened<S: Source, G: Guard>(
 {
     let scenario = read_scenario(alloc, source)?;
     let guards = taught(alloc, guards, scenario.teaches.items())?;
-    let room = PlainRoom::start(alloc, &scenario, guards)?;
+    let room = CoreState::start(alloc, &scenario, guards)?;
     Ok((scenario, room))
 }
 
