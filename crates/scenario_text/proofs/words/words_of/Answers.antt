@@ -1,4 +1,4 @@
-use Rattle.std.proofs.Common.{◌≡◌, ◌∙◌, ◌+◌, Err, List, [], ◌++◌, take, sym, ap, arith, ◌⊎◌}
+use Rattle.std.proofs.Common.{◌∙◌, ◌+◌, Err, List, [], ◌++◌, take, sym, ap, arith}
 use Rattle.std.proofs.lemmas.Result.{err_from_is_err_and}
 use Rattle.scenario_text.specs.Words.{Word}
 use Rattle.scenario_text.specs.Faults.{words_in}
