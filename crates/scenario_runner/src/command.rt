@@ -9,6 +9,7 @@ ghost use Rattle.scenario_runner.specs.Ends.{EndsAsReplay, EndsAsDrill, EndsBy};
 use crate::drilled::drilled;
 use crate::played::{raced, replayed};
 use command_words::{Command, command_of, drill_seed, is_replay};
+use core_state::TreeQueue;
 use cs_outside::{Gate, Guard, Sink, Source};
 use scenario_input::Status;
 use std::alloc::Global;
@@ -47,7 +48,7 @@ pub fn replay<S: Source, K: Sink, G: Guard>(
     if !is_replay(alloc, words) {
         return Status::BadWords;
     }
-    replayed(alloc, source, sink, guards)
+    replayed::<TreeQueue, S, K, G>(alloc, source, sink, guards)
 }
 
 /// Draws the scenario of a seed, makes its steps in their order and then the entries of the end, and writes how many
@@ -104,8 +105,8 @@ pub fn run<
     ensures unwritten { result ≡ Status.BadWords → sink.new ≡ sink.old }
 {
     match command_of(rt.alloc(), words) {
-        Some(Command::Replay) => replayed(rt.alloc(), source, sink, guards),
-        Some(Command::Race) => raced(rt, source, sink, gate, guards),
+        Some(Command::Replay) => replayed::<TreeQueue, S, K, G>(rt.alloc(), source, sink, guards),
+        Some(Command::Race) => raced::<TreeQueue, T, S, K, P, G>(rt, source, sink, gate, guards),
         Some(Command::Drill { seed }) => drilled(rt.alloc(), seed, sink),
         None => Status::BadWords,
     }

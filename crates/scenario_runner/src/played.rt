@@ -12,7 +12,8 @@ ghost use Rattle.scenario_input.specs.Teaching.{first_bad};
 ghost use Rattle.scenario_runner.specs.Outcomes.{opened_with};
 ghost use Rattle.scenario_runner.specs.Ends.{IsBadGuard, EndsAsReplay, EndsAsRace};
 
-use core_state::CoreState;
+use core_events::CoreRoom;
+use core_lanes::SiblingQueue;
 use cs_outside::{Gate, Guard, Sink, Source};
 use cs_types::{Room, Scenario};
 use room_report::output;
@@ -21,13 +22,13 @@ use std::alloc::Global;
 use std::sync::Wait;
 use std::thread::Threads;
 
-/// The scenario that the input spells, and the room of it before its first step, with the guards that it
+/// The scenario that the input spells, and the room of it before its first step, over queues of one kind, with the guards that it
 /// teaches.
-fn opened<S: Source, G: Guard>(
+fn opened<Q: SiblingQueue, S: Source, G: Guard>(
     alloc: Global,
     source: &mut S,
     guards: Vec<G>,
-) -> Result<(Scenario, CoreState<G>), Stop>
+) -> Result<(Scenario, CoreRoom<Q, G>), Stop>
     requires few { vec_len guards ≤ 16 }
     requires untaught { All (λ guard. G.pairs guard ≡ []) guards.items }
     requires unasked { All (λ guard. G.asked guard ≡ 0) guards.items }
@@ -56,7 +57,7 @@ fn opened<S: Source, G: Guard>(
 {
     let scenario = read_scenario(alloc, source)?;
     let guards = taught(alloc, guards, scenario.teaches.items())?;
-    let room = CoreState::start(alloc, &scenario, guards)?;
+    let room = CoreRoom::start(alloc, &scenario, guards)?;
     Ok((scenario, room))
 }
 
@@ -83,7 +84,7 @@ fn write_output<R: Room, K: Sink>(room: &R, sink: &mut K) -> Status
 
 /// Reads a scenario to its end, makes its steps in the order of their lines and then the entries of the end, and
 /// writes the line of each entry and the report.
-pub(crate) fn replayed<S: Source, K: Sink, G: Guard>(
+pub(crate) fn replayed<Q: SiblingQueue, S: Source, K: Sink, G: Guard>(
     alloc: Global,
     source: &mut S,
     sink: &mut K,
@@ -99,7 +100,7 @@ pub(crate) fn replayed<S: Source, K: Sink, G: Guard>(
         (record { bytes = S.left; faults = S.faults; before = source.old; after = source.new })
         (record { bytes = K.written; faults = K.faults; before = sink.old; after = sink.new }) result }
 {
-    match opened(alloc, source, guards) {
+    match opened::<Q, S, G>(alloc, source, guards) {
         Ok((scenario, mut room)) => {
             play(&mut room, scenario.steps.items());
             room.drain();
@@ -113,6 +114,7 @@ pub(crate) fn replayed<S: Source, K: Sink, G: Guard>(
 /// that passes the gate before each of its turns, makes the entries of the end, and writes what a replay writes.
 /// It may wait for the room, and where the gate does.
 pub(crate) fn raced<
+    Q: SiblingQueue + Send,
     T: Threads + Wait + AllocGlobal + Sync,
     S: Source,
     K: Sink,
@@ -129,7 +131,7 @@ pub(crate) fn raced<
         (record { bytes = S.left; faults = S.faults; before = source.old; after = source.new })
         (record { bytes = K.written; faults = K.faults; before = sink.old; after = sink.new }) result }
 {
-    match opened(rt.alloc(), source, guards) {
+    match opened::<Q, S, G>(rt.alloc(), source, guards) {
         Ok((scenario, room)) => match sibling_workers::race(rt, room, &scenario, gate) {
             Ok(raced) => write_output(&raced, sink),
             Err(_) => Status::OutOfMemory,
