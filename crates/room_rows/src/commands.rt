@@ -4,6 +4,7 @@
 ghost use Rattle.std.specs.Prelude.{◌≡◌, ◌<◌};
 
 use crate::scenarios::text_of_steps;
+use command_words::{Command, command_of, drill_seed, is_replay};
 use cs_outside::{MemSink, MemSource, NoGate, PairGuard};
 use scenario_runner::{Status, drill, replay, run};
 use scenario_text::BadKind;
@@ -253,6 +254,32 @@ fn expect_bad_words<R: Threads + Wait + AllocGlobal + Sync + Abort>(rt: &R, text
 fn other_words(rt: HostRuntime) {
     for texts in &OTHER_WORDS {
         expect_bad_words(&rt, texts);
+    }
+}
+
+/// Expects that the words ask for this command.
+fn expect_command<R: AllocGlobal + Abort>(rt: &R, texts: &[&str], wanted: Option<Command>) {
+    let alloc = rt.alloc();
+    let words = words_of(alloc, texts).expect(rt, "room");
+    assert!(rt; command_of(alloc, &words) == wanted);
+    assert!(rt; is_replay(alloc, &words) == (wanted == Some(Command::Replay)));
+    let seed = match wanted {
+        Some(Command::Drill { seed }) => Some(seed),
+        _ => None,
+    };
+    assert!(rt; drill_seed(alloc, &words) == seed);
+}
+
+#[test]
+fn words_of_the_commands(rt: HostRuntime) {
+    expect_command(&rt, &["replay"], Some(Command::Replay));
+    expect_command(&rt, &["race"], Some(Command::Race));
+    for seed in [0, 7, 4_294_967_295] {
+        let text = format!(in rt.alloc(); "{seed}").expect(&rt, "room");
+        expect_command(&rt, &["drill", &text], Some(Command::Drill { seed }));
+    }
+    for texts in &OTHER_WORDS {
+        expect_command(&rt, texts, None);
     }
 }
 

@@ -219,8 +219,7 @@ fn drilled<R: Threads + Wait + AllocGlobal + Sync + Abort>(
     let words = words_of(rt.alloc(), &["drill", seed]).expect(rt, "room");
     let guards = Vec::<PairGuard>::new(rt.alloc());
     let mut source = source_of(rt, b"coresched 1\n", 4096, Vec::new(rt.alloc()));
-    let mut sink =
-        MemSink::of(rt.alloc(), 16_384, 4096, only(rt, fails)).expect(rt, "room");
+    let mut sink = MemSink::of(rt.alloc(), 16_384, 4096, only(rt, fails)).expect(rt, "room");
     assert!(rt; run(rt, &words, &mut source, &mut sink, &NoGate, guards) == wanted);
     assert!(rt; source.calls() == 0);
     sink
@@ -230,7 +229,9 @@ fn drilled<R: Threads + Wait + AllocGlobal + Sync + Abort>(
 #[test]
 fn command_drill(rt: HostRuntime) {
     let first = drilled(&rt, "1", 0, Status::Done);
-    assert!(rt; first.bytes().starts_with(FIRST_LINES.as_bytes()) && first.bytes().ends_with(b"done\n"));
+    assert!(rt;
+        first.bytes().starts_with(FIRST_LINES.as_bytes()) && first.bytes().ends_with(b"done\n")
+    );
     let again = drilled(&rt, "1", 0, Status::Done);
     assert!(rt; again.bytes() == first.bytes());
     let words = words_of(rt.alloc(), &["drill", "1"]).expect(&rt, "room");
@@ -238,7 +239,12 @@ fn command_drill(rt: HostRuntime) {
     assert!(rt; drill(rt.alloc(), &words, &mut sink) == Status::Done);
     assert!(rt; sink.bytes() == first.bytes());
     let last = drilled(&rt, "4294967295", 0, Status::Done);
-    assert!(rt; last.bytes().starts_with(b"drill 4294967295 steps 20000 entries "));
+    assert!(rt;
+        last.bytes()
+            .starts_with(b"drill 4294967295 steps 20000 entries ")
+    );
     let cut = drilled(&rt, "1", 3, Status::WriteFault);
-    assert!(rt; cut.bytes() == b"drill 1 steps 20000 entries 20000\npicks 306 20 1174\n".as_slice());
+    assert!(rt;
+        cut.bytes() == b"drill 1 steps 20000 entries 20000\npicks 306 20 1174\n".as_slice()
+    );
 }

@@ -25,7 +25,7 @@ use std::thread::Threads;
 
 /// The earlier deadline goes first, a deadline task forks none, and a sibling that runs idle has no task
 /// that could sleep or end. The running task becomes a fair one, and makes way.
-const DEADLINES: Script = script!(
+pub const DEADLINES: Script = script!(
     2,
     "8 8 65536",
     [(1, "dl:50", 0), (2, "dl:20", 0)],
@@ -57,7 +57,7 @@ const DEADLINES: Script = script!(
 );
 
 /// An RR task goes behind the other of its priority at the first tick after it has used its slice.
-const ROUND_ROBIN: Script = script!(
+pub const ROUND_ROBIN: Script = script!(
     2,
     "8 8 65536",
     [(1, "rr:10", 0), (2, "rr:10", 0)],
@@ -84,7 +84,7 @@ const ROUND_ROBIN: Script = script!(
 );
 
 /// The virtual time of a light task runs ahead of the clock.
-const GROWTH: Script = script!(
+pub const GROWTH: Script = script!(
     2,
     "8 8 65536",
     [(1, "fair:5", 0)],
@@ -139,7 +139,7 @@ pub const FORK_AND_EXIT: Script = script!(
 /// The refusals of calls, and who may access whom: 2 and 4 are another user's, 3 and 4 are one process
 /// group, 5 may not be dumped, 6 has the capability, 7 too. The group's call that is refused uses
 /// cookie 1. Where one sibling alone is online, each call is refused.
-const REFUSALS: Script = Script {
+pub const REFUSALS: Script = Script {
     text: concat!(
         "coresched 1\nsiblings 2\nlimits 8 1 65536\n",
         "task 1 1 1 0 fair:0 1000 1000 1000 1000 1000 1000 0 1 1\n",
@@ -186,7 +186,7 @@ const REFUSALS: Script = Script {
 };
 
 /// A last reference that is given back makes room under the limit.
-const LAST_REFERENCE: Script = script!(
+pub const LAST_REFERENCE: Script = script!(
     2,
     "8 1 65536",
     [(1, "fair:0", 0), (2, "fair:0", 0)],

@@ -15,7 +15,7 @@ use std::sync::Arc;
 use std::sync::atomic::{AtomicU64, Ordering};
 
 /// Four guards that hold their pairs in place, as the program has them.
-fn four<R: AllocGlobal + Abort>(rt: &R) -> Vec<PairGuard>
+pub fn four<R: AllocGlobal + Abort>(rt: &R) -> Vec<PairGuard>
     ensures four { vec_len result ≡ 4 }
     ensures untaught { All (λ guard. guard.pairs ≡ []) result.items }
     ensures unasked { All (λ guard. guard.asked ≡ 0) result.items }
@@ -103,7 +103,7 @@ fn guard_that_refuses(rt: HostRuntime) {
 
 /// Root with the capability, and a process group of two tasks of two other users. A guard refuses it the
 /// first of these.
-const GROUP: &str = concat!(
+pub const GROUP: &str = concat!(
     "coresched 1\nsiblings 2\nlimits 8 8 65536\n",
     "task 1 1 1 0 fair:0 0 0 0 0 0 0 1 1 1\n",
     "task 2 2 2 0 fair:0 1000 1000 1000 1000 1000 1000 0 1 1\n",

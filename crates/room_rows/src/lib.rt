@@ -58,6 +58,8 @@ mod host;
 #[cfg(test)]
 mod lines;
 #[cfg(test)]
+mod machines;
+#[cfg(test)]
 mod moves;
 #[cfg(test)]
 mod offers;
