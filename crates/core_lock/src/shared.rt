@@ -79,6 +79,9 @@ impl<R: Room> Shared<R> {
     pub fn call<W: Wait>(&self, rt: &W, pass: &mut Pass<R>) -> Result<Reply, Spent>
         requires lock { pass.old.lock ≡ self.now }
 
+        ensures lock { pass.new.lock ≡ pass.old.lock }
+        ensures number { pass.new.progress.number ≡ pass.old.progress.number }
+
         // What the pass sees grows by what others made, and then by its next step, which comes last.
         ensures made { IfOk result (λ reply. MakesNext pass.old reply pass.new) }
         ensures legal { IsLegal pass.new.lock.opening pass.new.progress.seen }

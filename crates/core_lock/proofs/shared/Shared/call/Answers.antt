@@ -130,3 +130,41 @@ returns-clause-own g c =
     let now = pass_of g.R.Room.opening g.R.Room.spare c.make_step-reply.new.seat.table_id c.make_step-reply.new.seat.me.0 in
     let now_is = state_is g.R.Room.opening g.R.Room.spare c.make_step-reply.new.seat.table_id c.make_step-reply.new.seat.me after.begun after.has now after.idle refl in
     own_is g.R.Room.opening g.R.Room.spare c.make_step-reply.new.seat.table_id c.make_step-reply.new.seat.me c.pass.inside.steps (c.pass.inside.made + 1) after now now_is
+
+pub returns-clause-lock : goal.returns-clause-lock
+returns-clause-lock g c =
+    let seat = c.pass.inside.seat in
+    let p = c.pass.invariant in
+    let is = state_is g.R.Room.opening g.R.Room.spare seat.table_id seat.me p.begun p.has c.args.pass.now p.idle c.pass.view_is in
+    let next : slice_get (list_at p.begun.lists p.has.number) p.has.made ≡ Some c.in-Some.step =
+    subst (λ (s : PassState). slice_get (list_of s) s.progress.made ≡ Some c.in-Some.step) is (sym c.next_step.ensures ∙ c.in-Some.is)
+    in
+    let drawn = c.draw-ticket.ensures.drawn p.begun p.has p.idle in
+    let turn = c.take_turn.ensures.turn p.begun p.has drawn in
+    let made = c.make_step-reply.ensures.made p.begun p.has c.draw-ticket.result turn.0 turn.1 in
+    let tables = c.make_step-reply.ensures.table ∙ (c.take_turn.ensures.table ∙ c.draw-ticket.ensures.table) in
+    let now = pass_of g.R.Room.opening g.R.Room.spare c.make_step-reply.new.seat.table_id c.make_step-reply.new.seat.me.0 in
+    let now_is = state_is g.R.Room.opening g.R.Room.spare c.make_step-reply.new.seat.table_id c.make_step-reply.new.seat.me p.begun
+    (record p.has { made = p.has.made + 1; seen = g.R.Room.history turn.0 ++ entry_with c.in-Some.step c.make_step-reply.result ∷ [] }) now made.me refl
+    in
+    ap (λ (s : PassState). s.lock) now_is
+    ∙ (ap (λ table. lock_of g.R.Room.opening g.R.Room.spare table p.begun) tables
+    ∙ sym (ap (λ (s : PassState). s.lock) is))
+
+pub returns-clause-number : goal.returns-clause-number
+returns-clause-number g c =
+    let seat = c.pass.inside.seat in
+    let p = c.pass.invariant in
+    let is = state_is g.R.Room.opening g.R.Room.spare seat.table_id seat.me p.begun p.has c.args.pass.now p.idle c.pass.view_is in
+    let next : slice_get (list_at p.begun.lists p.has.number) p.has.made ≡ Some c.in-Some.step =
+    subst (λ (s : PassState). slice_get (list_of s) s.progress.made ≡ Some c.in-Some.step) is (sym c.next_step.ensures ∙ c.in-Some.is)
+    in
+    let drawn = c.draw-ticket.ensures.drawn p.begun p.has p.idle in
+    let turn = c.take_turn.ensures.turn p.begun p.has drawn in
+    let made = c.make_step-reply.ensures.made p.begun p.has c.draw-ticket.result turn.0 turn.1 in
+    let tables = c.make_step-reply.ensures.table ∙ (c.take_turn.ensures.table ∙ c.draw-ticket.ensures.table) in
+    let now = pass_of g.R.Room.opening g.R.Room.spare c.make_step-reply.new.seat.table_id c.make_step-reply.new.seat.me.0 in
+    let now_is = state_is g.R.Room.opening g.R.Room.spare c.make_step-reply.new.seat.table_id c.make_step-reply.new.seat.me p.begun
+    (record p.has { made = p.has.made + 1; seen = g.R.Room.history turn.0 ++ entry_with c.in-Some.step c.make_step-reply.result ∷ [] }) now made.me refl
+    in
+    ap (λ (s : PassState). s.progress.number) now_is ∙ sym (ap (λ (s : PassState). s.progress.number) is)
