@@ -53,7 +53,13 @@ fn work_each<T: Threads + Wait + Sync, R: Room + Send, G: Gate + Sync>(
             requires { pass.old.lock ≡ shared.now }
             ensures { HasWorked pass.old pass.new }
         {
-            make_all(rt, shared, gate, u32::try_from(place).unwrap_or(u32::MAX), pass)
+            make_all(
+                rt,
+                shared,
+                gate,
+                u32::try_from(place).unwrap_or(u32::MAX),
+                pass,
+            )
         },
     );
 }
