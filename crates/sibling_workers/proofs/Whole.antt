@@ -1,6 +1,5 @@
--- Whole: each actor that a scenario can have stands in the order of the actors, so where all of these have made their
--- scripts, the history is a shuffle of all scripts.
-use Rattle.std.proofs.Common.{◌≡◌, ℕ, ◌+◌, ◌<◌, ◌≤◌, false, eqb, List, [], ◌∷◌, ◌++◌, refl, sym, ap, ◌∙◌, subst, inl, inr, arith}
+-- Whole: each actor that a scenario can have stands in the order of the actors, at one place.
+use Rattle.std.proofs.Common.{◌≡◌, ℕ, ◌+◌, ◌-◌, ◌<◌, ◌≤◌, false, eqb, List, [], ◌∷◌, refl, ap, ◌∙◌, inl, inr, ◌⊎◌, arith}
 use Rattle.std.specs.Prelude.{All}
 use Rattle.std.proofs.lemmas.Bool.{cases_Bool, cases_lt, eqb-true, lt-ltb, le-ltb}
 use Rattle.std.proofs.lemmas.List.Elements.{All-head, All-tail}
@@ -11,8 +10,6 @@ use Rattle.cs_types.specs.declared.event.Event.TheVariants.{Turn, Resched, Block
 use Rattle.cs_types.specs.declared.event.Step.{Step}
 use Rattle.cs_types.specs.declared.scenario.Scenario.{Scenario}
 use Rattle.cs_types.specs.Scenario.{is_actor, script, IsEvent, IsMadeBy, IsStep, IsPlayable}
-use Rattle.cs_types.specs.History.{History, events_by}
-use Rattle.cs_types.specs.Shuffles.{KeepsScripts, IsShuffle}
 use Rattle.sibling_workers.specs.Scripts.{events_in}
 use Rattle.sibling_workers.specs.Race.{actor_at}
 
@@ -81,18 +78,6 @@ no_events n actor other (s ∷ ss) each =
     let rest = no_events n actor other ss (All-tail (IsStep n) s ss each) in
     simp (other s (All-head (IsStep n) s ss each), rest)
 
--- what begins an empty list is empty
-prefix_of_empty : (xs ys : List Event) → xs ++ ys ≡ [] → xs ≡ []
-prefix_of_empty [] ys e = refl
-prefix_of_empty (x ∷ xs) ys e = absurd cc
-
--- an actor with an empty script has made it
-made_empty : (scenario : Scenario) (history : History) (actor : Actor) → KeepsScripts scenario history → script scenario actor ≡ [] →
-    events_by actor history ≡ script scenario actor
-made_empty scenario history actor order empty =
-    let start = order actor in
-    prefix_of_empty (events_by actor history) start.0 (start.1 ∙ empty) ∙ sym empty
-
 -- where a sibling and a caller stand in the order
 actor_at-sibling : (i : ℕ) → i < 16 → actor_at i ≡ Sibling i
 actor_at-sibling i lt = simp (lt-ltb i 16 lt)
@@ -100,21 +85,41 @@ actor_at-sibling i lt = simp (lt-ltb i 16 lt)
 actor_at-caller : (j : ℕ) → actor_at (j + 16) ≡ Caller j
 actor_at-caller j = simp (le-ltb (j + 16) 16 (omega arith)) (ap Caller (omega arith))
 
--- where each actor of the order has made its script, each actor has
-pub shuffle_of_all : (scenario : Scenario) (history : History) → IsPlayable scenario → KeepsScripts scenario history →
-    ((place : ℕ) → place < 24 → events_by (actor_at place) history ≡ script scenario (actor_at place)) → IsShuffle scenario history
-shuffle_of_all scenario history playable order made (Sibling i) =
+-- each actor stands in the order, or has no step
+pub placed : (scenario : Scenario) (actor : Actor) → IsPlayable scenario → ((place : ℕ) × (place < 24) × (actor_at place ≡ actor)) ⊎ (script scenario actor ≡ [])
+placed scenario (Sibling i) playable =
     let n = scenario.siblings in
     elim (cases_lt i 16) [
-      | inl lt ↦ subst (λ (a : Actor). events_by a history ≡ script scenario a) (actor_at-sibling i lt) (made i (omega arith))
-      | inr past ↦ made_empty scenario history (Sibling i) order (no_events n (Sibling i) (λ s step. not_of_sibling n i s.actor s.event playable.siblings.1 past step.event step.actor) scenario.steps playable.steps)
+      | inl lt ↦ inl (i, omega (arith, lt), actor_at-sibling i lt)
+      | inr past ↦ inr (no_events n (Sibling i) (λ s step. not_of_sibling n i s.actor s.event playable.siblings.1 past step.event step.actor) scenario.steps playable.steps)
     ]
-shuffle_of_all scenario history playable order made (Caller j) =
+placed scenario (Caller j) playable =
     let n = scenario.siblings in
     elim (cases_lt j 8) [
-      | inl lt ↦ subst (λ (a : Actor). events_by a history ≡ script scenario a) (actor_at-caller j) (made (j + 16) (omega arith))
-      | inr past ↦ made_empty scenario history (Caller j) order (no_events n (Caller j) (λ s step. not_of_caller j s.actor s.event past step.actor) scenario.steps playable.steps)
+      | inl lt ↦ inl (j + 16, omega (arith, lt), actor_at-caller j)
+      | inr past ↦ inr (no_events n (Caller j) (λ s step. not_of_caller j s.actor s.event past step.actor) scenario.steps playable.steps)
     ]
-shuffle_of_all scenario history playable order made End =
-    let n = scenario.siblings in
-    made_empty scenario history End order (no_events n End (λ s step. not_of_end s.actor s.event step.actor) scenario.steps playable.steps)
+placed scenario End playable =
+    inr (no_events scenario.siblings End (λ s step. not_of_end s.actor s.event step.actor) scenario.steps playable.steps)
+
+at_caller : (i : ℕ) → 16 ≤ i → actor_at i ≡ Caller (i - 16)
+at_caller i past = simp (le-ltb i 16 past)
+
+-- no two places have one actor
+pub places_apart : (i j : ℕ) → i < j → is_actor (actor_at i) (actor_at j) ≡ false
+places_apart i j lt =
+    elim (cases_lt j 16) [
+      | inl low ↦
+          let first = actor_at-sibling i (omega (arith, lt, low)) in
+          let e : is_actor (actor_at i) (actor_at j) ≡ is_actor (Sibling i) (Sibling j) = λ k. is_actor (first k) (actor_at-sibling j low k) in
+          e ∙ apart i j lt
+      | inr high ↦
+          elim (cases_lt i 16) [
+            | inl low ↦
+                let e : is_actor (actor_at i) (actor_at j) ≡ false = λ k. is_actor (actor_at-sibling i low k) (at_caller j high k) in
+                e
+            | inr past ↦
+                let e : is_actor (actor_at i) (actor_at j) ≡ is_actor (Caller (i - 16)) (Caller (j - 16)) = λ k. is_actor (at_caller i past k) (at_caller j high k) in
+                e ∙ apart (i - 16) (j - 16) (omega (arith, lt, past, high))
+          ]
+    ]

@@ -22,6 +22,14 @@ has_step steps actor = list_any (λ made. is_actor made.actor actor) steps
 abbrev pub actors_of : List Step → List Actor
 actors_of steps = filter (has_step steps) (map actor_at (range_with_len 0 24))
 
+-- the steps of an actor, in their order
+abbrev pub steps_by : List Step → Actor → List Step
+steps_by steps actor = filter (λ made. is_actor made.actor actor) steps
+
+-- a list for each actor that has a step, in the order of the actors
+abbrev pub lists_of : List Step → List (List Step)
+lists_of steps = map (steps_by steps) (actors_of steps)
+
 -- The history is a shuffle of all scripts that is legal, and then has the entries of the end.
 pub record IsRaced (opening : Opening) (history : History) : Type 0 where
   pub played : History

@@ -7,7 +7,6 @@ mod racing;
 mod script;
 mod scripted;
 mod scripts;
-mod shared;
 mod turn;
 mod working;
 

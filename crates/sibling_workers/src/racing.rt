@@ -1,91 +1,45 @@
 //! A race: one worker for each actor that has a script, all at one room.
 
-ghost use Rattle.std.specs.Prelude.{ℕ, ◌≡◌, ◌+◌, ◌*◌, ◌<◌, ◌≤◌, [], length, IfOk};
-ghost use Rattle.cs_types.specs.Scenario.{IsPlayable, script};
-ghost use Rattle.cs_types.specs.History.{events_by};
-ghost use Rattle.sibling_workers.specs.Race.{actor_at, IsRaced};
+ghost use Rattle.std.specs.Prelude.{◌≡◌, ◌+◌, ◌*◌, ◌<◌, ◌≤◌, [], length, IfOk};
+ghost use Rattle.cs_types.specs.Scenario.{IsPlayable};
+ghost use Rattle.cs_types.specs.History.{IsLegal};
+ghost use Rattle.core_lock.specs.Lists.{AreLists, steps_in};
+ghost use Rattle.sibling_workers.specs.Race.{IsRaced};
+ghost use Rattle.sibling_workers.specs.Working.{HasAll};
 
-use crate::actors::{ACTORS, Worker, actor_at, workers_of};
-use crate::named::Named;
-use crate::scripted::Scripted;
-use crate::shared::Shared;
-use crate::turn::Turn;
+use crate::actors::lists_of;
+use crate::working::work;
+use core_lock::Shared;
 use cs_outside::Gate;
-use cs_types::{Actor, OutOfMemory, Room, Scenario};
+use cs_types::{List, OutOfMemory, Room, Scenario, Step};
 use std::alloc::Global;
-use std::marker::Brand;
 use std::sync::Wait;
-use std::thread;
 use std::thread::Threads;
 
-/// Passes the gate and makes a turn, until the worker's script is made.
-fn work<W: Wait, R: Room, N: Named, G: Gate>(
-    rt: &W,
-    shared: &Shared<R, N>,
-    gate: &G,
-    worker: Worker,
-) {
-    for turn in 0..u64::MAX {
-        gate.pass(worker.number, turn);
-        if let Turn::Finished = shared.turn(rt, worker.actor) {
-            return;
-        }
-    }
-}
-
-/// Makes turns of the actor until its script is made.
-fn finish<R: Room, N: Named>(scripted: &mut Scripted<R, N>, actor: Actor)
-    ensures made { events_by actor (R.history scripted.new) ≡ script N.opening.scenario actor }
-    ensures kept { (other : _) → events_by other (R.history scripted.old) ≡ script N.opening.scenario other →
-        events_by other (R.history scripted.new) ≡ script N.opening.scenario other }
-{
-    loop {
-        if let Turn::Finished = scripted.turn(actor) {
-            return;
-        }
-    }
-}
-
-/// Makes turns of each actor, in their order, until its script is made.
-fn finish_all<R: Room, N: Named>(scripted: &mut Scripted<R, N>)
-    ensures { (place : ℕ) → place < 24 → events_by (actor_at place) (R.history scripted.new)
-        ≡ script N.opening.scenario (actor_at place) }
-{
-    for place in 0..ACTORS {
-        finish(scripted, actor_at(place));
-    }
-}
-
-/// The race whose opening `N` names.
-fn race_as<N: Named + Send + Sync, T: Threads + Wait + Sync, R: Room + Send, G: Gate + Sync>(
+/// Makes all steps of the lists in the room, each list in a worker of its own, under one ticket lock.
+/// Where there is no list, there is no lock.
+fn play<T: Threads + Wait + Sync, R: Room + Send, G: Gate + Sync>(
     rt: &T,
     alloc: Global,
     room: R,
-    scenario: &Scenario,
+    lists: List<List<Step>>,
     gate: &G,
 ) -> Result<R, OutOfMemory>
-    requires playable { IsPlayable scenario.now }
-    requires scenario { (R.opening room).scenario ≡ scenario.now }
-    requires opening { R.opening room ≡ N.opening }
+    requires lists { 0 < length lists → AreLists (R.opening room).scenario.siblings lists }
     requires empty { R.history room ≡ [] }
-    requires spare { length scenario.now.steps + scenario.now.siblings * scenario.now.siblings ≤ R.spare room }
+    requires spare { steps_in lists ≤ R.spare room }
 
-    ensures opening { IfOk result (λ raced. R.opening raced ≡ N.opening) }
-    ensures raced { IfOk result (λ raced. IsRaced N.opening (R.history raced)) }
+    ensures opening { IfOk result (λ played. R.opening played ≡ R.opening room) }
+    ensures spare { IfOk result (λ played. R.spare played + length (R.history played) ≡ R.spare room) }
+    ensures legal { IfOk result (λ played. IsLegal (R.opening played) (R.history played)) }
+    ensures made { IfOk result (λ played. HasAll lists (R.history played)) }
 {
-    let mut workers = workers_of(alloc, scenario.steps.items())?;
-    let shared = Shared::of(Scripted::<R, N>::of(alloc, room, scenario)?);
-    thread::for_each_mut(
-        rt,
-        workers.as_mut_slice(),
-        usize::from(ACTORS),
-        &|_, worker: &mut Worker| work(rt, &shared, gate, *worker),
-    );
-    let mut scripted = shared.into_scripted();
-    finish_all(&mut scripted);
-    let mut room = scripted.into_room();
-    room.drain();
-    Ok(room)
+    if lists.items().is_empty() {
+        return Ok(room);
+    }
+    let (shared, mut passes) = Shared::start(alloc, room, lists)?;
+    work(rt, &shared, &mut passes, gate);
+    Ok(shared.finish(passes))
 }
 
 /// Plays the scenario in the room: each actor that has a step line makes its script in a worker of its own,
@@ -112,5 +66,8 @@ pub fn race<T: Threads + Wait + AllocGlobal + Sync, R: Room + Send, G: Gate + Sy
     ensures opening { IfOk result (λ raced. R.opening raced ≡ R.opening room) }
     ensures raced { IfOk result (λ raced. IsRaced (R.opening room) (R.history raced)) }
 {
-    race_as::<Brand, T, R, G>(rt, rt.alloc(), room, scenario, gate)
+    let lists = lists_of(rt.alloc(), scenario.steps.items())?;
+    let mut room = play(rt, rt.alloc(), room, lists, gate)?;
+    room.drain();
+    Ok(room)
 }
