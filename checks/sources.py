@@ -67,10 +67,18 @@ def is_clause(name, line):
     return line[0] in " })" or words[0] == name or ("◌" in name and not set(words).isdisjoint(name.split("◌")))
 
 
+def outside_modules(path):
+    """The lines of an .antt file with their numbers. What stands in a `module _` is moved out of it."""
+    is_inside = False
+    for number, line in code(path):
+        is_inside = line.startswith("module _ ") or is_inside and line[0] == " "
+        yield number, line.removeprefix("  ") if is_inside else line
+
+
 def definitions(path):
     """The definitions of an .antt file, in their order."""
     found = []
-    for number, line in code(path):
+    for number, line in outside_modules(path):
         words = line.split()
         if found and is_clause(found[-1].name, line):
             found[-1].lines.append(line)
