@@ -25,6 +25,7 @@ pub mod Freshness
 pub mod Schedules
 pub mod Orders
 pub mod Cookies
+pub mod Behind
 pub mod Trust
 pub mod Shown
 pub mod BalancePlaces

@@ -66,6 +66,18 @@ pick_number-le (note ∷ ledger) =
     (cond_both (is_selection note.entry) _ _ (λ n. n ≤ task_number (note ∷ ledger)) (λ _. omega arith)
     (λ _. omega (arith, pick_number-le ledger, task_number-cons note ledger)))
 
+-- A sibling's own number is never above the pick number.
+pub own_number-le : (cpu : ℕ) (ledger : Ledger) → own_number cpu ledger ≤ pick_number ledger
+own_number-le cpu [] = omega arith
+own_number-le cpu (note ∷ ledger) =
+    let more : pick_number ledger ≤ pick_number (note ∷ ledger) =
+    subst (λ n. pick_number ledger ≤ n) (sym (pick_number-cons note ledger))
+    (cond_both (is_selection note.entry) _ _ (λ n. pick_number ledger ≤ n)
+    (λ _. omega (arith, pick_number-le ledger, task_number-cons note ledger)) (λ _. omega arith)) in
+    subst (λ n. n ≤ pick_number (note ∷ ledger)) (sym (own_number-cons cpu note ledger))
+    (cond_both (is_taken_by cpu note.entry) _ _ (λ n. n ≤ pick_number (note ∷ ledger)) (λ _. omega arith)
+    (λ _. omega (arith, more, own_number-le cpu ledger)))
+
 -- ---- a fresh selection
 
 -- each selection of the ledger touched
@@ -127,7 +139,7 @@ selected_touches Plain h = absurd cc
 selected_kind : (pick : Pick) → is_some (cond (is_selected pick.kind) (Some pick) None) ≡ true → is_selected pick.kind ≡ true
 selected_kind pick h = grind arith
 
-selection_touches : (room : RoomState) (event : Event) (reply : Reply) → is_some (selection_of reply) ≡ true → 0 < touches_by room event reply
+pub selection_touches : (room : RoomState) (event : Event) (reply : Reply) → is_some (selection_of reply) ≡ true → 0 < touches_by room event reply
 selection_touches room event (Picked pick) h = selected_touches pick.kind (selected_kind pick h)
 selection_touches room event (Slept pid pick) h = omega arith
 selection_touches room event (Ended pid pick) h = omega arith

@@ -1,19 +1,26 @@
--- Shown: the trust rule, of what a machine shows after a legal history.
-use Rattle.std.proofs.Common.{◌≡◌, ◌⊎◌, ℕ, ◌-◌, ◌<◌, true, false, ltb, List, [], ◌∷◌, refl, sym, ◌∙◌, subst, inl, inr, arith, Option, Some, None}
-use Rattle.std.specs.Prelude.{find, length, IfSome, IsSomeAnd, unwrap_or}
+-- Shown: the trust rule, and which sibling adopts, of what a machine shows after a legal history.
+use Rattle.std.proofs.Common.{◌≡◌, ◌≢◌, ◌⊎◌, ℕ, ◌-◌, ◌<◌, ◌≤◌, Bool, true, false, ltb, eqb, List, [], ◌∷◌, refl, sym, ap, ◌∙◌, subst, inl, inr, arith, Option, Some, None, is_some}
+use Rattle.std.specs.Prelude.{◌↔◌, ◌&&◌, ◌==◌, IsTrue, find, length, IfSome, IsSomeAnd, unwrap_or}
 use Rattle.std.specs.Option.{option_map}
-use Rattle.std.proofs.lemmas.Bool.{cases_Bool, cond_both, cond-true, cond-false, eqb-true, lt-ltb}
+use Rattle.std.proofs.lemmas.Bool.{cases_Bool, cond_both, cond-true, cond-false, and_parts, and_from, and_right, both_ways, eq-eqb, eqb-true, lt-ltb}
 use Rattle.std.proofs.lemmas.Bool.Decides.{nat_tests}
 use Rattle.cs_types.specs.declared.task.Task.{Task}
 use Rattle.cs_types.specs.declared.view.TaskView.{TaskView}
+use Rattle.cs_types.specs.declared.event.Event.TheVariants.{Turn, Resched}
 use Rattle.cs_types.specs.Scenario.{IsPlayable}
-use Rattle.cs_types.specs.Room.{Opening, has_pid, sibling_of, task_of}
-use Rattle.cs_types.specs.History.{History, Moment, AreEvents, IsLegal, moment_of}
-use Rattle.cs_types.specs.View.{core_view, cpu_view, task_view, task_view_after, IsTrusted}
+use Rattle.cs_types.specs.Room.{Opening, RoomState, Waiting, has_pid, sibling_of, task_of, is_online}
+use Rattle.cs_types.specs.Accounting.{charge}
+use Rattle.cs_types.specs.Selection.{is_plain, pick_plain, select, pick_anew, adopt_or_pick_anew}
+use Rattle.cs_types.specs.Step.{Stepped, try_steal}
+use Rattle.cs_types.specs.Steal.{stolen}
+use Rattle.cs_types.specs.Touches.{is_adopted, task_number, pick_number, own_number, is_fresh}
+use Rattle.cs_types.specs.History.{History, Moment, step_at, AreEvents, IsLegal, moment_of}
+use Rattle.cs_types.specs.View.{core_view, cpu_view, task_view, task_view_after, IsTrusted, adopts, AdoptsByNumbers}
 use Rattle.cs_types.proofs.Foremost.{find_passes}
 use Rattle.cs_types.proofs.Rising.{Rises}
 use Rattle.cs_types.proofs.Spots.{spot_of, spot_at}
 use Rattle.cs_types.proofs.Fits.{IsAt, cookie_at}
+use Rattle.cs_types.proofs.Numbers.{own_number-le, fresh-ledger_of}
 use Rattle.cs_types.proofs.Trust.{Holds, holds-moment_of}
 
 -- ---- the task with a pid is the one with the least pid above the pid below it
@@ -76,3 +83,92 @@ pub trusted-cpu_view : (opening : Opening) (history : History) → IsPlayable op
     let moment = moment_of opening history in IfSome (cpu_view moment cpu) (IsTrusted (core_view moment) (task_view_after moment))
 trusted-cpu_view opening history playable events legal cpu =
     trusted_at (moment_of opening history) cpu (holds-moment_of opening history playable events legal)
+
+-- ---- adoptions
+
+-- whether something that waits for a sibling is fresh
+abbrev has_fresh : Moment → ℕ → Bool
+has_fresh moment cpu = is_fresh moment.ledger && is_some (sibling_of moment.room cpu).waiting
+
+none_adopts : (room : RoomState) (cpu : ℕ) → is_adopted (pick_anew room cpu).pick.kind ≡ false
+none_adopts room cpu =
+    cond_both (is_plain room cpu) (pick_plain room cpu) (select room cpu) (λ made. is_adopted made.pick.kind ≡ false) (λ _. refl) (λ _. refl)
+
+scheduled_adopts : (room : RoomState) (fresh : Bool) (cpu : ℕ) (waiting : Waiting) →
+    is_adopted (adopt_or_pick_anew room fresh cpu waiting).pick.kind ≡ (fresh && is_some waiting)
+scheduled_adopts room true cpu None = none_adopts (charge room) cpu
+scheduled_adopts room false cpu None = none_adopts (charge room) cpu
+scheduled_adopts room true cpu (Some run) = refl
+scheduled_adopts room false cpu (Some run) = none_adopts (charge room) cpu
+
+-- where nothing waits, nothing fresh does
+none_fresh : (moment : Moment) (cpu : ℕ) → (sibling_of moment.room cpu).waiting ≡ None → false ≡ has_fresh moment cpu
+none_fresh moment cpu none = sym (and_right (is_fresh moment.ledger) _ (ap is_some none))
+
+-- nothing waits for a sibling that is not pending
+calm_waits : (pending : Bool) (waiting : Waiting) → IfSome waiting (λ run. pending ≡ true) → pending ≡ false → waiting ≡ None
+calm_waits pending None flags calm = refl
+calm_waits pending (Some run) flags calm = absurd (both_ways pending calm flags)
+
+-- A reschedule adopts exactly where something fresh waits.
+resched_adopts : (moment : Moment) (cpu : ℕ) → Holds moment → adopts (step_at moment (Resched cpu)).reply ≡ has_fresh moment cpu
+resched_adopts moment cpu holds =
+    cond_both (is_online moment.room cpu) _ _ (λ (made : Stepped). adopts made.reply ≡ has_fresh moment cpu)
+    (λ _. scheduled_adopts moment.room (is_fresh moment.ledger) cpu (sibling_of moment.room cpu).waiting)
+    (λ off. none_fresh moment cpu ((holds.fits cpu).away off).2)
+
+-- So does a turn.
+turn_adopts : (moment : Moment) (cpu : ℕ) → Holds moment → adopts (step_at moment (Turn cpu)).reply ≡ has_fresh moment cpu
+turn_adopts moment cpu holds =
+    cond_both (is_online moment.room cpu) _ _ Adopts
+    (λ _. cond_both sibling_pending _ _ Adopts (λ _. scheduled_adopts moment.room (is_fresh moment.ledger) cpu (sibling_of moment.room cpu).waiting)
+    (λ calm. let none = none_fresh moment cpu (calm_waits sibling_pending (sibling_of moment.room cpu).waiting (holds.fits cpu).flags calm) in
+    cond_both ((sibling_of moment.room cpu).place == 0) _ _ Adopts (λ _. none) (λ _. steals (stolen moment.room cpu) ∙ none)))
+    (λ off. none_fresh moment cpu ((holds.fits cpu).away off).2) where
+      Adopts : Stepped → Type 0
+      Adopts made = adopts made.reply ≡ has_fresh moment cpu
+
+      sibling_pending : Bool
+      sibling_pending = (sibling_of moment.room cpu).pending
+
+      steals : (task : Option Task) → adopts (try_steal moment.room cpu task).reply ≡ false
+      steals None = refl
+      steals (Some task) = refl
+
+-- The numbers tell it.
+by_numbers : (fresh : Bool) (task pick own : ℕ) (waiting : Waiting) → fresh ≡ (ltb 0 pick && eqb pick task) → own ≤ pick → IfSome waiting (λ run. own < pick) →
+    IsTrue (fresh && is_some waiting) ↔ ((pick ≡ task) × (own ≢ pick) × (waiting ≢ None))
+by_numbers fresh task pick own None same low behind =
+    (λ is. let bad = (and_parts fresh false is).1 in absurd cc, λ due. absurd (due.2 refl))
+by_numbers fresh task pick own (Some run) same low behind = (
+  λ is. (eqb-true pick task (and_parts (ltb 0 pick) (eqb pick task) (sym same ∙ (and_parts fresh true is).0)).1, λ e. absurd (omega (arith, behind, e)), λ none. absurd cc),
+  λ due. let differ = due.1 in
+      and_from fresh true (same ∙ and_from (ltb 0 pick) (eqb pick task) (lt-ltb 0 pick (omega (arith, low, differ))) (eq-eqb pick task due.0)) refl,
+)
+
+adopts_at : (moment : Moment) (cpu : ℕ) → is_fresh moment.ledger ≡ (ltb 0 (pick_number moment.ledger) && eqb (pick_number moment.ledger) (task_number moment.ledger)) → Holds moment →
+    IfSome (cpu_view moment cpu) (AdoptsByNumbers moment cpu (task_number moment.ledger, pick_number moment.ledger))
+adopts_at moment cpu fresh holds =
+    cond_both (ltb cpu (length moment.room.siblings)) _ None (λ shown. IfSome shown (AdoptsByNumbers moment cpu (task_number moment.ledger, pick_number moment.ledger)))
+    (λ _. record { turn = subst Tells (sym (turn_adopts moment cpu holds)) tells; resched = subst Tells (sym (resched_adopts moment cpu holds)) tells }) (λ _. tt) where
+      task : ℕ
+      task = task_number moment.ledger
+
+      pick : ℕ
+      pick = pick_number moment.ledger
+
+      own : ℕ
+      own = own_number cpu moment.ledger
+
+      Tells : Bool → Type 0
+      Tells test = IsTrue test ↔ ((pick ≡ task) × (own ≢ pick) × ((sibling_of moment.room cpu).waiting ≢ None))
+
+      tells : Tells (has_fresh moment cpu)
+      tells = by_numbers (is_fresh moment.ledger) task pick own (sibling_of moment.room cpu).waiting fresh (own_number-le cpu moment.ledger) (holds.behind cpu)
+
+-- After every legal history a turn and a reschedule of a sibling adopt exactly where it is to by the numbers that are shown.
+pub adopts-cpu_view : (opening : Opening) (history : History) → IsPlayable opening.scenario → AreEvents opening history → IsLegal opening history → (cpu : ℕ) →
+    let moment = moment_of opening history in
+    IfSome (cpu_view moment cpu) (AdoptsByNumbers moment cpu (task_number moment.ledger, pick_number moment.ledger))
+adopts-cpu_view opening history playable events legal cpu =
+    adopts_at (moment_of opening history) cpu (fresh-ledger_of opening history) (holds-moment_of opening history playable events legal)

@@ -30,6 +30,7 @@ use Rattle.cs_types.proofs.Spots.{spot_of, spot_at, each_is_found}
 use Rattle.cs_types.proofs.Homes.{IsHome, IsHoused, housed-step}
 use Rattle.cs_types.proofs.Fits.{IsAt, cookie_at, SiblingFits, AllFit, fits_running, fits_absent, waiting_then}
 use Rattle.cs_types.proofs.Freshness.{fresh_after, is_fresh-ledger_entry}
+use Rattle.cs_types.proofs.Behind.{AllBehind, behind_next}
 use Rattle.cs_types.proofs.Orders.{load-fits, unload-fits, StepFits, resched-fits, turn-fits, block-fits, exit-fits, wake-fits, fork-fits, tick-fits, advanced-fits, set_policy-fits, take_offline-fits, bring_online-fits}
 use Rattle.cs_types.proofs.Cookies.{prctl-fits}
 
@@ -64,11 +65,13 @@ step-fits room fresh (Unload index) limits rises housed fits = unload-fits room 
 
 -- ---- at every moment
 
--- what holds at a moment: the tasks stand by rising pid, each queued one is at home, and each sibling has what fits it
+-- what holds at a moment: the tasks stand by rising pid, each queued one is at home, each sibling has what fits it, and the
+-- own number of one for which something waits is below the pick number
 pub record Holds (moment : Moment) : Type 0 where
   pub rises : AreRising moment.room
   pub housed : IsHoused moment.room
   pub fits : AllFit moment.room (is_fresh moment.ledger)
+  pub behind : AllBehind moment
 
 holds_next : (moment : Moment) (entry : Entry) → IsEvent (length moment.room.siblings) entry.event → entry.reply ≡ (step_at moment entry.event).reply → Holds moment → Holds (next moment entry)
 holds_next moment entry limits legal holds =
@@ -79,6 +82,7 @@ holds_next moment entry limits legal holds =
       housed = housed-step moment.room fresh entry.event limits holds.rises holds.housed;
       fits = subst (AllFit made.room) (sym (is_fresh-ledger_entry moment.room entry moment.ledger ∙ ap (fresh_after moment.room fresh entry.event) legal))
           (step-fits moment.room fresh entry.event limits holds.rises holds.housed holds.fits);
+      behind = behind_next moment entry limits legal holds.behind;
     }
 
 holds_after : (siblings : ℕ) (moment : Moment) (entries : List Entry) → length moment.room.siblings ≡ siblings → AllByRecursion (λ entry. IsEvent siblings entry.event) entries →
@@ -115,6 +119,7 @@ holds_beginning opening keeps =
       housed = record { some = (0, subst (λ n. 0 < n) (sym (length-replicate opening.scenario.siblings idle)) keeps.siblings.0, ap (λ (s : SiblingState). s.online) (first_is_idle opening.scenario.siblings keeps.siblings.0)); homes = homes };
       fits = λ cpu. each_is_idle (SiblingFits (spot_at (start opening)) 0 false cpu)
           (fits_running (spot_at (start opening)) 0 false cpu true None false 0 refl tt tt) (fits_absent (spot_at (start opening)) 0 false cpu) opening.scenario.siblings cpu;
+      behind = λ cpu. each_is_idle (λ sibling. IfSome sibling.waiting (λ _. 0 < 0)) tt tt opening.scenario.siblings cpu;
     } where
       homes : (pid : ℕ) → IsHome (start opening) (spot_at (start opening) pid)
       homes pid = go (task_of (start opening) pid) refl where

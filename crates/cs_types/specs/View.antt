@@ -1,17 +1,20 @@
 -- Views: what a machine shows of the core, a sibling and a task, from the fold of its history.
-use Rattle.std.specs.Prelude.{◌≡◌, ◌⊎◌, ◌-◌, true, false, IsSomeAnd, ℕ, nat_lt, find, length, Option, Some, None, unwrap_or, slice_get, if◌then◌else◌}
-use Rattle.std.specs.Option.{option_map}
+use Rattle.std.specs.Prelude.{◌≡◌, ◌≢◌, ◌⊎◌, ◌↔◌, ◌-◌, Bool, true, false, IsTrue, IsSomeAnd, ℕ, nat_lt, find, length, Option, Some, None, unwrap_or, slice_get, if◌then◌else◌}
+use Rattle.std.specs.Option.{option_map, option_map_or}
 use Rattle.cs_types.specs.declared.task.Task.{Task}
 use Rattle.cs_types.specs.declared.view.CoreView.{CoreView}
 use Rattle.cs_types.specs.declared.view.CpuView.{CpuView}
 use Rattle.cs_types.specs.declared.view.TaskView.{TaskView}
 use Rattle.cs_types.specs.declared.view.EndView.{EndView}
 use Rattle.cs_types.specs.declared.view.GuardView.{GuardView}
+use Rattle.cs_types.specs.declared.event.Event.TheVariants.{Turn, Resched}
+use Rattle.cs_types.specs.declared.reply.Pick.{Pick}
+use Rattle.cs_types.specs.declared.reply.Reply.{Reply}
 use Rattle.cs_types.specs.Guards.{GuardList}
-use Rattle.cs_types.specs.Room.{RoomState, sibling_of}
+use Rattle.cs_types.specs.Room.{RoomState, Waiting, sibling_of}
 use Rattle.cs_types.specs.Accounting.{total_of}
-use Rattle.cs_types.specs.Touches.{own_number}
-use Rattle.cs_types.specs.History.{Moment}
+use Rattle.cs_types.specs.Touches.{is_adopted, pick_of, own_number}
+use Rattle.cs_types.specs.History.{Moment, step_at}
 
 abbrev pub core_view : Moment → CoreView
 core_view moment =
@@ -74,3 +77,21 @@ abbrev pub IsTrusted : CoreView → (ℕ → Option TaskView) → CpuView → Ty
 IsTrusted core task_after cpu =
     cpu.online ≡ true → cpu.pending ≡ false →
     (cpu.run ≡ 0) ⊎ IsSomeAnd (task_after (cpu.run - 1)) (λ task. (task.pid ≡ cpu.run) × (task.cookie ≡ core.cookie))
+
+-- ---- adoptions, by what is shown
+
+-- whether a reply tells that a waiting pick was adopted
+abbrev pub adopts : Reply → Bool
+adopts reply = option_map_or (λ (pick : Pick). is_adopted pick.kind) (pick_of reply) false
+
+-- A sibling is to adopt, by the task number, the pick number, and its own number as it is shown: the pick number is the
+-- task number, so nothing was touched since the last selection for the core; its own number is another, so it took no pick
+-- of that one yet; and a pick waits for it (`core_task_seq`, `core_pick_seq`, `core_sched_seq` and `core_pick` in
+-- `pick_next_task`, kernel/sched/core.c).
+abbrev pub IsToAdopt : ℕ → ℕ → CpuView → Waiting → Type 0
+IsToAdopt task pick cpu waiting = (pick ≡ task) × (cpu.number ≢ pick) × (waiting ≢ None)
+
+-- A turn and a reschedule of the sibling with this number adopt exactly where it is to.
+pub record AdoptsByNumbers (moment : Moment) (cpu : ℕ) (numbers : ℕ × ℕ) (shown : CpuView) : Type 0 where
+  pub turn : IsTrue (adopts (step_at moment (Turn cpu)).reply) ↔ IsToAdopt numbers.0 numbers.1 shown (sibling_of moment.room cpu).waiting
+  pub resched : IsTrue (adopts (step_at moment (Resched cpu)).reply) ↔ IsToAdopt numbers.0 numbers.1 shown (sibling_of moment.room cpu).waiting

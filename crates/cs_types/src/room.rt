@@ -7,7 +7,7 @@ ghost use Rattle.cs_types.specs.Room.{Opening};
 ghost use Rattle.cs_types.specs.Touches.{task_number, pick_number, selection_of};
 ghost use Rattle.cs_types.specs.History.{History, moment_of, fold_of, ledger_of, reply_to, AreEvents, IsLegal};
 ghost use Rattle.cs_types.specs.Drain.{pending, IsDrained};
-ghost use Rattle.cs_types.specs.View.{core_view, cpu_view, task_view_after, end_view, guard_view, IsTrusted};
+ghost use Rattle.cs_types.specs.View.{core_view, cpu_view, task_view_after, end_view, guard_view, IsTrusted, AdoptsByNumbers};
 ghost use Rattle.cs_types.specs.Laws.{SelectsForTheCore, scheduling_room, cpu_of, IsConsistentAt, IsSettled, RunOneCookie, is_refused, LeavesTheRoom};
 
 use crate::event::{Actor, Event};
@@ -117,7 +117,12 @@ pub trait Room: Drop {
         // online and not pending runs idle or a task with the core cookie. A pending one may still run a
         // task that no longer matches, until it takes its reschedule.
         ensures trust { let moment = moment_of (opening self.now) (history self.now) in
-            IfSome result (IsTrusted (core_view moment) (task_view_after moment)) };
+            IfSome result (IsTrusted (core_view moment) (task_view_after moment)) }
+
+        // Of what `numbers` and this call show of one room: a turn and a reschedule of the sibling adopt exactly
+        // where the pick number is the task number, the sibling's own number is another, and a pick waits for it.
+        ensures adoption { let moment = moment_of (opening self.now) (history self.now) in
+            IfSome result (AdoptsByNumbers moment cpu (task_number moment.ledger, pick_number moment.ledger)) };
 
     /// The living task with the least pid above this one. `None` exactly where there is none.
     fn task_after(&self, pid: Pid) -> Option<TaskView>

@@ -2,10 +2,11 @@ use Rattle.std.proofs.Common.{◌≡◌, List, ap, subst, sym, ◌∙◌, rules,
 use Rattle.std.specs.Prelude.{IfSome}
 use Rattle.std.specs.Option.{option_map}
 use Rattle.core_events.specs.Inside.{opening_of}
-use Rattle.cs_types.specs.View.{core_view, cpu_view, task_view_after, IsTrusted}
+use Rattle.cs_types.specs.View.{core_view, cpu_view, task_view_after, IsTrusted, AdoptsByNumbers}
+use Rattle.cs_types.specs.Touches.{task_number, pick_number}
 use Rattle.cs_types.specs.History.{moment_of, history_of}
 use Rattle.cs_types.proofs.Histories.{IsLegal-history_of}
-use Rattle.cs_types.proofs.Shown.{trusted-cpu_view}
+use Rattle.cs_types.proofs.Shown.{trusted-cpu_view, adopts-cpu_view}
 use Rattle.core_lanes.specs.declared.lane.Lane.{Lane}
 use Rattle.core_lanes.specs.Lanes.{lane_view}
 use Rattle.core_events.specs.Machine.{Machine}
@@ -33,4 +34,12 @@ returns-clause-trust g c =
     let moment = moment_of m.opening (history_of m.opening m.steps) in
     subst (λ shown. IfSome shown (IsTrusted (core_view moment) (task_view_after moment))) (sym (returns-clause-view g c))
     (trusted-cpu_view m.opening (history_of m.opening m.steps) (playable_of c.self.inside c.self.invariant m c.self.view_is)
+    (events_of c.self.inside c.self.invariant m c.self.view_is) (IsLegal-history_of m.opening m.steps) c.args.cpu)
+
+pub returns-clause-adoption : goal.returns-clause-adoption
+returns-clause-adoption g c =
+    let m = c.args.self.now in
+    let moment = moment_of m.opening (history_of m.opening m.steps) in
+    subst (λ shown. IfSome shown (AdoptsByNumbers moment c.args.cpu (task_number moment.ledger, pick_number moment.ledger))) (sym (returns-clause-view g c))
+    (adopts-cpu_view m.opening (history_of m.opening m.steps) (playable_of c.self.inside c.self.invariant m c.self.view_is)
     (events_of c.self.inside c.self.invariant m c.self.view_is) (IsLegal-history_of m.opening m.steps) c.args.cpu)
