@@ -1,12 +1,15 @@
 -- Spans: how the times go on by one entry, and what they add up to.
-use Rattle.std.proofs.Common.{◌≡◌, ℕ, ◌+◌, ◌*◌, ◌≤◌, Bool, true, false, cond, List, [], ◌∷◌, ◌++◌, refl, sym, ap, ◌∙◌, append_assoc, zero-add, arith, length, Option, Some, None}
-use Rattle.std.specs.Prelude.{filter, not, ◌==◌}
-use Rattle.std.specs.List.{AllByRecursion}
+use Rattle.std.proofs.Common.{◌≡◌, ℕ, ◌+◌, ◌*◌, ◌≤◌, Bool, true, false, cond, List, [], ◌∷◌, ◌++◌, map, take, refl, sym, ap, ◌∙◌, append_assoc, zero-add, arith, length, Option, Some, None}
+use Rattle.std.specs.Prelude.{filter, fold, reverse, max, not, ◌==◌}
+use Rattle.std.specs.List.{AllByRecursion, range_with_len, take_while, prefix_len}
 use Rattle.std.specs.Option.{option_map, option_to_list}
 use Rattle.std.proofs.lemmas.Bool.{cond-true, cond-false, both_ways}
-use Rattle.std.proofs.lemmas.List.{append-nil}
+use Rattle.std.proofs.Math.Nat.{add_comm}
+use Rattle.std.proofs.Math.Seq.{take-append-add}
+use Rattle.std.proofs.lemmas.List.{append-nil, reverse-append, length-append, take-append-le}
+use Rattle.std.proofs.lemmas.List.FromFn.{fill_by_all, get_or-map-range_with_len, length-map-range_with_len, map-range_with_len_more}
 use Rattle.std.proofs.lemmas.List.Elements.{filter-append}
-use Rattle.std.proofs.lemmas.List.Sums.{sum_by-append, sum_by-cons}
+use Rattle.std.proofs.lemmas.List.Sums.{sum_by-append, sum_by-cons, sum_by-take-le, take_while-cons, fold-append}
 use Rattle.cs_types.specs.declared.event.Event.{Event}
 use Rattle.cs_types.specs.declared.event.Event.TheVariants.{Advance}
 use Rattle.cs_types.specs.Scenario.{IsEvent}
@@ -16,7 +19,7 @@ use Rattle.cs_types.specs.History.{History, Moment, beginning, next, after, fold
 use Rattle.run_times.specs.declared.doing.Doing.{Doing}
 use Rattle.run_times.specs.declared.doing.Doing.TheVariants.{Offline, Runs, Idles, ForcedIdle}
 use Rattle.run_times.specs.Doing.{doing_of, is_pending}
-use Rattle.run_times.specs.Times.{Span, advance_of, span_of, spans_from, spans_of, total_time, time_in}
+use Rattle.run_times.specs.Times.{Span, advance_of, span_of, spans_from, spans_of, total_time, time_in, lasting, longest}
 use Rattle.run_times.specs.Sums.{is_offline, runs, idles, is_forced_by_cookie, is_forced_by_none, sibling_times, did, with_span}
 
 -- ---- more entries
@@ -96,6 +99,45 @@ time_in-push fact spans room time =
       by_test true = total_time-push (filter (λ (span : Span). fact span.room) spans) room time
       by_test false = ap total_time (append-nil (filter (λ (span : Span). fact span.room) spans))
 
+-- for how long it has lasted is its time more, or it ends
+pub lasting-push : (fact : RoomState → Bool) (spans : List Span) (room : RoomState) (time : ℕ) →
+    lasting fact (spans ++ one_span room time) ≡ cond (fact room) (lasting fact spans + time) 0
+lasting-push fact spans room time =
+    ap (λ (back : List Span). total_time (take_while p back)) (reverse-append spans (one_span room time))
+    ∙ ap total_time (take_while-cons p (record { room = room; time = time }) (reverse spans)) ∙ by_test (fact room) where
+      p : Span → Bool
+      p = λ span. fact span.room
+
+      by_test : (test : Bool) →
+          total_time (cond test (record { room = room; time = time } ∷ take_while p (reverse spans)) []) ≡ cond test (lasting fact spans + time) 0
+      by_test true =
+          sum_by-cons (λ (span : Span). span.time) (record { room = room; time = time }) (take_while p (reverse spans))
+          ∙ add_comm time (lasting fact spans)
+      by_test false = refl
+
+-- the longest is that, where it is longer than before
+pub longest-push : (fact : RoomState → Bool) (spans : List Span) (room : RoomState) (time : ℕ) →
+    longest fact (spans ++ one_span room time) ≡ max (longest fact spans) (lasting fact (spans ++ one_span room time))
+longest-push fact spans room time =
+    ap (λ m. fold max 0 (map now (range_with_len 0 (m + 1)))) (length-append spans (one_span room time))
+    ∙ ap (fold max 0) (map-range_with_len_more now 0 (length spans + 1) (length spans + 1) (zero-add (length spans + 1)) ∙ (λ i. same i ++ last i ∷ []))
+    ∙ fold-append max 0 (map before (range_with_len 0 (length spans + 1))) (lasting fact (spans ++ one_span room time) ∷ []) where
+      before : ℕ → ℕ
+      before = λ n. lasting fact (take n spans)
+
+      now : ℕ → ℕ
+      now = λ n. lasting fact (take n (spans ++ one_span room time))
+
+      last : now (length spans + 1) ≡ lasting fact (spans ++ one_span room time)
+      last = ap (lasting fact) (take-append-add spans (one_span room time) 1)
+
+      same : map now (range_with_len 0 (length spans + 1)) ≡ map before (range_with_len 0 (length spans + 1))
+      same =
+          fill_by_all before (map now (range_with_len 0 (length spans + 1))) (length spans + 1) 0 (length-map-range_with_len now 0 (length spans + 1))
+          (λ k below.
+          get_or-map-range_with_len now 0 (length spans + 1) k k 0 below (zero-add k)
+          ∙ ap (lasting fact) (take-append-le k spans (one_span room time) (omega (arith, below))))
+
 -- the times of a sibling go on by what it does in that room
 pub sibling_times-push : (spans : List Span) (room : RoomState) (time cpu : ℕ) →
     sibling_times (spans ++ one_span room time) cpu ≡ with_span (doing_of room cpu) (is_pending room cpu) time (sibling_times spans cpu)
@@ -142,6 +184,19 @@ time_in-most fact (span ∷ spans) =
           time_in fact (span ∷ spans) ≤ total_time (span ∷ spans)
       by_test true is rest all = omega (arith, rest, all, time_in-cons fact span spans true is)
       by_test false is rest all = omega (arith, rest, all, time_in-cons fact span spans false is)
+
+total_time-reverse : (spans : List Span) → total_time (reverse spans) ≡ total_time spans
+total_time-reverse [] = refl
+total_time-reverse (span ∷ spans) =
+    ap total_time (reverse-append (span ∷ []) spans)
+    ∙ total_time-push (reverse spans) span.room span.time
+    ∙ ap (λ n. n + span.time) (total_time-reverse spans)
+    ∙ add_comm (total_time spans) span.time
+    ∙ sym (sum_by-cons (λ (s : Span). s.time) span spans)
+
+pub lasting-most : (fact : RoomState → Bool) (spans : List Span) → lasting fact spans ≤ total_time spans
+lasting-most fact spans =
+    omega (arith, sum_by-take-le (λ (s : Span). s.time) (reverse spans) (prefix_len (λ span. fact span.room) (reverse spans)), total_time-reverse spans)
 
 -- a sibling does one thing at each moment
 adds_up : (doing : Doing) (time a b c d e : ℕ) →

@@ -7,7 +7,7 @@ use Rattle.run_times.specs.declared.doing.Doing.{Doing}
 use Rattle.run_times.specs.declared.doing.Doing.TheVariants.{Offline, Runs, Idles, ForcedIdle}
 use Rattle.run_times.specs.declared.siblings.SiblingTimes.{SiblingTimes}
 use Rattle.run_times.specs.Doing.{doing_of, is_pending, some_pending, is_exposed}
-use Rattle.run_times.specs.Times.{Span, spans_of, total_time, time_in}
+use Rattle.run_times.specs.Times.{Span, spans_of, total_time, time_in, lasting, longest}
 
 abbrev pub is_offline : Doing → Bool
 is_offline Offline = true
@@ -65,6 +65,9 @@ pub record Times : Type 0 where
   pub siblings : List SiblingTimes
   -- the time in which tasks with distinct cookies ran side by side
   pub exposed : ℕ
+  -- for how long they have now, without a break, and the longest that they did
+  pub lasting : ℕ
+  pub longest : ℕ
   -- the time in which some sibling was pending
   pub pending : ℕ
   -- all time
@@ -76,6 +79,8 @@ times_in siblings spans =
     record {
       siblings = map (sibling_times spans) (range_with_len 0 siblings);
       exposed = time_in is_exposed spans;
+      lasting = lasting is_exposed spans;
+      longest = longest is_exposed spans;
       pending = time_in some_pending spans;
       total = total_time spans;
     }

@@ -1,5 +1,6 @@
 -- Times: for how long a fact held in a history. Time passes in advances alone, so what is so before one is so in all of it.
-use Rattle.std.specs.Prelude.{ℕ, Bool, List, [], ◌∷◌, ◌++◌, filter, sum_by, Option, Some, None}
+use Rattle.std.specs.Prelude.{ℕ, ◌+◌, max, Bool, List, [], ◌∷◌, ◌++◌, length, map, filter, fold, take, reverse, sum_by, Option, Some, None}
+use Rattle.std.specs.List.{range_with_len, take_while}
 use Rattle.std.specs.Option.{option_map, option_to_list}
 use Rattle.cs_types.specs.declared.event.Event.{Event}
 use Rattle.cs_types.specs.declared.event.Event.TheVariants.{Advance}
@@ -37,3 +38,11 @@ total_time spans = sum_by (λ span. span.time) spans
 -- the time in which a fact held, in ns: that of the spans in whose room it holds
 abbrev pub time_in : (RoomState → Bool) → List Span → ℕ
 time_in fact spans = total_time (filter (λ span. fact span.room) spans)
+
+-- for how long a fact has lasted at the end of these spans, in ns: the time of the last of them, as far back as it holds
+abbrev pub lasting : (RoomState → Bool) → List Span → ℕ
+lasting fact spans = total_time (take_while (λ span. fact span.room) (reverse spans))
+
+-- its longest stretch, in ns: the longest that it has lasted at the end of any of them. What takes no time ends no stretch.
+abbrev pub longest : (RoomState → Bool) → List Span → ℕ
+longest fact spans = fold max 0 (map (λ n. lasting fact (take n spans)) (range_with_len 0 (length spans + 1)))

@@ -1,6 +1,6 @@
 //! The times of a run, as it goes on.
 
-ghost use Rattle.std.specs.Prelude.{◌≡◌, ◌+◌, ◌^◌, ◌<◌, ◌≤◌, ℕ, [], ◌∷◌, ◌++◌, length, All, IfOk, slice_index_or};
+ghost use Rattle.std.specs.Prelude.{◌≡◌, ◌+◌, ◌^◌, ◌<◌, ◌≤◌, ℕ, [], ◌∷◌, ◌++◌, length, All, IfOk, slice_index_or, if◌then◌else◌};
 ghost use Rattle.cs_types.specs.declared.reply.Entry.{Entry};
 ghost use Rattle.cs_types.specs.Scenario.{IsEvent, IsPlayable};
 ghost use Rattle.cs_types.specs.History.{fold_of, AreEvents};
@@ -19,6 +19,9 @@ use std::marker::Model;
 pub struct RunTimes {
     siblings: Vec<SiblingTimes>,
     exposed: u64,
+    /// For how long the core has been exposed without a break, and the longest that it was.
+    lasting: u64,
+    longest: u64,
     pending: u64,
     total: u64,
 }
@@ -31,6 +34,8 @@ impl Model for RunTimes {
     ghost view = { λ times. record {
       siblings = times.siblings.items;
       exposed = times.exposed;
+      lasting = times.lasting;
+      longest = times.longest;
       pending = times.pending;
       total = times.total;
     } };
@@ -52,6 +57,14 @@ fn add_to_each<R: Room>(siblings: &mut [SiblingTimes], room: &R, time: u64)
         let is_pending = is_pending(room, cpu);
         siblings[usize::from(cpu)].add(doing, is_pending, time);
     }
+}
+
+/// For how long what had lasted has lasted after this time: it ends where it does not hold.
+fn longer_where(lasted: u64, holds: bool, time: u64) -> u64
+    requires { lasted + time ≤ u64.MAX }
+    ensures { result ≡ (if holds then lasted + time else 0) }
+{
+    if holds { lasted + time } else { 0 }
 }
 
 /// How far an event moves the clock, in ns. `None` where it is no advance.
@@ -84,6 +97,8 @@ impl RunTimes {
         Ok(RunTimes {
             siblings: vec![in alloc; SiblingTimes::none(); usize::from(siblings)]?,
             exposed: 0,
+            lasting: 0,
+            longest: 0,
             pending: 0,
             total: 0,
         })
@@ -98,7 +113,11 @@ impl RunTimes {
             self.new ≡ times_of (R.opening room.now) (R.history room.now ++ entry ∷ []) }
     {
         add_to_each(self.siblings.as_mut_slice(), room, time);
-        add_where(&mut self.exposed, is_exposed(room), time);
+        let exposed = is_exposed(room);
+        add_where(&mut self.exposed, exposed, time);
+        let lasting = longer_where(self.lasting, exposed, time);
+        self.longest = self.longest.max(lasting);
+        self.lasting = lasting;
         add_where(&mut self.pending, some_pending(room), time);
         self.total += time;
     }
@@ -130,6 +149,13 @@ impl RunTimes {
         ensures { result ≡ self.now.exposed }
     {
         self.exposed
+    }
+
+    /// The longest that they did without a break, in ns. What takes no time is none.
+    pub fn longest_exposed(&self) -> u64
+        ensures { result ≡ self.now.longest }
+    {
+        self.longest
     }
 
     /// For how long some sibling was online and had a pending reschedule, in ns.
