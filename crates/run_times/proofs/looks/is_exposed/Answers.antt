@@ -1,0 +1,27 @@
+use Rattle.std.proofs.Common.{ℕ, ◌<◌, ◌≡◌, Option, Some, sym, subst, arith}
+use Rattle.std.specs.Prelude.{IfSome}
+use Rattle.cs_types.specs.History.{fold_of}
+use Rattle.cs_types.proofs.Siblings.{length-fold_of}
+use Rattle.run_times.specs.Doing.{cookie_run}
+use Rattle.run_times.proofs.Exposed.{exposed_by, unexposed}
+use Rattle.run_times.proofs.looks.is_exposed.Goals as goal
+
+pub returns-in-Some-2 : goal.returns-in-Some-2
+returns-in-Some-2 g c =
+    let opening = g.R.Room.opening c.args.room.now in
+    let history = g.R.Room.history c.args.room.now in
+    let room = fold_of opening history in
+    let other : (k : ℕ) × (k < c.loop-cpu.cpu) × (cookie_run room k ≡ Some c.in-Some-shared.other) =
+    subst (λ (o : Option ℕ). IfSome o (λ cookie. (k : ℕ) × (k < c.loop-cpu.cpu) × (cookie_run room k ≡ Some cookie))) c.in-Some-shared.is c.loop-cpu.invariant.shared in
+    sym (exposed_by room other.0 c.loop-cpu.cpu c.in-Some-shared.other c.in-Some.cookie
+    (omega (arith, other.1, length-fold_of opening history, c.siblings-cpu-end.ensures.siblings, c.loop-cpu-test.true))
+    (omega (arith, length-fold_of opening history, c.siblings-cpu-end.ensures.siblings, c.loop-cpu-test.true))
+    other.2 (sym c.in-Some.ensures) c.if-other-cookie.false)
+
+pub returns : goal.returns
+returns g c =
+    let opening = g.R.Room.opening c.args.room.now in
+    let history = g.R.Room.history c.args.room.now in
+    let room = fold_of opening history in
+    sym (unexposed room c.loop-cpu.shared
+    (λ k below. c.loop-cpu.invariant.alike k (omega (arith, below, length-fold_of opening history, c.siblings-cpu-end.ensures.siblings, c.loop-cpu-test.false))))

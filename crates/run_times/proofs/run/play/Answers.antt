@@ -1,0 +1,28 @@
+use Rattle.std.proofs.Common.{◌≡◌, length, sym, ◌∙◌, subst, arith}
+use Rattle.cs_types.specs.Scenario.{IsPlayable}
+use Rattle.cs_types.specs.Room.{Opening}
+use Rattle.run_times.proofs.Plays.{history_more, events_more, length_so_far, event_in, times_more}
+use Rattle.run_times.proofs.run.play.Goals as goal
+
+pub before-requires-clause-playable : goal.before-requires-clause-playable
+before-requires-clause-playable g c = subst (λ (o : Opening). IsPlayable o.scenario) (sym c.loop-step.invariant.opening) c.requires.playable
+
+pub before-requires-clause-few : goal.before-requires-clause-few
+before-requires-clause-few g c =
+    let long : length (g.R.Room.history c.loop-step.room) ≡ c.loop-step.step-index =
+    length_so_far (g.R.Room.opening c.args.room.now) c.args.steps.now c.loop-step.step-index (g.R.Room.history c.loop-step.room) c.loop-step.auto.step-index-end c.loop-step.invariant.history in
+    omega (arith, long, c.requires.few, c.loop-step-test.true)
+
+pub loop-step-preserved : goal.loop-step-preserved
+loop-step-preserved g c =
+    let begun = g.R.Room.opening c.args.room.now in
+    let opening = g.R.Room.opening c.loop-step.room in
+    let past = g.R.Room.history c.loop-step.room in
+    record {
+      history = history_more begun opening c.args.steps.now c.loop-step.step-index _ past _ c.apply.result c.loop-step-test.true c.loop-step.invariant.history c.loop-step.invariant.opening c.apply.ensures.entry c.apply.ensures.reply;
+      opening = c.apply.ensures.opening ∙ c.loop-step.invariant.opening;
+      spare = omega (arith, c.apply.ensures.spare, c.loop-step.invariant.spare);
+      events = events_more opening _ past _ _ c.apply.ensures.opening c.apply.ensures.entry c.loop-step.invariant.events
+          (event_in begun opening _ c.loop-step.invariant.opening (c.requires.events c.loop-step.step-index _ c.loop-step-test.true));
+      times = times_more opening _ past _ _ _ c.apply.ensures.opening c.apply.ensures.entry c.before-in-loop-step.ensures;
+    }

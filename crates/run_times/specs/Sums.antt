@@ -1,0 +1,90 @@
+-- Sums: the times of a run.
+use Rattle.std.specs.Prelude.{ℕ, ◌+◌, ◌==◌, if◌then◌else◌, not, Bool, true, false, List, map}
+use Rattle.std.specs.List.{range_with_len}
+use Rattle.cs_types.specs.Room.{Opening}
+use Rattle.cs_types.specs.History.{History}
+use Rattle.run_times.specs.declared.doing.Doing.{Doing}
+use Rattle.run_times.specs.declared.doing.Doing.TheVariants.{Offline, Runs, Idles, ForcedIdle}
+use Rattle.run_times.specs.declared.siblings.SiblingTimes.{SiblingTimes}
+use Rattle.run_times.specs.Doing.{doing_of, is_pending, some_pending, is_exposed}
+use Rattle.run_times.specs.Times.{Span, spans_of, total_time, time_in, lasting, longest}
+
+abbrev pub is_offline : Doing → Bool
+is_offline Offline = true
+is_offline doing = false
+
+abbrev pub runs : Doing → Bool
+runs (Runs cookie) = true
+runs doing = false
+
+abbrev pub idles : Doing → Bool
+idles Idles = true
+idles doing = false
+
+-- whether a sibling is forced idle while the core has a cookie
+abbrev pub is_forced_by_cookie : Doing → Bool
+is_forced_by_cookie (ForcedIdle cookie) = not (cookie == 0)
+is_forced_by_cookie doing = false
+
+-- and while the core has none
+abbrev pub is_forced_by_none : Doing → Bool
+is_forced_by_none (ForcedIdle cookie) = cookie == 0
+is_forced_by_none doing = false
+
+-- the times of a sibling in these spans
+abbrev pub sibling_times : List Span → ℕ → SiblingTimes
+sibling_times spans cpu =
+    record {
+      ran = time_in (λ room. runs (doing_of room cpu)) spans;
+      idled = time_in (λ room. idles (doing_of room cpu)) spans;
+      forced_by_cookie = time_in (λ room. is_forced_by_cookie (doing_of room cpu)) spans;
+      forced_by_none = time_in (λ room. is_forced_by_none (doing_of room cpu)) spans;
+      offline = time_in (λ room. is_offline (doing_of room cpu)) spans;
+      pending = time_in (λ room. is_pending room cpu) spans;
+    }
+
+-- all that a sibling did
+abbrev pub did : SiblingTimes → ℕ
+did times = times.ran + times.idled + times.forced_by_cookie + times.forced_by_none + times.offline
+
+-- its times with one span more, by what it does in that
+abbrev pub with_span : Doing → Bool → ℕ → SiblingTimes → SiblingTimes
+with_span doing pending time times =
+    record {
+      ran = if runs doing then times.ran + time else times.ran;
+      idled = if idles doing then times.idled + time else times.idled;
+      forced_by_cookie = if is_forced_by_cookie doing then times.forced_by_cookie + time else times.forced_by_cookie;
+      forced_by_none = if is_forced_by_none doing then times.forced_by_none + time else times.forced_by_none;
+      offline = if is_offline doing then times.offline + time else times.offline;
+      pending = if pending then times.pending + time else times.pending;
+    }
+
+-- what is told of a run
+pub record Times : Type 0 where
+  -- the times of each sibling, by rising number
+  pub siblings : List SiblingTimes
+  -- the time in which tasks with distinct cookies ran side by side
+  pub exposed : ℕ
+  -- for how long they have now, without a break, and the longest that they did
+  pub lasting : ℕ
+  pub longest : ℕ
+  -- the time in which some sibling was pending
+  pub pending : ℕ
+  -- all time
+  pub total : ℕ
+
+-- the times of a core with this number of siblings in these spans
+abbrev pub times_in : ℕ → List Span → Times
+times_in siblings spans =
+    record {
+      siblings = map (sibling_times spans) (range_with_len 0 siblings);
+      exposed = time_in is_exposed spans;
+      lasting = lasting is_exposed spans;
+      longest = longest is_exposed spans;
+      pending = time_in some_pending spans;
+      total = total_time spans;
+    }
+
+-- the times of a history
+abbrev pub times_of : Opening → History → Times
+times_of opening history = times_in opening.scenario.siblings (spans_of opening history)

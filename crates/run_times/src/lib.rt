@@ -1,0 +1,14 @@
+//! For how long what was so in a run: what each sibling did, and how long tasks that distrust each other ran side
+//! by side. It is over the contract of a machine alone.
+#![tactic(auto)]
+
+mod doing;
+mod looks;
+mod run;
+mod siblings;
+mod times;
+
+pub use doing::Doing;
+pub use run::timed_run;
+pub use siblings::SiblingTimes;
+pub use times::RunTimes;
