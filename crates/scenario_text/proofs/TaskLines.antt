@@ -8,7 +8,7 @@ use Rattle.scenario_text.specs.Grammar.{is_word, Form, number, policy, task_form
 use Rattle.scenario_text.specs.Reading.{Parts, righted, has, read_in, task_value}
 
 -- a word that is not right in its field
-wrong_field : (form : Form) (k j place : ℕ) (words : Parts) → place ≡ k + j → j < length form → (get_or form j (number 0 0)).is_right (words.at place) ≡ false → righted k form words ≡ false
+pub wrong_field : (form : Form) (k j place : ℕ) (words : Parts) → place ≡ k + j → j < length form → (get_or form j (number 0 0)).is_right (words.at place) ≡ false → righted k form words ≡ false
 wrong_field [] k j place words at inside wrong = absurd (omega arith)
 wrong_field (field ∷ fields) k zero place words at inside wrong =
     let here : k ≡ place = omega (arith, at) in

@@ -74,11 +74,11 @@ impl Line {
         match actor {
             Actor::Sibling(i) => {
                 self.text("s");
-                self.number(i);
+                self.short(i);
             }
             Actor::Caller(j) => {
                 self.text("c");
-                self.number(j);
+                self.short(j);
             }
             Actor::End => self.text("end"),
         }
@@ -363,6 +363,19 @@ impl Line {
     {
         let mut buffer = Buffer::new();
         self.text(buffer.format(number));
+    }
+
+    /// A number that is mostly one digit, which needs no buffer of its own.
+    fn short(&mut self, number: u8)
+        requires { length self.old + 3 ≤ line_room }
+        ensures text { self.new ≡ self.old ++ decimal number }
+        ensures longest { length self.new ≤ length self.old + 3 }
+    {
+        if number < 10 {
+            self.text.push((b'0' + number) as char);
+        } else {
+            self.number(number);
+        }
     }
 
     /// A text as it is.
