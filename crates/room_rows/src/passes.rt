@@ -1,7 +1,8 @@
 //! Passes of the ticket lock: their replies on one thread, and a program of somebody else's that makes threads of its
-//! own. They play `INPUT`, over any machine.
+//! own. And turns under a mutex, for who wants one. They play `INPUT`, over any machine.
 
-ghost use Rattle.std.specs.Prelude.{◌≡◌, ◌≤◌, [], length};
+ghost use Rattle.std.specs.Prelude.{◌≡◌, ◌+◌, ◌*◌, ◌≤◌, [], length};
+ghost use Rattle.cs_types.specs.Scenario.{IsPlayable};
 ghost use Rattle.core_lock.specs.Lists.{IsList, AreLists, actor_of, steps_in};
 ghost use Rattle.core_lock.specs.Passes.{fresh_pass, fresh_passes};
 ghost use Rattle.sibling_workers.specs.Working.{HasWorked};
@@ -10,10 +11,12 @@ ghost use Rattle.cs_types.specs.declared.event.Actor.TheVariants.{Sibling, Calle
 use crate::commands::{INPUT, sink_of};
 use crate::examples::opened;
 use core_lock::{Pass, Shared, Spent};
-use cs_types::{Actor, Event, Kind, List, Pick, Pid, Reply, Room, Step};
+use cs_types::{Actor, Event, Kind, List, Pick, Pid, Reply, Room, Scenario, Step};
 use room_report::output;
+use sibling_workers::{Named, Scripted, Turn};
+use std::marker::Brand;
 use std::process::Abort;
-use std::sync::Wait;
+use std::sync::{Mutex, Wait};
 use std::thread::Threads;
 use std::{str, thread};
 
@@ -282,4 +285,58 @@ fn expect_two_threads<R: Threads + Wait + AllocGlobal + Sync + Abort, M: Room + 
 fn passes_in_threads_of_a_stranger(rt: HostRuntime) {
     let (_, room) = opened(&rt, INPUT);
     expect_two_threads(&rt, room);
+}
+
+/// Makes turns of the actor under the mutex until its script is made, and answers how many these were.
+fn turns_of<R: Wait, M: Room, N: Named>(rt: &R, lock: &Mutex<Scripted<M, N>>, actor: Actor) -> u64 {
+    for made in 0..u64::MAX {
+        if let Turn::Finished = lock.lock(rt).turn(actor) {
+            return made;
+        }
+    }
+    u64::MAX
+}
+
+/// Expects that two threads make their scripts in the room whose opening `N` names.
+fn expect_scripts<
+    N: Named + Send + Sync,
+    R: Threads + Wait + AllocGlobal + Sync + Abort,
+    M: Room + Send,
+>(rt: &R, room: M, scenario: &Scenario)
+    requires playable { IsPlayable scenario.now }
+    requires scenario { (M.opening room).scenario ≡ scenario.now }
+    requires opening { M.opening room ≡ N.opening }
+    requires empty { M.history room ≡ [] }
+    requires spare { length scenario.now.steps + scenario.now.siblings * scenario.now.siblings ≤ M.spare room }
+{
+    let lock = Mutex::new(Scripted::<M, N>::of(rt.alloc(), room, scenario).expect(rt, "room"));
+    let made = thread::join(
+        rt,
+        || turns_of(rt, &lock, Actor::Caller(0)),
+        || turns_of(rt, &lock, Actor::Sibling(0)),
+    );
+    assert!(rt; made == (3, 3));
+    let room = lock.into_inner().into_room();
+    assert!(rt; room.length() == 6);
+    expect_orders(rt, &room);
+}
+
+/// Expects it of a machine of the scenario.
+fn expect_scripted<R: Threads + Wait + AllocGlobal + Sync + Abort, M: Room + Send>(
+    rt: &R,
+    room: M,
+    scenario: &Scenario,
+)
+    requires playable { IsPlayable scenario.now }
+    requires scenario { (M.opening room).scenario ≡ scenario.now }
+    requires empty { M.history room ≡ [] }
+    requires spare { length scenario.now.steps + scenario.now.siblings * scenario.now.siblings ≤ M.spare room }
+{
+    expect_scripts::<Brand, R, M>(rt, room, scenario);
+}
+
+#[test]
+fn scripts_under_a_mutex(rt: HostRuntime) {
+    let (scenario, room) = opened(&rt, INPUT);
+    expect_scripted(&rt, room, &scenario);
 }
