@@ -1,4 +1,4 @@
-use Rattle.std.proofs.Common.{◌≡◌, sym, subst, ◌∙◌, length, List, map}
+use Rattle.std.proofs.Common.{sym, subst, ◌∙◌, length, List, map}
 use Rattle.std.specs.Prelude.{Contains}
 use Rattle.std.proofs.lemmas.Result.{IfOk-at_ok}
 use Rattle.core_lock.specs.Passes.{PassState}
