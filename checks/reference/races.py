@@ -3,14 +3,15 @@
 made its own step lines, in their order. And it has to be what a replay writes of the same scenario with its step lines in
 the order of the race. So each reply, the entries of the end and the report are judged too.
 
-Usage: races.py --program PATH --count N --seed S [--runs R] [--beside B]
+Usage: races.py --program PATH --count N --seed S [--runs R] [--beside B] [--under WORDS]
 
 Races N random scenarios R times each, B at a time, and tells how many of them came out in more than one order. A seed
-has the same scenarios each time.
+has the same scenarios each time. The words, as 'taskset -c 0' or 'strace -f -o /dev/null', stand before the program's.
 """
 import argparse
 import os
 import random
+import shlex
 import subprocess
 import sys
 import time
@@ -22,8 +23,8 @@ import reference
 
 
 def raced(program, data):
-    """How a race of this text ended: status, standard output, standard error."""
-    result = subprocess.run([program, 'race'], input=data, capture_output=True, timeout=120)
+    """How a race of this text ended, by the words of the program: status, standard output, standard error."""
+    result = subprocess.run([*program, 'race'], input=data, capture_output=True, timeout=120)
     return result.returncode, result.stdout, result.stderr
 
 
@@ -61,12 +62,14 @@ def main():
     p.add_argument('--seed', type=int, default=1)
     p.add_argument('--runs', type=int, default=5)
     p.add_argument('--beside', type=int, default=8)
+    p.add_argument('--under', default='', help='the words of a command that runs the program')
     a = p.parse_args()
+    program = [*shlex.split(a.under), a.program]
     began, wrong, many, most = time.time(), 0, 0, 0
     with ThreadPoolExecutor(a.beside) as pool:
         for k in range(a.count):
             data = fuzz.scenario(random.Random('%d/%d' % (a.seed, k)))
-            runs = list(pool.map(lambda _: raced(a.program, data), range(a.runs)))
+            runs = list(pool.map(lambda _: raced(program, data), range(a.runs)))
             told = [judged(data, run) for run in runs]
             wrong += sum(fault is not None for fault, _ in told)
             for (fault, _), run in zip(told, runs):

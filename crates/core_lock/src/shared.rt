@@ -11,7 +11,7 @@ use crate::board::{Board, Read, SERVING};
 use crate::pass::Pass;
 use crate::seats::{joined, passes_of};
 use crate::spent::Spent;
-use crate::turns::{draw, make_step, take_turn};
+use crate::turns::{draw, let_others_go, make_step, take_turn};
 use crate::view::Beginning;
 use cs_types::{List, OutOfMemory, Reply, Room, Step};
 use std::alloc::Global;
@@ -95,6 +95,7 @@ impl<R: Room> Shared<R> {
             return Err(Spent);
         };
         let top = &self.board.shared;
+        let_others_go(top);
         let ticket = draw(top, &mut pass.seat);
         take_turn(rt, top, &mut pass.seat, ticket);
         let reply = make_step(top, &mut pass.seat, step);

@@ -1,4 +1,4 @@
-//! How a seat comes to its turn, makes a step in the room, and passes the turn on.
+//! How a seat lets others go first, comes to its turn, makes a step in the room, and passes the turn on.
 
 ghost use Rattle.std.specs.Prelude.{◌≡◌, ℕ, ◌+◌, ◌<◌, ◌++◌, [], ◌∷◌, length, slice_get, Some};
 ghost use Rattle.cs_types.specs.Scenario.{IsEvent};
@@ -12,6 +12,23 @@ use crate::board::{Draw, Look, PassOn, Place, SERVING, TICKET, Top};
 use crossbeam_utils::Backoff;
 use cs_types::{Reply, Room, Step};
 use std::sync::Wait;
+
+/// How often is looked at most, before a ticket is drawn, whether others have one.
+const LOOKS: u32 = 16;
+
+/// Waits for a bounded time while others have tickets. A ticket is served in its order, so all behind it wait
+/// while the system runs something else on its holder's processor. Who has no ticket holds nobody up.
+pub(crate) fn let_others_go<R: Room>(top: &Top<R>)
+    requires words { top.now.table_id.words ≡ 2 }
+{
+    let backoff = Backoff::new();
+    for _ in 0..LOOKS {
+        if top.peek(TICKET) == top.peek(SERVING) {
+            return;
+        }
+        backoff.snooze();
+    }
+}
 
 /// Draws a ticket for the next step of the seat's list.
 pub(crate) fn draw<R: Room>(top: &Top<R>, seat: &mut Place<R>) -> u64

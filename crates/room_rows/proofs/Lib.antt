@@ -1,1 +1,2 @@
 mod NoCookies
+mod TwoPasses

@@ -14,7 +14,7 @@ use std::sync::Wait;
 use std::thread::Threads;
 
 /// Two tasks of one priority, and a higher one that preempts the first.
-const INPUT: &str = "coresched 1
+pub const INPUT: &str = "coresched 1
 siblings 2
 limits 8 8 65536
 task 1 1 1 0 fifo:10 1000 1000 1000 1000 1000 1000 0 1 1

@@ -66,6 +66,8 @@ mod offers;
 #[cfg(test)]
 mod parts;
 #[cfg(test)]
+mod passes;
+#[cfg(test)]
 mod queues;
 #[cfg(test)]
 mod races;
