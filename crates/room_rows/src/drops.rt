@@ -154,7 +154,7 @@ fn two_poor<R: AllocGlobal + Abort>(rt: &R, drops: &Arc<AtomicU64, Global>) -> V
     Vec::from_array(rt.alloc(), guards).expect(rt, "room")
 }
 
-/// Expects that the want of memory of a guard ends the command, and that two guards are let go once each.
+/// Expects that a guard that is out of memory ends the command, and that two guards are let go once each.
 fn expect_let_go_of_poor<R: Threads + Wait + AllocGlobal + Sync + Abort>(rt: &R, texts: &[&str]) {
     let drops = counter(rt);
     let end = End {
