@@ -3,3 +3,4 @@ pub mod Queues
 pub mod Replaced
 pub mod Starts
 pub mod Lists
+pub mod Alike

@@ -62,6 +62,12 @@ is_peer_of task other =
 abbrev pub has_peer : Task → List Task → Bool
 has_peer task tasks = list_any (λ other. not (has_pid task.spec.pid other) && is_peer_of task other) tasks
 
+-- whether a queue has one task as it has another with its pid: both are queued at one home, and stand at one place there
+abbrev pub is_alike : Task → Task → Bool
+is_alike task other =
+    task.queued && other.queued && (task.home == other.home) && (task.stamp == other.stamp) && (task.cookie == other.cookie)
+    && (task.deadline == other.deadline) && (task.vtime == other.vtime) && is_peer_of task other
+
 -- how many have a smaller stamp
 abbrev pub count_before : List Task → ℕ → ℕ
 count_before tasks stamp = count_by (λ other. nat_lt other.stamp stamp) tasks

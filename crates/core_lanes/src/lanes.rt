@@ -7,9 +7,10 @@ ghost use Rattle.cs_types.specs.Step.{run_idle};
 ghost use Rattle.cs_types.specs.Steal.{set_place};
 ghost use Rattle.cs_types.specs.Queueing.{enqueue, dequeue, moved_to};
 ghost use Rattle.task_table.specs.Table.{Table, IsSound as IsTable};
-ghost use Rattle.core_lanes.specs.Queued.{IsOf};
+ghost use Rattle.core_lanes.specs.Queued.{IsOf, is_alike};
 
 use crate::lane::Lane;
+use crate::order::is_alike;
 use crate::queue::SiblingQueue;
 use cs_types::{Cookie, Cpu, OutOfMemory, Pid, Steps, Task};
 use forceidle_account::ForceIdle;
@@ -175,6 +176,18 @@ impl<Q: SiblingQueue> Core<Q> {
         }
     }
 
+    /// The task in the place of the one with its pid, which the queues have alike, in the table.
+    fn replace_alike(&self, table: &mut TaskTable, old: &Task, task: Task)
+        requires there { find (has_pid task.spec.pid) table.old.tasks ≡ Some old.now }
+        requires alike { IsTrue (is_alike old.now task) }
+        requires fits { FitsIn (self.now, table.old) task }
+        requires agree { Agree (self.now, table.old) }
+        ensures table { table.new ≡ record table.old { tasks = map (λ other. if has_pid task.spec.pid other then task else other) table.old.tasks } }
+        ensures agree { Agree (self.now, table.new) }
+    {
+        table.change(task);
+    }
+
     /// The task in the place of the one with its pid, in the table and in the queues.
     pub fn replace<L: Ledger>(&mut self, table: &mut TaskTable, task: Task, steps: &mut Steps<L>)
         requires fits { FitsIn (self.old, table.old) task }
@@ -184,6 +197,10 @@ impl<Q: SiblingQueue> Core<Q> {
         ensures agree { Agree (self.new, table.new) }
     {
         let old = task_of(table, task.spec.pid).unwrap();
+        if is_alike(&old, &task) {
+            self.replace_alike(table, &old, task);
+            return;
+        }
         self.take(table, &old, steps);
         table.change(task);
         self.put(table, &task, steps);

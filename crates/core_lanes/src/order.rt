@@ -2,6 +2,7 @@
 
 ghost use Rattle.std.specs.Prelude.{◌≡◌};
 ghost use Rattle.cs_types.specs.Order.{priority_of, is_fair, goes_before, is_higher_here};
+ghost use Rattle.core_lanes.specs.Queued.{is_peer_of, is_alike};
 
 use cs_types::{Class, Policy, Task};
 
@@ -46,4 +47,27 @@ pub fn goes_before(task: &Task, other: &Task) -> bool
     ensures { result ≡ goes_before task.now other.now }
 {
     is_higher(task, other) || (!is_higher(other, task) && task.stamp < other.stamp)
+}
+
+/// Whether the task is of the class of the other, and among real-time tasks of its priority.
+fn is_peer_of(task: &Task, other: &Task) -> bool
+    ensures { result ≡ is_peer_of task.now other.now }
+{
+    other.spec.policy.class().number() == task.spec.policy.class().number()
+        && priority_of(other.spec.policy) == priority_of(task.spec.policy)
+}
+
+/// Whether a queue has the task as it has the other with its pid: both are queued at one home, and stand at one
+/// place there.
+pub fn is_alike(task: &Task, other: &Task) -> bool
+    ensures { result ≡ is_alike task.now other.now }
+{
+    task.queued
+        && other.queued
+        && task.home == other.home
+        && task.stamp == other.stamp
+        && task.cookie == other.cookie
+        && task.deadline == other.deadline
+        && task.vtime == other.vtime
+        && is_peer_of(task, other)
 }

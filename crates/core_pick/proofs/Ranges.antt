@@ -1,19 +1,18 @@
 -- Ranges: low times are in the range that the order of offers asks for.
-use Rattle.std.proofs.Common.{ℕ, zero, suc, ◌^◌, ◌<◌, List, [], ◌∷◌, take, arith}
+use Rattle.std.proofs.Common.{ℕ, zero, suc, ◌^◌, ◌<◌, List, [], ◌∷◌, arith}
 use Rattle.std.specs.Prelude.{All, Option, Some, None, IfSome}
-use Rattle.std.proofs.lemmas.List.Elements.{All-head, All-tail, All-take, All-weaker}
+use Rattle.std.proofs.lemmas.List.Elements.{All-head, All-tail, All-weaker}
 use Rattle.cs_types.specs.declared.task.Task.{Task}
 use Rattle.cs_types.specs.Room.{SiblingState}
 use Rattle.sibling_priority.specs.Offers.{IsTimeInRange}
 use Rattle.core_pick.specs.Choice.{snapshot_in}
 
--- each first of a prefix has a low virtual time
-pub low_times : (firsts : List (Option Task)) (n : ℕ) → All (λ (first : Option Task). IfSome first (λ task. task.vtime < 2 ^ 127)) firsts → All IsTimeInRange (take n firsts)
-low_times firsts n all =
-    All-weaker (λ (first : Option Task). IfSome first (λ task. task.vtime < 2 ^ 127)) IsTimeInRange in_range (take n firsts) (All-take (λ (first : Option Task). IfSome first (λ task. task.vtime < 2 ^ 127)) n firsts all) where
-      in_range : (one : Option Task) → IfSome one (λ task. task.vtime < 2 ^ 127) → IsTimeInRange one
-      in_range None low = tt
-      in_range (Some task) low = λ fair. low
+-- each first has a low virtual time
+pub low_times : (firsts : List (Option Task)) → All (λ (first : Option Task). IfSome first (λ task. task.vtime < 2 ^ 127)) firsts → All IsTimeInRange firsts
+low_times firsts all = All-weaker (λ (first : Option Task). IfSome first (λ task. task.vtime < 2 ^ 127)) IsTimeInRange in_range firsts all where
+  in_range : (one : Option Task) → IfSome one (λ task. task.vtime < 2 ^ 127) → IsTimeInRange one
+  in_range None low = tt
+  in_range (Some task) low = λ fair. low
 
 -- the snapshot of each sibling, also past the last, is low
 pub low_snapshots : (siblings : List SiblingState) → All (λ sibling. sibling.snapshot < 2 ^ 127) siblings → (cpu : ℕ) → snapshot_in siblings cpu < 2 ^ 127

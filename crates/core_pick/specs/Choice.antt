@@ -1,10 +1,13 @@
 -- Choice: what the lead and the choices of a selection are made of, and what the choices make of tasks.
-use Rattle.std.specs.Prelude.{ℕ, Bool, ◌&&◌, if◌then◌else◌, List, length, map, find, Option, Some, None, slice_index_or}
+use Rattle.std.specs.Prelude.{ℕ, Bool, false, ◌&&◌, if◌then◌else◌, List, length, map, find, Option, Some, None, slice_index_or, unwrap_or}
 use Rattle.std.specs.Option.{option_and_then}
 use Rattle.std.specs.List.{list_any, range_with_len}
 use Rattle.cs_types.specs.Room.{RoomState, SiblingState, absent, has_pid, is_online}
-use Rattle.cs_types.specs.Selection.{first_on, is_run, pid_of, is_fair_task, choice, is_forced}
+use Rattle.cs_types.specs.Selection.{first_on, is_run, pid_of, cookie_of, is_fair_task, snapshot_of, choice, is_forced}
+use Rattle.sibling_priority.specs.declared.offer.Offer.{Offer}
+use Rattle.sibling_priority.specs.Offers.{class_of_first, rank_of_first, snapshot_of_first}
 use Rattle.core_pick.specs.declared.choice.Choice.{Choice}
+use Rattle.core_pick.specs.declared.lead.First.{First}
 use Rattle.cs_types.specs.declared.task.Task.{Task}
 
 -- the snapshot of a sibling among these
@@ -15,9 +18,34 @@ snapshot_in siblings cpu = (slice_index_or siblings cpu absent).snapshot
 abbrev pub first_among : List (Option Task) → ℕ → Option Task
 first_among firsts cpu = slice_index_or firsts cpu None
 
--- the firsts of all siblings
-abbrev pub firsts_of : RoomState → List (Option Task)
-firsts_of room = map (first_on room) (range_with_len 0 (length room.siblings))
+-- what a selection keeps of a first task, by the snapshots of the siblings
+abbrev pub kept_of : (ℕ → ℕ) → Option Task → First
+kept_of snapshot first =
+    record {
+      run = pid_of first;
+      cookie = cookie_of first;
+      is_fair = is_fair_task first;
+      class = class_of_first first;
+      rank = rank_of_first first;
+      snapshot = snapshot_of_first snapshot first;
+    }
+
+-- the first tasks of all siblings, and what is kept of them
+abbrev pub first_tasks : RoomState → List (Option Task)
+first_tasks room = map (first_on room) (range_with_len 0 (length room.siblings))
+
+abbrev pub firsts_of : RoomState → List First
+firsts_of room = map (kept_of (snapshot_of room)) (first_tasks room)
+
+-- what a read past the last of these would give
+abbrev pub no_first : First
+no_first = record { run = None; cookie = 0; is_fair = false; class = 0; rank = 0; snapshot = 0 }
+
+-- what a sibling offers by what is kept of its first
+abbrev pub offer_in : List First → ℕ → Offer
+offer_in firsts cpu =
+    let first = slice_index_or firsts cpu no_first in
+    record { cpu = cpu; pid = unwrap_or first.run 0; class = first.class; rank = first.rank; snapshot = first.snapshot }
 
 -- what a sibling gets for a core cookie
 abbrev pub choice_at : RoomState → ℕ → ℕ → Choice

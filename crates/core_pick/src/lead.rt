@@ -1,20 +1,40 @@
 //! The lead of first tasks. It is a file of its own since it alone knows what a task offers.
 
-ghost use Rattle.std.specs.Prelude.{◌≡◌, ◌<◌, ◌≤◌, ◌^◌, length, map, All, IfSome};
-ghost use Rattle.std.specs.Option.{option_map_or, option_and_then};
+ghost use Rattle.std.specs.Prelude.{◌≡◌, ℕ, ◌<◌, ◌≤◌, length, map, unwrap_or, All, IfSome, List, Option};
+ghost use Rattle.std.specs.Option.{option_and_then};
+ghost use Rattle.cs_types.specs.declared.task.Task.{Task as SomeTask};
 ghost use Rattle.cs_types.specs.Order.{foremost, outranks};
-ghost use Rattle.sibling_priority.specs.Offers.{IsFirst, class_of_first, rank_of_first};
+ghost use Rattle.cs_types.specs.Selection.{cookie_of};
+ghost use Rattle.sibling_priority.specs.Offers.{IsFirst, IsInRange, rank_of_first};
 ghost use Rattle.core_lanes.specs.Lanes.{lane_state};
-ghost use Rattle.core_pick.specs.Choice.{snapshot_in, first_among};
+ghost use Rattle.core_pick.specs.Choice.{snapshot_in, first_among, kept_of, offer_in};
 
 use crate::choice::MOST_SIBLINGS;
 use arrayvec::ArrayVec;
-use core_lanes::Lane;
-use cs_types::{Cpu, Policy, Task};
+use core_lanes::{Lane, is_fair};
+use cs_types::{Cookie, Cpu, Pid, Policy, Task};
 use sibling_priority::{IDLE, Offer, lead};
 
-/// The first task of each sibling, none for one with no task, in the order of their numbers.
-pub type Firsts = ArrayVec<Option<Task>, MOST_SIBLINGS>;
+/// What a selection keeps of the first task of a sibling, which is less than the task. For idle it is what no
+/// task has.
+#[derive(Clone, Copy, Default)]
+pub struct First {
+    /// The task, none for idle.
+    pub run: Option<Pid>,
+    /// Its cookie, 0 for none.
+    pub cookie: Cookie,
+    /// Whether it is fair.
+    pub is_fair: bool,
+    /// Its class, the smaller the higher.
+    pub class: u8,
+    /// Its rank within the class, the smaller the higher.
+    pub rank: u128,
+    /// The least virtual time of its home, as it was last kept for comparisons, in ns.
+    pub snapshot: u128,
+}
+
+/// What is kept of the first task of each sibling, in the order of their numbers.
+pub type Firsts = ArrayVec<First, MOST_SIBLINGS>;
 
 /// Siblings in the order in which one looks at them.
 pub type Order = ArrayVec<Cpu, MOST_SIBLINGS>;
@@ -33,25 +53,25 @@ fn rank_of(task: &Task) -> u128
     }
 }
 
-/// What a sibling with this first task offers, which is one of these siblings.
-fn offer<Q: Drop>(first: Option<Task>, lanes: &[Lane<Q>]) -> Offer
+/// What is kept of this first task, whose home is one of these siblings.
+pub fn kept_of<Q: Drop>(first: Option<Task>, lanes: &[Lane<Q>]) -> First
     requires first { IsFirst first }
     requires home { IfSome first (λ task. task.home < length lanes.now) }
-    ensures class { result.class ≡ class_of_first first }
-    ensures rank { result.rank ≡ rank_of_first first }
-    ensures snapshot { result.snapshot ≡ option_map_or (λ task. snapshot_in (map lane_state lanes.now) task.home) first 0 }
+    ensures { result ≡ kept_of (snapshot_in (map lane_state lanes.now)) first }
 {
     match first {
-        None => Offer {
-            cpu: 0,
-            pid: 0,
+        None => First {
+            run: None,
+            cookie: 0,
+            is_fair: false,
             class: IDLE,
             rank: 0,
             snapshot: 0,
         },
-        Some(task) => Offer {
-            cpu: task.home,
-            pid: task.spec.pid,
+        Some(task) => First {
+            run: Some(task.spec.pid),
+            cookie: task.cookie,
+            is_fair: is_fair(&task),
             class: task.spec.policy.class().number(),
             rank: rank_of(&task),
             snapshot: lanes[task.home as usize].snapshot,
@@ -59,24 +79,34 @@ fn offer<Q: Drop>(first: Option<Task>, lanes: &[Lane<Q>]) -> Offer
     }
 }
 
-/// The earliest of the first tasks of these siblings than which no other is higher, none for idle. The first tasks
-/// are those of all siblings.
-pub fn lead_of<Q: Drop>(order: &[Cpu], firsts: &[Option<Task>], lanes: &[Lane<Q>]) -> Option<Task>
+/// What the sibling with this first task offers.
+fn offer(first: &First, cpu: Cpu) -> Offer
+    ensures { result ≡ record { cpu = cpu; pid = unwrap_or first.now.run 0; class = first.now.class; rank = first.now.rank; snapshot = first.now.snapshot } }
+{
+    Offer {
+        cpu,
+        pid: first.run.unwrap_or(0),
+        class: first.class,
+        rank: first.rank,
+        snapshot: first.snapshot,
+    }
+}
+
+/// The cookie of the earliest of the first tasks of these siblings than which no other is higher, and 0 for idle.
+/// The first tasks are those of all siblings.
+pub fn cookie_of_lead(order: &[Cpu], firsts: &[First]) -> Cookie
     requires few { length order.now ≤ 16 }
     requires within { All (λ cpu. cpu < length firsts.now) order.now }
-    requires priorities { All IsFirst firsts.now }
-    requires homes { All (λ first. IfSome first (λ task. task.home < length lanes.now)) firsts.now }
-    requires vtimes { All (λ first. IfSome first (λ task. task.vtime < 2 ^ 127)) firsts.now }
-    requires snapshots { All (λ sibling. sibling.snapshot < 2 ^ 127) (map lane_state lanes.now) }
-    ensures { result ≡
-        option_and_then (λ first. first) (foremost (outranks (snapshot_in (map lane_state lanes.now))) (map (first_among firsts.now) order.now)) }
+    requires ranges { All IsInRange (map (offer_in firsts.now) order.now) }
+    ensures { (snapshot : ℕ → ℕ) (tasks : List (Option SomeTask)) → firsts.now ≡ map (kept_of snapshot) tasks → All IsFirst tasks →
+        result ≡ cookie_of (option_and_then (λ first. first) (foremost (outranks snapshot) (map (first_among tasks) order.now))) }
 {
     let mut offers: ArrayVec<Offer, MOST_SIBLINGS> = ArrayVec::new();
     for cpu in order {
-        offers.push(offer(firsts[*cpu as usize], lanes));
+        offers.push(offer(&firsts[*cpu as usize], *cpu));
     }
     if offers.is_empty() {
-        return None;
+        return 0;
     }
-    firsts[order[lead(&offers)] as usize]
+    firsts[order[lead(&offers)] as usize].cookie
 }

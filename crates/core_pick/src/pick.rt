@@ -13,7 +13,8 @@ ghost use Rattle.core_pick.specs.Schedules.{MayPick, MaySchedule, Schedules, Cha
 use crate::account::charge;
 use crate::balance::balance;
 use crate::choice::{forced_count, occupation, update_siblings, update_tasks};
-use crate::selection::{choices, cookie_of, firsts, is_fair_task, lead_from, pid_of};
+use crate::lead::First;
+use crate::selection::{choices, cookie_of, firsts, is_fair_task, lead_cookie, pid_of};
 use crate::sibling::{run, run_first};
 use core_lanes::{Core, SiblingQueue};
 use cs_types::{Cookie, Cpu, Kind, Pick, Pid, Steps, Task};
@@ -103,7 +104,7 @@ fn select_for<Q: SiblingQueue, L: Ledger>(
     core: &mut Core<Q>,
     table: &mut TaskTable,
     cpu: Cpu,
-    firsts: &[Option<Task>],
+    firsts: &[First],
     cookie: Cookie,
     now: u64,
     steps: &mut Steps<L>,
@@ -147,7 +148,7 @@ fn select<Q: SiblingQueue, L: Ledger>(
 {
     let firsts = firsts(core, table, cpu, first, steps);
     let firsts = firsts.as_slice();
-    let cookie = cookie_of(lead_from(core, table, firsts, cpu));
+    let cookie = lead_cookie(core, table, firsts, cpu);
     let run = select_for(core, table, cpu, firsts, cookie, now, steps);
     core.touch();
     core.pick_number = core.task_number;

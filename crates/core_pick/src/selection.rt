@@ -1,18 +1,18 @@
 //! What a selection for the core asks of the queues: the lead, and what each sibling gets for a core cookie.
 //! It is a file of its own since it changes nothing.
 
-ghost use Rattle.std.specs.Prelude.{◌≡◌, ◌+◌, ◌-◌, ◌<◌, ◌≤◌, ◌++◌, ◌&&◌, ◌==◌, length, map, filter, None, is_none, is_some, if◌then◌else◌};
+ghost use Rattle.std.specs.Prelude.{◌≡◌, ℕ, ◌+◌, ◌-◌, ◌<◌, ◌≤◌, ◌++◌, ◌&&◌, ◌||◌, ◌==◌, length, map, filter, None, is_none, if◌then◌else◌};
 ghost use Rattle.std.specs.List.{range_with_len};
 ghost use Rattle.arrayvec.specs.ArrayVec.{array_vec_len};
 ghost use Rattle.cs_types.specs.Room.{is_online};
 ghost use Rattle.cs_types.specs.Order.{first_of};
-ghost use Rattle.cs_types.specs.Selection.{first_on, queued_with, cookie_of, pid_of, is_fair_task, choice, lead_from};
+ghost use Rattle.cs_types.specs.Selection.{first_on, queued_with, cookie_of, pid_of, is_fair_task, lead_from};
 ghost use Rattle.core_lanes.specs.Lanes.{Beside, room_of, Agree, AgreesAt, HasLowTimes};
 ghost use Rattle.task_table.specs.Table.{Table};
-ghost use Rattle.core_pick.specs.Choice.{choice_at, firsts_of};
+ghost use Rattle.core_pick.specs.Choice.{choice_at, firsts_of, kept_of};
 
 use crate::choice::{Choice, Choices};
-use crate::lead::{Firsts, Order, lead_of};
+use crate::lead::{First, Firsts, Order, cookie_of_lead, kept_of};
 use core_lanes::{Core, SiblingQueue, is_fair};
 use cs_types::{Cookie, Cpu, Pid, Steps, Task};
 use std::sync::ledger::Ledger;
@@ -38,45 +38,40 @@ fn first_with<Q: SiblingQueue, L: Ledger>(
         .first_with(cookie, table, cpu, steps)
 }
 
-/// The task that a sibling with this first task gets for a core cookie, none for idle.
-#[tactic(auto, unfolding(cs_types::specs::Selection::choice))]
-fn choice<Q: SiblingQueue, L: Ledger>(
-    core: &Core<Q>,
-    table: &TaskTable,
-    first: Option<Task>,
-    cookie: Cookie,
-    cpu: Cpu,
-    steps: &mut Steps<L>,
-) -> Option<Task>
-    requires { AgreesAt cpu (core.now, table.now) }
-    ensures { (beside : Beside) → first ≡ first_on (room_of beside (core.now, table.now)) cpu →
-        result ≡ choice (room_of beside (core.now, table.now)) cookie cpu }
+/// Whether a sibling with this first task gets it for a core cookie: it is idle, or has the cookie.
+fn is_kept(first: &First, cookie: Cookie) -> bool
+    ensures { result ≡ (is_none first.now.run || (first.now.cookie == cookie)) }
 {
-    match first {
-        Some(task) if task.cookie != cookie => first_with(core, table, cookie, cpu, steps),
-        _ => first,
-    }
+    first.run.is_none() || first.cookie == cookie
 }
 
 /// What a sibling with this first task gets for a core cookie.
 fn choice_at<Q: SiblingQueue, L: Ledger>(
     core: &Core<Q>,
     table: &TaskTable,
-    first: Option<Task>,
+    first: &First,
     cookie: Cookie,
     cpu: Cpu,
     steps: &mut Steps<L>,
 ) -> Choice
     requires { AgreesAt cpu (core.now, table.now) }
-    ensures { (beside : Beside) → first ≡ first_on (room_of beside (core.now, table.now)) cpu →
+    ensures { (beside : Beside) (snapshot : ℕ → ℕ) → first.now ≡ kept_of snapshot (first_on (room_of beside (core.now, table.now)) cpu) →
         result ≡ choice_at (room_of beside (core.now, table.now)) cookie cpu }
 {
-    let chosen = choice(core, table, first, cookie, cpu, steps);
     let is_online = core.is_online(cpu);
+    if is_kept(first, cookie) {
+        return Choice {
+            run: first.run,
+            is_online,
+            is_forced: false,
+            is_fair: first.is_fair,
+        };
+    }
+    let chosen = first_with(core, table, cookie, cpu, steps);
     Choice {
         run: pid_of(chosen),
         is_online,
-        is_forced: is_forced(is_online, first, chosen),
+        is_forced: is_forced(is_online, chosen),
         is_fair: is_fair_task(chosen),
     }
 }
@@ -85,7 +80,7 @@ fn choice_at<Q: SiblingQueue, L: Ledger>(
 pub fn choices<Q: SiblingQueue, L: Ledger>(
     core: &Core<Q>,
     table: &TaskTable,
-    firsts: &[Option<Task>],
+    firsts: &[First],
     cookie: Cookie,
     steps: &mut Steps<L>,
 ) -> Choices
@@ -97,7 +92,7 @@ pub fn choices<Q: SiblingQueue, L: Ledger>(
 {
     let mut choices = Choices::new();
     for cpu in 0..core.lanes.len() {
-        let first = firsts[cpu];
+        let first = &firsts[cpu];
         choices.push(choice_at(core, table, first, cookie, cpu as u8, steps));
     }
     choices
@@ -123,7 +118,7 @@ fn first_beside<Q: SiblingQueue, L: Ledger>(
     }
 }
 
-/// The first task of each sibling, of which this is the one's.
+/// What is kept of the first task of each sibling, where this is the one's first.
 pub fn firsts<Q: SiblingQueue, L: Ledger>(
     core: &Core<Q>,
     table: &TaskTable,
@@ -131,14 +126,15 @@ pub fn firsts<Q: SiblingQueue, L: Ledger>(
     first: Option<Task>,
     steps: &mut Steps<L>,
 ) -> Firsts
-    requires { Agree (core.now, table.now) }
-    ensures each { (beside : Beside) → let room = room_of beside (core.now, table.now) in
-        first ≡ first_on room own → result.items ≡ firsts_of room }
+    requires agree { Agree (core.now, table.now) }
+    requires first { (beside : Beside) → first ≡ first_on (room_of beside (core.now, table.now)) own }
+    ensures each { (beside : Beside) → result.items ≡ firsts_of (room_of beside (core.now, table.now)) }
     ensures length { length result.items ≡ length core.now.lanes.items }
 {
     let mut firsts = Firsts::new();
     for cpu in 0..core.lanes.len() {
-        firsts.push(first_beside(core, table, own, first, cpu as u8, steps));
+        let other = first_beside(core, table, own, first, cpu as u8, steps);
+        firsts.push(kept_of(other, &core.lanes));
     }
     firsts
 }
@@ -159,22 +155,22 @@ fn push_online<Q: SiblingQueue>(order: &mut Order, core: &Core<Q>, from: Cpu, to
     }
 }
 
-/// The lead of a selection that the sibling makes, where these are the first tasks, none for idle.
-pub fn lead_from<Q: SiblingQueue>(
+/// The cookie of the lead of a selection that the sibling makes, where these are the first tasks, and 0 for idle.
+pub fn lead_cookie<Q: SiblingQueue>(
     core: &Core<Q>,
     table: &TaskTable,
-    firsts: &[Option<Task>],
+    firsts: &[First],
     cpu: Cpu,
-) -> Option<Task>
+) -> Cookie
     requires at { AgreesAt cpu (core.now, table.now) }
     requires low { HasLowTimes (core.now, table.now) }
     requires firsts { (beside : Beside) → firsts.now ≡ firsts_of (room_of beside (core.now, table.now)) }
-    ensures { (beside : Beside) → result ≡ lead_from (room_of beside (core.now, table.now)) cpu }
+    ensures { (beside : Beside) → result ≡ cookie_of (lead_from (room_of beside (core.now, table.now)) cpu) }
 {
     let mut order = Order::new();
     push_online(&mut order, core, cpu, core.lanes.len() as u8);
     push_online(&mut order, core, 0, cpu);
-    lead_of(&order, firsts, &core.lanes)
+    cookie_of_lead(&order, firsts)
 }
 
 /// The task's pid, none for idle.
@@ -204,9 +200,9 @@ pub fn is_fair_task(task: Option<Task>) -> bool
     }
 }
 
-/// Whether a sibling with this first task that gets the other is forced idle.
-fn is_forced(is_online: bool, first: Option<Task>, chosen: Option<Task>) -> bool
-    ensures { result ≡ (is_online && (is_none chosen && is_some first)) }
+/// Whether a sibling is forced idle that gets this in place of its first task.
+fn is_forced(is_online: bool, chosen: Option<Task>) -> bool
+    ensures { result ≡ (is_online && is_none chosen) }
 {
-    is_online && chosen.is_none() && first.is_some()
+    is_online && chosen.is_none()
 }

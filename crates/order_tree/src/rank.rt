@@ -62,6 +62,7 @@ impl ClassQueue for RankTree {
         self.tree.remove(&key(rank, stamp), steps)
     }
 
+    #[inline(always)]
     fn top<L: Ledger>(&self, steps: &mut Steps<L>) -> Option<Pid> {
         let first = self.tree.first(steps)?;
         Some(first.1)

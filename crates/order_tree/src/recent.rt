@@ -68,6 +68,7 @@ impl RecentTree {
     }
 
     /// Puts a pid at a key where none is.
+    #[inline(always)]
     pub fn insert<L: Ledger>(&mut self, key: Key, pid: Pid, steps: &mut Steps<L>)
         requires spare { 0 < self.old.spare }
         requires free { map.get self.old.members key ≡ None }
@@ -81,6 +82,7 @@ impl RecentTree {
     }
 
     /// Takes out the pid at a key. `false` comes exactly where none is there, and then nothing changes.
+    #[inline(always)]
     pub fn remove<L: Ledger>(&mut self, key: &Key, steps: &mut Steps<L>) -> bool
         ensures found { result ≡ map.contains_key self.old.members key.now }
         ensures members { self.new.members ≡ map.remove self.old.members key.now }
@@ -95,6 +97,7 @@ impl RecentTree {
     }
 
     /// The least key, and the pid there. `None` exactly where there is no key.
+    #[inline(always)]
     pub fn first<L: Ledger>(&self, steps: &mut Steps<L>) -> Option<(Key, Pid)>
         ensures first { result ≡ first_of self.now.members }
         ensures counted { steps.new ≤ steps.old + 1 }
@@ -162,6 +165,7 @@ fn reaching<L: Ledger>(
 }
 
 /// The entry with the lesser key. Where one is not there it is the other.
+#[inline(always)]
 fn lesser<L: Ledger>(
     one: Option<(Key, Pid)>,
     other: Option<(Key, Pid)>,

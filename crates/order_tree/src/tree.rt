@@ -103,6 +103,7 @@ impl Tree {
     }
 
     /// The number of levels. A tree of many levels has many entries.
+    #[inline(always)]
     fn height(&self) -> u8
         ensures height { result ≡ self.now.height }
         ensures many { fewest self.now.height ≤ length self.now.entries }
@@ -114,6 +115,7 @@ impl Tree {
     }
 
     /// The two sides of the root, and the root.
+    #[inline(always)]
     fn open(self) -> Option<Parts>
         ensures none { result ≡ None → self.height ≡ 0 }
         ensures shallow { self.height ≤ 2 * digits (length self.entries) }
@@ -244,6 +246,7 @@ pub fn reaches(order: Ordering, at: bool) -> bool
 }
 
 /// The tree of a node over two trees of nearly the same height.
+#[inline(always)]
 fn fork(left: Tree, mut node: Box<Node>, right: Tree) -> Tree
     requires rising { IsTrue (is_sorted key_cmp (joined left (entry_in node.value) right)) }
     requires even { DifferBy 1 left.height right.height }
@@ -260,6 +263,7 @@ fn fork(left: Tree, mut node: Box<Node>, right: Tree) -> Tree
 }
 
 /// The tree of a node whose left side is two levels higher than its right: its left side is turned up.
+#[inline(never)]
 fn lean_left(left: Tree, node: Box<Node>, right: Tree) -> Tree
     requires rising { IsTrue (is_sorted key_cmp (joined left (entry_in node.value) right)) }
     requires two_higher { left.height ≡ right.height + 2 }
@@ -284,6 +288,7 @@ fn lean_left(left: Tree, node: Box<Node>, right: Tree) -> Tree
 }
 
 /// The tree of a node whose right side is two levels higher than its left: its right side is turned up.
+#[inline(never)]
 fn lean_right(left: Tree, node: Box<Node>, right: Tree) -> Tree
     requires rising { IsTrue (is_sorted key_cmp (joined left (entry_in node.value) right)) }
     requires two_higher { right.height ≡ left.height + 2 }
@@ -308,6 +313,7 @@ fn lean_right(left: Tree, node: Box<Node>, right: Tree) -> Tree
 }
 
 /// The tree of a node over two trees whose heights differ by two at most.
+#[inline(always)]
 fn balance(left: Tree, node: Box<Node>, right: Tree) -> Tree
     requires rising { IsTrue (is_sorted key_cmp (joined left (entry_in node.value) right)) }
     requires uneven { DifferBy 2 left.height right.height }

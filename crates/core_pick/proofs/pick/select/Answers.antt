@@ -6,7 +6,7 @@ use Rattle.std.proofs.Math.Seq.{map-set_same}
 use Rattle.cs_types.specs.declared.reply.Kind.TheVariants.{Selected}
 use Rattle.cs_types.specs.declared.reply.Pick.{Pick}
 use Rattle.cs_types.specs.Room.{RoomState}
-use Rattle.cs_types.specs.Selection.{cookie_of, pid_of, choice, forced_count, select_for}
+use Rattle.cs_types.specs.Selection.{pid_of, choice, forced_count, select_for}
 use Rattle.core_lanes.specs.declared.lane.Lane.{Lane}
 use Rattle.core_lanes.specs.Lanes.{at, lane_state, room_of}
 use Rattle.core_lanes.specs.Numbers.{Numbers, numbers_of, touched}
@@ -14,17 +14,17 @@ use Rattle.core_lanes.specs.Changes.{Kept}
 use Rattle.core_lanes.proofs.Stays.{number_of, queues_kept, alike_stays, both_stay}
 use Rattle.core_pick.proofs.pick.select.Goals as goal
 
-pub lead_from-requires-clause-firsts : goal.lead_from-requires-clause-firsts
-lead_from-requires-clause-firsts g c beside = c.as_slice-firsts.ensures.value ∙ c.firsts-firsts.ensures.each beside (c.requires.first beside)
+pub lead_cookie-cookie-requires-clause-firsts : goal.lead_cookie-cookie-requires-clause-firsts
+lead_cookie-cookie-requires-clause-firsts g c beside = c.as_slice-firsts.ensures.value ∙ c.firsts-firsts.ensures.each beside
 
 pub select_for-run-requires-clause-firsts : goal.select_for-run-requires-clause-firsts
-select_for-run-requires-clause-firsts g c beside = c.as_slice-firsts.ensures.value ∙ c.firsts-firsts.ensures.each beside (c.requires.first beside)
+select_for-run-requires-clause-firsts g c beside = c.as_slice-firsts.ensures.value ∙ c.firsts-firsts.ensures.each beside
 
 pub select_for-run-requires-clause-each : goal.select_for-run-requires-clause-each
 select_for-run-requires-clause-each g c = ap length c.as_slice-firsts.ensures.value ∙ c.firsts-firsts.ensures.length
 
 pub select_for-run-requires-clause-lead : goal.select_for-run-requires-clause-lead
-select_for-run-requires-clause-lead g c beside = c.cookie_of-cookie.ensures ∙ ap cookie_of (c.lead_from.ensures beside)
+select_for-run-requires-clause-lead g c beside = c.lead_cookie-cookie.ensures beside
 
 pub touch-requires : goal.touch-requires
 touch-requires g c = subst (λ n. n + 1 < 2 ^ 64) (sym (ap (λ (n : Numbers). n.task) c.select_for-run.ensures.numbers)) c.requires.may.touches
@@ -50,7 +50,7 @@ returns g c =
     record {
       pick = λ beside.
           let room = room_of (at now beside) (c.args.core.now, c.args.table.now) in
-          let core = c.cookie_of-cookie.ensures ∙ ap cookie_of (c.lead_from.ensures (at now beside)) in
+          let core = c.lead_cookie-cookie.ensures (at now beside) in
           let run = c.unwrap_or.ensures
           ∙ ap (λ pid. unwrap_or pid 0) (c.select_for-run.ensures.run (at now beside) ∙ ap (λ n. pid_of (choice room n cpu)) core) in
           let forced = c.count.ensures.count
@@ -60,7 +60,7 @@ returns g c =
           λ i. let pick : Pick = record { kind = Selected; run = run i; core = core i; forced = forced i } in pick;
       room = λ beside.
           let room = room_of (at now beside) (c.args.core.now, c.args.table.now) in
-          let core = c.cookie_of-cookie.ensures ∙ ap cookie_of (c.lead_from.ensures (at now beside)) in
+          let core = c.lead_cookie-cookie.ensures (at now beside) in
           let same = map-set_same lane_state lanes cpu numbered lane (ap lane_state is) in
           (λ i. record (room_of (at now beside) (touched_core, c.select_for-run.new.table)) { siblings = same i })
           ∙ touch.room (at now beside)

@@ -12,6 +12,12 @@ use Rattle.core_lanes.proofs.Replaced.{is_of, own_stamp, stamped-replaced, All-r
 use Rattle.core_lanes.proofs.Stays.{found_in, as_many_bare}
 use Rattle.core_lanes.proofs.lanes.Core.replace.Goals as goal
 
+pub replace_alike-requires-clause-there : goal.replace_alike-requires-clause-there
+replace_alike-requires-clause-there g c = sym c.task_of.ensures.task ∙ c.unwrap-old.ensures
+
+pub replace_alike-requires-clause-alike : goal.replace_alike-requires-clause-alike
+replace_alike-requires-clause-alike g c = sym c.is_alike.ensures ∙ c.if-is_alike.true
+
 pub take-requires-clause-home : goal.take-requires-clause-home
 take-requires-clause-home g c =
     let tasks = c.args.table.now.tasks in
