@@ -19,6 +19,7 @@ use std::sync::ledger::Ledger;
 use task_table::TaskTable;
 
 /// The living task with the pid.
+#[inline(always)]
 pub fn task_of(table: &TaskTable, pid: Pid) -> Option<Task>
     ensures task { result ≡ find (has_pid pid) table.now.tasks }
     ensures there { IfSome result (IsOf table.now.tasks) }
@@ -92,6 +93,7 @@ impl<Q: SiblingQueue> Core<Q> {
     }
 
     /// The first task queued on a sibling, none for idle (`pick_task`).
+    #[inline(always)]
     pub fn first_on<L: Ledger>(
         &self,
         table: &TaskTable,

@@ -54,6 +54,7 @@ fn rank_of(task: &Task) -> u128
 }
 
 /// What is kept of this first task, whose home is one of these siblings.
+#[inline(always)]
 pub fn kept_of<Q: Drop>(first: Option<Task>, lanes: &[Lane<Q>]) -> First
     requires first { IsFirst first }
     requires home { IfSome first (λ task. task.home < length lanes.now) }

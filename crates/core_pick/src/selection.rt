@@ -46,6 +46,7 @@ fn is_kept(first: &First, cookie: Cookie) -> bool
 }
 
 /// What a sibling with this first task gets for a core cookie.
+#[inline(always)]
 fn choice_at<Q: SiblingQueue, L: Ledger>(
     core: &Core<Q>,
     table: &TaskTable,
@@ -99,6 +100,7 @@ pub fn choices<Q: SiblingQueue, L: Ledger>(
 }
 
 /// The first task of a sibling, where this is that of the sibling of its own.
+#[inline(always)]
 fn first_beside<Q: SiblingQueue, L: Ledger>(
     core: &Core<Q>,
     table: &TaskTable,

@@ -46,10 +46,12 @@ impl SiblingQueue for TreeQueue {
         self.kinds[kind_of(task)] -= 1;
     }
 
+    #[inline(always)]
     fn first<L: Ledger>(&self, table: &TaskTable, _cpu: Cpu, steps: &mut Steps<L>) -> Option<Task> {
         task_of(table, self.run.first(steps)?)
     }
 
+    #[inline(always)]
     fn first_with<L: Ledger>(
         &self,
         cookie: Cookie,

@@ -78,6 +78,7 @@ impl TaskTable {
     }
 
     /// The position of the task with the pid, or the position where it would go.
+    #[inline(always)]
     fn position_of(&self, pid: Pid) -> Result<usize, usize>
         ensures position { MatchResult result (λ position. IsAt pid position self.now.tasks) (λ position. IsGap pid position self.now.tasks) }
         ensures sound { IsSound self.now }
@@ -89,6 +90,7 @@ impl TaskTable {
     }
 
     /// The position of the task with the pid, where it is the one that was noted.
+    #[inline(always)]
     fn noted(&self, pid: Pid) -> Option<usize>
         ensures { IfSome result (λ position. IsAt pid position self.now.tasks) }
     {
@@ -142,6 +144,7 @@ impl TaskTable {
     }
 
     /// The task with the pid. `None` exactly where there is none.
+    #[inline(always)]
     pub fn find(&self, pid: Pid) -> Option<&Task>
         ensures task { option_copied result ≡ find (has_pid pid) self.now.tasks }
         ensures sound { IsSound self.now }
@@ -154,6 +157,7 @@ impl TaskTable {
 
     /// The task at a position, counted from 0 by rising pid. `None` exactly where the position is not below
     /// the number of tasks.
+    #[inline(always)]
     pub fn at(&self, position: usize) -> Option<&Task>
         ensures task { option_copied result ≡ slice_get self.now.tasks position }
         ensures sound { IsSound self.now }
@@ -190,6 +194,7 @@ impl TaskTable {
 
     /// Puts the task in the position of the one with its pid, which it gives back. It has that one's total. `None` exactly where
     /// there is none, and then nothing changes.
+    #[inline(always)]
     pub fn change(&mut self, task: Task) -> Option<Task>
         ensures old { result ≡ find (has_pid task.spec.pid) self.old.tasks }
         ensures changed { self.new ≡ record self.old { tasks = map (λ other. if has_pid task.spec.pid other then task else other) self.old.tasks } }
