@@ -242,17 +242,21 @@ fn expect_orders<R: AllocGlobal + Abort, M: Room>(rt: &R, room: &M) {
     let mut sink = sink_of(rt, 4096, Vec::new(rt.alloc()));
     output(room, &mut sink).expect(rt, "a sink that takes all");
     let text = str::from_utf8(sink.bytes()).expect(rt, "a text");
-    let wakes = text.lines().filter(|line| line.starts_with("c0"));
-    assert!(rt;
-        wakes.eq([
-            "c0 wake 1: Woken 0",
-            "c0 wake 2: Woken 0",
-            "c0 wake 3: Woken 0"
-        ])
-    );
-    let turns = text.lines().filter(|line| line.starts_with("s0"));
-    let words = turns.map(|line| line.split(':').next().unwrap_or(""));
-    assert!(rt; words.eq(["s0 turn", "s0 turn", "s0 block"]));
+    let mut wakes = text.lines().filter(|line| line.starts_with("c0"));
+    for wake in [
+        "c0 wake 1: Woken 0",
+        "c0 wake 2: Woken 0",
+        "c0 wake 3: Woken 0",
+    ] {
+        assert!(rt; wakes.next() == Some(wake));
+    }
+    assert!(rt; wakes.next().is_none());
+    let mut turns = text.lines().filter(|line| line.starts_with("s0"));
+    for words in ["s0 turn: ", "s0 turn: ", "s0 block: "] {
+        let line = turns.next().unwrap_or("");
+        assert!(rt; line.starts_with(words));
+    }
+    assert!(rt; turns.next().is_none());
 }
 
 /// Expects that two threads make the steps of a pass each.
