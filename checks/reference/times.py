@@ -1,0 +1,114 @@
+#!/usr/bin/env python3
+"""Compares `coresched_view summary` of the built program with what the rules as reference.py has them come to: how each run
+ends, and every time of it. A room of the reference is played, and before each advance it is looked at what each sibling
+does. Half of the texts are mutated, so that faulty ones are among them. And it is tried which words are refused.
+
+Usage: times.py                            prints the summary of the scenario on standard input
+       times.py --program PATH --count N --seed S    compares N random scenarios and as many mutated texts
+"""
+import argparse
+import os
+import random
+import subprocess
+import sys
+import time
+
+sys.path.insert(0, os.path.dirname(os.path.abspath(__file__)))
+import fuzz
+import reference
+
+WORDS = [[], [''], ['summary', ''], ['', 'summary'], ['summary', 'summary'], ['--help'], ['-h'], ['help'], ['help', 'summary'], ['--version'], ['-V'],
+         ['-'], ['--'], ['--', 'summary'], ['summary', '--'], ['summary', '--help'], ['summary', 'help'], ['Summary'], ['summar'], ['summarys'], ['s'],
+         ['summary\n'], ['summ\u00e1ry'], ['replay'], ['coresched_view'], ['coresched_view', 'summary']]
+
+
+def doing(room, sibling):
+    """What a sibling does, in the word of its time."""
+    if not sibling.online:
+        return 'offline'
+    if sibling.run is not None:
+        return 'ran'
+    if not room.queued(sibling.i):
+        return 'idle'
+    return 'cookie' if room.core else 'none'
+
+
+def summary(scenario):
+    """The text of the times of a scenario's replay."""
+    room = reference.Room(scenario, check=False)
+    siblings = [dict.fromkeys(['ran', 'idle', 'offline', 'cookie', 'none', 'pending'], 0) for _ in room.sib]
+    exposed = lasting = longest = pending = total = 0
+    for _, event, text in scenario.steps:
+        if event[0] == 'advance':
+            delta = event[1]
+            total += delta
+            for sibling, times in zip(room.sib, siblings):
+                times[doing(room, sibling)] += delta
+                times['pending'] += delta * (sibling.online and sibling.pending)
+            pending += delta * any(sibling.online and sibling.pending for sibling in room.sib)
+            is_exposed = len({sibling.run.cookie for sibling in room.sib if sibling.run is not None}) > 1
+            exposed += delta * is_exposed
+            lasting = lasting + delta if is_exposed else 0
+            longest = max(longest, lasting)
+        room.apply(event, text)
+    lines = []
+    for cpu, times in enumerate(siblings):
+        assert sum(times.values()) - times['pending'] == total, 'what a sibling did adds up to all time'
+        lines.append('cpu %d ran %d idle %d offline %d pending %d' % (cpu, *(times[of] for of in ('ran', 'idle', 'offline', 'pending'))))
+        lines.append('forced %d cookie %d none %d' % (cpu, times['cookie'], times['none']))
+    assert exposed <= pending, 'tasks with distinct cookies run side by side only where a reschedule is pending'
+    lines += ['exposed %d longest %d' % (exposed, longest), 'pending %d' % pending, 'total %d' % total]
+    return ''.join(line + '\n' for line in lines).encode()
+
+
+def summarized(data):
+    """(status, standard output, standard error) of `coresched_view summary`. A faulty text ends as in a replay."""
+    status, _, error = reference.replay(data, check=False)
+    if status:
+        return status, b'', error.replace(b'coresched:', b'coresched_view:', 1)
+    return 0, summary(reference.read(data)), b''
+
+
+def ran(program, data):
+    run = subprocess.run([program, 'summary'], input=data, capture_output=True, timeout=120)
+    return run.returncode, run.stdout, run.stderr
+
+
+def refused(program, words):
+    run = subprocess.run([program, *words], stdin=subprocess.DEVNULL, capture_output=True, timeout=60)
+    return (run.returncode, run.stdout, run.stderr) == (1, b'', b'coresched_view: bad words\n')
+
+
+def main():
+    p = argparse.ArgumentParser()
+    p.add_argument('--program', help='the built program')
+    p.add_argument('--count', type=int, default=1000)
+    p.add_argument('--seed', type=int, default=1)
+    a = p.parse_args()
+    if not a.program:
+        status, out, error = summarized(sys.stdin.buffer.read(reference.MAX_INPUT + 1))
+        sys.stdout.buffer.write(out)
+        sys.stdout.buffer.flush()
+        sys.stderr.buffer.write(error)
+        return status
+    began, wrong, played, exposed = time.time(), 0, 0, 0
+    for k in range(a.count):
+        rng = random.Random('times %d/%d' % (a.seed, k))
+        data = fuzz.scenario(rng)
+        for kind, text in (('', data), ('-mutated', fuzz.mutate(rng, data))):
+            want, got = summarized(text), ran(a.program, text)
+            played += want[0] == 0
+            exposed += b'exposed' in want[1] and b'exposed 0 ' not in want[1]
+            if got != want:
+                wrong += 1
+                base = fuzz.kept('times-seed%d-%d%s' % (a.seed, k, kind))
+                fuzz.write(base + '.scenario', text)
+                print('WRONG: %s.scenario\n  want %r\n  got  %r' % (base, want, got))
+    taken = [words for words in WORDS if not refused(a.program, words)]
+    print('times, seed %d: %d texts, %d played, %d of them exposed, %d wrong; lists of words: %d, %d wrong%s; %.0f s' % (
+        a.seed, 2 * a.count, played, exposed, wrong, len(WORDS), len(taken), ''.join(' %r' % words for words in taken), time.time() - began))
+    return 1 if wrong or taken else 0
+
+
+if __name__ == '__main__':
+    sys.exit(main())

@@ -1,0 +1,7 @@
+//! What is told of the times of a run. It knows no machine, only the times.
+#![tactic(auto)]
+
+mod lines;
+mod texts;
+
+pub use texts::summary;

@@ -1,0 +1,69 @@
+//! The lines of the summary. Each is put together without a sink, so that a sink gets it whole.
+
+ghost use Rattle.std.specs.Prelude.{◌≡◌};
+ghost use Rattle.scenario_text.specs.Text.{line};
+ghost use Rattle.times_report.specs.Summary.{cpu_words, forced_words, exposed_words, pending_words, total_words};
+
+use run_times::{RunTimes, SiblingTimes};
+use scenario_text::Line;
+
+pub(crate) fn cpu_line(cpu: usize, times: &SiblingTimes) -> Line
+    ensures { result ≡ line (cpu_words cpu times.now) }
+{
+    let mut line = Line::new();
+    line.text("cpu ");
+    line.number(cpu);
+    line.text(" ran ");
+    line.number(times.ran);
+    line.text(" idle ");
+    line.number(times.idled);
+    line.text(" offline ");
+    line.number(times.offline);
+    line.text(" pending ");
+    line.number(times.pending);
+    line.text("\n");
+    line
+}
+
+pub(crate) fn forced_line(cpu: usize, times: &SiblingTimes) -> Line
+    ensures { result ≡ line (forced_words cpu times.now) }
+{
+    let mut line = Line::new();
+    line.text("forced ");
+    line.number(cpu);
+    line.text(" cookie ");
+    line.number(times.forced_by_cookie);
+    line.text(" none ");
+    line.number(times.forced_by_none);
+    line.text("\n");
+    line
+}
+
+pub(crate) fn exposed_line(times: &RunTimes) -> Line
+    ensures { result ≡ line (exposed_words times.now) }
+{
+    let mut line = Line::new();
+    line.named("exposed", times.exposed());
+    line.text(" ");
+    line.named("longest", times.longest_exposed());
+    line.text("\n");
+    line
+}
+
+pub(crate) fn pending_line(times: &RunTimes) -> Line
+    ensures { result ≡ line (pending_words times.now) }
+{
+    let mut line = Line::new();
+    line.named("pending", times.pending());
+    line.text("\n");
+    line
+}
+
+pub(crate) fn total_line(times: &RunTimes) -> Line
+    ensures { result ≡ line (total_words times.now) }
+{
+    let mut line = Line::new();
+    line.named("total", times.total());
+    line.text("\n");
+    line
+}

@@ -1,0 +1,45 @@
+-- Ends: how the command `summary` ends with its own words. When each status comes, what was read for it, and what was
+-- written.
+use Rattle.std.specs.Prelude.{◌≡◌, ◌≢◌, ℕ, ◌≤◌, List, None, IfSome}
+use Rattle.cs_types.specs.declared.scenario.Scenario.{Scenario}
+use Rattle.cs_types.specs.History.{History, file}
+use Rattle.cs_types.specs.Drain.{IsDrained}
+use Rattle.cs_outside.specs.Device.{appended, WritesPrefix}
+use Rattle.run_times.specs.Sums.{Times, times_of}
+use Rattle.times_report.specs.Summary.{summary_text}
+use Rattle.scenario_input.specs.declared.status.Status.{Status}
+use Rattle.scenario_input.specs.declared.status.Status.TheVariants.{Done, BadWords, WriteFault}
+use Rattle.scenario_input.specs.Input.{Reads, input_limit, count_read}
+use Rattle.scenario_input.specs.Teaching.{first_bad}
+use Rattle.scenario_runner.specs.Outcomes.{opened_with}
+use Rattle.scenario_runner.specs.Ends.{Used, Failed, IsFaultless, EndsAsReplay}
+
+-- The input was read as a scenario, and these are the times of a replay of it, with guards that can be taught so many pairs
+-- each.
+pub record IsTimed {S : Type 0} (caps : List ℕ) (source : Used S) (times : Times) : Type 0 where
+  -- what was read is the text of a scenario, no longer than an input may be, and each of its teach lines can be carried out
+  pub scenario : Scenario
+  pub reads : Reads scenario (source.bytes source.before) (source.bytes source.after)
+  pub fits : IfSome (source.bytes source.before) (λ _.
+      count_read (source.bytes source.before) (source.bytes source.after) ≤ input_limit)
+  pub taught : first_bad caps scenario.teaches ≡ None
+  pub faultless : IsFaultless source
+  -- the history is the file's steps in order, and then the entries of the end. No other is.
+  pub run : History
+  pub drained : IsDrained (opened_with caps scenario) (file (opened_with caps scenario)) run
+  pub alone : (other : History) → IsDrained (opened_with caps scenario) (file (opened_with caps scenario)) other → other ≡ run
+  -- the times are those of that history
+  pub of_run : times ≡ times_of (opened_with caps scenario) run
+
+-- How the command `summary` ends. Out of memory alone is free.
+pub record EndsAsSummary {S K : Type 0} (caps : List ℕ) (source : Used S) (sink : Used K) (status : Status) : Type 0 where
+  -- where it is done, what was written is the summary of the times of a replay of the input
+  pub done : status ≡ Done → IsFaultless sink × ((times : Times) × IsTimed caps source times ×
+      (sink.bytes sink.after ≡ appended (sink.bytes sink.before) (summary_text times)))
+  -- it ends in a write fault only where the sink failed, and then a prefix of that was written
+  pub write_fault : status ≡ WriteFault → Failed sink × ((times : Times) × IsTimed caps source times ×
+      WritesPrefix (sink.bytes sink.before) (summary_text times) (sink.bytes sink.after))
+  -- its own word is never bad
+  pub good_words : status ≢ BadWords
+  -- else nothing is written, and it ends as a replay of the same input ends
+  pub stopped : status ≢ Done → status ≢ WriteFault → EndsAsReplay caps source sink status

@@ -1,0 +1,48 @@
+//! The command, by its words.
+
+ghost use Rattle.std.specs.Prelude.{◌≡◌, ◌↔◌, ◌-◌, ◌^◌, ◌<◌, ◌≤◌, [], map, All, vec_len};
+ghost use Rattle.view_words.specs.Asks.{AsksSummary};
+ghost use Rattle.view_runner.specs.Ends.{EndsAsSummary};
+
+use crate::played::summarized;
+use core_state::TreeQueue;
+use cs_outside::{Guard, Sink, Source};
+use scenario_input::Status;
+use std::alloc::Global;
+use view_words::asks_summary;
+
+/// Reads a scenario to its end, makes its steps in the order of their lines and then the entries of the end, as
+/// `coresched replay` does, and writes the summary of its times, each line in one piece. It waits for nobody and always
+/// returns.
+///
+/// The word is `summary`; other words are refused. Both counts of faults have to be below 2^64 - 1. At most 16 guards are
+/// handed in, which refuse nobody yet and were never asked. The scenario teaches them before it is played, and they are
+/// dropped at the end.
+pub fn run<S: Source, K: Sink, G: Guard>(
+    alloc: Global,
+    words: &[String],
+    source: &mut S,
+    sink: &mut K,
+    guards: Vec<G>,
+) -> Status
+    requires source { S.faults source.old < 2 ^ 64 - 1 }
+    requires sink { K.faults sink.old < 2 ^ 64 - 1 }
+    requires few { vec_len guards ≤ 16 }
+    requires untaught { All (λ guard. G.pairs guard ≡ []) guards.items }
+    requires unasked { All (λ guard. G.asked guard ≡ 0) guards.items }
+
+    // When each status comes, what was read for it, and what was written.
+    ensures ends { AsksSummary words.now → EndsAsSummary (map G.cap guards.items)
+        (record { bytes = S.left; faults = S.faults; before = source.old; after = source.new })
+        (record { bytes = K.written; faults = K.faults; before = sink.old; after = sink.new }) result }
+
+    // Other words are refused, and no other. Nothing is read for them and nothing written.
+    ensures bad_words { (result ≡ Status.BadWords) ↔ ¬ AsksSummary words.now }
+    ensures unread { result ≡ Status.BadWords → source.new ≡ source.old }
+    ensures unwritten { result ≡ Status.BadWords → sink.new ≡ sink.old }
+{
+    if !asks_summary(alloc, words) {
+        return Status::BadWords;
+    }
+    summarized::<TreeQueue, S, K, G>(alloc, source, sink, guards)
+}

@@ -1,0 +1,8 @@
+//! The command of `coresched_view`: from the words and the bytes that come in to the bytes that go out.
+#![tactic(auto)]
+
+mod command;
+mod played;
+
+pub use command::run;
+pub use scenario_input::{GuardKind, Status};
