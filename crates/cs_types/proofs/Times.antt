@@ -637,27 +637,52 @@ clock-take_offline room cpu =
 clock-bring_online : (room : RoomState) (cpu : ℕ) → (bring_online room cpu).room.clock ≡ room.clock
 clock-bring_online room cpu = cond_both (is_online room cpu) _ _ (λ (made : Stepped). made.room.clock ≡ room.clock) (λ _. refl) (λ _. refl)
 
-clock_by : (old new : ℕ) → new ≡ old → new ≤ old + 1000000000
+-- how far the clock goes on with an event, in ns
+abbrev pub lapse : Event → ℕ
+lapse (Advance delta) = delta
+lapse event = 0
+
+clock_by : (old new : ℕ) → new ≡ old → new ≡ old + 0
 clock_by old new same = omega (arith, same)
 
--- At a step the clock goes on by one second at most.
+-- At a step the clock goes on by the length of an advance, and else stands.
+pub clock-step_by : (room : RoomState) (fresh : Bool) (event : Event) → (step room fresh event).room.clock ≡ room.clock + lapse event
+clock-step_by room fresh (Turn cpu) = clock_by _ _ (clock-unless_offline room cpu _ (clock-turn room fresh cpu))
+clock-step_by room fresh (Resched cpu) = clock_by _ _ (clock-unless_offline room cpu _ (clock-schedule room fresh cpu))
+clock-step_by room fresh (Block cpu) = clock_by _ _ (clock-unless_offline room cpu _ (clock-block room cpu (running_on room cpu)))
+clock-step_by room fresh (Exit cpu) = clock_by _ _ (clock-unless_offline room cpu _ (clock-exit room cpu (running_on room cpu)))
+clock-step_by room fresh (Tick cpu) = clock_by _ _ (clock-unless_offline room cpu _ (clock-tick room cpu (running_on room cpu)))
+clock-step_by room fresh (Wake pid) = clock_by _ _ (clock-wake room (task_of room pid))
+clock-step_by room fresh (Advance delta) = clock-advanced room delta
+clock-step_by room fresh (Fork caller thread) = clock_by _ _ (clock-fork room thread (task_of room caller))
+clock-step_by room fresh (Prctl caller ask) =
+    clock_by _ _ (clock-with_answer (with_used room (makes_cookie room caller ask) (asked_by_call room caller ask)) (setting_of room caller ask) (prctl_answer room caller ask))
+clock-step_by room fresh (SetSched pid policy) = clock_by _ _ (clock-set_policy room policy (task_of room pid))
+clock-step_by room fresh (Offline cpu) = clock_by _ _ (clock-take_offline room cpu)
+clock-step_by room fresh (Online cpu) = clock_by _ _ (clock-bring_online room cpu)
+clock-step_by room fresh (Load index) = clock_by _ _ refl
+clock-step_by room fresh (Unload index) = clock_by _ _ refl
+
+lapse-le : (event : Event) (siblings : ℕ) → IsEvent siblings event → lapse event ≤ 1000000000
+lapse-le (Turn cpu) siblings is = omega arith
+lapse-le (Resched cpu) siblings is = omega arith
+lapse-le (Block cpu) siblings is = omega arith
+lapse-le (Exit cpu) siblings is = omega arith
+lapse-le (Tick cpu) siblings is = omega arith
+lapse-le (Wake pid) siblings is = omega arith
+lapse-le (Advance delta) siblings is = is.1
+lapse-le (Fork caller thread) siblings is = omega arith
+lapse-le (Prctl caller ask) siblings is = omega arith
+lapse-le (SetSched pid policy) siblings is = omega arith
+lapse-le (Offline cpu) siblings is = omega arith
+lapse-le (Online cpu) siblings is = omega arith
+lapse-le (Load index) siblings is = omega arith
+lapse-le (Unload index) siblings is = omega arith
+
+-- So it goes on by one second at most.
 pub clock-step : (room : RoomState) (fresh : Bool) (event : Event) (siblings : ℕ) → IsEvent siblings event →
     (step room fresh event).room.clock ≤ room.clock + 1000000000
-clock-step room fresh (Turn cpu) siblings is = clock_by _ _ (clock-unless_offline room cpu _ (clock-turn room fresh cpu))
-clock-step room fresh (Resched cpu) siblings is = clock_by _ _ (clock-unless_offline room cpu _ (clock-schedule room fresh cpu))
-clock-step room fresh (Block cpu) siblings is = clock_by _ _ (clock-unless_offline room cpu _ (clock-block room cpu (running_on room cpu)))
-clock-step room fresh (Exit cpu) siblings is = clock_by _ _ (clock-unless_offline room cpu _ (clock-exit room cpu (running_on room cpu)))
-clock-step room fresh (Tick cpu) siblings is = clock_by _ _ (clock-unless_offline room cpu _ (clock-tick room cpu (running_on room cpu)))
-clock-step room fresh (Wake pid) siblings is = clock_by _ _ (clock-wake room (task_of room pid))
-clock-step room fresh (Advance delta) siblings is = omega (arith, clock-advanced room delta, is.1)
-clock-step room fresh (Fork caller thread) siblings is = clock_by _ _ (clock-fork room thread (task_of room caller))
-clock-step room fresh (Prctl caller ask) siblings is =
-    clock_by _ _ (clock-with_answer (with_used room (makes_cookie room caller ask) (asked_by_call room caller ask)) (setting_of room caller ask) (prctl_answer room caller ask))
-clock-step room fresh (SetSched pid policy) siblings is = clock_by _ _ (clock-set_policy room policy (task_of room pid))
-clock-step room fresh (Offline cpu) siblings is = clock_by _ _ (clock-take_offline room cpu)
-clock-step room fresh (Online cpu) siblings is = clock_by _ _ (clock-bring_online room cpu)
-clock-step room fresh (Load index) siblings is = clock_by _ _ refl
-clock-step room fresh (Unload index) siblings is = clock_by _ _ refl
+clock-step room fresh event siblings is = omega (arith, clock-step_by room fresh event, lapse-le event siblings is)
 
 -- an advance raises what is most by as much as the clock shows then
 advanced_is_timely : (entries : ℕ) (room : RoomState) (delta : ℕ) → Timely (entries * (69 * room.clock)) room → IsTimely (entries + 1) (advanced room delta)
