@@ -1,6 +1,6 @@
 -- Lists: what filters, searches and scans of a list say of the list that it stands for.
 use Rattle.std.proofs.Common.{◌≡◌, ltb, ℕ, zero, suc, ◌+◌, ◌<◌, Bool, true, false, cond, List, [], ◌∷◌, ◌++◌, map, refl, sym, ap, ◌∙◌, length, take, drop, set, get_or, arith, add-one, Some, ◌≤◌, length-append, length-drop, length-take}
-use Rattle.std.specs.Prelude.{filter, find, count_by, ◌&&◌, ◌||◌, All, IfSome, Contains}
+use Rattle.std.specs.Prelude.{filter, find, count_by, is_some, ◌&&◌, ◌||◌, All, IfSome, Contains}
 use Rattle.std.specs.List.{enumerate_from, range_with_len, list_any}
 use Rattle.std.specs.Cmp.{IsStrictWeakOrder}
 use Rattle.std.proofs.lemmas.Bool.Decides.{nat_tests}
@@ -10,6 +10,9 @@ use Rattle.std.proofs.lemmas.List.{length-map, with_items_is, get_or_default}
 use Rattle.std.proofs.lemmas.List.Sums.{length-filter}
 use Rattle.std.proofs.lemmas.List.Elements.{All-head, All-tail}
 use Rattle.std.proofs.lemmas.List.Edits.{map_over_more}
+use Rattle.cs_types.specs.declared.task.Task.{Task}
+use Rattle.cs_types.specs.Order.{first_of}
+use Rattle.cs_types.proofs.First.{first_of_reduce}
 
 -- ---- lists that stand for others
 
@@ -200,3 +203,11 @@ chain m n k h l = grind (arith, nat_tests)
 
 pub less_is_order : IsStrictWeakOrder ltb
 less_is_order = record { one_way = one_way; chain = chain }
+
+-- there is a first task exactly where there is one
+some_more : (count : ℕ) → true ≡ ltb 0 (suc count)
+some_more count = grind (arith, nat_tests)
+
+pub is_some-first_of : (tasks : List Task) → is_some (first_of tasks) ≡ ltb 0 (length tasks)
+is_some-first_of [] = refl
+is_some-first_of (task ∷ tasks) = ap is_some (first_of_reduce (task ∷ tasks)) ∙ some_more (length tasks)

@@ -7,7 +7,7 @@ use Rattle.cs_types.specs.Room.{SiblingState, idle, RoomState, Interval, has_pid
 use Rattle.cs_types.specs.Guards.{GuardList}
 use Rattle.forceidle_account.specs.Account.{Account}
 use Rattle.task_table.specs.Table.{Table, IsSound as IsTable}
-use Rattle.core_lanes.specs.Queued.{queued_at, others, AreStamped, HasOwnStamp}
+use Rattle.core_lanes.specs.Queued.{queued_among, queued_at, others, AreStamped, HasOwnStamp}
 use Rattle.core_lanes.specs.declared.queue.SiblingQueue.{Ghosts}
 use Rattle.core_lanes.specs.declared.lane.Lane.{Lane}
 use Rattle.core_lanes.specs.declared.lanes.Core.{Core}
@@ -173,6 +173,12 @@ pub record KnowsApart {Q : Type 0} {g : Ghosts Q} (both : Core Q g × Table) (ta
 pub record Knows {Q : Type 0} {g : Ghosts Q} (both : Core Q g × Table) (task : Task) : Type 0 where
   pub known : KnowsApart both task
   pub stamp : IsTrue task.queued → MayStamp both.0.next_stamp both.1.tasks task
+
+-- ---- how long the queues are
+
+-- on no sibling are more tasks queued than so many
+abbrev pub AreNoLonger : {Q : Type 0} {g : Ghosts Q} → ℕ → Core Q g × Table → Type 0
+AreNoLonger longest both = (cpu : ℕ) → cpu < length both.0.lanes.items → length (queued_among both.1.tasks cpu) ≤ longest
 
 -- ---- the times
 

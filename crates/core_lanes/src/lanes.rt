@@ -1,13 +1,13 @@
 //! The core.
 
-ghost use Rattle.std.specs.Prelude.{◌≡◌, ℕ, [], ◌+◌, ◌^◌, ◌<◌, ◌≤◌, length, map, find, All, Some, IfOk, IfSome, slice_get, IsTrue, if◌then◌else◌};
+ghost use Rattle.std.specs.Prelude.{◌≡◌, ℕ, [], ◌+◌, ◌^◌, ◌<◌, ◌≤◌, length, map, find, is_some, All, Some, IfOk, IfSome, slice_get, IsTrue, if◌then◌else◌};
 ghost use Rattle.cs_types.specs.Room.{has_pid, is_online, running_on, with_task, flag};
 ghost use Rattle.cs_types.specs.Selection.{first_on};
 ghost use Rattle.cs_types.specs.Step.{run_idle};
 ghost use Rattle.cs_types.specs.Steal.{set_place};
 ghost use Rattle.cs_types.specs.Queueing.{enqueue, dequeue, moved_to};
 ghost use Rattle.task_table.specs.Table.{Table, IsSound as IsTable};
-ghost use Rattle.core_lanes.specs.Queued.{IsOf, is_alike};
+ghost use Rattle.core_lanes.specs.Queued.{IsOf, is_alike, queued_among};
 
 use crate::lane::Lane;
 use crate::order::is_alike;
@@ -101,9 +101,18 @@ impl<Q: SiblingQueue> Core<Q> {
         steps: &mut Steps<L>,
     ) -> Option<Task>
         requires { AgreesAt cpu (self.now, table.now) }
-        ensures { (beside : Beside) → result ≡ first_on (room_of beside (self.now, table.now)) cpu }
+        ensures first { (beside : Beside) → result ≡ first_on (room_of beside (self.now, table.now)) cpu }
+        ensures counted { steps.new ≤ steps.old + Q.most_compared (length (queued_among table.now.tasks cpu)) }
     {
         self.lanes[cpu as usize].queue.first(table, cpu, steps)
+    }
+
+    /// Whether a task is queued on a sibling. It compares nothing.
+    pub fn has_queued(&self, table: &TaskTable, cpu: Cpu) -> bool
+        requires { AgreesAt cpu (self.now, table.now) }
+        ensures { (beside : Beside) → result ≡ is_some (first_on (room_of beside (self.now, table.now)) cpu) }
+    {
+        self.lanes[cpu as usize].queue.count(table, cpu) > 0
     }
 
     /// Whether there was a selection for the core, and nothing was touched since the last one.

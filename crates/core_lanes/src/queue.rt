@@ -1,6 +1,6 @@
 //! What a sibling's queue is asked. It is a trait, so that one text of the events serves every kind of queue.
 
-ghost use Rattle.std.specs.Prelude.{◌≡◌, ◌≢◌, ◌==◌, ◌&&◌, ℕ, List, [], length, IfOk, IsTrue};
+ghost use Rattle.std.specs.Prelude.{◌≡◌, ◌≢◌, ◌==◌, ◌&&◌, ℕ, ◌+◌, ◌≤◌, List, [], length, IfOk, IsTrue};
 ghost use Rattle.cs_types.specs.declared.queue.Queued.{Queued};
 ghost use Rattle.cs_types.specs.Order.{first_of};
 ghost use Rattle.cs_types.specs.Scenario.{IsPolicy};
@@ -17,11 +17,14 @@ pub const MOST_TASKS: usize = 256;
 
 /// The queued tasks of one sibling (`struct rq`). The tasks themselves stand in a table, which each call is
 /// handed: what the queue is asked is answered of the tasks that the table has queued on the sibling, and the
-/// queue has to hold these. A call that looks for a task is handed a counter for its comparisons, of which
-/// nothing is promised yet.
+/// queue has to hold these. A call that looks for a task is handed a counter for its comparisons, and makes at
+/// most so many as the queue says of its number of tasks.
 pub trait SiblingQueue: Drop {
     /// That it holds these tasks, and can take this number in all.
     ghost holds: { Self → ℕ → List Queued → Type 0 };
+
+    /// The most comparisons of one call where so many tasks are queued.
+    ghost most_compared: { ℕ → ℕ };
 
     /// A queue with no task, which can take `most`, a count. This call alone takes memory.
     fn with_capacity(alloc: Global, most: u16) -> Result<Self, OutOfMemory>
@@ -35,7 +38,8 @@ pub trait SiblingQueue: Drop {
         requires home { task.now.home ≡ cpu }
         requires stamp { HasOwnStamp table.now.tasks task.now }
         requires holds { holds self.old table.now.limit (others task.now.spec.pid (queued_at table.now.tasks cpu)) }
-        ensures { holds self.new table.now.limit (queued_at table.now.tasks cpu) };
+        ensures holds { holds self.new table.now.limit (queued_at table.now.tasks cpu) }
+        ensures counted { steps.new ≤ steps.old + most_compared (length (queued_among table.now.tasks cpu)) };
 
     /// The task, which the table has queued on the sibling, leaves.
     fn take<L: Ledger>(&mut self, table: &TaskTable, cpu: Cpu, task: &Task, steps: &mut Steps<L>)
@@ -44,13 +48,15 @@ pub trait SiblingQueue: Drop {
         requires queued { IsTrue task.now.queued }
         requires home { task.now.home ≡ cpu }
         requires holds { holds self.old table.now.limit (queued_at table.now.tasks cpu) }
-        ensures { holds self.new table.now.limit (others task.now.spec.pid (queued_at table.now.tasks cpu)) };
+        ensures holds { holds self.new table.now.limit (others task.now.spec.pid (queued_at table.now.tasks cpu)) }
+        ensures counted { steps.new ≤ steps.old + most_compared (length (queued_among table.now.tasks cpu)) };
 
     /// The first task, `None` where there is none (`pick_task`).
     fn first<L: Ledger>(&self, table: &TaskTable, cpu: Cpu, steps: &mut Steps<L>) -> Option<Task>
         requires policies { HavePolicies table.now.tasks }
         requires holds { holds self.now table.now.limit (queued_at table.now.tasks cpu) }
-        ensures { result ≡ first_of (queued_among table.now.tasks cpu) };
+        ensures first { result ≡ first_of (queued_among table.now.tasks cpu) }
+        ensures counted { steps.new ≤ steps.old + most_compared (length (queued_among table.now.tasks cpu)) };
 
     /// The first task with the cookie, which is not 0 (`sched_core_find`).
     fn first_with<L: Ledger>(
@@ -63,7 +69,8 @@ pub trait SiblingQueue: Drop {
         requires cookie { cookie ≢ 0 }
         requires policies { HavePolicies table.now.tasks }
         requires holds { holds self.now table.now.limit (queued_at table.now.tasks cpu) }
-        ensures { result ≡ first_of (with_cookie cookie (queued_among table.now.tasks cpu)) };
+        ensures first { result ≡ first_of (with_cookie cookie (queued_among table.now.tasks cpu)) }
+        ensures counted { steps.new ≤ steps.old + most_compared (length (queued_among table.now.tasks cpu)) };
 
     /// The first task with the cookie of this one, which is not 0, that stands behind it (`sched_core_next`).
     fn next_with<L: Ledger>(
@@ -77,7 +84,8 @@ pub trait SiblingQueue: Drop {
         requires policy { IsPolicy task.now.spec.policy }
         requires policies { HavePolicies table.now.tasks }
         requires holds { holds self.now table.now.limit (queued_at table.now.tasks cpu) }
-        ensures { result ≡ first_of (behind task.now (with_cookie task.now.cookie (queued_among table.now.tasks cpu))) };
+        ensures next { result ≡ first_of (behind task.now (with_cookie task.now.cookie (queued_among table.now.tasks cpu))) }
+        ensures counted { steps.new ≤ steps.old + most_compared (length (queued_among table.now.tasks cpu)) };
 
     /// The smallest virtual time of the fair tasks, in ns, `None` where there is none (`update_min_vruntime`).
     fn smallest_vtime<L: Ledger>(
@@ -88,7 +96,8 @@ pub trait SiblingQueue: Drop {
     ) -> Option<u128>
         requires policies { HavePolicies table.now.tasks }
         requires holds { holds self.now table.now.limit (queued_at table.now.tasks cpu) }
-        ensures { result ≡ smallest_vtime (queued_among table.now.tasks cpu) };
+        ensures smallest { result ≡ smallest_vtime (queued_among table.now.tasks cpu) }
+        ensures counted { steps.new ≤ steps.old + most_compared (length (queued_among table.now.tasks cpu)) };
 
     /// Whether there is another task of the class of this one, and among real-time tasks one of its priority.
     fn has_peer<L: Ledger>(
@@ -102,12 +111,16 @@ pub trait SiblingQueue: Drop {
         requires there { IsOf table.now.tasks task.now }
         requires policies { HavePolicies table.now.tasks }
         requires holds { holds self.now table.now.limit (queued_at table.now.tasks cpu) }
-        ensures { result ≡ has_peer task.now (queued_among table.now.tasks cpu) };
+        ensures peer { result ≡ has_peer task.now (queued_among table.now.tasks cpu) }
+        ensures counted { steps.new ≤ steps.old + most_compared (length (queued_among table.now.tasks cpu)) };
 
     /// How many tasks there are (`nr_running`).
     fn count(&self, table: &TaskTable, cpu: Cpu) -> u32
         requires { holds self.now table.now.limit (queued_at table.now.tasks cpu) }
         ensures { result ≡ length (queued_among table.now.tasks cpu) };
+
+    /// More tasks never lower the most comparisons.
+    ghost rises: { (few many : ℕ) → few ≤ many → most_compared few ≤ most_compared many };
 }
 
 /// Whether the task is queued on the sibling.

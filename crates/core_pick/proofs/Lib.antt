@@ -3,3 +3,4 @@ pub mod Choices
 pub mod Remembered
 pub mod Ranges
 pub mod Cases
+pub mod Asked

@@ -1,3 +1,4 @@
 pub mod Schedules
 pub mod Account
 pub mod Choice
+pub mod Comparisons

@@ -1,13 +1,14 @@
 //! A schedule, in its three cases (`pick_next_task`, kernel/sched/core.c).
 
-ghost use Rattle.std.specs.Prelude.{◌≡◌, ℕ, ◌+◌, ◌^◌, ◌<◌, length, ◌==◌, ◌&&◌, ◌||◌, is_some, None, IfSome, IfNone, if◌then◌else◌};
+ghost use Rattle.std.specs.Prelude.{◌≡◌, ℕ, ◌+◌, ◌*◌, ◌^◌, ◌<◌, ◌≤◌, length, ◌==◌, ◌&&◌, ◌||◌, is_some, None, IfSome, IfNone, if◌then◌else◌};
 ghost use Rattle.cs_types.specs.Room.{sibling_of, is_online};
 ghost use Rattle.cs_types.specs.Selection.{first_on, cookie_of, lead_from, pid_of, choice, forced_count, is_plain, adopt, pick_plain, select_for, select, pick_anew, adopt_or_pick_anew, balance, schedule};
 ghost use Rattle.task_table.specs.Table.{Table};
-ghost use Rattle.core_lanes.specs.Lanes.{Beside, at, room_of, AgreesAt};
+ghost use Rattle.core_lanes.specs.Lanes.{Beside, at, room_of, AgreesAt, AreNoLonger};
 ghost use Rattle.core_lanes.specs.Numbers.{numbers_of, is_fresh_by};
 ghost use Rattle.core_lanes.specs.Changes.{Stays};
 ghost use Rattle.core_pick.specs.Choice.{firsts_of};
+ghost use Rattle.core_pick.specs.Comparisons.{most_of_schedule};
 ghost use Rattle.core_pick.specs.Schedules.{MayPick, MaySchedule, Schedules, ChargesAndSchedules};
 
 use crate::account::charge;
@@ -120,6 +121,8 @@ fn select_for<Q: SiblingQueue, L: Ledger>(
     ensures stays { Stays (core.old, table.old) (core.new, table.new) }
     ensures run { (beside : Beside) → result ≡ pid_of (choice (room_of beside (core.old, table.old)) cookie cpu) }
     ensures forced { (beside : Beside) → core.new.account.count ≡ forced_count (room_of beside (core.old, table.old)) cookie }
+    ensures counted { (longest : ℕ) → AreNoLonger longest (core.old, table.old) →
+        steps.new ≤ steps.old + length core.old.lanes.items * Q.most_compared longest }
 {
     let choices = choices(core, table, firsts, cookie, steps);
     let choices = choices.as_slice();
@@ -144,7 +147,11 @@ fn select<Q: SiblingQueue, L: Ledger>(
 ) -> Pick
     requires may { MayPick now cpu (core.old, table.old) }
     requires first { (beside : Beside) → first ≡ first_on (room_of beside (core.old, table.old)) cpu }
-    ensures { Schedules now (core.old, table.old) (core.new, table.new) cpu result (λ room. select room cpu) }
+    ensures schedules { Schedules now (core.old, table.old) (core.new, table.new) cpu result (λ room. select room cpu) }
+
+    // The first was asked before.
+    ensures counted { (longest : ℕ) → AreNoLonger longest (core.old, table.old) →
+        steps.new + Q.most_compared longest ≤ steps.old + most_of_schedule (length core.old.lanes.items) (Q.most_compared longest) }
 {
     let firsts = firsts(core, table, cpu, first, steps);
     let firsts = firsts.as_slice();
@@ -172,7 +179,9 @@ fn pick_anew<Q: SiblingQueue, L: Ledger>(
     steps: &mut Steps<L>,
 ) -> Pick
     requires { MayPick now cpu (core.old, table.old) }
-    ensures { Schedules now (core.old, table.old) (core.new, table.new) cpu result (λ room. pick_anew room cpu) }
+    ensures schedules { Schedules now (core.old, table.old) (core.new, table.new) cpu result (λ room. pick_anew room cpu) }
+    ensures counted { (longest : ℕ) → AreNoLonger longest (core.old, table.old) →
+        steps.new ≤ steps.old + most_of_schedule (length core.old.lanes.items) (Q.most_compared longest) }
 {
     let first = core.first_on(table, cpu, steps);
     if is_plain(core, first) {
@@ -191,10 +200,13 @@ pub fn pick_and_balance<Q: SiblingQueue, L: Ledger>(
     steps: &mut Steps<L>,
 ) -> Pick
     requires { MayPick now cpu (core.old, table.old) }
-    ensures { Schedules now (core.old, table.old) (core.new, table.new) cpu result (λ room. balance cpu (pick_anew room cpu)) }
+    ensures schedules { Schedules now (core.old, table.old) (core.new, table.new) cpu result
+        (λ room. balance cpu (pick_anew room cpu)) }
+    ensures counted { (longest : ℕ) → AreNoLonger longest (core.old, table.old) →
+        steps.new ≤ steps.old + most_of_schedule (length core.old.lanes.items) (Q.most_compared longest) }
 {
     let pick = pick_anew(core, table, cpu, now, steps);
-    balance(core, table, cpu, steps);
+    balance(core, table, cpu);
     pick
 }
 
@@ -208,8 +220,10 @@ fn adopt_or_pick_anew<Q: SiblingQueue, L: Ledger>(
     steps: &mut Steps<L>,
 ) -> Pick
     requires { MaySchedule now cpu (core.old, table.old) }
-    ensures { ChargesAndSchedules now (core.old, table.old) (core.new, table.new) cpu result
+    ensures schedules { ChargesAndSchedules now (core.old, table.old) (core.new, table.new) cpu result
         (λ room. adopt_or_pick_anew room (is_fresh_by (numbers_of (core.old, table.old))) cpu (sibling_of room cpu).waiting) }
+    ensures counted { (longest : ℕ) → AreNoLonger longest (core.old, table.old) →
+        steps.new ≤ steps.old + most_of_schedule (length core.old.lanes.items) (Q.most_compared longest) }
 {
     match adoptable(core, cpu) {
         Some(waiting) => adopt(core, cpu, waiting),
@@ -221,7 +235,8 @@ fn adopt_or_pick_anew<Q: SiblingQueue, L: Ledger>(
 }
 
 /// The sibling schedules at `now`, in ns from the start (`pick_next_task`). `None` exactly where it is
-/// offline, and then nothing changes.
+/// offline, and then nothing changes. Each sibling is asked at most twice: for its first, and for its first with
+/// the core cookie.
 pub fn schedule<Q: SiblingQueue, L: Ledger>(
     core: &mut Core<Q>,
     table: &mut TaskTable,
@@ -235,11 +250,15 @@ pub fn schedule<Q: SiblingQueue, L: Ledger>(
     ensures table { IfNone result (table.new ≡ table.old) }
     ensures schedules { IfSome result (λ pick. ChargesAndSchedules now (core.old, table.old) (core.new, table.new) cpu pick
         (λ room. schedule room (is_fresh_by (numbers_of (core.old, table.old))) cpu)) }
+
+    // How many comparisons it makes, where no queue is longer than so many tasks.
+    ensures counted { (longest : ℕ) → AreNoLonger longest (core.old, table.old) →
+        steps.new ≤ steps.old + most_of_schedule (length core.old.lanes.items) (Q.most_compared longest) }
 {
     if !core.is_online(cpu) {
         return None;
     }
     let pick = adopt_or_pick_anew(core, table, cpu, now, steps);
-    balance(core, table, cpu, steps);
+    balance(core, table, cpu);
     Some(pick)
 }

@@ -1,13 +1,14 @@
 //! What a selection for the core asks of the queues: the lead, and what each sibling gets for a core cookie.
 //! It is a file of its own since it changes nothing.
 
-ghost use Rattle.std.specs.Prelude.{◌≡◌, ℕ, ◌+◌, ◌-◌, ◌<◌, ◌≤◌, ◌++◌, ◌&&◌, ◌||◌, ◌==◌, length, map, filter, None, is_none, if◌then◌else◌};
+ghost use Rattle.std.specs.Prelude.{◌≡◌, ℕ, ◌+◌, ◌-◌, ◌*◌, ◌<◌, ◌≤◌, ◌++◌, ◌&&◌, ◌||◌, ◌==◌, length, map, filter, None, is_none, if◌then◌else◌};
 ghost use Rattle.std.specs.List.{range_with_len};
 ghost use Rattle.arrayvec.specs.ArrayVec.{array_vec_len};
 ghost use Rattle.cs_types.specs.Room.{is_online};
 ghost use Rattle.cs_types.specs.Order.{first_of};
 ghost use Rattle.cs_types.specs.Selection.{first_on, queued_with, cookie_of, pid_of, is_fair_task, lead_from};
-ghost use Rattle.core_lanes.specs.Lanes.{Beside, room_of, Agree, AgreesAt, HasLowTimes};
+ghost use Rattle.core_lanes.specs.Queued.{queued_among};
+ghost use Rattle.core_lanes.specs.Lanes.{Beside, room_of, Agree, AgreesAt, AreNoLonger, HasLowTimes};
 ghost use Rattle.task_table.specs.Table.{Table};
 ghost use Rattle.core_pick.specs.Choice.{choice_at, firsts_of, kept_of};
 
@@ -27,8 +28,9 @@ fn first_with<Q: SiblingQueue, L: Ledger>(
     steps: &mut Steps<L>,
 ) -> Option<Task>
     requires { AgreesAt cpu (core.now, table.now) }
-    ensures { (beside : Beside) → result ≡
+    ensures first { (beside : Beside) → result ≡
         (if cookie == 0 then None else first_of (queued_with (room_of beside (core.now, table.now)) cookie cpu)) }
+    ensures counted { steps.new ≤ steps.old + Q.most_compared (length (queued_among table.now.tasks cpu)) }
 {
     if cookie == 0 {
         return None;
@@ -56,8 +58,10 @@ fn choice_at<Q: SiblingQueue, L: Ledger>(
     steps: &mut Steps<L>,
 ) -> Choice
     requires { AgreesAt cpu (core.now, table.now) }
-    ensures { (beside : Beside) (snapshot : ℕ → ℕ) → first.now ≡ kept_of snapshot (first_on (room_of beside (core.now, table.now)) cpu) →
+    ensures choice { (beside : Beside) (snapshot : ℕ → ℕ) →
+        first.now ≡ kept_of snapshot (first_on (room_of beside (core.now, table.now)) cpu) →
         result ≡ choice_at (room_of beside (core.now, table.now)) cookie cpu }
+    ensures counted { steps.new ≤ steps.old + Q.most_compared (length (queued_among table.now.tasks cpu)) }
 {
     let is_online = core.is_online(cpu);
     if is_kept(first, cookie) {
@@ -90,6 +94,8 @@ pub fn choices<Q: SiblingQueue, L: Ledger>(
     ensures each { (beside : Beside) → let room = room_of beside (core.now, table.now) in
         firsts.now ≡ firsts_of room → result.items ≡ map (choice_at room cookie) (range_with_len 0 (length core.now.lanes.items)) }
     ensures length { length result.items ≡ length core.now.lanes.items }
+    ensures counted { (longest : ℕ) → AreNoLonger longest (core.now, table.now) →
+        steps.new ≤ steps.old + length core.now.lanes.items * Q.most_compared longest }
 {
     let mut choices = Choices::new();
     for cpu in 0..core.lanes.len() {
@@ -110,8 +116,9 @@ fn first_beside<Q: SiblingQueue, L: Ledger>(
     steps: &mut Steps<L>,
 ) -> Option<Task>
     requires { AgreesAt cpu (core.now, table.now) }
-    ensures { (beside : Beside) → let room = room_of beside (core.now, table.now) in
+    ensures first { (beside : Beside) → let room = room_of beside (core.now, table.now) in
         first ≡ first_on room own → result ≡ first_on room cpu }
+    ensures counted { steps.new ≤ steps.old + (if cpu == own then 0 else Q.most_compared (length (queued_among table.now.tasks cpu))) }
 {
     if cpu == own {
         first
@@ -120,7 +127,8 @@ fn first_beside<Q: SiblingQueue, L: Ledger>(
     }
 }
 
-/// What is kept of the first task of each sibling, where this is the one's first.
+/// What is kept of the first task of each sibling, where this is the one's first. Each of the others is asked
+/// once.
 pub fn firsts<Q: SiblingQueue, L: Ledger>(
     core: &Core<Q>,
     table: &TaskTable,
@@ -128,10 +136,12 @@ pub fn firsts<Q: SiblingQueue, L: Ledger>(
     first: Option<Task>,
     steps: &mut Steps<L>,
 ) -> Firsts
-    requires agree { Agree (core.now, table.now) }
+    requires at { AgreesAt own (core.now, table.now) }
     requires first { (beside : Beside) → first ≡ first_on (room_of beside (core.now, table.now)) own }
     ensures each { (beside : Beside) → result.items ≡ firsts_of (room_of beside (core.now, table.now)) }
     ensures length { length result.items ≡ length core.now.lanes.items }
+    ensures counted { (longest : ℕ) → AreNoLonger longest (core.now, table.now) →
+        steps.new + Q.most_compared longest ≤ steps.old + length core.now.lanes.items * Q.most_compared longest }
 {
     let mut firsts = Firsts::new();
     for cpu in 0..core.lanes.len() {

@@ -20,7 +20,7 @@ returns-then-core-ne0 g c beside =
             let idles : is_none (sibling_of room c.args.cpu).run ≡ true =
             ap (λ (s : SiblingState). is_none s.run) at ∙ ap not v.is_none.ensures ∙ ap (λ b. not (not b)) (sym v.value-is ∙ w.if-is_none.true) in
             let has : not (room.core_cookie == 0) ≡ true = sym w.value-is ∙ c.if-core-ne0.true in
-            c.is_some.ensures ∙ ap is_some (c.first_on.ensures beside) ∙ sym (λ i. some i && idles i && has i && last)
+            c.has_queued.ensures beside ∙ sym (λ i. some i && idles i && has i && last)
         | else-count-ne0 v ↦
             let none = sym (v.value-is ∙ ap (λ n. not (n == 0)) v.if-count-ne0.false) ∙ w.if-is_none.true in absurd cc
       ])

@@ -1,12 +1,15 @@
-use Rattle.std.proofs.Common.{◌≡◌, ◌∙◌, ◌+◌, ◌<◌, ◌^◌, ap, sym, subst}
+use Rattle.std.proofs.Common.{◌≡◌, ◌∙◌, ◌+◌, ◌<◌, ◌≤◌, ◌^◌, List, length, ap, sym, subst}
+use Rattle.cs_types.specs.declared.task.Task.{Task}
 use Rattle.cs_types.specs.Room.{RoomState, sibling_of}
 use Rattle.cs_types.specs.Selection.{adopt, pick_anew, adopt_or_pick_anew}
 use Rattle.cs_types.specs.Accounting.{charge}
 use Rattle.task_table.specs.Table.{Table}
+use Rattle.core_lanes.specs.Queued.{queued_among}
 use Rattle.core_lanes.specs.Lanes.{Beside, BareCore, bare, AreLow, at, beside_after, room_of}
 use Rattle.core_lanes.specs.Numbers.{Numbers, numbers_of, numbers_in, with_ended, booked, took, is_fresh_by}
 use Rattle.core_lanes.specs.Changes.{Kept}
 use Rattle.core_lanes.proofs.Stays.{both_stay}
+use Rattle.core_pick.specs.Comparisons.{most_of_schedule}
 use Rattle.core_pick.proofs.Cases.{ChargesAndSchedules-same, is_adopted, is_not_adopted, stands}
 use Rattle.core_pick.proofs.pick.adopt_or_pick_anew.Goals as goal
 
@@ -23,8 +26,8 @@ pick_anew-requires g c =
       touches = subst (λ (core : BareCore). core.task_number + 1 < 2 ^ 64) same picks.touches;
     }
 
-pub returns-in-Some : goal.returns-in-Some
-returns-in-Some g c =
+pub returns-in-Some-clause-schedules : goal.returns-in-Some-clause-schedules
+returns-in-Some-clause-schedules g c =
     let now = c.args.now in
     let cpu = c.args.cpu in
     let fresh = is_fresh_by (numbers_of (c.args.core.now, c.args.table.now)) in
@@ -39,12 +42,12 @@ returns-in-Some g c =
       stays = adopts.stays;
     })
 
-pub returns-in-None : goal.returns-in-None
-returns-in-None g c =
+pub returns-in-None-clause-schedules : goal.returns-in-None-clause-schedules
+returns-in-None-clause-schedules g c =
     let now = c.args.now in
     let cpu = c.args.cpu in
     let fresh = is_fresh_by (numbers_of (c.args.core.now, c.args.table.now)) in
-    let picked = c.pick_anew.ensures in
+    let picked = c.pick_anew.ensures.schedules in
     let paid : Beside → Beside = λ beside. beside_after (at now beside) (charge (room_of (at now beside) (c.args.core.now, c.args.table.now))) in
     let room : (beside : Beside) → room_of (paid beside) (c.pick_anew.new.core, c.pick_anew.new.table)
     ≡ (pick_anew (charge (room_of (at now beside) (c.args.core.now, c.args.table.now))) cpu).room =
@@ -60,3 +63,11 @@ returns-in-None g c =
           (c.charge.ensures.charges.numbers beside kept ∙ ap (λ (r : RoomState). booked r (numbers_in beside (c.args.core.now, c.args.table.now))) (room beside));
       stays = both_stay c.charge.ensures.charges.stays picked.stays;
     })
+
+pub returns-in-None-clause-counted : goal.returns-in-None-clause-counted
+returns-in-None-clause-counted g c longest longer =
+    let many = ap (λ (kept : Kept). kept.siblings) c.charge.ensures.charges.stays.kept in
+    let tasks = ap (λ (table : Table). table.tasks) c.charge.ensures.table in
+    subst (λ n. c.pick_anew.new.steps ≤ c.args.steps.now + most_of_schedule n (g.Q.SiblingQueue.most_compared longest)) many
+    (c.pick_anew.ensures.counted longest (λ cpu below.
+    subst (λ (ts : List Task). length (queued_among ts cpu) ≤ longest) (sym tasks) (longer cpu (subst (λ n. cpu < n) many below))))

@@ -11,15 +11,15 @@ use Rattle.core_pick.proofs.pick.schedule.Goals as goal
 
 pub balance-requires : goal.balance-requires
 balance-requires g c = record {
-  cpu = subst (λ (kept : Kept). c.args.cpu < kept.siblings) (sym c.adopt_or_pick_anew-pick.ensures.stays.kept) c.requires.picks.cpu;
-  agree = c.adopt_or_pick_anew-pick.ensures.stays.agree c.requires.picks.agree;
+  cpu = subst (λ (kept : Kept). c.args.cpu < kept.siblings) (sym c.adopt_or_pick_anew-pick.ensures.schedules.stays.kept) c.requires.picks.cpu;
+  agree = c.adopt_or_pick_anew-pick.ensures.schedules.stays.agree c.requires.picks.agree;
 }
 
 pub returns-clause-schedules : goal.returns-clause-schedules
 returns-clause-schedules g c =
     let now = c.args.now in
     let cpu = c.args.cpu in
-    let picked = c.adopt_or_pick_anew-pick.ensures in
+    let picked = c.adopt_or_pick_anew-pick.ensures.schedules in
     record {
       pick = picked.pick;
       room = λ beside.

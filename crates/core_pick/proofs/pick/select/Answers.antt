@@ -1,4 +1,4 @@
-use Rattle.std.proofs.Common.{◌∙◌, ◌+◌, ◌<◌, ◌≤◌, ◌^◌, length, ap, sym, set, subst, refl}
+use Rattle.std.proofs.Common.{◌∙◌, ◌+◌, ◌<◌, ◌≤◌, ◌^◌, length, ap, sym, set, subst, refl, arith}
 use Rattle.std.specs.Prelude.{unwrap_or}
 use Rattle.std.proofs.Math.ListN.{length-set}
 use Rattle.std.proofs.lemmas.List.{map-set}
@@ -37,8 +37,8 @@ index_mut-requires g c =
 pub invariant_of-core : goal.invariant_of-core
 invariant_of-core g c = record { few = subst (λ n. n ≤ 16) (sym (length-set c.touch.new.self.lanes.items c.args.cpu _)) c.touch.new.self.few }
 
-pub returns : goal.returns
-returns g c =
+pub returns-clause-schedules : goal.returns-clause-schedules
+returns-clause-schedules g c =
     let cpu = c.args.cpu in
     let now = c.args.now in
     let touched_core = c.touch.new.self in
@@ -71,3 +71,7 @@ returns g c =
       stays = both_stay c.select_for-run.ensures.stays
           (both_stay touch.stays (alike_stays _ _ (queues_kept lanes cpu lane numbered is refl) refl refl));
     }
+
+pub returns-clause-counted : goal.returns-clause-counted
+returns-clause-counted g c longest longer =
+    omega (arith, c.firsts-firsts.ensures.counted longest longer, c.select_for-run.ensures.counted longest longer)

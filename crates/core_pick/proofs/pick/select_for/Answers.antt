@@ -89,3 +89,6 @@ pub invariant_of-core : goal.invariant_of-core
 invariant_of-core g c =
     let kept_lanes = items-as_many c.args.core.now.lanes c.update_siblings.new.lanes (c.update_siblings.auto.lanes ∙ ap length c.deref_mut.ensures.value) in
     record { few = subst (λ n. n ≤ 16) (sym (ap length kept_lanes ∙ c.update_siblings.auto.lanes ∙ ap length c.deref_mut.ensures.value)) c.args.core.now.few }
+
+pub returns-clause-counted : goal.returns-clause-counted
+returns-clause-counted g c longest longer = c.choices-choices.ensures.counted longest longer

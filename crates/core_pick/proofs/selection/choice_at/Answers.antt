@@ -9,8 +9,8 @@ use Rattle.core_pick.specs.declared.lead.First.{First}
 use Rattle.core_pick.proofs.Choices.{is_none-pid_of, choice_kept, choice_searched, not_forced, forced_searched}
 use Rattle.core_pick.proofs.selection.choice_at.Goals as goal
 
-pub returns-then-is_kept : goal.returns-then-is_kept
-returns-then-is_kept g c beside snapshot is =
+pub returns-then-is_kept-clause-choice : goal.returns-then-is_kept-clause-choice
+returns-then-is_kept-clause-choice g c beside snapshot is =
     let room = room_of beside (c.args.core.now, c.args.table.now) in
     let first = first_on room c.args.cpu in
     let tested : (is_none first || (cookie_of first == c.args.cookie)) ≡ true =
@@ -23,14 +23,14 @@ returns-then-is_kept g c beside snapshot is =
     let fair = ap (λ (kept : First). kept.is_fair) is ∙ ap is_fair_task kept in
     λ i. let choice : Choice = record { run = run i; is_online = online i; is_forced = forced i; is_fair = fair i } in choice
 
-pub returns : goal.returns
-returns g c beside snapshot is =
+pub returns-clause-choice : goal.returns-clause-choice
+returns-clause-choice g c beside snapshot is =
     let room = room_of beside (c.args.core.now, c.args.table.now) in
     let first = first_on room c.args.cpu in
     let tested : (is_none first || (cookie_of first == c.args.cookie)) ≡ false =
     ap (λ b. b || (cookie_of first == c.args.cookie)) (sym (is_none-pid_of first))
     ∙ ap (λ (kept : First). is_none kept.run || (kept.cookie == c.args.cookie)) (sym is) ∙ sym c.is_kept.ensures ∙ c.if-is_kept.false in
-    let chosen = c.first_with-chosen.ensures beside ∙ sym (choice_searched room c.args.cookie c.args.cpu tested) in
+    let chosen = c.first_with-chosen.ensures.first beside ∙ sym (choice_searched room c.args.cookie c.args.cpu tested) in
     let run = c.pid_of.ensures ∙ ap pid_of chosen in
     let online = c.is_online-is_online.ensures beside c.args.table.now in
     let forced = c.is_forced.ensures ∙ (λ i. online i && is_none (chosen i)) ∙ sym (ap (λ b. is_online room c.args.cpu && b) (forced_searched room c.args.cookie c.args.cpu tested)) in

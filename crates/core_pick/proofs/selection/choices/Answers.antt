@@ -1,10 +1,11 @@
-use Rattle.std.proofs.Common.{◌≡◌, ◌∙◌, ◌<◌, ap, refl, map, length, arith}
+use Rattle.std.proofs.Common.{◌≡◌, ◌∙◌, ◌+◌, ◌*◌, ◌<◌, ◌≤◌, ap, refl, subst, map, length, arith}
 use Rattle.std.specs.List.{range_with_len}
 use Rattle.std.proofs.lemmas.List.{length-map}
 use Rattle.std.proofs.lemmas.List.FromFn.{map-range_with_len_more}
 use Rattle.cs_types.specs.Selection.{snapshot_of}
 use Rattle.core_lanes.specs.Lanes.{lane_state, room_of}
 use Rattle.core_pick.specs.Choice.{choice_at}
+use Rattle.core_pick.proofs.Asked.{one_more}
 use Rattle.core_pick.proofs.Choices.{kept_is}
 use Rattle.core_pick.proofs.selection.choices.Goals as goal
 
@@ -14,8 +15,12 @@ loop-cpu-preserved g c = record {
   made = λ beside are.
       let room = room_of beside (c.args.core.now, c.args.table.now) in
       let below : c.loop-cpu.cpu < length room.siblings = omega (arith, c.loop-cpu-test.true, c.len-cpu-end.ensures, c.args.core.now.lanes.ok.0, length-map c.args.core.now.lanes.items lane_state) in
-      let made = c.choice_at.ensures beside (snapshot_of room) (kept_is room c.args.firsts.now are c.loop-cpu.cpu _ below) in
+      let made = c.choice_at.ensures.choice beside (snapshot_of room) (kept_is room c.args.firsts.now are c.loop-cpu.cpu _ below) in
       rw (c.push.ensures.items, c.loop-cpu.invariant.made beside are, made, map-range_with_len_more (choice_at room c.args.cookie) 0 c.loop-cpu.cpu c.loop-cpu.cpu (omega arith)) refl;
+  asked = λ longest longer.
+      let below : c.loop-cpu.cpu < length c.args.core.now.lanes.items = omega (arith, c.loop-cpu-test.true, c.len-cpu-end.ensures, c.args.core.now.lanes.ok.0) in
+      let rises = g.met.Q.SiblingQueue.rises _ _ (longer c.loop-cpu.cpu below) in
+      one_more _ _ _ c.loop-cpu.cpu _ (c.loop-cpu.invariant.asked longest longer) (omega (arith, c.choice_at.ensures.counted, rises));
 }
 
 pub returns-clause-each : goal.returns-clause-each
@@ -23,3 +28,9 @@ returns-clause-each g c beside are =
     let core = c.args.core.now in
     let all : c.loop-cpu.cpu ≡ length core.lanes.items = omega (arith, core.lanes.ok.0, c.loop-cpu-test.false, c.loop-cpu.auto.cpu-end) in
     c.loop-cpu.invariant.made beside are ∙ ap (λ n. map (choice_at (room_of beside (core, c.args.table.now)) c.args.cookie) (range_with_len 0 n)) all
+
+pub returns-clause-counted : goal.returns-clause-counted
+returns-clause-counted g c longest longer =
+    let core = c.args.core.now in
+    let all : c.loop-cpu.cpu ≡ length core.lanes.items = omega (arith, core.lanes.ok.0, c.loop-cpu-test.false, c.loop-cpu.auto.cpu-end) in
+    subst (λ n. c.loop-cpu.steps ≤ c.args.steps.now + n * g.Q.SiblingQueue.most_compared longest) all (c.loop-cpu.invariant.asked longest longer)

@@ -15,5 +15,5 @@ first_with-requires-clause-holds g c =
 pub first_with-requires-clause-policies : goal.first_with-requires-clause-policies
 first_with-requires-clause-policies g c = policies_of (c.args.core.now, c.args.table.now) c.requires.agree
 
-pub returns : goal.returns
-returns g c beside = c.first_with.ensures ∙ sym (cond-false (c.args.cookie == 0) None _ (ne_eqb c.args.cookie 0 c.if-cookie-eq0.false))
+pub returns-clause-first : goal.returns-clause-first
+returns-clause-first g c beside = c.first_with.ensures.first ∙ sym (cond-false (c.args.cookie == 0) None _ (ne_eqb c.args.cookie 0 c.if-cookie-eq0.false))

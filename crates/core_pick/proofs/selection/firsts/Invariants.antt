@@ -1,9 +1,10 @@
-use Rattle.std.proofs.Common.{◌≡◌, map}
+use Rattle.std.proofs.Common.{◌≡◌, ℕ, ◌+◌, ◌*◌, ◌≤◌, map}
 use Rattle.std.specs.List.{range_with_len}
 use Rattle.arrayvec.specs.ArrayVec.{array_vec_len}
 use Rattle.cs_types.specs.Selection.{first_on, snapshot_of}
-use Rattle.core_lanes.specs.Lanes.{Beside, room_of}
+use Rattle.core_lanes.specs.Lanes.{Beside, room_of, AreNoLonger}
 use Rattle.core_pick.specs.Choice.{kept_of}
+use Rattle.core_pick.proofs.Asked.{spared}
 use Rattle.core_pick.proofs.selection.firsts.Given as goal
 
 abbrev pub invariant-loop-cpu : goal.invariant-loop-cpu
@@ -11,4 +12,7 @@ invariant-loop-cpu g l = record {
   counted : array_vec_len l.firsts ≡ l.cpu;
   made : (beside : Beside) → let room = room_of beside (l.core, l.table) in
       l.firsts.items ≡ map (kept_of (snapshot_of room)) (map (first_on room) (range_with_len 0 l.cpu));
+  asked : (longest : ℕ) → AreNoLonger longest (l.core, l.table) →
+      let most = g.Q.SiblingQueue.most_compared longest in
+      l.steps + spared l.own l.cpu most ≤ l.fn.steps + l.cpu * most;
 }

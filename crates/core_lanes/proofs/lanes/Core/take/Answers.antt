@@ -31,7 +31,7 @@ returns-then-task-clause-held g c =
     rw (map-set queue_of c.args.self.now.lanes.items task.home after)
     (held-set (λ cpu x. g.Q.SiblingQueue.holds x limit (queued_at tasks cpu)) (λ cpu x. g.Q.SiblingQueue.holds x limit (others pid (queued_at tasks cpu))) (queues_of c.args.self.now) task.home c.take.new.self
     (λ cpu x other held. let off = λ (n : ℕ). off_elsewhere task cpu other in subst (λ qs. g.Q.SiblingQueue.holds x limit qs) (sym (others-absent tasks task cpu c.requires.table.rising c.requires.there (off cpu))) held)
-    c.requires.held c.take.ensures)
+    c.requires.held c.take.ensures.holds)
 
 pub returns-else-task-clause-held : goal.returns-else-task-clause-held
 returns-else-task-clause-held g c cpu x at =
