@@ -1,5 +1,5 @@
 -- Asked: how the comparisons of the questions of the siblings add up.
-use Rattle.std.proofs.Common.{◌≡◌, ℕ, suc, ◌+◌, ◌*◌, ◌<◌, ◌≤◌, Bool, true, false, cond, ltb, eqb, inl, inr, sym, subst, ◌∙◌, arith}
+use Rattle.std.proofs.Common.{◌≡◌, ℕ, zero, suc, ◌+◌, ◌*◌, ◌<◌, ◌≤◌, Bool, true, false, cond, ltb, eqb, inl, inr, sym, subst, ◌∙◌, arith}
 use Rattle.std.proofs.Math.Nat.{suc-mul}
 use Rattle.std.proofs.lemmas.Bool.{cases_Bool, cond-true, cond-false}
 use Rattle.std.proofs.lemmas.Bool.Decides.{nat_tests}
@@ -28,5 +28,5 @@ all_but_own own siblings start end most below so_far = grind (arith, nat_tests)
 
 -- one question is no more than one of each sibling
 pub one_of_each : (cpu siblings most : ℕ) → cpu < siblings → most ≤ siblings * most
-one_of_each cpu 0 most below = absurd (omega arith)
+one_of_each cpu zero most below = absurd (omega arith)
 one_of_each cpu (suc siblings) most below = omega (arith, suc-mul siblings most)

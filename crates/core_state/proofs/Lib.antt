@@ -7,3 +7,4 @@ pub mod Asked
 pub mod Vtimes
 pub mod Counts
 pub mod Crosses
+pub mod Compared

@@ -18,8 +18,12 @@ pub struct TreeQueue {
 
 impl SiblingQueue for TreeQueue {
     ghost use Rattle.core_state.specs.Held.{Keeps};
+    ghost use Rattle.core_state.specs.Comparisons.{most_of_call};
+    ghost use Rattle.core_state.proofs.Compared.{most_of_call-le};
 
     ghost holds = { λ queue most tasks. Keeps queue.run queue.kinds most tasks };
+
+    ghost most_compared = { most_of_call };
 
     fn with_capacity(alloc: Global, most: u16) -> Result<TreeQueue, OutOfMemory> {
         let mut run = RunQueue::empty(alloc);
@@ -96,4 +100,6 @@ impl SiblingQueue for TreeQueue {
     fn count(&self, _table: &TaskTable, _cpu: Cpu) -> u32 {
         self.run.count()
     }
+
+    ghost rises = { most_of_call-le };
 }

@@ -9,7 +9,8 @@ use std::alloc::Global;
 use std::sync::ledger::Ledger;
 use task_table::TaskTable;
 
-/// It keeps nothing: the queued tasks of a sibling are those that the table has there.
+/// It keeps nothing: the queued tasks of a sibling are those that the table has there. Its walks count none of
+/// their comparisons.
 #[derive(Drop)]
 pub struct Walk;
 
@@ -22,7 +23,12 @@ fn is_peer_of(task: &Task, other: &Task) -> bool
 }
 
 impl SiblingQueue for Walk {
+    ghost use Rattle.plain_room.specs.Comparisons.{most_of_walk};
+    ghost use Rattle.plain_room.proofs.Walks.{most_of_walk-le};
+
     ghost holds = { λ queue most tasks. Unit {0} };
+
+    ghost most_compared = { most_of_walk };
 
     fn with_capacity(_alloc: Global, _most: u16) -> Result<Walk, OutOfMemory> {
         Ok(Walk)
@@ -128,4 +134,6 @@ impl SiblingQueue for Walk {
             .filter(|task| task.queued && task.home == cpu)
             .count() as u32
     }
+
+    ghost rises = { most_of_walk-le };
 }

@@ -31,7 +31,7 @@ loop-next-init g c =
     let table = c.args.table.now in
     let all = candidates core.cookie c.args.source table.tasks in
     let may = may_steal (lane_state c.index-idle.result.now) (lane_state c.index-from.result.now) in
-    subst (IsLeft goes_before all may) (sym c.first_with-next.ensures)
+    subst (IsLeft goes_before all may) (sym c.first_with-next.ensures.first)
     (left_first goes_before goes_before_is_order all (no_two_tie core.next_stamp core.cookie c.args.source table.tasks c.requires.agree.table.rising c.requires.agree.stamped) may)
 
 pub returns-then-may_steal : goal.returns-then-may_steal
@@ -83,7 +83,7 @@ loop-next-smaller g c =
     let may = may_steal (lane_state c.index-idle.result.now) (lane_state c.index-from.result.now) in
     let left = subst (IsLeft goes_before all may) c.in-Some.is c.loop-next.invariant in
     let next : c.next_with-next.result ≡ first_of (behind c.in-Some.task all) =
-    c.next_with-next.ensures ∙ behind_it core.cookie c.args.source table.tasks c.in-Some.task left.0 in
+    c.next_with-next.ensures.next ∙ behind_it core.cookie c.args.source table.tasks c.in-Some.task left.0 in
     subst (λ (one : Option Task). to_go goes_before all one < to_go goes_before all c.loop-next.next) (sym next)
     (subst (λ (one : Option Task). to_go goes_before all (first_of (behind c.in-Some.task all)) < to_go goes_before all one) (sym c.in-Some.is)
     (to_go_falls goes_before goes_before_is_order all (no_two_tie core.next_stamp core.cookie c.args.source table.tasks c.requires.agree.table.rising c.requires.agree.stamped) may c.in-Some.task))
@@ -96,7 +96,7 @@ loop-next-preserved g c =
     let may = may_steal (lane_state c.index-idle.result.now) (lane_state c.index-from.result.now) in
     let left = subst (IsLeft goes_before all may) c.in-Some.is c.loop-next.invariant in
     let next : c.next_with-next.result ≡ first_of (behind c.in-Some.task all) =
-    c.next_with-next.ensures ∙ behind_it core.cookie c.args.source table.tasks c.in-Some.task left.0 in
+    c.next_with-next.ensures.next ∙ behind_it core.cookie c.args.source table.tasks c.in-Some.task left.0 in
     subst (IsLeft goes_before all may) (sym next)
     (left_next goes_before goes_before_is_order all (no_two_tie core.next_stamp core.cookie c.args.source table.tasks c.requires.agree.table.rising c.requires.agree.stamped) may
     c.in-Some.task left (sym c.may_steal.ensures ∙ c.if-may_steal.false))

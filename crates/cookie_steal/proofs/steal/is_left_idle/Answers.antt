@@ -11,7 +11,7 @@ pub returns-then-is_none-2 : goal.returns-then-is_none-2
 returns-then-is_none-2 g c beside =
     let room = room_of beside (c.args.core.now, c.args.table.now) in
     let empty : is_none (first_on room c.args.cpu) ≡ c.is_none.result =
-    ap is_none (sym (c.first_on.ensures beside)) ∙ ap not c.is_none.ensures ∙ twice c.is_none.result in
+    ap is_none (sym (c.first_on.ensures.first beside)) ∙ ap not c.is_none.ensures ∙ twice c.is_none.result in
     elim c.if-is_none.branch [
       | then-is_none w ↦
           let at = lane_at c.args.core.now.lanes.items c.args.cpu w.index.result.now c.requires.cpu w.index.ensures in
@@ -29,7 +29,7 @@ pub returns-else-is_none-2 : goal.returns-else-is_none-2
 returns-else-is_none-2 g c beside =
     let room = room_of beside (c.args.core.now, c.args.table.now) in
     let empty : is_none (first_on room c.args.cpu) ≡ c.is_none.result =
-    ap is_none (sym (c.first_on.ensures beside)) ∙ ap not c.is_none.ensures ∙ twice c.is_none.result in
+    ap is_none (sym (c.first_on.ensures.first beside)) ∙ ap not c.is_none.ensures ∙ twice c.is_none.result in
     elim c.if-is_none.branch [
       | then-is_none w ↦
           let at = lane_at c.args.core.now.lanes.items c.args.cpu w.index.result.now c.requires.cpu w.index.ensures in

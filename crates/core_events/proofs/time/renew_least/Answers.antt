@@ -24,7 +24,7 @@ returns-in_default g c =
       room = λ beside.
           let room = room_of beside (c.args.core.now, c.args.table.now) in
           ap (λ (siblings : List SiblingState). let now : RoomState = record room { siblings = siblings } in now) (map-set lane_state lanes cpu lane)
-          ∙ least_is room cpu (lane_state lane) None (lane_at lanes cpu lane c.requires.cpu is) (sym c.in_default.is ∙ c.smallest_vtime.ensures);
+          ∙ least_is room cpu (lane_state lane) None (lane_at lanes cpu lane c.requires.cpu is) (sym c.in_default.is ∙ c.smallest_vtime.ensures.smallest);
       numbers = rw (numbers_kept lanes cpu lane lane is refl) refl;
       stays = alike_stays _ _ (queues_kept lanes cpu lane lane is refl) refl refl;
     }
@@ -44,7 +44,7 @@ returns-in-Some g c =
           let room = room_of beside (c.args.core.now, c.args.table.now) in
           ap (λ (siblings : List SiblingState). let now : RoomState = record room { siblings = siblings } in now) (map-set lane_state lanes cpu after)
           ∙ ap (λ (n : ℕ). with_sibling room cpu (let now : SiblingState = record (lane_state lane) { least = n } in now)) c.max-lane.ensures
-          ∙ least_is room cpu (lane_state lane) (Some c.in-Some.smallest) (lane_at lanes cpu lane c.requires.cpu is) (sym c.in-Some.is ∙ c.smallest_vtime.ensures);
+          ∙ least_is room cpu (lane_state lane) (Some c.in-Some.smallest) (lane_at lanes cpu lane c.requires.cpu is) (sym c.in-Some.is ∙ c.smallest_vtime.ensures.smallest);
       numbers = rw (numbers_kept lanes cpu lane after is refl) refl;
       stays = alike_stays _ _ (queues_kept lanes cpu lane after is refl) refl refl;
     }

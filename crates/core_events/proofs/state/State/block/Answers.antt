@@ -90,13 +90,13 @@ returns g c =
           let scheduled = picked_charged (room_of paid (c.run_idle.new.self, c.dequeue.new.table)) gone cpu (now-charge room) is in
           let up = when_running room cpu (block room cpu) (Some task) (c.in-Some.ensures.task beside) (sym (c.is_online.ensures beside old.tasks) ∙ c.if-not-is_online.false) in
           once_charged (record {
-            reply = ap (Slept task.spec.pid) (c.pick_and_balance.ensures.pick paid ∙ ap (λ (made : Scheduled). made.pick) scheduled) ∙ ap (λ (m : Stepped). m.reply) up;
-            room = c.pick_and_balance.ensures.room paid ∙ ap (λ (made : Scheduled). made.room) scheduled ∙ ap (λ (m : Stepped). m.room) up;
-            numbers = λ kept. ap (with_ended old.ended.items) c.pick_and_balance.ensures.numbers
+            reply = ap (Slept task.spec.pid) (c.pick_and_balance.ensures.schedules.pick paid ∙ ap (λ (made : Scheduled). made.pick) scheduled) ∙ ap (λ (m : Stepped). m.reply) up;
+            room = c.pick_and_balance.ensures.schedules.room paid ∙ ap (λ (made : Scheduled). made.room) scheduled ∙ ap (λ (m : Stepped). m.room) up;
+            numbers = λ kept. ap (with_ended old.ended.items) c.pick_and_balance.ensures.schedules.numbers
                 ∙ ap (λ (numbers : Numbers). took cpu c.pick_and_balance.result numbers)
                 (ap (with_ended old.ended.items) (idle.numbers ∙ c.dequeue.ensures.numbers) ∙ ap (λ (numbers : Numbers). touched 1 numbers) (c.charge.ensures.charges.numbers beside kept))
                 ∙ took-touched room cpu task.spec.pid c.pick_and_balance.result (booked (charge room) (state_numbers old));
           });
       stays = lifted old (c.pick_and_balance.new.core, c.pick_and_balance.new.table)
-          (both_stay c.charge.ensures.charges.stays (both_stay c.dequeue.ensures.stays (both_stay idle.stays c.pick_and_balance.ensures.stays)));
+          (both_stay c.charge.ensures.charges.stays (both_stay c.dequeue.ensures.stays (both_stay idle.stays c.pick_and_balance.ensures.schedules.stays)));
     }

@@ -108,14 +108,14 @@ returns g c =
           let clock : ended.clock ≡ old.clock = ap (λ (r : RoomState). r.clock) (c.end.ensures.room after) in
           let scheduled = picked_charged (room_of paid (c.run_idle.new.self, ended.tasks)) gone cpu (now-charge room) is in
           once_charged (record {
-            reply = ap (Ended task.spec.pid) (c.pick_and_balance.ensures.pick paid ∙ ap (λ (made : Scheduled). made.pick) scheduled) ∙ ap (λ (m : Stepped). m.reply) up;
-            room = c.pick_and_balance.ensures.room paid ∙ ap (λ (made : Scheduled). made.room) scheduled ∙ ap (λ (m : Stepped). m.room) up;
-            numbers = λ kept. ap (with_ended ended.ended.items) c.pick_and_balance.ensures.numbers
+            reply = ap (Ended task.spec.pid) (c.pick_and_balance.ensures.schedules.pick paid ∙ ap (λ (made : Scheduled). made.pick) scheduled) ∙ ap (λ (m : Stepped). m.reply) up;
+            room = c.pick_and_balance.ensures.schedules.room paid ∙ ap (λ (made : Scheduled). made.room) scheduled ∙ ap (λ (m : Stepped). m.room) up;
+            numbers = λ kept. ap (with_ended ended.ended.items) c.pick_and_balance.ensures.schedules.numbers
                 ∙ ap (λ (numbers : Numbers). took cpu c.pick_and_balance.result numbers)
                 (ap (with_ended ended.ended.items) idle.numbers ∙ c.end.ensures.numbers ∙ ap (λ (numbers : Numbers). touched 1 numbers) (c.charge.ensures.charges.numbers beside kept))
                 ∙ took-touched room cpu task.spec.pid c.pick_and_balance.result (booked (charge room) (state_numbers old));
           });
       stays = both_stay (lifted old (c.charge.new.core, c.charge.new.table) c.charge.ensures.charges.stays)
           (both_stay c.end.ensures.stays
-          (lifted ended (c.pick_and_balance.new.core, c.pick_and_balance.new.table) (core.both_stay idle.stays c.pick_and_balance.ensures.stays)));
+          (lifted ended (c.pick_and_balance.new.core, c.pick_and_balance.new.table) (core.both_stay idle.stays c.pick_and_balance.ensures.schedules.stays)));
     }

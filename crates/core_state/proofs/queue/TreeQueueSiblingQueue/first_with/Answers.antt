@@ -1,4 +1,4 @@
-use Rattle.std.proofs.Common.{◌≡◌, Option, List, None, ap, sym, ◌∙◌}
+use Rattle.std.proofs.Common.{◌≡◌, Option, List, None, ap, sym, ◌∙◌, arith}
 use Rattle.std.specs.Prelude.{◌==◌}
 use Rattle.std.specs.Option.{option_map}
 use Rattle.std.proofs.lemmas.List.Elements.{recursion_from_All}
@@ -6,10 +6,11 @@ use Rattle.cs_types.specs.Order.{first_of}
 use Rattle.cs_types.specs.Queue.{Spots, queued_of, first_with}
 use Rattle.core_lanes.specs.Queued.{queued_among, with_cookie}
 use Rattle.core_state.proofs.Asked.{IsLow, low_among, first_with-spotted, found_first, none_of, pid_of_some, some_by}
+use Rattle.core_state.proofs.Compared.{few_of_all}
 use Rattle.core_state.proofs.queue.TreeQueueSiblingQueue.first_with.Goals as goal
 
-pub returns-in_err-first_of : goal.returns-in_err-first_of
-returns-in_err-first_of g c =
+pub returns-in_err-first_of-clause-first : goal.returns-in_err-first_of-clause-first
+returns-in_err-first_of-clause-first g c =
     let tasks = c.args.table.now.tasks in
     let queued = queued_among tasks c.args._cpu in
     let low = recursion_from_All IsLow queued (low_among tasks c.args._cpu c.requires.policies) in
@@ -18,8 +19,8 @@ returns-in_err-first_of g c =
     (sym c.in_err-first_of.was ∙ c.first_of.ensures.first ∙ ap (λ (spots : Spots). first_with spots c.args.cookie) c.requires.holds.trees.spots
     ∙ first_with-spotted queued low c.args.cookie c.requires.cookie)
 
-pub returns : goal.returns
-returns g c =
+pub returns-clause-first : goal.returns-clause-first
+returns-clause-first g c =
     let tasks = c.args.table.now.tasks in
     let queued = queued_among tasks c.args._cpu in
     let low = recursion_from_All IsLow queued (low_among tasks c.args._cpu c.requires.policies) in
@@ -29,3 +30,11 @@ returns g c =
     (pid_of_some c.in_ok-first_of.field-0 first
     (sym c.in_ok-first_of.was ∙ c.first_of.ensures.first ∙ ap (λ (spots : Spots). first_with spots c.args.cookie) c.requires.holds.trees.spots
     ∙ first_with-spotted queued low c.args.cookie c.requires.cookie))
+
+pub returns-in_err-first_of-clause-counted : goal.returns-in_err-first_of-clause-counted
+returns-in_err-first_of-clause-counted g c =
+    omega (arith, c.first_of.ensures.counted, few_of_all c.args.self.now.run c.args.table.now.limit c.args.table.now.tasks c.args._cpu c.requires.holds.trees)
+
+pub returns-clause-counted : goal.returns-clause-counted
+returns-clause-counted g c =
+    omega (arith, c.first_of.ensures.counted, few_of_all c.args.self.now.run c.args.table.now.limit c.args.table.now.tasks c.args._cpu c.requires.holds.trees)

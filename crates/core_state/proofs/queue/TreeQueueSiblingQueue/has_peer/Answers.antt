@@ -11,8 +11,8 @@ byte_is : (b : Bool) → from_bool b ≡ cond b 1 0
 byte_is true = refl
 byte_is false = refl
 
-pub returns : goal.returns
-returns g c =
+pub returns-clause-peer : goal.returns-clause-peer
+returns-clause-peer g c =
     let task = c.args.task.now in
     let tasks = c.args._table.now.tasks in
     let policy = found_in (λ (t : Task). IsPolicy t.spec.policy) task.spec.pid tasks task c.requires.policies c.requires.there in

@@ -1,4 +1,4 @@
-use Rattle.std.proofs.Common.{◌≡◌, Option, List, None, ap, sym, ◌∙◌, subst}
+use Rattle.std.proofs.Common.{◌≡◌, Option, List, None, ap, sym, ◌∙◌, subst, arith}
 use Rattle.std.specs.Prelude.{◌==◌, ◌&&◌}
 use Rattle.std.specs.Option.{option_map}
 use Rattle.std.proofs.lemmas.List.Elements.{recursion_from_All}
@@ -10,13 +10,14 @@ use Rattle.core_lanes.specs.Queued.{queued_among, with_cookie, behind}
 use Rattle.core_lanes.proofs.Lists.{filter-filter}
 use Rattle.core_state.proofs.Tasks.{is_ranked, low_priority}
 use Rattle.core_state.proofs.Asked.{IsLow, low_among, next_with-spotted, found_behind, none_of, pid_of_some, some_by}
+use Rattle.core_state.proofs.Compared.{few_of_all}
 use Rattle.core_state.proofs.queue.TreeQueueSiblingQueue.next_with.Goals as goal
 
 pub next_of-requires : goal.next_of-requires
 next_of-requires g c = subst IsRanked (sym c.queued_of.ensures) (is_ranked c.args.task.now)
 
-pub returns-in_err-next_of : goal.returns-in_err-next_of
-returns-in_err-next_of g c =
+pub returns-in_err-next_of-clause-next : goal.returns-in_err-next_of-clause-next
+returns-in_err-next_of-clause-next g c =
     let task = c.args.task.now in
     let tasks = c.args.table.now.tasks in
     let queued = queued_among tasks c.args._cpu in
@@ -27,8 +28,8 @@ returns-in_err-next_of g c =
     ∙ (λ i. next_with (c.requires.holds.trees.spots i) (c.queued_of.ensures i))
     ∙ next_with-spotted queued low task (low_priority task.spec.policy c.requires.policy) c.requires.cookie)
 
-pub returns : goal.returns
-returns g c =
+pub returns-clause-next : goal.returns-clause-next
+returns-clause-next g c =
     let task = c.args.task.now in
     let tasks = c.args.table.now.tasks in
     let queued = queued_among tasks c.args._cpu in
@@ -40,3 +41,11 @@ returns g c =
     (sym c.in_ok-next_of.was ∙ c.next_of.ensures.next
     ∙ (λ i. next_with (c.requires.holds.trees.spots i) (c.queued_of.ensures i))
     ∙ next_with-spotted queued low task (low_priority task.spec.policy c.requires.policy) c.requires.cookie))
+
+pub returns-in_err-next_of-clause-counted : goal.returns-in_err-next_of-clause-counted
+returns-in_err-next_of-clause-counted g c =
+    omega (arith, c.next_of.ensures.counted, few_of_all c.args.self.now.run c.args.table.now.limit c.args.table.now.tasks c.args._cpu c.requires.holds.trees)
+
+pub returns-clause-counted : goal.returns-clause-counted
+returns-clause-counted g c =
+    omega (arith, c.next_of.ensures.counted, few_of_all c.args.self.now.run c.args.table.now.limit c.args.table.now.tasks c.args._cpu c.requires.holds.trees)

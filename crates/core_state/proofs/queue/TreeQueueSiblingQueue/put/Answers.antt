@@ -8,6 +8,7 @@ use Rattle.core_state.proofs.Tasks.{is_ranked}
 use Rattle.core_state.proofs.Splits.{length-split, split_at, few_queued, others_apart}
 use Rattle.core_state.proofs.Counts.{counted-put, few-put}
 use Rattle.core_state.proofs.Held.{free_seat, Holds-put}
+use Rattle.core_state.proofs.Compared.{few_of_others}
 use Rattle.core_state.proofs.queue.TreeQueueSiblingQueue.put.Goals as goal
 
 pub enqueue-requires-clause-ranked : goal.enqueue-requires-clause-ranked
@@ -33,8 +34,8 @@ enqueue-requires-clause-free g c =
     ∙ free_seat (queued_of task) all rest (split_at tasks task c.args._cpu c.requires.table.rising c.requires.there c.requires.queued c.requires.home)
     (others_apart tasks task c.args._cpu c.requires.table.rising c.requires.stamp)
 
-pub returns : goal.returns
-returns g c =
+pub returns-clause-holds : goal.returns-clause-holds
+returns-clause-holds g c =
     let task = c.args.task.now in
     let tasks = c.args._table.now.tasks in
     let all = queued_at tasks c.args._cpu in
@@ -63,3 +64,12 @@ overflow_add-self g c =
     (split_at tasks task c.args._cpu c.requires.table.rising c.requires.there c.requires.queued c.requires.home)
     c.args.self.now.kinds c.kind_of.result c.kind_of.ensures.kind c.kind_of.ensures.few c.requires.holds.counts in
     omega (arith, few, few_queued tasks c.args._cpu, c.requires.table.few, c.requires.table.limit)
+
+pub returns-clause-counted : goal.returns-clause-counted
+returns-clause-counted g c =
+    let task = c.args.task.now in
+    let tasks = c.args._table.now.tasks in
+    let all = queued_at tasks c.args._cpu in
+    let rest = others task.spec.pid all in
+    let split = split_at tasks task c.args._cpu c.requires.table.rising c.requires.there c.requires.queued c.requires.home in
+    omega (arith, c.enqueue.ensures.counted, few_of_others c.args.self.now.run c.args._table.now.limit tasks c.args._cpu (queued_of task) rest split c.requires.holds.trees)

@@ -1,4 +1,4 @@
-use Rattle.std.proofs.Common.{◌≡◌, ℕ, Option, List, None, Some, ap, sym, ◌∙◌, refl}
+use Rattle.std.proofs.Common.{◌≡◌, ℕ, Option, List, None, Some, ap, sym, ◌∙◌, refl, arith}
 use Rattle.std.specs.Prelude.{◌==◌, filter}
 use Rattle.std.specs.Option.{option_map}
 use Rattle.std.proofs.lemmas.List.Elements.{recursion_from_All}
@@ -10,6 +10,7 @@ use Rattle.core_lanes.specs.Queued.{queued_among, queued_at, HavePolicies}
 use Rattle.core_state.specs.Held.{seated}
 use Rattle.core_state.proofs.Asked.{IsLow, pid_at, low_among, first_seat, found_first, none_by, some_by}
 use Rattle.core_state.proofs.Vtimes.{smallest-first}
+use Rattle.core_state.proofs.Compared.{few_of_all}
 use Rattle.core_state.proofs.queue.TreeQueueSiblingQueue.smallest_vtime.Goals as goal
 
 -- what is told of the first fair task
@@ -20,8 +21,8 @@ told tasks cpu seats first policies same is =
     is ∙ ap (λ (s : Seats). first_in fair_class s) same
     ∙ first_seat queued (recursion_from_All IsLow queued (low_among tasks cpu policies)) (λ seat. seat.0 == fair_class) is_fair (λ t low. refl)
 
-pub returns-in_err-first_fair : goal.returns-in_err-first_fair
-returns-in_err-first_fair g c =
+pub returns-in_err-first_fair-clause-smallest : goal.returns-in_err-first_fair-clause-smallest
+returns-in_err-first_fair-clause-smallest g c =
     let tasks = c.args.table.now.tasks in
     let queued = queued_among tasks c.args._cpu in
     c.from_residual.ensures
@@ -29,8 +30,8 @@ returns-in_err-first_fair g c =
     (none_by (first_of (filter is_fair queued)) (sym c.in_err-first_fair.was ∙ told tasks c.args._cpu _ _ c.requires.policies c.requires.holds.trees.seats c.first_fair.ensures.first))
     ∙ sym (smallest-first queued)
 
-pub returns-in_err-first : goal.returns-in_err-first
-returns-in_err-first g c =
+pub returns-in_err-first-clause-smallest : goal.returns-in_err-first-clause-smallest
+returns-in_err-first-clause-smallest g c =
     let tasks = c.args.table.now.tasks in
     let queued = queued_among tasks c.args._cpu in
     let first = first_of (filter is_fair queued) in
@@ -40,8 +41,8 @@ returns-in_err-first g c =
     (sym c.in_ok-first_fair.was ∙ told tasks c.args._cpu _ _ c.requires.policies c.requires.holds.trees.seats c.first_fair.ensures.first) in
     c.from_residual-in_err-first.ensures ∙ ap (option_map (λ (t : Task). t.vtime)) (sym c.in_err-first.was ∙ found) ∙ sym (smallest-first queued)
 
-pub returns : goal.returns
-returns g c =
+pub returns-clause-smallest : goal.returns-clause-smallest
+returns-clause-smallest g c =
     let tasks = c.args.table.now.tasks in
     let queued = queued_among tasks c.args._cpu in
     let first = first_of (filter is_fair queued) in
@@ -50,3 +51,15 @@ returns g c =
     ∙ some_by tasks c.in_ok-first_fair.field-0 first (found_first tasks c.args._cpu is_fair c.task_of.ensures.sound.rising)
     (sym c.in_ok-first_fair.was ∙ told tasks c.args._cpu _ _ c.requires.policies c.requires.holds.trees.seats c.first_fair.ensures.first) in
     ap (option_map (λ (t : Task). t.vtime)) (sym c.in_ok-first.was ∙ found) ∙ sym (smallest-first queued)
+
+pub returns-in_err-first_fair-clause-counted : goal.returns-in_err-first_fair-clause-counted
+returns-in_err-first_fair-clause-counted g c =
+    omega (arith, c.first_fair.ensures.counted, few_of_all c.args.self.now.run c.args.table.now.limit c.args.table.now.tasks c.args._cpu c.requires.holds.trees)
+
+pub returns-in_err-first-clause-counted : goal.returns-in_err-first-clause-counted
+returns-in_err-first-clause-counted g c =
+    omega (arith, c.first_fair.ensures.counted, few_of_all c.args.self.now.run c.args.table.now.limit c.args.table.now.tasks c.args._cpu c.requires.holds.trees)
+
+pub returns-clause-counted : goal.returns-clause-counted
+returns-clause-counted g c =
+    omega (arith, c.first_fair.ensures.counted, few_of_all c.args.self.now.run c.args.table.now.limit c.args.table.now.tasks c.args._cpu c.requires.holds.trees)

@@ -1,4 +1,4 @@
-use Rattle.std.proofs.Common.{◌≡◌, ℕ, ◌+◌, cond, true, ap, sym, ◌∙◌, subst, Option}
+use Rattle.std.proofs.Common.{◌≡◌, ℕ, ◌+◌, cond, true, ap, sym, ◌∙◌, subst, Option, arith}
 use Rattle.std.specs.Prelude.{◌==◌, IfSome, IsTrue}
 use Rattle.std.specs.FinMap as fin
 use Rattle.cs_types.specs.declared.queue.Queued.{Queued}
@@ -8,6 +8,7 @@ use Rattle.core_state.proofs.Tasks.{is_ranked}
 use Rattle.core_state.proofs.Splits.{split_at}
 use Rattle.core_state.proofs.Counts.{counted-take, some-take}
 use Rattle.core_state.proofs.Held.{apart_others, own_seat, own_spot, own_cookie, Holds-take}
+use Rattle.core_state.proofs.Compared.{few_of_all}
 use Rattle.core_state.proofs.queue.TreeQueueSiblingQueue.take.Goals as goal
 
 pub dequeue-requires-clause-ranked : goal.dequeue-requires-clause-ranked
@@ -35,8 +36,8 @@ dequeue-requires-clause-cookie g c =
     (subst (λ (spots : Spots). (cookie : ℕ) → IsTrue (fin.contains_key spots (cookie, seat_of (queued_of task))) → cookie ≡ task.cookie) (sym c.requires.holds.trees.spots)
     (own_cookie (queued_of task) all rest split (apart_others c.args.self.now.run c.args._table.now.limit (queued_of task) all rest split c.requires.holds.trees)))
 
-pub returns : goal.returns
-returns g c =
+pub returns-clause-holds : goal.returns-clause-holds
+returns-clause-holds g c =
     let task = c.args.task.now in
     let tasks = c.args._table.now.tasks in
     let all = queued_at tasks c.args._cpu in
@@ -65,3 +66,7 @@ overflow_sub-self g c =
     some-take (queued_of task) all (others task.spec.pid all)
     (split_at tasks task c.args._cpu c.requires.table.rising c.requires.there c.requires.queued c.requires.home)
     c.args.self.now.kinds c.kind_of.result c.kind_of.ensures.kind c.kind_of.ensures.few c.requires.holds.counts
+
+pub returns-clause-counted : goal.returns-clause-counted
+returns-clause-counted g c =
+    omega (arith, c.dequeue.ensures.counted, few_of_all c.args.self.now.run c.args._table.now.limit c.args._table.now.tasks c.args._cpu c.requires.holds.trees)

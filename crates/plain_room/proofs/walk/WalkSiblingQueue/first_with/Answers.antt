@@ -6,8 +6,8 @@ use Rattle.cs_types.proofs.First.{first_of_reduce}
 use Rattle.core_lanes.proofs.Lists.{filter-filter}
 use Rattle.plain_room.proofs.walk.WalkSiblingQueue.first_with.Goals as goal
 
-pub returns : goal.returns
-returns g c =
+pub returns-clause-first : goal.returns-clause-first
+returns-clause-first g c =
     let queued = filter (λ task. task.queued && (task.home == c.args.cpu) && (task.cookie == c.args.cookie)) c.args.table.now.tasks in
     let scanned : c.reduce.result ≡ reduce (λ first task. cond (goes_before task first) task first) queued = search rules in
     scanned ∙ sym (first_of_reduce queued)

@@ -7,8 +7,8 @@ use Rattle.core_lanes.specs.Queued.{is_peer_of}
 use Rattle.core_lanes.proofs.Lists.{any-filter}
 use Rattle.plain_room.proofs.walk.WalkSiblingQueue.has_peer.Goals as goal
 
-pub returns : goal.returns
-returns g c =
+pub returns-clause-peer : goal.returns-clause-peer
+returns-clause-peer g c =
     let task = c.args.task.now in
     let tasks = c.args.table.now.tasks in
     let walk = YieldsList-from_first (λ (x : Bor Task). x.now) (λ (left : List Task). left) tasks c.iter.ensures.tasks in

@@ -6,8 +6,8 @@ use Rattle.cs_types.proofs.First.{first_of_reduce}
 use Rattle.core_lanes.proofs.Lists.{filter-filter}
 use Rattle.plain_room.proofs.walk.WalkSiblingQueue.next_with.Goals as goal
 
-pub returns : goal.returns
-returns g c =
+pub returns-clause-next : goal.returns-clause-next
+returns-clause-next g c =
     let tasks = c.args.table.now.tasks in
     let task = c.args.task.now in
     let queued = filter (λ other. other.queued && (other.home == c.args.cpu) && (other.cookie == task.cookie) && goes_before task other) tasks in

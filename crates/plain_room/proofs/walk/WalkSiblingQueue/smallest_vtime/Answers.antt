@@ -8,8 +8,8 @@ use Rattle.core_lanes.proofs.Lists.{filter-filter}
 use Rattle.core_lanes.proofs.Lists.{less_is_order}
 use Rattle.plain_room.proofs.walk.WalkSiblingQueue.smallest_vtime.Goals as goal
 
-pub returns : goal.returns
-returns g c =
+pub returns-clause-smallest : goal.returns-clause-smallest
+returns-clause-smallest g c =
     let tasks = c.args.table.now.tasks in
     let queued = filter (λ (task : Task). task.queued && (task.home == c.args.cpu) && is_fair task) tasks in
     let scanned : c.reduce.result ≡ reduce (λ smallest vtime. cond (ltb vtime smallest) vtime smallest) (map (λ (task : Task). task.vtime) queued) = search rules in
