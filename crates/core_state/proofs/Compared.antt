@@ -1,29 +1,25 @@
 -- Compared: how many comparisons the trees of a sibling take, and a schedule over them.
-use Rattle.std.proofs.Common.{◌≡◌, ℕ, zero, suc, ◌+◌, ◌*◌, ◌≤◌, List, length, ap, sym, ◌∙◌, refl, arith}
+use Rattle.std.proofs.Common.{◌≡◌, ℕ, ◌*◌, ◌≤◌, List, length, ap, ◌∙◌, arith}
 use Rattle.std.specs.FinMap as fin
 use Rattle.std.proofs.lemmas.List.{length-map}
-use Rattle.std.proofs.Math.Nat.{suc-mul}
+use Rattle.std.proofs.Math.Nat.{mul_left_comm}
 use Rattle.cs_types.specs.declared.task.Task.{Task}
 use Rattle.cs_types.specs.declared.queue.Queued.{Queued}
-use Rattle.cs_types.specs.Comparisons.{digits, most_comparisons}
+use Rattle.cs_types.specs.Comparisons.{most_comparisons}
 use Rattle.cs_types.specs.Queue.{RunQueued, Seats, queued_of}
 use Rattle.cs_types.proofs.Comparisons.{most_comparisons-le}
-use Rattle.core_lanes.specs.Queued.{queued_among, queued_at, others}
+use Rattle.core_lanes.specs.Queued.{queued_among, queued_at}
 use Rattle.core_pick.specs.Comparisons.{most_of_schedule as most_by_calls}
 use Rattle.core_state.specs.Comparisons.{most_of_call, most_of_schedule}
 use Rattle.core_state.specs.Held.{Holds}
 use Rattle.core_state.proofs.Held.{len-seated}
 use Rattle.core_state.proofs.Splits.{IsSplit, length-split}
 
--- more tasks never lower the most of a call
-pub most_of_call-le : (few many : ℕ) → few ≤ many → most_of_call few ≤ most_of_call many
-most_of_call-le few many le = omega (arith, most_comparisons-le few many le)
-
 -- the trees have as many keys as there are tasks
 long_trees : (run : RunQueued) (most : ℕ) (tasks : List Queued) → Holds run most tasks → fin.len run.tasks ≡ length tasks
 long_trees run most tasks held = ap (λ (seats : Seats). fin.len seats) held.seats ∙ len-seated tasks held.distinct
 
--- a call that asks one tree of each of so many classes
+-- so a tree of a sibling is searched by no more than the sibling's tasks allow
 pub few_of_all : (run : RunQueued) (most : ℕ) (tasks : List Task) (cpu : ℕ) → Holds run most (queued_at tasks cpu) →
     most_comparisons (fin.len run.tasks) ≤ most_comparisons (length (queued_among tasks cpu))
 few_of_all run most tasks cpu held =
@@ -35,10 +31,6 @@ pub few_of_others : (run : RunQueued) (most : ℕ) (tasks : List Task) (cpu : �
 few_of_others run most tasks cpu task rest split held =
     most_comparisons-le _ _ (omega (arith, long_trees run most rest held, length-split task (queued_at tasks cpu) rest split, length-map (queued_among tasks cpu) queued_of))
 
--- twice as many calls as siblings take the most of a schedule
-times_four : (siblings most : ℕ) → siblings * (4 * most) ≡ 4 * (siblings * most)
-times_four zero most = refl
-times_four (suc siblings) most = omega (arith, suc-mul siblings (4 * most), suc-mul siblings most, times_four siblings most)
-
+-- a schedule over trees takes no more than its number
 pub most_by_calls-trees : (siblings longest : ℕ) → most_by_calls siblings (most_of_call longest) ≡ most_of_schedule siblings longest
-most_by_calls-trees siblings longest = omega (arith, times_four siblings (most_comparisons longest))
+most_by_calls-trees siblings longest = omega (arith, mul_left_comm siblings 4 (most_comparisons longest))

@@ -19,7 +19,8 @@ pub struct TreeQueue {
 impl SiblingQueue for TreeQueue {
     ghost use Rattle.core_state.specs.Held.{Keeps};
     ghost use Rattle.core_state.specs.Comparisons.{most_of_call};
-    ghost use Rattle.core_state.proofs.Compared.{most_of_call-le};
+    ghost use Rattle.cs_types.proofs.Comparisons.{most_comparisons-le};
+    ghost use Rattle.std.proofs.Math.Nat.{mul-le-mul_left};
 
     ghost holds = { λ queue most tasks. Keeps queue.run queue.kinds most tasks };
 
@@ -101,5 +102,5 @@ impl SiblingQueue for TreeQueue {
         self.run.count()
     }
 
-    ghost rises = { most_of_call-le };
+    ghost rises = { λ few many le. mul-le-mul_left 4 (most_comparisons-le few many le) };
 }

@@ -24,7 +24,7 @@ fn is_peer_of(task: &Task, other: &Task) -> bool
 
 impl SiblingQueue for Walk {
     ghost use Rattle.plain_room.specs.Comparisons.{most_of_walk};
-    ghost use Rattle.plain_room.proofs.Walks.{most_of_walk-le};
+    ghost use Rattle.std.proofs.Math.Nat.{mul-le-mul_left};
 
     ghost holds = { λ queue most tasks. Unit {0} };
 
@@ -135,5 +135,5 @@ impl SiblingQueue for Walk {
             .count() as u32
     }
 
-    ghost rises = { most_of_walk-le };
+    ghost rises = { λ few many le. mul-le-mul_left 2 le };
 }
