@@ -251,7 +251,7 @@ pub fn schedule<Q: SiblingQueue, L: Ledger>(
     ensures schedules { IfSome result (λ pick. ChargesAndSchedules now (core.old, table.old) (core.new, table.new) cpu pick
         (λ room. schedule room (is_fresh_by (numbers_of (core.old, table.old))) cpu)) }
 
-    // How many comparisons it makes, where no queue is longer than so many tasks.
+    // How many comparisons the queues make for it, where none is longer than so many tasks.
     ensures counted { (longest : ℕ) → AreNoLonger longest (core.old, table.old) →
         steps.new ≤ steps.old + most_of_schedule (length core.old.lanes.items) (Q.most_compared longest) }
 {

@@ -9,8 +9,8 @@ use Rattle.cs_types.specs.Comparisons.{most_comparisons}
 use Rattle.cs_types.specs.Queue.{RunQueued, Seats, queued_of}
 use Rattle.cs_types.proofs.Comparisons.{most_comparisons-le}
 use Rattle.core_lanes.specs.Queued.{queued_among, queued_at}
-use Rattle.core_pick.specs.Comparisons.{most_of_schedule as most_by_calls}
-use Rattle.core_state.specs.Comparisons.{most_of_call, most_of_schedule}
+use Rattle.core_pick.specs.Comparisons.{most_of_schedule}
+use Rattle.core_state.specs.Comparisons.{most_of_call, most_over_trees}
 use Rattle.core_state.specs.Held.{Holds}
 use Rattle.core_state.proofs.Held.{len-seated}
 use Rattle.core_state.proofs.Splits.{IsSplit, length-split}
@@ -32,5 +32,5 @@ few_of_others run most tasks cpu task rest split held =
     most_comparisons-le _ _ (omega (arith, long_trees run most rest held, length-split task (queued_at tasks cpu) rest split, length-map (queued_among tasks cpu) queued_of))
 
 -- a schedule over trees takes no more than its number
-pub most_by_calls-trees : (siblings longest : ℕ) → most_by_calls siblings (most_of_call longest) ≡ most_of_schedule siblings longest
-most_by_calls-trees siblings longest = omega (arith, mul_left_comm siblings 4 (most_comparisons longest))
+pub most_of_schedule-trees : (siblings longest : ℕ) → most_of_schedule siblings (most_of_call longest) ≡ most_over_trees siblings longest
+most_of_schedule-trees siblings longest = omega (arith, mul_left_comm siblings 4 (most_comparisons longest))

@@ -8,5 +8,5 @@ abbrev pub most_of_call : ℕ → ℕ
 most_of_call count = 4 * most_comparisons count
 
 -- the most of a schedule with so many siblings, whose longest queue has so many tasks
-abbrev pub most_of_schedule : ℕ → ℕ → ℕ
-most_of_schedule siblings longest = 8 * (siblings * most_comparisons longest)
+abbrev pub most_over_trees : ℕ → ℕ → ℕ
+most_over_trees siblings longest = 8 * (siblings * most_comparisons longest)
