@@ -9,6 +9,7 @@ mod siblings;
 mod times;
 
 pub use doing::Doing;
+pub use looks::{cookie_run, is_exposed};
 pub use run::timed_run;
 pub use siblings::SiblingTimes;
 pub use times::RunTimes;

@@ -28,7 +28,7 @@ fn task_of<R: Room>(room: &R, pid: Pid) -> Option<TaskView>
 }
 
 /// The cookie of the task that a sibling runs. `None` where it is offline or runs idle.
-fn cookie_run<R: Room>(room: &R, cpu: Cpu) -> Option<Cookie>
+pub fn cookie_run<R: Room>(room: &R, cpu: Cpu) -> Option<Cookie>
     requires { IsPlayable (R.opening room.now).scenario }
     ensures { result ≡ now.cookie_run (fold_of (R.opening room.now) (R.history room.now)) cpu }
 {
@@ -95,8 +95,8 @@ pub(crate) fn some_pending<R: Room>(room: &R) -> bool
     false
 }
 
-/// Whether tasks with distinct cookies run side by side.
-pub(crate) fn is_exposed<R: Room>(room: &R) -> bool
+/// Whether two siblings that are online run tasks with distinct cookies.
+pub fn is_exposed<R: Room>(room: &R) -> bool
     requires { IsPlayable (R.opening room.now).scenario }
     ensures { result ≡ now.is_exposed (fold_of (R.opening room.now) (R.history room.now)) }
 {

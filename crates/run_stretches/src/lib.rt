@@ -1,0 +1,10 @@
+//! What a run shows over time: what each sibling did in each stretch, and when tasks that distrust each other ran side
+//! by side. It is over the contract of a machine alone.
+#![tactic(auto)]
+
+mod recorder;
+mod run;
+mod stretches;
+
+pub use run::recorded_run;
+pub use stretches::{RunStretches, Stretch, Window};

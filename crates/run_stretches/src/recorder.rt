@@ -1,0 +1,195 @@
+//! Keeps what a run shows while it is played.
+
+ghost use Rattle.cs_types.specs.Scenario.{IsPlayable};
+
+use crate::stretches::{RunStretches, Stretch, Window};
+use cs_types::{Cookie, Cpu, OutOfMemory, Pid, Room};
+use run_times::{Doing, cookie_run, is_exposed};
+use std::alloc::Global;
+
+/// What a sibling does at a moment.
+#[derive(Clone, Copy)]
+struct Now {
+    pid: Pid,
+    doing: Doing,
+    pending: bool,
+}
+
+/// What a run showed so far. Between two advances it knows where the open stretch of each sibling stands.
+#[derive(Drop)]
+pub(crate) struct Recorder {
+    shown: RunStretches,
+    /// The place of each sibling's open stretch. `None` before the first advance.
+    open: Vec<Option<usize>>,
+    /// Whether a task is queued on each sibling, at the last moment at which a sibling ran idle.
+    queued: Vec<bool>,
+}
+
+/// Marks the siblings on which a task is queued.
+fn mark_queued<R: Room>(room: &R, queued: &mut [bool]) {
+    queued.fill(false);
+    let mut pid = 0;
+    while let Some(task) = room.task_after(pid) {
+        if task.queued
+            && let Some(mark) = queued.get_mut(usize::from(task.cpu))
+        {
+            *mark = true;
+        }
+        pid = task.pid;
+    }
+}
+
+/// Whether a sibling is online and runs idle.
+fn runs_idle<R: Room>(room: &R, cpu: Cpu) -> bool {
+    match room.cpu(cpu) {
+        Some(view) => view.online && view.run == 0,
+        None => false,
+    }
+}
+
+/// Whether some sibling is.
+fn some_runs_idle<R: Room>(room: &R) -> bool {
+    for cpu in 0..room.siblings() {
+        if runs_idle(room, cpu) {
+            return true;
+        }
+    }
+    false
+}
+
+/// What an online sibling that runs idle does.
+fn idling(core_cookie: Cookie, has_queued: bool) -> Doing {
+    if has_queued {
+        Doing::ForcedIdle(core_cookie)
+    } else {
+        Doing::Idles
+    }
+}
+
+/// What a sibling does now, where it is known whether a task is queued on it.
+fn now_of<R: Room>(room: &R, cpu: Cpu, has_queued: bool) -> Now
+    requires { IsPlayable (R.opening room.now).scenario }
+{
+    match room.cpu(cpu) {
+        Some(view) if view.online => match cookie_run(room, cpu) {
+            Some(cookie) => Now {
+                pid: view.run,
+                doing: Doing::Runs(cookie),
+                pending: view.pending,
+            },
+            None => Now {
+                pid: 0,
+                doing: idling(room.core().cookie, has_queued),
+                pending: view.pending,
+            },
+        },
+        _ => Now {
+            pid: 0,
+            doing: Doing::Offline,
+            pending: false,
+        },
+    }
+}
+
+/// Whether both do the same.
+fn is_same_doing(a: Doing, b: Doing) -> bool {
+    match (a, b) {
+        (Doing::Offline, Doing::Offline) => true,
+        (Doing::Idles, Doing::Idles) => true,
+        (Doing::Runs(a), Doing::Runs(b)) => a == b,
+        (Doing::ForcedIdle(a), Doing::ForcedIdle(b)) => a == b,
+        _ => false,
+    }
+}
+
+/// Whether the stretch goes on with what its sibling does now.
+fn goes_on(stretch: Stretch, now: Now) -> bool {
+    stretch.pid == now.pid
+        && stretch.pending == now.pending
+        && is_same_doing(stretch.doing, now.doing)
+}
+
+impl Recorder {
+    /// What a run of a core with this number of siblings showed before its first step.
+    pub(crate) fn open(alloc: Global, siblings: u8) -> Result<Self, OutOfMemory> {
+        Ok(Recorder {
+            shown: RunStretches {
+                siblings,
+                total: 0,
+                stretches: Vec::new(alloc),
+                windows: Vec::new(alloc),
+                moments: Vec::new(alloc),
+            },
+            open: vec![in alloc; None; usize::from(siblings)]?,
+            queued: vec![in alloc; false; usize::from(siblings)]?,
+        })
+    }
+
+    /// Takes in what a sibling does in the time between these moments.
+    fn does(&mut self, cpu: Cpu, now: Now, from: u64, to: u64) -> Result<(), OutOfMemory> {
+        let Some(open) = self.open.get_mut(usize::from(cpu)) else {
+            return Ok(());
+        };
+        if let Some(place) = *open
+            && let Some(stretch) = self.shown.stretches.get_mut(place)
+            && goes_on(*stretch, now)
+        {
+            stretch.to = to;
+            return Ok(());
+        }
+        *open = Some(self.shown.stretches.len());
+        self.shown.stretches.push(Stretch {
+            from,
+            to,
+            cpu,
+            pid: now.pid,
+            doing: now.doing,
+            pending: now.pending,
+        })?;
+        Ok(())
+    }
+
+    /// Takes in that the core is exposed in the time between these moments.
+    fn is_exposed(&mut self, from: u64, to: u64) -> Result<(), OutOfMemory> {
+        if let Some(window) = self.shown.windows.last_mut()
+            && window.to == from
+        {
+            window.to = to;
+            return Ok(());
+        }
+        self.shown.windows.push(Window { from, to })?;
+        Ok(())
+    }
+
+    /// Takes in an advance by this time, in ns, that is to be made next in the room.
+    pub(crate) fn advance<R: Room>(&mut self, room: &R, time: u64) -> Result<(), OutOfMemory> {
+        if some_runs_idle(room) {
+            mark_queued(room, self.queued.as_mut_slice());
+        }
+        let from = room.clock();
+        let to = from.saturating_add(time);
+        for cpu in 0..room.siblings() {
+            let has_queued = self.queued.get(usize::from(cpu)).copied().unwrap_or(false);
+            self.does(cpu, now_of(room, cpu, has_queued), from, to)?;
+        }
+        if is_exposed(room) {
+            self.is_exposed(from, to)?;
+        }
+        self.shown.total = to;
+        Ok(())
+    }
+
+    /// Takes in that an event that takes no time is made at this moment.
+    pub(crate) fn moment(&mut self, clock: u64) -> Result<(), OutOfMemory> {
+        if self.shown.moments.last().copied() != Some(clock) {
+            self.shown.moments.push(clock)?;
+        }
+        Ok(())
+    }
+
+    /// What the run showed.
+    pub(crate) fn close(self) -> RunStretches {
+        let Recorder { shown, .. } = self;
+        shown
+    }
+}
