@@ -3,7 +3,7 @@
 ghost use Rattle.cs_types.specs.Scenario.{IsPlayable};
 
 use crate::stretches::{RunStretches, Stretch, Window};
-use cs_types::{Cookie, Cpu, OutOfMemory, Pid, Room};
+use cs_types::{Cookie, Cpu, OutOfMemory, Pid, Room, TaskView};
 use run_times::{Doing, cookie_run, is_exposed};
 use std::alloc::Global;
 
@@ -25,16 +25,21 @@ pub(crate) struct Recorder {
     queued: Vec<bool>,
 }
 
-/// Marks the siblings on which a task is queued.
-fn mark_queued<R: Room>(room: &R, queued: &mut [bool]) {
-    queued.fill(false);
+/// Marks the home of a task that is queued.
+fn mark_home(marks: &mut [bool], task: TaskView) {
+    if task.queued
+        && let Some(mark) = marks.get_mut(usize::from(task.cpu))
+    {
+        *mark = true;
+    }
+}
+
+/// Marks the siblings on which a task is queued, and no other.
+fn mark_queued<R: Room>(room: &R, marks: &mut [bool]) {
+    marks.fill(false);
     let mut pid = 0;
     while let Some(task) = room.task_after(pid) {
-        if task.queued
-            && let Some(mark) = queued.get_mut(usize::from(task.cpu))
-        {
-            *mark = true;
-        }
+        mark_home(marks, task);
         pid = task.pid;
     }
 }
