@@ -1,11 +1,7 @@
 -- Spelled: lists of one word.
-use Rattle.std.proofs.Common.{◌≡◌, ap, ◌<◌, ◌≤◌, List, [], ◌∷◌, length, get_or, arith, sym}
-use Rattle.clap.specs.Walk.{Text}
+use Rattle.std.proofs.Common.{◌≡◌, sym, ap, ◌<◌, ◌≤◌, List, [], ◌∷◌, length, get_or, arith}
 
 pub one_word : {X : Type 0} (words : List X) (word : X) → 1 ≤ length words → length words < 2 → word ≡ get_or words 0 word → words ≡ word ∷ []
 one_word [] word some few is = absurd (omega arith)
 one_word {X} (first ∷ []) word some few is = ap (λ (w : X). w ∷ []) (sym is)
 one_word (first ∷ second ∷ words) word some few is = absurd (omega arith)
-
-pub head_is : (word other : Text) → word ∷ [] ≡ other ∷ [] → word ≡ other
-head_is word other same = cc

@@ -1,8 +1,17 @@
--- Asks: the words of the command (this project's).
-use Rattle.std.specs.Prelude.{◌≡◌, List, [], ◌∷◌, map, codes, String}
+-- Asks: the commands, and the word of each (this project's).
+use Rattle.std.specs.Prelude.{◌≡◌, ℕ, List, [], ◌∷◌, map, codes, String}
 use Rattle.std.specs.declared.alloc.Global.{Global}
 use Rattle.std.specs.String.{string_bytes}
+use Rattle.view_words.specs.declared.command.Command.{Command}
+use Rattle.view_words.specs.declared.command.Command.TheVariants.{Summary, Segments, SegmentsJson, Picture}
 
--- the words ask for the summary of a run
-abbrev pub AsksSummary : List (String Global) → Type 0
-AsksSummary words = map string_bytes words ≡ codes "summary" ∷ []
+-- the word of a command
+abbrev pub word_of : Command → List ℕ
+word_of Summary = codes "summary"
+word_of Segments = codes "segments"
+word_of SegmentsJson = codes "segments-json"
+word_of Picture = codes "picture"
+
+-- the words ask for the command: they are its word alone
+abbrev pub Asks : Command → List (String Global) → Type 0
+Asks command words = map string_bytes words ≡ word_of command ∷ []

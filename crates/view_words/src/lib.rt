@@ -1,8 +1,8 @@
-//! The words of the command line of `coresched_view`: whether they ask for its one command. It is separate so that
-//! nothing else stands on the parser of words.
+//! The words of the command line of `coresched_view`: which command they ask for. It is separate so that nothing else
+//! stands on the parser of words.
 #![tactic(auto)]
 
+mod command;
 mod parser;
-mod words;
 
-pub use words::asks_summary;
+pub use command::{Command, command_of};
