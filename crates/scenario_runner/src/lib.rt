@@ -6,4 +6,5 @@ mod drilled;
 mod played;
 
 pub use command::{drill, replay, run};
+pub use played::opened;
 pub use scenario_input::{GuardKind, Status, play};

@@ -23,8 +23,9 @@ use std::sync::Wait;
 use std::thread::Threads;
 
 /// The scenario that the input spells, and the room of it before its first step, over queues of one kind, with the guards that it
-/// teaches.
-fn opened<Q: SiblingQueue, S: Source, G: Guard>(
+/// teaches. At most 16 guards are handed in, which refuse nobody yet and were never asked. At an `Err` it is told why the
+/// input is not played.
+pub fn opened<Q: SiblingQueue, S: Source, G: Guard>(
     alloc: Global,
     source: &mut S,
     guards: Vec<G>,
