@@ -21,8 +21,10 @@ pub(crate) struct Recorder {
     shown: RunStretches,
     /// The place of each sibling's open stretch. `None` before the first advance.
     open: Vec<Option<usize>>,
-    /// Whether a task is queued on each sibling, at the last moment at which a sibling ran idle.
+    /// Whether a task is queued on each sibling, as it was when this was last asked.
     queued: Vec<bool>,
+    /// Whether that is still so. An advance changes no queue.
+    is_queued_known: bool,
 }
 
 /// Marks the home of a task that is queued.
@@ -127,11 +129,12 @@ impl Recorder {
             },
             open: vec![in alloc; None; usize::from(siblings)]?,
             queued: vec![in alloc; false; usize::from(siblings)]?,
+            is_queued_known: false,
         })
     }
 
-    /// Takes in what a sibling does in the time between these moments.
-    fn does(&mut self, cpu: Cpu, now: Now, from: u64, to: u64) -> Result<(), OutOfMemory> {
+    /// Takes in what a sibling does from one moment to another.
+    fn keep_stretch(&mut self, cpu: Cpu, now: Now, from: u64, to: u64) -> Result<(), OutOfMemory> {
         let Some(open) = self.open.get_mut(usize::from(cpu)) else {
             return Ok(());
         };
@@ -154,8 +157,8 @@ impl Recorder {
         Ok(())
     }
 
-    /// Takes in that the core is exposed in the time between these moments.
-    fn is_exposed(&mut self, from: u64, to: u64) -> Result<(), OutOfMemory> {
+    /// Takes in that two siblings run tasks with distinct cookies from one moment to another.
+    fn keep_window(&mut self, from: u64, to: u64) -> Result<(), OutOfMemory> {
         if let Some(window) = self.shown.windows.last_mut()
             && window.to == from
         {
@@ -168,17 +171,18 @@ impl Recorder {
 
     /// Takes in an advance by this time, in ns, that is to be made next in the room.
     pub(crate) fn advance<R: Room>(&mut self, room: &R, time: u64) -> Result<(), OutOfMemory> {
-        if some_runs_idle(room) {
+        if !self.is_queued_known && some_runs_idle(room) {
             mark_queued(room, self.queued.as_mut_slice());
+            self.is_queued_known = true;
         }
         let from = room.clock();
         let to = from.saturating_add(time);
         for cpu in 0..room.siblings() {
             let has_queued = self.queued.get(usize::from(cpu)).copied().unwrap_or(false);
-            self.does(cpu, now_of(room, cpu, has_queued), from, to)?;
+            self.keep_stretch(cpu, now_of(room, cpu, has_queued), from, to)?;
         }
         if is_exposed(room) {
-            self.is_exposed(from, to)?;
+            self.keep_window(from, to)?;
         }
         self.shown.total = to;
         Ok(())
@@ -186,6 +190,7 @@ impl Recorder {
 
     /// Takes in that an event that takes no time is made at this moment.
     pub(crate) fn moment(&mut self, clock: u64) -> Result<(), OutOfMemory> {
+        self.is_queued_known = false;
         if self.shown.moments.last().copied() != Some(clock) {
             self.shown.moments.push(clock)?;
         }

@@ -1,22 +1,18 @@
 //! A run with what it shows over time.
 
-ghost use Rattle.std.specs.Prelude.{◌≡◌, ◌+◌, ◌*◌, ◌≤◌, [], All, IfOk, length};
+ghost use Rattle.std.specs.Prelude.{◌≡◌, ◌+◌, ◌*◌, ◌≤◌, All, IfOk, length};
 ghost use Rattle.cs_types.specs.Scenario.{IsEvent};
-ghost use Rattle.cs_types.specs.History.{history_of};
-ghost use Rattle.cs_types.specs.Drain.{IsDrained};
 
 use crate::recorder::Recorder;
 use crate::stretches::RunStretches;
 use cs_types::{Event, OutOfMemory, Room, Step};
 use std::alloc::Global;
 
-/// Makes the steps, in their order, in a room that has made none, and keeps what they show.
+/// Makes the steps, in their order, and keeps what they show.
 fn play<R: Room>(room: &mut R, steps: &[Step], recorder: &mut Recorder) -> Result<(), OutOfMemory>
-    requires empty { R.history room.old ≡ [] }
     requires spare { length steps.now ≤ R.spare room.old }
     requires events { All (λ step. IsEvent (R.opening room.old).scenario.siblings step.event) steps.now }
 
-    ensures history { IfOk result (λ _. R.history room.new ≡ history_of (R.opening room.old) steps.now) }
     ensures spare { IfOk result (λ _. R.spare room.new + length steps.now ≡ R.spare room.old) }
     ensures opening { R.opening room.new ≡ R.opening room.old }
 {
@@ -30,7 +26,7 @@ fn play<R: Room>(room: &mut R, steps: &[Step], recorder: &mut Recorder) -> Resul
     Ok(())
 }
 
-/// Makes the steps, in their order, in a room that has made none, and then the entries of the end. It answers what the
+/// Makes the steps, in their order, and then the entries of the end, in a room that has made none yet. It answers what the
 /// run shows over time. What is so right before an advance is so in all of it, and what takes no time is no stretch.
 /// Where there is no memory to keep what it shows, the run is broken off.
 pub fn recorded_run<R: Room>(
@@ -38,14 +34,11 @@ pub fn recorded_run<R: Room>(
     room: &mut R,
     steps: &[Step],
 ) -> Result<RunStretches, OutOfMemory>
-    requires empty { R.history room.old ≡ [] }
     requires spare { length steps.now + (R.opening room.old).scenario.siblings * (R.opening room.old).scenario.siblings
         ≤ R.spare room.old }
     requires events { All (λ step. IsEvent (R.opening room.old).scenario.siblings step.event) steps.now }
 
-    ensures history { IfOk result (λ _.
-        IsDrained (R.opening room.old) (history_of (R.opening room.old) steps.now) (R.history room.new)) }
-    ensures opening { R.opening room.new ≡ R.opening room.old }
+    ensures { R.opening room.new ≡ R.opening room.old }
 {
     let mut recorder = Recorder::open(alloc, room.siblings())?;
     play(room, steps, &mut recorder)?;
