@@ -1,0 +1,82 @@
+//! Where things stand on the page, from its top to its foot. All places are in units of the page.
+
+use cs_types::Cpu;
+
+/// Where the lanes begin, from the left edge.
+pub(crate) const LEFT: u64 = 76;
+
+/// How wide the lanes are.
+pub(crate) const LANES_WIDTH: u64 = 1_200;
+
+/// Where the lanes end.
+pub(crate) const RIGHT: u64 = LEFT + LANES_WIDTH;
+
+/// How wide the page is.
+pub(crate) const PAGE_WIDTH: u64 = RIGHT + 134;
+
+/// How high a lane is.
+pub(crate) const LANE_HEIGHT: u64 = 30;
+
+/// How far the begin of a lane is from that of the next.
+const LANE_STEP: u64 = 46;
+
+/// Where the row of exposure begins, and how high it is.
+pub(crate) const EXPOSED_TOP: u64 = 66;
+pub(crate) const EXPOSED_HEIGHT: u64 = 18;
+
+/// How high the marks of events are.
+pub(crate) const EVENTS_HEIGHT: u64 = 9;
+
+/// How far the outline of a pending reschedule stands out of the lane.
+pub(crate) const PENDING_RIM: u64 = 4;
+
+/// Where the first lane begins.
+const LANES_TOP: u64 = EXPOSED_TOP + EXPOSED_HEIGHT + 14;
+
+/// How high a line of the legend is.
+pub(crate) const LEGEND_STEP: u64 = 23;
+
+/// How many lines the legend has.
+pub(crate) const LEGEND_LINES: u64 = 9;
+
+/// The frame of a page with this number of lanes.
+#[derive(Clone, Copy)]
+pub(crate) struct Frame {
+    lanes: u8,
+}
+
+impl Frame {
+    pub(crate) fn of(siblings: u8) -> Frame {
+        Frame { lanes: siblings }
+    }
+
+    /// Where a lane begins.
+    pub(crate) fn lane(self, cpu: Cpu) -> u64 {
+        LANES_TOP + u64::from(cpu) * LANE_STEP
+    }
+
+    /// How high the row of exposure and all lanes are.
+    pub(crate) fn lanes_height(self) -> u64 {
+        self.events() - EXPOSED_TOP
+    }
+
+    /// Where the row of events begins.
+    pub(crate) fn events(self) -> u64 {
+        LANES_TOP + u64::from(self.lanes) * LANE_STEP
+    }
+
+    /// Where the time axis is.
+    pub(crate) fn axis(self) -> u64 {
+        self.events() + 20
+    }
+
+    /// Where the legend begins.
+    pub(crate) fn legend(self) -> u64 {
+        self.axis() + 52
+    }
+
+    /// How high the page is.
+    pub(crate) fn height(self) -> u64 {
+        self.legend() + LEGEND_LINES * LEGEND_STEP + 12
+    }
+}

@@ -1,0 +1,160 @@
+//! The lane of a sibling: its name, what it did over time, and what that came to.
+
+ghost use Rattle.std.specs.Prelude.{◌≡◌, OnOk, OnErr};
+ghost use Rattle.cs_outside.specs.Device.{Rose};
+
+use crate::frame::Frame;
+use crate::gathered::Gathered;
+use crate::mark::{write_gathered, write_stretch};
+use crate::piece::{Piece, write_pieces};
+use crate::scale::Scale;
+use crate::span::Span;
+use cs_outside::{Failed, Sink};
+use cs_types::Cpu;
+use run_stretches::{RunStretches, Stretch};
+
+/// What waits for the next stretch, with it.
+fn with_next(waiting: Option<Gathered>, stretch: &Stretch) -> Gathered {
+    match waiting {
+        Some(gathered) => {
+            let mut gathered = gathered;
+            gathered.add(stretch);
+            gathered
+        }
+        None => Gathered::of(stretch),
+    }
+}
+
+/// Writes the mark of what was gathered, where there is any.
+fn write_waiting<K: Sink>(
+    sink: &mut K,
+    scale: Scale,
+    waiting: Option<Gathered>,
+) -> Result<(), Failed>
+    ensures faultless { OnOk result (K.faults sink.new ≡ K.faults sink.old) }
+    ensures failed { OnErr result (Rose (K.faults sink.old) (K.faults sink.new)) }
+{
+    match waiting {
+        Some(gathered) => write_gathered(sink, scale, &gathered),
+        None => Ok(()),
+    }
+}
+
+/// Writes the next stretch of a lane where it is wide, and gathers it where it is not. It answers what waits for the one
+/// after it: what is gathered and not yet as wide as a mark.
+fn write_next<K: Sink>(
+    sink: &mut K,
+    scale: Scale,
+    waiting: Option<Gathered>,
+    stretch: &Stretch,
+) -> Result<Option<Gathered>, Failed>
+    ensures faultless { OnOk result (K.faults sink.new ≡ K.faults sink.old) }
+    ensures failed { OnErr result (Rose (K.faults sink.old) (K.faults sink.new)) }
+{
+    if scale.is_wide(Span::of_stretch(stretch)) {
+        write_waiting(sink, scale, waiting)?;
+        write_stretch(sink, scale, stretch)?;
+        return Ok(None);
+    }
+    let gathered = with_next(waiting, stretch);
+    if scale.is_wide(gathered.span) {
+        write_gathered(sink, scale, &gathered)?;
+        return Ok(None);
+    }
+    Ok(Some(gathered))
+}
+
+/// Writes the marks of a sibling.
+fn write_marks<K: Sink>(
+    sink: &mut K,
+    scale: Scale,
+    stretches: &[Stretch],
+    cpu: Cpu,
+) -> Result<(), Failed>
+    ensures faultless { OnOk result (K.faults sink.new ≡ K.faults sink.old) }
+    ensures failed { OnErr result (Rose (K.faults sink.old) (K.faults sink.new)) }
+{
+    let mut waiting = None;
+    for stretch in stretches {
+        if stretch.cpu == cpu {
+            waiting = write_next(sink, scale, waiting, stretch)?;
+        }
+    }
+    write_waiting(sink, scale, waiting)
+}
+
+/// All that a sibling did. `None` where it has no stretch.
+fn all_of(stretches: &[Stretch], cpu: Cpu) -> Option<Gathered> {
+    let mut all = None;
+    for stretch in stretches {
+        if stretch.cpu == cpu {
+            all = Some(with_next(all, stretch));
+        }
+    }
+    all
+}
+
+/// Writes which share of all time something took, at this height beside the lane, where it took any.
+fn write_share<K: Sink>(
+    sink: &mut K,
+    scale: Scale,
+    height: u64,
+    word: &str,
+    time: u64,
+) -> Result<(), Failed>
+    ensures faultless { OnOk result (K.faults sink.new ≡ K.faults sink.old) }
+    ensures failed { OnErr result (Rose (K.faults sink.old) (K.faults sink.new)) }
+{
+    if time == 0 {
+        return Ok(());
+    }
+    write_pieces(
+        sink,
+        &[
+            Piece::Text("<text class=\"r\" x=\"1284\" y=\""),
+            Piece::Number(height),
+            Piece::Text("\">"),
+            Piece::Text(word),
+            Piece::Share(scale.share(time)),
+            Piece::Text(" %</text>\n"),
+        ],
+    )
+}
+
+/// Writes what a sibling's time came to, beside its lane.
+fn write_shares<K: Sink>(sink: &mut K, scale: Scale, all: &Gathered) -> Result<(), Failed>
+    ensures faultless { OnOk result (K.faults sink.new ≡ K.faults sink.old) }
+    ensures failed { OnErr result (Rose (K.faults sink.old) (K.faults sink.new)) }
+{
+    write_share(sink, scale, 7, "ran ", all.ran.time)?;
+    write_share(sink, scale, 19, "forced idle ", all.forced.time)?;
+    write_share(sink, scale, 31, "pending ", all.pending)
+}
+
+/// Writes the lane of a sibling. At an `Err` the sink has failed.
+pub(crate) fn write_lane<K: Sink>(
+    sink: &mut K,
+    scale: Scale,
+    run: &RunStretches,
+    cpu: Cpu,
+) -> Result<(), Failed>
+    ensures faultless { OnOk result (K.faults sink.new ≡ K.faults sink.old) }
+    ensures failed { OnErr result (Rose (K.faults sink.old) (K.faults sink.new)) }
+{
+    let number = Piece::Number(u64::from(cpu));
+    write_pieces(
+        sink,
+        &[
+            Piece::Text("<g class=\"l\" transform=\"translate(0,"),
+            Piece::Number(Frame::of(run.siblings()).lane(cpu)),
+            Piece::Text(")\"><text class=\"n\" x=\"66\" y=\"20\">s"),
+            number,
+            Piece::Text("</text>\n<rect class=\"f\" x=\"76\" width=\"1200\" height=\"30\"/>\n"),
+        ],
+    )?;
+    write_marks(sink, scale, run.stretches(), cpu)?;
+    if let Some(all) = all_of(run.stretches(), cpu) {
+        write_shares(sink, scale, &all)?;
+    }
+    write_pieces(sink, &[Piece::Text("</g>\n")])
+}

@@ -1,0 +1,189 @@
+//! The legend: what each mark means, in words, and the look of each cookie.
+
+ghost use Rattle.std.specs.Prelude.{◌≡◌, OnOk, OnErr};
+ghost use Rattle.cs_outside.specs.Device.{Rose};
+
+use crate::frame::{Frame, LEGEND_LINES, LEGEND_STEP};
+use crate::look::{Hatch, Look};
+use crate::paint::Paint;
+use crate::piece::{Piece, write_pieces};
+use cs_outside::{Failed, Sink};
+use cs_types::Cookie;
+use run_stretches::{RunStretches, Stretch};
+use run_times::Doing;
+
+/// How many cookies the legend has room for.
+const COOKIES: u64 = 2 * LEGEND_LINES;
+
+/// What a line of the legend explains.
+#[derive(Clone, Copy)]
+enum Entry {
+    Runs,
+    Forced,
+    Idles,
+    Offline,
+    Pending,
+    Exposed,
+    Events,
+    Several,
+    Pointer,
+}
+
+impl Entry {
+    /// The entry of a line, from 0 on.
+    fn at(line: u64) -> Entry {
+        match line {
+            0 => Entry::Runs,
+            1 => Entry::Forced,
+            2 => Entry::Idles,
+            3 => Entry::Offline,
+            4 => Entry::Pending,
+            5 => Entry::Exposed,
+            6 => Entry::Events,
+            7 => Entry::Several,
+            _ => Entry::Pointer,
+        }
+    }
+
+    /// What is said of the mark.
+    fn words(self) -> &'static str {
+        match self {
+            Entry::Runs => "A task without a cookie runs. Tasks with a cookie are drawn in the look of their cookie, as listed on the right.",
+            Entry::Forced => "Forced idle: a task waits on this sibling, but has not the cookie that the core is given to. The hatch has the colour of that cookie, grey for none.",
+            Entry::Idles => "Idle: no task waits on this sibling.",
+            Entry::Offline => "Offline: the sibling is not part of the core.",
+            Entry::Pending => "Reschedule pending: the sibling has been told to pick anew, and until it does it goes on with what it did.",
+            Entry::Exposed => "Exposed: tasks with distinct cookies run side by side on two siblings. The band shows in which lanes to look.",
+            Entry::Events => "Something happened that takes no time: a task woke, a sibling picked, a cookie changed, and the like.",
+            Entry::Several => "Many short stretches in one mark: filled as far as tasks ran, hatched at the top as far as the sibling was forced idle.",
+            Entry::Pointer => "Rest the pointer on a mark to read what it is, from when to when.",
+        }
+    }
+
+    /// What its sample is made of.
+    fn sample(self) -> &'static [Piece<'static>] {
+        match self {
+            Entry::Runs => &[Piece::Text("<rect width=\"44\" height=\"16\" fill=\"url(#c0)\"/>")],
+            Entry::Forced => &[Piece::Text("<rect class=\"f\" width=\"44\" height=\"16\"/><rect width=\"44\" height=\"16\" fill=\"url(#h1)\"/>")],
+            Entry::Idles => &[Piece::Text("<rect class=\"f\" width=\"44\" height=\"16\"/>")],
+            Entry::Offline => &[Piece::Text("<rect width=\"44\" height=\"16\" fill=\"#dcdcdc\"/><path class=\"x\" d=\"M0 0L44 16M0 16L44 0\"/>")],
+            Entry::Pending => &[Piece::Text("<rect class=\"p\" width=\"44\" height=\"16\"/>")],
+            Entry::Exposed => &[Piece::Text("<rect class=\"e\" width=\"44\" height=\"16\"/>")],
+            Entry::Events => &[Piece::Text("<path class=\"t\" d=\"M10 4h1v8h-1zM22 4h1v8h-1zM34 4h1v8h-1z\"/>")],
+            Entry::Several => &[Piece::Text("<rect class=\"f\" width=\"44\" height=\"16\"/><rect y=\"7\" width=\"44\" height=\"9\" fill=\"url(#cs)\"/><rect width=\"44\" height=\"5\" fill=\"url(#hs)\"/>")],
+            Entry::Pointer => &[],
+        }
+    }
+}
+
+/// The cookie that a stretch shows, 0 for none.
+fn cookie_of(stretch: &Stretch) -> Cookie {
+    match stretch.doing {
+        Doing::Runs(cookie) => cookie,
+        Doing::ForcedIdle(cookie) => cookie,
+        Doing::Offline | Doing::Idles => 0,
+    }
+}
+
+/// The least cookie above this one that a stretch shows. `None` where there is none.
+fn cookie_above(stretches: &[Stretch], above: Cookie) -> Option<Cookie> {
+    let mut least = None;
+    for stretch in stretches {
+        let cookie = cookie_of(stretch);
+        if cookie > above {
+            least = match least {
+                Some(other) if other < cookie => Some(other),
+                _ => Some(cookie),
+            };
+        }
+    }
+    least
+}
+
+/// Writes the begin of an entry: where it stands, in units.
+fn write_place<K: Sink>(sink: &mut K, left: u64, top: u64) -> Result<(), Failed>
+    ensures faultless { OnOk result (K.faults sink.new ≡ K.faults sink.old) }
+    ensures failed { OnErr result (Rose (K.faults sink.old) (K.faults sink.new)) }
+{
+    write_pieces(
+        sink,
+        &[
+            Piece::Text("<g transform=\"translate("),
+            Piece::Number(left),
+            Piece::Text(","),
+            Piece::Number(top),
+            Piece::Text(")\">"),
+        ],
+    )
+}
+
+/// Writes what each mark means.
+fn write_entries<K: Sink>(sink: &mut K, top: u64) -> Result<(), Failed>
+    requires { top < 2 ^ 32 }
+    ensures faultless { OnOk result (K.faults sink.new ≡ K.faults sink.old) }
+    ensures failed { OnErr result (Rose (K.faults sink.old) (K.faults sink.new)) }
+{
+    for line in 0..LEGEND_LINES {
+        let entry = Entry::at(line);
+        write_place(sink, 76, top + line * LEGEND_STEP)?;
+        write_pieces(sink, entry.sample())?;
+        write_pieces(
+            sink,
+            &[
+                Piece::Text("<text x=\"54\" y=\"12\">"),
+                Piece::Text(entry.words()),
+                Piece::Text("</text></g>\n"),
+            ],
+        )?;
+    }
+    Ok(())
+}
+
+/// Writes the look of a cookie, and the hatch under it.
+fn write_cookie<K: Sink>(sink: &mut K, top: u64, number: u64, cookie: Cookie) -> Result<(), Failed>
+    requires { top < 2 ^ 32 }
+    ensures faultless { OnOk result (K.faults sink.new ≡ K.faults sink.old) }
+    ensures failed { OnErr result (Rose (K.faults sink.old) (K.faults sink.new)) }
+{
+    let left = 960 + number / LEGEND_LINES * 200;
+    write_place(sink, left, top + number % LEGEND_LINES * LEGEND_STEP)?;
+    write_pieces(
+        sink,
+        &[
+            Piece::Text("<rect width=\"44\" height=\"16\""),
+            Piece::Fill(Paint::Runs(Look::of(cookie))),
+            Piece::Text("/><rect x=\"48\" width=\"22\" height=\"16\""),
+            Piece::Fill(Paint::Forced(Hatch::of(cookie))),
+            Piece::Text("/><text x=\"78\" y=\"12\">cookie "),
+            Piece::Number(cookie),
+            Piece::Text("</text></g>\n"),
+        ],
+    )
+}
+
+/// Writes the looks of the cookies by rising cookie, as many as there is room for.
+fn write_cookies<K: Sink>(sink: &mut K, top: u64, stretches: &[Stretch]) -> Result<(), Failed>
+    requires { top < 2 ^ 32 }
+    ensures faultless { OnOk result (K.faults sink.new ≡ K.faults sink.old) }
+    ensures failed { OnErr result (Rose (K.faults sink.old) (K.faults sink.new)) }
+{
+    let mut last = 0;
+    for number in 0..COOKIES {
+        let Some(cookie) = cookie_above(stretches, last) else {
+            return Ok(());
+        };
+        write_cookie(sink, top, number, cookie)?;
+        last = cookie;
+    }
+    Ok(())
+}
+
+/// Writes the legend. At an `Err` the sink has failed.
+pub(crate) fn write_legend<K: Sink>(sink: &mut K, run: &RunStretches) -> Result<(), Failed>
+    ensures faultless { OnOk result (K.faults sink.new ≡ K.faults sink.old) }
+    ensures failed { OnErr result (Rose (K.faults sink.old) (K.faults sink.new)) }
+{
+    let top = Frame::of(run.siblings()).legend();
+    write_entries(sink, top)?;
+    write_cookies(sink, top, run.stretches())
+}

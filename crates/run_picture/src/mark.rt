@@ -1,0 +1,201 @@
+//! The marks on a lane. Their heights are from where the lane begins.
+
+ghost use Rattle.std.specs.Prelude.{◌≡◌, OnOk, OnErr};
+ghost use Rattle.cs_outside.specs.Device.{Rose};
+
+use crate::frame::LANE_HEIGHT;
+use crate::gathered::Gathered;
+use crate::label::write_label;
+use crate::look::{Hatch, Look};
+use crate::paint::Paint;
+use crate::piece::{Piece, write_pieces};
+use crate::scale::{Scale, Strip, UNIT, part_of};
+use crate::span::Span;
+use crate::title::{write_gathered_title, write_title};
+use cs_outside::{Failed, Sink};
+use run_stretches::Stretch;
+use run_times::Doing;
+
+/// How high a lane is, and how high what must be seen is at least, in thousandths of a unit.
+const HIGH: u64 = LANE_HEIGHT * UNIT;
+const SEEN: u64 = 4 * UNIT;
+
+/// A rectangle on a lane, in thousandths of a unit.
+#[derive(Clone, Copy)]
+struct Area {
+    strip: Strip,
+    top: u64,
+    height: u64,
+}
+
+/// What one stretch is filled with.
+fn paint_of(doing: Doing) -> Paint {
+    match doing {
+        Doing::Offline => Paint::Offline,
+        Doing::Runs(cookie) => Paint::Runs(Look::of(cookie)),
+        Doing::Idles => Paint::Clear,
+        Doing::ForcedIdle(cookie) => Paint::Forced(Hatch::of(cookie)),
+    }
+}
+
+/// Where one stretch is drawn. What is forced idle must be seen.
+fn strip_of(scale: Scale, stretch: &Stretch) -> Strip {
+    let span = Span::of_stretch(stretch);
+    match stretch.doing {
+        Doing::ForcedIdle(_) => scale.seen_strip(span),
+        Doing::Offline | Doing::Runs(_) | Doing::Idles => scale.strip(span),
+    }
+}
+
+/// Writes the begin of a mark that is as high as the lane.
+fn write_rect<K: Sink>(sink: &mut K, strip: Strip, paint: Paint) -> Result<(), Failed>
+    ensures faultless { OnOk result (K.faults sink.new ≡ K.faults sink.old) }
+    ensures failed { OnErr result (Rose (K.faults sink.old) (K.faults sink.new)) }
+{
+    write_pieces(
+        sink,
+        &[
+            Piece::Text("<rect x=\""),
+            Piece::Length(strip.place),
+            Piece::Text("\" width=\""),
+            Piece::Length(strip.width),
+            Piece::Text("\" height=\""),
+            Piece::Number(LANE_HEIGHT),
+            Piece::Text("\""),
+            Piece::Fill(paint),
+            Piece::Text(">"),
+        ],
+    )
+}
+
+/// Writes the thin cross over what is offline.
+fn write_cross<K: Sink>(sink: &mut K, strip: Strip) -> Result<(), Failed>
+    ensures faultless { OnOk result (K.faults sink.new ≡ K.faults sink.old) }
+    ensures failed { OnErr result (Rose (K.faults sink.old) (K.faults sink.new)) }
+{
+    let left = Piece::Length(strip.place);
+    let right = Piece::Length(strip.place.saturating_add(strip.width));
+    write_pieces(
+        sink,
+        &[
+            Piece::Text("<path class=\"x\" d=\"M"),
+            left,
+            Piece::Text(" 0L"),
+            right,
+            Piece::Text(" 30M"),
+            left,
+            Piece::Text(" 30L"),
+            right,
+            Piece::Text(" 0\"/>\n"),
+        ],
+    )
+}
+
+/// Writes the mark of one stretch. What is so narrow that nothing of it would show gets none.
+pub(crate) fn write_stretch<K: Sink>(
+    sink: &mut K,
+    scale: Scale,
+    stretch: &Stretch,
+) -> Result<(), Failed>
+    ensures faultless { OnOk result (K.faults sink.new ≡ K.faults sink.old) }
+    ensures failed { OnErr result (Rose (K.faults sink.old) (K.faults sink.new)) }
+{
+    let strip = strip_of(scale, stretch);
+    if strip.width == 0 {
+        return Ok(());
+    }
+    write_rect(sink, strip, paint_of(stretch.doing))?;
+    write_title(sink, stretch)?;
+    write_pieces(sink, &[Piece::Text("</rect>\n")])?;
+    if let Doing::Offline = stretch.doing {
+        write_cross(sink, strip)?;
+    }
+    write_label(sink, stretch, strip)
+}
+
+/// Writes a part of a mark of several stretches, where it has a height.
+fn write_part<K: Sink>(sink: &mut K, area: Area, paint: Paint) -> Result<(), Failed>
+    ensures faultless { OnOk result (K.faults sink.new ≡ K.faults sink.old) }
+    ensures failed { OnErr result (Rose (K.faults sink.old) (K.faults sink.new)) }
+{
+    if area.height == 0 {
+        return Ok(());
+    }
+    write_pieces(
+        sink,
+        &[
+            Piece::Text("<rect x=\""),
+            Piece::Length(area.strip.place),
+            Piece::Text("\" y=\""),
+            Piece::Length(area.top),
+            Piece::Text("\" width=\""),
+            Piece::Length(area.strip.width),
+            Piece::Text("\" height=\""),
+            Piece::Length(area.height),
+            Piece::Text("\""),
+            Piece::Fill(paint),
+            Piece::Text("/>"),
+        ],
+    )
+}
+
+/// How much of the height of a lane what was forced idle gets in a mark: its share of the time, and so much that it is
+/// seen where there is any.
+fn forced_height(gathered: &Gathered) -> u64 {
+    if gathered.forced.time == 0 {
+        return 0;
+    }
+    part_of(gathered.forced.time, gathered.span.length(), HIGH).max(SEEN)
+}
+
+/// Where several stretches are drawn.
+fn column_strip(scale: Scale, gathered: &Gathered) -> Strip {
+    if gathered.forced.time == 0 {
+        scale.strip(gathered.span)
+    } else {
+        scale.seen_strip(gathered.span)
+    }
+}
+
+/// Writes the mark of several stretches: from the top how much of the time the sibling was forced idle and offline, and
+/// from the foot how much of it a task ran.
+fn write_column<K: Sink>(sink: &mut K, scale: Scale, gathered: &Gathered) -> Result<(), Failed>
+    ensures faultless { OnOk result (K.faults sink.new ≡ K.faults sink.old) }
+    ensures failed { OnErr result (Rose (K.faults sink.old) (K.faults sink.new)) }
+{
+    let time = gathered.span.length();
+    let forced = forced_height(gathered);
+    let offline = part_of(gathered.offline, time, HIGH);
+    let ran = part_of(gathered.ran.time, time, HIGH).min(HIGH.saturating_sub(forced));
+    let whole = Area {
+        strip: column_strip(scale, gathered),
+        top: 0,
+        height: HIGH,
+    };
+    write_pieces(sink, &[Piece::Text("<g>")])?;
+    write_gathered_title(sink, gathered)?;
+    write_part(sink, whole, Paint::Clear)?;
+    let part = Area { top: HIGH.saturating_sub(ran), height: ran, ..whole };
+    write_part(sink, part, Paint::of_ran(gathered.ran.cookies))?;
+    let part = Area { top: forced, height: offline, ..whole };
+    write_part(sink, part, Paint::Offline)?;
+    let part = Area { height: forced, ..whole };
+    write_part(sink, part, Paint::of_forced(gathered.forced.cookies))?;
+    write_pieces(sink, &[Piece::Text("</g>\n")])
+}
+
+/// Writes the mark of what was gathered.
+pub(crate) fn write_gathered<K: Sink>(
+    sink: &mut K,
+    scale: Scale,
+    gathered: &Gathered,
+) -> Result<(), Failed>
+    ensures faultless { OnOk result (K.faults sink.new ≡ K.faults sink.old) }
+    ensures failed { OnErr result (Rose (K.faults sink.old) (K.faults sink.new)) }
+{
+    if gathered.count == 1 {
+        write_stretch(sink, scale, &gathered.first)
+    } else {
+        write_column(sink, scale, gathered)
+    }
+}

@@ -1,0 +1,71 @@
+//! The whole page.
+
+ghost use Rattle.std.specs.Prelude.{◌≡◌, OnOk, OnErr};
+ghost use Rattle.cs_outside.specs.Device.{Rose};
+
+use crate::axis::write_axis;
+use crate::frame::Frame;
+use crate::head::{write_begin, write_head};
+use crate::lane::write_lane;
+use crate::legend::write_legend;
+use crate::piece::{Piece, write_pieces};
+use crate::row::{write_exposure, write_moments, write_pending};
+use crate::scale::Scale;
+use crate::tiles::write_tiles;
+use cs_outside::{Failed, Sink};
+use run_stretches::RunStretches;
+
+/// How high the page is of a run in which no time passed.
+const EMPTY_HEIGHT: u64 = 80;
+
+/// Writes the lanes of all siblings.
+fn write_lanes<K: Sink>(sink: &mut K, scale: Scale, run: &RunStretches) -> Result<(), Failed>
+    ensures faultless { OnOk result (K.faults sink.new ≡ K.faults sink.old) }
+    ensures failed { OnErr result (Rose (K.faults sink.old) (K.faults sink.new)) }
+{
+    for cpu in 0..run.siblings() {
+        write_lane(sink, scale, run, cpu)?;
+    }
+    Ok(())
+}
+
+/// Writes the page of a run in which no time passed.
+fn write_empty<K: Sink>(sink: &mut K, run: &RunStretches) -> Result<(), Failed>
+    ensures faultless { OnOk result (K.faults sink.new ≡ K.faults sink.old) }
+    ensures failed { OnErr result (Rose (K.faults sink.old) (K.faults sink.new)) }
+{
+    write_begin(sink, EMPTY_HEIGHT)?;
+    write_pieces(
+        sink,
+        &[
+            Piece::Text("<text class=\"h\" x=\"76\" y=\"26\">"),
+            Piece::Number(u64::from(run.siblings())),
+            Piece::Text(" siblings of one core</text>\n<text x=\"76\" y=\"48\">No time passed in this run,"),
+            Piece::Text(" so there is nothing to show over time.</text>\n</svg>\n"),
+        ],
+    )
+}
+
+/// Writes the picture of a run: an SVG without scripts and without references to anything else. Each sibling has a lane
+/// over time. Above the lanes it shows when tasks with distinct cookies ran side by side, and below them when something
+/// happened at which no time passes. A legend says what each mark means. What is too narrow to be seen is joined, so a
+/// picture has less than two million bytes. It takes no memory. At an `Err` the sink has failed.
+pub fn picture<K: Sink>(run: &RunStretches, sink: &mut K) -> Result<(), Failed>
+    ensures faultless { OnOk result (K.faults sink.new ≡ K.faults sink.old) }
+    ensures failed { OnErr result (Rose (K.faults sink.old) (K.faults sink.new)) }
+{
+    if run.total() == 0 {
+        return write_empty(sink, run);
+    }
+    let scale = Scale::of(run.total(), run.siblings());
+    write_begin(sink, Frame::of(run.siblings()).height())?;
+    write_tiles(sink)?;
+    write_head(sink, scale, run)?;
+    write_exposure(sink, run)?;
+    write_axis(sink, scale, run)?;
+    write_lanes(sink, scale, run)?;
+    write_pending(sink, run)?;
+    write_moments(sink, run)?;
+    write_legend(sink, run)?;
+    write_pieces(sink, &[Piece::Text("</svg>\n")])
+}

@@ -1,0 +1,296 @@
+//! What is shown beside what the siblings did: when the core was exposed, when a sibling had a pending reschedule, and
+//! when something happened at which no time passes. Spans that are near are drawn as one, and each is seen.
+
+ghost use Rattle.std.specs.Prelude.{◌≡◌, OnOk, OnErr};
+ghost use Rattle.cs_outside.specs.Device.{Rose};
+
+use crate::frame::{EVENTS_HEIGHT, EXPOSED_HEIGHT, EXPOSED_TOP, Frame, LANE_HEIGHT, PENDING_RIM};
+use crate::piece::{Piece, write_pieces};
+use crate::scale::{Scale, Strip};
+use crate::span::Span;
+use crate::title::write_span;
+use cs_outside::{Failed, Sink};
+use cs_types::Cpu;
+use run_stretches::{RunStretches, Stretch, Window};
+
+/// Of what the spans are.
+#[derive(Clone, Copy)]
+enum Row {
+    /// The core is exposed.
+    Exposed,
+    /// The core is exposed, drawn through the lanes.
+    Behind,
+    /// This sibling has a pending reschedule.
+    Pending(Cpu),
+    /// Something happened at which no time passes.
+    Events,
+}
+
+/// Where the spans go.
+#[derive(Clone, Copy)]
+struct Sheet {
+    row: Row,
+    scale: Scale,
+    frame: Frame,
+}
+
+/// Spans that are drawn as one, at least one.
+#[derive(Clone, Copy)]
+struct Joined {
+    /// From the begin of the first to the end of the last.
+    span: Span,
+    /// How many there are.
+    count: u64,
+    /// How long they are together, in ns.
+    time: u64,
+}
+
+impl Joined {
+    fn of(span: Span) -> Joined {
+        Joined {
+            span,
+            count: 1,
+            time: span.length(),
+        }
+    }
+
+    /// These, and a later one.
+    fn and(self, span: Span) -> Joined {
+        Joined {
+            span: self.span.up_to(span),
+            count: self.count.saturating_add(1),
+            time: self.time.saturating_add(span.length()),
+        }
+    }
+}
+
+/// Writes the begin of a mark: a rectangle from this height on.
+fn write_rect<K: Sink>(sink: &mut K, strip: Strip, top: u64, height: u64) -> Result<(), Failed>
+    ensures faultless { OnOk result (K.faults sink.new ≡ K.faults sink.old) }
+    ensures failed { OnErr result (Rose (K.faults sink.old) (K.faults sink.new)) }
+{
+    write_pieces(
+        sink,
+        &[
+            Piece::Text("<rect x=\""),
+            Piece::Length(strip.place),
+            Piece::Text("\" y=\""),
+            Piece::Number(top),
+            Piece::Text("\" width=\""),
+            Piece::Length(strip.width),
+            Piece::Text("\" height=\""),
+            Piece::Number(height),
+            Piece::Text("\""),
+        ],
+    )
+}
+
+/// Writes the words of a mark of exposure, and its end.
+fn write_exposed<K: Sink>(sink: &mut K, joined: &Joined) -> Result<(), Failed>
+    ensures faultless { OnOk result (K.faults sink.new ≡ K.faults sink.old) }
+    ensures failed { OnErr result (Rose (K.faults sink.old) (K.faults sink.new)) }
+{
+    if joined.count == 1 {
+        write_pieces(sink, &[Piece::Text("><title>exposed")])?;
+    } else {
+        write_pieces(
+            sink,
+            &[
+                Piece::Text("><title>exposed "),
+                Piece::Number(joined.count),
+                Piece::Text(" times, for "),
+                Piece::Time(joined.time),
+                Piece::Text(" in all"),
+            ],
+        )?;
+    }
+    write_span(sink, joined.span)?;
+    write_pieces(sink, &[Piece::Text("</rect>\n")])
+}
+
+/// Writes the words of a mark of events, and its end.
+fn write_events<K: Sink>(sink: &mut K, joined: &Joined) -> Result<(), Failed>
+    ensures faultless { OnOk result (K.faults sink.new ≡ K.faults sink.old) }
+    ensures failed { OnErr result (Rose (K.faults sink.old) (K.faults sink.new)) }
+{
+    if joined.count == 1 {
+        return write_pieces(
+            sink,
+            &[
+                Piece::Text("><title>events at "),
+                Piece::Time(joined.span.from),
+                Piece::Text("</title></rect>\n"),
+            ],
+        );
+    }
+    write_pieces(
+        sink,
+        &[
+            Piece::Text("><title>events at "),
+            Piece::Number(joined.count),
+            Piece::Text(" moments"),
+        ],
+    )?;
+    write_span(sink, joined.span)?;
+    write_pieces(sink, &[Piece::Text("</rect>\n")])
+}
+
+impl Sheet {
+    /// Writes the mark of spans that are drawn as one.
+    fn write<K: Sink>(self, sink: &mut K, joined: &Joined) -> Result<(), Failed>
+        ensures faultless { OnOk result (K.faults sink.new ≡ K.faults sink.old) }
+        ensures failed { OnErr result (Rose (K.faults sink.old) (K.faults sink.new)) }
+    {
+        let strip = self.scale.seen_strip(joined.span);
+        let frame = self.frame;
+        match self.row {
+            Row::Exposed => {
+                write_rect(sink, strip, EXPOSED_TOP, EXPOSED_HEIGHT)?;
+                write_exposed(sink, joined)
+            }
+            Row::Behind => {
+                write_rect(sink, strip, EXPOSED_TOP, frame.lanes_height())?;
+                write_pieces(sink, &[Piece::Text("/>\n")])
+            }
+            Row::Pending(cpu) => {
+                let top = frame.lane(cpu) - PENDING_RIM;
+                write_rect(sink, strip, top, LANE_HEIGHT + 2 * PENDING_RIM)?;
+                write_pieces(sink, &[Piece::Text("/>\n")])
+            }
+            Row::Events => {
+                write_rect(sink, strip, frame.events(), EVENTS_HEIGHT)?;
+                write_events(sink, joined)
+            }
+        }
+    }
+
+    /// Takes the next span: joins it to what waits where it is near, and else writes that. It answers what waits then.
+    fn take<K: Sink>(
+        self,
+        sink: &mut K,
+        waiting: Option<Joined>,
+        span: Span,
+    ) -> Result<Option<Joined>, Failed>
+        ensures faultless { OnOk result (K.faults sink.new ≡ K.faults sink.old) }
+        ensures failed { OnErr result (Rose (K.faults sink.old) (K.faults sink.new)) }
+    {
+        let Some(joined) = waiting else {
+            return Ok(Some(Joined::of(span)));
+        };
+        if self.scale.are_near(joined.span, span) {
+            return Ok(Some(joined.and(span)));
+        }
+        self.write(sink, &joined)?;
+        Ok(Some(Joined::of(span)))
+    }
+
+    /// Writes what waits at the end.
+    fn close<K: Sink>(self, sink: &mut K, waiting: Option<Joined>) -> Result<(), Failed>
+        ensures faultless { OnOk result (K.faults sink.new ≡ K.faults sink.old) }
+        ensures failed { OnErr result (Rose (K.faults sink.old) (K.faults sink.new)) }
+    {
+        match waiting {
+            Some(joined) => self.write(sink, &joined)?,
+            None => {}
+        }
+        write_pieces(sink, &[Piece::Text("</g>\n")])
+    }
+
+    /// Writes when the core was exposed.
+    fn write_windows<K: Sink>(self, sink: &mut K, windows: &[Window]) -> Result<(), Failed>
+        ensures faultless { OnOk result (K.faults sink.new ≡ K.faults sink.old) }
+        ensures failed { OnErr result (Rose (K.faults sink.old) (K.faults sink.new)) }
+    {
+        let mut waiting = None;
+        for window in windows {
+            waiting = self.take(sink, waiting, Span::of_window(window))?;
+        }
+        self.close(sink, waiting)
+    }
+
+    /// Writes when a sibling had a pending reschedule.
+    fn write_pending<K: Sink>(
+        self,
+        sink: &mut K,
+        stretches: &[Stretch],
+        cpu: Cpu,
+    ) -> Result<(), Failed>
+        ensures faultless { OnOk result (K.faults sink.new ≡ K.faults sink.old) }
+        ensures failed { OnErr result (Rose (K.faults sink.old) (K.faults sink.new)) }
+    {
+        let mut waiting = None;
+        for stretch in stretches {
+            if stretch.cpu == cpu && stretch.pending {
+                waiting = self.take(sink, waiting, Span::of_stretch(stretch))?;
+            }
+        }
+        self.close(sink, waiting)
+    }
+
+    /// Writes when something happened at which no time passes.
+    fn write_moments<K: Sink>(self, sink: &mut K, moments: &[u64]) -> Result<(), Failed>
+        ensures faultless { OnOk result (K.faults sink.new ≡ K.faults sink.old) }
+        ensures failed { OnErr result (Rose (K.faults sink.old) (K.faults sink.new)) }
+    {
+        let mut waiting = None;
+        for moment in moments {
+            waiting = self.take(sink, waiting, Span::of_moment(*moment))?;
+        }
+        self.close(sink, waiting)
+    }
+}
+
+/// The sheet of a row in the picture of a run.
+fn sheet_of(run: &RunStretches, row: Row) -> Sheet {
+    Sheet {
+        row,
+        scale: Scale::of(run.total(), run.siblings()),
+        frame: Frame::of(run.siblings()),
+    }
+}
+
+/// Writes when the core was exposed: in a row of its own, and behind the lanes. At an `Err` the sink has failed.
+pub(crate) fn write_exposure<K: Sink>(sink: &mut K, run: &RunStretches) -> Result<(), Failed>
+    ensures faultless { OnOk result (K.faults sink.new ≡ K.faults sink.old) }
+    ensures failed { OnErr result (Rose (K.faults sink.old) (K.faults sink.new)) }
+{
+    write_pieces(sink, &[Piece::Text("<g class=\"b\">\n")])?;
+    sheet_of(run, Row::Behind).write_windows(sink, run.windows())?;
+    write_pieces(
+        sink,
+        &[
+            Piece::Text("<text class=\"n\" x=\"66\" y=\"80\">exposed</text>\n"),
+            Piece::Text("<rect class=\"f\" x=\"76\" y=\"66\" width=\"1200\" height=\"18\"/>\n<g class=\"e\">\n"),
+        ],
+    )?;
+    sheet_of(run, Row::Exposed).write_windows(sink, run.windows())
+}
+
+/// Writes when the siblings had a pending reschedule, over their lanes. At an `Err` the sink has failed.
+pub(crate) fn write_pending<K: Sink>(sink: &mut K, run: &RunStretches) -> Result<(), Failed>
+    ensures faultless { OnOk result (K.faults sink.new ≡ K.faults sink.old) }
+    ensures failed { OnErr result (Rose (K.faults sink.old) (K.faults sink.new)) }
+{
+    for cpu in 0..run.siblings() {
+        write_pieces(sink, &[Piece::Text("<g class=\"p\">\n")])?;
+        sheet_of(run, Row::Pending(cpu)).write_pending(sink, run.stretches(), cpu)?;
+    }
+    Ok(())
+}
+
+/// Writes when something happened at which no time passes, below the lanes. At an `Err` the sink has failed.
+pub(crate) fn write_moments<K: Sink>(sink: &mut K, run: &RunStretches) -> Result<(), Failed>
+    ensures faultless { OnOk result (K.faults sink.new ≡ K.faults sink.old) }
+    ensures failed { OnErr result (Rose (K.faults sink.old) (K.faults sink.new)) }
+{
+    let frame = Frame::of(run.siblings());
+    write_pieces(
+        sink,
+        &[
+            Piece::Text("<text class=\"n\" x=\"66\" y=\""),
+            Piece::Number(frame.events() + 8),
+            Piece::Text("\">events</text>\n<g class=\"t\">\n"),
+        ],
+    )?;
+    sheet_of(run, Row::Events).write_moments(sink, run.moments())
+}

@@ -1,0 +1,49 @@
+//! A stretch of time, whatever is so in it.
+
+use run_stretches::{Stretch, Window};
+
+/// The time from one moment to another.
+#[derive(Clone, Copy)]
+pub(crate) struct Span {
+    /// The clock at its begin, in ns.
+    pub from: u64,
+    /// The clock at its end, in ns.
+    pub to: u64,
+}
+
+impl Span {
+    pub(crate) fn of_stretch(stretch: &Stretch) -> Span {
+        Span {
+            from: stretch.from,
+            to: stretch.to,
+        }
+    }
+
+    pub(crate) fn of_window(window: &Window) -> Span {
+        Span {
+            from: window.from,
+            to: window.to,
+        }
+    }
+
+    /// A moment, which takes no time.
+    pub(crate) fn of_moment(clock: u64) -> Span {
+        Span {
+            from: clock,
+            to: clock,
+        }
+    }
+
+    /// How long it is, in ns.
+    pub(crate) fn length(self) -> u64 {
+        self.to.saturating_sub(self.from)
+    }
+
+    /// This span and a later one, with what lies between them.
+    pub(crate) fn up_to(self, later: Span) -> Span {
+        Span {
+            from: self.from,
+            to: later.to,
+        }
+    }
+}

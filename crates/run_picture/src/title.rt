@@ -1,0 +1,114 @@
+//! The words of a mark: what one reads where the pointer rests on it.
+
+ghost use Rattle.std.specs.Prelude.{◌≡◌, OnOk, OnErr};
+ghost use Rattle.cs_outside.specs.Device.{Rose};
+
+use crate::gathered::Gathered;
+use crate::piece::{Piece, write_pieces};
+use crate::span::Span;
+use cs_outside::{Failed, Sink};
+use cs_types::Pid;
+use run_stretches::Stretch;
+use run_times::Doing;
+
+/// Writes what a sibling does, in words.
+fn write_doing<K: Sink>(sink: &mut K, pid: Pid, doing: Doing) -> Result<(), Failed>
+    ensures faultless { OnOk result (K.faults sink.new ≡ K.faults sink.old) }
+    ensures failed { OnErr result (Rose (K.faults sink.old) (K.faults sink.new)) }
+{
+    let pid = Piece::Number(u64::from(pid));
+    match doing {
+        Doing::Offline => write_pieces(sink, &[Piece::Text("is offline")]),
+        Doing::Runs(0) => write_pieces(
+            sink,
+            &[Piece::Text("runs task "), pid, Piece::Text(" without a cookie")],
+        ),
+        Doing::Runs(cookie) => write_pieces(
+            sink,
+            &[
+                Piece::Text("runs task "),
+                pid,
+                Piece::Text(" with cookie "),
+                Piece::Number(cookie),
+            ],
+        ),
+        Doing::Idles => write_pieces(sink, &[Piece::Text("idles")]),
+        Doing::ForcedIdle(0) => write_pieces(
+            sink,
+            &[Piece::Text("is forced idle while the core has no cookie")],
+        ),
+        Doing::ForcedIdle(cookie) => write_pieces(
+            sink,
+            &[Piece::Text("is forced idle by cookie "), Piece::Number(cookie)],
+        ),
+    }
+}
+
+/// Writes from when to when something was so, and for how long.
+pub(crate) fn write_span<K: Sink>(sink: &mut K, span: Span) -> Result<(), Failed>
+    ensures faultless { OnOk result (K.faults sink.new ≡ K.faults sink.old) }
+    ensures failed { OnErr result (Rose (K.faults sink.old) (K.faults sink.new)) }
+{
+    write_pieces(
+        sink,
+        &[
+            Piece::Text(", "),
+            Piece::Time(span.from),
+            Piece::Text(" to "),
+            Piece::Time(span.to),
+            Piece::Text(" ("),
+            Piece::Time(span.length()),
+            Piece::Text(")</title>"),
+        ],
+    )
+}
+
+/// Writes the title of one stretch.
+pub(crate) fn write_title<K: Sink>(sink: &mut K, stretch: &Stretch) -> Result<(), Failed>
+    ensures faultless { OnOk result (K.faults sink.new ≡ K.faults sink.old) }
+    ensures failed { OnErr result (Rose (K.faults sink.old) (K.faults sink.new)) }
+{
+    let cpu = Piece::Number(u64::from(stretch.cpu));
+    write_pieces(sink, &[Piece::Text("<title>s"), cpu, Piece::Text(" ")])?;
+    write_doing(sink, stretch.pid, stretch.doing)?;
+    if stretch.pending {
+        write_pieces(sink, &[Piece::Text(", reschedule pending")])?;
+    }
+    write_span(sink, Span::of_stretch(stretch))
+}
+
+/// Writes for how long something was so in a mark, where it was.
+fn write_part<K: Sink>(sink: &mut K, word: &str, time: u64) -> Result<(), Failed>
+    ensures faultless { OnOk result (K.faults sink.new ≡ K.faults sink.old) }
+    ensures failed { OnErr result (Rose (K.faults sink.old) (K.faults sink.new)) }
+{
+    if time == 0 {
+        return Ok(());
+    }
+    write_pieces(sink, &[Piece::Text(word), Piece::Time(time)])
+}
+
+/// Writes the title of a mark of several stretches.
+pub(crate) fn write_gathered_title<K: Sink>(
+    sink: &mut K,
+    gathered: &Gathered,
+) -> Result<(), Failed>
+    ensures faultless { OnOk result (K.faults sink.new ≡ K.faults sink.old) }
+    ensures failed { OnErr result (Rose (K.faults sink.old) (K.faults sink.new)) }
+{
+    write_pieces(
+        sink,
+        &[
+            Piece::Text("<title>s"),
+            Piece::Number(u64::from(gathered.first.cpu)),
+            Piece::Text(", "),
+            Piece::Number(gathered.count),
+            Piece::Text(" stretches"),
+        ],
+    )?;
+    write_part(sink, ", ran ", gathered.ran.time)?;
+    write_part(sink, ", forced idle ", gathered.forced.time)?;
+    write_part(sink, ", offline ", gathered.offline)?;
+    write_part(sink, ", reschedule pending ", gathered.pending)?;
+    write_span(sink, gathered.span)
+}

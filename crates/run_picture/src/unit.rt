@@ -1,0 +1,75 @@
+//! The units of time in which a person reads a number of nanoseconds.
+
+ghost use Rattle.std.specs.Prelude.{◌<◌};
+
+/// A unit of time.
+#[derive(Clone, Copy)]
+pub(crate) enum TimeUnit {
+    Nanosecond,
+    Microsecond,
+    Millisecond,
+    Second,
+}
+
+impl TimeUnit {
+    /// The largest unit of which this time, in ns, has one, and else the nanosecond.
+    pub(crate) fn fitting(time: u64) -> TimeUnit {
+        if time < 1_000 {
+            TimeUnit::Nanosecond
+        } else if time < 1_000_000 {
+            TimeUnit::Microsecond
+        } else if time < 1_000_000_000 {
+            TimeUnit::Millisecond
+        } else {
+            TimeUnit::Second
+        }
+    }
+
+    /// How many decimals its numbers have where they are exact to the nanosecond.
+    pub(crate) fn decimals(self) -> u32 {
+        match self {
+            TimeUnit::Nanosecond => 0,
+            TimeUnit::Microsecond => 3,
+            TimeUnit::Millisecond => 6,
+            TimeUnit::Second => 9,
+        }
+    }
+
+    /// Its sign, after the space behind a number.
+    pub(crate) fn sign(self) -> &'static str {
+        match self {
+            TimeUnit::Nanosecond => " ns",
+            TimeUnit::Microsecond => " us",
+            TimeUnit::Millisecond => " ms",
+            TimeUnit::Second => " s",
+        }
+    }
+}
+
+/// A power of ten, up to 10^19, the greatest that fits.
+pub(crate) fn power_of_ten(power: u32) -> u64
+    ensures { 0 < result }
+{
+    match power {
+        0 => 1,
+        1 => 10,
+        2 => 100,
+        3 => 1_000,
+        4 => 10_000,
+        5 => 100_000,
+        6 => 1_000_000,
+        7 => 10_000_000,
+        8 => 100_000_000,
+        9 => 1_000_000_000,
+        10 => 10_000_000_000,
+        11 => 100_000_000_000,
+        12 => 1_000_000_000_000,
+        13 => 10_000_000_000_000,
+        14 => 100_000_000_000_000,
+        15 => 1_000_000_000_000_000,
+        16 => 10_000_000_000_000_000,
+        17 => 100_000_000_000_000_000,
+        18 => 1_000_000_000_000_000_000,
+        _ => 10_000_000_000_000_000_000,
+    }
+}
