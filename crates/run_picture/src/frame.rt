@@ -1,5 +1,7 @@
 //! Where things stand on the page, from its top to its foot. All places are in units of the page.
 
+ghost use Rattle.std.specs.Prelude.{◌^◌, ◌<◌, ◌≤◌};
+
 use cs_types::Cpu;
 
 /// Where the lanes begin, from the left edge.
@@ -22,6 +24,7 @@ const LANE_STEP: u64 = 46;
 
 /// Where the row of exposure begins, and how high it is.
 pub(crate) const EXPOSED_TOP: u64 = 66;
+
 pub(crate) const EXPOSED_HEIGHT: u64 = 18;
 
 /// How high the marks of events are.
@@ -29,6 +32,9 @@ pub(crate) const EVENTS_HEIGHT: u64 = 9;
 
 /// How far the outline of a pending reschedule stands out of the lane.
 pub(crate) const PENDING_RIM: u64 = 4;
+
+/// How high the bar above a lane is that tells of pending reschedules.
+pub(crate) const PENDING_BAR: u64 = 7;
 
 /// Where the first lane begins.
 const LANES_TOP: u64 = EXPOSED_TOP + EXPOSED_HEIGHT + 14;
@@ -51,27 +57,39 @@ impl Frame {
     }
 
     /// Where a lane begins.
-    pub(crate) fn lane(self, cpu: Cpu) -> u64 {
+    pub(crate) fn lane(self, cpu: Cpu) -> u64
+        ensures above { 64 ≤ result }
+        ensures small { result < 2 ^ 20 }
+    {
         LANES_TOP + u64::from(cpu) * LANE_STEP
     }
 
     /// How high the row of exposure and all lanes are.
-    pub(crate) fn lanes_height(self) -> u64 {
+    pub(crate) fn lanes_height(self) -> u64
+        ensures { result < 2 ^ 20 }
+    {
         self.events() - EXPOSED_TOP
     }
 
     /// Where the row of events begins.
-    pub(crate) fn events(self) -> u64 {
+    pub(crate) fn events(self) -> u64
+        ensures above { 84 ≤ result }
+        ensures small { result < 2 ^ 20 }
+    {
         LANES_TOP + u64::from(self.lanes) * LANE_STEP
     }
 
     /// Where the time axis is.
-    pub(crate) fn axis(self) -> u64 {
+    pub(crate) fn axis(self) -> u64
+        ensures { result < 2 ^ 21 }
+    {
         self.events() + 20
     }
 
     /// Where the legend begins.
-    pub(crate) fn legend(self) -> u64 {
+    pub(crate) fn legend(self) -> u64
+        ensures { result < 2 ^ 22 }
+    {
         self.axis() + 52
     }
 

@@ -9,7 +9,7 @@ use crate::scale::Scale;
 use cs_outside::{Failed, Sink};
 use run_stretches::{RunStretches, Window};
 
-/// How marks are drawn, by their classes: b behind the lanes, e exposed, p pending, t events, l lanes, i idle, x offline,
+/// How marks are drawn, by their classes: b behind the lanes, e exposed, p and q pending, t events, l lanes, i idle, x offline,
 /// f frames, a the axis, n names, r shares, h the head.
 const STYLE: &str = "<style>\n\
 text{font:12px sans-serif;fill:#222}\n\
@@ -17,12 +17,14 @@ text{font:12px sans-serif;fill:#222}\n\
 .n{font-size:13px;font-weight:bold;text-anchor:end}\n\
 .r{font-size:10px;text-anchor:start}\n\
 .l>text:not([class]){text-anchor:middle;pointer-events:none;paint-order:stroke;stroke:#fff;stroke-width:3px}\n\
+.l>rect[fill]{stroke:#fff;stroke-width:.8}\n\
 .f{fill:none;stroke:#bbb}\n\
 .i{fill:#fff;fill-opacity:0}\n\
 .x{fill:none;stroke:#777;stroke-width:.7;pointer-events:none}\n\
 .b{fill:#d55e00;fill-opacity:.13}\n\
 .e{fill:#d55e00;stroke:#000;stroke-width:.6}\n\
 .p{fill:none;stroke:#000;stroke-width:1.6;stroke-dasharray:5 3;pointer-events:none}\n\
+.q{fill:#000;stroke:none}\n\
 .t{fill:#444}\n\
 .a{fill:none;stroke:#000;stroke-opacity:.13}\n\
 .a text{stroke:none;text-anchor:middle}\n\
@@ -110,8 +112,12 @@ pub(crate) fn write_head<K: Sink>(
     write_pieces(
         sink,
         &[
-            Piece::Text("</text>\n<text x=\"76\" y=\"48\">Each lane is a sibling, a hardware thread of the core. Tasks with distinct cookies"),
-            Piece::Text(" distrust each other and must not run at once: a sibling that has only others to run is forced idle.</text>\n"),
+            Piece::Text(
+                "</text>\n<text x=\"76\" y=\"48\">Each lane is a sibling, a hardware thread of the core. Tasks with distinct cookies",
+            ),
+            Piece::Text(
+                " distrust each other and must not run at once: a sibling that has only others to run is forced idle.</text>\n",
+            ),
         ],
     )
 }

@@ -1,6 +1,6 @@
 //! The text in a mark, where there is room for one.
 
-ghost use Rattle.std.specs.Prelude.{◌≡◌, OnOk, OnErr};
+ghost use Rattle.std.specs.Prelude.{◌≡◌, ◌≤◌, OnOk, OnErr};
 ghost use Rattle.cs_outside.specs.Device.{Rose};
 
 use crate::piece::{Piece, write_pieces};
@@ -12,7 +12,7 @@ use run_stretches::Stretch;
 use run_times::Doing;
 
 /// About how wide a letter is, in thousandths of a unit.
-const LETTER: u64 = 6 * UNIT + UNIT / 2;
+const LETTER: u64 = 6 * UNIT;
 
 /// The text in a mark.
 #[derive(Clone, Copy)]
@@ -30,7 +30,9 @@ enum Label {
 }
 
 /// How many digits a number has.
-fn digits(number: u64) -> u64 {
+fn digits(number: u64) -> u64
+    ensures { result ≤ 20 }
+{
     for count in 1..20 {
         if number < power_of_ten(count) {
             return u64::from(count);
@@ -58,13 +60,16 @@ fn label_of(stretch: &Stretch, width: u64) -> Label {
     match stretch.doing {
         Doing::Runs(cookie) => fitting(
             width,
-            (Label::Task(pid, cookie), 15 + of_pid + digits(cookie)),
+            (Label::Task(pid, cookie), 14 + of_pid + digits(cookie)),
             (Label::Pid(pid), of_pid),
         ),
         Doing::ForcedIdle(cookie) => fitting(
             width,
-            (Label::Forced(cookie), if cookie == 0 { 31 } else { 22 + digits(cookie) }),
-            (Label::ForcedAlone, 6),
+            (
+                Label::Forced(cookie),
+                if cookie == 0 { 31 } else { 22 + digits(cookie) },
+            ),
+            (Label::ForcedAlone, 11),
         ),
         Doing::Offline => fitting(width, (Label::Offline, 7), (Label::Nothing, 0)),
         Doing::Idles => Label::Nothing,
@@ -82,8 +87,16 @@ fn write_words<K: Sink>(sink: &mut K, label: Label) -> Result<(), Failed>
             &[
                 Piece::Text("task "),
                 Piece::Number(u64::from(pid)),
-                Piece::Text(if cookie == 0 { ", no cookie" } else { ", cookie " }),
-                if cookie == 0 { Piece::Text("") } else { Piece::Number(cookie) },
+                Piece::Text(if cookie == 0 {
+                    ", no cookie"
+                } else {
+                    ", cookie "
+                }),
+                if cookie == 0 {
+                    Piece::Text("")
+                } else {
+                    Piece::Number(cookie)
+                },
             ],
         ),
         Label::Pid(pid) => write_pieces(sink, &[Piece::Number(u64::from(pid))]),
@@ -92,7 +105,7 @@ fn write_words<K: Sink>(sink: &mut K, label: Label) -> Result<(), Failed>
             sink,
             &[Piece::Text("forced idle by cookie "), Piece::Number(cookie)],
         ),
-        Label::ForcedAlone => write_pieces(sink, &[Piece::Text("forced")]),
+        Label::ForcedAlone => write_pieces(sink, &[Piece::Text("forced idle")]),
         Label::Offline => write_pieces(sink, &[Piece::Text("offline")]),
         Label::Nothing => Ok(()),
     }
@@ -112,7 +125,14 @@ pub(crate) fn write_label<K: Sink>(
         return Ok(());
     }
     let middle = Piece::Length(strip.place.saturating_add(strip.width / 2));
-    write_pieces(sink, &[Piece::Text("<text x=\""), middle, Piece::Text("\" y=\"19.5\">")])?;
+    write_pieces(
+        sink,
+        &[
+            Piece::Text("<text x=\""),
+            middle,
+            Piece::Text("\" y=\"19.5\">"),
+        ],
+    )?;
     write_words(sink, label)?;
     write_pieces(sink, &[Piece::Text("</text>\n")])
 }

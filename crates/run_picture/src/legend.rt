@@ -1,6 +1,6 @@
 //! The legend: what each mark means, in words, and the look of each cookie.
 
-ghost use Rattle.std.specs.Prelude.{◌≡◌, OnOk, OnErr};
+ghost use Rattle.std.specs.Prelude.{◌≡◌, ◌^◌, ◌<◌, OnOk, OnErr};
 ghost use Rattle.cs_outside.specs.Device.{Rose};
 
 use crate::frame::{Frame, LEGEND_LINES, LEGEND_STEP};
@@ -12,8 +12,8 @@ use cs_types::Cookie;
 use run_stretches::{RunStretches, Stretch};
 use run_times::Doing;
 
-/// How many cookies the legend has room for.
-const COOKIES: u64 = 2 * LEGEND_LINES;
+/// How many cookies the legend has room for, in two columns.
+const COOKIES: u8 = 18;
 
 /// What a line of the legend explains.
 #[derive(Clone, Copy)]
@@ -48,14 +48,20 @@ impl Entry {
     /// What is said of the mark.
     fn words(self) -> &'static str {
         match self {
-            Entry::Runs => "A task without a cookie runs. Tasks with a cookie are drawn in the look of their cookie, as listed on the right.",
-            Entry::Forced => "Forced idle: a task waits on this sibling, but has not the cookie that the core is given to. The hatch has the colour of that cookie, grey for none.",
+            Entry::Runs =>
+                "A task without a cookie runs. Tasks with a cookie are drawn in the look of their cookie, as listed on the right.",
+            Entry::Forced =>
+                "Forced idle: a task waits on this sibling, but has not the cookie that the core is given to. The hatch has the colour of that cookie, grey for none.",
             Entry::Idles => "Idle: no task waits on this sibling.",
             Entry::Offline => "Offline: the sibling is not part of the core.",
-            Entry::Pending => "Reschedule pending: the sibling has been told to pick anew, and until it does it goes on with what it did.",
-            Entry::Exposed => "Exposed: tasks with distinct cookies run side by side on two siblings. The band shows in which lanes to look.",
-            Entry::Events => "Something happened that takes no time: a task woke, a sibling picked, a cookie changed, and the like.",
-            Entry::Several => "Many short stretches in one mark: filled as far as tasks ran, hatched at the top as far as the sibling was forced idle.",
+            Entry::Pending =>
+                "Reschedule pending: the sibling has been told to pick anew, and until it does it goes on with what it did.",
+            Entry::Exposed =>
+                "Exposed: tasks with distinct cookies run side by side on two siblings, in the band below it. A lower mark: on and off, as high as its share of the time.",
+            Entry::Events =>
+                "Something happened that takes no time: a task woke, a sibling picked, a cookie changed, and the like.",
+            Entry::Several =>
+                "Many short stretches in one mark: filled as far as tasks ran, hatched as far as it was forced idle. The bar above: a reschedule was pending on and off.",
             Entry::Pointer => "Rest the pointer on a mark to read what it is, from when to when.",
         }
     }
@@ -64,13 +70,21 @@ impl Entry {
     fn sample(self) -> &'static [Piece<'static>] {
         match self {
             Entry::Runs => &[Piece::Text("<rect width=\"44\" height=\"16\" fill=\"url(#c0)\"/>")],
-            Entry::Forced => &[Piece::Text("<rect class=\"f\" width=\"44\" height=\"16\"/><rect width=\"44\" height=\"16\" fill=\"url(#h1)\"/>")],
+            Entry::Forced => &[Piece::Text(
+                "<rect class=\"f\" width=\"44\" height=\"16\"/><rect width=\"44\" height=\"16\" fill=\"url(#h1)\"/>",
+            )],
             Entry::Idles => &[Piece::Text("<rect class=\"f\" width=\"44\" height=\"16\"/>")],
-            Entry::Offline => &[Piece::Text("<rect width=\"44\" height=\"16\" fill=\"#dcdcdc\"/><path class=\"x\" d=\"M0 0L44 16M0 16L44 0\"/>")],
+            Entry::Offline => &[Piece::Text(
+                "<rect width=\"44\" height=\"16\" fill=\"#dcdcdc\"/><path class=\"x\" d=\"M0 0L44 16M0 16L44 0\"/>",
+            )],
             Entry::Pending => &[Piece::Text("<rect class=\"p\" width=\"44\" height=\"16\"/>")],
             Entry::Exposed => &[Piece::Text("<rect class=\"e\" width=\"44\" height=\"16\"/>")],
-            Entry::Events => &[Piece::Text("<path class=\"t\" d=\"M10 4h1v8h-1zM22 4h1v8h-1zM34 4h1v8h-1z\"/>")],
-            Entry::Several => &[Piece::Text("<rect class=\"f\" width=\"44\" height=\"16\"/><rect y=\"7\" width=\"44\" height=\"9\" fill=\"url(#cs)\"/><rect width=\"44\" height=\"5\" fill=\"url(#hs)\"/>")],
+            Entry::Events => &[Piece::Text(
+                "<path class=\"t\" d=\"M10 4h1v8h-1zM22 4h1v8h-1zM34 4h1v8h-1z\"/>",
+            )],
+            Entry::Several => &[Piece::Text(
+                "<rect class=\"f\" width=\"44\" height=\"16\"/><rect y=\"7\" width=\"44\" height=\"9\" fill=\"url(#cs)\"/><rect width=\"44\" height=\"5\" fill=\"url(#hs)\"/><rect class=\"q\" y=\"-4\" width=\"44\" height=\"3\"/>",
+            )],
             Entry::Pointer => &[],
         }
     }
@@ -140,11 +154,12 @@ fn write_entries<K: Sink>(sink: &mut K, top: u64) -> Result<(), Failed>
 }
 
 /// Writes the look of a cookie, and the hatch under it.
-fn write_cookie<K: Sink>(sink: &mut K, top: u64, number: u64, cookie: Cookie) -> Result<(), Failed>
+fn write_cookie<K: Sink>(sink: &mut K, top: u64, number: u8, cookie: Cookie) -> Result<(), Failed>
     requires { top < 2 ^ 32 }
     ensures faultless { OnOk result (K.faults sink.new ≡ K.faults sink.old) }
     ensures failed { OnErr result (Rose (K.faults sink.old) (K.faults sink.new)) }
 {
+    let number = u64::from(number);
     let left = 960 + number / LEGEND_LINES * 200;
     write_place(sink, left, top + number % LEGEND_LINES * LEGEND_STEP)?;
     write_pieces(

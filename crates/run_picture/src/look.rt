@@ -77,11 +77,8 @@ impl Colour {
     pub(crate) fn ink(self) -> &'static str {
         match self {
             Colour::Green | Colour::Blue => "#fff",
-            Colour::Neutral
-            | Colour::SkyBlue
-            | Colour::Orange
-            | Colour::Yellow
-            | Colour::Purple => "#000",
+            Colour::Neutral | Colour::SkyBlue | Colour::Orange | Colour::Yellow | Colour::Purple =>
+                "#000",
         }
     }
 
@@ -102,7 +99,8 @@ impl Pattern {
     pub(crate) fn shapes(self) -> &'static str {
         match self {
             Pattern::Plain => "",
-            Pattern::Dots => "<circle cx=\"2\" cy=\"2\" r=\"1.1\"/><circle cx=\"6\" cy=\"6\" r=\"1.1\"/>",
+            Pattern::Dots =>
+                "<circle cx=\"2\" cy=\"2\" r=\"1.1\"/><circle cx=\"6\" cy=\"6\" r=\"1.1\"/>",
             Pattern::Rising => "<path d=\"M-1 1l2-2M0 8l8-8M7 9l2-2\"/>",
             Pattern::Level => "<path d=\"M0 2h8M0 6h8\"/>",
             Pattern::Crosses => "<path d=\"M2 2l4 4M2 6l4-4\"/>",

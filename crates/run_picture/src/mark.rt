@@ -18,6 +18,7 @@ use run_times::Doing;
 
 /// How high a lane is, and how high what must be seen is at least, in thousandths of a unit.
 const HIGH: u64 = LANE_HEIGHT * UNIT;
+
 const SEEN: u64 = 4 * UNIT;
 
 /// A rectangle on a lane, in thousandths of a unit.
@@ -124,15 +125,17 @@ fn write_part<K: Sink>(sink: &mut K, area: Area, paint: Paint) -> Result<(), Fai
     write_pieces(
         sink,
         &[
-            Piece::Text("<rect x=\""),
+            Piece::Text("<path d=\"M"),
             Piece::Length(area.strip.place),
-            Piece::Text("\" y=\""),
+            Piece::Text(" "),
             Piece::Length(area.top),
-            Piece::Text("\" width=\""),
+            Piece::Text("h"),
             Piece::Length(area.strip.width),
-            Piece::Text("\" height=\""),
+            Piece::Text("v"),
             Piece::Length(area.height),
-            Piece::Text("\""),
+            Piece::Text("h-"),
+            Piece::Length(area.strip.width),
+            Piece::Text("z\""),
             Piece::Fill(paint),
             Piece::Text("/>"),
         ],
@@ -157,30 +160,79 @@ fn column_strip(scale: Scale, gathered: &Gathered) -> Strip {
     }
 }
 
-/// Writes the mark of several stretches: from the top how much of the time the sibling was forced idle and offline, and
-/// from the foot how much of it a task ran.
-fn write_column<K: Sink>(sink: &mut K, scale: Scale, gathered: &Gathered) -> Result<(), Failed>
-    ensures faultless { OnOk result (K.faults sink.new ≡ K.faults sink.old) }
-    ensures failed { OnErr result (Rose (K.faults sink.old) (K.faults sink.new)) }
-{
+/// How a lane's height is shared in a mark of several stretches, in thousandths of a unit.
+#[derive(Clone, Copy)]
+struct Shares {
+    forced: u64,
+    offline: u64,
+    ran: u64,
+    /// What is left where there is nothing else.
+    idle: u64,
+}
+
+/// How the height is shared in a mark.
+fn shares_of(gathered: &Gathered) -> Shares {
     let time = gathered.span.length();
     let forced = forced_height(gathered);
     let offline = part_of(gathered.offline, time, HIGH);
     let ran = part_of(gathered.ran.time, time, HIGH).min(HIGH.saturating_sub(forced));
-    let whole = Area {
-        strip: column_strip(scale, gathered),
+    Shares {
+        forced,
+        offline,
+        ran,
+        idle: if forced == 0 && offline == 0 && ran == 0 {
+            HIGH
+        } else {
+            0
+        },
+    }
+}
+
+/// Writes the parts of a mark of several stretches: from the top how much of the time the sibling was forced idle and
+/// offline, and from the foot how much of it a task ran.
+fn write_parts<K: Sink>(sink: &mut K, strip: Strip, gathered: &Gathered) -> Result<(), Failed>
+    ensures faultless { OnOk result (K.faults sink.new ≡ K.faults sink.old) }
+    ensures failed { OnErr result (Rose (K.faults sink.old) (K.faults sink.new)) }
+{
+    let shares = shares_of(gathered);
+    let idle = Area {
+        strip,
         top: 0,
-        height: HIGH,
+        height: shares.idle,
     };
+    write_part(sink, idle, Paint::Clear)?;
+    let ran = Area {
+        strip,
+        top: HIGH.saturating_sub(shares.ran),
+        height: shares.ran,
+    };
+    write_part(sink, ran, Paint::of_ran(gathered.ran.cookies))?;
+    let offline = Area {
+        strip,
+        top: shares.forced,
+        height: shares.offline,
+    };
+    write_part(sink, offline, Paint::Offline)?;
+    let forced = Area {
+        strip,
+        top: 0,
+        height: shares.forced,
+    };
+    write_part(sink, forced, Paint::of_forced(gathered.forced.cookies))
+}
+
+/// Writes the mark of several stretches. What is so narrow that nothing of it would show gets none.
+fn write_column<K: Sink>(sink: &mut K, scale: Scale, gathered: &Gathered) -> Result<(), Failed>
+    ensures faultless { OnOk result (K.faults sink.new ≡ K.faults sink.old) }
+    ensures failed { OnErr result (Rose (K.faults sink.old) (K.faults sink.new)) }
+{
+    let strip = column_strip(scale, gathered);
+    if strip.width == 0 {
+        return Ok(());
+    }
     write_pieces(sink, &[Piece::Text("<g>")])?;
     write_gathered_title(sink, gathered)?;
-    write_part(sink, whole, Paint::Clear)?;
-    let part = Area { top: HIGH.saturating_sub(ran), height: ran, ..whole };
-    write_part(sink, part, Paint::of_ran(gathered.ran.cookies))?;
-    let part = Area { top: forced, height: offline, ..whole };
-    write_part(sink, part, Paint::Offline)?;
-    let part = Area { height: forced, ..whole };
-    write_part(sink, part, Paint::of_forced(gathered.forced.cookies))?;
+    write_parts(sink, strip, gathered)?;
     write_pieces(sink, &[Piece::Text("</g>\n")])
 }
 

@@ -40,7 +40,9 @@ fn write_empty<K: Sink>(sink: &mut K, run: &RunStretches) -> Result<(), Failed>
         &[
             Piece::Text("<text class=\"h\" x=\"76\" y=\"26\">"),
             Piece::Number(u64::from(run.siblings())),
-            Piece::Text(" siblings of one core</text>\n<text x=\"76\" y=\"48\">No time passed in this run,"),
+            Piece::Text(
+                " siblings of one core</text>\n<text x=\"76\" y=\"48\">No time passed in this run,",
+            ),
             Piece::Text(" so there is nothing to show over time.</text>\n</svg>\n"),
         ],
     )

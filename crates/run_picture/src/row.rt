@@ -1,24 +1,29 @@
 //! What is shown beside what the siblings did: when the core was exposed, when a sibling had a pending reschedule, and
 //! when something happened at which no time passes. Spans that are near are drawn as one, and each is seen.
 
-ghost use Rattle.std.specs.Prelude.{◌≡◌, OnOk, OnErr};
+ghost use Rattle.std.specs.Prelude.{◌≡◌, ◌^◌, ◌<◌, ◌≤◌, OnOk, OnErr};
 ghost use Rattle.cs_outside.specs.Device.{Rose};
 
-use crate::frame::{EVENTS_HEIGHT, EXPOSED_HEIGHT, EXPOSED_TOP, Frame, LANE_HEIGHT, PENDING_RIM};
+use crate::frame::{
+    EVENTS_HEIGHT, EXPOSED_HEIGHT, EXPOSED_TOP, Frame, LANE_HEIGHT, PENDING_BAR, PENDING_RIM,
+};
 use crate::piece::{Piece, write_pieces};
-use crate::scale::{Scale, Strip};
+use crate::scale::{Scale, Strip, UNIT, part_of};
 use crate::span::Span;
 use crate::title::write_span;
 use cs_outside::{Failed, Sink};
 use cs_types::Cpu;
 use run_stretches::{RunStretches, Stretch, Window};
 
+/// How high what must be seen is at least, in thousandths of a unit.
+const SEEN: u64 = 2 * UNIT;
+
 /// Of what the spans are.
 #[derive(Clone, Copy)]
 enum Row {
     /// The core is exposed.
     Exposed,
-    /// The core is exposed, drawn through the lanes.
+    /// The core is exposed, drawn through the lanes where it is so without a break.
     Behind,
     /// This sibling has a pending reschedule.
     Pending(Cpu),
@@ -54,6 +59,20 @@ impl Joined {
         }
     }
 
+    /// Whether there is no time between them.
+    fn is_whole(self) -> bool {
+        self.time == self.span.length()
+    }
+
+    /// How high a mark of them is, of this height: their share of the time, and so much that it is seen.
+    fn height(self, whole: u64) -> u64 {
+        if self.is_whole() {
+            whole
+        } else {
+            part_of(self.time, self.span.length(), whole).max(SEEN)
+        }
+    }
+
     /// These, and a later one.
     fn and(self, span: Span) -> Joined {
         Joined {
@@ -64,8 +83,8 @@ impl Joined {
     }
 }
 
-/// Writes the begin of a mark: a rectangle from this height on.
-fn write_rect<K: Sink>(sink: &mut K, strip: Strip, top: u64, height: u64) -> Result<(), Failed>
+/// Writes the begin of a mark: a rectangle with this foot and this height, in thousandths of a unit.
+fn write_rect<K: Sink>(sink: &mut K, strip: Strip, foot: u64, height: u64) -> Result<(), Failed>
     ensures faultless { OnOk result (K.faults sink.new ≡ K.faults sink.old) }
     ensures failed { OnErr result (Rose (K.faults sink.old) (K.faults sink.new)) }
 {
@@ -75,11 +94,11 @@ fn write_rect<K: Sink>(sink: &mut K, strip: Strip, top: u64, height: u64) -> Res
             Piece::Text("<rect x=\""),
             Piece::Length(strip.place),
             Piece::Text("\" y=\""),
-            Piece::Number(top),
+            Piece::Length(foot.saturating_sub(height)),
             Piece::Text("\" width=\""),
             Piece::Length(strip.width),
             Piece::Text("\" height=\""),
-            Piece::Number(height),
+            Piece::Length(height),
             Piece::Text("\""),
         ],
     )
@@ -135,6 +154,38 @@ fn write_events<K: Sink>(sink: &mut K, joined: &Joined) -> Result<(), Failed>
     write_pieces(sink, &[Piece::Text("</rect>\n")])
 }
 
+/// Writes the mark of pending reschedules on a lane with this top: an outline of the lane, and a bar above it where there
+/// is other time between them.
+fn write_pending_mark<K: Sink>(
+    sink: &mut K,
+    top: u64,
+    strip: Strip,
+    joined: &Joined,
+) -> Result<(), Failed>
+    requires above { 0 < top }
+    requires small { top < 2 ^ 32 }
+    ensures faultless { OnOk result (K.faults sink.new ≡ K.faults sink.old) }
+    ensures failed { OnErr result (Rose (K.faults sink.old) (K.faults sink.new)) }
+{
+    if joined.is_whole() {
+        let foot = top + LANE_HEIGHT + PENDING_RIM;
+        write_rect(
+            sink,
+            strip,
+            foot * UNIT,
+            (LANE_HEIGHT + 2 * PENDING_RIM) * UNIT,
+        )?;
+        return write_pieces(sink, &[Piece::Text("/>\n")]);
+    }
+    write_rect(
+        sink,
+        strip,
+        (top - 1) * UNIT,
+        joined.height(PENDING_BAR * UNIT),
+    )?;
+    write_pieces(sink, &[Piece::Text(" class=\"q\"/>\n")])
+}
+
 impl Sheet {
     /// Writes the mark of spans that are drawn as one.
     fn write<K: Sink>(self, sink: &mut K, joined: &Joined) -> Result<(), Failed>
@@ -145,20 +196,24 @@ impl Sheet {
         let frame = self.frame;
         match self.row {
             Row::Exposed => {
-                write_rect(sink, strip, EXPOSED_TOP, EXPOSED_HEIGHT)?;
+                let high = EXPOSED_HEIGHT * UNIT;
+                write_rect(sink, strip, EXPOSED_TOP * UNIT + high, joined.height(high))?;
                 write_exposed(sink, joined)
             }
+            Row::Behind if joined.count > 1 => Ok(()),
             Row::Behind => {
-                write_rect(sink, strip, EXPOSED_TOP, frame.lanes_height())?;
+                write_rect(
+                    sink,
+                    strip,
+                    frame.events() * UNIT,
+                    frame.lanes_height() * UNIT,
+                )?;
                 write_pieces(sink, &[Piece::Text("/>\n")])
             }
-            Row::Pending(cpu) => {
-                let top = frame.lane(cpu) - PENDING_RIM;
-                write_rect(sink, strip, top, LANE_HEIGHT + 2 * PENDING_RIM)?;
-                write_pieces(sink, &[Piece::Text("/>\n")])
-            }
+            Row::Pending(cpu) => write_pending_mark(sink, frame.lane(cpu), strip, joined),
             Row::Events => {
-                write_rect(sink, strip, frame.events(), EVENTS_HEIGHT)?;
+                let foot = frame.events() + EVENTS_HEIGHT;
+                write_rect(sink, strip, foot * UNIT, EVENTS_HEIGHT * UNIT)?;
                 write_events(sink, joined)
             }
         }
@@ -177,7 +232,8 @@ impl Sheet {
         let Some(joined) = waiting else {
             return Ok(Some(Joined::of(span)));
         };
-        if self.scale.are_near(joined.span, span) {
+        let goes_on = joined.is_whole() && span.from == joined.span.to;
+        if goes_on || self.scale.joins(joined.span, span) {
             return Ok(Some(joined.and(span)));
         }
         self.write(sink, &joined)?;
@@ -260,7 +316,9 @@ pub(crate) fn write_exposure<K: Sink>(sink: &mut K, run: &RunStretches) -> Resul
         sink,
         &[
             Piece::Text("<text class=\"n\" x=\"66\" y=\"80\">exposed</text>\n"),
-            Piece::Text("<rect class=\"f\" x=\"76\" y=\"66\" width=\"1200\" height=\"18\"/>\n<g class=\"e\">\n"),
+            Piece::Text(
+                "<rect class=\"f\" x=\"76\" y=\"66\" width=\"1200\" height=\"18\"/>\n<g class=\"e\">\n",
+            ),
         ],
     )?;
     sheet_of(run, Row::Exposed).write_windows(sink, run.windows())

@@ -1,5 +1,7 @@
 //! Where a moment lies on the page. All places and lengths are in thousandths of a unit of the page.
 
+ghost use Rattle.std.specs.Prelude.{◌^◌, ◌≤◌};
+
 use crate::frame::{LANES_WIDTH, LEFT};
 use crate::span::Span;
 
@@ -20,25 +22,28 @@ pub(crate) struct Scale {
     total: u64,
     /// How narrow a stretch may be that still gets a mark of its own.
     grain: u64,
+    ghost small: { grain ≤ 2 ^ 20 },
 }
 
 /// Which part of a whole this is, when the whole counts as much as told, rounded down. Nothing of a whole that is nothing.
-pub(crate) fn part_of(part: u64, whole: u64, counts: u64) -> u64 {
+pub(crate) fn part_of(part: u64, whole: u64, counts: u64) -> u64
+    ensures { result ≤ counts }
+{
     if whole == 0 {
         return 0;
     }
     let place = u128::from(part) * u128::from(counts) / u128::from(whole);
-    u64::try_from(place).unwrap_or(counts)
+    u64::try_from(place).unwrap_or(counts).min(counts)
 }
 
 impl Scale {
     /// The scale of a run of a core with this number of siblings. The more lanes there are, the more is joined in each, so
-    /// that a picture has a bound: a mark of its own has what is wider than a unit on up to four lanes, and wider than a
-    /// quarter of a unit for each lane on more.
+    /// that a picture has a bound: what is wider than a unit, and than two fifths of a unit for each lane, has a mark of
+    /// its own.
     pub(crate) fn of(total: u64, siblings: u8) -> Scale {
         Scale {
             total,
-            grain: UNIT.max(u64::from(siblings) * (UNIT / 4)),
+            grain: UNIT.max(u64::from(siblings) * (2 * UNIT / 5)),
         }
     }
 
@@ -71,9 +76,12 @@ impl Scale {
         self.strip(span).width > self.grain
     }
 
-    /// Whether there is so little between two spans that they are drawn as one.
-    pub(crate) fn are_near(self, earlier: Span, later: Span) -> bool {
-        self.place(later.from).saturating_sub(self.place(earlier.to)) <= self.grain
+    /// Whether a later span is drawn as one with this one: where there is little between them, and this one is not broad.
+    pub(crate) fn joins(self, earlier: Span, later: Span) -> bool {
+        let between = self
+            .place(later.from)
+            .saturating_sub(self.place(earlier.to));
+        between <= self.grain && self.strip(earlier).width <= 2 * self.grain
     }
 
     /// What this time is of all time, in thousandths.

@@ -12,7 +12,7 @@ use cs_outside::{Failed, Sink};
 const SEVERAL: &str = "<pattern id=\"cs\" width=\"4\" height=\"4\" patternUnits=\"userSpaceOnUse\">\
 <rect width=\"4\" height=\"4\" fill=\"#8a8a8a\"/><path d=\"M0 2h2M2 0h2\" stroke=\"#444\"/></pattern>\n\
 <pattern id=\"hs\" width=\"7\" height=\"7\" patternUnits=\"userSpaceOnUse\">\
-<rect width=\"7\" height=\"7\" fill=\"#fff\"/><path d=\"M-2 2l4-4M0 7l7-7M5 9l4-4\" stroke=\"#000\" stroke-width=\"2\"/></pattern>\n";
+<rect width=\"7\" height=\"7\" fill=\"#fff\"/><path d=\"M0 7l7-7M0 0l7 7\" stroke=\"#999\"/></pattern>\n";
 
 /// Writes the tile of a look.
 fn write_look<K: Sink>(sink: &mut K, look: Look) -> Result<(), Failed>
@@ -25,7 +25,9 @@ fn write_look<K: Sink>(sink: &mut K, look: Look) -> Result<(), Failed>
         &[
             Piece::Text("<pattern id=\"c"),
             Piece::Number(look.number()),
-            Piece::Text("\" width=\"8\" height=\"8\" patternUnits=\"userSpaceOnUse\"><rect width=\"8\" height=\"8\" fill=\""),
+            Piece::Text(
+                "\" width=\"8\" height=\"8\" patternUnits=\"userSpaceOnUse\"><rect width=\"8\" height=\"8\" fill=\"",
+            ),
             Piece::Text(colour.code()),
             Piece::Text("\"/><g opacity=\".45\" fill=\""),
             Piece::Text(colour.ink()),
@@ -59,7 +61,9 @@ fn write_hatch<K: Sink>(sink: &mut K, hatch: Hatch) -> Result<(), Failed>
         &[
             Piece::Text("<pattern id=\"h"),
             Piece::Number(hatch.number()),
-            Piece::Text("\" width=\"7\" height=\"7\" patternUnits=\"userSpaceOnUse\"><rect width=\"7\" height=\"7\" fill=\"#fff\"/>"),
+            Piece::Text(
+                "\" width=\"7\" height=\"7\" patternUnits=\"userSpaceOnUse\"><rect width=\"7\" height=\"7\" fill=\"#fff\"/>",
+            ),
             Piece::Text("<path d=\"M-2 2l4-4M0 7l7-7M5 9l4-4\" stroke-width=\"2\" stroke=\""),
             Piece::Text(hatch.colour().line()),
             Piece::Text("\"/></pattern>\n"),

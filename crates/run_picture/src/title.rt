@@ -21,7 +21,11 @@ fn write_doing<K: Sink>(sink: &mut K, pid: Pid, doing: Doing) -> Result<(), Fail
         Doing::Offline => write_pieces(sink, &[Piece::Text("is offline")]),
         Doing::Runs(0) => write_pieces(
             sink,
-            &[Piece::Text("runs task "), pid, Piece::Text(" without a cookie")],
+            &[
+                Piece::Text("runs task "),
+                pid,
+                Piece::Text(" without a cookie"),
+            ],
         ),
         Doing::Runs(cookie) => write_pieces(
             sink,
@@ -39,7 +43,10 @@ fn write_doing<K: Sink>(sink: &mut K, pid: Pid, doing: Doing) -> Result<(), Fail
         ),
         Doing::ForcedIdle(cookie) => write_pieces(
             sink,
-            &[Piece::Text("is forced idle by cookie "), Piece::Number(cookie)],
+            &[
+                Piece::Text("is forced idle by cookie "),
+                Piece::Number(cookie),
+            ],
         ),
     }
 }
@@ -89,10 +96,7 @@ fn write_part<K: Sink>(sink: &mut K, word: &str, time: u64) -> Result<(), Failed
 }
 
 /// Writes the title of a mark of several stretches.
-pub(crate) fn write_gathered_title<K: Sink>(
-    sink: &mut K,
-    gathered: &Gathered,
-) -> Result<(), Failed>
+pub(crate) fn write_gathered_title<K: Sink>(sink: &mut K, gathered: &Gathered) -> Result<(), Failed>
     ensures faultless { OnOk result (K.faults sink.new ≡ K.faults sink.old) }
     ensures failed { OnErr result (Rose (K.faults sink.old) (K.faults sink.new)) }
 {

@@ -1,0 +1,228 @@
+#!/usr/bin/env python3
+"""Compares what `coresched_view picture` draws with what `coresched_view segments` tells of the same run: the examples, random
+scenarios, and two runs of 100,000 steps.
+
+Each picture is valid XML without scripts and without references to anything else. Each stretch that is wide enough for a
+mark of its own has it, at its place and with its words. Where a sibling was forced idle, where it had a pending
+reschedule, and where tasks with distinct cookies ran side by side, there is a mark of that. No picture has 2,000,000 bytes.
+
+Usage: pictures.py --program PATH --count N --seed S    compares the examples and N random scenarios
+"""
+import argparse
+import glob
+import os
+import random
+import re
+import subprocess
+import sys
+import time
+import xml.dom.minidom
+
+sys.path.insert(0, os.path.dirname(os.path.abspath(__file__)))
+import fuzz
+
+EXAMPLES = os.path.join(os.path.dirname(os.path.abspath(__file__)), '..', '..', 'examples')
+COLUMNS = ['from', 'to', 'sibling', 'state', 'cookie', 'pending', 'forced', 'pid']
+MOST_BYTES = 2_000_000
+
+# In thousandths of a unit of the page: where the lanes begin, how wide they are, and what is seen of a span at least.
+LEFT, LANES, UNIT = 76_000, 1_200_000, 1_000
+
+
+class Wrong(Exception):
+    """What is wrong with a picture."""
+
+
+def told(time):
+    """A time as the picture tells it."""
+    for unit, digits in (('s', 9), ('ms', 6), ('us', 3)):
+        if time >= 10 ** digits:
+            whole, rest = divmod(time, 10 ** digits)
+            return (('%d.%0*d' % (whole, digits, rest)).rstrip('0').rstrip('.')) + ' ' + unit
+    return '%d ns' % time
+
+
+def thousandths(text):
+    """A length of the page."""
+    whole, _, rest = text.partition('.')
+    return int(whole) * 1_000 + int(rest.ljust(3, '0') or 0)
+
+
+class Run:
+    """A run as its segments tell it."""
+
+    def __init__(self, text):
+        head, *lines = text.decode().splitlines()
+        assert head.split('\t') == COLUMNS, head
+        self.stretches = [self.stretch(dict(zip(COLUMNS, line.split('\t')))) for line in lines]
+        self.total = max((it['to'] for it in self.stretches), default=0)
+        self.siblings = 1 + max((it['sibling'] for it in self.stretches), default=0)
+        self.grain = max(UNIT, 400 * self.siblings)
+
+    @staticmethod
+    def stretch(cells):
+        for column in ('from', 'to', 'sibling', 'cookie', 'pid'):
+            cells[column] = int(cells[column] or 0)
+        for column in ('pending', 'forced'):
+            cells[column] = cells[column] == 'yes'
+        return cells
+
+    def place(self, clock):
+        return LEFT + clock * LANES // self.total
+
+    def words(self, it):
+        """The title of a stretch's mark."""
+        if it['state'] == 'offline':
+            does = 'is offline'
+        elif it['state'] == 'running':
+            does = 'runs task %d ' % it['pid'] + ('with cookie %d' % it['cookie'] if it['cookie'] else 'without a cookie')
+        elif not it['forced']:
+            does = 'idles'
+        else:
+            does = 'is forced idle ' + ('by cookie %d' % it['cookie'] if it['cookie'] else 'while the core has no cookie')
+        return 's%d %s%s, %s to %s (%s)' % (it['sibling'], does, ', reschedule pending' * it['pending'],
+                                            told(it['from']), told(it['to']), told(it['to'] - it['from']))
+
+    def windows(self):
+        """When two siblings ran tasks with distinct cookies: pairs of moments, by rising time."""
+        changes = sorted((clock, -side, it['cookie']) for it in self.stretches if it['state'] == 'running'
+                         for clock, side in ((it['from'], -1), (it['to'], 1)))
+        running, since = {}, 0
+        for clock, side, cookie in changes:
+            if clock > since and len(running) > 1:
+                yield since, clock
+            since = max(since, clock)
+            running[cookie] = running.get(cookie, 0) + side
+            if not running[cookie]:
+                del running[cookie]
+
+
+def words_of(node):
+    return ''.join(it.firstChild.data for it in node.childNodes if it.nodeName == 'title')
+
+
+def span_of(node):
+    """From where to where a mark goes."""
+    if node.nodeName == 'path':
+        place, width = re.match(r'M([0-9.]+) [0-9.]+h([0-9.]+)v', node.getAttribute('d')).groups()
+    else:
+        place, width = node.getAttribute('x'), node.getAttribute('width')
+    return thousandths(place), thousandths(place) + thousandths(width)
+
+
+class Picture:
+    """A picture by its marks."""
+
+    def __init__(self, text):
+        self.root = xml.dom.minidom.parseString(text).documentElement
+        groups = self.root.getElementsByTagName('g')
+        self.lanes = [it for it in groups if it.getAttribute('class') == 'l']
+        self.pending = [[span_of(mark) for mark in it.getElementsByTagName('rect')] for it in groups if it.getAttribute('class') == 'p']
+        self.exposed = [span_of(mark) for it in groups if it.getAttribute('class') == 'e' for mark in it.getElementsByTagName('rect')]
+        self.marks = [{(words_of(mark), span_of(mark)) for mark in it.childNodes if words_of(mark) and mark.nodeName == 'rect'} for it in self.lanes]
+        self.forced = [[span_of(mark) for name in ('rect', 'path') for mark in it.getElementsByTagName(name)
+                        if mark.getAttribute('fill').startswith('url(#h')] for it in self.lanes]
+
+
+def is_shown(marks, begin, end):
+    """Whether the whole of it lies in marks. Marks are by rising begin, and may touch."""
+    for mark_begin, mark_end in marks:
+        if mark_begin <= begin <= mark_end:
+            begin = mark_end
+        if begin >= end:
+            return True
+    return False
+
+
+def compare(text, run):
+    """Raises Wrong where the picture does not show the run."""
+    if len(text) >= MOST_BYTES:
+        raise Wrong('%d bytes' % len(text))
+    for word in (b'<script', b'href', b'<image', b'@import', b'<!'):
+        if word in text:
+            raise Wrong('has %r' % word)
+    if re.search(rb'url\((?!#)', text) or text.count(b'http') != 1:
+        raise Wrong('a reference to something else')
+    picture = Picture(text)
+    if not picture.root.getAttribute('viewBox'):
+        raise Wrong('no viewBox')
+    if not run.total:
+        if b'No time passed' not in text:
+            raise Wrong('does not say that no time passed')
+        return
+    if len(picture.lanes) != run.siblings or len(picture.pending) != run.siblings:
+        raise Wrong('%d lanes' % len(picture.lanes))
+    for it in run.stretches:
+        begin, end = run.place(it['from']), run.place(it['to'])
+        if end - begin > run.grain and (run.words(it), (begin, end)) not in picture.marks[it['sibling']]:
+            raise Wrong('no mark of: %s' % run.words(it))
+        if it['forced'] and not is_shown(picture.forced[it['sibling']], begin, end):
+            raise Wrong('no hatch at: %s' % run.words(it))
+        if it['pending'] and not is_shown(picture.pending[it['sibling']], begin, end):
+            raise Wrong('no outline at: %s' % run.words(it))
+    for begin, end in run.windows():
+        if not is_shown(picture.exposed, run.place(begin), run.place(end)):
+            raise Wrong('not marked as exposed: %s to %s' % (told(begin), told(end)))
+
+
+def told_by(program, word, data):
+    return subprocess.run([program, word], input=data, capture_output=True, timeout=120)
+
+
+def long_run(rng, siblings, steps, most):
+    """A scenario with many short stretches: tasks under cookies that are woken and blocked all the time."""
+    lines = ['coresched 1', 'siblings %d' % siblings, 'limits 256 64 1048576']
+    for pid in range(1, 129):
+        lines.append('task %d %d %d %d fair:0 %s 0 1 1' % (pid, pid, pid, pid % siblings, '1000 ' * 5 + '1000'))
+    script = ['c0 prctl %d 1 0 0 0' % pid for pid in range(1, 25)]
+    while len(script) < steps:
+        sibling = rng.randrange(siblings)
+        script.append(rng.choice(['s%d turn' % sibling] * 4 + ['s%d block' % sibling, 's%d tick' % sibling]
+                                 + ['c0 wake %d' % rng.randint(1, 128)] * 2 + ['c0 advance %d' % rng.randint(1, most)] * 2))
+    return '\n'.join(lines + ['step ' + it for it in script] + ['end', '']).encode()
+
+
+def texts(count, seed):
+    """The scenarios, each with its name."""
+    for path in sorted(glob.glob(os.path.join(EXAMPLES, '*.scenario'))):
+        with open(path, 'rb') as it:
+            yield os.path.basename(path), it.read()
+    for k in range(count):
+        yield 'random %d' % k, fuzz.scenario(random.Random('pictures %d/%d' % (seed, k)))
+    for k in range(count // 4):
+        rng = random.Random('long pictures %d/%d' % (seed, k))
+        yield 'long %d' % k, long_run(rng, rng.randint(2, 8), rng.randint(200, 4_000), 10 ** rng.randint(1, 8))
+    for most in (1_000, 1_000_000) if count else ():
+        yield '100,000 steps', long_run(random.Random(seed), 8, 100_000, most)
+
+
+def main():
+    p = argparse.ArgumentParser()
+    p.add_argument('--program', required=True, help='the built program')
+    p.add_argument('--count', type=int, default=200)
+    p.add_argument('--seed', type=int, default=1)
+    a = p.parse_args()
+    began, drawn, wrong, most, stretches = time.time(), 0, 0, 0, 0
+    for name, data in texts(a.count, a.seed):
+        picture, segments = told_by(a.program, 'picture', data), told_by(a.program, 'segments', data)
+        try:
+            if picture.returncode != segments.returncode or picture.stderr != segments.stderr:
+                raise Wrong('ends with %d, and segments with %d' % (picture.returncode, segments.returncode))
+            if picture.returncode:
+                continue
+            drawn += 1
+            most = max(most, len(picture.stdout))
+            run = Run(segments.stdout)
+            stretches += len(run.stretches)
+            compare(picture.stdout, run)
+        except Wrong as it:
+            wrong += 1
+            base = fuzz.kept('pictures-seed%d-%d' % (a.seed, wrong))
+            fuzz.write(base + '.scenario', data)
+            print('WRONG: %s, %s.scenario: %s' % (name, base, it))
+    print('pictures, seed %d: %d drawn, of %d stretches, at most %d bytes, %d wrong; %.0f s' % (a.seed, drawn, stretches, most, wrong, time.time() - began))
+    return 1 if wrong else 0
+
+
+if __name__ == '__main__':
+    sys.exit(main())
