@@ -1,5 +1,5 @@
 -- A tree beside which an entry stands: what is found of both, and what is left where one is taken out.
-use Rattle.std.proofs.Common.{◌≡◌, ℕ, ◌+◌, ◌*◌, ◌≤◌, Bool, true, false, cond, List, [], ◌∷◌, Option, None, Some, refl, sym, ap, ◌∙◌, inl, inr, arith}
+use Rattle.std.proofs.Common.{◌≡◌, ℕ, ◌+◌, ◌-◌, ◌*◌, ◌≤◌, Bool, true, false, cond, List, [], ◌∷◌, Option, None, Some, refl, sym, ap, ◌∙◌, inl, inr, arith}
 use Rattle.std.specs.Prelude.{slice_get, is_some}
 use mir.Val.{bool_byte}
 use Rattle.std.specs.List as list
@@ -220,3 +220,9 @@ module _ (key : Key) where
         ∙ cond_same (eq_by_cmp key_cmp entry.0 key) None;
     spare = omega (arith, beside.spare);
   }
+
+-- as many nodes are spare once all are taken out as were spare before and stood in it
+pub spare-recent : (recent : Option Entry) (tree : Ordered) → StandsBeside recent tree →
+    (tree.spare - option_len recent) + len (with_recent recent tree.members) ≡ tree.spare + len tree.members
+spare-recent None tree beside = omega arith
+spare-recent (Some entry) tree beside = omega (arith, beside.spare, len-recent (Some entry) tree beside)

@@ -111,6 +111,16 @@ impl OrderTree {
         true
     }
 
+    /// Takes out all pids. It compares no key.
+    pub fn clear(&mut self)
+        ensures members { self.new.members ≡ map.empty }
+        ensures spare { self.new.spare ≡ self.old.spare + map.len self.old.members }
+    {
+        mem::replace(&mut self.tree, Tree::empty()).give(&mut self.nodes);
+        self.spare += self.count;
+        self.count = 0;
+    }
+
     /// The least key, and the pid there. `None` exactly where there is no key.
     pub fn first<L: Ledger>(&self, steps: &mut Steps<L>) -> Option<(Key, Pid)>
         ensures first { result ≡ first_of self.now.members }

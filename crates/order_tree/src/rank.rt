@@ -1,8 +1,8 @@
 //! The queue of a scheduling class: an ordered tree in which all keys are of one group and one class. It is
 //! apart since the classes keep their tasks alike.
 
-ghost use Rattle.std.specs.Prelude.{◌≡◌};
-ghost use Rattle.std.specs.FinMap.{empty};
+ghost use Rattle.std.specs.Prelude.{◌≡◌, ◌+◌};
+ghost use Rattle.std.specs.FinMap.{empty, len};
 ghost use Rattle.order_tree.specs.Rank.{key_at};
 
 use crate::key::Key;
@@ -42,6 +42,14 @@ impl RankTree {
         RankTree {
             tree: RecentTree::empty(alloc),
         }
+    }
+
+    /// Every task leaves.
+    pub fn clear(&mut self)
+        ensures members { self.new.members ≡ empty }
+        ensures spare { self.new.spare ≡ self.old.spare + len self.old.members }
+    {
+        self.tree.clear();
     }
 }
 

@@ -96,6 +96,15 @@ impl RecentTree {
         self.tree.remove(key, steps)
     }
 
+    /// Takes out all pids. It compares no key.
+    pub fn clear(&mut self)
+        ensures members { self.new.members ≡ map.empty }
+        ensures spare { self.new.spare ≡ self.old.spare + map.len self.old.members }
+    {
+        self.recent = None;
+        self.tree.clear();
+    }
+
     /// The least key, and the pid there. `None` exactly where there is no key.
     #[inline(always)]
     pub fn first<L: Ledger>(&self, steps: &mut Steps<L>) -> Option<(Key, Pid)>

@@ -1,6 +1,6 @@
 //! The tree: its nodes, and how they keep in balance.
 
-ghost use Rattle.std.specs.Prelude.{◌≡◌, ◌+◌, ◌*◌, ◌^◌, ◌<◌, ◌≤◌, [], ◌++◌, length, max, ◌↔◌, IsTrue, None, MatchOption, is_some, slice_get};
+ghost use Rattle.std.specs.Prelude.{◌≡◌, ◌+◌, ◌*◌, ◌^◌, ◌<◌, ◌≤◌, [], ◌++◌, length, max, ◌↔◌, IsTrue, None, MatchOption, is_some, slice_get, vec_capacity};
 ghost use Rattle.std.specs.List as list;
 ghost use Rattle.std.specs.Option.{option_or};
 ghost use Rattle.std.specs.FinMap.{find, put, is_sorted};
@@ -203,6 +203,20 @@ impl Tree {
             None => Some((parts.node, parts.right)),
             Some((first, left)) => Some((first, balance(left, parts.node, parts.right))),
         }
+    }
+
+    /// Gives its nodes to the list, which has places for them. It compares no key.
+    pub fn give(self, nodes: &mut Vec<Box<Node>>)
+        requires places { length nodes.old.items + length self.entries ≤ vec_capacity nodes.old }
+        ensures nodes { length nodes.new.items ≡ length nodes.old.items + length self.entries }
+        ensures places { vec_capacity nodes.old ≤ vec_capacity nodes.new }
+    {
+        let Some(parts) = self.open() else {
+            return;
+        };
+        parts.left.give(nodes);
+        nodes.push_reserved(parts.node);
+        parts.right.give(nodes);
     }
 
     /// The tree without the entry at the key, and the node in which that stood. `None` comes exactly
