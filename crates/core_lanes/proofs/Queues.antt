@@ -61,7 +61,7 @@ module _ (pid : ℕ) where
       ]
 
   -- and where the one with it is not queued on the sibling
-  absent_from : (cpu low : ℕ) (tasks : List Task) (task : Task) → RisesFrom low tasks → find (has_pid pid) tasks ≡ Some task →
+  pub absent_from : (cpu low : ℕ) (tasks : List Task) (task : Task) → RisesFrom low tasks → find (has_pid pid) tasks ≡ Some task →
       is_on cpu task ≡ false → others pid (queued_at tasks cpu) ≡ queued_at tasks cpu
   absent_from cpu low [] task rises found off = refl
   absent_from cpu low (first ∷ tasks) task rises found off =

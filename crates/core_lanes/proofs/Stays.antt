@@ -1,6 +1,7 @@
 -- Stays: what a change of a core and its table keeps.
-use Rattle.std.proofs.Common.{◌≡◌, ℕ, ◌<◌, ◌≤◌, List, [], map, refl, subst, sym, ap, ◌∙◌, length, set, get_or, Option, Some, ◌+◌, arith}
-use Rattle.std.specs.Prelude.{All, IfSome, IsTrue, find, slice_get}
+use Rattle.std.proofs.Common.{◌≡◌, inl, inr, ℕ, ◌<◌, ◌≤◌, List, [], map, refl, subst, sym, ap, ◌∙◌, length, set, get_or, Option, Some, ◌+◌, arith}
+use Rattle.std.specs.Prelude.{All, IfSome, IsTrue, find, slice_get, ◌==◌}
+use Rattle.std.proofs.lemmas.Bool.{cases_Bool, cond-true, cond-false, eqb-true}
 use Rattle.std.proofs.lemmas.List.Elements.{All-weaker}
 use Rattle.std.proofs.lemmas.List.{get_or-map, length-map}
 use Rattle.std.proofs.lemmas.Option.{slice_get-get_or}
@@ -11,7 +12,7 @@ use Rattle.task_table.specs.Table.{Table, IsSound as IsTable}
 use Rattle.core_lanes.proofs.Lists.{All-find}
 use Rattle.cs_types.specs.Scenario.{IsPolicy}
 use Rattle.core_lanes.specs.Queued.{queued_at, AreStamped, HavePolicies}
-use Rattle.core_lanes.specs.Lanes.{Beside, BareCore, bare, lane_state, IsFit, Agree, queues_of, MayStamp}
+use Rattle.core_lanes.specs.Lanes.{Beside, BareCore, bare, lane_state, IsFit, Agree, AgreeAway, queues_of, MayStamp}
 use Rattle.core_lanes.specs.Changes.{Stays, identity_of}
 use Rattle.core_lanes.specs.declared.queue.SiblingQueue.{Ghosts}
 use Rattle.core_lanes.specs.declared.lane.Lane.{Lane}
@@ -58,6 +59,23 @@ pub alike_stays : {Q : Type 0} {g : Ghosts Q} (old new : Core Q g × Table) → 
     new.0.next_stamp ≡ old.0.next_stamp → Stays old new
 alike_stays old new queues table stamp =
     kept_stays old new queues (ap (λ (t : Table). t.tasks) table) (ap (λ (t : Table). t.limit) table) (subst IsTable (sym table)) stamp
+
+-- where no task is left on the sibling whose tasks leave, they agree as before
+pub agree_again : {Q : Type 0} {g : Ghosts Q} (leaving : ℕ) (both : Core Q g × Table) → AgreeAway leaving both → queued_at both.1.tasks leaving ≡ [] → Agree both
+agree_again {Q} {g} leaving both away none = record {
+  table = away.table;
+  few_tasks = away.few_tasks;
+  tasks = away.tasks;
+  stamped = away.stamped;
+  held = λ cpu queue at.
+      subst (λ qs. g.holds queue both.1.limit qs)
+      (elim (cases_Bool (cpu == leaving)) [
+        | inl here ↦
+            cond-true (cpu == leaving) [] (queued_at both.1.tasks cpu) here
+            ∙ sym (ap (queued_at both.1.tasks) (eqb-true cpu leaving here) ∙ none)
+        | inr other ↦ cond-false (cpu == leaving) [] (queued_at both.1.tasks cpu) other
+      ]) (away.held cpu queue at);
+}
 
 -- ---- a sibling
 

@@ -1,5 +1,5 @@
 -- Lanes: the room that a core and a table stand for, and that these agree.
-use Rattle.std.specs.Prelude.{◌≡◌, ℕ, ◌^◌, ◌<◌, ◌≤◌, List, length, map, find, replicate, Some, None, All, IsTrue, slice_get, unwrap_or}
+use Rattle.std.specs.Prelude.{◌≡◌, ℕ, ◌^◌, ◌<◌, ◌≤◌, ◌==◌, if◌then◌else◌, List, [], length, map, find, replicate, Some, None, All, IsTrue, slice_get, unwrap_or}
 use Rattle.cs_types.specs.declared.task.Task.{Task}
 use Rattle.cs_types.specs.declared.view.CpuView.{CpuView}
 use Rattle.cs_types.specs.Scenario.{IsPolicy}
@@ -134,14 +134,34 @@ abbrev pub AreHeldBut : {Q : Type 0} {g : Ghosts Q} → ℕ → Core Q g × Tabl
 AreHeldBut {Q} {g} pid both =
     (cpu : ℕ) (queue : Q) → slice_get (queues_of both.0) cpu ≡ Some queue → g.holds queue both.1.limit (others pid (queued_at both.1.tasks cpu))
 
+-- the same while the tasks of a sibling leave it: its queue is empty already
+abbrev pub AreHeldAway : {Q : Type 0} {g : Ghosts Q} → ℕ → Core Q g × Table → Type 0
+AreHeldAway {Q} {g} leaving both =
+    (cpu : ℕ) (queue : Q) → slice_get (queues_of both.0) cpu ≡ Some queue →
+    g.holds queue both.1.limit (if cpu == leaving then [] else queued_at both.1.tasks cpu)
+
+-- and with neither the task with this pid
+abbrev pub AreHeldAwayBut : {Q : Type 0} {g : Ghosts Q} → ℕ → ℕ → Core Q g × Table → Type 0
+AreHeldAwayBut {Q} {g} leaving pid both =
+    (cpu : ℕ) (queue : Q) → slice_get (queues_of both.0) cpu ≡ Some queue →
+    g.holds queue both.1.limit (if cpu == leaving then [] else others pid (queued_at both.1.tasks cpu))
+
 -- A core and a table agree: at most 256 tasks live; each task fits the siblings, and where it is queued has a stamp of its own;
--- and the queues hold the queued tasks.
-pub record Agree {Q : Type 0} {g : Ghosts Q} (both : Core Q g × Table) : Type 0 where
+-- and the queues hold what they are to hold.
+pub record AgreeBy {Q : Type 0} {g : Ghosts Q} (Held : Type 0) (both : Core Q g × Table) : Type 0 where
   pub table : IsTable both.1
   pub few_tasks : both.1.limit ≤ 256
   pub tasks : All (IsFit (length both.0.lanes.items)) both.1.tasks
   pub stamped : AreStamped both.0.next_stamp both.1.tasks
-  pub held : AreHeld both
+  pub held : Held
+
+-- the queues hold the queued tasks
+abbrev pub Agree : {Q : Type 0} {g : Ghosts Q} → Core Q g × Table → Type 0
+Agree both = AgreeBy (AreHeld both) both
+
+-- or all but those of the sibling whose tasks leave
+abbrev pub AgreeAway : {Q : Type 0} {g : Ghosts Q} → ℕ → Core Q g × Table → Type 0
+AgreeAway leaving both = AgreeBy (AreHeldAway leaving both) both
 
 -- they agree, and this is the number of a sibling
 pub record AgreesAt {Q : Type 0} {g : Ghosts Q} (sibling : ℕ) (both : Core Q g × Table) : Type 0 where

@@ -1,6 +1,7 @@
 //! The core.
 
-ghost use Rattle.std.specs.Prelude.{◌≡◌, ℕ, [], ◌+◌, ◌^◌, ◌<◌, ◌≤◌, length, map, find, is_some, All, Some, IfOk, IfSome, slice_get, IsTrue, if◌then◌else◌};
+ghost use Rattle.std.specs.Prelude.{◌≡◌, ◌≢◌, ℕ, [], ◌+◌, ◌^◌, ◌<◌, ◌≤◌, length, map, find, is_some, All, Some, IfOk, IfSome, slice_get, IsTrue, if◌then◌else◌};
+ghost use Rattle.cs_types.specs.declared.task.Task.{Task as SomeTask};
 ghost use Rattle.cs_types.specs.Room.{has_pid, is_online, running_on, with_task, flag};
 ghost use Rattle.cs_types.specs.Selection.{first_on};
 ghost use Rattle.cs_types.specs.Step.{run_idle};
@@ -50,9 +51,9 @@ pub struct Core<Q: SiblingQueue> {
 
 impl<Q: SiblingQueue> Core<Q> {
     ghost use Rattle.core_lanes.specs.Queued.{HasOwnStamp};
-    ghost use Rattle.core_lanes.specs.Lanes.{Beside, lane_state, bare_start, queues_of, room_of, bare, Agree, AgreesAt, AreHeld, AreHeldBut, FitsIn, Knows, KnowsApart};
+    ghost use Rattle.core_lanes.specs.Lanes.{Beside, lane_state, bare_start, queues_of, room_of, bare, Agree, AgreeAway, AgreesAt, AreHeld, AreHeldBut, AreHeldAway, AreHeldAwayBut, FitsIn, Knows, KnowsApart};
     ghost use Rattle.core_lanes.specs.Numbers.{numbers_of, is_fresh_by};
-    ghost use Rattle.core_lanes.specs.Changes.{Changes, Touches};
+    ghost use Rattle.core_lanes.specs.Changes.{Becomes, kept_of, Changes, Touches};
 
     /// The siblings, which are 1 to 16, before the first step: each is online and runs idle, and no number is
     /// above 0. Each queue can take `tasks`, a count. This call alone takes memory.
@@ -187,6 +188,29 @@ impl<Q: SiblingQueue> Core<Q> {
         }
     }
 
+    /// The queue of the task's home has it, where another sibling's tasks leave.
+    fn put_away<L: Ledger>(
+        &mut self,
+        table: &TaskTable,
+        leaving: Cpu,
+        task: &Task,
+        steps: &mut Steps<L>,
+    )
+        requires there { IsOf table.now.tasks task.now }
+        requires home { task.now.home < length self.old.lanes.items }
+        requires stays { task.now.home ≢ leaving }
+        requires table { IsTable table.now }
+        requires queued { IsTrue task.now.queued }
+        requires stamp { HasOwnStamp table.now.tasks task.now }
+        requires held { AreHeldAwayBut leaving task.now.spec.pid (self.old, table.now) }
+        ensures bare { bare self.new ≡ bare self.old }
+        ensures held { AreHeldAway leaving (self.new, table.now) }
+    {
+        self.lanes[task.home as usize]
+            .queue
+            .put(table, task.home, task, steps);
+    }
+
     /// The task in the place of the one with its pid, which the queues have alike, in the table.
     fn replace_alike(&self, table: &mut TaskTable, old: &Task, task: Task)
         requires there { find (has_pid task.spec.pid) table.old.tasks ≡ Some old.now }
@@ -215,6 +239,37 @@ impl<Q: SiblingQueue> Core<Q> {
         self.take(table, &old, steps);
         table.change(task);
         self.put(table, &task, steps);
+    }
+
+    /// The queue of a sibling, whose tasks are about to leave, is empty.
+    pub fn empty_queue(&mut self, leaving: Cpu)
+        requires cpu { leaving < length self.old.lanes.items }
+        ensures bare { bare self.new ≡ bare self.old }
+        ensures away { (table : Table) → Agree (self.old, table) → AgreeAway leaving (self.new, table) }
+    {
+        self.lanes[leaving as usize].queue.clear();
+    }
+
+    /// The task leaves the sibling, whose queue is empty already, and enters the queue of its new home.
+    pub fn enter<L: Ledger>(
+        &mut self,
+        table: &mut TaskTable,
+        leaving: Cpu,
+        task: Task,
+        steps: &mut Steps<L>,
+    )
+        requires knows { Knows (self.old, table.old) task }
+        requires from { (old : SomeTask) → find (has_pid task.spec.pid) table.old.tasks ≡ Some old → old.home ≡ leaving }
+        requires queued { IsTrue task.queued }
+        requires home { task.home ≢ leaving }
+        requires away { AgreeAway leaving (self.old, table.old) }
+        ensures room { Becomes (self.old, table.old) (self.new, table.new) (λ room. with_task room task) }
+        ensures numbers { numbers_of (self.new, table.new) ≡ numbers_of (self.old, table.old) }
+        ensures kept { kept_of (self.new, table.new) ≡ kept_of (self.old, table.old) }
+        ensures away { AgreeAway leaving (self.new, table.new) }
+    {
+        table.change(task);
+        self.put_away(table, leaving, &task, steps);
     }
 
     /// The task's numbers are these now.

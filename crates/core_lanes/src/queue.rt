@@ -51,6 +51,10 @@ pub trait SiblingQueue: Drop {
         ensures holds { holds self.new table.now.limit (others task.now.spec.pid (queued_at table.now.tasks cpu)) }
         ensures counted { steps.new ≤ steps.old + most_compared (length (queued_among table.now.tasks cpu)) };
 
+    /// Every task leaves. It can take as many in all as before.
+    fn clear(&mut self)
+        ensures { (most : ℕ) (tasks : List Queued) → holds self.old most tasks → holds self.new most [] };
+
     /// The first task, `None` where there is none (`pick_task`).
     fn first<L: Ledger>(&self, table: &TaskTable, cpu: Cpu, steps: &mut Steps<L>) -> Option<Task>
         requires policies { HavePolicies table.now.tasks }
