@@ -8,7 +8,7 @@ ghost use Rattle.cs_types.specs.Step.{run_idle};
 ghost use Rattle.cs_types.specs.Steal.{set_place};
 ghost use Rattle.cs_types.specs.Queueing.{enqueue, dequeue, moved_to};
 ghost use Rattle.task_table.specs.Table.{Table, IsSound as IsTable};
-ghost use Rattle.core_lanes.specs.Queued.{IsOf, is_alike, queued_among};
+ghost use Rattle.core_lanes.specs.Queued.{IsOf, queued_among, queued_at, others, is_alike};
 
 use crate::lane::Lane;
 use crate::order::is_alike;
@@ -188,23 +188,18 @@ impl<Q: SiblingQueue> Core<Q> {
         }
     }
 
-    /// The queue of the task's home has it, where another sibling's tasks leave.
-    fn put_away<L: Ledger>(
-        &mut self,
-        table: &TaskTable,
-        leaving: Cpu,
-        task: &Task,
-        steps: &mut Steps<L>,
-    )
+    /// The queue of the task's home has it, where the tasks of another sibling leave.
+    fn put_away<L: Ledger>(&mut self, table: &TaskTable, task: &Task, steps: &mut Steps<L>)
         requires there { IsOf table.now.tasks task.now }
         requires home { task.now.home < length self.old.lanes.items }
-        requires stays { task.now.home ≢ leaving }
         requires table { IsTable table.now }
         requires queued { IsTrue task.now.queued }
         requires stamp { HasOwnStamp table.now.tasks task.now }
-        requires held { AreHeldAwayBut leaving task.now.spec.pid (self.old, table.now) }
+        requires held { (queue : _) → slice_get (queues_of self.old) task.now.home ≡ Some queue →
+            Q.holds queue table.now.limit (others task.now.spec.pid (queued_at table.now.tasks task.now.home)) }
         ensures bare { bare self.new ≡ bare self.old }
-        ensures held { AreHeldAway leaving (self.new, table.now) }
+        ensures held { (leaving : ℕ) → task.now.home ≢ leaving → AreHeldAwayBut leaving task.now.spec.pid (self.old, table.now) →
+            AreHeldAway leaving (self.new, table.now) }
     {
         self.lanes[task.home as usize]
             .queue
@@ -250,26 +245,19 @@ impl<Q: SiblingQueue> Core<Q> {
         self.lanes[leaving as usize].queue.clear();
     }
 
-    /// The task leaves the sibling, whose queue is empty already, and enters the queue of its new home.
-    pub fn enter<L: Ledger>(
-        &mut self,
-        table: &mut TaskTable,
-        leaving: Cpu,
-        task: Task,
-        steps: &mut Steps<L>,
-    )
+    /// The task leaves its home, whose queue is empty already, and enters the queue of its new one.
+    pub fn enter<L: Ledger>(&mut self, table: &mut TaskTable, task: Task, steps: &mut Steps<L>)
         requires knows { Knows (self.old, table.old) task }
-        requires from { (old : SomeTask) → find (has_pid task.spec.pid) table.old.tasks ≡ Some old → old.home ≡ leaving }
         requires queued { IsTrue task.queued }
-        requires home { task.home ≢ leaving }
-        requires away { AgreeAway leaving (self.old, table.old) }
+        requires home { (old : SomeTask) → find (has_pid task.spec.pid) table.old.tasks ≡ Some old → task.home ≢ old.home }
+        requires away { (old : SomeTask) → find (has_pid task.spec.pid) table.old.tasks ≡ Some old → AgreeAway old.home (self.old, table.old) }
         ensures room { Becomes (self.old, table.old) (self.new, table.new) (λ room. with_task room task) }
         ensures numbers { numbers_of (self.new, table.new) ≡ numbers_of (self.old, table.old) }
         ensures kept { kept_of (self.new, table.new) ≡ kept_of (self.old, table.old) }
-        ensures away { AgreeAway leaving (self.new, table.new) }
+        ensures away { (old : SomeTask) → find (has_pid task.spec.pid) table.old.tasks ≡ Some old → AgreeAway old.home (self.new, table.new) }
     {
         table.change(task);
-        self.put_away(table, leaving, &task, steps);
+        self.put_away(table, &task, steps);
     }
 
     /// The task's numbers are these now.

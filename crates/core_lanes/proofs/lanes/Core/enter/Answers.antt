@@ -1,10 +1,14 @@
-use Rattle.std.proofs.Common.{◌≡◌, ℕ, ◌≤◌, [], cond, List, inl, inr, sym, subst, ap, ◌∙◌, map, length}
-use Rattle.std.specs.Prelude.{◌==◌, All}
-use Rattle.std.proofs.lemmas.Bool.{cases_Bool, cond-true, eqb-false}
+use Rattle.std.proofs.Common.{◌≡◌, ℕ, ◌≤◌, [], cond, List, inl, inr, sym, subst, ap, ◌∙◌, map, length, Some}
+use Rattle.std.specs.Prelude.{◌==◌, All, find, slice_get}
+use Rattle.std.proofs.lemmas.Bool.{cases_Bool, cond-true, cond-false, eqb-false, ne_eqb}
 use Rattle.cs_types.proofs.Spots.{replaced_by}
+use Rattle.cs_types.specs.declared.task.Task.{Task}
+use Rattle.cs_types.specs.Room.{has_pid}
 use Rattle.task_table.specs.Table.{Table}
 use Rattle.core_lanes.specs.Queued.{queued_at, others, HasOwnStamp, AreStamped}
-use Rattle.core_lanes.specs.Lanes.{BareCore, bare, room_by, AreHeldAwayBut, IsFit}
+use Rattle.core_lanes.specs.declared.queue.SiblingQueue.{Ghosts}
+use Rattle.core_lanes.specs.declared.lanes.Core.{Core}
+use Rattle.core_lanes.specs.Lanes.{BareCore, bare, room_by, queues_of, AreHeldAwayBut, AgreeAway, IsFit}
 use Rattle.core_lanes.specs.Numbers.{numbers_by}
 use Rattle.core_lanes.specs.Changes.{Kept, identity_of}
 use Rattle.core_lanes.proofs.Queues.{others-replaced, absent_from, off_elsewhere}
@@ -26,24 +30,37 @@ put_away-requires-clause-stamp g c =
     subst (λ (table : Table). HasOwnStamp table.tasks c.args.task) (sym c.change.ensures.changed)
     (own_stamp c.args.task apart.old c.args.table.now.tasks apart.there (c.requires.knows.stamp c.requires.queued).own)
 
+-- what the queues hold but for the task, where they hold the others of the siblings that nobody leaves
+module _ {Q : Type 0} {g : Ghosts Q} (core : Core Q g) (before : Table) (task old : Task) (there : find (has_pid task.spec.pid) before.tasks ≡ Some old)
+    (away : AgreeAway old.home (core, before)) where
+  others_stay : (cpu : ℕ) → (cpu ≡ old.home → ⊥) → others task.spec.pid (queued_at (map (replaced_by task) before.tasks) cpu) ≡ queued_at before.tasks cpu
+  others_stay cpu other = others-replaced task before.tasks cpu ∙ absent_from task.spec.pid cpu 0 before.tasks old away.table.rising there (off_elsewhere old cpu other)
+
+  all_but : AreHeldAwayBut old.home task.spec.pid (core, record before { tasks = map (replaced_by task) before.tasks })
+  all_but cpu queue at =
+      let after = others task.spec.pid (queued_at (map (replaced_by task) before.tasks) cpu) in
+      let same : cond (cpu == old.home) [] (queued_at before.tasks cpu) ≡ cond (cpu == old.home) [] after = elim (cases_Bool (cpu == old.home)) [
+        | inl here ↦ cond-true (cpu == old.home) [] (queued_at before.tasks cpu) here ∙ sym (cond-true (cpu == old.home) [] after here)
+        | inr other ↦ ap (cond (cpu == old.home) []) (sym (others_stay cpu (eqb-false cpu old.home other)))
+      ] in
+      subst (λ qs. g.holds queue before.limit qs) same (away.held cpu queue at)
+
 pub put_away-requires-clause-held : goal.put_away-requires-clause-held
 put_away-requires-clause-held g c =
     let task = c.args.task in
     let before = c.args.table.now in
-    let leaving = c.args.leaving in
     let apart = c.requires.knows.known.apart in
-    let was = c.requires.from apart.old apart.there in
-    let same = λ (cpu : ℕ). elim (cases_Bool (cpu == leaving)) as (λ _. cond (cpu == leaving) [] (others task.spec.pid (queued_at (map (replaced_by task) before.tasks) cpu))
-    ≡ cond (cpu == leaving) [] (queued_at before.tasks cpu)) [
-      | inl here ↦ cond-true (cpu == leaving) [] _ here ∙ sym (cond-true (cpu == leaving) [] _ here)
-      | inr other ↦
-          ap (cond (cpu == leaving) [])
-          (others-replaced task before.tasks cpu
-          ∙ absent_from task.spec.pid cpu 0 before.tasks apart.old c.requires.away.table.rising apart.there
-          (off_elsewhere apart.old cpu (λ at. eqb-false cpu leaving other (at ∙ was))))
-    ] in
-    subst (λ (table : Table). AreHeldAwayBut leaving task.spec.pid (c.args.self.now, table)) (sym c.change.ensures.changed)
-    (λ cpu queue at. subst (λ qs. g.Q.SiblingQueue.holds queue before.limit qs) (sym (same cpu)) (c.requires.away.held cpu queue at))
+    let other = c.requires.home apart.old apart.there in
+    let away = c.requires.away apart.old apart.there in
+    let after : Table = record before { tasks = map (replaced_by task) before.tasks } in
+    let all : (queue : _) → slice_get (queues_of c.args.self.now) task.home ≡ Some queue → g.Q.SiblingQueue.holds queue after.limit (others task.spec.pid (queued_at after.tasks task.home)) =
+    λ queue at.
+    subst (λ qs. g.Q.SiblingQueue.holds queue before.limit qs)
+    (cond-false (task.home == apart.old.home) [] (queued_at before.tasks task.home) (ne_eqb task.home apart.old.home other)
+    ∙ sym (others_stay c.args.self.now before task apart.old apart.there away task.home other)) (away.held task.home queue at) in
+    subst
+    (λ (table : Table). (queue : _) → slice_get (queues_of c.args.self.now) task.home ≡ Some queue →
+    g.Q.SiblingQueue.holds queue table.limit (others task.spec.pid (queued_at table.tasks task.home))) (sym c.change.ensures.changed) all
 
 pub returns-clause-room : goal.returns-clause-room
 returns-clause-room g c beside = λ i. room_by beside (c.put_away.ensures.bare i) (c.change.ensures.changed i)
@@ -63,14 +80,14 @@ returns-clause-kept g c =
       siblings = length c.args.self.now.lanes.items;
       limit = c.args.table.now.limit;
       identities = identities;
-    } in kept) (identities-replaced c.args.task known.apart.old c.args.table.now.tasks c.requires.away.table.rising known.apart.there known.cookie)
+    } in kept) (identities-replaced c.args.task known.apart.old c.args.table.now.tasks (c.requires.away known.apart.old known.apart.there).table.rising known.apart.there known.cookie)
 
 pub returns-clause-away : goal.returns-clause-away
-returns-clause-away g c =
+returns-clause-away g c was found =
     let task = c.args.task in
     let old = c.args.self.now in
     let before = c.args.table.now in
-    let away = c.requires.away in
+    let away = c.requires.away was found in
     let apart = c.requires.knows.known.apart in
     let same : bare c.put_away.new.self ≡ bare old = c.put_away.ensures.bare in
     let many = as_many_bare old c.put_away.new.self same in
@@ -84,5 +101,6 @@ returns-clause-away g c =
       stamped = subst (λ (t : Table). AreStamped c.put_away.new.self.next_stamp t.tasks) (sym changed)
           (subst (λ (core : BareCore). AreStamped core.next_stamp after.tasks) (sym same)
           (stamped-replaced task apart.old before.tasks apart.there old.next_stamp c.requires.knows.stamp away.stamped));
-      held = c.put_away.ensures.held;
+      held = c.put_away.ensures.held was.home (c.requires.home was found)
+          (subst (λ (table : Table). AreHeldAwayBut was.home task.spec.pid (old, table)) (sym changed) (all_but old before task was found away));
     }

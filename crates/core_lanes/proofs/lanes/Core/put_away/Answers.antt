@@ -11,11 +11,9 @@ use Rattle.core_lanes.proofs.lanes.Core.put_away.Goals as goal
 
 pub put-requires-clause-holds : goal.put-requires-clause-holds
 put-requires-clause-holds g c =
-    let task = c.args.task.now in
+    let home = c.args.task.now.home in
     let lane = c.index_mut.result.now in
-    subst (λ qs. g.Q.SiblingQueue.holds lane.queue c.args.table.now.limit qs)
-    (cond-false (task.home == c.args.leaving) [] (others task.spec.pid (queued_at c.args.table.now.tasks task.home)) (ne_eqb task.home c.args.leaving c.requires.stays))
-    (c.requires.held task.home lane.queue (queue_at c.args.self.now.lanes.items task.home lane c.requires.home c.index_mut.ensures.value))
+    c.requires.held lane.queue (queue_at c.args.self.now.lanes.items home lane c.requires.home c.index_mut.ensures.value)
 
 pub returns-clause-bare : goal.returns-clause-bare
 returns-clause-bare g c =
@@ -25,11 +23,10 @@ returns-clause-bare g c =
     rw (map-set_same lane_state lanes c.args.task.now.home after lane (ap lane_state c.index_mut.ensures.value), map-set_same number_of lanes c.args.task.now.home after lane (ap number_of c.index_mut.ensures.value)) refl
 
 pub returns-clause-held : goal.returns-clause-held
-returns-clause-held g c =
+returns-clause-held g c leaving stays all =
     let task = c.args.task.now in
     let tasks = c.args.table.now.tasks in
     let limit = c.args.table.now.limit in
-    let leaving = c.args.leaving in
     let pid = task.spec.pid in
     let lane = c.index_mut.result.now in
     let after = record lane { queue = c.put.new.self } in
@@ -39,5 +36,5 @@ returns-clause-held g c =
     (λ cpu x other held.
     subst (λ qs. g.Q.SiblingQueue.holds x limit qs)
     (ap (cond (cpu == leaving) []) (others-absent tasks task cpu c.requires.table.rising c.requires.there (off_elsewhere task cpu other))) held)
-    c.requires.held
-    (subst (λ qs. g.Q.SiblingQueue.holds c.put.new.self limit qs) (sym (cond-false (task.home == leaving) [] (queued_at tasks task.home) (ne_eqb task.home leaving c.requires.stays))) c.put.ensures))
+    all
+    (subst (λ qs. g.Q.SiblingQueue.holds c.put.new.self limit qs) (sym (cond-false (task.home == leaving) [] (queued_at tasks task.home) (ne_eqb task.home leaving stays))) c.put.ensures))
