@@ -1,6 +1,7 @@
 -- Places: the tasks move off a sibling place by place.
 use Rattle.std.proofs.Common.{◌≡◌, ◌⊎◌, inl, inr, ℕ, zero, suc, ◌+◌, ◌<◌, true, false, cond, List, [], ◌∷◌, ◌++◌, map, take, drop, set, refl, sym, ap, ◌∙◌, length, length-append, length-drop, length-take, get_or, arith, Some, eq-eqb, ne_eqb}
 use Rattle.std.specs.Prelude.{find, unwrap_or, slice_get, ◌&&◌, ◌==◌}
+use Rattle.std.proofs.Math.Bool.{and-false}
 use Rattle.std.proofs.Math.Seq.{take-length, drop-length}
 use Rattle.std.proofs.lemmas.List.{length-map, append-nil, set-get_or}
 use Rattle.std.proofs.lemmas.Option.{slice_get-get_or}
@@ -121,6 +122,12 @@ module _ (change : Task → Task) (all now : List Task) (place : ℕ) (task : Ta
         ap (λ (spec : TaskSpec). find (has_pid spec.pid) now) (spec ∙ ap (λ (t : Task). t.spec) task_is)
         ∙ found_at 0 place task now rises inside ∙ ap Some (sym task_is)
 
+    -- and what is found by it is the task
+    pub found_is : (old : Task) → find (has_pid done.spec.pid) now ≡ Some old → old ≡ task
+    found_is old found =
+        let same : Some old ≡ Some task = sym found ∙ there in
+        cc
+
     -- one more was changed
     pub changed_more : done ≡ change task → map (λ other. cond (has_pid done.spec.pid other) done other) now ≡ map change (take (place + 1) all) ++ drop (place + 1) all
     changed_more is =
@@ -142,3 +149,34 @@ moved_is old now cpu to stamp task moved same to_is is queued home stamp_is =
 -- and what does not move is
 pub stays : (room : RoomState) (cpu : ℕ) (task : Task) → (task.queued && (task.home == cpu)) ≡ false → task ≡ moved_off room cpu task
 stays room cpu task not_there = sym (cond-false (task.queued && (task.home == cpu)) _ task not_there)
+
+-- ---- those that are left
+
+-- where none is queued on the sibling, none moves
+pub nobody_moves : (room : RoomState) (cpu : ℕ) (tasks : List Task) → length (queued_among tasks cpu) ≡ 0 → map (moved_off room cpu) tasks ≡ tasks
+nobody_moves room cpu [] none = refl
+nobody_moves room cpu (task ∷ tasks) none =
+    let on = task.queued && (task.home == cpu) in
+    elim (cases_Bool on) [
+      | inl there ↦
+          let some = ap length (cond-true on (task ∷ queued_among tasks cpu) (queued_among tasks cpu) there) in
+          absurd (omega (arith, some, none))
+      | inr off ↦
+          let rest = nobody_moves room cpu tasks (sym (ap length (cond-false on (task ∷ queued_among tasks cpu) (queued_among tasks cpu) off)) ∙ none) in
+          λ i. sym (stays room cpu task off) i ∷ rest i
+    ]
+
+-- and where all moved to another, none is left
+pub none_left : (room : RoomState) (cpu : ℕ) (tasks : List Task) → (lowest_other room cpu ≡ cpu → ⊥) → queued_among (map (moved_off room cpu) tasks) cpu ≡ []
+none_left room cpu [] other = refl
+none_left room cpu (task ∷ tasks) other =
+    let on = task.queued && (task.home == cpu) in
+    let moved = moved_off room cpu task in
+    let gone : (moved.queued && (moved.home == cpu)) ≡ false = elim (cases_Bool on) [
+      | inl there ↦
+          ap (λ (t : Task). t.queued && (t.home == cpu)) (cond-true on _ task there)
+          ∙ ap (λ b. task.queued && b) (ne_eqb (lowest_other room cpu) cpu other) ∙ and-false task.queued
+      | inr off ↦ ap (λ (t : Task). t.queued && (t.home == cpu)) (cond-false on _ task off) ∙ off
+    ] in
+    cond-false (moved.queued && (moved.home == cpu)) (moved ∷ queued_among (map (moved_off room cpu) tasks) cpu) (queued_among (map (moved_off room cpu) tasks) cpu) gone
+    ∙ none_left room cpu tasks other

@@ -1,8 +1,9 @@
 //! How the tasks of a sibling that leaves come to another. It is apart, since it alone gives them new stamps.
 
-ghost use Rattle.std.specs.Prelude.{◌≡◌, ◌+◌, ◌*◌, ◌^◌, ◌<◌, ◌≤◌, length};
+ghost use Rattle.std.specs.Prelude.{◌≡◌, ◌≢◌, ◌+◌, ◌*◌, ◌^◌, ◌<◌, ◌≤◌, length};
 ghost use Rattle.core_lanes.specs.Queued.{queued_among};
-ghost use Rattle.core_lanes.specs.Lanes.{room_of, Agree, HasLowTimes};
+ghost use Rattle.cs_types.specs.Hotplug.{lowest_other};
+ghost use Rattle.core_lanes.specs.Lanes.{Beside, room_of, Agree, HasLowTimes};
 ghost use Rattle.core_lanes.specs.Changes.{Touches};
 ghost use Rattle.cpu_hotplug.specs.Leaves.{move_off};
 
@@ -20,24 +21,29 @@ pub fn move_off<Q: SiblingQueue, L: Ledger>(
     steps: &mut Steps<L>,
 )
     requires cpu { cpu < length core.old.lanes.items }
+    requires another { (beside : Beside) → lowest_other (room_of beside (core.old, table.old)) cpu ≢ cpu }
     requires agree { Agree (core.old, table.old) }
     requires low { HasLowTimes (core.old, table.old) }
     requires stamp { core.old.next_stamp + length table.old.tasks < 2 ^ 64 }
     requires touches { core.old.task_number + 2 * length table.old.tasks < 2 ^ 64 }
     ensures { Touches (2 * length (queued_among table.old.tasks cpu)) (core.old, table.old) (core.new, table.new) (λ room. move_off room cpu) }
 {
+    let count = u64::from(core.lanes[cpu as usize].queue.count(table, cpu));
+    if count == 0 {
+        return;
+    }
     let to = lowest_other(core, cpu);
     let next = core.next_stamp;
-    let count = u64::from(core.lanes[cpu as usize].queue.count(table, cpu));
     let stamps = sorted_stamps_on(table, cpu);
     core.next_stamp += count;
     core.task_number += 2 * count;
+    core.empty_queue(cpu);
     for position in 0..table.len() as usize {
         let task = *table.at(position).unwrap();
         if task.queued && task.home == cpu {
             let moved = core.moved_to(to, task);
             let stamp = next + count_before(&stamps, task.stamp);
-            core.change(table, Task { stamp, ..moved }, steps);
+            core.enter(table, Task { stamp, ..moved }, steps);
         }
     }
 }

@@ -1,15 +1,15 @@
-use Rattle.std.proofs.Common.{arith, subst, ◌≤◌, ◌≡◌, ◌*◌, ◌∙◌, ap, sym, map, length, refl}
+use Rattle.std.proofs.Common.{arith, subst, ◌≤◌, ◌≡◌, ◌≢◌, ◌*◌, ◌∙◌, ap, sym, map, length, refl}
 use Rattle.std.specs.Prelude.{List}
 use Rattle.std.specs.List.{enumerate_from}
 use Rattle.std.proofs.lemmas.List.{with_items_is}
 use Rattle.cs_types.specs.Room.{RoomState}
 use Rattle.cs_types.specs.Accounting.{charge}
-use Rattle.cs_types.specs.Hotplug.{leave}
+use Rattle.cs_types.specs.Hotplug.{lowest_other, leave}
 use Rattle.core_lanes.specs.declared.lane.Lane.{Lane}
 use Rattle.core_lanes.specs.Queued.{queued_among}
 use Rattle.task_table.specs.Table.{Table}
 use Rattle.core_lanes.specs.Changes.{Kept}
-use Rattle.core_lanes.specs.Lanes.{AreLow, BareCore, bare, at, beside_after, lane_state, room_of}
+use Rattle.core_lanes.specs.Lanes.{AreLow, BareCore, bare, at, beside_after, lane_state, room_by, room_of}
 use Rattle.core_lanes.specs.Numbers.{Numbers, numbers_in, with_ended, touched}
 use Rattle.core_lanes.proofs.Stays.{number_of, queue_of, both_stay, alike_stays}
 use Rattle.cpu_hotplug.specs.Leaves.{left, move_off}
@@ -19,21 +19,25 @@ use Rattle.cpu_hotplug.proofs.hotplug.leave.Goals as goal
 -- ---- the calls
 
 pub move_off-requires-clause-cpu : goal.move_off-requires-clause-cpu
-move_off-requires-clause-cpu g c = omega (arith, c.requires.cpu, ap (λ (kept : Kept). kept.siblings) c.charge.ensures.charges.stays.kept)
+move_off-requires-clause-cpu g c = omega (arith, c.requires.may.cpu, ap (λ (kept : Kept). kept.siblings) c.charge.ensures.charges.stays.kept)
+
+pub move_off-requires-clause-another : goal.move_off-requires-clause-another
+move_off-requires-clause-another g c beside =
+    subst (λ (core : BareCore). lowest_other (room_by beside core c.args.table.now) c.args.cpu ≢ c.args.cpu) (sym c.charge.ensures.core) (c.requires.another beside)
 
 pub move_off-requires-clause-agree : goal.move_off-requires-clause-agree
-move_off-requires-clause-agree g c = (alike_stays _ _ refl refl refl).agree (c.charge.ensures.charges.stays.agree c.requires.agree)
+move_off-requires-clause-agree g c = (alike_stays _ _ refl refl refl).agree (c.charge.ensures.charges.stays.agree c.requires.may.agree)
 
 pub move_off-requires-clause-low : goal.move_off-requires-clause-low
 move_off-requires-clause-low g c =
     subst (λ (table : Table). AreLow (bare c.charge.new.core).siblings table.tasks) (sym c.charge.ensures.table)
-    (subst (λ (core : BareCore). AreLow core.siblings c.args.table.now.tasks) (sym c.charge.ensures.core) c.requires.low)
+    (subst (λ (core : BareCore). AreLow core.siblings c.args.table.now.tasks) (sym c.charge.ensures.core) c.requires.may.low)
 
 pub move_off-requires-clause-stamp : goal.move_off-requires-clause-stamp
-move_off-requires-clause-stamp g c = omega (arith, c.requires.stamp, ap (λ (core : BareCore). core.next_stamp) c.charge.ensures.core, ap (λ (table : Table). length table.tasks) c.charge.ensures.table)
+move_off-requires-clause-stamp g c = omega (arith, c.requires.may.stamp, ap (λ (core : BareCore). core.next_stamp) c.charge.ensures.core, ap (λ (table : Table). length table.tasks) c.charge.ensures.table)
 
 pub move_off-requires-clause-touches : goal.move_off-requires-clause-touches
-move_off-requires-clause-touches g c = omega (arith, c.requires.touches, ap (λ (core : BareCore). core.task_number) c.charge.ensures.core, ap (λ (table : Table). length table.tasks) c.charge.ensures.table)
+move_off-requires-clause-touches g c = omega (arith, c.requires.may.touches, ap (λ (core : BareCore). core.task_number) c.charge.ensures.core, ap (λ (table : Table). length table.tasks) c.charge.ensures.table)
 
 pub set_one_away-requires : goal.set_one_away-requires
 set_one_away-requires g c = record { few = subst (λ (lanes : List (Lane g.row.Q.Denot)). length lanes ≤ 16) (sym c.deref_mut.ensures.value) c.move_off.new.core.few }

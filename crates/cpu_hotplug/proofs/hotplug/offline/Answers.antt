@@ -1,17 +1,19 @@
 use Rattle.std.proofs.Common.{◌≡◌, ◌∙◌, ap, sym, subst, refl, length, true, false, arith, eq-eqb, ne_eqb}
 use Rattle.std.specs.Prelude.{◌==◌}
+use Rattle.std.proofs.lemmas.List.{length-map}
 use Rattle.cs_types.specs.Room.{RoomState, online}
 use Rattle.cs_types.specs.Step.{Stepped, take_offline}
 use Rattle.task_table.specs.Table.{Table}
 use Rattle.core_lanes.specs.declared.queue.SiblingQueue.{Ghosts}
 use Rattle.core_lanes.specs.declared.lanes.Core.{Core}
 use Rattle.core_lanes.specs.Queued.{queued_among}
-use Rattle.core_lanes.specs.Lanes.{Beside, at, beside_after, room_of}
+use Rattle.core_lanes.specs.Lanes.{Beside, at, beside_after, lane_state, room_of}
 use Rattle.core_lanes.specs.Numbers.{Numbers, numbers_in, booked, touched}
 use Rattle.core_lanes.specs.Changes.{IsBooked}
 use Rattle.core_lanes.proofs.Stays.{same_stays}
 use Rattle.cpu_hotplug.specs.Hotplugs.{leave_touches}
 use Rattle.cpu_hotplug.specs.declared.hotplug.Hotplug.TheVariants.{Done}
+use Rattle.cpu_hotplug.proofs.Onlines.{another}
 use Rattle.cpu_hotplug.proofs.Steps.{offline_step}
 use Rattle.cpu_hotplug.proofs.hotplug.offline.Goals as goal
 
@@ -28,6 +30,14 @@ still_booked : {Q : Type 0} {g : Ghosts Q} (beside : Beside) (both : Core Q g ×
     numbers_in beside both ≡ touched 0 (booked room (numbers_in beside both))
 still_booked beside both room is kept =
     kept ∙ untouched (booked (room_of beside both) (numbers_in beside both)) ∙ ap (λ (r : RoomState). touched 0 (booked r (numbers_in beside both))) is
+
+pub leave-requires-clause-another : goal.leave-requires-clause-another
+leave-requires-clause-another g c beside =
+    let core = c.args.core.now in
+    let table = c.args.table.now in
+    another (room_of beside (core, table)) c.args.cpu (omega (arith, c.requires.cpu, length-map core.lanes.items lane_state))
+    (sym (c.is_online.ensures beside table) ∙ c.if-not-is_online.false)
+    (λ alone. c.if-online_count-eq1.false (c.online_count.ensures beside table ∙ alone))
 
 pub returns-then-not-is_online : goal.returns-then-not-is_online
 returns-then-not-is_online g c =

@@ -1,4 +1,4 @@
-use Rattle.std.proofs.Common.{Bor, Option, None, inl, inr, ◌≡◌, ◌+◌, ◌*◌, ◌<◌, ◌≤◌, ◌^◌, false, true, refl, subst, sym, ap, ◌∙◌, arith, length, get_or, ltb, Some, eq-eqb, ne_eqb}
+use Rattle.std.proofs.Common.{Bor, Option, None, inl, inr, ◌≡◌, ◌+◌, ◌*◌, ◌<◌, ◌≤◌, ◌^◌, false, true, refl, subst, sym, ap, ◌∙◌, arith, length, map, get_or, ltb, Some, eq-eqb, ne_eqb}
 use Rattle.std.specs.Prelude.{◌==◌, ◌&&◌, All, List, option_copied, slice_get}
 use Rattle.std.specs.Option.{IsSome}
 use Rattle.std.proofs.Math.Bool.{and-false}
@@ -10,16 +10,34 @@ use Rattle.cs_types.specs.declared.task.Task.{Task}
 use Rattle.cs_types.specs.declared.task.TaskSpec.{TaskSpec}
 use Rattle.cs_types.specs.Scenario.{IsPolicy}
 use Rattle.cs_types.specs.Room.{RoomState, SiblingState}
+use Rattle.cs_types.specs.Queue.{queued_of}
 use Rattle.cs_types.specs.Hotplug.{moved_off}
-use Rattle.core_lanes.specs.Queued.{queued_among, count_before}
-use Rattle.core_lanes.specs.Lanes.{room_of, IsFit, MayStamp}
-use Rattle.core_lanes.specs.Numbers.{numbers_of, touched}
-use Rattle.core_lanes.specs.Changes.{Kept, Stays}
-use Rattle.core_lanes.proofs.Stays.{some_beside, queue_at, both_stay, found_in, stamped_later}
-use Rattle.cpu_hotplug.proofs.Places.{mapped_all, task_was, found_then, same_more, there, changed_more, so_far, moved_is, stays}
+use Rattle.core_lanes.specs.Queued.{queued_among, queued_at, count_before}
+use Rattle.core_lanes.specs.Lanes.{BareCore, lane_state, room_by, room_of, AgreeAway, IsFit, MayStamp}
+use Rattle.core_lanes.specs.Numbers.{Numbers, numbers_by, numbers_of, touched}
+use Rattle.core_lanes.specs.Changes.{Kept, kept_of, identity_of}
+use Rattle.core_lanes.proofs.Stays.{some_beside, queue_at, same_stays, agree_again, found_in, stamped_later}
+use Rattle.cpu_hotplug.proofs.Places.{mapped_all, task_was, found_then, same_more, there, changed_more, so_far, moved_is, stays, found_is, nobody_moves, none_left}
 use Rattle.cpu_hotplug.proofs.Stamps.{may_stamp}
 use Rattle.cpu_hotplug.proofs.moves.move_off.Goals as goal
 use Rattle.cpu_hotplug.proofs.moves.move_off.Goals.{then-task+then-task-cpu, else-task, else-task-via-then-task+else-task-cpu, else-task-via-else-task}
+
+-- ---- where none is queued there
+
+pub returns-then-count-eq0 : goal.returns-then-count-eq0
+returns-then-count-eq0 g c =
+    let core = c.args.core.now in
+    let table = c.args.table.now in
+    let none : length (queued_among table.tasks c.args.cpu) ≡ 0 = omega (arith, c.if-count-eq0.true, c.from-count.ensures, c.count.ensures) in
+    record {
+      room = λ beside.
+          let room = room_of beside (core, table) in
+          let stay = sym (nobody_moves room c.args.cpu table.tasks none) in
+          let next : room.next_stamp ≡ room.next_stamp + length (queued_among table.tasks c.args.cpu) = omega (arith, none) in
+          λ i. let after : RoomState = record room { tasks = stay i; next_stamp = next i } in after;
+      numbers = ap (λ n. let after : Numbers = record (numbers_of (core, table)) { task = n } in after) (omega (arith, none));
+      stays = same_stays;
+    }
 
 -- ---- the numbers
 
@@ -83,11 +101,19 @@ loop-position-init g c =
     let count = c.from-count.result in
     let is : count ≡ length (queued_among table.tasks c.args.cpu) = c.from-count.ensures ∙ c.count.ensures in
     let later : core.next_stamp ≤ core.next_stamp + count = omega arith in
+    let stays = stamped_later core _ table refl later in
+    let same = c.empty_queue.ensures.bare in
+    let many =
+    sym (length-map c.empty_queue.new.self.lanes.items lane_state) ∙ ap (λ (one : BareCore). length one.siblings) same
+    ∙ length-map core.lanes.items lane_state in
     record {
       as_many = refl;
-      room = λ beside. ap (λ n. let next : RoomState = record (room_of beside (core, table)) { next_stamp = core.next_stamp + n } in next) is;
-      numbers = ap (λ n. touched (2 * n) (numbers_of (core, table))) is;
-      stays = stamped_later core _ table refl later;
+      room = λ beside.
+          (λ i. room_by beside (same i) table)
+          ∙ ap (λ n. let next : RoomState = record (room_of beside (core, table)) { next_stamp = core.next_stamp + n } in next) is;
+      numbers = (λ i. numbers_by (same i) table) ∙ ap (λ n. touched (2 * n) (numbers_of (core, table))) is;
+      kept = λ i. record { siblings = many i; limit = table.limit; identities = map identity_of table.tasks };
+      away = c.empty_queue.ensures.away table (stays.agree c.requires.agree);
     }
 
 -- ---- the calls
@@ -107,7 +133,7 @@ unwrap-task-requires g c =
     ]
 
 pub moved_to-moved-requires-clause-cpu : goal.moved_to-moved-requires-clause-cpu
-moved_to-moved-requires-clause-cpu g c = omega (arith, c.lowest_other-to.ensures.within, ap (λ (kept : Kept). kept.siblings) c.loop-position.invariant.stays.kept)
+moved_to-moved-requires-clause-cpu g c = omega (arith, c.lowest_other-to.ensures.within, ap (λ (kept : Kept). kept.siblings) c.loop-position.invariant.kept)
 
 pub moved_to-moved-requires-clause-home : goal.moved_to-moved-requires-clause-home
 moved_to-moved-requires-clause-home g c =
@@ -118,7 +144,7 @@ moved_to-moved-requires-clause-home g c =
     let at : slice_get now.tasks position ≡ Some task = sym c.at.ensures.task ∙ ap option_copied c.unwrap-task.ensures in
     let found : Some task ≡ Some (get_or now.tasks position task) = sym at ∙ slice_get-get_or now.tasks position task within in
     let is : get_or now.tasks position task ≡ task = cc in
-    let fits = All-get_or (IsFit (length c.loop-position.core.lanes.items)) now.tasks position task within (c.loop-position.invariant.stays.agree c.requires.agree).tasks in
+    let fits = All-get_or (IsFit (length c.loop-position.core.lanes.items)) now.tasks position task within c.loop-position.invariant.away.tasks in
     omega (arith, fits.home, ap (λ (one : Task). one.home) is)
 
 pub count_before-requires : goal.count_before-requires
@@ -139,9 +165,6 @@ overflow_add-stamp g c =
       count_by-le-length (λ (task : Task). task.queued && (task.home == c.args.cpu)) tasks,
     )
 
-pub change-requires-clause-agree : goal.change-requires-clause-agree
-change-requires-clause-agree g c = c.loop-position.invariant.stays.agree c.requires.agree
-
 pub moved_to-moved-requires-clause-vtime : goal.moved_to-moved-requires-clause-vtime
 moved_to-moved-requires-clause-vtime g c =
     let table = c.args.table.now in
@@ -160,8 +183,8 @@ moved_to-moved-requires-clause-leasts g c =
     subst (λ (siblings : List SiblingState). All (λ (sibling : SiblingState). sibling.least < 2 ^ 100) siblings)
     (sym (ap (λ (room : RoomState). room.siblings) (c.loop-position.invariant.room some_beside))) c.requires.low.leasts
 
-pub change-requires-clause-knows : goal.change-requires-clause-knows
-change-requires-clause-knows g c =
+pub enter-requires-clause-knows : goal.enter-requires-clause-knows
+enter-requires-clause-knows g c =
     let core = c.args.core.now in
     let table = c.args.table.now in
     let now = c.loop-position.table in
@@ -175,8 +198,8 @@ change-requires-clause-knows g c =
     let are = ap (λ (one : RoomState). one.tasks) (c.loop-position.invariant.room some_beside) in
     let was = task_was change table.tasks now.tasks position task within are at in
     let found = found_then change table.tasks now.tasks position task within are at c.requires.agree.table.rising in
-    let agree = c.loop-position.invariant.stays.agree c.requires.agree in
-    let many : length c.loop-position.core.lanes.items ≡ length core.lanes.items = ap (λ (kept : Kept). kept.siblings) c.loop-position.invariant.stays.kept in
+    let agree = c.loop-position.invariant.away in
+    let many : length c.loop-position.core.lanes.items ≡ length core.lanes.items = ap (λ (kept : Kept). kept.siblings) c.loop-position.invariant.kept in
     let moved = c.moved_to-moved.ensures some_beside now in
     let done : Task = record c.moved_to-moved.result { stamp = core.next_stamp + c.count_before.result } in
     let spec : done.spec ≡ task.spec = ap (λ (one : Task). one.spec) moved in
@@ -200,6 +223,40 @@ change-requires-clause-knows g c =
           (may_stamp room cpu c.requires.agree.stamped position now.tasks task done are found on spec stamp);
     }
 
+pub enter-requires-clause-home : goal.enter-requires-clause-home
+enter-requires-clause-home g c old found here =
+    let table = c.args.table.now in
+    let now = c.loop-position.table in
+    let position = c.loop-position.position in
+    let task = c.unwrap-task.result.now in
+    let moved = c.moved_to-moved.ensures some_beside now in
+    let within : position < length table.tasks = omega (arith, c.loop-position-test.true, c.len-position-end.ensures.len) in
+    let at : slice_get now.tasks position ≡ Some task = sym c.at.ensures.task ∙ ap option_copied c.unwrap-task.ensures in
+    let are = ap (λ (one : RoomState). one.tasks) (c.loop-position.invariant.room some_beside) in
+    let done : Task = record c.moved_to-moved.result { stamp = c.args.core.now.next_stamp + c.count_before.result } in
+    let is = found_is (moved_off (room_of some_beside (c.args.core.now, table)) c.args.cpu) table.tasks now.tasks position task within are at
+    c.loop-position.invariant.away.table.rising done (ap (λ (one : Task). one.spec) moved) old found in
+    c.requires.another some_beside
+    (sym (c.lowest_other-to.ensures.lowest some_beside table) ∙ sym (ap (λ (one : Task). one.home) moved) ∙ here
+    ∙ ap (λ (one : Task). one.home) is ∙ c.if-task-cpu.true)
+
+pub enter-requires-clause-queued : goal.enter-requires-clause-queued
+enter-requires-clause-queued g c = ap (λ (one : Task). one.queued) (c.moved_to-moved.ensures some_beside c.loop-position.table) ∙ c.if-task.true
+
+pub enter-requires-clause-away : goal.enter-requires-clause-away
+enter-requires-clause-away g c old found =
+    let table = c.args.table.now in
+    let now = c.loop-position.table in
+    let position = c.loop-position.position in
+    let task = c.unwrap-task.result.now in
+    let within : position < length table.tasks = omega (arith, c.loop-position-test.true, c.len-position-end.ensures.len) in
+    let at : slice_get now.tasks position ≡ Some task = sym c.at.ensures.task ∙ ap option_copied c.unwrap-task.ensures in
+    let are = ap (λ (one : RoomState). one.tasks) (c.loop-position.invariant.room some_beside) in
+    let done : Task = record c.moved_to-moved.result { stamp = c.args.core.now.next_stamp + c.count_before.result } in
+    let is = found_is (moved_off (room_of some_beside (c.args.core.now, table)) c.args.cpu) table.tasks now.tasks position task within are at
+    c.loop-position.invariant.away.table.rising done (ap (λ (one : Task). one.spec) (c.moved_to-moved.ensures some_beside now)) old found in
+    subst (λ n. AgreeAway n (c.loop-position.core, now)) (sym (ap (λ (one : Task). one.home) is ∙ c.if-task-cpu.true)) c.loop-position.invariant.away
+
 pub loop-position-preserved : goal.loop-position-preserved
 loop-position-preserved g c =
     let core = c.args.core.now in
@@ -210,13 +267,13 @@ loop-position-preserved g c =
     let cpu = c.args.cpu in
     let within : position < length table.tasks = omega (arith, c.loop-position-test.true, c.len-position-end.ensures.len) in
     let at : slice_get now.tasks position ≡ Some task = sym c.at.ensures.task ∙ ap option_copied c.unwrap-task.ensures in
-    let agree = c.loop-position.invariant.stays.agree c.requires.agree in
+    let agree = c.loop-position.invariant.away in
     elim c.if-task.branch [
       | then-task+then-task-cpu w ↦
           let done : Task = record w.moved_to-moved.result { stamp = core.next_stamp + w.count_before.result } in
           record {
             as_many =
-                ap (λ t. length t.tasks) w.table-is ∙ ap (λ (room : RoomState). length room.tasks) (w.change.ensures.room some_beside)
+                ap (λ t. length t.tasks) w.table-is ∙ ap (λ (room : RoomState). length room.tasks) (w.enter.ensures.room some_beside)
                 ∙ length-map now.tasks _ ∙ c.loop-position.invariant.as_many;
             room = λ beside.
                 let room = room_of beside (core, table) in
@@ -228,10 +285,16 @@ loop-position-preserved g c =
                 let is = moved_is room (room_of beside (c.loop-position.core, now)) cpu c.lowest_other-to.result (core.next_stamp + w.count_before.result) task w.moved_to-moved.result same
                 (c.lowest_other-to.ensures.lowest beside table) (w.moved_to-moved.ensures beside now) w.if-task.true w.if-task-cpu.true stamp in
                 let more = changed_more change table.tasks now.tasks position task within are at agree.table.rising done (ap (λ (one : Task). one.spec) (w.moved_to-moved.ensures beside now)) is in
-                (λ i. room_of beside (w.core-is i, w.table-is i)) ∙ w.change.ensures.room beside
+                (λ i. room_of beside (w.core-is i, w.table-is i)) ∙ w.enter.ensures.room beside
                 ∙ (λ i. let next : RoomState = record (c.loop-position.invariant.room beside i) { tasks = more i } in next);
-            numbers = (λ i. numbers_of (w.core-is i, w.table-is i)) ∙ w.change.ensures.numbers ∙ c.loop-position.invariant.numbers;
-            stays = subst (Stays (core, table)) (λ i. (sym w.core-is i, sym w.table-is i)) (both_stay c.loop-position.invariant.stays w.change.ensures.stays);
+            numbers = (λ i. numbers_of (w.core-is i, w.table-is i)) ∙ w.enter.ensures.numbers ∙ c.loop-position.invariant.numbers;
+            kept = (λ i. kept_of (w.core-is i, w.table-is i)) ∙ w.enter.ensures.kept ∙ c.loop-position.invariant.kept;
+            away =
+                let spec = ap (λ (one : Task). one.spec) (w.moved_to-moved.ensures some_beside now) in
+                let are = ap (λ (one : RoomState). one.tasks) (c.loop-position.invariant.room some_beside) in
+                let found = there (moved_off (room_of some_beside (core, table)) cpu) table.tasks now.tasks position task within are at agree.table.rising done spec in
+                subst (AgreeAway cpu) (λ i. (sym w.core-is i, sym w.table-is i))
+                (subst (λ n. AgreeAway n (w.enter.new.self, w.enter.new.table)) w.if-task-cpu.true (w.enter.ensures.away task found));
           }
       | else-task w ↦
           let stays_there : (task.queued && (task.home == cpu)) ≡ false = elim w.else-task.branch [
@@ -247,7 +310,8 @@ loop-position-preserved g c =
                 (λ i. room_of beside (w.core-is i, w.table-is i))
                 ∙ (λ i. let next : RoomState = record (c.loop-position.invariant.room beside i) { tasks = more i } in next);
             numbers = (λ i. numbers_of (w.core-is i, w.table-is i)) ∙ c.loop-position.invariant.numbers;
-            stays = subst (Stays (core, table)) (λ i. (sym w.core-is i, sym w.table-is i)) c.loop-position.invariant.stays;
+            kept = (λ i. kept_of (w.core-is i, w.table-is i)) ∙ c.loop-position.invariant.kept;
+            away = subst (AgreeAway cpu) (λ i. (sym w.core-is i, sym w.table-is i)) c.loop-position.invariant.away;
           }
     ]
 
@@ -264,5 +328,12 @@ returns g c =
           let moved = mapped_all (moved_off room c.args.cpu) table.tasks position all in
           c.loop-position.invariant.room beside ∙ (λ i. let next : RoomState = record (so_far room c.args.cpu position) { tasks = moved i } in next);
       numbers = c.loop-position.invariant.numbers;
-      stays = c.loop-position.invariant.stays;
+      stays = record {
+        agree = λ agree.
+            let room = room_of some_beside (c.args.core.now, table) in
+            let are = ap (λ (one : RoomState). one.tasks) (c.loop-position.invariant.room some_beside) ∙ mapped_all (moved_off room c.args.cpu) table.tasks position all in
+            agree_again c.args.cpu _ c.loop-position.invariant.away
+            (ap (λ (tasks : List Task). queued_at tasks c.args.cpu) are ∙ ap (map queued_of) (none_left room c.args.cpu table.tasks (c.requires.another some_beside)));
+        kept = c.loop-position.invariant.kept;
+      };
     }
