@@ -37,4 +37,4 @@ returns-clause-held g c leaving stays all =
     subst (λ qs. g.Q.SiblingQueue.holds x limit qs)
     (ap (cond (cpu == leaving) []) (others-absent tasks task cpu c.requires.table.rising c.requires.there (off_elsewhere task cpu other))) held)
     all
-    (subst (λ qs. g.Q.SiblingQueue.holds c.put.new.self limit qs) (sym (cond-false (task.home == leaving) [] (queued_at tasks task.home) (ne_eqb task.home leaving stays))) c.put.ensures))
+    (subst (λ qs. g.Q.SiblingQueue.holds c.put.new.self limit qs) (sym (cond-false (task.home == leaving) [] (queued_at tasks task.home) (ne_eqb task.home leaving stays))) c.put.ensures.holds))
