@@ -39,13 +39,15 @@ no_spans moment (entry ∷ entries) ends =
     ap (λ (o : Option ℕ). option_to_list (option_map (λ n. record { room = moment.room; time = n }) o) ++ spans_from (next moment entry) entries) still
     ∙ no_spans (next moment entry) entries ends.3
 
-pub times_of-drained : (opening : Opening) (past now : History) → IsDrained opening past now → times_of opening past ≡ times_of opening now
-times_of-drained opening past now drained =
-    ap (times_in opening.scenario.siblings)
-    (sym (ap (spans_of opening) drained.added
+pub spans_of-drained : (opening : Opening) (past now : History) → IsDrained opening past now → spans_of opening past ≡ spans_of opening now
+spans_of-drained opening past now drained =
+    sym (ap (spans_of opening) drained.added
     ∙ spans_from-append _ past drained.made
     ∙ ap (λ (spans : List Span). spans_of opening past ++ spans) (no_spans (moment_of opening past) drained.made drained.ends)
-    ∙ append-nil (spans_of opening past)))
+    ∙ append-nil (spans_of opening past))
+
+pub times_of-drained : (opening : Opening) (past now : History) → IsDrained opening past now → times_of opening past ≡ times_of opening now
+times_of-drained opening past now drained = ap (times_in opening.scenario.siblings) (spans_of-drained opening past now drained)
 
 -- ---- exposure
 

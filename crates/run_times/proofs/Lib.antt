@@ -4,4 +4,3 @@ pub mod Exposed
 pub mod Spans
 pub mod Summed
 pub mod Laws
-pub mod Plays

@@ -4,12 +4,10 @@
 
 mod doing;
 mod looks;
-mod run;
 mod siblings;
 mod times;
 
 pub use doing::Doing;
 pub use looks::{cookie_run, is_exposed};
-pub use run::timed_run;
 pub use siblings::SiblingTimes;
-pub use times::RunTimes;
+pub use times::{RunTimes, advance_of};

@@ -68,7 +68,7 @@ fn longer_where(lasted: u64, holds: bool, time: u64) -> u64
 }
 
 /// How far an event moves the clock, in ns. `None` where it is no advance.
-fn advance_of(event: Event) -> Option<u64>
+pub fn advance_of(event: Event) -> Option<u64>
     ensures { result ≡ span.advance_of event }
 {
     match event {

@@ -1,7 +1,8 @@
-use Rattle.std.proofs.Common.{◌≡◌, ◌+◌, take}
+use Rattle.std.proofs.Common.{◌≡◌, ◌+◌, ◌≤◌, take, drop, sum_by}
 use Rattle.cs_types.specs.History.{history_of, AreEvents}
-use Rattle.run_times.specs.Sums.{times_of}
-use Rattle.run_times.proofs.run.play.Given as goal
+use Rattle.exposed_pairs.specs.Pairs.{most_rows}
+use Rattle.run_summary.specs.Summaries.{ArePartsOf}
+use Rattle.run_summary.proofs.run.play.Given as goal
 
 abbrev pub invariant-loop-step : goal.invariant-loop-step
 invariant-loop-step g l =
@@ -11,5 +12,6 @@ invariant-loop-step g l =
       opening : room.opening l.room ≡ room.opening l.fn.room;
       spare : room.spare l.room + l.step-index ≡ room.spare l.fn.room;
       events : AreEvents (room.opening l.room) (room.history l.room);
-      times : l.times ≡ times_of (room.opening l.room) (room.history l.room);
+      parts : ArePartsOf (room.opening l.room) (room.history l.room) l.summary;
+      rows : sum_by (λ step. most_rows (room.opening l.fn.room).scenario.siblings step.event) (drop l.step-index l.steps) ≤ l.summary.pairs.spare;
     }

@@ -1,7 +1,9 @@
--- Plays: how a run with its times goes on, step by step.
-use Rattle.std.proofs.Common.{◌≡◌, ℕ, ◌+◌, ◌<◌, ◌≤◌, List, [], ◌∷◌, ◌++◌, length, take, get_or, refl, sym, ap, ◌∙◌, subst}
+-- Plays: how a run with its summary goes on, step by step.
+use Rattle.std.proofs.Common.{◌≡◌, ℕ, ◌+◌, ◌<◌, ◌≤◌, List, [], ◌∷◌, ◌++◌, length, suc, take, drop, get_or, sum_by, refl, sym, ap, ◌∙◌, subst, arith}
 use Rattle.std.proofs.lemmas.List.{take_more, length-take-le}
 use Rattle.std.proofs.lemmas.List.Elements.{All-push}
+use Rattle.std.proofs.lemmas.List.Sums.{sum_by-cons}
+use Rattle.std.proofs.Math.Seq.{drop-cons}
 use Rattle.cs_types.specs.declared.event.Step.{Step}
 use Rattle.cs_types.specs.declared.event.Event.{Event}
 use Rattle.cs_types.specs.declared.reply.Reply.{Reply}
@@ -10,7 +12,8 @@ use Rattle.cs_types.specs.Scenario.{IsEvent}
 use Rattle.cs_types.specs.Room.{Opening}
 use Rattle.cs_types.specs.History.{History, AreEvents, moment_of, reply_to, entry_of, history_of}
 use Rattle.cs_types.proofs.Histories.{history_of-push, length-history_of}
-use Rattle.run_times.specs.Sums.{Times, times_of}
+use Rattle.exposed_pairs.specs.Pairs.{most_rows}
+use Rattle.run_summary.specs.Summaries.{Summary, ArePartsOf}
 
 abbrev pub entry_with : Step → Reply → Entry
 entry_with made reply = record { actor = made.actor; event = made.event; reply = reply }
@@ -46,7 +49,31 @@ length_so_far opening steps i past lt so_far =
 pub event_in : (opening same : Opening) (event : Event) → same ≡ opening → IsEvent opening.scenario.siblings event → IsEvent same.scenario.siblings event
 event_in opening same event alike limits = subst (λ (o : Opening). IsEvent o.scenario.siblings event) (sym alike) limits
 
--- the times go on with it
-pub times_more : (opening same : Opening) (past now : History) (entry : Entry) (times : Times) → same ≡ opening → now ≡ past ++ entry ∷ [] →
-    ((other : Entry) → other.event ≡ entry.event → times ≡ times_of opening (past ++ other ∷ [])) → times ≡ times_of same now
-times_more opening same past now entry times alike one_more told = told entry refl ∙ (λ i. times_of (sym alike i) (sym one_more i))
+-- the parts go on with it
+pub parts_more : (opening same : Opening) (past now : History) (entry : Entry) (summary : Summary) → same ≡ opening → now ≡ past ++ entry ∷ [] →
+    ((other : Entry) → other.event ≡ entry.event → ArePartsOf opening (past ++ other ∷ []) summary) → ArePartsOf same now summary
+parts_more opening same past now entry summary alike one_more told =
+    subst (λ (o : Opening). ArePartsOf o now summary) (sym alike) (subst (λ (h : History). ArePartsOf opening h summary) (sym one_more) (told entry refl))
+
+-- and the rows that the steps left can add are fewer by those of the next
+rows_left : (siblings : ℕ) (steps : List Step) (i : ℕ) (d : Step) → i < length steps →
+    sum_by (λ (step : Step). most_rows siblings step.event) (drop i steps)
+    ≡ most_rows siblings (get_or steps i d).event + sum_by (λ (step : Step). most_rows siblings step.event) (drop (i + 1) steps)
+rows_left siblings steps i d few =
+    let next : suc i ≡ i + 1 = omega arith in
+    ap (sum_by (λ (step : Step). most_rows siblings step.event)) (drop-cons steps i d few)
+    ∙ sum_by-cons (λ (step : Step). most_rows siblings step.event) (get_or steps i d) (drop (suc i) steps)
+    ∙ ap (λ (n : ℕ). most_rows siblings (get_or steps i d).event + sum_by (λ (step : Step). most_rows siblings step.event) (drop n steps)) next
+
+-- so there is memory for those of the next
+pub rows_fit : (begun now : ℕ) (steps : List Step) (i : ℕ) (d : Step) (spare : ℕ) → now ≡ begun → i < length steps →
+    sum_by (λ (step : Step). most_rows begun step.event) (drop i steps) ≤ spare → most_rows now (get_or steps i d).event ≤ spare
+rows_fit begun now steps i d spare same few fits =
+    omega (arith, rows_left begun steps i d few, ap (λ (n : ℕ). most_rows n (get_or steps i d).event) same, fits)
+
+-- and after it for those of the rest
+pub rows_go : (begun now : ℕ) (steps : List Step) (i : ℕ) (d : Step) (old new : ℕ) → now ≡ begun → i < length steps →
+    sum_by (λ (step : Step). most_rows begun step.event) (drop i steps) ≤ old → old ≤ new + most_rows now (get_or steps i d).event →
+    sum_by (λ (step : Step). most_rows begun step.event) (drop (i + 1) steps) ≤ new
+rows_go begun now steps i d old new same few fits took =
+    omega (arith, rows_left begun steps i d few, ap (λ (n : ℕ). most_rows n (get_or steps i d).event) same, fits, took)

@@ -1,0 +1,3 @@
+pub mod Plays
+pub mod Counts
+pub mod Drained

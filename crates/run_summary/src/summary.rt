@@ -1,0 +1,106 @@
+//! The parts of the summary, beside one another. One more of them is a field, a line in `open` and in `before`, and a
+//! clause of `ArePartsOf`.
+
+ghost use Rattle.std.specs.Prelude.{◌≡◌, ◌+◌, ◌^◌, ◌<◌, ◌≤◌, [], ◌∷◌, ◌++◌, length, sum_by, IfOk};
+ghost use Rattle.cs_types.specs.declared.reply.Entry.{Entry};
+ghost use Rattle.cs_types.specs.Scenario.{IsEvent, IsPlayable};
+ghost use Rattle.cs_types.specs.Room.{Opening};
+ghost use Rattle.cs_types.specs.History.{AreEvents};
+ghost use Rattle.exposed_pairs.specs.Pairs.{most_rows};
+ghost use Rattle.run_summary.specs.Replies.{replies_of};
+ghost use Rattle.run_summary.specs.Summaries.{ArePartsOf, IsSummaryOf};
+
+use crate::replies::ReplyCounts;
+use cs_types::{Event, OutOfMemory, Room, Step};
+use exposed_pairs::{ExposedPairs, PairTime};
+use run_times::RunTimes;
+use std::alloc::Global;
+use std::marker::Model;
+
+/// What is told of a run. After it is opened it takes no memory.
+#[derive(Drop)]
+pub struct RunSummary {
+    times: RunTimes,
+    pairs: ExposedPairs,
+    /// They are counted at the end.
+    replies: ReplyCounts,
+}
+
+impl Model for RunSummary {
+    ghost use Rattle.run_summary.specs.Summaries.{Summary};
+
+    ghost Value = { Summary };
+
+    ghost view = { λ summary. record {
+      times = summary.times;
+      pairs = summary.pairs;
+      replies = summary.replies;
+    } };
+}
+
+impl RunSummary {
+    /// The parts of a core with this number of siblings, before the first step. They take the memory for what these
+    /// steps can add.
+    pub(crate) fn open(
+        alloc: Global,
+        siblings: u8,
+        steps: &[Step],
+    ) -> Result<Self, OutOfMemory>
+        requires few { length steps.now < 2 ^ 34 }
+        ensures parts { IfOk result (λ summary. (opening : Opening) → opening.scenario.siblings ≡ siblings →
+            ArePartsOf opening [] summary) }
+        ensures spare { IfOk result (λ summary.
+            sum_by (λ step. most_rows siblings step.event) steps.now ≤ summary.pairs.spare) }
+    {
+        Ok(RunSummary {
+            times: RunTimes::open(alloc, siblings)?,
+            pairs: ExposedPairs::open(alloc, siblings, steps)?,
+            replies: ReplyCounts::none(),
+        })
+    }
+
+    /// Takes in an event that is to be made next in the room.
+    pub(crate) fn before<R: Room>(&mut self, room: &R, event: Event)
+        requires playable { IsPlayable (R.opening room.now).scenario }
+        requires events { AreEvents (R.opening room.now) (R.history room.now) }
+        requires event { IsEvent (R.opening room.now).scenario.siblings event }
+        requires parts { ArePartsOf (R.opening room.now) (R.history room.now) self.old }
+        requires few { length (R.history room.now) < 2 ^ 34 }
+        requires spare { most_rows (R.opening room.now).scenario.siblings event ≤ self.old.pairs.spare }
+        ensures parts { (entry : Entry) → entry.event ≡ event →
+            ArePartsOf (R.opening room.now) (R.history room.now ++ entry ∷ []) self.new }
+        ensures spare { self.old.pairs.spare
+            ≤ self.new.pairs.spare + most_rows (R.opening room.now).scenario.siblings event }
+    {
+        self.times.before(room, event);
+        self.pairs.before(room, event);
+    }
+
+    /// Counts the replies of a room whose run is over.
+    pub(crate) fn end<R: Room>(&mut self, room: &R)
+        ensures { self.new ≡ record self.old { replies = replies_of (R.history room.now) } }
+    {
+        self.replies = ReplyCounts::of(room);
+    }
+
+    /// For how long what was so.
+    pub fn times(&self) -> &RunTimes
+        ensures { result.now ≡ self.now.times }
+    {
+        &self.times
+    }
+
+    /// The pairs of cookies that ran side by side, by rising lower cookie, and then by rising higher one.
+    pub fn pairs(&self) -> &[PairTime]
+        ensures { result.now ≡ self.now.pairs.rows }
+    {
+        self.pairs.rows()
+    }
+
+    /// How many steps were refused, and how. The entries of the end are among them.
+    pub fn replies(&self) -> &ReplyCounts
+        ensures { result.now ≡ self.now.replies }
+    {
+        &self.replies
+    }
+}
