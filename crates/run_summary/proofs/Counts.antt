@@ -1,8 +1,9 @@
 -- Counts: the counts of replies, entry by entry.
-use Rattle.std.proofs.Common.{◌≡◌, ℕ, ◌+◌, ◌<◌, ◌≤◌, Bool, true, false, cond, List, [], ◌∷◌, ◌++◌, length, take, get_or, refl, sym, ap, ◌∙◌, subst, arith, Option, Some, None}
+use Rattle.std.proofs.Common.{◌≡◌, ℕ, ◌+◌, ◌<◌, ◌≤◌, Bool, true, false, cond, [], ◌∷◌, ◌++◌, length, take, get_or, refl, sym, ap, ◌∙◌, subst, inl, inr, arith, Some, None}
 use Rattle.std.specs.Prelude.{filter, slice_get}
 use Rattle.std.proofs.lemmas.List.{append-nil, length-append, take_more}
 use Rattle.std.proofs.lemmas.List.Elements.{filter-append}
+use Rattle.std.proofs.lemmas.Option.{slice_get_cases}
 use Rattle.cs_types.specs.declared.reply.Entry.{Entry}
 use Rattle.cs_types.specs.declared.reply.Reply.{Reply}
 use Rattle.cs_types.specs.declared.reply.Reply.TheVariants as reply
@@ -42,7 +43,10 @@ replies_more history place entry old new there was more =
     ∙ ap (λ (e : Entry). replies_of (take place history ++ e ∷ [])) (sym at.1)
     ∙ ap replies_of (sym (take_more history place entry at.0)) where
       got : (h : History) (k : ℕ) (e : Entry) → Some e ≡ slice_get h k → (k < length h) × (get_or h k e ≡ e)
-      got h k e is = ?
+      got h k e is = elim (slice_get_cases h k).1 [
+        | inl found ↦ let same : found.0 ≡ e = cc in (found.1, subst (λ (x : Entry). get_or h k x ≡ x) same found.3)
+        | inr none ↦ absurd cc
+      ]
 
 -- no count is above the number of entries
 count_of-le : (test : Reply → Bool) (history : History) → count_of test history ≤ length history
@@ -120,3 +124,7 @@ refused_adds_up (entry ∷ history) =
       once entry.reply,
       refused_adds_up history,
     )
+
+-- past the last entry there is none
+pub none_past : (history : History) (place : ℕ) → None ≡ slice_get history place → length history ≤ place
+none_past history place none = elim (slice_get_cases history place).1 [ inl found ↦ absurd cc | inr past ↦ past.0 ]

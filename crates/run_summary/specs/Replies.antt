@@ -1,6 +1,5 @@
 -- Replies: how many entries were refused, and how.
-use Rattle.std.specs.Prelude.{ℕ, ◌+◌, ◌<◌, Bool, true, false, if◌then◌else◌, List, length, filter}
-use Rattle.cs_types.specs.declared.reply.Entry.{Entry}
+use Rattle.std.specs.Prelude.{ℕ, ◌+◌, ◌<◌, Bool, true, false, if◌then◌else◌, length, filter}
 use Rattle.cs_types.specs.declared.reply.Reply.{Reply}
 use Rattle.cs_types.specs.declared.reply.Reply.TheVariants.{NoTask, Awake, Idle, NoCaller, Offline, Refused, HasThreads, Already, NoGuard}
 use Rattle.cs_types.specs.History.{History}

@@ -1,6 +1,6 @@
 //! How many steps were answered how.
 
-ghost use Rattle.std.specs.Prelude.{◌≡◌, []};
+ghost use Rattle.std.specs.Prelude.{◌≡◌, ◌^◌, ◌<◌, [], length};
 ghost use Rattle.run_summary.specs.Replies.{with_reply, AreBelow, replies_of};
 
 use cs_types::{Reply, Room};
@@ -9,18 +9,18 @@ use cs_types::{Reply, Room};
 #[derive(Clone, Copy)]
 pub struct ReplyCounts {
     /// `NoTask`: no living task has the pid.
-    pub no_task: u64,
+    pub no_task: u32,
     /// `Awake`: the task is queued already.
-    pub awake: u64,
+    pub awake: u32,
     /// `Idle`: the sibling runs no task.
-    pub idle: u64,
+    pub idle: u32,
     /// `NoCaller`: no living task has the caller's pid.
-    pub no_caller: u64,
+    pub no_caller: u32,
     /// `Offline`: the sibling is offline.
-    pub offline: u64,
+    pub offline: u32,
     /// Any other refusal: an error number of `prctl`, `fork` or a sibling's leaving, `HasThreads`, `Already` and
     /// `NoGuard`.
-    pub errors: u64,
+    pub errors: u32,
 }
 
 impl ReplyCounts {
@@ -40,7 +40,7 @@ impl ReplyCounts {
 
     /// Counts one more reply.
     fn add(&mut self, reply: Reply)
-        requires { AreBelow u64.MAX self.old }
+        requires { AreBelow u32.MAX self.old }
         ensures { self.new ≡ with_reply reply self.old }
     {
         match reply {
@@ -71,8 +71,9 @@ impl ReplyCounts {
         }
     }
 
-    /// The counts of the entries of a room.
+    /// The counts of the entries of a room. There have to be fewer than 2^32.
     pub(crate) fn of<R: Room>(room: &R) -> Self
+        requires { length (R.history room.now) < 2 ^ 32 }
         ensures { result ≡ replies_of (R.history room.now) }
     {
         let mut counts = ReplyCounts::none();

@@ -37,7 +37,7 @@ fn play<R: Room>(room: &mut R, steps: &[Step], summary: &mut RunSummary)
 
 /// Makes the steps, in their order, in a room that has made none, and then the entries of the end. It answers what is
 /// told of that run. All memory is taken before the first step, and at an `Err` none is made. There have to be fewer
-/// than 2^34 steps, so that the sums fit.
+/// than 2^31 steps, so that the counts fit.
 pub fn summarized_run<R: Room>(
     alloc: Global,
     room: &mut R,
@@ -46,7 +46,7 @@ pub fn summarized_run<R: Room>(
     requires empty { R.history room.old ≡ [] }
     requires spare { length steps.now + (R.opening room.old).scenario.siblings * (R.opening room.old).scenario.siblings
         ≤ R.spare room.old }
-    requires few { length steps.now < 2 ^ 34 }
+    requires few { length steps.now < 2 ^ 31 }
     requires events { All (λ step. IsEvent (R.opening room.old).scenario.siblings step.event) steps.now }
 
     ensures history { IfOk result (λ _.

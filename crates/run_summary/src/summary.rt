@@ -41,11 +41,7 @@ impl Model for RunSummary {
 impl RunSummary {
     /// The parts of a core with this number of siblings, before the first step. They take the memory for what these
     /// steps can add.
-    pub(crate) fn open(
-        alloc: Global,
-        siblings: u8,
-        steps: &[Step],
-    ) -> Result<Self, OutOfMemory>
+    pub(crate) fn open(alloc: Global, siblings: u8, steps: &[Step]) -> Result<Self, OutOfMemory>
         requires few { length steps.now < 2 ^ 34 }
         ensures parts { IfOk result (λ summary. (opening : Opening) → opening.scenario.siblings ≡ siblings →
             ArePartsOf opening [] summary) }
@@ -78,6 +74,7 @@ impl RunSummary {
 
     /// Counts the replies of a room whose run is over.
     pub(crate) fn end<R: Room>(&mut self, room: &R)
+        requires { length (R.history room.now) < 2 ^ 32 }
         ensures { self.new ≡ record self.old { replies = replies_of (R.history room.now) } }
     {
         self.replies = ReplyCounts::of(room);

@@ -1,8 +1,11 @@
--- Summary: what is told of the times of a run, line by line. All times are in ns.
-use Rattle.std.specs.Prelude.{ℕ, List, [], ◌∷◌, ◌++◌, codes, decimal}
+-- Summary: what is told of a run, line by line. All times are in ns.
+use Rattle.std.specs.Prelude.{ℕ, List, [], ◌∷◌, ◌++◌, map, codes, decimal}
 use Rattle.std.specs.List.{flat_map, enumerate_from}
 use Rattle.run_times.specs.declared.siblings.SiblingTimes.{SiblingTimes}
 use Rattle.run_times.specs.Sums.{Times}
+use Rattle.exposed_pairs.specs.declared.rows.PairTime.{PairTime}
+use Rattle.run_summary.specs.declared.replies.ReplyCounts.{ReplyCounts}
+use Rattle.run_summary.specs.Summaries.{Summary}
 use Rattle.scenario_text.specs.Words.{Word}
 use Rattle.scenario_text.specs.Text.{line}
 
@@ -25,9 +28,20 @@ forced_words cpu times =
 abbrev pub exposed_words : Times → List Word
 exposed_words times = codes "exposed" ∷ decimal times.exposed ∷ codes "longest" ∷ decimal times.longest ∷ []
 
+-- `pair` A B `exposed` T: for how long tasks with the two cookies ran side by side
+abbrev pub pair_words : PairTime → List Word
+pair_words pair = codes "pair" ∷ decimal pair.low ∷ decimal pair.high ∷ codes "exposed" ∷ decimal pair.exposed ∷ []
+
 -- `pending` T: for how long some sibling was online with a pending reschedule
 abbrev pub pending_words : Times → List Word
 pending_words times = codes "pending" ∷ decimal times.pending ∷ []
+
+-- `replies` `NoTask` N `Awake` N `Idle` N `NoCaller` N `Offline` N `errors` N: how many entries were refused, and how
+abbrev pub replies_words : ReplyCounts → List Word
+replies_words counts =
+    codes "replies" ∷ codes "NoTask" ∷ decimal counts.no_task ∷ codes "Awake" ∷ decimal counts.awake
+    ∷ codes "Idle" ∷ decimal counts.idle ∷ codes "NoCaller" ∷ decimal counts.no_caller
+    ∷ codes "Offline" ∷ decimal counts.offline ∷ codes "errors" ∷ decimal counts.errors ∷ []
 
 -- `total` T: all time
 abbrev pub total_words : Times → List Word
@@ -43,9 +57,17 @@ lines_of sibling = cpu_words sibling.0 sibling.1 ∷ forced_words sibling.0 sibl
 abbrev pub sibling_lines : List SiblingTimes → List (List Word)
 sibling_lines siblings = flat_map lines_of (enumerate_from 0 siblings)
 
-abbrev pub summary_lines : Times → List (List Word)
-summary_lines times = sibling_lines times.siblings ++ exposed_words times ∷ pending_words times ∷ total_words times ∷ []
+-- the lines of the pairs, by rising lower cookie, and then by rising higher one
+abbrev pub pair_lines : List PairTime → List (List Word)
+pair_lines pairs = map pair_words pairs
+
+-- part by part
+abbrev pub summary_lines : Summary → List (List Word)
+summary_lines summary =
+    sibling_lines summary.times.siblings
+    ++ exposed_words summary.times ∷ pair_lines summary.pairs.rows
+    ++ pending_words summary.times ∷ replies_words summary.replies ∷ total_words summary.times ∷ []
 
 -- the text, each line with its line feed
-abbrev pub summary_text : Times → List ℕ
-summary_text times = flat_map line (summary_lines times)
+abbrev pub summary_text : Summary → List ℕ
+summary_text summary = flat_map line (summary_lines summary)

@@ -2,8 +2,10 @@
 
 ghost use Rattle.std.specs.Prelude.{◌≡◌};
 ghost use Rattle.scenario_text.specs.Text.{line};
-ghost use Rattle.times_report.specs.Summary.{cpu_words, forced_words, exposed_words, pending_words, total_words};
+ghost use Rattle.times_report.specs.Summary.{cpu_words, forced_words, exposed_words, pair_words, pending_words, replies_words, total_words};
 
+use exposed_pairs::PairTime;
+use run_summary::ReplyCounts;
 use run_times::{RunTimes, SiblingTimes};
 use scenario_text::Line;
 
@@ -50,11 +52,45 @@ pub(crate) fn exposed_line(times: &RunTimes) -> Line
     line
 }
 
+pub(crate) fn pair_line(pair: &PairTime) -> Line
+    ensures { result ≡ line (pair_words pair.now) }
+{
+    let mut line = Line::new();
+    line.text("pair ");
+    line.number(pair.low);
+    line.text(" ");
+    line.number(pair.high);
+    line.text(" exposed ");
+    line.number(pair.exposed);
+    line.text("\n");
+    line
+}
+
 pub(crate) fn pending_line(times: &RunTimes) -> Line
     ensures { result ≡ line (pending_words times.now) }
 {
     let mut line = Line::new();
     line.named("pending", times.pending());
+    line.text("\n");
+    line
+}
+
+pub(crate) fn replies_line(counts: &ReplyCounts) -> Line
+    ensures { result ≡ line (replies_words counts.now) }
+{
+    let mut line = Line::new();
+    line.text("replies NoTask ");
+    line.number(counts.no_task);
+    line.text(" Awake ");
+    line.number(counts.awake);
+    line.text(" Idle ");
+    line.number(counts.idle);
+    line.text(" NoCaller ");
+    line.number(counts.no_caller);
+    line.text(" Offline ");
+    line.number(counts.offline);
+    line.text(" errors ");
+    line.number(counts.errors);
     line.text("\n");
     line
 }
