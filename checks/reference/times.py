@@ -7,6 +7,7 @@ Usage: times.py                            prints the summary of the scenario on
        times.py --program PATH --count N --seed S    compares N random scenarios and as many mutated texts
 """
 import argparse
+import itertools
 import os
 import random
 import subprocess
@@ -22,6 +23,10 @@ WORDS = [[], [''], ['summary', ''], ['', 'summary'], ['summary', 'summary'], ['-
          ['summary\n'], ['summ\u00e1ry'], ['replay'], ['coresched_view'], ['coresched_view', 'summary']]
 
 
+REFUSALS = ['NoTask', 'Awake', 'Idle', 'NoCaller', 'Offline']
+ERRORS = ['EPERM', 'ESRCH', 'ENOMEM', 'EFAULT', 'ENODEV', 'EINVAL', 'EAGAIN', 'EBUSY', 'HasThreads', 'Already', 'NoGuard']
+
+
 def doing(room, sibling):
     """What a sibling does, in the word of its time."""
     if not sibling.online:
@@ -33,11 +38,19 @@ def doing(room, sibling):
     return 'cookie' if room.core else 'none'
 
 
+def replies(room):
+    """How many entries of a room were refused, and how: the named refusals by their names, and all others together."""
+    told = [entry.split(': ', 1)[1] for entry in room.entries]
+    counts = [(name, told.count(name)) for name in REFUSALS] + [('errors', sum(told.count(name) for name in ERRORS))]
+    return 'replies ' + ' '.join('%s %d' % count for count in counts)
+
+
 def summary(scenario):
-    """The text of the times of a scenario's replay."""
+    """The text of what is told of a scenario's replay."""
     room = reference.Room(scenario, check=False)
     siblings = [dict.fromkeys(['ran', 'idle', 'offline', 'cookie', 'none', 'pending'], 0) for _ in room.sib]
     exposed = lasting = longest = pending = total = 0
+    pairs = {}
     for _, event, text in scenario.steps:
         if event[0] == 'advance':
             delta = event[1]
@@ -46,18 +59,25 @@ def summary(scenario):
                 times[doing(room, sibling)] += delta
                 times['pending'] += delta * (sibling.online and sibling.pending)
             pending += delta * any(sibling.online and sibling.pending for sibling in room.sib)
-            is_exposed = len({sibling.run.cookie for sibling in room.sib if sibling.run is not None}) > 1
+            cookies = sorted({sibling.run.cookie for sibling in room.sib if sibling.online and sibling.run is not None})
+            is_exposed = len(cookies) > 1
+            for pair in itertools.combinations(cookies, 2):
+                pairs[pair] = pairs.get(pair, 0) + delta
             exposed += delta * is_exposed
             lasting = lasting + delta if is_exposed else 0
             longest = max(longest, lasting)
         room.apply(event, text)
+    room.drain()
     lines = []
     for cpu, times in enumerate(siblings):
         assert sum(times.values()) - times['pending'] == total, 'what a sibling did adds up to all time'
         lines.append('cpu %d ran %d idle %d offline %d pending %d' % (cpu, *(times[of] for of in ('ran', 'idle', 'offline', 'pending'))))
         lines.append('forced %d cookie %d none %d' % (cpu, times['cookie'], times['none']))
     assert exposed <= pending, 'tasks with distinct cookies run side by side only where a reschedule is pending'
-    lines += ['exposed %d longest %d' % (exposed, longest), 'pending %d' % pending, 'total %d' % total]
+    assert all(0 < time <= exposed for time in pairs.values()), 'a pair is exposed for no longer than the core is'
+    lines.append('exposed %d longest %d' % (exposed, longest))
+    lines += ['pair %d %d exposed %d' % (*pair, pairs[pair]) for pair in sorted(pairs)]
+    lines += ['pending %d' % pending, replies(room), 'total %d' % total]
     return ''.join(line + '\n' for line in lines).encode()
 
 

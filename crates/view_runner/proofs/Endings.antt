@@ -6,7 +6,7 @@ use Rattle.cs_types.specs.Room.{Opening}
 use Rattle.cs_types.specs.History.{History, file, history_of}
 use Rattle.cs_types.specs.Drain.{IsDrained}
 use Rattle.cs_outside.specs.Device.{Rose, appended, WritesPrefix}
-use Rattle.run_times.specs.Sums.{Times}
+use Rattle.run_summary.specs.Summaries.{Summary}
 use Rattle.times_report.specs.Summary.{summary_text}
 use Rattle.scenario_input.specs.declared.stop.Stop.{Stop}
 use Rattle.scenario_input.specs.declared.stop.Stop.TheVariants.{TooLong}
@@ -47,21 +47,21 @@ drained_file played opening steps run same is drained =
 -- ---- how it ends
 
 -- what is known once the summary was written, or the sink failed
-pub record IsWritten {K : Type 0} (sink : Used K) (times : Times) (ended : Status) : Type 0 where
+pub record IsWritten {K : Type 0} (sink : Used K) (summary : Summary) (ended : Status) : Type 0 where
   pub either : (ended ≡ status.Done) ⊎ (ended ≡ status.WriteFault)
-  pub whole : ended ≡ status.Done → sink.bytes sink.after ≡ appended (sink.bytes sink.before) (summary_text times)
-  pub prefix : WritesPrefix (sink.bytes sink.before) (summary_text times) (sink.bytes sink.after)
+  pub whole : ended ≡ status.Done → sink.bytes sink.after ≡ appended (sink.bytes sink.before) (summary_text summary)
+  pub prefix : WritesPrefix (sink.bytes sink.before) (summary_text summary) (sink.bytes sink.after)
   pub faultless : ended ≡ status.Done → IsFaultless sink
   pub failed : ended ≡ status.WriteFault → Rose (sink.faults sink.before) (sink.faults sink.after)
   pub few : sink.faults sink.before < 2 ^ 64 - 1
 
 -- the summary was written, or the sink failed
-pub ends_written : {S K : Type 0} (caps : List ℕ) (source : Used S) (sink : Used K) (times : Times) (ended : Status) → IsTimed caps source times → IsWritten sink times ended →
+pub ends_written : {S K : Type 0} (caps : List ℕ) (source : Used S) (sink : Used K) (summary : Summary) (ended : Status) → IsTimed caps source summary → IsWritten sink summary ended →
     EndsAsSummary caps source sink ended
-ends_written caps source sink times ended timed written =
+ends_written caps source sink summary ended timed written =
     record {
-      done = λ e. (written.faultless e, (times, timed, written.whole e));
-      write_fault = λ e. (omega (arith, written.failed e, written.few), (times, timed, written.prefix));
+      done = λ e. (written.faultless e, (summary, timed, written.whole e));
+      write_fault = λ e. (omega (arith, written.failed e, written.few), (summary, timed, written.prefix));
       good_words = λ bad. elim written.either [
         | inl done ↦ let wrong : status.BadWords ≡ status.Done = sym bad ∙ done in absurd cc
         | inr fault ↦ let wrong : status.BadWords ≡ status.WriteFault = sym bad ∙ fault in absurd cc

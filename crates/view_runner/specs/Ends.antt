@@ -5,7 +5,7 @@ use Rattle.cs_types.specs.declared.scenario.Scenario.{Scenario}
 use Rattle.cs_types.specs.History.{History, file}
 use Rattle.cs_types.specs.Drain.{IsDrained}
 use Rattle.cs_outside.specs.Device.{appended, WritesPrefix}
-use Rattle.run_times.specs.Sums.{Times, times_of}
+use Rattle.run_summary.specs.Summaries.{Summary, IsSummaryOf}
 use Rattle.times_report.specs.Summary.{summary_text}
 use Rattle.scenario_input.specs.declared.status.Status.{Status}
 use Rattle.scenario_input.specs.declared.status.Status.TheVariants.{Done, BadWords, WriteFault}
@@ -14,9 +14,9 @@ use Rattle.scenario_input.specs.Teaching.{first_bad}
 use Rattle.scenario_runner.specs.Outcomes.{opened_with}
 use Rattle.scenario_runner.specs.Ends.{Used, Failed, IsFaultless, EndsAsReplay}
 
--- The input was read as a scenario, and these are the times of a replay of it, with guards that can be taught so many pairs
+-- The input was read as a scenario, and this is the summary of a replay of it, with guards that can be taught so many pairs
 -- each.
-pub record IsTimed {S : Type 0} (caps : List ℕ) (source : Used S) (times : Times) : Type 0 where
+pub record IsTimed {S : Type 0} (caps : List ℕ) (source : Used S) (summary : Summary) : Type 0 where
   -- what was read is the text of a scenario, no longer than an input may be, and each of its teach lines can be carried out
   pub scenario : Scenario
   pub reads : Reads scenario (source.bytes source.before) (source.bytes source.after)
@@ -28,17 +28,17 @@ pub record IsTimed {S : Type 0} (caps : List ℕ) (source : Used S) (times : Tim
   pub run : History
   pub drained : IsDrained (opened_with caps scenario) (file (opened_with caps scenario)) run
   pub alone : (other : History) → IsDrained (opened_with caps scenario) (file (opened_with caps scenario)) other → other ≡ run
-  -- the times are those of that history
-  pub of_run : times ≡ times_of (opened_with caps scenario) run
+  -- the summary is that of that history
+  pub of_run : IsSummaryOf (opened_with caps scenario) run summary
 
 -- How the command `summary` ends. Out of memory alone is free.
 pub record EndsAsSummary {S K : Type 0} (caps : List ℕ) (source : Used S) (sink : Used K) (status : Status) : Type 0 where
-  -- where it is done, what was written is the summary of the times of a replay of the input
-  pub done : status ≡ Done → IsFaultless sink × ((times : Times) × IsTimed caps source times ×
-      (sink.bytes sink.after ≡ appended (sink.bytes sink.before) (summary_text times)))
+  -- where it is done, what was written is the summary of a replay of the input
+  pub done : status ≡ Done → IsFaultless sink × ((summary : Summary) × IsTimed caps source summary ×
+      (sink.bytes sink.after ≡ appended (sink.bytes sink.before) (summary_text summary)))
   -- it ends in a write fault only where the sink failed, and then a prefix of that was written
-  pub write_fault : status ≡ WriteFault → Failed sink × ((times : Times) × IsTimed caps source times ×
-      WritesPrefix (sink.bytes sink.before) (summary_text times) (sink.bytes sink.after))
+  pub write_fault : status ≡ WriteFault → Failed sink × ((summary : Summary) × IsTimed caps source summary ×
+      WritesPrefix (sink.bytes sink.before) (summary_text summary) (sink.bytes sink.after))
   -- its own word is never bad
   pub good_words : status ≢ BadWords
   -- else nothing is written, and it ends as a replay of the same input ends

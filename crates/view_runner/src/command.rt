@@ -12,7 +12,7 @@ use std::alloc::Global;
 use view_words::asks_summary;
 
 /// Reads a scenario to its end, makes its steps in the order of their lines and then the entries of the end, as
-/// `coresched replay` does, and writes the summary of its times, each line in one piece. It waits for nobody and always
+/// `coresched replay` does, and writes the summary of that run, each line in one piece. It waits for nobody and always
 /// returns.
 ///
 /// The word is `summary`; other words are refused. Both counts of faults have to be below 2^64 - 1. At most 16 guards are

@@ -1,4 +1,4 @@
-//! The command that tells the times of a run, once its words are read.
+//! The command that tells the summary of a run, once its words are read.
 
 ghost use Rattle.std.specs.Prelude.{◌≡◌, ◌≢◌, ◌⊎◌, ◌↔◌, ◌+◌, ◌-◌, ◌^◌, ◌<◌, ◌≤◌, [], length, map, All, Some, Err, IfOk, IfSome, vec_len};
 ghost use Rattle.cs_outside.specs.Device.{Rose, appended, WritesPrefix};
@@ -11,17 +11,17 @@ ghost use Rattle.view_runner.specs.Ends.{IsTimed, EndsAsSummary};
 use core_events::CoreRoom;
 use core_lanes::SiblingQueue;
 use cs_outside::{Guard, Sink, Source};
-use run_times::{RunTimes, timed_run};
+use run_summary::{RunSummary, summarized_run};
 use scenario_input::{Status, Stop, read_scenario, taught};
 use std::alloc::Global;
 use times_report::summary;
 
-/// The times of a replay of the scenario that the input spells, over queues of one kind, with the guards that it teaches.
+/// The summary of a replay of the scenario that the input spells, over queues of one kind, with the guards that it teaches.
 fn timed<Q: SiblingQueue, S: Source, G: Guard>(
     alloc: Global,
     source: &mut S,
     guards: Vec<G>,
-) -> Result<RunTimes, Stop>
+) -> Result<RunSummary, Stop>
     requires few { vec_len guards ≤ 16 }
     requires untaught { All (λ guard. G.pairs guard ≡ []) guards.items }
     requires unasked { All (λ guard. G.asked guard ≡ 0) guards.items }
@@ -46,27 +46,27 @@ fn timed<Q: SiblingQueue, S: Source, G: Guard>(
     let scenario = read_scenario(alloc, source)?;
     let guards = taught(alloc, guards, scenario.teaches.items())?;
     let mut room = CoreRoom::<Q, G>::start(alloc, &scenario, guards)?;
-    let times = timed_run(alloc, &mut room, scenario.steps.items())?;
-    Ok(times)
+    let told = summarized_run(alloc, &mut room, scenario.steps.items())?;
+    Ok(told)
 }
 
 /// Writes the summary, and says how that ended.
-fn write_summary<K: Sink>(times: &RunTimes, sink: &mut K) -> Status
+fn write_summary<K: Sink>(told: &RunSummary, sink: &mut K) -> Status
     ensures either { (result ≡ Status.Done) ⊎ (result ≡ Status.WriteFault) }
-    ensures whole { result ≡ Status.Done → K.written sink.new ≡ appended (K.written sink.old) (summary_text times.now) }
-    ensures prefix { WritesPrefix (K.written sink.old) (summary_text times.now) (K.written sink.new) }
+    ensures whole { result ≡ Status.Done → K.written sink.new ≡ appended (K.written sink.old) (summary_text told.now) }
+    ensures prefix { WritesPrefix (K.written sink.old) (summary_text told.now) (K.written sink.new) }
 
     ensures faultless { result ≡ Status.Done → K.faults sink.new ≡ K.faults sink.old }
     ensures failed { result ≡ Status.WriteFault → Rose (K.faults sink.old) (K.faults sink.new) }
 {
-    match summary(times, sink) {
+    match summary(told, sink) {
         Ok(()) => Status::Done,
         Err(_) => Status::WriteFault,
     }
 }
 
 /// Reads a scenario to its end, makes its steps in the order of their lines and then the entries of the end, and
-/// writes the summary of its times.
+/// writes the summary of that run.
 pub(crate) fn summarized<Q: SiblingQueue, S: Source, K: Sink, G: Guard>(
     alloc: Global,
     source: &mut S,
@@ -84,7 +84,7 @@ pub(crate) fn summarized<Q: SiblingQueue, S: Source, K: Sink, G: Guard>(
         (record { bytes = K.written; faults = K.faults; before = sink.old; after = sink.new }) result }
 {
     match timed::<Q, S, G>(alloc, source, guards) {
-        Ok(times) => write_summary(&times, sink),
+        Ok(told) => write_summary(&told, sink),
         Err(stop) => Status::from(stop),
     }
 }

@@ -4,7 +4,7 @@ use Rattle.view_runner.proofs.played.summarized.Goals as goal
 
 pub returns-in-Ok : goal.returns-in-Ok
 returns-in-Ok g c =
-    ends_written _ _ _ c.in-Ok.times c.write_summary.result c.in-Ok.ensures.timed
+    ends_written _ _ _ c.in-Ok.told c.write_summary.result c.in-Ok.ensures.timed
     (record {
       either = c.write_summary.ensures.either;
       whole = c.write_summary.ensures.whole;

@@ -1,4 +1,4 @@
-use Rattle.std.proofs.Common.{◌≡◌, ◌∙◌, ℕ, List, Result, Ok, Err, sym, ap, map, length, arith, inl, inr}
+use Rattle.std.proofs.Common.{◌≡◌, ◌∙◌, ℕ, List, Result, Ok, Err, sym, ap, subst, map, length, arith, inl, inr}
 use Rattle.std.specs.Prelude.{◌⊎◌}
 use Rattle.std.proofs.lemmas.Result.{err_from_is_err_and}
 use Rattle.std.proofs.lemmas.List.{length-map}
@@ -11,7 +11,7 @@ use Rattle.cs_types.specs.History.{history_of, file}
 use Rattle.cs_types.specs.declared.scenario.Scenario.{Scenario}
 use Rattle.cs_types.specs.declared.scenario.Teach.{Teach}
 use Rattle.cs_types.proofs.Drains.{drained_alone}
-use Rattle.run_times.specs.Sums.{times_of}
+use Rattle.run_summary.specs.Summaries.{IsSummaryOf}
 use Rattle.scenario_runner.specs.Outcomes.{opened_with}
 use Rattle.view_runner.proofs.Endings.{fits_where, not_long, drained_file}
 use Rattle.view_runner.proofs.played.timed.Goals as goal
@@ -49,8 +49,8 @@ returns-clause-timed g c =
     (count_on_bench c.in_ok-guards.guards.guards c.items.result.now c.args.guards.len c.in_ok-guards.ensures.taught
     ∙ len
     ∙ sym (length-map c.args.guards.items g.G.Guard.cap)) in
-    let run = history_of c.timed_run.new.room.opening c.timed_run.new.room.steps in
-    let drained = drained_file c.in_ok-room.room.opening opening c.items-2.result.now run opened c.items-2.ensures c.in_ok-times.ensures.history in
+    let run = history_of c.summarized_run.new.room.opening c.summarized_run.new.room.steps in
+    let drained = drained_file c.in_ok-room.room.opening opening c.items-2.result.now run opened c.items-2.ensures c.in_ok-told.ensures.history in
     record {
       scenario = scenario;
       reads = c.in_ok-scenario.ensures.reads;
@@ -60,7 +60,7 @@ returns-clause-timed g c =
       run = run;
       drained = drained;
       alone = λ other too. drained_alone opening (file opening) other run too drained;
-      of_run = c.in_ok-times.ensures.times ∙ ap (λ (o : Opening). times_of o run) (c.timed_run.ensures.opening ∙ opened);
+      of_run = subst (λ (o : Opening). IsSummaryOf o run c.in_ok-told.told) (c.summarized_run.ensures.opening ∙ opened) c.in_ok-told.ensures.summary;
     }
 
 pub returns-in_err-scenario-clause-bad : goal.returns-in_err-scenario-clause-bad
@@ -88,8 +88,8 @@ returns-clause-first g c bytes line kind told fits bad calm =
     neither c.read_scenario.result c.in_ok-scenario.scenario _ _ c.in_ok-scenario.was
     (c.read_scenario.ensures.first bytes line kind told fits bad (not_both c.read_scenario.result c.in_ok-scenario.scenario _ c.in_ok-scenario.was))
 
-pub returns-in_err-times-clause-first : goal.returns-in_err-times-clause-first
-returns-in_err-times-clause-first g c bytes line kind told fits bad calm =
+pub returns-in_err-told-clause-first : goal.returns-in_err-told-clause-first
+returns-in_err-told-clause-first g c bytes line kind told fits bad calm =
     neither c.read_scenario.result c.in_ok-scenario.scenario _ _ c.in_ok-scenario.was
     (c.read_scenario.ensures.first bytes line kind told fits bad (not_both c.read_scenario.result c.in_ok-scenario.scenario _ c.in_ok-scenario.was))
 
