@@ -49,6 +49,10 @@ replies_of history =
       errors = count_of is_error history;
     }
 
+-- all of them together
+abbrev pub all_refused : ReplyCounts → ℕ
+all_refused counts = counts.no_task + counts.awake + counts.idle + counts.no_caller + counts.offline + counts.errors
+
 -- the counts with one reply more
 abbrev pub with_reply : Reply → ReplyCounts → ReplyCounts
 with_reply reply counts =

@@ -4,8 +4,10 @@ ghost use Rattle.std.specs.Prelude.{◌≡◌, ◌+◌, ◌*◌, ◌^◌, ◌<�
 ghost use Rattle.cs_types.specs.Scenario.{IsEvent, IsPlayable};
 ghost use Rattle.cs_types.specs.History.{history_of, AreEvents};
 ghost use Rattle.cs_types.specs.Drain.{IsDrained};
+ghost use Rattle.cs_types.specs.Laws.{is_refused};
 ghost use Rattle.run_times.specs.Sums.{did};
 ghost use Rattle.exposed_pairs.specs.Pairs.{most_rows};
+ghost use Rattle.run_summary.specs.Replies.{count_of, all_refused};
 ghost use Rattle.run_summary.specs.Summaries.{ArePartsOf, IsSummaryOf};
 
 use crate::summary::RunSummary;
@@ -64,6 +66,9 @@ pub fn summarized_run<R: Room>(
 
     // Those of one pair of cookies did for no longer than those of any.
     ensures pairs { IfOk result (λ summary. All (λ row. row.exposed ≤ summary.times.exposed) summary.pairs.rows) }
+
+    // The counts of the replies add up to the number of the entries that are refused.
+    ensures refused { IfOk result (λ summary. all_refused summary.replies ≡ count_of is_refused (R.history room.new)) }
 {
     let mut summary = RunSummary::open(alloc, room.siblings(), steps)?;
     play(room, steps, &mut summary);

@@ -65,8 +65,8 @@ pair_lines pairs = map pair_words pairs
 abbrev pub summary_lines : Summary → List (List Word)
 summary_lines summary =
     sibling_lines summary.times.siblings
-    ++ exposed_words summary.times ∷ pair_lines summary.pairs.rows
-    ++ pending_words summary.times ∷ replies_words summary.replies ∷ total_words summary.times ∷ []
+    ++ (exposed_words summary.times ∷ pair_lines summary.pairs.rows
+    ++ (pending_words summary.times ∷ replies_words summary.replies ∷ total_words summary.times ∷ []))
 
 -- the text, each line with its line feed
 abbrev pub summary_text : Summary → List ℕ

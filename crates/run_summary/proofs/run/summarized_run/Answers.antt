@@ -4,13 +4,17 @@ use Rattle.std.proofs.lemmas.Nat.{mul-le}
 use Rattle.cs_types.specs.Scenario.{IsPlayable}
 use Rattle.cs_types.specs.Room.{Opening}
 use Rattle.cs_types.specs.History.{History}
+use Rattle.cs_types.specs.Laws.{is_refused}
 use Rattle.cs_types.proofs.Histories.{length-history_of}
 use Rattle.run_times.specs.declared.siblings.SiblingTimes.{SiblingTimes}
 use Rattle.run_times.specs.Times.{spans_of}
 use Rattle.run_times.specs.Sums.{did, Times}
 use Rattle.run_times.proofs.Laws.{each_adds_up, exposed-le}
 use Rattle.exposed_pairs.specs.declared.rows.PairTime.{PairTime}
+use Rattle.run_summary.specs.declared.replies.ReplyCounts.{ReplyCounts}
+use Rattle.run_summary.specs.Replies.{count_of, all_refused}
 use Rattle.run_summary.specs.Summaries.{Summary, ArePartsOf}
+use Rattle.run_summary.proofs.Counts.{refused_adds_up}
 use Rattle.run_summary.proofs.Drained.{parts_of-drained, with_replies, pairs-le}
 use Rattle.run_summary.proofs.run.summarized_run.Goals as goal
 
@@ -47,6 +51,11 @@ pub returns-clause-pairs : goal.returns-clause-pairs
 returns-clause-pairs g c =
     subst (λ (s : Summary). All (λ (row : PairTime). row.exposed ≤ s.times.exposed) s.pairs.rows) (sym c.end.ensures)
     (pairs-le (g.R.Room.opening c.play.new.room) (g.R.Room.history c.play.new.room) c.play.new.summary c.play.ensures.parts)
+
+pub returns-clause-refused : goal.returns-clause-refused
+returns-clause-refused g c =
+    let history = g.R.Room.history c.drain.new.self in
+    subst (λ (counts : ReplyCounts). all_refused counts ≡ count_of is_refused history) (sym (ap (λ (s : Summary). s.replies) c.end.ensures)) (refused_adds_up history)
 
 -- the entries of the end are at most as many as the square of the siblings
 pub end-requires : goal.end-requires
