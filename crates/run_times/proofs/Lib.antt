@@ -4,3 +4,4 @@ pub mod Exposed
 pub mod Spans
 pub mod Summed
 pub mod Laws
+pub mod Clock
