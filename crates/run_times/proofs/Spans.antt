@@ -154,7 +154,7 @@ sibling_times-push spans room time cpu =
 
 -- ---- what they add up to
 
-time_in-cons : (fact : RoomState → Bool) (span : Span) (spans : List Span) → (test : Bool) → fact span.room ≡ test →
+pub time_in-cons : (fact : RoomState → Bool) (span : Span) (spans : List Span) → (test : Bool) → fact span.room ≡ test →
     time_in fact (span ∷ spans) ≡ cond test (span.time + time_in fact spans) (time_in fact spans)
 time_in-cons fact span spans true is =
     ap total_time (cond-true (fact span.room) (span ∷ filter (λ (s : Span). fact s.room) spans) (filter (λ (s : Span). fact s.room) spans) is)

@@ -1,0 +1,5 @@
+pub mod Running
+pub mod Walked
+pub mod Walk
+pub mod CookieBound
+pub mod Summed

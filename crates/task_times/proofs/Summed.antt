@@ -1,0 +1,269 @@
+-- Summed: the sums of a history, with one advance more.
+use Rattle.std.proofs.Common.{◌≡◌, ℕ, ◌+◌, ◌*◌, ◌<◌, ◌≤◌, ◌^◌, ◌-◌, Bool, true, false, cond, List, [], ◌∷◌, ◌++◌, map, length, get_or, refl, sym, ap, ◌∙◌, subst, zero-add, arith, Option, Some, None}
+use Rattle.std.specs.Option.{option_map, option_map_or, option_to_list}
+use Rattle.std.specs.Prelude.{is_some, All, replicate, fold, max, sum_by, ◌==◌, ◌&&◌}
+use Rattle.std.specs.List.{AllByRecursion, range_with_len}
+use Rattle.std.proofs.lemmas.Nat.{mul-le}
+use Rattle.std.proofs.lemmas.List.{length-replicate, get_or-replicate}
+use Rattle.std.proofs.lemmas.List.Elements.{recursion_from_All, All-from_recursion}
+use Rattle.std.proofs.lemmas.List.FromFn.{fill_by_all, get_or-map-range_with_len, length-map-range_with_len}
+use Rattle.std.proofs.lemmas.List.Sums.{sum_by-append, sum_by-cons, sum_by_push}
+use Rattle.cs_types.specs.declared.task.Task.{Task}
+use Rattle.cs_types.specs.declared.task.TaskSpec.{TaskSpec}
+use Rattle.cs_types.specs.declared.event.Event.{Event}
+use Rattle.cs_types.specs.declared.reply.Entry.{Entry}
+use Rattle.cs_types.specs.Scenario.{IsEvent, IsPlayable}
+use Rattle.cs_types.specs.Room.{Opening, RoomState, task_of, first_pid}
+use Rattle.cs_types.specs.Touches.{is_fresh}
+use Rattle.cs_types.specs.History.{History, Moment, beginning, next, fold_of, AreEvents}
+use Rattle.cs_types.proofs.Numbers.{next_pid-fold_of, next_cookie-fold_of}
+use Rattle.cs_types.proofs.Rising.{Rises}
+use Rattle.cs_types.proofs.Tasks.{few-step, few-fold_of, length-asleep_tasks}
+use Rattle.run_times.specs.Times.{Span, advance_of, span_of, spans_from, spans_of, total_time, time_in}
+use Rattle.run_times.proofs.Shown.{rises_of}
+use Rattle.run_times.proofs.Spans.{one_span, spans_of-advance, spans_of-still, advance_of-le, total_time-le, time_in-push, time_in-cons, time_in-most}
+use Rattle.task_times.specs.declared.doing.TaskDoing.{TaskDoing}
+use Rattle.task_times.specs.declared.doing.TaskDoing.TheVariants.{Runs, Waits, Sleeps}
+use Rattle.task_times.specs.declared.times.TaskTimes.{TaskTimes}
+use Rattle.task_times.specs.declared.times.CookieTimes.{CookieTimes}
+use Rattle.task_times.specs.Living.{lives, doing_of, doing_at, runs, waits, sleeps, doers}
+use Rattle.task_times.specs.TaskSums.{does_so, task_times, lived, time_by, time_of, cookie_times, had, TaskSums, pids_for, cookies_for, sums_in, sums_so_far, with_span, with_doers}
+use Rattle.task_times.proofs.CookieBound.{bound-fold_of}
+use Rattle.task_times.proofs.Walked.{few_kept}
+
+-- ---- one span more
+
+pub task_times-push : (spans : List Span) (room : RoomState) (time pid : ℕ) →
+    task_times 0 (spans ++ one_span room time) pid ≡ with_span (doing_at room pid) time (task_times 0 spans pid)
+task_times-push spans room time pid = λ i. record {
+  ran = time_in-push (does_so runs pid) spans room time i;
+  waited = time_in-push (does_so waits pid) spans room time i;
+  slept = time_in-push (does_so sleeps pid) spans room time i;
+  charged = 0;
+}
+
+time_by-push : (number : RoomState → ℕ) (spans : List Span) (room : RoomState) (time : ℕ) →
+    time_by number (spans ++ one_span room time) ≡ time_by number spans + time * number room
+time_by-push number spans room time = sum_by_push (λ (span : Span). span.time * number span.room) spans (record { room = room; time = time })
+
+pub cookie_times-push : (spans : List Span) (room : RoomState) (time cookie : ℕ) →
+    cookie_times (spans ++ one_span room time) cookie ≡ with_doers room cookie time (cookie_times spans cookie)
+cookie_times-push spans room time cookie = λ i. record {
+  ran = time_by-push (λ r. length (doers runs cookie r)) spans room time i;
+  waited = time_by-push (λ r. length (doers waits cookie r)) spans room time i;
+  slept = time_by-push (λ r. length (doers sleeps cookie r)) spans room time i;
+}
+
+-- a list of rows goes on by what each row does
+rows-push : {X : Type 0} (f g : ℕ → X) (more : ℕ → X → X) → ((k : ℕ) → g k ≡ more k (f k)) → (n : ℕ) (old new : List X) (none : X) → old ≡ map f (range_with_len 0 n) →
+    length new ≡ length old → ((k : ℕ) (d : X) → k < length old → get_or new k d ≡ more k (get_or old k d)) → new ≡ map g (range_with_len 0 n)
+rows-push {X = X} f g more step n old new none was long each =
+    let many : length old ≡ n = ap length was ∙ length-map-range_with_len f 0 n in
+    fill_by_all g new n none (long ∙ many)
+    (λ k below.
+    each k none (omega (arith, many, below))
+    ∙ ap (more k) (ap (λ (xs : List X). get_or xs k none) was ∙ get_or-map-range_with_len f 0 n k k none below (zero-add k))
+    ∙ sym (step k))
+
+-- the row of one of them
+row_at : {X : Type 0} (f : ℕ → X) (n : ℕ) (rows : List X) → rows ≡ map f (range_with_len 0 n) → (k : ℕ) (none : X) → k < length rows → get_or rows k none ≡ f k
+row_at {X = X} f n rows was k none few =
+    let many : length rows ≡ n = ap length was ∙ length-map-range_with_len f 0 n in
+    ap (λ (xs : List X). get_or xs k none) was ∙ get_or-map-range_with_len f 0 n k k none (omega (arith, many, few)) (zero-add k)
+
+-- the sums before the first advance
+pub sums_in-none : (steps : ℕ) (task : TaskTimes) (cookie : CookieTimes) (tasks : List TaskTimes) (cookies : List CookieTimes) →
+    ((pid : ℕ) → task ≡ task_times 0 [] pid) → ((k : ℕ) → cookie ≡ cookie_times [] k) → tasks ≡ replicate (steps + 10000) task → cookies ≡ replicate (steps + 1) cookie →
+    record { steps = length cookies - 1; tasks = tasks; cookies = cookies } ≡ sums_in steps (λ pid. 0) []
+sums_in-none steps task cookie tasks cookies t c are be =
+    let n = steps + 10000 in
+    let m = steps + 1 in
+    let many : length cookies - 1 ≡ steps = (let long = ap length be ∙ length-replicate m cookie in omega (arith, long)) in
+    let rows : tasks ≡ map (task_times 0 []) (range_with_len 0 n) =
+    are ∙ fill_by_all (task_times 0 []) (replicate n task) n task (length-replicate n task) (λ k below. get_or-replicate n k task task below ∙ t k) in
+    let parts : cookies ≡ map (cookie_times []) (range_with_len 0 m) =
+    be ∙ fill_by_all (cookie_times []) (replicate m cookie) m cookie (length-replicate m cookie) (λ k below. get_or-replicate m k cookie cookie below ∙ c k) in
+    λ i. record { steps = many i; tasks = rows i; cookies = parts i }
+
+-- the sums with an advance more
+pub sums_so_far-advance : (steps : ℕ) (opening : Opening) (history : History) (time : ℕ) (old : TaskSums) (tasks : List TaskTimes) (cookies : List CookieTimes) (entry : Entry) →
+    advance_of entry.event ≡ Some time →
+    let room = fold_of opening history in
+    old ≡ sums_so_far steps opening history → length tasks ≡ length old.tasks → length cookies ≡ length old.cookies →
+    ((pid : ℕ) (none : TaskTimes) → pid < length old.tasks → get_or tasks pid none ≡ with_span (doing_at room pid) time (get_or old.tasks pid none)) →
+    ((cookie : ℕ) (none : CookieTimes) → cookie < length old.cookies → get_or cookies cookie none ≡ with_doers room cookie time (get_or old.cookies cookie none)) →
+    record { steps = length cookies - 1; tasks = tasks; cookies = cookies } ≡ sums_so_far steps opening (history ++ entry ∷ [])
+sums_so_far-advance steps opening history time old tasks cookies entry is was long wide each all =
+    let room = fold_of opening history in
+    let spans = spans_of opening history in
+    let their = ap (λ (s : TaskSums). s.tasks) was in
+    let own = ap (λ (s : TaskSums). s.cookies) was in
+    let rows = rows-push (task_times 0 spans) (task_times 0 (spans ++ one_span room time)) (λ pid. with_span (doing_at room pid) time) (task_times-push spans room time) (pids_for steps)
+        old.tasks tasks (task_times 0 [] 0) their long each in
+    let parts = rows-push (cookie_times spans) (cookie_times (spans ++ one_span room time)) (λ cookie. with_doers room cookie time) (cookie_times-push spans room time) (cookies_for steps)
+        old.cookies cookies (cookie_times [] 0) own wide all in
+    let many : length cookies - 1 ≡ steps = (let count = ap length parts ∙ length-map-range_with_len (cookie_times (spans ++ one_span room time)) 0 (cookies_for steps) in omega (arith, count)) in
+    (λ i. record { steps = many i; tasks = rows i; cookies = parts i })
+    ∙ ap (sums_in steps (λ pid. 0)) (sym (spans_of-advance opening history entry time is))
+
+-- and with any other entry more
+pub sums_so_far-still : (steps : ℕ) (opening : Opening) (history : History) (entry : Entry) → advance_of entry.event ≡ None →
+    sums_so_far steps opening history ≡ sums_so_far steps opening (history ++ entry ∷ [])
+sums_so_far-still steps opening history entry is = ap (sums_in steps (λ pid. 0)) (sym (spans_of-still opening history entry is))
+
+-- ---- there is a row for each
+
+first_pid-le : (specs : List TaskSpec) (most from : ℕ) → from ≤ most → AllByRecursion (λ (spec : TaskSpec). spec.pid ≤ most) specs →
+    fold (λ pid (spec : TaskSpec). max pid spec.pid) from specs ≤ most
+first_pid-le [] most from low each = low
+first_pid-le (spec ∷ specs) most from low each = first_pid-le specs most (max from spec.pid) (omega (arith, low, each.0)) each.1
+
+below_end : (low high : ℕ) (tasks : List Task) → Rises low high tasks → (low < high) × AllByRecursion (λ (task : Task). task.spec.pid < high) tasks
+below_end low high [] rises = (rises, tt)
+below_end low high (task ∷ tasks) rises =
+    let rest = below_end task.spec.pid high tasks rises.1 in
+    (omega (arith, rises.0, rest.0), (rest.0, rest.1))
+
+both_below : (pids cookies next most : ℕ) (tasks : List Task) → next ≤ pids → most ≤ cookies → AllByRecursion (λ (task : Task). task.spec.pid < next) tasks →
+    AllByRecursion (λ (task : Task). task.cookie < most) tasks → AllByRecursion (λ (task : Task). (task.spec.pid < pids) × (task.cookie < cookies)) tasks
+both_below pids cookies next most [] a b p q = tt
+both_below pids cookies next most (task ∷ tasks) a b p q = ((omega (arith, a, p.0), omega (arith, b, q.0)), both_below pids cookies next most tasks a b p.1 q.1)
+
+pub rows_for : (steps : ℕ) (opening : Opening) (history : History) (tasks : List TaskTimes) (cookies : List CookieTimes) → IsPlayable opening.scenario → length history ≤ steps →
+    tasks ≡ (sums_so_far steps opening history).tasks → cookies ≡ (sums_so_far steps opening history).cookies →
+    All (λ (task : Task). (task.spec.pid < length tasks) × (task.cookie < length cookies)) (fold_of opening history).tasks
+rows_for steps opening history tasks cookies playable few are be =
+    let room = fold_of opening history in
+    let spans = spans_of opening history in
+    let long : length tasks ≡ steps + 10000 = ap length are ∙ length-map-range_with_len (task_times 0 spans) 0 (pids_for steps) in
+    let wide : length cookies ≡ steps + 1 = ap length be ∙ length-map-range_with_len (cookie_times spans) 0 (cookies_for steps) in
+    let low : opening.scenario.task_limit ≤ 256 = playable.task_limit.1 in
+    let each : AllByRecursion (λ (spec : TaskSpec). spec.pid ≤ 9999) opening.scenario.tasks =
+    recursion_from_All (λ (spec : TaskSpec). spec.pid ≤ 9999) opening.scenario.tasks (λ k d under. (playable.tasks k d under).pid.1) in
+    let first = first_pid-le opening.scenario.tasks 9999 0 (omega arith) each in
+    let up = next_pid-fold_of opening history playable.few_tasks low in
+    let on = next_cookie-fold_of opening history playable.few_tasks low in
+    All-from_recursion (λ (task : Task). (task.spec.pid < length tasks) × (task.cookie < length cookies)) room.tasks
+    (both_below (length tasks) (length cookies) room.next_pid room.next_cookie room.tasks (omega (arith, long, up, first, few)) (omega (arith, wide, on, few))
+    (below_end 0 room.next_pid room.tasks (rises_of opening history playable)).1 (bound-fold_of opening history playable).1)
+
+-- ---- the sums fit
+
+-- What a task ran, waited and slept adds up to the time in which it lived.
+pub lived-task_times : (charged : ℕ) (spans : List Span) (pid : ℕ) → lived (task_times charged spans pid) ≡ time_in (lives pid) spans
+lived-task_times charged [] pid = refl
+lived-task_times charged (span ∷ spans) pid = go (task_of span.room pid) refl (lived-task_times charged spans pid) where
+  Known : List Span → Type 0
+  Known ss = lived (task_times charged ss pid) ≡ time_in (lives pid) ss
+
+  by_doing : (task : Task) → task_of span.room pid ≡ Some task → (doing : TaskDoing) → doing_of span.room task ≡ doing → Known spans → Known (span ∷ spans)
+  by_doing task e Runs does rest =
+      let at : doing_at span.room pid ≡ Some Runs = ap (option_map (doing_of span.room)) e ∙ ap Some does in
+      omega (
+        arith,
+        rest,
+        time_in-cons (does_so runs pid) span spans true (ap (λ (d : Option TaskDoing). option_map_or runs d false) at),
+        time_in-cons (does_so waits pid) span spans false (ap (λ (d : Option TaskDoing). option_map_or waits d false) at),
+        time_in-cons (does_so sleeps pid) span spans false (ap (λ (d : Option TaskDoing). option_map_or sleeps d false) at),
+        time_in-cons (lives pid) span spans true (ap is_some e),
+      )
+  by_doing task e Waits does rest =
+      let at : doing_at span.room pid ≡ Some Waits = ap (option_map (doing_of span.room)) e ∙ ap Some does in
+      omega (
+        arith,
+        rest,
+        time_in-cons (does_so runs pid) span spans false (ap (λ (d : Option TaskDoing). option_map_or runs d false) at),
+        time_in-cons (does_so waits pid) span spans true (ap (λ (d : Option TaskDoing). option_map_or waits d false) at),
+        time_in-cons (does_so sleeps pid) span spans false (ap (λ (d : Option TaskDoing). option_map_or sleeps d false) at),
+        time_in-cons (lives pid) span spans true (ap is_some e),
+      )
+  by_doing task e Sleeps does rest =
+      let at : doing_at span.room pid ≡ Some Sleeps = ap (option_map (doing_of span.room)) e ∙ ap Some does in
+      omega (
+        arith,
+        rest,
+        time_in-cons (does_so runs pid) span spans false (ap (λ (d : Option TaskDoing). option_map_or runs d false) at),
+        time_in-cons (does_so waits pid) span spans false (ap (λ (d : Option TaskDoing). option_map_or waits d false) at),
+        time_in-cons (does_so sleeps pid) span spans true (ap (λ (d : Option TaskDoing). option_map_or sleeps d false) at),
+        time_in-cons (lives pid) span spans true (ap is_some e),
+      )
+
+  go : (found : Option Task) → task_of span.room pid ≡ found → Known spans → Known (span ∷ spans)
+  go None e rest =
+      let at : doing_at span.room pid ≡ None = ap (option_map (doing_of span.room)) e in
+      omega (
+        arith,
+        rest,
+        time_in-cons (does_so runs pid) span spans false (ap (λ (d : Option TaskDoing). option_map_or runs d false) at),
+        time_in-cons (does_so waits pid) span spans false (ap (λ (d : Option TaskDoing). option_map_or waits d false) at),
+        time_in-cons (does_so sleeps pid) span spans false (ap (λ (d : Option TaskDoing). option_map_or sleeps d false) at),
+        time_in-cons (lives pid) span spans false (ap is_some e),
+      )
+  go (Some task) e rest = by_doing task e (doing_of span.room task) refl rest
+
+-- the time of an event, as often as there are tasks of some kind
+one_time_by-le : (siblings : ℕ) (room : RoomState) (event : Event) (number : RoomState → ℕ) → IsEvent siblings event → number room ≤ 256 →
+    time_by number (span_of room event) ≤ 256000000000
+one_time_by-le siblings room event number limits few = go (advance_of event) refl where
+  go : (advance : Option ℕ) → advance_of event ≡ advance → time_by number (option_to_list (option_map (λ n. record { room = room; time = n }) advance)) ≤ 256000000000
+  go None is = omega arith
+  go (Some time) is = omega (arith, mul-le time (number room) 1000000000 256 (advance_of-le siblings event time limits is) few)
+
+time_by-le : (siblings : ℕ) (moment : Moment) (entries : List Entry) (number : RoomState → ℕ) → AllByRecursion (λ (entry : Entry). IsEvent siblings entry.event) entries →
+    length moment.room.tasks ≤ moment.room.task_limit → moment.room.task_limit ≤ 256 → ((room : RoomState) → number room ≤ length room.tasks) →
+    time_by number (spans_from moment entries) ≤ 256000000000 * length entries
+time_by-le siblings moment [] number limits few low counts = omega arith
+time_by-le siblings moment (entry ∷ entries) number limits few low counts =
+    let made = few-step moment.room (is_fresh moment.ledger) entry.event in
+    let rest = time_by-le siblings (next moment entry) entries number limits.1
+        (subst (λ (n : ℕ). length (next moment entry).room.tasks ≤ n) (sym made.limit) (made.few few)) (omega (arith, low, made.limit)) counts in
+    omega (
+      arith,
+      rest,
+      one_time_by-le siblings moment.room entry.event number limits.0 (omega (arith, counts moment.room, few, low)),
+      sum_by-append (λ (span : Span). span.time * number span.room) (span_of moment.room entry.event) (spans_from (next moment entry) entries),
+    )
+
+-- So have the tasks of a cookie not more than all tasks.
+time_of-le : (opening : Opening) (history : History) (does : TaskDoing → Bool) (cookie : ℕ) → IsPlayable opening.scenario → AreEvents opening history →
+    time_of does cookie (spans_of opening history) ≤ 256000000000 * length history
+time_of-le opening history does cookie playable events =
+    time_by-le opening.scenario.siblings (beginning opening) history (λ room. length (doers does cookie room))
+    (recursion_from_All (λ (entry : Entry). IsEvent opening.scenario.siblings entry.event) history events)
+    (omega (arith, playable.few_tasks, length-asleep_tasks opening.scenario.tasks)) playable.task_limit.1
+    (λ room. few_kept (λ (task : Task). (task.cookie == cookie) && does (doing_of room task)) room.tasks)
+
+pub room_for_lived : (steps : ℕ) (opening : Opening) (history : History) (tasks : List TaskTimes) (time most : ℕ) → AreEvents opening history → length history < 2 ^ 34 → time ≤ 1000000000 →
+    tasks ≡ (sums_so_far steps opening history).tasks → 1000000000 * 2 ^ 34 ≤ most → All (λ (times : TaskTimes). lived times + time ≤ most) tasks
+room_for_lived steps opening history tasks time most events few short are fits = λ k none under.
+    let spans = spans_of opening history in
+    let same : lived (get_or tasks k none) ≡ lived (task_times 0 spans k) = ap lived (row_at (task_times 0 spans) (pids_for steps) tasks are k none under) in
+    omega (
+      arith,
+      same,
+      lived-task_times 0 spans k,
+      time_in-most (lives k) spans,
+      total_time-le opening.scenario.siblings (beginning opening) history
+          (recursion_from_All (λ (entry : Entry). IsEvent opening.scenario.siblings entry.event) history events),
+      few,
+      short,
+      fits,
+    )
+
+pub room_for_had : (steps : ℕ) (opening : Opening) (history : History) (cookies : List CookieTimes) (time most : ℕ) → IsPlayable opening.scenario → AreEvents opening history →
+    length history < 2 ^ 34 → time ≤ 1000000000 →
+    cookies ≡ (sums_so_far steps opening history).cookies → 768000000000 * 2 ^ 34 ≤ most →
+    All (λ (times : CookieTimes). had times + time * length (fold_of opening history).tasks ≤ most) cookies
+room_for_had steps opening history cookies time most playable events few short are fits = λ k none under.
+    let spans = spans_of opening history in
+    let same : had (get_or cookies k none) ≡ had (cookie_times spans k) = ap had (row_at (cookie_times spans) (cookies_for steps) cookies are k none under) in
+    omega (
+      arith,
+      same,
+      time_of-le opening history runs k playable events,
+      time_of-le opening history waits k playable events,
+      time_of-le opening history sleeps k playable events,
+      mul-le time (length (fold_of opening history).tasks) 1000000000 256 short (omega (arith, few-fold_of opening history playable.few_tasks, playable.task_limit.1)),
+      few,
+      fits,
+    )

@@ -1,0 +1,12 @@
+//! For how long each task ran, waited and slept in a run, and the tasks of each cookie. It is over the contract of a
+//! machine alone.
+#![tactic(auto)]
+
+mod doing;
+mod looks;
+mod sums;
+mod times;
+
+pub use doing::TaskDoing;
+pub use sums::RunTasks;
+pub use times::{CookieTimes, TaskTimes};
