@@ -1,5 +1,6 @@
 pub mod Running
 pub mod Walked
 pub mod Walk
-pub mod CookieBound
+pub mod Bounds
 pub mod Summed
+pub mod Charged

@@ -28,7 +28,7 @@ use Rattle.task_times.specs.declared.times.TaskTimes.{TaskTimes}
 use Rattle.task_times.specs.declared.times.CookieTimes.{CookieTimes}
 use Rattle.task_times.specs.Living.{lives, doing_of, doing_at, runs, waits, sleeps, doers}
 use Rattle.task_times.specs.TaskSums.{does_so, task_times, lived, time_by, time_of, cookie_times, had, TaskSums, pids_for, cookies_for, sums_in, sums_so_far, with_span, with_doers}
-use Rattle.task_times.proofs.CookieBound.{bound-fold_of}
+use Rattle.task_times.proofs.Bounds.{bound-fold_of, pids_below}
 use Rattle.task_times.proofs.Walked.{few_kept}
 
 -- ---- one span more
@@ -55,7 +55,7 @@ cookie_times-push spans room time cookie = λ i. record {
 }
 
 -- a list of rows goes on by what each row does
-rows-push : {X : Type 0} (f g : ℕ → X) (more : ℕ → X → X) → ((k : ℕ) → g k ≡ more k (f k)) → (n : ℕ) (old new : List X) (none : X) → old ≡ map f (range_with_len 0 n) →
+pub rows-push : {X : Type 0} (f g : ℕ → X) (more : ℕ → X → X) → ((k : ℕ) → g k ≡ more k (f k)) → (n : ℕ) (old new : List X) (none : X) → old ≡ map f (range_with_len 0 n) →
     length new ≡ length old → ((k : ℕ) (d : X) → k < length old → get_or new k d ≡ more k (get_or old k d)) → new ≡ map g (range_with_len 0 n)
 rows-push {X = X} f g more step n old new none was long each =
     let many : length old ≡ n = ap length was ∙ length-map-range_with_len f 0 n in
@@ -72,44 +72,44 @@ row_at {X = X} f n rows was k none few =
     ap (λ (xs : List X). get_or xs k none) was ∙ get_or-map-range_with_len f 0 n k k none (omega (arith, many, few)) (zero-add k)
 
 -- the sums before the first advance
-pub sums_in-none : (steps : ℕ) (task : TaskTimes) (cookie : CookieTimes) (tasks : List TaskTimes) (cookies : List CookieTimes) →
-    ((pid : ℕ) → task ≡ task_times 0 [] pid) → ((k : ℕ) → cookie ≡ cookie_times [] k) → tasks ≡ replicate (steps + 10000) task → cookies ≡ replicate (steps + 1) cookie →
-    record { steps = length cookies - 1; tasks = tasks; cookies = cookies } ≡ sums_in steps (λ pid. 0) []
-sums_in-none steps task cookie tasks cookies t c are be =
-    let n = steps + 10000 in
-    let m = steps + 1 in
-    let many : length cookies - 1 ≡ steps = (let long = ap length be ∙ length-replicate m cookie in omega (arith, long)) in
+pub sums_in-none : (entries : ℕ) (task : TaskTimes) (cookie : CookieTimes) (tasks : List TaskTimes) (cookies : List CookieTimes) →
+    ((pid : ℕ) → task ≡ task_times 0 [] pid) → ((k : ℕ) → cookie ≡ cookie_times [] k) → tasks ≡ replicate (entries + 10000) task → cookies ≡ replicate (entries + 1) cookie →
+    record { entries = length cookies - 1; tasks = tasks; cookies = cookies } ≡ sums_in entries (λ pid. 0) []
+sums_in-none entries task cookie tasks cookies t c are be =
+    let n = entries + 10000 in
+    let m = entries + 1 in
+    let many : length cookies - 1 ≡ entries = (let long = ap length be ∙ length-replicate m cookie in omega (arith, long)) in
     let rows : tasks ≡ map (task_times 0 []) (range_with_len 0 n) =
     are ∙ fill_by_all (task_times 0 []) (replicate n task) n task (length-replicate n task) (λ k below. get_or-replicate n k task task below ∙ t k) in
     let parts : cookies ≡ map (cookie_times []) (range_with_len 0 m) =
     be ∙ fill_by_all (cookie_times []) (replicate m cookie) m cookie (length-replicate m cookie) (λ k below. get_or-replicate m k cookie cookie below ∙ c k) in
-    λ i. record { steps = many i; tasks = rows i; cookies = parts i }
+    λ i. record { entries = many i; tasks = rows i; cookies = parts i }
 
 -- the sums with an advance more
-pub sums_so_far-advance : (steps : ℕ) (opening : Opening) (history : History) (time : ℕ) (old : TaskSums) (tasks : List TaskTimes) (cookies : List CookieTimes) (entry : Entry) →
+pub sums_so_far-advance : (entries : ℕ) (opening : Opening) (history : History) (time : ℕ) (old : TaskSums) (tasks : List TaskTimes) (cookies : List CookieTimes) (entry : Entry) →
     advance_of entry.event ≡ Some time →
     let room = fold_of opening history in
-    old ≡ sums_so_far steps opening history → length tasks ≡ length old.tasks → length cookies ≡ length old.cookies →
+    old ≡ sums_so_far entries opening history → length tasks ≡ length old.tasks → length cookies ≡ length old.cookies →
     ((pid : ℕ) (none : TaskTimes) → pid < length old.tasks → get_or tasks pid none ≡ with_span (doing_at room pid) time (get_or old.tasks pid none)) →
     ((cookie : ℕ) (none : CookieTimes) → cookie < length old.cookies → get_or cookies cookie none ≡ with_doers room cookie time (get_or old.cookies cookie none)) →
-    record { steps = length cookies - 1; tasks = tasks; cookies = cookies } ≡ sums_so_far steps opening (history ++ entry ∷ [])
-sums_so_far-advance steps opening history time old tasks cookies entry is was long wide each all =
+    record { entries = length cookies - 1; tasks = tasks; cookies = cookies } ≡ sums_so_far entries opening (history ++ entry ∷ [])
+sums_so_far-advance entries opening history time old tasks cookies entry is was long wide each all =
     let room = fold_of opening history in
     let spans = spans_of opening history in
     let their = ap (λ (s : TaskSums). s.tasks) was in
     let own = ap (λ (s : TaskSums). s.cookies) was in
-    let rows = rows-push (task_times 0 spans) (task_times 0 (spans ++ one_span room time)) (λ pid. with_span (doing_at room pid) time) (task_times-push spans room time) (pids_for steps)
+    let rows = rows-push (task_times 0 spans) (task_times 0 (spans ++ one_span room time)) (λ pid. with_span (doing_at room pid) time) (task_times-push spans room time) (pids_for entries)
         old.tasks tasks (task_times 0 [] 0) their long each in
-    let parts = rows-push (cookie_times spans) (cookie_times (spans ++ one_span room time)) (λ cookie. with_doers room cookie time) (cookie_times-push spans room time) (cookies_for steps)
+    let parts = rows-push (cookie_times spans) (cookie_times (spans ++ one_span room time)) (λ cookie. with_doers room cookie time) (cookie_times-push spans room time) (cookies_for entries)
         old.cookies cookies (cookie_times [] 0) own wide all in
-    let many : length cookies - 1 ≡ steps = (let count = ap length parts ∙ length-map-range_with_len (cookie_times (spans ++ one_span room time)) 0 (cookies_for steps) in omega (arith, count)) in
-    (λ i. record { steps = many i; tasks = rows i; cookies = parts i })
-    ∙ ap (sums_in steps (λ pid. 0)) (sym (spans_of-advance opening history entry time is))
+    let many : length cookies - 1 ≡ entries = (let count = ap length parts ∙ length-map-range_with_len (cookie_times (spans ++ one_span room time)) 0 (cookies_for entries) in omega (arith, count)) in
+    (λ i. record { entries = many i; tasks = rows i; cookies = parts i })
+    ∙ ap (sums_in entries (λ pid. 0)) (sym (spans_of-advance opening history entry time is))
 
 -- and with any other entry more
-pub sums_so_far-still : (steps : ℕ) (opening : Opening) (history : History) (entry : Entry) → advance_of entry.event ≡ None →
-    sums_so_far steps opening history ≡ sums_so_far steps opening (history ++ entry ∷ [])
-sums_so_far-still steps opening history entry is = ap (sums_in steps (λ pid. 0)) (sym (spans_of-still opening history entry is))
+pub sums_so_far-still : (entries : ℕ) (opening : Opening) (history : History) (entry : Entry) → advance_of entry.event ≡ None →
+    sums_so_far entries opening history ≡ sums_so_far entries opening (history ++ entry ∷ [])
+sums_so_far-still entries opening history entry is = ap (sums_in entries (λ pid. 0)) (sym (spans_of-still opening history entry is))
 
 -- ---- there is a row for each
 
@@ -118,34 +118,33 @@ first_pid-le : (specs : List TaskSpec) (most from : ℕ) → from ≤ most → A
 first_pid-le [] most from low each = low
 first_pid-le (spec ∷ specs) most from low each = first_pid-le specs most (max from spec.pid) (omega (arith, low, each.0)) each.1
 
-below_end : (low high : ℕ) (tasks : List Task) → Rises low high tasks → (low < high) × AllByRecursion (λ (task : Task). task.spec.pid < high) tasks
-below_end low high [] rises = (rises, tt)
-below_end low high (task ∷ tasks) rises =
-    let rest = below_end task.spec.pid high tasks rises.1 in
-    (omega (arith, rises.0, rest.0), (rest.0, rest.1))
-
 both_below : (pids cookies next most : ℕ) (tasks : List Task) → next ≤ pids → most ≤ cookies → AllByRecursion (λ (task : Task). task.spec.pid < next) tasks →
     AllByRecursion (λ (task : Task). task.cookie < most) tasks → AllByRecursion (λ (task : Task). (task.spec.pid < pids) × (task.cookie < cookies)) tasks
 both_below pids cookies next most [] a b p q = tt
 both_below pids cookies next most (task ∷ tasks) a b p q = ((omega (arith, a, p.0), omega (arith, b, q.0)), both_below pids cookies next most tasks a b p.1 q.1)
 
-pub rows_for : (steps : ℕ) (opening : Opening) (history : History) (tasks : List TaskTimes) (cookies : List CookieTimes) → IsPlayable opening.scenario → length history ≤ steps →
-    tasks ≡ (sums_so_far steps opening history).tasks → cookies ≡ (sums_so_far steps opening history).cookies →
-    All (λ (task : Task). (task.spec.pid < length tasks) × (task.cookie < length cookies)) (fold_of opening history).tasks
-rows_for steps opening history tasks cookies playable few are be =
-    let room = fold_of opening history in
-    let spans = spans_of opening history in
-    let long : length tasks ≡ steps + 10000 = ap length are ∙ length-map-range_with_len (task_times 0 spans) 0 (pids_for steps) in
-    let wide : length cookies ≡ steps + 1 = ap length be ∙ length-map-range_with_len (cookie_times spans) 0 (cookies_for steps) in
+pub next_pid-le : (entries : ℕ) (opening : Opening) (history : History) → IsPlayable opening.scenario → length history ≤ entries → (fold_of opening history).next_pid ≤ pids_for entries
+next_pid-le entries opening history playable few =
     let low : opening.scenario.task_limit ≤ 256 = playable.task_limit.1 in
     let each : AllByRecursion (λ (spec : TaskSpec). spec.pid ≤ 9999) opening.scenario.tasks =
     recursion_from_All (λ (spec : TaskSpec). spec.pid ≤ 9999) opening.scenario.tasks (λ k d under. (playable.tasks k d under).pid.1) in
     let first = first_pid-le opening.scenario.tasks 9999 0 (omega arith) each in
-    let up = next_pid-fold_of opening history playable.few_tasks low in
+    omega (arith, next_pid-fold_of opening history playable.few_tasks low, first, few)
+
+pub rows_for : (entries : ℕ) (opening : Opening) (history : History) (tasks : List TaskTimes) (cookies : List CookieTimes) → IsPlayable opening.scenario → length history ≤ entries →
+    tasks ≡ (sums_so_far entries opening history).tasks → cookies ≡ (sums_so_far entries opening history).cookies →
+    All (λ (task : Task). (task.spec.pid < length tasks) × (task.cookie < length cookies)) (fold_of opening history).tasks
+rows_for entries opening history tasks cookies playable few are be =
+    let room = fold_of opening history in
+    let spans = spans_of opening history in
+    let long : length tasks ≡ entries + 10000 = ap length are ∙ length-map-range_with_len (task_times 0 spans) 0 (pids_for entries) in
+    let wide : length cookies ≡ entries + 1 = ap length be ∙ length-map-range_with_len (cookie_times spans) 0 (cookies_for entries) in
+    let low : opening.scenario.task_limit ≤ 256 = playable.task_limit.1 in
+    let up = next_pid-le entries opening history playable few in
     let on = next_cookie-fold_of opening history playable.few_tasks low in
     All-from_recursion (λ (task : Task). (task.spec.pid < length tasks) × (task.cookie < length cookies)) room.tasks
-    (both_below (length tasks) (length cookies) room.next_pid room.next_cookie room.tasks (omega (arith, long, up, first, few)) (omega (arith, wide, on, few))
-    (below_end 0 room.next_pid room.tasks (rises_of opening history playable)).1 (bound-fold_of opening history playable).1)
+    (both_below (length tasks) (length cookies) room.next_pid room.next_cookie room.tasks (omega (arith, long, up)) (omega (arith, wide, on, few))
+    (pids_below room (rises_of opening history playable)) (bound-fold_of opening history playable).1)
 
 -- ---- the sums fit
 
@@ -233,11 +232,11 @@ time_of-le opening history does cookie playable events =
     (omega (arith, playable.few_tasks, length-asleep_tasks opening.scenario.tasks)) playable.task_limit.1
     (λ room. few_kept (λ (task : Task). (task.cookie == cookie) && does (doing_of room task)) room.tasks)
 
-pub room_for_lived : (steps : ℕ) (opening : Opening) (history : History) (tasks : List TaskTimes) (time most : ℕ) → AreEvents opening history → length history < 2 ^ 34 → time ≤ 1000000000 →
-    tasks ≡ (sums_so_far steps opening history).tasks → 1000000000 * 2 ^ 34 ≤ most → All (λ (times : TaskTimes). lived times + time ≤ most) tasks
-room_for_lived steps opening history tasks time most events few short are fits = λ k none under.
+pub room_for_lived : (entries : ℕ) (opening : Opening) (history : History) (tasks : List TaskTimes) (time most : ℕ) → AreEvents opening history → length history < 2 ^ 34 → time ≤ 1000000000 →
+    tasks ≡ (sums_so_far entries opening history).tasks → 1000000000 * 2 ^ 34 ≤ most → All (λ (times : TaskTimes). lived times + time ≤ most) tasks
+room_for_lived entries opening history tasks time most events few short are fits = λ k none under.
     let spans = spans_of opening history in
-    let same : lived (get_or tasks k none) ≡ lived (task_times 0 spans k) = ap lived (row_at (task_times 0 spans) (pids_for steps) tasks are k none under) in
+    let same : lived (get_or tasks k none) ≡ lived (task_times 0 spans k) = ap lived (row_at (task_times 0 spans) (pids_for entries) tasks are k none under) in
     omega (
       arith,
       same,
@@ -250,13 +249,13 @@ room_for_lived steps opening history tasks time most events few short are fits =
       fits,
     )
 
-pub room_for_had : (steps : ℕ) (opening : Opening) (history : History) (cookies : List CookieTimes) (time most : ℕ) → IsPlayable opening.scenario → AreEvents opening history →
+pub room_for_had : (entries : ℕ) (opening : Opening) (history : History) (cookies : List CookieTimes) (time most : ℕ) → IsPlayable opening.scenario → AreEvents opening history →
     length history < 2 ^ 34 → time ≤ 1000000000 →
-    cookies ≡ (sums_so_far steps opening history).cookies → 768000000000 * 2 ^ 34 ≤ most →
+    cookies ≡ (sums_so_far entries opening history).cookies → 768000000000 * 2 ^ 34 ≤ most →
     All (λ (times : CookieTimes). had times + time * length (fold_of opening history).tasks ≤ most) cookies
-room_for_had steps opening history cookies time most playable events few short are fits = λ k none under.
+room_for_had entries opening history cookies time most playable events few short are fits = λ k none under.
     let spans = spans_of opening history in
-    let same : had (get_or cookies k none) ≡ had (cookie_times spans k) = ap had (row_at (cookie_times spans) (cookies_for steps) cookies are k none under) in
+    let same : had (get_or cookies k none) ≡ had (cookie_times spans k) = ap had (row_at (cookie_times spans) (cookies_for entries) cookies are k none under) in
     omega (
       arith,
       same,

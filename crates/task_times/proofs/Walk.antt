@@ -28,13 +28,13 @@ abbrev pub next_view : RoomState → ℕ → Option TaskView
 next_view room pid = option_map (task_view room) (task_after room pid)
 
 -- the task that is next, by what is shown of it
-record IsNext (room : RoomState) (pid : ℕ) (view : TaskView) : Type 0 where
+pub record IsNext (room : RoomState) (pid : ℕ) (view : TaskView) : Type 0 where
   pub task : Task
   pub shown : view ≡ task_view room task
   pub lives : task_of room task.spec.pid ≡ Some task
   pub first : above room pid ≡ task ∷ above room task.spec.pid
 
-next_of : (room : RoomState) (pid : ℕ) (view : TaskView) → AreRising room → Some view ≡ next_view room pid → IsNext room pid view
+pub next_of : (room : RoomState) (pid : ℕ) (view : TaskView) → AreRising room → Some view ≡ next_view room pid → IsNext room pid view
 next_of room pid view rises shown = go (task_after room pid) refl shown where
   go : (found : Option Task) → task_after room pid ≡ found → Some view ≡ option_map (task_view room) found → IsNext room pid view
   go None e is = absurd cc
@@ -62,6 +62,15 @@ next_row room pids cookies pid view rows shown = go (task_after room pid) refl s
       let its : view ≡ task_view room task = cc in
       subst (λ (v : TaskView). (v.pid < pids) × (v.cookie < cookies)) (sym its)
       (each_found (λ (t : Task). (t.spec.pid < pids) × (t.cookie < cookies)) (is_above pid) room.tasks task e (recursion_from_All (λ (t : Task). (t.spec.pid < pids) × (t.cookie < cookies)) room.tasks rows))
+
+pub next_pid_row : (room : RoomState) (pids pid : ℕ) (view : TaskView) → All (λ (task : Task). task.spec.pid < pids) room.tasks → Some view ≡ next_view room pid → view.pid < pids
+next_pid_row room pids pid view rows shown = go (task_after room pid) refl shown where
+  go : (found : Option Task) → task_after room pid ≡ found → Some view ≡ option_map (task_view room) found → view.pid < pids
+  go None e is = absurd cc
+  go (Some task) e is =
+      let its : view ≡ task_view room task = cc in
+      subst (λ (v : TaskView). v.pid < pids) (sym its)
+      (each_found (λ (t : Task). t.spec.pid < pids) (is_above pid) room.tasks task e (recursion_from_All (λ (t : Task). t.spec.pid < pids) room.tasks rows))
 
 does_it : (room : RoomState) (pid : ℕ) (view : TaskView) (doing : TaskDoing) → (next : IsNext room pid view) → Some doing ≡ doing_at room view.pid → doing ≡ doing_of room next.task
 does_it room pid view doing next is =
@@ -133,7 +142,7 @@ parts_step room pid view doing rises shown does time rows new k none few is =
     ∙ ap (λ (left : List Task). with_doers_in room left k time (get_or rows k none)) (sym next.first)
 
 -- at the end none are left
-none_above : (room : RoomState) (pid : ℕ) → None ≡ next_view room pid → above room pid ≡ []
+pub none_above : (room : RoomState) (pid : ℕ) → None ≡ next_view room pid → above room pid ≡ []
 none_above room pid shown = go (task_after room pid) refl shown where
   go : (found : Option Task) → task_after room pid ≡ found → None ≡ option_map (task_view room) found → above room pid ≡ []
   go None e is = above_none pid room.tasks e

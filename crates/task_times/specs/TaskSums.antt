@@ -4,6 +4,7 @@ use Rattle.std.specs.List.{range_with_len}
 use Rattle.std.specs.Option.{option_map_or}
 use Rattle.cs_types.specs.Room.{Opening, RoomState}
 use Rattle.cs_types.specs.History.{History, fold_of}
+use Rattle.cs_types.specs.View.{forced_of}
 use Rattle.run_times.specs.Times.{Span, spans_of, time_in}
 use Rattle.task_times.specs.declared.doing.TaskDoing.{TaskDoing}
 use Rattle.task_times.specs.declared.doing.TaskDoing.TheVariants.{Runs, Waits, Sleeps}
@@ -57,36 +58,36 @@ had times = times.ran + times.waited + times.slept
 
 -- what is told of the tasks of a run
 pub record TaskSums : Type 0 where
-  -- how many steps there is room for
-  pub steps : ℕ
+  -- how many entries there is room for
+  pub entries : ℕ
   -- the times of each task, by its pid
   pub tasks : List TaskTimes
   -- the times of the tasks of each cookie, by its number
   pub cookies : List CookieTimes
 
--- how many pids and cookies there can be with so many steps: a pid of a scenario is at most 9999, and a step makes one more at most
+-- how many pids and cookies there can be with so many entries: a pid of a scenario is at most 9999, and an entry makes one more at most
 abbrev pub pids_for : ℕ → ℕ
-pids_for steps = steps + 10000
+pids_for entries = entries + 10000
 
 abbrev pub cookies_for : ℕ → ℕ
-cookies_for steps = steps + 1
+cookies_for entries = entries + 1
 
 -- the sums in these spans, by what each task was charged
 abbrev pub sums_in : ℕ → (ℕ → ℕ) → List Span → TaskSums
-sums_in steps charged spans =
+sums_in entries charged spans =
     record {
-      steps = steps;
-      tasks = map (λ pid. task_times (charged pid) spans pid) (range_with_len 0 (pids_for steps));
-      cookies = map (cookie_times spans) (range_with_len 0 (cookies_for steps));
+      entries = entries;
+      tasks = map (λ pid. task_times (charged pid) spans pid) (range_with_len 0 (pids_for entries));
+      cookies = map (cookie_times spans) (range_with_len 0 (cookies_for entries));
     }
 
 -- the sums of a history that goes on: what tasks are charged is told at its end
 abbrev pub sums_so_far : ℕ → Opening → History → TaskSums
-sums_so_far steps opening history = sums_in steps (λ pid. 0) (spans_of opening history)
+sums_so_far entries opening history = sums_in entries (λ pid. 0) (spans_of opening history)
 
 -- the sums of a history at its end
 abbrev pub sums_of : ℕ → Opening → History → TaskSums
-sums_of steps opening history = sums_in steps (charged_in (fold_of opening history)) (spans_of opening history)
+sums_of entries opening history = sums_in entries (charged_in (fold_of opening history)) (spans_of opening history)
 
 -- ---- one span more
 
@@ -123,3 +124,13 @@ with_doers room cookie time times =
       waited = times.waited + time * length (doers waits cookie room);
       slept = times.slept + time * length (doers sleeps cookie room);
     }
+
+-- ---- what tasks are charged
+
+-- the times of a task with what it was charged
+abbrev pub with_charge : ℕ → TaskTimes → TaskTimes
+with_charge charged times = record times { charged = charged }
+
+-- the times of a task, with what it was charged in a room where that is to be told
+abbrev pub charged_where : Bool → RoomState → ℕ → TaskTimes → TaskTimes
+charged_where told room pid times = if told then with_charge (forced_of room pid) times else times

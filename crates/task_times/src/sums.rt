@@ -1,6 +1,8 @@
 //! The times of the tasks of a run, as it goes on.
 
-ghost use Rattle.std.specs.Prelude.{◌≡◌, ◌+◌, ◌-◌, ◌*◌, ◌^◌, ◌<◌, ◌≤◌, ℕ, [], ◌∷◌, ◌++◌, length, All, IfOk, Some, slice_index_or, slice_set};
+ghost use Rattle.std.specs.Prelude.{◌≡◌, ◌+◌, ◌-◌, ◌*◌, ◌^◌, ◌<◌, ◌≤◌, ℕ, [], ◌∷◌, ◌++◌, length, All, IfOk, Some, ◌==◌, slice_index_or, slice_set};
+ghost use Rattle.std.specs.List.{list_any};
+ghost use Rattle.cs_types.specs.Room.{has_pid};
 ghost use Rattle.cs_types.specs.declared.reply.Entry.{Entry};
 ghost use Rattle.cs_types.specs.Scenario.{IsEvent, IsPlayable};
 ghost use Rattle.cs_types.specs.History.{fold_of, AreEvents};
@@ -32,7 +34,7 @@ impl Model for RunTasks {
     ghost Value = { TaskSums };
 
     ghost view = { λ times. record {
-      steps = length times.cookies.items - 1;
+      entries = length times.cookies.items - 1;
       tasks = times.tasks.items;
       cookies = times.cookies.items;
     } };
@@ -87,15 +89,64 @@ fn add_to_each<R: Room>(
     }
 }
 
+/// Notes what each living task was charged.
+fn charge_living<R: Room>(tasks: &mut [TaskTimes], room: &R)
+    requires playable { IsPlayable (R.opening room.now).scenario }
+    requires rows { All (λ task. task.spec.pid < length tasks.old) (fold_of (R.opening room.now) (R.history room.now)).tasks }
+    ensures { let state = fold_of (R.opening room.now) (R.history room.now) in
+        (pid : ℕ) (none : TaskTimes) → pid < length tasks.old →
+        slice_index_or tasks.new pid none
+        ≡ sums.charged_where (list_any (has_pid pid) state.tasks) state pid (slice_index_or tasks.old pid none) }
+{
+    let mut pid = 0;
+    while let Some(task) = room.task_after(pid) {
+        tasks[task.pid as usize].charge(task.forced);
+        pid = task.pid;
+    }
+}
+
+/// Notes what each task that ended was charged.
+fn charge_ended<R: Room>(tasks: &mut [TaskTimes], room: &R)
+    requires rows { All (λ pid. pid < length tasks.old) (fold_of (R.opening room.now) (R.history room.now)).ended }
+    requires few { length (fold_of (R.opening room.now) (R.history room.now)).ended < 2 ^ 35 }
+    ensures { let state = fold_of (R.opening room.now) (R.history room.now) in
+        (pid : ℕ) (none : TaskTimes) → pid < length tasks.old →
+        slice_index_or tasks.new pid none
+        ≡ sums.charged_where (list_any (λ other. other == pid) state.ended) state pid (slice_index_or tasks.old pid none) }
+{
+    let mut place = 0;
+    while let Some(end) = room.ended(place) {
+        tasks[end.pid as usize].charge(end.forced);
+        place += 1;
+    }
+}
+
+/// Notes what each task was charged, whether it lives or ended.
+fn charge_each<R: Room>(tasks: &mut [TaskTimes], room: &R)
+    requires playable { IsPlayable (R.opening room.now).scenario }
+    requires rows { All (λ task. task.spec.pid < length tasks.old) (fold_of (R.opening room.now) (R.history room.now)).tasks }
+    requires ended { All (λ pid. pid < length tasks.old) (fold_of (R.opening room.now) (R.history room.now)).ended }
+    requires few { length (fold_of (R.opening room.now) (R.history room.now)).ended < 2 ^ 35 }
+    ensures { let state = fold_of (R.opening room.now) (R.history room.now) in
+        (pid : ℕ) (none : TaskTimes) → pid < length tasks.old →
+        slice_index_or tasks.new pid none
+        ≡ sums.charged_where (list_any (λ other. other == pid) state.ended) state pid
+            (sums.charged_where (list_any (has_pid pid) state.tasks) state pid (slice_index_or tasks.old pid none)) }
+{
+    charge_living(tasks, room);
+    charge_ended(tasks, room);
+}
+
 impl RunTasks {
-    /// The times before the first advance of a run with at most this number of steps.
-    pub fn open(alloc: Global, steps: usize) -> Result<Self, AllocError>
-        requires { steps < 2 ^ 34 }
-        ensures { IfOk result (λ times. times ≡ sums.sums_in steps (λ pid. 0) []) }
+    /// The times before the first advance, with room for this number of entries: those of the steps, and those of the end
+    /// where these are told too.
+    pub fn open(alloc: Global, entries: usize) -> Result<Self, AllocError>
+        requires { entries < 2 ^ 34 }
+        ensures { IfOk result (λ times. times ≡ sums.sums_in entries (λ pid. 0) []) }
     {
         Ok(RunTasks {
-            tasks: vec![in alloc; TaskTimes::none(); steps + 10000]?,
-            cookies: vec![in alloc; CookieTimes::none(); steps + 1]?,
+            tasks: vec![in alloc; TaskTimes::none(); entries + 10000]?,
+            cookies: vec![in alloc; CookieTimes::none(); entries + 1]?,
         })
     }
 
@@ -103,12 +154,12 @@ impl RunTasks {
     fn advance<R: Room>(&mut self, room: &R, time: u64)
         requires playable { IsPlayable (R.opening room.now).scenario }
         requires events { AreEvents (R.opening room.now) (R.history room.now) }
-        requires times { self.old ≡ sums.sums_so_far self.old.steps (R.opening room.now) (R.history room.now) }
-        requires few { length (R.history room.now) ≤ self.old.steps }
+        requires times { self.old ≡ sums.sums_so_far self.old.entries (R.opening room.now) (R.history room.now) }
+        requires few { length (R.history room.now) ≤ self.old.entries }
         requires fits { length (R.history room.now) < 2 ^ 34 }
         requires time { time ≤ 1000000000 }
         ensures { (entry : Entry) → span.advance_of entry.event ≡ Some time →
-            self.new ≡ sums.sums_so_far self.old.steps (R.opening room.now) (R.history room.now ++ entry ∷ []) }
+            self.new ≡ sums.sums_so_far self.old.entries (R.opening room.now) (R.history room.now ++ entry ∷ []) }
     {
         add_to_each(
             self.tasks.as_mut_slice(),
@@ -119,20 +170,32 @@ impl RunTasks {
     }
 
     /// Takes in an event that is to be made next in the room, whoever makes it. The room has to be the one whose times
-    /// these are, and may have made as many steps as there is room for.
+    /// these are, and may have made as many entries as there is room for.
     pub fn before<R: Room>(&mut self, room: &R, event: Event)
         requires playable { IsPlayable (R.opening room.now).scenario }
         requires events { AreEvents (R.opening room.now) (R.history room.now) }
         requires event { IsEvent (R.opening room.now).scenario.siblings event }
-        requires times { self.old ≡ sums.sums_so_far self.old.steps (R.opening room.now) (R.history room.now) }
-        requires few { length (R.history room.now) ≤ self.old.steps }
+        requires times { self.old ≡ sums.sums_so_far self.old.entries (R.opening room.now) (R.history room.now) }
+        requires few { length (R.history room.now) ≤ self.old.entries }
         requires fits { length (R.history room.now) < 2 ^ 34 }
         ensures { (entry : Entry) → entry.event ≡ event →
-            self.new ≡ sums.sums_so_far self.old.steps (R.opening room.now) (R.history room.now ++ entry ∷ []) }
+            self.new ≡ sums.sums_so_far self.old.entries (R.opening room.now) (R.history room.now ++ entry ∷ []) }
     {
         if let Some(time) = advance_of(event) {
             self.advance(room, time);
         }
+    }
+
+    /// Notes what each task was charged, at the end of a run. The room has to be the one whose times these are, and may
+    /// have made as many entries as there is room for.
+    pub fn close<R: Room>(&mut self, room: &R)
+        requires playable { IsPlayable (R.opening room.now).scenario }
+        requires times { self.old ≡ sums.sums_so_far self.old.entries (R.opening room.now) (R.history room.now) }
+        requires few { length (R.history room.now) ≤ self.old.entries }
+        requires fits { length (R.history room.now) < 2 ^ 35 }
+        ensures { self.new ≡ sums.sums_of self.old.entries (R.opening room.now) (R.history room.now) }
+    {
+        charge_each(self.tasks.as_mut_slice(), room);
     }
 
     /// The times of each task, by its pid.

@@ -1,7 +1,7 @@
 //! The times of one task, and of the tasks of one cookie.
 
-ghost use Rattle.std.specs.Prelude.{◌≡◌, ◌+◌, ◌≤◌, [], Some};
-ghost use Rattle.task_times.specs.TaskSums.{task_times, cookie_times, lived, part, with_one, with_span};
+ghost use Rattle.std.specs.Prelude.{◌≡◌, ◌+◌, ◌≤◌, [], Some, nat_lt};
+ghost use Rattle.task_times.specs.TaskSums.{task_times, cookie_times, lived, had, part, with_one, with_span, with_charge};
 
 use crate::doing::TaskDoing;
 
@@ -55,12 +55,18 @@ impl TaskTimes {
         }
     }
 
-    /// For how long it lived, in ns.
-    pub fn lived(&self) -> u64
-        requires { lived self.now ≤ u64.MAX }
-        ensures { result ≡ lived self.now }
+    /// Notes what it was charged.
+    pub(crate) fn charge(&mut self, charged: u64)
+        ensures { self.new ≡ with_charge charged self.old }
     {
-        self.ran + self.waited + self.slept
+        self.charged = charged;
+    }
+
+    /// Whether it lived for some time.
+    pub fn has_lived(&self) -> bool
+        ensures { result ≡ nat_lt 0 (lived self.now) }
+    {
+        self.ran > 0 || self.waited > 0 || self.slept > 0
     }
 }
 
@@ -86,5 +92,12 @@ impl CookieTimes {
             TaskDoing::Waits => self.waited += u128::from(time),
             TaskDoing::Sleeps => self.slept += u128::from(time),
         }
+    }
+
+    /// Whether some task had the cookie for some time.
+    pub fn was_had(&self) -> bool
+        ensures { result ≡ nat_lt 0 (had self.now) }
+    {
+        self.ran > 0 || self.waited > 0 || self.slept > 0
     }
 }

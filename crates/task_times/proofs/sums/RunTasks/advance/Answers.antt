@@ -30,12 +30,12 @@ returns g c = λ entry is.
     let history = g.R.Room.history c.args.room.now in
     let room = fold_of opening history in
     let inside = c.self.inside in
-    let old : TaskSums = record { steps = length inside.cookies.items - 1; tasks = inside.tasks.items; cookies = inside.cookies.items } in
+    let old : TaskSums = record { entries = length inside.cookies.items - 1; tasks = inside.tasks.items; cookies = inside.cookies.items } in
     let long : length c.add_to_each.new.tasks ≡ length inside.tasks.items = omega (arith, ap length c.as_mut_slice.ensures.value, c.add_to_each.auto.tasks) in
     let wide : length c.add_to_each.new.cookies ≡ length inside.cookies.items = omega (arith, ap length c.as_mut_slice-2.ensures.value, c.add_to_each.auto.cookies) in
     let rows = with_items_is inside.tasks c.add_to_each.new.tasks (long ∙ sym inside.tasks.ok.0) in
     let parts = with_items_is inside.cookies c.add_to_each.new.cookies (wide ∙ sym inside.cookies.ok.0) in
-    (λ i. record { steps = length (parts i) - 1; tasks = rows i; cookies = parts i })
+    (λ i. record { entries = length (parts i) - 1; tasks = rows i; cookies = parts i })
     ∙ sums_so_far-advance _ opening history c.args.time old c.add_to_each.new.tasks c.add_to_each.new.cookies entry is
     (c.self.view_is ∙ c.requires.times) long wide
     (subst

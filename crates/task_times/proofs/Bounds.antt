@@ -1,4 +1,4 @@
--- CookieBound: after every history each living task has a cookie below the next.
+-- Bounds: after every history each living task has a cookie below the next, and each that ended a pid below the next.
 use Rattle.std.proofs.Common.{◌≡◌, ◌≢◌, ℕ, zero, suc, ◌+◌, ◌<◌, ◌≤◌, Bool, cond, true, false, List, [], ◌∷◌, ◌++◌, map, length, refl, sym, ap, ◌∙◌, subst, arith, Option, Some, None}
 use Rattle.std.specs.Prelude.{ℤ, pos, negsuc, find, filter, fold, not, ◌==◌, ◌&&◌, ◌||◌}
 use Rattle.std.specs.List.{AllByRecursion, list_any}
@@ -30,16 +30,20 @@ use Rattle.cs_types.proofs.Filtered.{each-filter, each_found}
 use Rattle.cs_types.proofs.Foremost.{each_weaker}
 use Rattle.cs_types.proofs.Homes.{running_is_found, stolen_is}
 use Rattle.cs_types.proofs.Inserted.{each-inserted}
-use Rattle.cs_types.proofs.Rising.{AreRising, rising-step}
+use Rattle.cs_types.proofs.Rising.{Rises, AreRising, rising-step}
 use Rattle.run_times.proofs.Shown.{rises_of}
 
 -- each of these tasks has a cookie below the number
 abbrev AreBelow : ℕ → List Task → Type 0
 AreBelow next tasks = AllByRecursion (λ (task : Task). task.cookie < next) tasks
 
--- the next cookie is no task's, and not 0
+-- each of these pids is below the number
+abbrev ArePast : ℕ → List ℕ → Type 0
+ArePast next pids = AllByRecursion (λ (pid : ℕ). pid < next) pids
+
+-- The next cookie is no task's, and not 0. The next pid is none's that ended.
 abbrev pub IsBound : RoomState → Type 0
-IsBound room = (0 < room.next_cookie) × AreBelow room.next_cookie room.tasks
+IsBound room = (0 < room.next_cookie) × AreBelow room.next_cookie room.tasks × ArePast room.next_pid room.ended
 
 -- ---- lists of tasks
 
@@ -47,6 +51,28 @@ IsBound room = (0 < room.next_cookie) × AreBelow room.next_cookie room.tasks
 below-map : (f : Task → Task) (next : ℕ) → ((task : Task) → task.cookie < next → (f task).cookie < next) → (tasks : List Task) → AreBelow next tasks → AreBelow next (map f tasks)
 below-map f next keeps [] below = tt
 below-map f next keeps (task ∷ tasks) below = (keeps task below.0, below-map f next keeps tasks below.1)
+
+past-push : (next : ℕ) (pids : List ℕ) (pid : ℕ) → ArePast next pids → pid < next → ArePast next (pids ++ pid ∷ [])
+past-push next [] pid past low = (low, tt)
+past-push next (other ∷ pids) pid past low = (past.0, past-push next pids pid past.1 low)
+
+past_wider : (next more : ℕ) (pids : List ℕ) → next ≤ more → ArePast next pids → ArePast more pids
+past_wider next more [] le past = tt
+past_wider next more (pid ∷ pids) le past = (omega (arith, le, past.0), past_wider next more pids le past.1)
+
+-- the pids of the living are below the next
+below_end : (low high : ℕ) (tasks : List Task) → Rises low high tasks → (low < high) × AllByRecursion (λ (task : Task). task.spec.pid < high) tasks
+below_end low high [] rises = (rises, tt)
+below_end low high (task ∷ tasks) rises =
+    let rest = below_end task.spec.pid high tasks rises.1 in
+    (omega (arith, rises.0, rest.0), (rest.0, rest.1))
+
+pub pids_below : (room : RoomState) → AreRising room → AllByRecursion (λ (task : Task). task.spec.pid < room.next_pid) room.tasks
+pids_below room rises = (below_end 0 room.next_pid room.tasks rises).1
+
+running_pid : (room : RoomState) (cpu : ℕ) → AreRising room → (task : Task) → running_on room cpu ≡ Some task → task.spec.pid < room.next_pid
+running_pid room cpu rises task found =
+    each_found (λ (t : Task). t.spec.pid < room.next_pid) (has_pid task.spec.pid) room.tasks task (running_is_found room cpu task found).1 (pids_below room rises)
 
 -- the cookie of a found task
 below_found : (room : RoomState) (pid : ℕ) → IsBound room → (task : Task) → task_of room pid ≡ Some task → task.cookie < room.next_cookie
@@ -62,13 +88,14 @@ bound-with_task room task low bound = (
   bound.0,
   below-map (λ other. cond (has_pid task.spec.pid other) task other) room.next_cookie
       (λ other below. cond_both (has_pid task.spec.pid other) task other (λ (t : Task). t.cookie < room.next_cookie) (λ _. low) (λ _. below)) room.tasks bound.1,
+  bound.2,
 )
 
 bound-pick_anew : (room : RoomState) (cpu : ℕ) → IsBound room → IsBound (pick_anew room cpu).room
 unfolding select_for
 bound-pick_anew room cpu bound =
     cond_both (is_plain room cpu) (pick_plain room cpu) (select room cpu) (λ made. IsBound made.room) (λ _. bound)
-    (λ _. (bound.0, below-map (task_after_selection room _) room.next_cookie (λ task below. below) room.tasks bound.1))
+    (λ _. (bound.0, below-map (task_after_selection room _) room.next_cookie (λ task below. below) room.tasks bound.1, bound.2))
 
 bound-adopt_or_pick_anew : (room : RoomState) (fresh : Bool) (cpu : ℕ) (waiting : Option (Option ℕ)) → IsBound room → IsBound (adopt_or_pick_anew room fresh cpu waiting).room
 bound-adopt_or_pick_anew room fresh cpu None bound = bound-pick_anew (charge room) cpu bound
@@ -94,12 +121,15 @@ bound-block room cpu None low bound = bound
 bound-block room cpu (Some task) low bound =
     bound-schedule (run_idle (dequeue (charge room) task) cpu) false cpu (bound-with_task room (record task { queued = false }) (low task refl) bound)
 
-bound-exit : (room : RoomState) (cpu : ℕ) (task : Option Task) → IsBound room → IsBound (exit room cpu task).room
-bound-exit room cpu None bound = bound
-bound-exit room cpu (Some task) bound =
+bound-exit : (room : RoomState) (cpu : ℕ) (task : Option Task) → ((t : Task) → task ≡ Some t → t.spec.pid < room.next_pid) → IsBound room → IsBound (exit room cpu task).room
+bound-exit room cpu None low bound = bound
+bound-exit room cpu (Some task) low bound =
     cond_both (has_threads room task) _ _ (λ (made : Stepped). IsBound made.room) (λ _. bound)
-    (λ _. bound-schedule (run_idle (without (charge room) task) cpu) false cpu
-    (bound.0, each-filter (λ (t : Task). t.cookie < room.next_cookie) (λ other. not (has_pid task.spec.pid other)) room.tasks bound.1))
+    (λ _. bound-schedule (run_idle (without (charge room) task) cpu) false cpu (
+      bound.0,
+      each-filter (λ (t : Task). t.cookie < room.next_cookie) (λ other. not (has_pid task.spec.pid other)) room.tasks bound.1,
+      past-push room.next_pid room.ended task.spec.pid bound.2 (low task refl),
+    ))
 
 cookie-refreshed_by : (room : RoomState) (policy : Policy) (task : Task) → (refreshed_by room policy task).cookie ≡ task.cookie
 cookie-refreshed_by room Stop task = refl
@@ -126,7 +156,7 @@ bound-fork room thread (Some caller) low bound =
     let child = child_of caller thread room.next_pid in
     cond_both (may_not_fork room caller) _ _ (λ (made : Stepped). IsBound made.room) (λ _. bound)
     (λ _. bound-queue_at_home (with_child room child) (child_at_home room child) (low caller refl)
-    (bound.0, each-inserted (λ (t : Task). t.cookie < room.next_cookie) child room.tasks (low caller refl) bound.1))
+    (bound.0, each-inserted (λ (t : Task). t.cookie < room.next_cookie) child room.tasks (low caller refl) bound.1, past_wider room.next_pid (room.next_pid + 1) room.ended (omega arith) bound.2))
 
 bound-tick : (room : RoomState) (cpu : ℕ) (task : Option Task) → ((t : Task) → task ≡ Some t → t.cookie < room.next_cookie) → IsBound room → IsBound (tick room cpu task).room
 bound-tick room cpu None low bound = bound
@@ -146,6 +176,7 @@ bound-advanced room delta bound = (
   below-map (grown room delta) room.next_cookie
       (λ task below. cond_both (is_running room task) _ _ (λ (t : Task). t.cookie < room.next_cookie)
       (λ _. subst (λ (n : ℕ). n < room.next_cookie) (sym (cookie-grown_by delta task.spec.policy task)) below) (λ _. below)) room.tasks bound.1,
+  bound.2,
 )
 
 bound-unless_offline : (room : RoomState) (cpu : ℕ) (stepped : Stepped) → IsBound room → IsBound stepped.room → IsBound (unless_offline room cpu stepped).room
@@ -169,6 +200,7 @@ bound-take_offline room cpu bound =
       bound.0,
       below-map (moved_off room cpu) room.next_cookie
           (λ task below. cond_both (task.queued && (task.home == cpu)) _ _ (λ (t : Task). t.cookie < room.next_cookie) (λ _. below) (λ _. below)) room.tasks bound.1,
+      bound.2,
     )))
 
 bound-bring_online : (room : RoomState) (cpu : ℕ) → IsBound room → IsBound (bring_online room cpu).room
@@ -246,7 +278,7 @@ bound-prctl room pid ask bound = go (prctl_answer room pid ask) refl where
   more = cond_both (makes_cookie room pid ask) (room.next_cookie + 1) room.next_cookie (λ m. room.next_cookie ≤ m) (λ _. omega arith) (λ _. omega arith)
 
   kept : IsBound made
-  kept = (omega (arith, bound.0, more), each_weaker (λ (t : Task). t.cookie < room.next_cookie) (λ (t : Task). t.cookie < made.next_cookie) room.tasks (λ t below. omega (arith, below, more)) bound.1)
+  kept = (omega (arith, bound.0, more), each_weaker (λ (t : Task). t.cookie < room.next_cookie) (λ (t : Task). t.cookie < made.next_cookie) room.tasks (λ t below. omega (arith, below, more)) bound.1, bound.2)
 
   go : (answer : Reply) → prctl_answer room pid ask ≡ answer → IsBound (with_answer made (setting_of room pid ask) answer)
   go Zero answered = (
@@ -254,6 +286,7 @@ bound-prctl room pid ask bound = go (prctl_answer room pid ask) refl where
     below-map (λ (task : Task). cond (is_set (setting_of room pid ask) task.spec.pid) (record task { cookie = (setting_of room pid ask).cookie }) task) made.next_cookie
         (λ task below. cond_both (is_set (setting_of room pid ask) task.spec.pid) (record task { cookie = (setting_of room pid ask).cookie }) task (λ (t : Task). t.cookie < made.next_cookie)
         (λ _. below_set room pid ask bound answered) (λ _. below)) room.tasks kept.1,
+    kept.2,
   )
   go answer other = kept
 
@@ -263,7 +296,7 @@ bound-step : (room : RoomState) (fresh : Bool) (event : Event) → AreRising roo
 bound-step room fresh (Turn cpu) rises bound = bound-unless_offline room cpu _ bound (bound-turn room fresh cpu rises bound)
 bound-step room fresh (Resched cpu) rises bound = bound-unless_offline room cpu _ bound (bound-schedule room fresh cpu bound)
 bound-step room fresh (Block cpu) rises bound = bound-unless_offline room cpu _ bound (bound-block room cpu (running_on room cpu) (below_running room cpu bound) bound)
-bound-step room fresh (Exit cpu) rises bound = bound-unless_offline room cpu _ bound (bound-exit room cpu (running_on room cpu) bound)
+bound-step room fresh (Exit cpu) rises bound = bound-unless_offline room cpu _ bound (bound-exit room cpu (running_on room cpu) (running_pid room cpu rises) bound)
 bound-step room fresh (Tick cpu) rises bound = bound-unless_offline room cpu _ bound (bound-tick room cpu (running_on room cpu) (below_running room cpu bound) bound)
 bound-step room fresh (SetSched pid policy) rises bound = bound-set_policy room policy (task_of room pid) (below_found room pid bound) bound
 bound-step room fresh (Offline cpu) rises bound = bound-take_offline room cpu bound
@@ -289,4 +322,4 @@ none_yet tasks (spec ∷ specs) below = none_yet (inserted (asleep spec) tasks) 
 -- After every history each living task has a cookie below the next.
 pub bound-fold_of : (opening : Opening) (history : History) → IsPlayable opening.scenario → IsBound (fold_of opening history)
 bound-fold_of opening history playable =
-    bound-after (beginning opening) history (rises_of opening [] playable) (omega arith, none_yet [] opening.scenario.tasks tt)
+    bound-after (beginning opening) history (rises_of opening [] playable) (omega arith, none_yet [] opening.scenario.tasks tt, tt)
