@@ -158,8 +158,9 @@ ended_rows entries opening history most playable few is =
     All-from_recursion (λ (pid : ℕ). pid < most) room.ended
     (each_weaker (λ (pid : ℕ). pid < room.next_pid) (λ (pid : ℕ). pid < most) room.ended (λ pid below. omega (arith, below, up, is)) (bound-fold_of opening history playable).2)
 
-pub ended_few : (opening : Opening) (history : History) → IsPlayable opening.scenario → length history < 2 ^ 35 → length (fold_of opening history).ended < 2 ^ 35
-ended_few opening history playable few = omega (arith, ended-fold_of opening history playable.few_tasks playable.task_limit.1, few)
+pub ended_few : (entries : ℕ) (opening : Opening) (history : History) → IsPlayable opening.scenario → length history ≤ entries → entries < 2 ^ 26 →
+    length (fold_of opening history).ended < 2 ^ 26
+ended_few entries opening history playable few fits = omega (arith, ended-fold_of opening history playable.few_tasks playable.task_limit.1, few, fits)
 
 pub tasks_long : (entries : ℕ) (opening : Opening) (history : History) (tasks : List TaskTimes) → tasks ≡ (sums_so_far entries opening history).tasks → length tasks ≡ pids_for entries
 tasks_long entries opening history tasks is = ap length is ∙ length-map-range_with_len (task_times 0 (spans_of opening history)) 0 (pids_for entries)

@@ -1,7 +1,7 @@
 -- Summed: the sums of a history, with one advance more.
 use Rattle.std.proofs.Common.{◌≡◌, ℕ, ◌+◌, ◌*◌, ◌<◌, ◌≤◌, ◌^◌, ◌-◌, Bool, true, false, cond, List, [], ◌∷◌, ◌++◌, map, length, get_or, refl, sym, ap, ◌∙◌, subst, zero-add, arith, Option, Some, None}
 use Rattle.std.specs.Option.{option_map, option_map_or, option_to_list}
-use Rattle.std.specs.Prelude.{is_some, All, replicate, fold, max, sum_by, ◌==◌, ◌&&◌}
+use Rattle.std.specs.Prelude.{is_some, All, replicate, filter, fold, max, sum_by, ◌==◌, ◌&&◌}
 use Rattle.std.specs.List.{AllByRecursion, range_with_len}
 use Rattle.std.proofs.lemmas.Nat.{mul-le}
 use Rattle.std.proofs.lemmas.List.{length-replicate, get_or-replicate}
@@ -26,10 +26,10 @@ use Rattle.task_times.specs.declared.doing.TaskDoing.{TaskDoing}
 use Rattle.task_times.specs.declared.doing.TaskDoing.TheVariants.{Runs, Waits, Sleeps}
 use Rattle.task_times.specs.declared.times.TaskTimes.{TaskTimes}
 use Rattle.task_times.specs.declared.times.CookieTimes.{CookieTimes}
-use Rattle.task_times.specs.Living.{lives, doing_of, doing_at, runs, waits, sleeps, doers}
+use Rattle.task_times.specs.Living.{lives, doing_of, doing_at, runs, waits, sleeps, holders, doers}
 use Rattle.task_times.specs.TaskSums.{does_so, task_times, lived, time_by, time_of, cookie_times, had, TaskSums, pids_for, cookies_for, sums_in, sums_so_far, with_span, with_doers}
 use Rattle.task_times.proofs.Bounds.{bound-fold_of, pids_below}
-use Rattle.task_times.proofs.Walked.{few_kept}
+use Rattle.task_times.proofs.Walked.{doers_in, few_kept}
 
 -- ---- one span more
 
@@ -223,17 +223,57 @@ time_by-le siblings moment (entry ∷ entries) number limits few low counts =
       sum_by-append (λ (span : Span). span.time * number span.room) (span_of moment.room entry.event) (spans_from (next moment entry) entries),
     )
 
--- So have the tasks of a cookie not more than all tasks.
-time_of-le : (opening : Opening) (history : History) (does : TaskDoing → Bool) (cookie : ℕ) → IsPlayable opening.scenario → AreEvents opening history →
-    time_of does cookie (spans_of opening history) ≤ 256000000000 * length history
-time_of-le opening history does cookie playable events =
-    time_by-le opening.scenario.siblings (beginning opening) history (λ room. length (doers does cookie room))
+-- ---- the tasks of a cookie
+
+-- each of these that has it does one of the three
+by_doings : (room : RoomState) (cookie : ℕ) (tasks : List Task) →
+    length (doers_in room tasks runs cookie) + length (doers_in room tasks waits cookie) + length (doers_in room tasks sleeps cookie) ≡ length (filter (λ task. task.cookie == cookie) tasks)
+by_doings room cookie [] = refl
+by_doings room cookie (task ∷ tasks) = go (task.cookie == cookie) (doing_of room task) (by_doings room cookie tasks) where
+  count : (TaskDoing → Bool) → Bool → TaskDoing → ℕ
+  count does test doing = length (cond (test && does doing) (task ∷ doers_in room tasks does cookie) (doers_in room tasks does cookie))
+
+  rest : List Task
+  rest = filter (λ task. task.cookie == cookie) tasks
+
+  go : (test : Bool) (doing : TaskDoing) →
+      length (doers_in room tasks runs cookie) + length (doers_in room tasks waits cookie) + length (doers_in room tasks sleeps cookie) ≡ length rest →
+      count runs test doing + count waits test doing + count sleeps test doing ≡ length (cond test (task ∷ rest) rest)
+  go true Runs so_far = omega (arith, so_far)
+  go true Waits so_far = omega (arith, so_far)
+  go true Sleeps so_far = omega (arith, so_far)
+  go false doing so_far = so_far
+
+times_three : (time a b c d : ℕ) → a + b + c ≡ d → time * a + time * b + time * c ≡ time * d
+times_three time a b c d is = (let all : time * a + time * b + time * c ≡ time * (a + b + c) = grind arith in all) ∙ ap (λ n. time * n) is
+
+-- What the tasks of a cookie ran, waited and slept adds up to the time of each of them while it had it.
+pub had-cookie_times : (spans : List Span) (cookie : ℕ) → had (cookie_times spans cookie) ≡ time_by (λ room. length (holders cookie room)) spans
+had-cookie_times [] cookie = refl
+had-cookie_times (span ∷ spans) cookie =
+    omega (
+      arith,
+      had-cookie_times spans cookie,
+      times_three span.time (length (doers runs cookie span.room)) (length (doers waits cookie span.room)) (length (doers sleeps cookie span.room)) (length (holders cookie span.room))
+          (by_doings span.room cookie span.room.tasks),
+      sum_by-cons (λ (s : Span). s.time * length (doers runs cookie s.room)) span spans,
+      sum_by-cons (λ (s : Span). s.time * length (doers waits cookie s.room)) span spans,
+      sum_by-cons (λ (s : Span). s.time * length (doers sleeps cookie s.room)) span spans,
+      sum_by-cons (λ (s : Span). s.time * length (holders cookie s.room)) span spans,
+    )
+
+-- It is no more than that of all tasks.
+had-le : (opening : Opening) (history : History) (cookie : ℕ) → IsPlayable opening.scenario → AreEvents opening history →
+    had (cookie_times (spans_of opening history) cookie) ≤ 256000000000 * length history
+had-le opening history cookie playable events =
+    subst (λ (n : ℕ). n ≤ 256000000000 * length history) (sym (had-cookie_times (spans_of opening history) cookie))
+    (time_by-le opening.scenario.siblings (beginning opening) history (λ room. length (holders cookie room))
     (recursion_from_All (λ (entry : Entry). IsEvent opening.scenario.siblings entry.event) history events)
     (omega (arith, playable.few_tasks, length-asleep_tasks opening.scenario.tasks)) playable.task_limit.1
-    (λ room. few_kept (λ (task : Task). (task.cookie == cookie) && does (doing_of room task)) room.tasks)
+    (λ room. few_kept (λ (task : Task). task.cookie == cookie) room.tasks))
 
-pub room_for_lived : (entries : ℕ) (opening : Opening) (history : History) (tasks : List TaskTimes) (time most : ℕ) → AreEvents opening history → length history < 2 ^ 34 → time ≤ 1000000000 →
-    tasks ≡ (sums_so_far entries opening history).tasks → 1000000000 * 2 ^ 34 ≤ most → All (λ (times : TaskTimes). lived times + time ≤ most) tasks
+pub room_for_lived : (entries : ℕ) (opening : Opening) (history : History) (tasks : List TaskTimes) (time most : ℕ) → AreEvents opening history → length history < 2 ^ 26 → time ≤ 1000000000 →
+    tasks ≡ (sums_so_far entries opening history).tasks → 1000000000 * 2 ^ 26 ≤ most → All (λ (times : TaskTimes). lived times + time ≤ most) tasks
 room_for_lived entries opening history tasks time most events few short are fits = λ k none under.
     let spans = spans_of opening history in
     let same : lived (get_or tasks k none) ≡ lived (task_times 0 spans k) = ap lived (row_at (task_times 0 spans) (pids_for entries) tasks are k none under) in
@@ -250,8 +290,8 @@ room_for_lived entries opening history tasks time most events few short are fits
     )
 
 pub room_for_had : (entries : ℕ) (opening : Opening) (history : History) (cookies : List CookieTimes) (time most : ℕ) → IsPlayable opening.scenario → AreEvents opening history →
-    length history < 2 ^ 34 → time ≤ 1000000000 →
-    cookies ≡ (sums_so_far entries opening history).cookies → 768000000000 * 2 ^ 34 ≤ most →
+    length history < 2 ^ 26 → time ≤ 1000000000 →
+    cookies ≡ (sums_so_far entries opening history).cookies → 256000000000 * 2 ^ 26 ≤ most →
     All (λ (times : CookieTimes). had times + time * length (fold_of opening history).tasks ≤ most) cookies
 room_for_had entries opening history cookies time most playable events few short are fits = λ k none under.
     let spans = spans_of opening history in
@@ -259,9 +299,7 @@ room_for_had entries opening history cookies time most playable events few short
     omega (
       arith,
       same,
-      time_of-le opening history runs k playable events,
-      time_of-le opening history waits k playable events,
-      time_of-le opening history sleeps k playable events,
+      had-le opening history k playable events,
       mul-le time (length (fold_of opening history).tasks) 1000000000 256 short (omega (arith, few-fold_of opening history playable.few_tasks, playable.task_limit.1)),
       few,
       fits,

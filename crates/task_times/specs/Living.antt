@@ -33,7 +33,11 @@ abbrev pub sleeps : TaskDoing → Bool
 sleeps Sleeps = true
 sleeps doing = false
 
--- the living tasks that have a cookie, 0 for none, and do what the test says
+-- the living tasks that have a cookie, 0 for none
+abbrev pub holders : ℕ → RoomState → List Task
+holders cookie room = filter (λ task. task.cookie == cookie) room.tasks
+
+-- those of them that do what the test says
 abbrev pub doers : (TaskDoing → Bool) → ℕ → RoomState → List Task
 doers does cookie room = filter (λ task. (task.cookie == cookie) && does (doing_of room task)) room.tasks
 

@@ -51,7 +51,7 @@ fn add_to_one(
     requires task { task.pid < length tasks.old }
     requires cookie { task.cookie < length cookies.old }
     requires lived { (none : TaskTimes) → sums.lived (slice_index_or tasks.old task.pid none) + time ≤ u64.MAX }
-    requires part { (none : CookieTimes) → sums.part doing (slice_index_or cookies.old task.cookie none) + time ≤ u128.MAX }
+    requires part { (none : CookieTimes) → sums.part doing (slice_index_or cookies.old task.cookie none) + time ≤ u64.MAX }
     ensures tasks { (none : TaskTimes) →
         tasks.new ≡ slice_set tasks.old task.pid (sums.with_span (Some doing) time (slice_index_or tasks.old task.pid none)) }
     ensures cookies { (none : CookieTimes) →
@@ -73,7 +73,7 @@ fn add_to_each<R: Room>(
     requires rows { All (λ task. (task.spec.pid < length tasks.old) × (task.cookie < length cookies.old))
         (fold_of (R.opening room.now) (R.history room.now)).tasks }
     requires lived { All (λ times. sums.lived times + time ≤ u64.MAX) tasks.old }
-    requires had { All (λ times. sums.had times + time * length (fold_of (R.opening room.now) (R.history room.now)).tasks ≤ u128.MAX) cookies.old }
+    requires had { All (λ times. sums.had times + time * length (fold_of (R.opening room.now) (R.history room.now)).tasks ≤ u64.MAX) cookies.old }
     ensures tasks { (pid : ℕ) (none : TaskTimes) → pid < length tasks.old →
         slice_index_or tasks.new pid none
         ≡ sums.with_span (living.doing_at (fold_of (R.opening room.now) (R.history room.now)) pid) time (slice_index_or tasks.old pid none) }
@@ -108,7 +108,7 @@ fn charge_living<R: Room>(tasks: &mut [TaskTimes], room: &R)
 /// Notes what each task that ended was charged.
 fn charge_ended<R: Room>(tasks: &mut [TaskTimes], room: &R)
     requires rows { All (λ pid. pid < length tasks.old) (fold_of (R.opening room.now) (R.history room.now)).ended }
-    requires few { length (fold_of (R.opening room.now) (R.history room.now)).ended < 2 ^ 35 }
+    requires few { length (fold_of (R.opening room.now) (R.history room.now)).ended < 2 ^ 26 }
     ensures { let state = fold_of (R.opening room.now) (R.history room.now) in
         (pid : ℕ) (none : TaskTimes) → pid < length tasks.old →
         slice_index_or tasks.new pid none
@@ -126,7 +126,7 @@ fn charge_each<R: Room>(tasks: &mut [TaskTimes], room: &R)
     requires playable { IsPlayable (R.opening room.now).scenario }
     requires rows { All (λ task. task.spec.pid < length tasks.old) (fold_of (R.opening room.now) (R.history room.now)).tasks }
     requires ended { All (λ pid. pid < length tasks.old) (fold_of (R.opening room.now) (R.history room.now)).ended }
-    requires few { length (fold_of (R.opening room.now) (R.history room.now)).ended < 2 ^ 35 }
+    requires few { length (fold_of (R.opening room.now) (R.history room.now)).ended < 2 ^ 26 }
     ensures { let state = fold_of (R.opening room.now) (R.history room.now) in
         (pid : ℕ) (none : TaskTimes) → pid < length tasks.old →
         slice_index_or tasks.new pid none
@@ -141,7 +141,7 @@ impl RunTasks {
     /// The times before the first advance, with room for this number of entries: those of the steps, and those of the end
     /// where these are told too.
     pub fn open(alloc: Global, entries: usize) -> Result<Self, AllocError>
-        requires { entries < 2 ^ 34 }
+        requires { entries < 2 ^ 26 }
         ensures { IfOk result (λ times. times ≡ sums.sums_in entries (λ pid. 0) []) }
     {
         Ok(RunTasks {
@@ -156,7 +156,7 @@ impl RunTasks {
         requires events { AreEvents (R.opening room.now) (R.history room.now) }
         requires times { self.old ≡ sums.sums_so_far self.old.entries (R.opening room.now) (R.history room.now) }
         requires few { length (R.history room.now) ≤ self.old.entries }
-        requires fits { length (R.history room.now) < 2 ^ 34 }
+        requires fits { self.old.entries < 2 ^ 26 }
         requires time { time ≤ 1000000000 }
         ensures { (entry : Entry) → span.advance_of entry.event ≡ Some time →
             self.new ≡ sums.sums_so_far self.old.entries (R.opening room.now) (R.history room.now ++ entry ∷ []) }
@@ -177,7 +177,7 @@ impl RunTasks {
         requires event { IsEvent (R.opening room.now).scenario.siblings event }
         requires times { self.old ≡ sums.sums_so_far self.old.entries (R.opening room.now) (R.history room.now) }
         requires few { length (R.history room.now) ≤ self.old.entries }
-        requires fits { length (R.history room.now) < 2 ^ 34 }
+        requires fits { self.old.entries < 2 ^ 26 }
         ensures { (entry : Entry) → entry.event ≡ event →
             self.new ≡ sums.sums_so_far self.old.entries (R.opening room.now) (R.history room.now ++ entry ∷ []) }
     {
@@ -192,7 +192,7 @@ impl RunTasks {
         requires playable { IsPlayable (R.opening room.now).scenario }
         requires times { self.old ≡ sums.sums_so_far self.old.entries (R.opening room.now) (R.history room.now) }
         requires few { length (R.history room.now) ≤ self.old.entries }
-        requires fits { length (R.history room.now) < 2 ^ 35 }
+        requires fits { self.old.entries < 2 ^ 26 }
         ensures { self.new ≡ sums.sums_of self.old.entries (R.opening room.now) (R.history room.now) }
     {
         charge_each(self.tasks.as_mut_slice(), room);

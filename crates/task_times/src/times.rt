@@ -23,11 +23,11 @@ pub struct TaskTimes {
 #[derive(Clone, Copy)]
 pub struct CookieTimes {
     /// Siblings ran them.
-    pub ran: u128,
+    pub ran: u64,
     /// They were queued, and no sibling ran them.
-    pub waited: u128,
+    pub waited: u64,
     /// They were not queued.
-    pub slept: u128,
+    pub slept: u64,
 }
 
 impl TaskTimes {
@@ -84,13 +84,13 @@ impl CookieTimes {
 
     /// Adds the time of an advance for one task, by what it did before it.
     pub(crate) fn add(&mut self, doing: TaskDoing, time: u64)
-        requires { part doing self.old + time ≤ u128.MAX }
+        requires { part doing self.old + time ≤ u64.MAX }
         ensures { self.new ≡ with_one doing time self.old }
     {
         match doing {
-            TaskDoing::Runs => self.ran += u128::from(time),
-            TaskDoing::Waits => self.waited += u128::from(time),
-            TaskDoing::Sleeps => self.slept += u128::from(time),
+            TaskDoing::Runs => self.ran += time,
+            TaskDoing::Waits => self.waited += time,
+            TaskDoing::Sleeps => self.slept += time,
         }
     }
 

@@ -16,12 +16,12 @@ add_to_each-requires-clause-rows g c =
 
 pub add_to_each-requires-clause-lived : goal.add_to_each-requires-clause-lived
 add_to_each-requires-clause-lived g c =
-    room_for_lived _ (g.R.Room.opening c.args.room.now) (g.R.Room.history c.args.room.now) _ c.args.time _ c.requires.events c.requires.fits c.requires.time
+    room_for_lived _ (g.R.Room.opening c.args.room.now) (g.R.Room.history c.args.room.now) _ c.args.time _ c.requires.events (omega (arith, c.requires.few, c.requires.fits)) c.requires.time
     (c.as_mut_slice.ensures.value ∙ ap (λ (s : TaskSums). s.tasks) (c.self.view_is ∙ c.requires.times)) (omega arith)
 
 pub add_to_each-requires-clause-had : goal.add_to_each-requires-clause-had
 add_to_each-requires-clause-had g c =
-    room_for_had _ (g.R.Room.opening c.args.room.now) (g.R.Room.history c.args.room.now) _ c.args.time _ c.requires.playable c.requires.events c.requires.fits c.requires.time
+    room_for_had _ (g.R.Room.opening c.args.room.now) (g.R.Room.history c.args.room.now) _ c.args.time _ c.requires.playable c.requires.events (omega (arith, c.requires.few, c.requires.fits)) c.requires.time
     (c.as_mut_slice-2.ensures.value ∙ ap (λ (s : TaskSums). s.cookies) (c.self.view_is ∙ c.requires.times)) (omega arith)
 
 pub returns : goal.returns

@@ -23,7 +23,7 @@ charge_each-requires-clause-ended g c =
 
 pub charge_each-requires-clause-few : goal.charge_each-requires-clause-few
 charge_each-requires-clause-few g c =
-    ended_few (g.R.Room.opening c.args.room.now) (g.R.Room.history c.args.room.now) c.requires.playable c.requires.fits
+    ended_few _ (g.R.Room.opening c.args.room.now) (g.R.Room.history c.args.room.now) c.requires.playable c.requires.few c.requires.fits
 
 pub returns : goal.returns
 returns g c =
