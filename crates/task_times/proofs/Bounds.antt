@@ -1,6 +1,6 @@
 -- Bounds: after every history each living task has a cookie below the next, and each that ended a pid below the next.
-use Rattle.std.proofs.Common.{◌≡◌, ◌≢◌, ℕ, zero, suc, ◌+◌, ◌<◌, ◌≤◌, Bool, cond, true, false, List, [], ◌∷◌, ◌++◌, map, length, refl, sym, ap, ◌∙◌, subst, arith, Option, Some, None}
-use Rattle.std.specs.Prelude.{ℤ, pos, negsuc, find, filter, fold, not, ◌==◌, ◌&&◌, ◌||◌}
+use Rattle.std.proofs.Common.{◌≡◌, ◌≢◌, ℕ, zero, suc, ◌+◌, ◌<◌, ◌≤◌, Bool, cond, true, false, List, [], ◌∷◌, ◌++◌, map, length, refl, sym, ap, subst, arith, Option, Some, None}
+use Rattle.std.specs.Prelude.{ℤ, pos, negsuc, fold, not, ◌==◌, ◌&&◌, ◌||◌}
 use Rattle.std.specs.List.{AllByRecursion, list_any}
 use Rattle.std.specs.Option.{option_map_or, option_and_then}
 use Rattle.std.proofs.lemmas.Bool.{cond_both, and_from}
@@ -15,9 +15,9 @@ use Rattle.cs_types.specs.declared.reply.Reply.{Reply}
 use Rattle.cs_types.specs.declared.reply.Reply.TheVariants.{Zero}
 use Rattle.cs_types.specs.declared.reply.Entry.{Entry}
 use Rattle.cs_types.specs.Scenario.{IsPlayable}
-use Rattle.cs_types.specs.Room.{Opening, RoomState, has_pid, sibling_of, running_on, is_online, online, task_of, asleep, inserted, with_task, start}
+use Rattle.cs_types.specs.Room.{Opening, RoomState, has_pid, sibling_of, running_on, is_online, online, task_of, asleep, inserted, with_task}
 use Rattle.cs_types.specs.Selection.{task_after_selection, select_for, select, pick_plain, is_plain, pick_anew, adopt_or_pick_anew, schedule}
-use Rattle.cs_types.specs.Prctl.{Row, first_answer, rows_before_making, rows_after_making, asked_by_call, Setting, setting_by, setting_of, target_of, named_by, members, is_set, is_create, is_share_from, makes_cookie, with_used, with_answer, prctl_answer, prctl_room}
+use Rattle.cs_types.specs.Prctl.{Row, first_answer, rows_before_making, rows_after_making, asked_by_call, Setting, setting_by, setting_of, target_of, named_by, is_set, is_create, is_share_from, makes_cookie, with_used, with_answer, prctl_answer, prctl_room}
 use Rattle.cs_types.specs.Step.{Stepped, step, wake, block, exit, fork, turn, without, has_threads, child_of, child_at_home, may_not_fork, with_child, tick, run_idle, try_steal, unless_offline, with_policy, set_policy, take_offline, bring_online}
 use Rattle.cs_types.specs.Queueing.{refreshed, refreshed_by, dequeue, moved_to, rehomed, queue_at_home}
 use Rattle.cs_types.specs.Steal.{stolen}

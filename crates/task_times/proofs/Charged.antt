@@ -1,7 +1,7 @@
 -- Charged: what each task was charged, noted one by one.
-use Rattle.std.proofs.Common.{◌≡◌, ℕ, zero, suc, ◌+◌, ◌^◌, ◌<◌, ◌≤◌, Bool, true, false, cond, List, [], ◌∷◌, map, length, get_or, set, drop, refl, sym, ap, ◌∙◌, subst, arith, Option, Some, None}
+use Rattle.std.proofs.Common.{◌≡◌, ℕ, zero, suc, ◌+◌, ◌^◌, ◌<◌, ◌≤◌, Bool, true, false, cond, List, [], ◌∷◌, length, get_or, set, drop, refl, sym, ap, ◌∙◌, subst, arith, Some, None}
 use Rattle.std.specs.Prelude.{All, slice_get, ◌==◌, ◌||◌}
-use Rattle.std.specs.List.{AllByRecursion, list_any, range_with_len}
+use Rattle.std.specs.List.{AllByRecursion, list_any}
 use Rattle.std.specs.Option.{option_map}
 use Rattle.std.proofs.lemmas.Bool.{both_ways, eq-eqb, eqb-true}
 use Rattle.std.proofs.lemmas.List.{get_or-set_same, get_or-set_other}
@@ -21,10 +21,10 @@ use Rattle.run_times.specs.Times.{Span, spans_of}
 use Rattle.run_times.proofs.Shown.{rises_of}
 use Rattle.task_times.specs.declared.times.TaskTimes.{TaskTimes}
 use Rattle.task_times.specs.Living.{charged_in}
-use Rattle.task_times.specs.TaskSums.{TaskSums, task_times, pids_for, sums_in, sums_so_far, sums_of, with_charge, charged_where}
+use Rattle.task_times.specs.TaskSums.{TaskSums, task_times, pids_for, sums_so_far, sums_of, with_charge, charged_where}
 use Rattle.task_times.proofs.Bounds.{bound-fold_of, pids_below}
 use Rattle.task_times.proofs.Summed.{next_pid-le, rows-push}
-use Rattle.task_times.proofs.Walk.{above, next_view, IsNext, next_of, none_above}
+use Rattle.task_times.proofs.Walk.{above, next_view, next_of, none_above}
 
 -- one more pid is noted, and the rest is to be
 charge_step : (room : RoomState) (pid k : ℕ) (rest : Bool) (rows : List TaskTimes) (none : TaskTimes) → pid < length rows →

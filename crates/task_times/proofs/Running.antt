@@ -1,6 +1,6 @@
 -- Running: only the home of a task can run it.
-use Rattle.std.proofs.Common.{◌≡◌, ℕ, ◌<◌, ◌≤◌, Bool, true, false, cond, ltb, zero, suc, length, get_or, refl, sym, ap, ◌∙◌, subst, inl, inr, arith, Option, Some, None}
-use Rattle.std.specs.Prelude.{◌==◌, unwrap_or, All, Contains, IfSome}
+use Rattle.std.proofs.Common.{◌≡◌, ℕ, ◌<◌, Bool, true, false, cond, ltb, zero, suc, length, get_or, refl, sym, ap, ◌∙◌, subst, inl, inr, arith, Option, Some, None}
+use Rattle.std.specs.Prelude.{◌==◌, unwrap_or, Contains, IfSome}
 use Rattle.std.specs.Option.{option_map, option_map_or}
 use Rattle.std.proofs.lemmas.Bool.{cases_Bool, cond-true, both_ways, false_from_ne_true, ne_eqb, eqb-true, ltb-true, ltb-false}
 use Rattle.std.proofs.lemmas.List.{get_or_default, get_or_past}
@@ -13,13 +13,12 @@ use Rattle.cs_types.specs.Room.{RoomState, SiblingState, absent, task_of, queued
 use Rattle.cs_types.specs.Selection.{is_run}
 use Rattle.cs_types.specs.Time.{is_running}
 use Rattle.cs_types.specs.History.{Moment}
-use Rattle.cs_types.specs.Laws.{pids_on, IsConsistentAt}
+use Rattle.cs_types.specs.Laws.{pids_on}
 use Rattle.cs_types.specs.View.{cpu_view, task_view}
 use Rattle.cs_types.proofs.Foremost.{each_weaker}
 use Rattle.cs_types.proofs.Homes.{IsQueuedOn, each_queued}
 use Rattle.cs_types.proofs.Rising.{AreRising}
 use Rattle.run_times.proofs.Shown.{shown_at, shown_cpu, shown_zero}
-use Rattle.task_times.specs.declared.doing.TaskDoing.{TaskDoing}
 use Rattle.task_times.specs.declared.doing.TaskDoing.TheVariants.{Runs, Waits, Sleeps}
 use Rattle.task_times.specs.Living.{doing_of, doing_at}
 

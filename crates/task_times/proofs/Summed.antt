@@ -1,7 +1,7 @@
 -- Summed: the sums of a history, with one advance more.
 use Rattle.std.proofs.Common.{◌≡◌, ℕ, ◌+◌, ◌*◌, ◌<◌, ◌≤◌, ◌^◌, ◌-◌, Bool, true, false, cond, List, [], ◌∷◌, ◌++◌, map, length, get_or, refl, sym, ap, ◌∙◌, subst, zero-add, arith, Option, Some, None}
 use Rattle.std.specs.Option.{option_map, option_map_or, option_to_list}
-use Rattle.std.specs.Prelude.{is_some, All, replicate, filter, fold, max, sum_by, ◌==◌, ◌&&◌}
+use Rattle.std.specs.Prelude.{is_some, All, replicate, filter, fold, max, ◌==◌, ◌&&◌}
 use Rattle.std.specs.List.{AllByRecursion, range_with_len}
 use Rattle.std.proofs.lemmas.Nat.{mul-le}
 use Rattle.std.proofs.lemmas.List.{length-replicate, get_or-replicate}
@@ -13,13 +13,12 @@ use Rattle.cs_types.specs.declared.task.TaskSpec.{TaskSpec}
 use Rattle.cs_types.specs.declared.event.Event.{Event}
 use Rattle.cs_types.specs.declared.reply.Entry.{Entry}
 use Rattle.cs_types.specs.Scenario.{IsEvent, IsPlayable}
-use Rattle.cs_types.specs.Room.{Opening, RoomState, task_of, first_pid}
+use Rattle.cs_types.specs.Room.{Opening, RoomState, task_of}
 use Rattle.cs_types.specs.Touches.{is_fresh}
 use Rattle.cs_types.specs.History.{History, Moment, beginning, next, fold_of, AreEvents}
 use Rattle.cs_types.proofs.Numbers.{next_pid-fold_of, next_cookie-fold_of}
-use Rattle.cs_types.proofs.Rising.{Rises}
 use Rattle.cs_types.proofs.Tasks.{few-step, few-fold_of, length-asleep_tasks}
-use Rattle.run_times.specs.Times.{Span, advance_of, span_of, spans_from, spans_of, total_time, time_in}
+use Rattle.run_times.specs.Times.{Span, advance_of, span_of, spans_from, spans_of, time_in}
 use Rattle.run_times.proofs.Shown.{rises_of}
 use Rattle.run_times.proofs.Spans.{one_span, spans_of-advance, spans_of-still, advance_of-le, total_time-le, time_in-push, time_in-cons, time_in-most}
 use Rattle.task_times.specs.declared.doing.TaskDoing.{TaskDoing}
@@ -27,7 +26,7 @@ use Rattle.task_times.specs.declared.doing.TaskDoing.TheVariants.{Runs, Waits, S
 use Rattle.task_times.specs.declared.times.TaskTimes.{TaskTimes}
 use Rattle.task_times.specs.declared.times.CookieTimes.{CookieTimes}
 use Rattle.task_times.specs.Living.{lives, doing_of, doing_at, runs, waits, sleeps, holders, doers}
-use Rattle.task_times.specs.TaskSums.{does_so, task_times, lived, time_by, time_of, cookie_times, had, TaskSums, pids_for, cookies_for, sums_in, sums_so_far, with_span, with_doers}
+use Rattle.task_times.specs.TaskSums.{does_so, task_times, lived, time_by, cookie_times, had, TaskSums, pids_for, cookies_for, sums_in, sums_so_far, with_span, with_doers}
 use Rattle.task_times.proofs.Bounds.{bound-fold_of, pids_below}
 use Rattle.task_times.proofs.Walked.{doers_in, few_kept}
 
@@ -99,9 +98,9 @@ sums_so_far-advance entries opening history time old tasks cookies entry is was 
     let their = ap (λ (s : TaskSums). s.tasks) was in
     let own = ap (λ (s : TaskSums). s.cookies) was in
     let rows = rows-push (task_times 0 spans) (task_times 0 (spans ++ one_span room time)) (λ pid. with_span (doing_at room pid) time) (task_times-push spans room time) (pids_for entries)
-        old.tasks tasks (task_times 0 [] 0) their long each in
+    old.tasks tasks (task_times 0 [] 0) their long each in
     let parts = rows-push (cookie_times spans) (cookie_times (spans ++ one_span room time)) (λ cookie. with_doers room cookie time) (cookie_times-push spans room time) (cookies_for entries)
-        old.cookies cookies (cookie_times [] 0) own wide all in
+    old.cookies cookies (cookie_times [] 0) own wide all in
     let many : length cookies - 1 ≡ entries = (let count = ap length parts ∙ length-map-range_with_len (cookie_times (spans ++ one_span room time)) 0 (cookies_for entries) in omega (arith, count)) in
     (λ i. record { entries = many i; tasks = rows i; cookies = parts i })
     ∙ ap (sums_in entries (λ pid. 0)) (sym (spans_of-advance opening history entry time is))
@@ -215,7 +214,7 @@ time_by-le siblings moment [] number limits few low counts = omega arith
 time_by-le siblings moment (entry ∷ entries) number limits few low counts =
     let made = few-step moment.room (is_fresh moment.ledger) entry.event in
     let rest = time_by-le siblings (next moment entry) entries number limits.1
-        (subst (λ (n : ℕ). length (next moment entry).room.tasks ≤ n) (sym made.limit) (made.few few)) (omega (arith, low, made.limit)) counts in
+    (subst (λ (n : ℕ). length (next moment entry).room.tasks ≤ n) (sym made.limit) (made.few few)) (omega (arith, low, made.limit)) counts in
     omega (
       arith,
       rest,

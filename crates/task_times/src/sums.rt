@@ -62,12 +62,7 @@ fn add_to_one(
 }
 
 /// Adds the time of an advance to each living task and to its cookie, by what it does in the room before it.
-fn add_to_each<R: Room>(
-    tasks: &mut [TaskTimes],
-    cookies: &mut [CookieTimes],
-    room: &R,
-    time: u64,
-)
+fn add_to_each<R: Room>(tasks: &mut [TaskTimes], cookies: &mut [CookieTimes], room: &R, time: u64)
     requires playable { IsPlayable (R.opening room.now).scenario }
     requires events { AreEvents (R.opening room.now) (R.history room.now) }
     requires rows { All (λ task. (task.spec.pid < length tasks.old) × (task.cookie < length cookies.old))
@@ -131,7 +126,7 @@ fn charge_each<R: Room>(tasks: &mut [TaskTimes], room: &R)
         (pid : ℕ) (none : TaskTimes) → pid < length tasks.old →
         slice_index_or tasks.new pid none
         ≡ sums.charged_where (list_any (λ other. other == pid) state.ended) state pid
-            (sums.charged_where (list_any (has_pid pid) state.tasks) state pid (slice_index_or tasks.old pid none)) }
+        (sums.charged_where (list_any (has_pid pid) state.tasks) state pid (slice_index_or tasks.old pid none)) }
 {
     charge_living(tasks, room);
     charge_ended(tasks, room);

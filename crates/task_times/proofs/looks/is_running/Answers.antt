@@ -1,4 +1,4 @@
-use Rattle.std.proofs.Common.{Some, None, sym, ◌∙◌, subst, arith}
+use Rattle.std.proofs.Common.{Some, None, arith}
 use Rattle.cs_types.specs.History.{moment_of}
 use Rattle.cs_types.proofs.Siblings.{length-fold_of}
 use Rattle.run_times.proofs.Shown.{rises_of}

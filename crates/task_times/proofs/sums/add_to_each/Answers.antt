@@ -1,4 +1,4 @@
-use Rattle.std.proofs.Common.{get_or, sym, ap, ◌∙◌, arith}
+use Rattle.std.proofs.Common.{get_or, ◌∙◌, arith}
 use Rattle.cs_types.specs.History.{fold_of}
 use Rattle.run_times.proofs.Shown.{rises_of, next_above}
 use Rattle.task_times.proofs.Walk.{next_shown, next_row, next_has_room, next_part_fits, rows_start, parts_start, rows_step, parts_step, rows_end, parts_end}

@@ -1,4 +1,4 @@
-use Rattle.std.proofs.Common.{◌<◌, length, get_or, set, ap, ◌∙◌, refl, arith}
+use Rattle.std.proofs.Common.{◌<◌, length, set, ap, ◌∙◌, refl, arith}
 use Rattle.std.proofs.lemmas.List.{get_or_default}
 use Rattle.cs_types.specs.History.{fold_of}
 use Rattle.task_times.specs.TaskSums.{with_charge}

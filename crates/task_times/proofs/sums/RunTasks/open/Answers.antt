@@ -1,5 +1,3 @@
-use Rattle.std.proofs.Common.{ap, ◌∙◌}
-use Rattle.std.specs.Prelude.{replicate}
 use Rattle.task_times.proofs.Summed.{sums_in-none}
 use Rattle.task_times.proofs.sums.RunTasks.open.Goals as goal
 
