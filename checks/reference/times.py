@@ -1,7 +1,7 @@
 #!/usr/bin/env python3
 """Compares `coresched_view summary` of the built program with what the rules as reference.py has them come to: how each run
 ends, and every time of it. A room of the reference is played, and before each advance it is looked at what each sibling
-does. Half of the texts are mutated, so that faulty ones are among them. And it is tried which words are refused.
+and each task does. Half of the texts are mutated, so that faulty ones are among them. And it is tried which words are refused.
 
 Usage: times.py                            prints the summary of the scenario on standard input
        times.py --program PATH --count N --seed S    compares N random scenarios and as many mutated texts
@@ -13,6 +13,7 @@ import random
 import subprocess
 import sys
 import time
+from collections import Counter
 
 sys.path.insert(0, os.path.dirname(os.path.abspath(__file__)))
 import fuzz
@@ -45,10 +46,18 @@ def replies(room):
     return 'replies ' + ' '.join('%s %d' % count for count in counts)
 
 
+def task_doing(room, task):
+    """What a living task does, in the word of its time."""
+    if any(sibling.run is task for sibling in room.sib):
+        return 'ran'
+    return 'waited' if task.queued else 'slept'
+
+
 def summary(scenario):
     """The text of what is told of a scenario's replay."""
     room = reference.Room(scenario, check=False)
     siblings = [dict.fromkeys(['ran', 'idle', 'offline', 'cookie', 'none', 'pending'], 0) for _ in room.sib]
+    tasks, cookies = {}, {}
     exposed = lasting = longest = pending = total = 0
     pairs = {}
     for _, event, text in scenario.steps:
@@ -58,21 +67,31 @@ def summary(scenario):
             for sibling, times in zip(room.sib, siblings):
                 times[doing(room, sibling)] += delta
                 times['pending'] += delta * (sibling.online and sibling.pending)
+            for task in room.tasks.values():
+                for times in tasks.setdefault(task.pid, Counter()), cookies.setdefault(task.cookie, Counter()):
+                    times[task_doing(room, task)] += delta
             pending += delta * any(sibling.online and sibling.pending for sibling in room.sib)
-            cookies = sorted({sibling.run.cookie for sibling in room.sib if sibling.online and sibling.run is not None})
-            is_exposed = len(cookies) > 1
-            for pair in itertools.combinations(cookies, 2):
+            running = sorted({sibling.run.cookie for sibling in room.sib if sibling.online and sibling.run is not None})
+            is_exposed = len(running) > 1
+            for pair in itertools.combinations(running, 2):
                 pairs[pair] = pairs.get(pair, 0) + delta
             exposed += delta * is_exposed
             lasting = lasting + delta if is_exposed else 0
             longest = max(longest, lasting)
         room.apply(event, text)
     room.drain()
+    charged = {task.pid: task.total for task in list(room.tasks.values()) + room.ended}
     lines = []
     for cpu, times in enumerate(siblings):
         assert sum(times.values()) - times['pending'] == total, 'what a sibling did adds up to all time'
         lines.append('cpu %d ran %d idle %d offline %d pending %d' % (cpu, *(times[of] for of in ('ran', 'idle', 'offline', 'pending'))))
         lines.append('forced %d cookie %d none %d' % (cpu, times['cookie'], times['none']))
+    for pid, times in sorted(tasks.items()):
+        if pid in room.tasks and any(pid == line[0] for line in scenario.tasks):
+            assert sum(times.values()) == total, 'a task of the scenario that lives at the end lived all the time'
+        lines.append('task %d ran %d waited %d slept %d charged %d' % (pid, times['ran'], times['waited'], times['slept'], charged[pid]))
+    for cookie, times in sorted(cookies.items()):
+        lines.append('cookie %d ran %d waited %d slept %d' % (cookie, times['ran'], times['waited'], times['slept']))
     assert exposed <= pending, 'tasks with distinct cookies run side by side only where a reschedule is pending'
     assert all(0 < time <= exposed for time in pairs.values()), 'a pair is exposed for no longer than the core is'
     lines.append('exposed %d longest %d' % (exposed, longest))
