@@ -4,3 +4,4 @@ pub mod Walk
 pub mod Bounds
 pub mod Summed
 pub mod Charged
+pub mod Always

@@ -65,7 +65,7 @@ rows-push {X = X} f g more step n old new none was long each =
     ∙ sym (step k))
 
 -- the row of one of them
-row_at : {X : Type 0} (f : ℕ → X) (n : ℕ) (rows : List X) → rows ≡ map f (range_with_len 0 n) → (k : ℕ) (none : X) → k < length rows → get_or rows k none ≡ f k
+pub row_at : {X : Type 0} (f : ℕ → X) (n : ℕ) (rows : List X) → rows ≡ map f (range_with_len 0 n) → (k : ℕ) (none : X) → k < length rows → get_or rows k none ≡ f k
 row_at {X = X} f n rows was k none few =
     let many : length rows ≡ n = ap length was ∙ length-map-range_with_len f 0 n in
     ap (λ (xs : List X). get_or xs k none) was ∙ get_or-map-range_with_len f 0 n k k none (omega (arith, many, few)) (zero-add k)

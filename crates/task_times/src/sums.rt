@@ -1,6 +1,6 @@
 //! The times of the tasks of a run, as it goes on.
 
-ghost use Rattle.std.specs.Prelude.{◌≡◌, ◌+◌, ◌-◌, ◌*◌, ◌^◌, ◌<◌, ◌≤◌, ℕ, [], ◌∷◌, ◌++◌, length, All, IfOk, Some, ◌==◌, slice_index_or, slice_set};
+ghost use Rattle.std.specs.Prelude.{◌≡◌, ◌+◌, ◌-◌, ◌*◌, ◌^◌, ◌<◌, ◌≤◌, ℕ, [], ◌∷◌, ◌++◌, length, All, IfOk, Some, true, ◌==◌, slice_index_or, slice_set};
 ghost use Rattle.std.specs.List.{list_any};
 ghost use Rattle.cs_types.specs.Room.{has_pid};
 ghost use Rattle.cs_types.specs.declared.reply.Entry.{Entry};
@@ -188,7 +188,22 @@ impl RunTasks {
         requires times { self.old ≡ sums.sums_so_far self.old.entries (R.opening room.now) (R.history room.now) }
         requires few { length (R.history room.now) ≤ self.old.entries }
         requires fits { self.old.entries < 2 ^ 26 }
-        ensures { self.new ≡ sums.sums_of self.old.entries (R.opening room.now) (R.history room.now) }
+        ensures times { self.new ≡ sums.sums_of self.old.entries (R.opening room.now) (R.history room.now) }
+
+        // What a task ran, waited and slept adds up to the time in which it lived.
+        ensures adds_up { (pid : ℕ) (none : TaskTimes) → pid < length self.new.tasks →
+            sums.lived (slice_index_or self.new.tasks pid none)
+            ≡ span.time_in (living.lives pid) (span.spans_of (R.opening room.now) (R.history room.now)) }
+
+        // So of a task of the scenario that lives at the end it is what the clock shows.
+        ensures clock { let state = fold_of (R.opening room.now) (R.history room.now) in
+            All (λ spec. living.lives spec.pid state ≡ true → (none : TaskTimes) →
+            sums.lived (slice_index_or self.new.tasks spec.pid none) ≡ state.clock) (R.opening room.now).scenario.tasks }
+
+        // What the tasks of a cookie ran, waited and slept adds up to the time of each of them while it had it.
+        ensures shared { (cookie : ℕ) (none : CookieTimes) → cookie < length self.new.cookies →
+            sums.had (slice_index_or self.new.cookies cookie none)
+            ≡ sums.time_by (λ state. length (living.holders cookie state)) (span.spans_of (R.opening room.now) (R.history room.now)) }
     {
         charge_each(self.tasks.as_mut_slice(), room);
     }

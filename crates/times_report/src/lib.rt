@@ -2,6 +2,8 @@
 #![tactic(auto)]
 
 mod lines;
+mod task_lines;
 mod texts;
 
+pub use task_lines::task_summary;
 pub use texts::summary;

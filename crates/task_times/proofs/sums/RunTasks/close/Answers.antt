@@ -7,6 +7,7 @@ use Rattle.cs_types.specs.History.{fold_of}
 use Rattle.task_times.specs.declared.times.TaskTimes.{TaskTimes}
 use Rattle.task_times.specs.TaskSums.{TaskSums, charged_where}
 use Rattle.task_times.proofs.Charged.{living_rows, ended_rows, ended_few, tasks_long, sums_charged}
+use Rattle.task_times.proofs.Always.{lived_at, clock_at, had_at}
 use Rattle.task_times.proofs.sums.RunTasks.close.Goals as goal
 
 pub charge_each-requires-clause-rows : goal.charge_each-requires-clause-rows
@@ -25,8 +26,8 @@ pub charge_each-requires-clause-few : goal.charge_each-requires-clause-few
 charge_each-requires-clause-few g c =
     ended_few _ (g.R.Room.opening c.args.room.now) (g.R.Room.history c.args.room.now) c.requires.playable c.requires.few c.requires.fits
 
-pub returns : goal.returns
-returns g c =
+pub returns-clause-times : goal.returns-clause-times
+returns-clause-times g c =
     let opening = g.R.Room.opening c.args.room.now in
     let history = g.R.Room.history c.args.room.now in
     let inside = c.self.inside in
@@ -41,3 +42,12 @@ returns g c =
     ≡ charged_where (list_any (λ other. other == k) (fold_of opening history).ended) (fold_of opening history) k
     (charged_where (list_any (has_pid k) (fold_of opening history).tasks) (fold_of opening history) k (get_or xs k none)))
     c.as_mut_slice.ensures.value c.charge_each.ensures)
+
+pub returns-clause-adds_up : goal.returns-clause-adds_up
+returns-clause-adds_up g c = lived_at _ (g.R.Room.opening c.args.room.now) (g.R.Room.history c.args.room.now) _ (returns-clause-times g c)
+
+pub returns-clause-clock : goal.returns-clause-clock
+returns-clause-clock g c = clock_at _ (g.R.Room.opening c.args.room.now) (g.R.Room.history c.args.room.now) _ c.requires.playable (returns-clause-times g c)
+
+pub returns-clause-shared : goal.returns-clause-shared
+returns-clause-shared g c = had_at _ (g.R.Room.opening c.args.room.now) (g.R.Room.history c.args.room.now) _ (returns-clause-times g c)

@@ -1,0 +1,23 @@
+use Rattle.std.proofs.Common.{◌≡◌, ◌∙◌, sym}
+use Rattle.std.specs.List.{flat_map}
+use Rattle.std.proofs.lemmas.Result.{on_ok_weaker}
+use Rattle.cs_outside.specs.Device.{appended}
+use Rattle.scenario_text.specs.Text.{line}
+use Rattle.times_report.specs.TaskLines.{task_words, line_of_task}
+use Rattle.times_report.proofs.Rows.{where_sent, where_prefix, where_none, where_none_prefix}
+use Rattle.times_report.proofs.task_lines.write_task.Goals as goal
+
+pub returns-then-has_lived-clause-ok : goal.returns-then-has_lived-clause-ok
+returns-then-has_lived-clause-ok g c =
+    on_ok_weaker {Q = g.K.Sink.written c.write_all.new.sink ≡ appended (g.K.Sink.written c.args.sink.now) (flat_map line (line_of_task (c.args.pid, c.args.times.now)))} c.write_all.result
+    (λ sent. where_sent _ (task_words c.args.pid c.args.times.now) _ _ _ (sym c.has_lived.ensures ∙ c.if-has_lived.true) (c.as_bytes.ensures ∙ c.task_line.ensures) sent) c.write_all.ensures.ok
+
+pub returns-then-has_lived-clause-prefix : goal.returns-then-has_lived-clause-prefix
+returns-then-has_lived-clause-prefix g c =
+    where_prefix _ (task_words c.args.pid c.args.times.now) _ _ _ (sym c.has_lived.ensures ∙ c.if-has_lived.true) (c.as_bytes.ensures ∙ c.task_line.ensures) c.write_all.ensures.prefix
+
+pub returns-else-has_lived-clause-ok : goal.returns-else-has_lived-clause-ok
+returns-else-has_lived-clause-ok g c = where_none _ (task_words c.args.pid c.args.times.now) _ (sym c.has_lived.ensures ∙ c.if-has_lived.false)
+
+pub returns-else-has_lived-clause-prefix : goal.returns-else-has_lived-clause-prefix
+returns-else-has_lived-clause-prefix g c = where_none_prefix _ (task_words c.args.pid c.args.times.now) _ (sym c.has_lived.ensures ∙ c.if-has_lived.false)
