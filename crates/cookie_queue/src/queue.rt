@@ -80,6 +80,14 @@ impl CookieQueue {
         self.tree.remove(&key_of(task), steps)
     }
 
+    /// Every task leaves.
+    pub fn clear(&mut self)
+        ensures tasks { self.new.tasks ≡ map.empty }
+        ensures spare { self.new.spare ≡ self.old.spare + map.len self.old.tasks }
+    {
+        self.tree.clear();
+    }
+
     /// The highest task with the cookie (`sched_core_find`, kernel/sched/core.c). `None` exactly where no
     /// task has it.
     pub fn first_of<L: Ledger>(&self, cookie: Cookie, steps: &mut Steps<L>) -> Option<Queued>

@@ -112,6 +112,17 @@ impl Classes {
         }
     }
 
+    /// Every task leaves.
+    pub fn clear(&mut self)
+        ensures tasks { self.new.tasks ≡ map.empty }
+        ensures spare { self.new.spare ≡ self.old.spare + map.len self.old.tasks }
+    {
+        self.stop.clear();
+        self.deadline.clear();
+        self.real_time.clear();
+        self.fair.clear();
+    }
+
     /// The pid of the first task: the one of the highest class, in that of the least rank, and among
     /// those with the least stamp. `None` exactly where there is no task.
     pub fn first<L: Ledger>(&self, steps: &mut Steps<L>) -> Option<Pid>

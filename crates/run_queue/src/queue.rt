@@ -108,6 +108,16 @@ impl RunQueue {
         found
     }
 
+    /// Every task leaves.
+    pub fn clear(&mut self)
+        ensures tasks { self.new.tasks ≡ map.empty }
+        ensures cookies { self.new.cookies ≡ map.empty }
+        ensures spare { self.new.spare ≡ self.old.spare + map.len self.old.tasks }
+    {
+        self.classes.clear();
+        self.cookies.clear();
+    }
+
     /// The pid of the first task: the one of the highest class, in that of the least rank, and among
     /// those with the least stamp. `None` exactly where there is no task.
     pub fn first<L: Ledger>(&self, steps: &mut Steps<L>) -> Option<Pid>
