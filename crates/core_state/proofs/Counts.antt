@@ -1,6 +1,6 @@
 -- Counts: the counts once a task comes or goes, and what they say of a task's peers.
-use Rattle.std.proofs.Common.{◌≡◌, ◌≢◌, ℕ, ◌+◌, ◌-◌, ◌<◌, ◌≤◌, Bool, true, false, cond, not, ltb, eqb, List, [], ◌∷◌, ◌++◌, map, length, set, get_or, length-set, inl, inr, refl, sym, ap, ◌∙◌, subst, Some, arith}
-use Rattle.std.specs.Prelude.{◌==◌, ◌&&◌, ◌||◌, filter, find, count_by}
+use Rattle.std.proofs.Common.{◌≡◌, ◌≢◌, ℕ, zero, suc, ◌+◌, ◌-◌, ◌<◌, ◌≤◌, Bool, true, false, cond, not, ltb, eqb, List, [], ◌∷◌, ◌++◌, map, length, set, get_or, length-set, inl, inr, refl, sym, ap, ◌∙◌, subst, Some, arith}
+use Rattle.std.specs.Prelude.{◌==◌, ◌&&◌, ◌||◌, filter, find, count_by, replicate}
 use Rattle.std.specs.List.{AllByRecursion, list_any}
 use Rattle.std.proofs.lemmas.Bool.{cases_Bool, cases_eq, cond-true, cond-false, eq-eqb, ne_eqb}
 use Rattle.std.proofs.lemmas.Bool.Decides.{nat_tests}
@@ -194,3 +194,15 @@ module _ (tasks : List Task) (cpu : ℕ) (task : Task) (rises : Rises tasks) (th
       let own = counted_itself in
       let all = counted.each kind few ∙ ap (λ (n : ℕ). count_of n (queued_at tasks cpu)) is ∙ sym counted_peers in
       sym ((another (has_pid task.spec.pid) (is_peer_of task) (queued_among tasks cpu)).0 ∙ (λ i. ltb (own i) (sym all i)))
+
+-- ---- no task
+
+-- a list of one element over and over has it at each place
+get_or-replicate : {X : Type 0} (n place : ℕ) (x : X) → get_or (replicate n x) place x ≡ x
+get_or-replicate zero place x = refl
+get_or-replicate (suc n) zero x = refl
+get_or-replicate (suc n) (suc place) x = get_or-replicate n place x
+
+-- of none there is none of any kind
+pub counted-none : AreCounted (replicate 104 0) []
+counted-none = record { many = refl; each = λ kind below. get_or-replicate 104 kind 0 }

@@ -51,6 +51,11 @@ impl SiblingQueue for TreeQueue {
         self.kinds[kind_of(task)] -= 1;
     }
 
+    fn clear(&mut self) {
+        self.run.clear();
+        self.kinds = [0; KINDS];
+    }
+
     #[inline(always)]
     fn first<L: Ledger>(&self, table: &TaskTable, _cpu: Cpu, steps: &mut Steps<L>) -> Option<Task> {
         task_of(table, self.run.first(steps)?)

@@ -50,6 +50,8 @@ impl SiblingQueue for Walk {
         _steps: &mut Steps<L>,
     ) {}
 
+    fn clear(&mut self) {}
+
     fn first<L: Ledger>(&self, table: &TaskTable, cpu: Cpu, _steps: &mut Steps<L>) -> Option<Task> {
         table
             .iter()
