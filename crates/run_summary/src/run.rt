@@ -1,12 +1,15 @@
 //! A run with its summary.
 
-ghost use Rattle.std.specs.Prelude.{◌≡◌, ◌+◌, ◌*◌, ◌^◌, ◌<◌, ◌≤◌, [], All, IfOk, OnErr, length, sum_by};
+ghost use Rattle.std.specs.Prelude.{◌≡◌, ◌+◌, ◌*◌, ◌^◌, ◌<◌, ◌≤◌, [], true, All, IfOk, OnErr, length, sum_by, slice_index_or};
 ghost use Rattle.cs_types.specs.Scenario.{IsEvent, IsPlayable};
-ghost use Rattle.cs_types.specs.History.{history_of, AreEvents};
+ghost use Rattle.cs_types.specs.History.{fold_of, history_of, AreEvents};
 ghost use Rattle.cs_types.specs.Drain.{IsDrained};
 ghost use Rattle.cs_types.specs.Laws.{is_refused};
 ghost use Rattle.run_times.specs.Sums.{did};
 ghost use Rattle.exposed_pairs.specs.Pairs.{most_rows};
+ghost use Rattle.task_times.specs.declared.times.TaskTimes.{TaskTimes};
+ghost use Rattle.task_times.specs.Living.{lives};
+ghost use Rattle.task_times.specs.TaskSums.{lived};
 ghost use Rattle.run_summary.specs.Replies.{count_of, all_refused};
 ghost use Rattle.run_summary.specs.Summaries.{ArePartsOf, IsSummaryOf};
 
@@ -19,17 +22,19 @@ fn play<R: Room>(room: &mut R, steps: &[Step], summary: &mut RunSummary)
     requires playable { IsPlayable (R.opening room.old).scenario }
     requires empty { R.history room.old ≡ [] }
     requires spare { length steps.now ≤ R.spare room.old }
-    requires few { length steps.now < 2 ^ 34 }
     requires events { All (λ step. IsEvent (R.opening room.old).scenario.siblings step.event) steps.now }
     requires parts { ArePartsOf (R.opening room.old) (R.history room.old) summary.old }
     requires rows { sum_by (λ step. most_rows (R.opening room.old).scenario.siblings step.event) steps.now
         ≤ summary.old.pairs.spare }
+    requires few { length steps.now ≤ summary.old.tasks.entries }
+    requires fits { summary.old.tasks.entries < 2 ^ 26 }
 
     ensures history { R.history room.new ≡ history_of (R.opening room.old) steps.now }
     ensures spare { R.spare room.new + length steps.now ≡ R.spare room.old }
     ensures opening { R.opening room.new ≡ R.opening room.old }
     ensures events { AreEvents (R.opening room.new) (R.history room.new) }
     ensures parts { ArePartsOf (R.opening room.new) (R.history room.new) summary.new }
+    ensures entries { summary.new.tasks.entries ≡ summary.old.tasks.entries }
 {
     for step in steps {
         summary.before(room, step.event);
@@ -39,7 +44,7 @@ fn play<R: Room>(room: &mut R, steps: &[Step], summary: &mut RunSummary)
 
 /// Makes the steps, in their order, in a room that has made none, and then the entries of the end. It answers what is
 /// told of that run. All memory is taken before the first step, and at an `Err` none is made. There have to be fewer
-/// than 2^31 steps, so that the counts fit.
+/// than 2^25 steps, so that the counts and the sums fit.
 pub fn summarized_run<R: Room>(
     alloc: Global,
     room: &mut R,
@@ -48,7 +53,7 @@ pub fn summarized_run<R: Room>(
     requires empty { R.history room.old ≡ [] }
     requires spare { length steps.now + (R.opening room.old).scenario.siblings * (R.opening room.old).scenario.siblings
         ≤ R.spare room.old }
-    requires few { length steps.now < 2 ^ 31 }
+    requires few { length steps.now < 2 ^ 25 }
     requires events { All (λ step. IsEvent (R.opening room.old).scenario.siblings step.event) steps.now }
 
     ensures history { IfOk result (λ _.
@@ -59,6 +64,13 @@ pub fn summarized_run<R: Room>(
 
     // What a sibling ran, idled, was forced idle and was offline adds up to all time.
     ensures adds_up { IfOk result (λ summary. All (λ sibling. did sibling ≡ summary.times.total) summary.times.siblings) }
+
+    // All time is what the clock shows at the end. What a task of the scenario ran, waited and slept that lives then adds
+    // up to it.
+    ensures clock { IfOk result (λ summary. summary.times.total ≡ (fold_of (R.opening room.new) (R.history room.new)).clock) }
+    ensures lived { let state = fold_of (R.opening room.new) (R.history room.new) in
+        IfOk result (λ summary. All (λ spec. lives spec.pid state ≡ true → (none : TaskTimes) →
+        lived (slice_index_or summary.tasks.tasks spec.pid none) ≡ state.clock) (R.opening room.new).scenario.tasks) }
 
     // Tasks with distinct cookies ran side by side for no longer than some sibling was pending, and never where none
     // was at any advance.

@@ -1,12 +1,15 @@
 //! The parts of the summary, beside one another. One more of them is a field, a line in `open` and in `before`, and a
 //! clause of `ArePartsOf`.
 
-ghost use Rattle.std.specs.Prelude.{◌≡◌, ◌+◌, ◌^◌, ◌<◌, ◌≤◌, [], ◌∷◌, ◌++◌, length, sum_by, IfOk};
+ghost use Rattle.std.specs.Prelude.{◌≡◌, ◌+◌, ◌*◌, ◌^◌, ◌<◌, ◌≤◌, [], ◌∷◌, ◌++◌, ℕ, true, length, sum_by, All, IfOk, slice_index_or};
 ghost use Rattle.cs_types.specs.declared.reply.Entry.{Entry};
 ghost use Rattle.cs_types.specs.Scenario.{IsEvent, IsPlayable};
 ghost use Rattle.cs_types.specs.Room.{Opening};
-ghost use Rattle.cs_types.specs.History.{AreEvents};
+ghost use Rattle.cs_types.specs.History.{fold_of, AreEvents};
 ghost use Rattle.exposed_pairs.specs.Pairs.{most_rows};
+ghost use Rattle.task_times.specs.declared.times.TaskTimes.{TaskTimes};
+ghost use Rattle.task_times.specs.Living.{lives};
+ghost use Rattle.task_times.specs.TaskSums.{lived, sums_so_far, sums_of};
 ghost use Rattle.run_summary.specs.Replies.{replies_of};
 ghost use Rattle.run_summary.specs.Summaries.{ArePartsOf, IsSummaryOf};
 
@@ -16,12 +19,15 @@ use exposed_pairs::{ExposedPairs, PairTime};
 use run_times::RunTimes;
 use std::alloc::Global;
 use std::marker::Model;
+use task_times::RunTasks;
 
 /// What is told of a run. After it is opened it takes no memory.
 #[derive(Drop)]
 pub struct RunSummary {
     times: RunTimes,
     pairs: ExposedPairs,
+    /// What each was charged is noted at the end.
+    tasks: RunTasks,
     /// They are counted at the end.
     replies: ReplyCounts,
 }
@@ -34,23 +40,27 @@ impl Model for RunSummary {
     ghost view = { λ summary. record {
       times = summary.times;
       pairs = summary.pairs;
+      tasks = summary.tasks;
       replies = summary.replies;
     } };
 }
 
 impl RunSummary {
     /// The parts of a core with this number of siblings, before the first step. They take the memory for what these
-    /// steps can add.
+    /// steps, and the entries of the end, can add.
     pub(crate) fn open(alloc: Global, siblings: u8, steps: &[Step]) -> Result<Self, OutOfMemory>
-        requires few { length steps.now < 2 ^ 34 }
+        requires few { length steps.now < 2 ^ 25 }
         ensures parts { IfOk result (λ summary. (opening : Opening) → opening.scenario.siblings ≡ siblings →
             ArePartsOf opening [] summary) }
         ensures spare { IfOk result (λ summary.
             sum_by (λ step. most_rows siblings step.event) steps.now ≤ summary.pairs.spare) }
+        ensures entries { IfOk result (λ summary. summary.tasks.entries ≡ length steps.now + siblings * siblings) }
     {
+        let most = usize::from(siblings);
         Ok(RunSummary {
             times: RunTimes::open(alloc, siblings)?,
             pairs: ExposedPairs::open(alloc, siblings, steps)?,
+            tasks: RunTasks::open(alloc, steps.len() + most * most)?,
             replies: ReplyCounts::none(),
         })
     }
@@ -61,22 +71,34 @@ impl RunSummary {
         requires events { AreEvents (R.opening room.now) (R.history room.now) }
         requires event { IsEvent (R.opening room.now).scenario.siblings event }
         requires parts { ArePartsOf (R.opening room.now) (R.history room.now) self.old }
-        requires few { length (R.history room.now) < 2 ^ 34 }
         requires spare { most_rows (R.opening room.now).scenario.siblings event ≤ self.old.pairs.spare }
+        requires few { length (R.history room.now) ≤ self.old.tasks.entries }
+        requires fits { self.old.tasks.entries < 2 ^ 26 }
         ensures parts { (entry : Entry) → entry.event ≡ event →
             ArePartsOf (R.opening room.now) (R.history room.now ++ entry ∷ []) self.new }
         ensures spare { self.old.pairs.spare
             ≤ self.new.pairs.spare + most_rows (R.opening room.now).scenario.siblings event }
+        ensures entries { self.new.tasks.entries ≡ self.old.tasks.entries }
     {
         self.times.before(room, event);
         self.pairs.before(room, event);
+        self.tasks.before(room, event);
     }
 
-    /// Counts the replies of a room whose run is over.
+    /// Notes what each task was charged, and counts the replies, in a room whose run is over.
     pub(crate) fn end<R: Room>(&mut self, room: &R)
-        requires { length (R.history room.now) < 2 ^ 32 }
-        ensures { self.new ≡ record self.old { replies = replies_of (R.history room.now) } }
+        requires playable { IsPlayable (R.opening room.now).scenario }
+        requires parts { ArePartsOf (R.opening room.now) (R.history room.now) self.old }
+        requires few { length (R.history room.now) ≤ self.old.tasks.entries }
+        requires fits { self.old.tasks.entries < 2 ^ 26 }
+        ensures summary { IsSummaryOf (R.opening room.now) (R.history room.now) self.new }
+
+        // What a task of the scenario ran, waited and slept that lives at the end adds up to what the clock shows.
+        ensures clock { let state = fold_of (R.opening room.now) (R.history room.now) in
+            All (λ spec. lives spec.pid state ≡ true → (none : TaskTimes) →
+            lived (slice_index_or self.new.tasks.tasks spec.pid none) ≡ state.clock) (R.opening room.now).scenario.tasks }
     {
+        self.tasks.close(room);
         self.replies = ReplyCounts::of(room);
     }
 
@@ -92,6 +114,13 @@ impl RunSummary {
         ensures { result.now ≡ self.now.pairs.rows }
     {
         self.pairs.rows()
+    }
+
+    /// For how long each task and the tasks of each cookie did what.
+    pub fn tasks(&self) -> &RunTasks
+        ensures { result.now ≡ self.now.tasks }
+    {
+        &self.tasks
     }
 
     /// How many steps were refused, and how. The entries of the end are among them.

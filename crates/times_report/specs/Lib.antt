@@ -1,2 +1,2 @@
-pub mod Summary
 pub mod TaskLines
+pub mod Summary

@@ -8,6 +8,7 @@ use Rattle.run_summary.specs.declared.replies.ReplyCounts.{ReplyCounts}
 use Rattle.run_summary.specs.Summaries.{Summary}
 use Rattle.scenario_text.specs.Words.{Word}
 use Rattle.scenario_text.specs.Text.{line}
+use Rattle.times_report.specs.TaskLines.{task_lines}
 
 -- ---- the words of a line
 
@@ -64,7 +65,7 @@ pair_lines pairs = map pair_words pairs
 -- part by part
 abbrev pub summary_lines : Summary → List (List Word)
 summary_lines summary =
-    sibling_lines summary.times.siblings
+    sibling_lines summary.times.siblings ++ task_lines summary.tasks
     ++ (exposed_words summary.times ∷ pair_lines summary.pairs.rows
     ++ (pending_words summary.times ∷ replies_words summary.replies ∷ total_words summary.times ∷ []))
 

@@ -5,5 +5,4 @@ mod lines;
 mod task_lines;
 mod texts;
 
-pub use task_lines::task_summary;
 pub use texts::summary;

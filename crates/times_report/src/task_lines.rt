@@ -110,7 +110,7 @@ fn write_cookies<K: Sink>(cookies: &[CookieTimes], sink: &mut K) -> Result<(), F
 /// pid, and then one for each cookie that some task had for some time, by rising number. Each line goes to the sink in
 /// one piece, and again with the rest where the sink took only a part. At an `Err` the sink has failed, and a prefix of
 /// the text is written. It takes no memory.
-pub fn task_summary<K: Sink>(times: &RunTasks, sink: &mut K) -> Result<(), Failed>
+pub(crate) fn task_summary<K: Sink>(times: &RunTasks, sink: &mut K) -> Result<(), Failed>
     ensures ok { OnOk result (K.written sink.new ≡ appended (K.written sink.old) (told.task_text times.now)) }
     ensures prefix { WritesPrefix (K.written sink.old) (told.task_text times.now) (K.written sink.new) }
 

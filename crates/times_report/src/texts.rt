@@ -9,6 +9,7 @@ ghost use Rattle.times_report.specs.Summary.{sibling_lines, pair_lines, summary_
 use crate::lines::{
     cpu_line, exposed_line, forced_line, pair_line, pending_line, replies_line, total_line,
 };
+use crate::task_lines::task_summary;
 use cs_outside::{Failed, Sink, write_all};
 use exposed_pairs::PairTime;
 use run_summary::RunSummary;
@@ -46,7 +47,7 @@ fn write_pairs<K: Sink>(pairs: &[PairTime], sink: &mut K) -> Result<(), Failed>
     Ok(())
 }
 
-/// Writes what is told of a run: what each sibling did and for how long, for how long tasks with distinct cookies ran
+/// Writes what is told of a run: what each sibling, each task and the tasks of each cookie did and for how long, for how long tasks with distinct cookies ran
 /// side by side, and which, for how long a reschedule was pending, how many steps were refused, and all time. Each line
 /// goes to the sink in one piece, and again with the rest where the sink took only a part. At an `Err` the sink has
 /// failed, and a prefix of the text is written. It takes no memory.
@@ -60,6 +61,7 @@ pub fn summary<K: Sink>(summary: &RunSummary, sink: &mut K) -> Result<(), Failed
 {
     let times = summary.times();
     write_siblings(times.siblings(), sink)?;
+    task_summary(summary.tasks(), sink)?;
     write_all(sink, exposed_line(times).as_bytes())?;
     write_pairs(summary.pairs(), sink)?;
     write_all(sink, pending_line(times).as_bytes())?;

@@ -11,7 +11,10 @@ pub before-requires-clause-few : goal.before-requires-clause-few
 before-requires-clause-few g c =
     let long : length (g.R.Room.history c.loop-step.room) ≡ c.loop-step.step-index =
     length_so_far (g.R.Room.opening c.args.room.now) c.args.steps.now c.loop-step.step-index (g.R.Room.history c.loop-step.room) c.loop-step.auto.step-index-end c.loop-step.invariant.history in
-    omega (arith, long, c.requires.few, c.loop-step-test.true)
+    omega (arith, long, c.requires.few, c.loop-step-test.true, c.loop-step.invariant.entries)
+
+pub before-requires-clause-fits : goal.before-requires-clause-fits
+before-requires-clause-fits g c = omega (arith, c.requires.fits, c.loop-step.invariant.entries)
 
 pub before-requires-clause-spare : goal.before-requires-clause-spare
 before-requires-clause-spare g c =
@@ -30,6 +33,7 @@ loop-step-preserved g c =
       events = events_more opening _ past _ _ c.apply.ensures.opening c.apply.ensures.entry c.loop-step.invariant.events
           (event_in begun opening _ c.loop-step.invariant.opening (c.requires.events c.loop-step.step-index _ c.loop-step-test.true));
       parts = parts_more opening _ past _ _ _ c.apply.ensures.opening c.apply.ensures.entry c.before-in-loop-step.ensures.parts;
+      entries = c.before-in-loop-step.ensures.entries ∙ c.loop-step.invariant.entries;
       rows = rows_go begun.scenario.siblings opening.scenario.siblings c.args.steps.now c.loop-step.step-index _ _ _ (ap (λ (o : Opening). o.scenario.siblings) c.loop-step.invariant.opening)
           c.loop-step-test.true c.loop-step.invariant.rows c.before-in-loop-step.ensures.spare;
     }

@@ -13,5 +13,6 @@ invariant-loop-step g l =
       spare : room.spare l.room + l.step-index ≡ room.spare l.fn.room;
       events : AreEvents (room.opening l.room) (room.history l.room);
       parts : ArePartsOf (room.opening l.room) (room.history l.room) l.summary;
+      entries : l.summary.tasks.entries ≡ l.fn.summary.tasks.entries;
       rows : sum_by (λ step. most_rows (room.opening l.fn.room).scenario.siblings step.event) (drop l.step-index l.steps) ≤ l.summary.pairs.spare;
     }
