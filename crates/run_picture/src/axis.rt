@@ -3,7 +3,7 @@
 ghost use Rattle.std.specs.Prelude.{◌≡◌, OnOk, OnErr};
 ghost use Rattle.cs_outside.specs.Device.{Rose};
 
-use crate::frame::{EXPOSED_TOP, Frame};
+use crate::frame::{EXPOSED_TOP, Frame, LEFT, NAMES_END, RIGHT};
 use crate::piece::{Piece, write_pieces};
 use crate::scale::Scale;
 use crate::unit::{TimeUnit, power_of_ten};
@@ -94,9 +94,15 @@ pub(crate) fn write_axis<K: Sink>(
     write_pieces(
         sink,
         &[
-            Piece::Text("<g class=\"a\">\n<path class=\"g\" d=\"M76 "),
+            Piece::Text("<g class=\"a\">\n<path class=\"g\" d=\"M"),
+            Piece::Number(LEFT),
+            Piece::Text(" "),
             Piece::Number(frame.axis()),
-            Piece::Text("H1276\"/>\n<text class=\"n\" x=\"66\" y=\""),
+            Piece::Text("H"),
+            Piece::Number(RIGHT),
+            Piece::Text("\"/>\n<text class=\"n\" x=\""),
+            Piece::Number(NAMES_END),
+            Piece::Text("\" y=\""),
             Piece::Number(frame.axis() + 19),
             Piece::Text("\">time</text>\n"),
         ],

@@ -7,11 +7,20 @@ use cs_types::Cpu;
 /// Where the lanes begin, from the left edge.
 pub(crate) const LEFT: u64 = 76;
 
+/// Where the names of the lanes end.
+pub(crate) const NAMES_END: u64 = LEFT - 10;
+
 /// How wide the lanes are.
 pub(crate) const LANES_WIDTH: u64 = 1_200;
 
 /// Where the lanes end.
 pub(crate) const RIGHT: u64 = LEFT + LANES_WIDTH;
+
+/// Where the shares of a lane begin.
+pub(crate) const SHARES_LEFT: u64 = RIGHT + 8;
+
+/// Where the looks of the cookies begin.
+pub(crate) const COOKIES_LEFT: u64 = 960;
 
 /// How wide the page is.
 pub(crate) const PAGE_WIDTH: u64 = RIGHT + 134;

@@ -3,7 +3,7 @@
 ghost use Rattle.std.specs.Prelude.{◌≡◌, OnOk, OnErr};
 ghost use Rattle.cs_outside.specs.Device.{Rose};
 
-use crate::frame::PAGE_WIDTH;
+use crate::frame::{LEFT, PAGE_WIDTH};
 use crate::piece::{Piece, write_pieces};
 use crate::scale::Scale;
 use cs_outside::{Failed, Sink};
@@ -99,10 +99,13 @@ pub(crate) fn write_head<K: Sink>(
     ensures faultless { OnOk result (K.faults sink.new ≡ K.faults sink.old) }
     ensures failed { OnErr result (Rose (K.faults sink.old) (K.faults sink.new)) }
 {
+    let left = Piece::Number(LEFT);
     write_pieces(
         sink,
         &[
-            Piece::Text("<text class=\"h\" x=\"76\" y=\"26\">"),
+            Piece::Text("<text class=\"h\" x=\""),
+            left,
+            Piece::Text("\" y=\"26\">"),
             Piece::Number(u64::from(run.siblings())),
             Piece::Text(" siblings of one core over "),
             Piece::Time(run.total()),
@@ -112,8 +115,10 @@ pub(crate) fn write_head<K: Sink>(
     write_pieces(
         sink,
         &[
+            Piece::Text("</text>\n<text x=\""),
+            left,
             Piece::Text(
-                "</text>\n<text x=\"76\" y=\"48\">Each lane is a sibling, a hardware thread of the core. Tasks with distinct cookies",
+                "\" y=\"48\">Each lane is a sibling, a hardware thread of the core. Tasks with distinct cookies",
             ),
             Piece::Text(
                 " distrust each other and must not run at once: a sibling that has only others to run is forced idle.</text>\n",

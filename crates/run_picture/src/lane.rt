@@ -3,7 +3,7 @@
 ghost use Rattle.std.specs.Prelude.{◌≡◌, OnOk, OnErr};
 ghost use Rattle.cs_outside.specs.Device.{Rose};
 
-use crate::frame::Frame;
+use crate::frame::{Frame, LANE_HEIGHT, LANES_WIDTH, LEFT, NAMES_END, SHARES_LEFT};
 use crate::gathered::Gathered;
 use crate::mark::{write_gathered, write_stretch};
 use crate::piece::{Piece, write_pieces};
@@ -111,7 +111,9 @@ fn write_share<K: Sink>(
     write_pieces(
         sink,
         &[
-            Piece::Text("<text class=\"r\" x=\"1284\" y=\""),
+            Piece::Text("<text class=\"r\" x=\""),
+            Piece::Number(SHARES_LEFT),
+            Piece::Text("\" y=\""),
             Piece::Number(height),
             Piece::Text("\">"),
             Piece::Text(word),
@@ -147,9 +149,17 @@ pub(crate) fn write_lane<K: Sink>(
         &[
             Piece::Text("<g class=\"l\" transform=\"translate(0,"),
             Piece::Number(Frame::of(run.siblings()).lane(cpu)),
-            Piece::Text(")\"><text class=\"n\" x=\"66\" y=\"20\">s"),
+            Piece::Text(")\"><text class=\"n\" x=\""),
+            Piece::Number(NAMES_END),
+            Piece::Text("\" y=\"20\">s"),
             number,
-            Piece::Text("</text>\n<rect class=\"f\" x=\"76\" width=\"1200\" height=\"30\"/>\n"),
+            Piece::Text("</text>\n<rect class=\"f\" x=\""),
+            Piece::Number(LEFT),
+            Piece::Text("\" width=\""),
+            Piece::Number(LANES_WIDTH),
+            Piece::Text("\" height=\""),
+            Piece::Number(LANE_HEIGHT),
+            Piece::Text("\"/>\n"),
         ],
     )?;
     write_marks(sink, scale, run.stretches(), cpu)?;

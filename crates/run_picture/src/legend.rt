@@ -3,7 +3,7 @@
 ghost use Rattle.std.specs.Prelude.{◌≡◌, ◌^◌, ◌<◌, OnOk, OnErr};
 ghost use Rattle.cs_outside.specs.Device.{Rose};
 
-use crate::frame::{Frame, LEGEND_LINES, LEGEND_STEP};
+use crate::frame::{COOKIES_LEFT, Frame, LEFT, LEGEND_LINES, LEGEND_STEP};
 use crate::look::{Hatch, Look};
 use crate::paint::Paint;
 use crate::piece::{Piece, write_pieces};
@@ -139,7 +139,7 @@ fn write_entries<K: Sink>(sink: &mut K, top: u64) -> Result<(), Failed>
 {
     for line in 0..LEGEND_LINES {
         let entry = Entry::at(line);
-        write_place(sink, 76, top + line * LEGEND_STEP)?;
+        write_place(sink, LEFT, top + line * LEGEND_STEP)?;
         write_pieces(sink, entry.sample())?;
         write_pieces(
             sink,
@@ -160,7 +160,7 @@ fn write_cookie<K: Sink>(sink: &mut K, top: u64, number: u8, cookie: Cookie) -> 
     ensures failed { OnErr result (Rose (K.faults sink.old) (K.faults sink.new)) }
 {
     let number = u64::from(number);
-    let left = 960 + number / LEGEND_LINES * 200;
+    let left = COOKIES_LEFT + number / LEGEND_LINES * 200;
     write_place(sink, left, top + number % LEGEND_LINES * LEGEND_STEP)?;
     write_pieces(
         sink,

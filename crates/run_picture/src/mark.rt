@@ -75,6 +75,7 @@ fn write_cross<K: Sink>(sink: &mut K, strip: Strip) -> Result<(), Failed>
     ensures failed { OnErr result (Rose (K.faults sink.old) (K.faults sink.new)) }
 {
     let left = Piece::Length(strip.place);
+    let foot = Piece::Number(LANE_HEIGHT);
     let right = Piece::Length(strip.place.saturating_add(strip.width));
     write_pieces(
         sink,
@@ -83,9 +84,13 @@ fn write_cross<K: Sink>(sink: &mut K, strip: Strip) -> Result<(), Failed>
             left,
             Piece::Text(" 0L"),
             right,
-            Piece::Text(" 30M"),
+            Piece::Text(" "),
+            foot,
+            Piece::Text("M"),
             left,
-            Piece::Text(" 30L"),
+            Piece::Text(" "),
+            foot,
+            Piece::Text("L"),
             right,
             Piece::Text(" 0\"/>\n"),
         ],

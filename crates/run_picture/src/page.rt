@@ -4,7 +4,7 @@ ghost use Rattle.std.specs.Prelude.{◌≡◌, OnOk, OnErr};
 ghost use Rattle.cs_outside.specs.Device.{Rose};
 
 use crate::axis::write_axis;
-use crate::frame::Frame;
+use crate::frame::{Frame, LEFT};
 use crate::head::{write_begin, write_head};
 use crate::lane::write_lane;
 use crate::legend::write_legend;
@@ -35,14 +35,17 @@ fn write_empty<K: Sink>(sink: &mut K, run: &RunStretches) -> Result<(), Failed>
     ensures failed { OnErr result (Rose (K.faults sink.old) (K.faults sink.new)) }
 {
     write_begin(sink, EMPTY_HEIGHT)?;
+    let left = Piece::Number(LEFT);
     write_pieces(
         sink,
         &[
-            Piece::Text("<text class=\"h\" x=\"76\" y=\"26\">"),
+            Piece::Text("<text class=\"h\" x=\""),
+            left,
+            Piece::Text("\" y=\"26\">"),
             Piece::Number(u64::from(run.siblings())),
-            Piece::Text(
-                " siblings of one core</text>\n<text x=\"76\" y=\"48\">No time passed in this run,",
-            ),
+            Piece::Text(" siblings of one core</text>\n<text x=\""),
+            left,
+            Piece::Text("\" y=\"48\">No time passed in this run,"),
             Piece::Text(" so there is nothing to show over time.</text>\n</svg>\n"),
         ],
     )
@@ -50,8 +53,8 @@ fn write_empty<K: Sink>(sink: &mut K, run: &RunStretches) -> Result<(), Failed>
 
 /// Writes the picture of a run: an SVG without scripts and without references to anything else. Each sibling has a lane
 /// over time. Above the lanes it shows when tasks with distinct cookies ran side by side, and below them when something
-/// happened at which no time passes. A legend says what each mark means. What is too narrow to be seen is joined, so a
-/// picture has less than two million bytes. It takes no memory. At an `Err` the sink has failed.
+/// happened at which no time passes. A legend says what each mark means. What is too narrow to be seen is joined, so the
+/// size of a picture has a bound, however long the run is. It takes no memory. At an `Err` the sink has failed.
 pub fn picture<K: Sink>(run: &RunStretches, sink: &mut K) -> Result<(), Failed>
     ensures faultless { OnOk result (K.faults sink.new ≡ K.faults sink.old) }
     ensures failed { OnErr result (Rose (K.faults sink.old) (K.faults sink.new)) }

@@ -5,7 +5,8 @@ ghost use Rattle.std.specs.Prelude.{◌≡◌, ◌^◌, ◌<◌, ◌≤◌, OnOk
 ghost use Rattle.cs_outside.specs.Device.{Rose};
 
 use crate::frame::{
-    EVENTS_HEIGHT, EXPOSED_HEIGHT, EXPOSED_TOP, Frame, LANE_HEIGHT, PENDING_BAR, PENDING_RIM,
+    EVENTS_HEIGHT, EXPOSED_HEIGHT, EXPOSED_TOP, Frame, LANE_HEIGHT, LANES_WIDTH, LEFT, NAMES_END,
+    PENDING_BAR, PENDING_RIM,
 };
 use crate::piece::{Piece, write_pieces};
 use crate::scale::{Scale, Strip, UNIT, part_of};
@@ -315,10 +316,17 @@ pub(crate) fn write_exposure<K: Sink>(sink: &mut K, run: &RunStretches) -> Resul
     write_pieces(
         sink,
         &[
-            Piece::Text("<text class=\"n\" x=\"66\" y=\"80\">exposed</text>\n"),
-            Piece::Text(
-                "<rect class=\"f\" x=\"76\" y=\"66\" width=\"1200\" height=\"18\"/>\n<g class=\"e\">\n",
-            ),
+            Piece::Text("<text class=\"n\" x=\""),
+            Piece::Number(NAMES_END),
+            Piece::Text("\" y=\"80\">exposed</text>\n<rect class=\"f\" x=\""),
+            Piece::Number(LEFT),
+            Piece::Text("\" y=\""),
+            Piece::Number(EXPOSED_TOP),
+            Piece::Text("\" width=\""),
+            Piece::Number(LANES_WIDTH),
+            Piece::Text("\" height=\""),
+            Piece::Number(EXPOSED_HEIGHT),
+            Piece::Text("\"/>\n<g class=\"e\">\n"),
         ],
     )?;
     sheet_of(run, Row::Exposed).write_windows(sink, run.windows())
@@ -345,7 +353,9 @@ pub(crate) fn write_moments<K: Sink>(sink: &mut K, run: &RunStretches) -> Result
     write_pieces(
         sink,
         &[
-            Piece::Text("<text class=\"n\" x=\"66\" y=\""),
+            Piece::Text("<text class=\"n\" x=\""),
+            Piece::Number(NAMES_END),
+            Piece::Text("\" y=\""),
             Piece::Number(frame.events() + 8),
             Piece::Text("\">events</text>\n<g class=\"t\">\n"),
         ],
