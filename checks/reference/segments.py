@@ -118,11 +118,10 @@ def faults(program, text):
     if status == 0 and not found:
         read = [row_of(line) for line in as_table[1].decode().splitlines()[1:]]
         spoken = [list(json.loads(line).values()) for line in as_lines[1].decode().splitlines()]
-        summary = ran(program, 'summary', text)[1].decode().splitlines()
-        siblings = sum(line.startswith('cpu ') for line in summary)
+        summary = [line for line in ran(program, 'summary', text)[1].decode().splitlines() if line.split()[0] in ('cpu', 'forced', 'total')]
         if not has_no_gap(read, int(summary[-1].split()[1])):
             found.append('a gap')
-        if sums(read, siblings) != summary[:2 * siblings] + summary[-1:]:
+        if sums(read, len(summary) // 2) != summary:
             found.append('the sums')
         if spoken != read:
             found.append('the two forms')

@@ -21,6 +21,8 @@ import reference
 
 WORDS = [[], [''], ['summary', ''], ['', 'summary'], ['summary', 'summary'], ['--help'], ['-h'], ['help'], ['help', 'summary'], ['--version'], ['-V'],
          ['-'], ['--'], ['--', 'summary'], ['summary', '--'], ['summary', '--help'], ['summary', 'help'], ['Summary'], ['summar'], ['summarys'], ['s'],
+         ['segment'], ['segmentsjson'], ['segments json'], ['segments', 'json'], ['segments-jsons'], ['segments', 'segments'], ['segments', 'summary'],
+         ['segments-json', '--help'], ['pictures'], ['picture', 'picture'], ['picture', '-o'], ['Picture'], ['help', 'picture'],
          ['summary\n'], ['summ\u00e1ry'], ['replay'], ['coresched_view'], ['coresched_view', 'summary']]
 
 

@@ -1,5 +1,5 @@
 -- Endings: how the command ends, status by status.
-use Rattle.std.proofs.Common.{◌≡◌, ◌∙◌, sym, ℕ, ◌-◌, ◌^◌, ◌<◌, List, subst, inl, inr, arith}
+use Rattle.std.proofs.Common.{◌≡◌, ◌∙◌, sym, refl, ℕ, ◌-◌, ◌^◌, ◌<◌, List, subst, inl, inr, arith}
 use Rattle.std.specs.Prelude.{◌⊎◌, ◌↔◌, ◌≤◌, Option, Some, None, IfSome, Result, Ok, Err}
 use Rattle.cs_types.specs.declared.event.Step.{Step}
 use Rattle.cs_types.specs.Room.{Opening}
@@ -10,6 +10,7 @@ use Rattle.run_summary.specs.Summaries.{Summary}
 use Rattle.times_report.specs.Summary.{summary_text}
 use Rattle.scenario_input.specs.declared.stop.Stop.{Stop}
 use Rattle.scenario_input.specs.declared.stop.Stop.TheVariants.{TooLong}
+use Rattle.scenario_input.specs.declared.stop.Stop.TheVariants as stops
 use Rattle.scenario_input.specs.Input.{input_limit}
 use Rattle.scenario_input.specs.declared.status.Status.{Status}
 use Rattle.scenario_input.specs.declared.status.Status.TheVariants as status
@@ -18,7 +19,7 @@ use Rattle.scenario_input.proofs.Stops.{stop_not_done, stop_not_words, stop_not_
 use Rattle.scenario_runner.specs.Outcomes.{IsReplayHistory}
 use Rattle.scenario_runner.specs.Ends.{Used, IsFaultless}
 use Rattle.scenario_runner.proofs.Endings.{HasRead, ends_stopped}
-use Rattle.view_runner.specs.Ends.{IsTimed, EndsAsSummary}
+use Rattle.view_runner.specs.Ends.{IsTimed, EndsAsSummary, EndsAsShown}
 
 -- ---- what was read
 
@@ -76,6 +77,69 @@ ends_written caps source sink summary ended timed written =
 pub ends_refused : {S K T : Type 0} (caps : List ℕ) (source : Used S) (sink : Used K) (read : Result T Stop) (stop : Stop) →
     HasRead caps source read → read ≡ Err stop → sink.after ≡ sink.before → EndsAsSummary caps source sink (status_of stop)
 ends_refused caps source sink read stop has is same =
+    record {
+      done = λ e. absurd (stop_not_done stop e);
+      write_fault = λ e. absurd (stop_not_write stop e);
+      good_words = λ e. absurd (stop_not_words stop e);
+      stopped = λ _ _. ends_stopped IsReplayHistory caps source sink read stop has is same;
+    }
+
+-- ---- how it ends that shows a run
+
+-- An input that was read, and then there was no memory, is as one that was not read for lack of it.
+short_of_memory : {S T : Type 0} (caps : List ℕ) (source : Used S) (read : Result T Stop) (value : T) → HasRead caps source read → read ≡ Ok value → HasRead {T = T} caps source (Err stops.OutOfMemory)
+short_of_memory caps source read value has is =
+    record {
+      faultless = λ _. has.faultless (not_both read value stops.ReadFault is);
+      failed = λ e. absurd cc;
+      few = has.few;
+      too_long = neither_long (source.bytes source.before) _ read (Err stops.OutOfMemory) value is refl has.too_long;
+      most = has.most;
+      bad = λ line kind e. absurd cc;
+      first = λ bytes line kind told fits bad calm. inr refl;
+      bad_guard = λ line kind e. absurd cc;
+    } where
+      neither_long : {T : Type 0} (told : Option (List ℕ)) (count : ℕ) (read short : Result T Stop) (value : T) → read ≡ Ok value → short ≡ Err stops.OutOfMemory →
+          IfSome told (λ _. (read ≡ Err TooLong) ↔ (input_limit < count)) → IfSome told (λ _. (short ≡ Err TooLong) ↔ (input_limit < count))
+      neither_long None count read short value is memory long = tt
+      neither_long (Some left) count read short value is memory long = (
+        λ e. let wrong = sym memory ∙ e in absurd cc,
+        λ past. absurd (not_both read value TooLong is (long.1 past)),
+      )
+
+-- what is known once it was written what the run shows, or the sink failed, or there was no memory
+pub record IsShown {K : Type 0} (sink : Used K) (ended : Status) : Type 0 where
+  pub either : (ended ≡ status.Done) ⊎ ((ended ≡ status.WriteFault) ⊎ (ended ≡ status.OutOfMemory))
+  pub faultless : ended ≡ status.Done → IsFaultless sink
+  pub failed : ended ≡ status.WriteFault → Rose (sink.faults sink.before) (sink.faults sink.after)
+  pub unwritten : ended ≡ status.OutOfMemory → sink.after ≡ sink.before
+  pub few : sink.faults sink.before < 2 ^ 64 - 1
+
+-- the input was played
+pub ends_shown : {S K T : Type 0} (caps : List ℕ) (source : Used S) (sink : Used K) (read : Result T Stop) (value : T) (ended : Status) →
+    HasRead caps source read → read ≡ Ok value → IsShown sink ended → EndsAsShown caps source sink ended
+ends_shown caps source sink read value ended has is shown =
+    record {
+      done = shown.faultless;
+      write_fault = λ e. omega (arith, shown.failed e, shown.few);
+      good_words = λ bad. elim shown.either [
+        | inl done ↦ let wrong : status.BadWords ≡ status.Done = sym bad ∙ done in absurd cc
+        | inr (inl fault) ↦ let wrong : status.BadWords ≡ status.WriteFault = sym bad ∙ fault in absurd cc
+        | inr (inr memory) ↦ let wrong : status.BadWords ≡ status.OutOfMemory = sym bad ∙ memory in absurd cc
+      ];
+      stopped = λ not_done not_fault. elim shown.either [
+        | inl done ↦ absurd (not_done done)
+        | inr (inl fault) ↦ absurd (not_fault fault)
+        | inr (inr memory) ↦
+            rw memory
+            (ends_stopped IsReplayHistory caps source sink (Err stops.OutOfMemory) stops.OutOfMemory (short_of_memory caps source read value has is) refl (shown.unwritten memory))
+      ];
+    }
+
+-- the input was not played
+pub ends_unshown : {S K T : Type 0} (caps : List ℕ) (source : Used S) (sink : Used K) (read : Result T Stop) (stop : Stop) →
+    HasRead caps source read → read ≡ Err stop → sink.after ≡ sink.before → EndsAsShown caps source sink (status_of stop)
+ends_unshown caps source sink read stop has is same =
     record {
       done = λ e. absurd (stop_not_done stop e);
       write_fault = λ e. absurd (stop_not_write stop e);

@@ -1,5 +1,4 @@
--- Ends: how the command `summary` ends with its own words. When each status comes, what was read for it, and what was
--- written.
+-- Ends: how each command ends with its own word. When each status comes, what was read for it, and what was written.
 use Rattle.std.specs.Prelude.{◌≡◌, ◌≢◌, ℕ, ◌≤◌, List, None, IfSome}
 use Rattle.cs_types.specs.declared.scenario.Scenario.{Scenario}
 use Rattle.cs_types.specs.History.{History, file}
@@ -9,6 +8,8 @@ use Rattle.run_summary.specs.Summaries.{Summary, IsSummaryOf}
 use Rattle.times_report.specs.Summary.{summary_text}
 use Rattle.scenario_input.specs.declared.status.Status.{Status}
 use Rattle.scenario_input.specs.declared.status.Status.TheVariants.{Done, BadWords, WriteFault}
+use Rattle.view_words.specs.declared.command.Command.{Command}
+use Rattle.view_words.specs.declared.command.Command.TheVariants.{Summary, Segments, SegmentsJson, Picture}
 use Rattle.scenario_input.specs.Input.{Reads, input_limit, count_read}
 use Rattle.scenario_input.specs.Teaching.{first_bad}
 use Rattle.scenario_runner.specs.Outcomes.{opened_with}
@@ -43,3 +44,20 @@ pub record EndsAsSummary {S K : Type 0} (caps : List ℕ) (source : Used S) (sin
   pub good_words : status ≢ BadWords
   -- else nothing is written, and it ends as a replay of the same input ends
   pub stopped : status ≢ Done → status ≢ WriteFault → EndsAsReplay caps source sink status
+
+-- How a command ends that shows a run over time. What it shows of it is not said here. Out of memory alone is free.
+pub record EndsAsShown {S K : Type 0} (caps : List ℕ) (source : Used S) (sink : Used K) (status : Status) : Type 0 where
+  -- no fault of the sink was counted where it is done, and one was where it ends in a write fault
+  pub done : status ≡ Done → IsFaultless sink
+  pub write_fault : status ≡ WriteFault → Failed sink
+  -- its own word is never bad
+  pub good_words : status ≢ BadWords
+  -- else nothing is written, and it ends as a replay of the same input ends
+  pub stopped : status ≢ Done → status ≢ WriteFault → EndsAsReplay caps source sink status
+
+-- how each command ends
+abbrev pub EndsBy : {S K : Type 0} → Command → List ℕ → Used S → Used K → Status → Type 0
+EndsBy Summary caps source sink status = EndsAsSummary caps source sink status
+EndsBy Segments caps source sink status = EndsAsShown caps source sink status
+EndsBy SegmentsJson caps source sink status = EndsAsShown caps source sink status
+EndsBy Picture caps source sink status = EndsAsShown caps source sink status

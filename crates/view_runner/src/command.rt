@@ -1,23 +1,26 @@
-//! The command, by its words.
+//! The commands, each by its word.
 
 ghost use Rattle.std.specs.Prelude.{◌≡◌, ◌↔◌, ◌-◌, ◌^◌, ◌<◌, ◌≤◌, [], map, All, vec_len};
-ghost use Rattle.view_words.specs.Asks.{AsksSummary};
-ghost use Rattle.view_runner.specs.Ends.{EndsAsSummary};
+ghost use Rattle.view_words.specs.declared.command.Command.{Command as SomeCommand};
+ghost use Rattle.view_words.specs.Asks.{Asks};
+ghost use Rattle.view_runner.specs.Ends.{EndsBy};
 
 use crate::played::summarized;
+use crate::shown::{Form, shown};
 use core_state::TreeQueue;
 use cs_outside::{Guard, Sink, Source};
 use scenario_input::Status;
 use std::alloc::Global;
-use view_words::asks_summary;
+use view_words::{Command, command_of};
 
 /// Reads a scenario to its end, makes its steps in the order of their lines and then the entries of the end, as
-/// `coresched replay` does, and writes the summary of that run, each line in one piece. It waits for nobody and always
+/// `coresched replay` does, and writes what the command of the words shows of the run. It waits for nobody and always
 /// returns.
 ///
-/// The word is `summary`; other words are refused. Both counts of faults have to be below 2^64 - 1. At most 16 guards are
-/// handed in, which refuse nobody yet and were never asked. The scenario teaches them before it is played, and they are
-/// dropped at the end.
+/// With the word `summary` it writes for how long what was so, with `segments` and `segments-json` what each sibling did
+/// in each stretch of time, as a table and as lines of JSON, and with `picture` the same, drawn. Other words are refused.
+/// Both counts of faults have to be below 2^64 - 1. At most 16 guards are handed in, which refuse nobody yet and were never
+/// asked. The scenario teaches them before it is played, and they are dropped at the end.
 pub fn run<S: Source, K: Sink, G: Guard>(
     alloc: Global,
     words: &[String],
@@ -31,18 +34,27 @@ pub fn run<S: Source, K: Sink, G: Guard>(
     requires untaught { All (λ guard. G.pairs guard ≡ []) guards.items }
     requires unasked { All (λ guard. G.asked guard ≡ 0) guards.items }
 
-    // When each status comes, what was read for it, and what was written.
-    ensures ends { AsksSummary words.now → EndsAsSummary (map G.cap guards.items)
+    // When each status comes, what was read for it, and what was written, by the command of the words.
+    ensures ends { (command : SomeCommand) → Asks command words.now → EndsBy command (map G.cap guards.items)
         (record { bytes = S.left; faults = S.faults; before = source.old; after = source.new })
         (record { bytes = K.written; faults = K.faults; before = sink.old; after = sink.new }) result }
 
     // Other words are refused, and no other. Nothing is read for them and nothing written.
-    ensures bad_words { (result ≡ Status.BadWords) ↔ ¬ AsksSummary words.now }
+    ensures bad_words { (result ≡ Status.BadWords) ↔ ((command : SomeCommand) → ¬ Asks command words.now) }
     ensures unread { result ≡ Status.BadWords → source.new ≡ source.old }
     ensures unwritten { result ≡ Status.BadWords → sink.new ≡ sink.old }
 {
-    if !asks_summary(alloc, words) {
-        return Status::BadWords;
+    match command_of(alloc, words) {
+        Some(Command::Summary) => summarized::<TreeQueue, S, K, G>(alloc, source, sink, guards),
+        Some(Command::Segments) => {
+            shown::<TreeQueue, S, K, G>(alloc, Form::Table, source, sink, guards)
+        }
+        Some(Command::SegmentsJson) => {
+            shown::<TreeQueue, S, K, G>(alloc, Form::Json, source, sink, guards)
+        }
+        Some(Command::Picture) => {
+            shown::<TreeQueue, S, K, G>(alloc, Form::Picture, source, sink, guards)
+        }
+        None => Status::BadWords,
     }
-    summarized::<TreeQueue, S, K, G>(alloc, source, sink, guards)
 }

@@ -1,0 +1,41 @@
+use Rattle.std.proofs.Common.{refl}
+use Rattle.view_runner.proofs.Endings.{ends_shown, ends_unshown}
+use Rattle.view_runner.proofs.shown.shown.Goals as goal
+
+pub returns-in-Ok : goal.returns-in-Ok
+returns-in-Ok g c =
+    ends_shown _ _ _ c.opened.result _ c.write_run.result
+    (record {
+      faultless = c.opened.ensures.faultless;
+      failed = c.opened.ensures.failed;
+      few = c.requires.source;
+      too_long = c.opened.ensures.too_long;
+      most = c.opened.ensures.most;
+      bad = c.opened.ensures.bad;
+      first = c.opened.ensures.first;
+      bad_guard = c.opened.ensures.bad_guard;
+    })
+    c.in-Ok.is
+    (record {
+      either = c.write_run.ensures.either;
+      faultless = c.write_run.ensures.faultless;
+      failed = c.write_run.ensures.failed;
+      unwritten = c.write_run.ensures.unwritten;
+      few = c.requires.sink;
+    })
+
+pub returns-in-Err : goal.returns-in-Err
+returns-in-Err g c =
+    rw c.from.ensures
+    (ends_unshown _ _ _ c.opened.result c.in-Err.stop
+    (record {
+      faultless = c.opened.ensures.faultless;
+      failed = c.opened.ensures.failed;
+      few = c.requires.source;
+      too_long = c.opened.ensures.too_long;
+      most = c.opened.ensures.most;
+      bad = c.opened.ensures.bad;
+      first = c.opened.ensures.first;
+      bad_guard = c.opened.ensures.bad_guard;
+    })
+    c.in-Err.is refl)

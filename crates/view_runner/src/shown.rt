@@ -1,0 +1,132 @@
+//! The commands that show a run over time, once their words are read.
+
+ghost use Rattle.std.specs.Prelude.{◌≡◌, ◌⊎◌, ◌+◌, ◌-◌, ◌*◌, ◌^◌, ◌<◌, ◌≤◌, [], length, map, All, vec_len};
+ghost use Rattle.cs_types.specs.Scenario.{IsEvent};
+ghost use Rattle.cs_outside.specs.Device.{Rose};
+ghost use Rattle.view_runner.specs.Ends.{EndsAsShown};
+
+use core_lanes::SiblingQueue;
+use cs_outside::{Guard, Sink, Source, write_all};
+use cs_types::{Room, Step};
+use run_picture::picture;
+use run_stretches::{RunStretches, recorded_run};
+use scenario_input::Status;
+use scenario_runner::opened;
+use std::alloc::Global;
+use stretch_text::{segments, segments_json};
+
+/// In which form a run is shown over time.
+#[derive(Clone, Copy)]
+pub(crate) enum Form {
+    /// A table with a line for each stretch.
+    Table,
+    /// A line of JSON for each stretch.
+    Json,
+    /// A picture.
+    Picture,
+}
+
+/// Writes the table, and says how that ended.
+fn write_table<K: Sink>(run: &RunStretches, sink: &mut K) -> Status
+    ensures either { (result ≡ Status.Done) ⊎ (result ≡ Status.WriteFault) }
+    ensures faultless { result ≡ Status.Done → K.faults sink.new ≡ K.faults sink.old }
+    ensures failed { result ≡ Status.WriteFault → Rose (K.faults sink.old) (K.faults sink.new) }
+{
+    match segments(run, sink) {
+        Ok(()) => Status::Done,
+        Err(_) => Status::WriteFault,
+    }
+}
+
+/// Writes the picture, and says how that ended.
+fn drawn<K: Sink>(run: &RunStretches, sink: &mut K) -> Status
+    ensures either { (result ≡ Status.Done) ⊎ (result ≡ Status.WriteFault) }
+    ensures faultless { result ≡ Status.Done → K.faults sink.new ≡ K.faults sink.old }
+    ensures failed { result ≡ Status.WriteFault → Rose (K.faults sink.old) (K.faults sink.new) }
+{
+    match picture(run, sink) {
+        Ok(()) => Status::Done,
+        Err(_) => Status::WriteFault,
+    }
+}
+
+/// Writes the lines of JSON, and says how that ended.
+fn write_json<K: Sink>(alloc: Global, run: &RunStretches, sink: &mut K) -> Status
+    ensures either { (result ≡ Status.Done) ⊎ ((result ≡ Status.WriteFault) ⊎ (result ≡ Status.OutOfMemory)) }
+    ensures faultless { result ≡ Status.Done → K.faults sink.new ≡ K.faults sink.old }
+    ensures failed { result ≡ Status.WriteFault → Rose (K.faults sink.old) (K.faults sink.new) }
+    ensures unwritten { result ≡ Status.OutOfMemory → sink.new ≡ sink.old }
+{
+    let Ok(text) = segments_json(alloc, run) else {
+        return Status::OutOfMemory;
+    };
+    match write_all(sink, text.as_str().as_bytes()) {
+        Ok(()) => Status::Done,
+        Err(_) => Status::WriteFault,
+    }
+}
+
+/// Writes what a run shows over time, in this form, and says how that ended.
+fn write_form<K: Sink>(alloc: Global, form: Form, run: &RunStretches, sink: &mut K) -> Status
+    ensures either { (result ≡ Status.Done) ⊎ ((result ≡ Status.WriteFault) ⊎ (result ≡ Status.OutOfMemory)) }
+    ensures faultless { result ≡ Status.Done → K.faults sink.new ≡ K.faults sink.old }
+    ensures failed { result ≡ Status.WriteFault → Rose (K.faults sink.old) (K.faults sink.new) }
+    ensures unwritten { result ≡ Status.OutOfMemory → sink.new ≡ sink.old }
+{
+    match form {
+        Form::Table => write_table(run, sink),
+        Form::Json => write_json(alloc, run, sink),
+        Form::Picture => drawn(run, sink),
+    }
+}
+
+/// Makes the steps, in their order, in a room that has made none, and then the entries of the end, and writes what the run
+/// shows over time.
+fn write_run<R: Room, K: Sink>(
+    alloc: Global,
+    form: Form,
+    room: &mut R,
+    steps: &[Step],
+    sink: &mut K,
+) -> Status
+    requires spare { length steps.now + (R.opening room.old).scenario.siblings * (R.opening room.old).scenario.siblings
+        ≤ R.spare room.old }
+    requires events { All (λ step. IsEvent (R.opening room.old).scenario.siblings step.event) steps.now }
+
+    ensures either { (result ≡ Status.Done) ⊎ ((result ≡ Status.WriteFault) ⊎ (result ≡ Status.OutOfMemory)) }
+    ensures faultless { result ≡ Status.Done → K.faults sink.new ≡ K.faults sink.old }
+    ensures failed { result ≡ Status.WriteFault → Rose (K.faults sink.old) (K.faults sink.new) }
+    ensures unwritten { result ≡ Status.OutOfMemory → sink.new ≡ sink.old }
+{
+    match recorded_run(alloc, room, steps) {
+        Ok(run) => write_form(alloc, form, &run, sink),
+        Err(_) => Status::OutOfMemory,
+    }
+}
+
+/// Reads a scenario to its end, makes its steps in the order of their lines and then the entries of the end, and
+/// writes what the run shows over time.
+pub(crate) fn shown<Q: SiblingQueue, S: Source, K: Sink, G: Guard>(
+    alloc: Global,
+    form: Form,
+    source: &mut S,
+    sink: &mut K,
+    guards: Vec<G>,
+) -> Status
+    requires source { S.faults source.old < 2 ^ 64 - 1 }
+    requires sink { K.faults sink.old < 2 ^ 64 - 1 }
+    requires few { vec_len guards ≤ 16 }
+    requires untaught { All (λ guard. G.pairs guard ≡ []) guards.items }
+    requires unasked { All (λ guard. G.asked guard ≡ 0) guards.items }
+
+    ensures { EndsAsShown (map G.cap guards.items)
+        (record { bytes = S.left; faults = S.faults; before = source.old; after = source.new })
+        (record { bytes = K.written; faults = K.faults; before = sink.old; after = sink.new }) result }
+{
+    match opened::<Q, S, G>(alloc, source, guards) {
+        Ok((scenario, mut room)) => {
+            write_run(alloc, form, &mut room, scenario.steps.items(), sink)
+        }
+        Err(stop) => Status::from(stop),
+    }
+}
