@@ -78,4 +78,6 @@ mod scripts;
 #[cfg(test)]
 mod strangers;
 #[cfg(test)]
+mod views;
+#[cfg(test)]
 mod written;
