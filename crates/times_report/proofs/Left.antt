@@ -10,6 +10,7 @@ use Rattle.run_summary.specs.Summaries.{Summary}
 use Rattle.scenario_text.specs.Words.{Word}
 use Rattle.scenario_text.specs.Text.{line}
 use Rattle.scenario_text.proofs.Reached.{AreLeft, part_more, part_prefix}
+use Rattle.times_report.specs.TaskLines.{task_lines}
 use Rattle.times_report.specs.Summary.{cpu_words, forced_words, exposed_words, pair_words, pending_words, replies_words, total_words, lines_of, pair_lines}
 
 -- the lines of the siblings from one on
@@ -63,12 +64,15 @@ no_pair before whole pairs index now past left =
 
 -- ---- the parts of the summary
 
--- what follows the lines of the siblings, and those of the pairs
+-- what follows the lines of the siblings, those of the tasks, and those of the pairs
 abbrev pub after_pairs : Summary → List (List Word)
 after_pairs summary = pending_words summary.times ∷ replies_words summary.replies ∷ total_words summary.times ∷ []
 
+abbrev pub after_tasks : Summary → List (List Word)
+after_tasks summary = exposed_words summary.times ∷ pair_lines summary.pairs.rows ++ after_pairs summary
+
 abbrev pub after_siblings : Summary → List (List Word)
-after_siblings summary = exposed_words summary.times ∷ pair_lines summary.pairs.rows ++ after_pairs summary
+after_siblings summary = task_lines summary.tasks ++ after_tasks summary
 
 -- a part goes out, or a prefix of it
 pub part_out : (before : Option (List ℕ)) (whole : List ℕ) (part told : List (List Word)) (rest : List (List Word)) (mid now : Option (List ℕ)) → told ≡ part →

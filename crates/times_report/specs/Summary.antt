@@ -65,9 +65,10 @@ pair_lines pairs = map pair_words pairs
 -- part by part
 abbrev pub summary_lines : Summary → List (List Word)
 summary_lines summary =
-    sibling_lines summary.times.siblings ++ task_lines summary.tasks
+    sibling_lines summary.times.siblings
+    ++ (task_lines summary.tasks
     ++ (exposed_words summary.times ∷ pair_lines summary.pairs.rows
-    ++ (pending_words summary.times ∷ replies_words summary.replies ∷ total_words summary.times ∷ []))
+    ++ (pending_words summary.times ∷ replies_words summary.replies ∷ total_words summary.times ∷ [])))
 
 -- the text, each line with its line feed
 abbrev pub summary_text : Summary → List ℕ
