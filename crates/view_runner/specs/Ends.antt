@@ -9,7 +9,7 @@ use Rattle.times_report.specs.Summary.{summary_text}
 use Rattle.scenario_input.specs.declared.status.Status.{Status}
 use Rattle.scenario_input.specs.declared.status.Status.TheVariants.{Done, BadWords, WriteFault}
 use Rattle.view_words.specs.declared.command.Command.{Command}
-use Rattle.view_words.specs.declared.command.Command.TheVariants.{Summary, Segments, SegmentsJson, Picture}
+use Rattle.view_words.specs.declared.command.Command.TheVariants as command
 use Rattle.scenario_input.specs.Input.{Reads, input_limit, count_read}
 use Rattle.scenario_input.specs.Teaching.{first_bad}
 use Rattle.scenario_runner.specs.Outcomes.{opened_with}
@@ -57,7 +57,7 @@ pub record EndsAsShown {S K : Type 0} (caps : List ℕ) (source : Used S) (sink 
 
 -- how each command ends
 abbrev pub EndsBy : {S K : Type 0} → Command → List ℕ → Used S → Used K → Status → Type 0
-EndsBy Summary caps source sink status = EndsAsSummary caps source sink status
-EndsBy Segments caps source sink status = EndsAsShown caps source sink status
-EndsBy SegmentsJson caps source sink status = EndsAsShown caps source sink status
-EndsBy Picture caps source sink status = EndsAsShown caps source sink status
+EndsBy command.Summary caps source sink status = EndsAsSummary caps source sink status
+EndsBy command.Segments caps source sink status = EndsAsShown caps source sink status
+EndsBy command.SegmentsJson caps source sink status = EndsAsShown caps source sink status
+EndsBy command.Picture caps source sink status = EndsAsShown caps source sink status
