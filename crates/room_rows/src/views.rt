@@ -75,7 +75,8 @@ fn segments_of_a_window(rt: HostRuntime) {
 
 #[test]
 fn segments_of_a_window_as_json(rt: HostRuntime) {
-    let output = "{\"from\":0,\"to\":50000,\"sibling\":0,\"state\":\"running\",\"cookie\":1,\"pending\":true,\"forced\":false,\"pid\":1}
+    let output =
+        "{\"from\":0,\"to\":50000,\"sibling\":0,\"state\":\"running\",\"cookie\":1,\"pending\":true,\"forced\":false,\"pid\":1}
 {\"from\":0,\"to\":51000,\"sibling\":1,\"state\":\"running\",\"cookie\":2,\"pending\":false,\"forced\":false,\"pid\":2}
 {\"from\":50000,\"to\":51000,\"sibling\":0,\"state\":\"idle\",\"cookie\":2,\"pending\":false,\"forced\":true,\"pid\":null}
 ";
@@ -159,7 +160,13 @@ total 3450
 
 #[test]
 fn words_of_the_view(rt: HostRuntime) {
-    for words in [&["Summary"][..], &["summary", "x"], &["replay"], &["--help"], &[]] {
+    for words in [
+        &["Summary"][..],
+        &["summary", "x"],
+        &["replay"],
+        &["--help"],
+        &[],
+    ] {
         expect_view(&rt, words, WINDOW, Status::BadWords, "");
     }
 }
