@@ -63,8 +63,7 @@ impl<Q: SiblingQueue, G: Guard> State<Q, G> {
     {
         self.refs.get(cookie);
         self.refs.put(task.cookie);
-        self.core
-            .replace(&mut self.tasks, Task { cookie, ..task }, steps);
+        self.core.set_cookie(&mut self.tasks, &task, cookie, steps);
         self.core.task_number += touches(&task, cookie);
         flag_runners(&mut self.core.lanes, task.spec.pid);
     }

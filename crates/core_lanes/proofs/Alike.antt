@@ -13,6 +13,7 @@ use Rattle.cs_types.proofs.Spots.{replaced_by}
 use Rattle.task_table.specs.Table.{Rises, RisesFrom}
 use Rattle.core_lanes.specs.Queued.{queued_among, queued_at, is_peer_of, is_alike}
 use Rattle.core_lanes.proofs.Queues.{is_on}
+use Rattle.core_lanes.proofs.Replaced.{past}
 
 -- policies of one class and one priority have the same ranks
 same_rank : (p q : Policy) (deadline vtime : ℕ) → class_of q ≡ class_of p → priority_of q ≡ priority_of p → rank_by p deadline vtime ≡ rank_by q deadline vtime
@@ -77,13 +78,6 @@ are_alike old task alike =
 held_head : (task : Task) (on : Bool) (tasks : List Task) → map queued_of (cond on (task ∷ tasks) tasks) ≡ cond on (queued_of task ∷ map queued_of tasks) (map queued_of tasks)
 held_head task true tasks = refl
 held_head task false tasks = refl
-
--- behind the place of its pid a task takes none
-past : (task : Task) (low : ℕ) (tasks : List Task) → task.spec.pid < low → RisesFrom low tasks → map (replaced_by task) tasks ≡ tasks
-past task low [] below rises = refl
-past task low (t ∷ tasks) below rises =
-    let apart : has_pid task.spec.pid t ≡ false = ne_eqb t.spec.pid task.spec.pid (λ e. omega (arith, e, below, rises.0)) in
-    λ i. cond-false (has_pid task.spec.pid t) task t apart i ∷ past task (t.spec.pid + 1) tasks (omega (arith, below, rises.0)) rises.1 i
 
 module _ (task old : Task) (cpu : ℕ) (alike : is_alike old task ≡ true) where
   held_from : (low : ℕ) (tasks : List Task) → RisesFrom low tasks → find (has_pid task.spec.pid) tasks ≡ Some old →

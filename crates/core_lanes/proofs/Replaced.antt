@@ -1,5 +1,5 @@
 -- Replaced: a task in the place of the one with its pid.
-use Rattle.std.proofs.Common.{◌≡◌, ◌⊎◌, inl, inr, ℕ, ◌+◌, ◌<◌, true, false, List, [], ◌∷◌, map, arith, refl, subst, sym, ap, ◌∙◌, Some}
+use Rattle.std.proofs.Common.{◌≡◌, ◌⊎◌, inl, inr, ℕ, ◌+◌, ◌<◌, ◌≤◌, true, false, List, [], ◌∷◌, map, arith, refl, subst, sym, ap, ◌∙◌, Some}
 use Rattle.std.specs.Prelude.{find, ◌==◌, All, IsTrue}
 use Rattle.std.proofs.lemmas.Bool.{cond_both, cond-true, cond-false, cases_Bool, eqb-true, eq-eqb, ne_eqb}
 use Rattle.task_table.specs.Table.{Rises, RisesFrom}
@@ -7,9 +7,10 @@ use Rattle.std.proofs.lemmas.List.Elements.{All-map, All-weaker}
 use Rattle.cs_types.specs.declared.task.Task.{Task}
 use Rattle.cs_types.specs.Room.{has_pid}
 use Rattle.cs_types.proofs.Spots.{replaced_by, find-replaced}
-use Rattle.core_lanes.specs.Queued.{IsOf, HasOwnStamp, AreStamped}
+use Rattle.core_lanes.specs.Queued.{queued_at, IsOf, HasOwnStamp, AreStamped}
 use Rattle.core_lanes.specs.Lanes.{MayStamp}
 use Rattle.core_lanes.specs.Changes.{identity_of}
+use Rattle.core_lanes.proofs.Queues.{is_on, absent_from, others-replaced}
 
 -- what holds of all, and of the one that takes a place
 pub All-replaced : (P : Task → Type 0) (task : Task) (tasks : List Task) → P task → All P tasks → All P (map (replaced_by task) tasks)
@@ -58,6 +59,53 @@ module _ (task old : Task) (tasks : List Task) (there : find (has_pid task.spec.
               ]
         ];
   }
+
+-- behind the place of its pid a task takes none
+pub past : (task : Task) (low : ℕ) (tasks : List Task) → task.spec.pid < low → RisesFrom low tasks → map (replaced_by task) tasks ≡ tasks
+past task low [] below rises = refl
+past task low (t ∷ tasks) below rises =
+    let apart : has_pid task.spec.pid t ≡ false = ne_eqb t.spec.pid task.spec.pid (λ e. omega (arith, e, below, rises.0)) in
+    λ i. cond-false (has_pid task.spec.pid t) task t apart i ∷ past task (t.spec.pid + 1) tasks (omega (arith, below, rises.0)) rises.1 i
+
+-- a task in its own place changes nothing
+pub replaced-itself : (task : Task) (tasks : List Task) → Rises tasks → IsOf tasks task → map (replaced_by task) tasks ≡ tasks
+replaced-itself task tasks rises there = go 0 tasks rises there where
+  go : (low : ℕ) (ts : List Task) → RisesFrom low ts → find (has_pid task.spec.pid) ts ≡ Some task → map (replaced_by task) ts ≡ ts
+  go low [] rises found = refl
+  go low (t ∷ ts) rises found =
+      elim (cases_Bool (has_pid task.spec.pid t)) [
+        | inl here ↦
+            let same : Some t ≡ Some task = sym (cond-true _ (Some t) (find (has_pid task.spec.pid) ts) here) ∙ found in
+            let is : task ≡ t = cc in
+            let at : t.spec.pid ≡ task.spec.pid = eqb-true t.spec.pid task.spec.pid here in
+            (λ i. (cond-true (has_pid task.spec.pid t) task t here ∙ is) i ∷ past task (t.spec.pid + 1) ts (omega (arith, at)) rises.1 i)
+        | inr other ↦
+            let rest = go (t.spec.pid + 1) ts rises.1 (sym (cond-false _ (Some t) (find (has_pid task.spec.pid) ts) other) ∙ found) in
+            (λ i. cond-false (has_pid task.spec.pid t) task t other i ∷ rest i)
+      ]
+
+-- the pids rise still
+pub rises-replaced : (task : Task) (tasks : List Task) → Rises tasks → Rises (map (replaced_by task) tasks)
+rises-replaced task tasks rises = go 0 tasks rises where
+  same_pid : (t : Task) → (replaced_by task t).spec.pid ≡ t.spec.pid
+  same_pid t =
+      elim (cases_Bool (has_pid task.spec.pid t)) [
+        | inl here ↦ ap (λ (x : Task). x.spec.pid) (cond-true (has_pid task.spec.pid t) task t here) ∙ sym (eqb-true t.spec.pid task.spec.pid here)
+        | inr other ↦ ap (λ (x : Task). x.spec.pid) (cond-false (has_pid task.spec.pid t) task t other)
+      ]
+
+  go : (low : ℕ) (ts : List Task) → RisesFrom low ts → RisesFrom low (map (replaced_by task) ts)
+  go low [] rises = tt
+  go low (t ∷ ts) rises =
+      subst (λ n. (low ≤ n) × RisesFrom (n + 1) (map (replaced_by task) ts)) (sym (same_pid t)) (rises.0, go (t.spec.pid + 1) ts rises.1)
+
+-- a sibling on which neither is queued has the same tasks queued
+pub queued_at-replaced : (task old : Task) (tasks : List Task) (cpu : ℕ) → Rises tasks → find (has_pid task.spec.pid) tasks ≡ Some old →
+    is_on cpu old ≡ false → is_on cpu task ≡ false → queued_at (map (replaced_by task) tasks) cpu ≡ queued_at tasks cpu
+queued_at-replaced task old tasks cpu rises there off_old off =
+    sym (absent_from task.spec.pid cpu 0 (map (replaced_by task) tasks) task (rises-replaced task tasks rises) (is_of task old tasks there) off)
+    ∙ others-replaced task tasks cpu
+    ∙ absent_from task.spec.pid cpu 0 tasks old rises there off_old
 
 -- each keeps its pid and cookie, where the one that takes a place has the cookie of the one that had it
 pub identities-replaced : (task old : Task) (tasks : List Task) → Rises tasks → find (has_pid task.spec.pid) tasks ≡ Some old → task.cookie ≡ old.cookie →

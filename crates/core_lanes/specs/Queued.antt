@@ -1,5 +1,5 @@
 -- Queued: the tasks of a table that are queued on a sibling, as its queue has them, and what it is asked of them.
-use Rattle.std.specs.Prelude.{◌≡◌, ℕ, ◌<◌, Bool, ◌==◌, ◌&&◌, not, nat_lt, List, map, filter, find, count_by, Option, Some, All, IsTrue}
+use Rattle.std.specs.Prelude.{◌≡◌, ℕ, ◌<◌, Bool, ◌==◌, ◌&&◌, not, nat_lt, if◌then◌else◌, List, map, filter, find, count_by, Option, Some, All, IsTrue}
 use Rattle.std.specs.List.{list_any}
 use Rattle.cs_types.specs.declared.task.Task.{Task}
 use Rattle.cs_types.specs.declared.queue.Queued.{Queued}
@@ -21,6 +21,10 @@ queued_at tasks cpu = map queued_of (queued_among tasks cpu)
 -- those but for the one with this pid
 abbrev pub others : ℕ → List Queued → List Queued
 others pid queued = filter (λ task. not (task.pid == pid)) queued
+
+-- the tasks of a list once this one, which is one of them, has this cookie
+abbrev pub given_cookie : Task → ℕ → List Task → List Task
+given_cookie task cookie tasks = map (λ other. if has_pid task.spec.pid other then record task { cookie = cookie } else other) tasks
 
 -- the task is one of the list
 abbrev pub IsOf : List Task → Task → Type 0

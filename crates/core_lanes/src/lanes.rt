@@ -8,7 +8,7 @@ ghost use Rattle.cs_types.specs.Step.{run_idle};
 ghost use Rattle.cs_types.specs.Steal.{set_place};
 ghost use Rattle.cs_types.specs.Queueing.{enqueue, dequeue, moved_to};
 ghost use Rattle.task_table.specs.Table.{Table, IsSound as IsTable};
-ghost use Rattle.core_lanes.specs.Queued.{IsOf, queued_among, queued_at, others, is_alike};
+ghost use Rattle.core_lanes.specs.Queued.{IsOf, queued_among, queued_at, others, given_cookie, is_alike};
 
 use crate::lane::Lane;
 use crate::order::is_alike;
@@ -234,6 +234,49 @@ impl<Q: SiblingQueue> Core<Q> {
         self.take(table, &old, steps);
         table.change(task);
         self.put(table, &task, steps);
+    }
+
+    /// The queue that the task stands in, if one, has it as it is with this cookie.
+    fn set_cookie_in_queue<L: Ledger>(
+        &mut self,
+        table: &TaskTable,
+        task: &Task,
+        cookie: Cookie,
+        steps: &mut Steps<L>,
+    )
+        requires there { IsOf table.now.tasks task.now }
+        requires home { task.now.home < length self.old.lanes.items }
+        requires table { IsTable table.now }
+        requires held { AreHeld (self.old, table.now) }
+        ensures bare { bare self.new ≡ bare self.old }
+        ensures held { AreHeld (self.new, record table.now { tasks = given_cookie task.now cookie table.now.tasks }) }
+    {
+        if task.queued {
+            self.lanes[task.home as usize]
+                .queue
+                .set_cookie(table, task.home, task, cookie, steps);
+        }
+    }
+
+    /// The task has the cookie, in the table and in the queue that it stands in, if one.
+    pub fn set_cookie<L: Ledger>(
+        &mut self,
+        table: &mut TaskTable,
+        task: &Task,
+        cookie: Cookie,
+        steps: &mut Steps<L>,
+    )
+        requires there { IsOf table.old.tasks task.now }
+        requires agree { Agree (self.old, table.old) }
+        ensures table { table.new ≡ record table.old { tasks = given_cookie task.now cookie table.old.tasks } }
+        ensures bare { bare self.new ≡ bare self.old }
+        ensures agree { Agree (self.new, table.new) }
+    {
+        if task.cookie == cookie {
+            return;
+        }
+        self.set_cookie_in_queue(table, task, cookie, steps);
+        table.change(Task { cookie, ..*task });
     }
 
     /// The queue of a sibling, whose tasks are about to leave, is empty.

@@ -4,7 +4,7 @@ ghost use Rattle.std.specs.Prelude.{◌≡◌, ◌≢◌, ◌==◌, ◌&&◌, �
 ghost use Rattle.cs_types.specs.declared.queue.Queued.{Queued};
 ghost use Rattle.cs_types.specs.Order.{first_of};
 ghost use Rattle.cs_types.specs.Scenario.{IsPolicy};
-ghost use Rattle.core_lanes.specs.Queued.{queued_among, queued_at, others, IsOf, HasOwnStamp, with_cookie, behind, smallest_vtime, has_peer, HavePolicies};
+ghost use Rattle.core_lanes.specs.Queued.{queued_among, queued_at, others, given_cookie, IsOf, HasOwnStamp, with_cookie, behind, smallest_vtime, has_peer, HavePolicies};
 ghost use Rattle.task_table.specs.Table.{IsSound as IsTable};
 
 use cs_types::{Cookie, Cpu, OutOfMemory, Steps, Task};
@@ -49,6 +49,24 @@ pub trait SiblingQueue: Drop {
         requires home { task.now.home ≡ cpu }
         requires holds { holds self.old table.now.limit (queued_at table.now.tasks cpu) }
         ensures holds { holds self.new table.now.limit (others task.now.spec.pid (queued_at table.now.tasks cpu)) }
+        ensures counted { steps.new ≤ steps.old + most_compared (length (queued_among table.now.tasks cpu)) };
+
+    /// The task, which the table has queued on the sibling, is about to have this cookie there
+    /// (`sched_core_update_cookie`).
+    fn set_cookie<L: Ledger>(
+        &mut self,
+        table: &TaskTable,
+        cpu: Cpu,
+        task: &Task,
+        cookie: Cookie,
+        steps: &mut Steps<L>,
+    )
+        requires table { IsTable table.now }
+        requires there { IsOf table.now.tasks task.now }
+        requires queued { IsTrue task.now.queued }
+        requires home { task.now.home ≡ cpu }
+        requires holds { holds self.old table.now.limit (queued_at table.now.tasks cpu) }
+        ensures holds { holds self.new table.now.limit (queued_at (given_cookie task.now cookie table.now.tasks) cpu) }
         ensures counted { steps.new ≤ steps.old + most_compared (length (queued_among table.now.tasks cpu)) };
 
     /// Every task leaves. It can take as many in all as before.

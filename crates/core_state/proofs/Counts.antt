@@ -89,6 +89,19 @@ module _ (task : Queued) (all rest : List Queued) (split : IsSplit task all rest
     pub some-take : AreCounted kinds all → 1 ≤ get_or kinds kind 0
     some-take counted = omega (arith, counted.each kind few, of_its_kind kind is)
 
+-- ---- a task that stays, and changes nothing that its kind reads
+
+pub counted-stay : (task now : Queued) (all then rest : List Queued) → IsSplit task all rest → IsSplit now then rest → kind_of now ≡ kind_of task →
+    (kinds : List ℕ) → AreCounted kinds all → AreCounted kinds then
+counted-stay task now all then rest split split_now same kinds counted = record {
+  many = counted.many;
+  each = λ kind below.
+      counted.each kind below
+      ∙ count-split task all rest split kind
+      ∙ ap (λ (k : ℕ). cond (k == kind) 1 0 + count_of kind rest) (sym same)
+      ∙ sym (count-split now then rest split_now kind);
+}
+
 -- ---- peers
 
 plain_priority : (policy : Policy) → class_of policy ≢ real_time_class → priority_of policy ≡ 0

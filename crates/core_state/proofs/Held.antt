@@ -11,6 +11,7 @@ use Rattle.std.proofs.lemmas.List.Elements.{filter-append}
 use Rattle.cs_types.specs.declared.queue.Queued.{Queued}
 use Rattle.cs_types.specs.Queue.{RunQueued, Seat, Seats, Spot, Spots, seat_cmp, spot_cmp, seat_of, spot_of}
 use Rattle.cs_types.proofs.Queues.{seat_total, seat_cmp-IsAntisymmetric, spot_total, spot_cmp-IsAntisymmetric}
+use Rattle.run_queue.specs.Run.{without, including}
 use Rattle.run_queue.proofs.Ties.{has-insert, had-insert, longer-insert}
 use Rattle.core_state.specs.Held.{AreApart, AreDistinct, Holds, has_cookie, seated, spotted}
 use Rattle.core_state.proofs.Made.{free_at, made-put, made-take}
@@ -153,6 +154,18 @@ module _ (task : Queued) (all rest : List Queued) (split : IsSplit task all rest
     distinct = subst AreDistinct (sym split.left) (distinct_out front back task (subst AreDistinct split.whole held.distinct)).1;
     room = let long = length-split task all rest split in let before = held.room in omega arith;
   }
+
+-- A task stays, and has another cookie.
+pub Holds-set_cookie : (task : Queued) (cookie : ℕ) (all then rest : List Queued) → IsSplit task all rest → IsSplit (record task { cookie = cookie }) then rest →
+    AllByRecursion (AreApart task) rest → (old new : RunQueued) (most : ℕ) → Holds old most all → new.tasks ≡ old.tasks →
+    new.cookies ≡ including (record task { cookie = cookie }) (without task old.cookies) → new.spare ≡ old.spare → Holds new most then
+Holds-set_cookie task cookie all then rest split split_now apart old new most held tasks cookies spare =
+    let now : Queued = record task { cookie = cookie } in
+    let mid : RunQueued = record { tasks = fin.remove old.tasks (seat_of task); cookies = without task old.cookies; spare = old.spare + 1 } in
+    let less = Holds-take task all rest split apart old mid most held refl refl refl in
+    Holds-put now then rest split_now apart mid new most less
+    (tasks ∙ held.seats ∙ seated-put task all rest split apart ∙ ap (λ (m : Seats). fin.insert m (seat_of task) task.pid) (sym less.seats))
+    cookies (ap (λ n. n + 1) spare)
 
 -- the others there are apart from a task of a queue
 pub apart_others : (run : RunQueued) (most : ℕ) (task : Queued) (all rest : List Queued) → IsSplit task all rest → Holds run most all → AllByRecursion (AreApart task) rest

@@ -51,6 +51,17 @@ impl SiblingQueue for TreeQueue {
         self.kinds[kind_of(task)] -= 1;
     }
 
+    fn set_cookie<L: Ledger>(
+        &mut self,
+        _table: &TaskTable,
+        _cpu: Cpu,
+        task: &Task,
+        cookie: Cookie,
+        steps: &mut Steps<L>,
+    ) {
+        self.run.set_cookie(&queued_of(task), cookie, steps);
+    }
+
     fn clear(&mut self) {
         self.run.clear();
         self.kinds = [0; KINDS];

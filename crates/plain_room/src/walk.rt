@@ -50,6 +50,15 @@ impl SiblingQueue for Walk {
         _steps: &mut Steps<L>,
     ) {}
 
+    fn set_cookie<L: Ledger>(
+        &mut self,
+        _table: &TaskTable,
+        _cpu: Cpu,
+        _task: &Task,
+        _cookie: Cookie,
+        _steps: &mut Steps<L>,
+    ) {}
+
     fn clear(&mut self) {}
 
     fn first<L: Ledger>(&self, table: &TaskTable, cpu: Cpu, _steps: &mut Steps<L>) -> Option<Task> {

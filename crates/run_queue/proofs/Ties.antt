@@ -66,6 +66,9 @@ module _ {K X : Type 0} {R : K → K → Ordering} (o : IsTotalOrder R) (only : 
       let none : false ≡ true = ap is_some (sym (cond-true _ None (get m key) (ap is_eq (tied_itself o key)))) ∙ sym (found-remove key) ∙ there in
       absurd cc
 
+  pub gone-remove : get (fin.remove m key) key ≡ None
+  gone-remove = get-remove o m key key ∙ cond-true _ None (get m key) (ap is_eq (tied_itself o key))
+
   -- ---- how many it has then
 
   pub longer-insert : (value : X) → get m key ≡ None → len (fin.insert m key value) ≡ len m + 1
@@ -208,6 +211,44 @@ module _ (tasks : Seats) (cookies : Spots) (tied : IsTied tasks cookies) where
     } where
       had : (spot : Spot) → IsTrue (contains_key (fin.remove cookies (cookie, seat)) spot) → IsTrue (contains_key cookies spot)
       had spot there = had-remove spot_total spot_cmp-IsAntisymmetric cookies (cookie, seat) spot there
+
+-- ---- a task that stays, and gets another cookie
+
+module _ (tasks : Seats) (cookies : Spots) (seat : Seat) where
+  -- the tasks with cookies but for this one are tied to the tasks with it as they are to the others
+  pub IsTied-without : IsTied (fin.remove tasks seat) cookies → IsTied tasks cookies
+  IsTied-without tied = record {
+    seated = λ spot there. had-remove seat_total seat_cmp-IsAntisymmetric tasks seat spot.1 (tied.seated spot there);
+    cookie = tied.cookie;
+    one = tied.one;
+  }
+
+  module _ (tied : IsTied tasks cookies) (free : (cookie : ℕ) → get cookies (cookie, seat) ≡ None) where
+    -- where no task with a cookie is at the seat, they are tied to the others
+    tied_others : IsTied (fin.remove tasks seat) cookies
+    tied_others = IsTied-remove_plain tasks cookies tied seat 0
+        (λ other there. let bad : true ≡ false = sym there ∙ ap is_some (free other) in absurd cc) refl
+
+    module _ (there : IsTrue (contains_key tasks seat)) where
+      -- so they are fewer
+      pub len-lt : len cookies + 1 ≤ len tasks
+      len-lt =
+          let few = len-le (fin.remove tasks seat) cookies tied_others in
+          let fewer = ap (λ b. len (fin.remove tasks seat) + cond b 1 0) (sym there) ∙ shorter-remove seat_total seat_cmp-IsAntisymmetric tasks seat in
+          omega arith
+
+      -- and the task at the seat may enter
+      pub IsTied-including : (pid cookie : ℕ) → cookie ≢ 0 → IsTied tasks (fin.insert cookies (cookie, seat) pid)
+      IsTied-including pid cookie some =
+          let gone = gone-remove seat_total seat_cmp-IsAntisymmetric tasks seat in
+          let now = IsTied-cookie (fin.remove tasks seat) cookies tied_others seat pid gone cookie some in record {
+            seated = λ spot at. elim (had-insert seat_total seat_cmp-IsAntisymmetric (fin.remove tasks seat) seat pid spot.1 (now.seated spot at)) [
+              | inl same ↦ subst (λ s. IsTrue (contains_key tasks s)) (sym same) there
+              | inr other ↦ had-remove seat_total seat_cmp-IsAntisymmetric tasks seat spot.1 other
+            ];
+            cookie = now.cookie;
+            one = now.one;
+          }
 
 pub IsTied-empty : (tasks : Seats) (cookies : Spots) → cookies ≡ empty → IsTied tasks cookies
 IsTied-empty tasks cookies is = record {

@@ -1,12 +1,21 @@
 -- Run: how a run queue is stored, and what always holds of it.
-use Rattle.std.specs.Prelude.{◌≡◌, ◌≢◌, ◌+◌, ◌≤◌, IsTrue}
-use Rattle.std.specs.FinMap.{contains_key, len}
-use Rattle.cs_types.specs.Queue.{RunQueued, Seats, Spot, Spots}
+use Rattle.std.specs.Prelude.{◌≡◌, ◌≢◌, ◌+◌, ◌≤◌, ◌==◌, if◌then◌else◌, IsTrue}
+use Rattle.std.specs.FinMap.{contains_key, insert, remove, len}
+use Rattle.cs_types.specs.declared.queue.Queued.{Queued}
+use Rattle.cs_types.specs.Queue.{RunQueued, Seats, Spot, Spots, spot_of}
 use Rattle.run_queue.specs.declared.queue.RunQueue.TheInside.{Inside}
 
 -- what contracts see of it
 abbrev pub run_of : Inside → RunQueued
 run_of run = record { tasks = run.classes.tasks; cookies = run.cookies.tasks; spare = run.classes.spare }
+
+-- the tasks with cookies but for this one, which stands among them where it has a cookie (`sched_core_dequeue`)
+abbrev pub without : Queued → Spots → Spots
+without task cookies = if task.cookie == 0 then cookies else remove cookies (spot_of task)
+
+-- and with this one, where it has a cookie (`sched_core_enqueue`)
+abbrev pub including : Queued → Spots → Spots
+including task cookies = if task.cookie == 0 then cookies else insert cookies (spot_of task) task.pid
 
 -- Each task with a cookie is one of the tasks, its cookie is not 0, and it has no other.
 pub record IsTied (tasks : Seats) (cookies : Spots) : Type 0 where

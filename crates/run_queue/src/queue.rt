@@ -1,6 +1,6 @@
 //! The run queue: the queues of the classes, and beside them the tasks with cookies.
 
-ghost use Rattle.std.specs.Prelude.{◌≡◌, ℕ, ◌+◌, ◌*◌, ◌<◌, ◌≤◌, ◌==◌, max, if◌then◌else◌, None, OnOk, OnErr, IfSome, IsTrue, List, All};
+ghost use Rattle.std.specs.Prelude.{◌≡◌, ℕ, ◌+◌, ◌*◌, ◌<◌, ◌≤◌, max, if◌then◌else◌, None, OnOk, OnErr, IfSome, IsTrue, List, All};
 ghost use Rattle.std.specs.FinMap as map;
 ghost use Rattle.std.specs.Option.{option_map};
 ghost use Rattle.cs_types.specs.declared.task.Task.{Task};
@@ -8,6 +8,7 @@ ghost use Rattle.cs_types.specs.Comparisons.{most_comparisons};
 ghost use Rattle.cs_types.specs.Order.{fair_class, priority_of, first_of};
 ghost use Rattle.cs_types.specs.Queue.{IsRanked, seat_of, spot_of, queue_of, top_of, first_with, next_with};
 ghost use Rattle.run_queue.specs.Fair.{first_in};
+ghost use Rattle.run_queue.specs.Run.{without, including};
 
 use crate::classes::Classes;
 use cookie_queue::CookieQueue;
@@ -76,8 +77,7 @@ impl RunQueue {
         requires ranked { IsRanked task }
         requires free { map.get self.old.tasks (seat_of task) ≡ None }
         ensures tasks { self.new.tasks ≡ map.insert self.old.tasks (seat_of task) task.pid }
-        ensures cookies { self.new.cookies
-            ≡ (if task.cookie == 0 then self.old.cookies else map.insert self.old.cookies (spot_of task) task.pid) }
+        ensures cookies { self.new.cookies ≡ including task self.old.cookies }
         ensures spare { self.new.spare + 1 ≡ self.old.spare }
         ensures counted { steps.new ≤ steps.old + 2 * most_comparisons (map.len self.old.tasks) }
     {
@@ -96,8 +96,7 @@ impl RunQueue {
             cookie ≡ task.now.cookie }
         ensures found { result ≡ map.contains_key self.old.tasks (seat_of task.now) }
         ensures tasks { self.new.tasks ≡ map.remove self.old.tasks (seat_of task.now) }
-        ensures cookies { self.new.cookies
-            ≡ (if task.now.cookie == 0 then self.old.cookies else map.remove self.old.cookies (spot_of task.now)) }
+        ensures cookies { self.new.cookies ≡ without task.now self.old.cookies }
         ensures spare { self.new.spare ≡ self.old.spare + (if result then 1 else 0) }
         ensures counted { steps.new ≤ steps.old + 2 * most_comparisons (map.len self.old.tasks) }
     {
@@ -106,6 +105,56 @@ impl RunQueue {
             self.cookies.take(task, steps);
         }
         found
+    }
+
+    /// The task leaves the cookie order (`sched_core_dequeue`), where it has a cookie.
+    fn leave_cookies<L: Ledger>(&mut self, task: &Queued, steps: &mut Steps<L>)
+        requires ranked { IsRanked task.now }
+        requires same { IfSome (map.get self.old.cookies (spot_of task.now)) (λ pid. pid ≡ task.now.pid) }
+        requires cookie { (cookie : ℕ) → IsTrue (map.contains_key self.old.cookies (cookie, seat_of task.now)) →
+            cookie ≡ task.now.cookie }
+        ensures tasks { self.new.tasks ≡ self.old.tasks }
+        ensures cookies { self.new.cookies ≡ without task.now self.old.cookies }
+        ensures free { (cookie : ℕ) → map.get self.new.cookies (cookie, seat_of task.now) ≡ None }
+        ensures spare { self.new.spare ≡ self.old.spare }
+        ensures counted { steps.new ≤ steps.old + most_comparisons (map.len self.old.tasks) }
+    {
+        if task.cookie != 0 {
+            self.cookies.take(task, steps);
+        }
+    }
+
+    /// The task, which is there, enters the cookie order (`sched_core_enqueue`), where it has a cookie.
+    fn enter_cookies<L: Ledger>(&mut self, task: Queued, steps: &mut Steps<L>)
+        requires ranked { IsRanked task }
+        requires there { IsTrue (map.contains_key self.old.tasks (seat_of task)) }
+        requires free { (cookie : ℕ) → map.get self.old.cookies (cookie, seat_of task) ≡ None }
+        ensures tasks { self.new.tasks ≡ self.old.tasks }
+        ensures cookies { self.new.cookies ≡ including task self.old.cookies }
+        ensures spare { self.new.spare ≡ self.old.spare }
+        ensures counted { steps.new ≤ steps.old + most_comparisons (map.len self.old.tasks) }
+    {
+        if task.cookie != 0 {
+            self.cookies.put(task, steps);
+        }
+    }
+
+    /// The task, which is there with its pid and its cookie, gets this cookie (`sched_core_update_cookie`,
+    /// kernel/sched/core_sched.c): it leaves the cookie order at its old one and enters it at the new one, where
+    /// these are not 0. The queue of its class is not touched.
+    pub fn set_cookie<L: Ledger>(&mut self, task: &Queued, cookie: Cookie, steps: &mut Steps<L>)
+        requires ranked { IsRanked task.now }
+        requires there { IsTrue (map.contains_key self.old.tasks (seat_of task.now)) }
+        requires same { IfSome (map.get self.old.cookies (spot_of task.now)) (λ pid. pid ≡ task.now.pid) }
+        requires cookie { (cookie : ℕ) → IsTrue (map.contains_key self.old.cookies (cookie, seat_of task.now)) →
+            cookie ≡ task.now.cookie }
+        ensures tasks { self.new.tasks ≡ self.old.tasks }
+        ensures cookies { self.new.cookies ≡ including (record task.now { cookie = cookie }) (without task.now self.old.cookies) }
+        ensures spare { self.new.spare ≡ self.old.spare }
+        ensures counted { steps.new ≤ steps.old + 2 * most_comparisons (map.len self.old.tasks) }
+    {
+        self.leave_cookies(task, steps);
+        self.enter_cookies(Queued { cookie, ..*task }, steps);
     }
 
     /// Every task leaves.

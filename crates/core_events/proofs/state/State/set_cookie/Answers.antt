@@ -32,31 +32,15 @@ put-requires g c own =
       own_cookie_is_live c.args.self.now.refs c.args.self.now.tasks.tasks c.args.cookie c.args.task.spec.pid c.args.task c.requires.there c.requires.sound.refs own,
     )
 
-pub replace-requires-clause-fits : goal.replace-requires-clause-fits
-replace-requires-clause-fits g c =
-    let core = c.args.self.now.core in
-    let tasks = c.args.self.now.tasks.tasks in
-    let task = c.args.task in
-    let there = c.requires.there in
-    let agree = c.requires.sound.agree in
-    let fit = found_in (IsFit (length core.lanes.items)) task.spec.pid tasks task agree.tasks there in
-    record {
-      apart = record { old = task; there = there; fits = record { home = fit.home; policy = fit.policy } };
-      stamp = λ queued. record {
-        below = found_in (λ (t : Task). IsTrue t.queued → t.stamp < core.next_stamp) task.spec.pid tasks task agree.stamped.below there queued;
-        own = agree.stamped.distinct task there queued;
-      };
-    }
-
 pub returns : goal.returns
 returns g c =
     let old = c.args.self.now in
     let pid = c.args.task.spec.pid in
     let tasks = old.tasks.tasks in
     let there = c.requires.there in
-    let mid = c.replace.new.self in
-    let same : bare mid ≡ bare old.core = c.replace.ensures.bare in
-    let table = c.replace.ensures.table in
+    let mid = c.set_cookie.new.self in
+    let same : bare mid ≡ bare old.core = c.set_cookie.ensures.bare in
+    let table = c.set_cookie.ensures.table in
     let raised = c.flag_runners.new.lanes in
     let as_many = c.flag_runners.auto.lanes ∙ ap length c.deref_mut.ensures.value in
     let after = (with_items mid.lanes raised).items in
@@ -72,15 +56,15 @@ returns g c =
     let is : core ≡ flagged_core touches pid (bare old.core) =
     (λ i. let one : BareCore = record (bare mid) { task_number = mid.task_number + touches; siblings = flags i; own = own i } in one)
     ∙ ap (flagged_core touches pid) same in
-    let stays = alike_stays (mid, c.replace.new.table) _ queues refl refl in
+    let stays = alike_stays (mid, c.set_cookie.new.table) _ queues refl refl in
     record {
       room = λ intervals.
-          sets_one (beside_of intervals old) c.put.new.self.limit c.put.new.self.next touches (bare old.core) core old.tasks c.replace.new.table c.args.task c.args.cookie
+          sets_one (beside_of intervals old) c.put.new.self.limit c.put.new.self.next touches (bare old.core) core old.tasks c.set_cookie.new.table c.args.task c.args.cookie
           c.requires.sound.agree.table.rising there table (c.put.ensures.limit ∙ c.get.ensures.limit) (c.put.ensures.next ∙ c.get.ensures.next) is;
       numbers = (λ i. with_ended old.ended.items (numbers_by (is i) (table i))) ∙ ap (λ n. touched n (state_numbers old)) (touches_alone c.args.task c.args.cookie touches c.touches.ensures.touches);
       stays = record {
         sound = λ sound. record {
-          agree = stays.agree c.replace.ensures.agree;
+          agree = stays.agree c.set_cookie.ensures.agree;
           limit = ap (λ (t : Table). t.limit) table ∙ sound.limit;
           user_top = sound.user_top;
           pids = subst (λ (t : Table). All (λ (task : Task). IsGiven old.next_pid task.spec.pid) t.tasks) (sym table)
@@ -103,14 +87,14 @@ returns g c =
       };
     }
 
-pub replace-requires-clause-agree : goal.replace-requires-clause-agree
-replace-requires-clause-agree g c = c.requires.sound.agree
+pub set_cookie-requires-clause-agree : goal.set_cookie-requires-clause-agree
+set_cookie-requires-clause-agree g c = c.requires.sound.agree
 
 pub get-requires-clause-live : goal.get-requires-clause-live
 get-requires-clause-live g c = held_cookie_is_live c.args.self.now.refs c.args.self.now.tasks.tasks c.args.cookie c.requires.sound.refs
 
 pub overflow_add-self : goal.overflow_add-self
-overflow_add-self g c = omega (arith, ap (λ (b : BareCore). b.task_number) c.replace.ensures.bare, c.requires.touches, c.touches.ensures.few)
+overflow_add-self g c = omega (arith, ap (λ (b : BareCore). b.task_number) c.set_cookie.ensures.bare, c.requires.touches, c.touches.ensures.few)
 
 pub invariant_of-self : goal.invariant_of-self
-invariant_of-self g c = record { few = c.replace.new.self.few }
+invariant_of-self g c = record { few = c.set_cookie.new.self.few }
