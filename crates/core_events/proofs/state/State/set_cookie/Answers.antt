@@ -1,5 +1,5 @@
-use Rattle.std.proofs.Common.{◌≢◌, ◌≡◌, ◌<◌, ◌∙◌, ◌+◌, refl, sym, ap, subst, map, length, arith}
-use Rattle.std.specs.Prelude.{All, IsTrue}
+use Rattle.std.proofs.Common.{◌≢◌, ◌≡◌, ◌∙◌, ◌+◌, refl, sym, ap, subst, map, length, arith}
+use Rattle.std.specs.Prelude.{All}
 use Rattle.std.specs.Vec.{with_items}
 use Rattle.std.proofs.lemmas.List.{with_items_is}
 use Rattle.cs_types.specs.declared.task.Task.{Task}
@@ -7,7 +7,7 @@ use Rattle.cookie_refs.specs.Refs.{AgreeBut}
 use Rattle.cookie_refs.proofs.Agreements.{AgreeBut-with_cookie, held_cookie_is_live, own_cookie_is_live, count_of-le}
 use Rattle.task_table.specs.Table.{Table}
 use Rattle.task_table.proofs.Tables.{rising_pairs}
-use Rattle.core_lanes.specs.Lanes.{BareCore, bare, lane_state, IsFit}
+use Rattle.core_lanes.specs.Lanes.{BareCore, bare, lane_state}
 use Rattle.core_lanes.specs.Numbers.{numbers_by, touched, with_ended}
 use Rattle.core_lanes.specs.Changes.{Kept}
 use Rattle.core_lanes.proofs.Replaced.{All-replaced}
