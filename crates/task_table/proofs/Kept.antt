@@ -17,6 +17,7 @@ use Rattle.task_table.specs.declared.fault.AddFault.TheVariants.{Full}
 use Rattle.task_table.specs.Positions.{IsAt, IsGap}
 use Rattle.task_table.specs.Inside.{slot_of, tasks_at, totals_of, IsKept}
 use Rattle.task_table.proofs.Rising.{find_at, find_none, none_gap, without_at, with_at, inserted_gap, rises_insert, rises_remove, rises_set, pids_set, at_within, split_within}
+use Rattle.task_table.proofs.Tables.{changed_each}
 use Rattle.task_table.proofs.Totals.{total-none}
 use Rattle.task_table.proofs.Slots.{insert_both, remove_both, length_both, listed, slot_at, others_elsewhere, holds_insert, holds_remove, holds_set}
 
@@ -156,6 +157,23 @@ module _ {slots : Slab Task} {entries : List Entry} {room limit : ℕ} {tasks : 
         room_for_entries = kept.room_for_entries;
         room_for_tasks = omega (arith, kept.room_for_tasks, same_room);
       }
+
+  -- the task in the slot of a pid remembers an occupation
+  pub kept_remembered : (new : Slab Task) (pid position occupation : ℕ) (entry : Entry) (task : Task) → IsAt pid position tasks →
+      entry ≡ get_or entries position entry → get slots entry.key ≡ Some task →
+      Updates slots new entry.key (Some (record task { occupation = occupation })) → slab_len new ≡ slab_len slots →
+      new.capacity ≡ slots.capacity →
+      IsKept new entries room limit (map (λ (other : Task). cond (has_pid pid other) (record other { occupation = occupation }) other) tasks)
+  kept_remembered new pid position occupation entry task at here in_slot updates same_length same_room =
+      let there = found_some pid position entry at here in
+      let both : Some there.0 ≡ Some task = sym there.1 ∙ in_slot in
+      let is : there.0 ≡ task = cc in
+      let has : task.spec.pid ≡ pid = ap pid_of (sym is) ∙ there.2 in
+      let it = sym (found pid position entry at here) ∙ in_slot in
+      subst (IsKept new entries room limit)
+      (changed_each (λ t. record t { occupation = occupation }) tasks task kept.sound.rising (subst (λ n. find (has_pid n) tasks ≡ Some task) (sym has) it)
+      ∙ ap (λ n. map (λ (other : Task). cond (has_pid n other) (record other { occupation = occupation }) other) tasks) has)
+      (kept_set new position entry (record task { occupation = occupation }) (subst (λ n. IsAt n position tasks) (sym has) at) here updates same_length same_room)
 
 -- a write in a slot that has a task leaves how many there are
 pub slab_len-with_value : (slots : Slab Task) (key : ℕ) (old new : Task) → get slots key ≡ Some old → slab_len (with_value slots key new) ≡ slab_len slots

@@ -178,6 +178,14 @@ with_none new (task ∷ rest) none =
     let tail = with_none new rest none.1 in
     cc
 
+pub remembered_none : (pid occupation : ℕ) (tasks : List Task) → NoneHas pid tasks →
+    map (λ (task : Task). cond (has_pid pid task) (record task { occupation = occupation }) task) tasks ≡ tasks
+remembered_none pid occupation [] none = refl
+remembered_none pid occupation (task ∷ rest) none =
+    let head : cond (has_pid pid task) (record task { occupation = occupation }) task ≡ task = cond-false (has_pid pid task) (record task { occupation = occupation }) task none.0 in
+    let tail = remembered_none pid occupation rest none.1 in
+    cc
+
 -- above a pid below them all pass those that pass
 pub filter_above : (p : Task → Bool) (pid low : ℕ) (tasks : List Task) → pid < low → RisesFrom low tasks →
     filter (λ task. p task && ltb pid task.spec.pid) tasks ≡ filter p tasks

@@ -3,6 +3,7 @@
 ghost use Rattle.std.specs.Prelude.{◌≡◌, ℕ, ◌+◌, ◌<◌, ◌^◌, ◌≤◌, ◌==◌, ◌&&◌, nat_lt, [], ◌∷◌, length, map, drop, filter, find, not, if◌then◌else◌, IfOk, IfNone, IfSome, OnOk, OnErr, MatchResult, MatchOption, option_copied, slice_get, IsSome};
 ghost use Rattle.std.specs.Option.{option_map};
 ghost use Rattle.cs_types.specs.Room.{asleep, inserted, has_pid};
+ghost use Rattle.cs_types.specs.declared.task.Task.{Task as SomeTask};
 ghost use Rattle.task_table.specs.Table.{Table, pid_of, total_in, IsSound, add_answer};
 ghost use Rattle.task_table.specs.Group.{is_in_group, group_above};
 ghost use Rattle.task_table.specs.Walk.{WalksInOrder};
@@ -208,6 +209,19 @@ impl TaskTable {
         let old = *slot;
         *slot = task;
         Some(old)
+    }
+
+    /// The task with the pid, if there is one, remembers this occupation (`core_occupation`). Nothing else changes.
+    #[inline(always)]
+    pub fn remember(&mut self, pid: Pid, occupation: u8)
+        ensures remembered { self.new ≡ record self.old {
+          tasks = map (λ (task : SomeTask). if has_pid pid task then record task { occupation = occupation } else task) self.old.tasks;
+        } }
+        ensures sound { IsSound self.new }
+    {
+        if let Ok(position) = self.position_of(pid) {
+            self.slots[self.entries[position].key].occupation = occupation;
+        }
     }
 
     /// Takes the task with the pid out, and gives it and what it was charged for forced idle, in ns. `None`
