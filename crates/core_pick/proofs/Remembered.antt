@@ -25,7 +25,7 @@ use Rattle.core_lanes.specs.Changes.{Stays, identity_of}
 use Rattle.core_lanes.proofs.Lists.{filter-map, any-push}
 use Rattle.core_lanes.proofs.Stays.{both_stay, alike_stays}
 use Rattle.core_pick.specs.declared.choice.Choice.{Choice}
-use Rattle.core_pick.specs.Choice.{chosen_task, task_after_choice, task_after_choices}
+use Rattle.core_pick.specs.Choice.{is_choice_of, task_after_choice, task_after_choices}
 
 -- ---- the task that is chosen for a sibling
 
@@ -38,35 +38,20 @@ found_there pid tasks (Some task) is = found_again pid tasks task (sym is)
 run_test : (a b : ℕ) → eqb b a ≡ eqb a b
 run_test a b = grind (arith, nat_tests)
 
--- where one is, it remembers, and no other does
-pub map-task_after_choice : (tasks : List Task) (choice : Choice) (occupation : ℕ) (task : Task) → Rises tasks → IsOf tasks task → Some task ≡ chosen_task tasks choice →
-    map (λ other. cond (has_pid task.spec.pid other) (record task { occupation = occupation }) other) tasks ≡ map (task_after_choice choice occupation) tasks
-map-task_after_choice tasks choice occupation task rises there is =
-    changed_each (λ t. record t { occupation = occupation }) tasks task rises there
-    ∙ (λ i. map (λ other. cond (by_choice choice.is_online choice.run is other i) (record other { occupation = occupation }) other) tasks) where
-      by_choice : (online : Bool) (run : Option ℕ) → Some task ≡ cond online (option_and_then (λ pid. find (has_pid pid) tasks) run) None →
-          (other : Task) → has_pid task.spec.pid other ≡ (online && is_run run (Some other.spec.pid))
-      by_choice false run is other = absurd cc
-      by_choice true None is other = absurd cc
-      by_choice true (Some pid) is other =
-          ap (λ n. eqb other.spec.pid n) (eqb-true task.spec.pid pid (find_passes (has_pid pid) tasks task (sym is))) ∙ run_test pid other.spec.pid
+-- the task with the pid of the choice remembers, and no other does
+pub map-task_after_choice : (tasks : List Task) (choice : Choice) (occupation pid : ℕ) → choice.is_online ≡ true → choice.run ≡ Some pid →
+    map (λ (task : Task). cond (has_pid pid task) (record task { occupation = occupation }) task) tasks ≡ map (task_after_choice choice occupation) tasks
+map-task_after_choice tasks choice occupation pid online run =
+    λ i. map (λ (task : Task). cond (same task i) (record task { occupation = occupation }) task) tasks where
+      same : (task : Task) → has_pid pid task ≡ is_choice_of task.spec.pid choice
+      same task = run_test pid task.spec.pid ∙ sym (λ i. online i && is_run (run i) (Some task.spec.pid))
 
--- where none is, none remembers
-pub map-task_after_choice_none : (tasks : List Task) (choice : Choice) (occupation : ℕ) → None ≡ chosen_task tasks choice →
+-- where it is of no task, none remembers
+pub map-task_after_choice_none : (tasks : List Task) (choice : Choice) (occupation : ℕ) → ((pid : ℕ) → is_choice_of pid choice ≡ false) →
     tasks ≡ map (task_after_choice choice occupation) tasks
-map-task_after_choice_none tasks choice occupation is = by_choice choice.is_online choice.run tasks is where
-  by_choice : (online : Bool) (run : Option ℕ) (ts : List Task) → None ≡ cond online (option_and_then (λ pid. find (has_pid pid) ts) run) None →
-      ts ≡ map (λ other. cond (online && is_run run (Some other.spec.pid)) (record other { occupation = occupation }) other) ts
-  by_choice false run ts is = sym (map-id ts)
-  by_choice true None ts is = sym (map-id ts)
-  by_choice true (Some pid) [] is = refl
-  by_choice true (Some pid) (t ∷ ts) is =
-      elim (cases_Bool (has_pid pid t)) [
-        | inl here ↦ let some = is ∙ cond-true _ (Some t) (find (has_pid pid) ts) here in absurd cc
-        | inr past ↦
-            λ i. sym (cond-false _ (record t { occupation = occupation }) t (sym (run_test pid t.spec.pid) ∙ past)) i
-            ∷ by_choice true (Some pid) ts (is ∙ cond-false _ (Some t) (find (has_pid pid) ts) past) i
-      ]
+map-task_after_choice_none [] choice occupation none = refl
+map-task_after_choice_none (task ∷ tasks) choice occupation none =
+    λ i. sym (cond-false _ (record task { occupation = occupation }) task (none task.spec.pid)) i ∷ map-task_after_choice_none tasks choice occupation none i
 
 -- ---- choice by choice
 

@@ -1,8 +1,7 @@
 -- Choice: what the lead and the choices of a selection are made of, and what the choices make of tasks.
-use Rattle.std.specs.Prelude.{ℕ, Bool, false, ◌&&◌, if◌then◌else◌, List, length, map, find, Option, Some, None, slice_index_or, unwrap_or}
-use Rattle.std.specs.Option.{option_and_then}
+use Rattle.std.specs.Prelude.{ℕ, Bool, false, ◌&&◌, if◌then◌else◌, List, length, map, Option, Some, None, is_none, slice_index_or, unwrap_or}
 use Rattle.std.specs.List.{list_any, range_with_len}
-use Rattle.cs_types.specs.Room.{RoomState, SiblingState, absent, has_pid, is_online}
+use Rattle.cs_types.specs.Room.{RoomState, SiblingState, absent, is_online}
 use Rattle.cs_types.specs.Selection.{first_on, is_run, pid_of, cookie_of, is_fair_task, snapshot_of, choice, is_forced}
 use Rattle.sibling_priority.specs.declared.offer.Offer.{Offer}
 use Rattle.sibling_priority.specs.Offers.{class_of_first, rank_of_first, snapshot_of_first}
@@ -29,6 +28,10 @@ kept_of snapshot first =
       rank = rank_of_first first;
       snapshot = snapshot_of_first snapshot first;
     }
+
+-- what is kept of the first task of a sibling
+abbrev pub first_at : RoomState → ℕ → First
+first_at room cpu = kept_of (snapshot_of room) (first_on room cpu)
 
 -- the first tasks of all siblings, and what is kept of them
 abbrev pub first_tasks : RoomState → List (Option Task)
@@ -57,13 +60,14 @@ choice_at room core cpu =
       is_fair = is_fair_task (choice room core cpu);
     }
 
+-- what a sibling gets that a search for the core cookie finds this for: a task, else idle, to which it is forced
+abbrev pub searched : Option Task → Bool → Choice
+searched found online =
+    record { run = pid_of found; is_online = online; is_forced = online && is_none found; is_fair = is_fair_task found }
+
 -- what each sibling gets, in the order of their numbers
 abbrev pub choices_of : RoomState → ℕ → List Choice
 choices_of room core = map (choice_at room core) (range_with_len 0 (length room.siblings))
-
--- the task that is chosen for a sibling, none where that is offline or gets idle
-abbrev pub chosen_task : List Task → Choice → Option Task
-chosen_task tasks choice = if choice.is_online then option_and_then (λ pid. find (has_pid pid) tasks) choice.run else None
 
 -- whether this is the choice of an online sibling for the task with this pid
 abbrev pub is_choice_of : ℕ → Choice → Bool

@@ -14,8 +14,8 @@ ghost use Rattle.core_pick.specs.Schedules.{IsPaid, Charges};
 
 use crate::choice::MOST_SIBLINGS;
 use arrayvec::ArrayVec;
-use core_lanes::{Core, SiblingQueue, task_of};
-use cs_types::{Cpu, Pid, Task};
+use core_lanes::{Core, SiblingQueue};
+use cs_types::{Cpu, Pid};
 use task_table::TaskTable;
 
 /// The tasks for which siblings are charged.
@@ -29,7 +29,7 @@ fn charged_on<Q: SiblingQueue>(core: &Core<Q>, table: &TaskTable, cpu: Cpu) -> O
     ensures there { IfSome result (λ pid. IsSome (find (has_pid pid) table.now.tasks)) }
 {
     let lane = &core.lanes[cpu as usize];
-    let task = task_of(table, lane.waiting.unwrap_or(lane.run)?)?;
+    let task = table.find(lane.waiting.unwrap_or(lane.run)?)?;
     if lane.online && task.cookie != 0 {
         Some(task.spec.pid)
     } else {

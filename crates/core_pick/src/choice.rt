@@ -1,16 +1,16 @@
 //! What each sibling gets in a selection for the core. It is a file of its own since the selection
 //! counts the choices before it changes siblings and tasks by them.
 
-ghost use Rattle.std.specs.Prelude.{◌≡◌, ℕ, ◌≤◌, ◌&&◌, count_by, is_some, length, map, find, Some, IfSome};
-ghost use Rattle.cs_types.specs.Room.{RoomState, has_pid};
+ghost use Rattle.std.specs.Prelude.{◌≡◌, ℕ, ◌≤◌, ◌&&◌, count_by, is_some, length, map, option_copied};
+ghost use Rattle.cs_types.specs.Room.{RoomState};
 ghost use Rattle.cs_types.specs.Selection.{occupation_of, renews_snapshots, select_for};
 ghost use Rattle.task_table.specs.Table.{IsSound as IsTable};
 ghost use Rattle.core_lanes.specs.Lanes.{lane_state};
-ghost use Rattle.core_pick.specs.Choice.{choices_of, chosen_task, task_after_choice, task_after_choices};
+ghost use Rattle.core_pick.specs.Choice.{choices_of, searched, task_after_choice, task_after_choices};
 
 use crate::sibling::hand;
 use arrayvec::ArrayVec;
-use core_lanes::Lane;
+use core_lanes::{Lane, is_fair};
 use cs_types::{Cpu, Pid, Task};
 use task_table::TaskTable;
 
@@ -29,6 +29,26 @@ pub struct Choice {
 
 /// What each sibling gets, in the order of their numbers.
 pub type Choices = ArrayVec<Choice, MOST_SIBLINGS>;
+
+/// What a sibling gets by a search for the core cookie: what was found, else idle, to which it is forced.
+pub fn searched(found: Option<&Task>, is_online: bool) -> Choice
+    ensures { result ≡ searched (option_copied found.entry) is_online }
+{
+    match found {
+        Some(task) => Choice {
+            run: Some(task.spec.pid),
+            is_online,
+            is_forced: false,
+            is_fair: is_fair(task),
+        },
+        None => Choice {
+            run: None,
+            is_online,
+            is_forced: is_online,
+            is_fair: false,
+        },
+    }
+}
 
 /// How many siblings are forced idle.
 pub fn forced_count(choices: &[Choice]) -> u8
@@ -49,25 +69,16 @@ pub fn occupation(choices: &[Choice]) -> u8
         .count() as u8
 }
 
-/// The task that is chosen for the sibling, if one is.
-fn chosen_task(tasks: &TaskTable, choice: &Choice) -> Option<Task>
-    ensures chosen { result ≡ chosen_task tasks.now.tasks choice.now }
-    ensures there { IfSome result (λ task. find (has_pid task.spec.pid) tasks.now.tasks ≡ Some task) }
-{
-    if !choice.is_online {
-        return None;
-    }
-    tasks.find(choice.run?).copied()
-}
-
 /// The task that is chosen for the sibling, if one is, remembers the occupation.
 fn update_task(tasks: &mut TaskTable, choice: &Choice, occupation: u8)
     requires { IsTable tasks.old }
     ensures tasks { tasks.new ≡ record tasks.old { tasks = map (task_after_choice choice.now occupation) tasks.old.tasks } }
     ensures sound { IsTable tasks.new }
 {
-    if let Some(task) = chosen_task(tasks, choice) {
-        tasks.change(Task { occupation, ..task });
+    if choice.is_online {
+        if let Some(pid) = choice.run {
+            tasks.remember(pid, occupation);
+        }
     }
 }
 

@@ -1,6 +1,6 @@
 //! The lead of first tasks. It is a file of its own since it alone knows what a task offers.
 
-ghost use Rattle.std.specs.Prelude.{◌≡◌, ℕ, ◌<◌, ◌≤◌, length, map, unwrap_or, All, IfSome, List, Option};
+ghost use Rattle.std.specs.Prelude.{◌≡◌, ℕ, ◌<◌, ◌≤◌, length, map, unwrap_or, All, IfSome, List, Option, option_copied};
 ghost use Rattle.std.specs.Option.{option_and_then};
 ghost use Rattle.cs_types.specs.declared.task.Task.{Task as SomeTask};
 ghost use Rattle.cs_types.specs.Order.{foremost, outranks};
@@ -55,10 +55,10 @@ fn rank_of(task: &Task) -> u128
 
 /// What is kept of this first task, whose home is one of these siblings.
 #[inline(always)]
-pub fn kept_of<Q: Drop>(first: Option<Task>, lanes: &[Lane<Q>]) -> First
-    requires first { IsFirst first }
-    requires home { IfSome first (λ task. task.home < length lanes.now) }
-    ensures { result ≡ kept_of (snapshot_in (map lane_state lanes.now)) first }
+pub fn kept_of<Q: Drop>(first: Option<&Task>, lanes: &[Lane<Q>]) -> First
+    requires first { IsFirst (option_copied first) }
+    requires home { IfSome (option_copied first) (λ task. task.home < length lanes.now) }
+    ensures { result ≡ kept_of (snapshot_in (map lane_state lanes.now)) (option_copied first.entry) }
 {
     match first {
         None => First {
@@ -72,9 +72,9 @@ pub fn kept_of<Q: Drop>(first: Option<Task>, lanes: &[Lane<Q>]) -> First
         Some(task) => First {
             run: Some(task.spec.pid),
             cookie: task.cookie,
-            is_fair: is_fair(&task),
+            is_fair: is_fair(task),
             class: task.spec.policy.class().number(),
-            rank: rank_of(&task),
+            rank: rank_of(task),
             snapshot: lanes[task.home as usize].snapshot,
         },
     }

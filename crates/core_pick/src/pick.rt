@@ -2,12 +2,12 @@
 
 ghost use Rattle.std.specs.Prelude.{◌≡◌, ℕ, ◌+◌, ◌*◌, ◌^◌, ◌<◌, ◌≤◌, length, ◌==◌, ◌&&◌, ◌||◌, is_some, None, IfSome, IfNone, if◌then◌else◌};
 ghost use Rattle.cs_types.specs.Room.{sibling_of, is_online};
-ghost use Rattle.cs_types.specs.Selection.{first_on, cookie_of, lead_from, pid_of, choice, forced_count, is_plain, adopt, pick_plain, select_for, select, pick_anew, adopt_or_pick_anew, balance, schedule};
+ghost use Rattle.cs_types.specs.Selection.{cookie_of, lead_from, pid_of, choice, forced_count, is_plain, adopt, pick_plain, select_for, select, pick_anew, adopt_or_pick_anew, balance, schedule};
 ghost use Rattle.task_table.specs.Table.{Table};
 ghost use Rattle.core_lanes.specs.Lanes.{Beside, at, room_of, AgreesAt, AreNoLonger};
 ghost use Rattle.core_lanes.specs.Numbers.{numbers_of, is_fresh_by};
 ghost use Rattle.core_lanes.specs.Changes.{Stays};
-ghost use Rattle.core_pick.specs.Choice.{firsts_of};
+ghost use Rattle.core_pick.specs.Choice.{first_at, firsts_of};
 ghost use Rattle.core_pick.specs.Comparisons.{most_of_schedule};
 ghost use Rattle.core_pick.specs.Schedules.{MayPick, MaySchedule, Schedules, ChargesAndSchedules};
 
@@ -15,10 +15,10 @@ use crate::account::charge;
 use crate::balance::balance;
 use crate::choice::{forced_count, occupation, update_siblings, update_tasks};
 use crate::lead::First;
-use crate::selection::{choices, cookie_of, firsts, is_fair_task, lead_cookie, pid_of};
+use crate::selection::{choices, first_at, firsts, lead_cookie};
 use crate::sibling::{run, run_first};
 use core_lanes::{Core, SiblingQueue};
-use cs_types::{Cookie, Cpu, Kind, Pick, Pid, Steps, Task};
+use cs_types::{Cookie, Cpu, Kind, Pick, Pid, Steps};
 use std::sync::ledger::Ledger;
 use task_table::TaskTable;
 
@@ -63,27 +63,26 @@ fn is_cookieless(core: Cookie, forced: u8, first: Cookie) -> bool
 }
 
 /// Whether no cookie takes part in a schedule of the sibling with this first task.
-fn is_plain<Q: SiblingQueue>(core: &Core<Q>, first: Option<Task>) -> bool
+fn is_plain<Q: SiblingQueue>(core: &Core<Q>, first: &First) -> bool
     ensures { (beside : Beside) (table : Table) (cpu : ℕ) → let room = room_of beside (core.now, table) in
-        first ≡ first_on room cpu → result ≡ is_plain room cpu }
+        first.now ≡ first_at room cpu → result ≡ is_plain room cpu }
 {
-    is_cookieless(core.cookie, core.account.count(), cookie_of(first))
+    is_cookieless(core.cookie, core.account.count(), first.cookie)
 }
 
 /// The sibling runs this, the first of its own queue.
-fn pick_plain<Q: SiblingQueue>(core: &mut Core<Q>, cpu: Cpu, first: Option<Task>) -> Pick
+fn pick_plain<Q: SiblingQueue>(core: &mut Core<Q>, cpu: Cpu, first: &First) -> Pick
     requires cpu { cpu < length core.old.lanes.items }
     requires touches { core.old.task_number + 1 < 2 ^ 64 }
-    ensures { (now : ℕ) (table : Table) → ((beside : Beside) → first ≡ first_on (room_of beside (core.old, table)) cpu) →
+    ensures { (now : ℕ) (table : Table) → ((beside : Beside) → first.now ≡ first_at (room_of beside (core.old, table)) cpu) →
         Schedules now (core.old, table) (core.new, table) cpu result (λ room. pick_plain room cpu) }
 {
-    let pid = pid_of(first);
     core.account.close();
-    run_first(&mut core.lanes[cpu as usize], pid, is_fair_task(first));
+    run_first(&mut core.lanes[cpu as usize], first.run, first.is_fair);
     core.touch();
     Pick {
         kind: Kind::Plain,
-        run: pid.unwrap_or(0),
+        run: first.run.unwrap_or(0),
         core: 0,
         forced: 0,
     }
@@ -141,12 +140,12 @@ fn select<Q: SiblingQueue, L: Ledger>(
     core: &mut Core<Q>,
     table: &mut TaskTable,
     cpu: Cpu,
-    first: Option<Task>,
+    first: &First,
     now: u64,
     steps: &mut Steps<L>,
 ) -> Pick
     requires may { MayPick now cpu (core.old, table.old) }
-    requires first { (beside : Beside) → first ≡ first_on (room_of beside (core.old, table.old)) cpu }
+    requires first { (beside : Beside) → first.now ≡ first_at (room_of beside (core.old, table.old)) cpu }
     ensures schedules { Schedules now (core.old, table.old) (core.new, table.new) cpu result (λ room. select room cpu) }
 
     // The first was asked before.
@@ -183,11 +182,11 @@ fn pick_anew<Q: SiblingQueue, L: Ledger>(
     ensures counted { (longest : ℕ) → AreNoLonger longest (core.old, table.old) →
         steps.new ≤ steps.old + most_of_schedule (length core.old.lanes.items) (Q.most_compared longest) }
 {
-    let first = core.first_on(table, cpu, steps);
-    if is_plain(core, first) {
-        pick_plain(core, cpu, first)
+    let first = first_at(core, table, cpu, steps);
+    if is_plain(core, &first) {
+        pick_plain(core, cpu, &first)
     } else {
-        select(core, table, cpu, first, now, steps)
+        select(core, table, cpu, &first, now, steps)
     }
 }
 

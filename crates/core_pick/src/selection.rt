@@ -1,21 +1,21 @@
 //! What a selection for the core asks of the queues: the lead, and what each sibling gets for a core cookie.
 //! It is a file of its own since it changes nothing.
 
-ghost use Rattle.std.specs.Prelude.{◌≡◌, ℕ, ◌+◌, ◌-◌, ◌*◌, ◌<◌, ◌≤◌, ◌++◌, ◌&&◌, ◌||◌, ◌==◌, length, map, filter, None, is_none, if◌then◌else◌};
+ghost use Rattle.std.specs.Prelude.{◌≡◌, ℕ, ◌+◌, ◌-◌, ◌*◌, ◌<◌, ◌≤◌, ◌++◌, ◌||◌, ◌==◌, length, map, filter, None, is_none, if◌then◌else◌};
 ghost use Rattle.std.specs.List.{range_with_len};
 ghost use Rattle.arrayvec.specs.ArrayVec.{array_vec_len};
 ghost use Rattle.cs_types.specs.Room.{is_online};
 ghost use Rattle.cs_types.specs.Order.{first_of};
-ghost use Rattle.cs_types.specs.Selection.{first_on, queued_with, cookie_of, pid_of, is_fair_task, lead_from};
+ghost use Rattle.cs_types.specs.Selection.{first_on, queued_with, cookie_of, lead_from};
 ghost use Rattle.core_lanes.specs.Queued.{queued_among};
 ghost use Rattle.core_lanes.specs.Lanes.{Beside, room_of, Agree, AgreesAt, AreNoLonger, HasLowTimes};
 ghost use Rattle.task_table.specs.Table.{Table};
-ghost use Rattle.core_pick.specs.Choice.{choice_at, firsts_of, kept_of};
+ghost use Rattle.core_pick.specs.Choice.{choice_at, first_at, firsts_of, kept_of};
 
-use crate::choice::{Choice, Choices};
+use crate::choice::{Choice, Choices, searched};
 use crate::lead::{First, Firsts, Order, cookie_of_lead, kept_of};
-use core_lanes::{Core, SiblingQueue, is_fair};
-use cs_types::{Cookie, Cpu, Pid, Steps, Task};
+use core_lanes::{Core, SiblingQueue};
+use cs_types::{Cookie, Cpu, Steps, Task};
 use std::sync::ledger::Ledger;
 use task_table::TaskTable;
 
@@ -72,13 +72,8 @@ fn choice_at<Q: SiblingQueue, L: Ledger>(
             is_fair: first.is_fair,
         };
     }
-    let chosen = first_with(core, table, cookie, cpu, steps);
-    Choice {
-        run: pid_of(chosen),
-        is_online,
-        is_forced: is_forced(is_online, chosen),
-        is_fair: is_fair_task(chosen),
-    }
+    let found = first_with(core, table, cookie, cpu, steps);
+    searched(found.as_ref(), is_online)
 }
 
 /// What each sibling gets for a core cookie, where these are their first tasks.
@@ -105,39 +100,54 @@ pub fn choices<Q: SiblingQueue, L: Ledger>(
     choices
 }
 
-/// The first task of a sibling, where this is that of the sibling of its own.
+/// What is kept of the first task of a sibling, which is asked for it.
+#[inline(always)]
+pub fn first_at<Q: SiblingQueue, L: Ledger>(
+    core: &Core<Q>,
+    table: &TaskTable,
+    cpu: Cpu,
+    steps: &mut Steps<L>,
+) -> First
+    requires { AgreesAt cpu (core.now, table.now) }
+    ensures first { (beside : Beside) → result ≡ first_at (room_of beside (core.now, table.now)) cpu }
+    ensures counted { steps.new ≤ steps.old + Q.most_compared (length (queued_among table.now.tasks cpu)) }
+{
+    let first = core.first_on(table, cpu, steps);
+    kept_of(first.as_ref(), &core.lanes)
+}
+
+/// What is kept of the first task of a sibling, where this is that of the sibling of its own.
 #[inline(always)]
 fn first_beside<Q: SiblingQueue, L: Ledger>(
     core: &Core<Q>,
     table: &TaskTable,
     own: Cpu,
-    first: Option<Task>,
+    first: &First,
     cpu: Cpu,
     steps: &mut Steps<L>,
-) -> Option<Task>
+) -> First
     requires { AgreesAt cpu (core.now, table.now) }
     ensures first { (beside : Beside) → let room = room_of beside (core.now, table.now) in
-        first ≡ first_on room own → result ≡ first_on room cpu }
+        first.now ≡ first_at room own → result ≡ first_at room cpu }
     ensures counted { steps.new ≤ steps.old + (if cpu == own then 0 else Q.most_compared (length (queued_among table.now.tasks cpu))) }
 {
     if cpu == own {
-        first
+        *first
     } else {
-        core.first_on(table, cpu, steps)
+        first_at(core, table, cpu, steps)
     }
 }
 
-/// What is kept of the first task of each sibling, where this is the one's first. Each of the others is asked
-/// once.
+/// What is kept of the first task of each sibling, where this is the one's. Each of the others is asked once.
 pub fn firsts<Q: SiblingQueue, L: Ledger>(
     core: &Core<Q>,
     table: &TaskTable,
     own: Cpu,
-    first: Option<Task>,
+    first: &First,
     steps: &mut Steps<L>,
 ) -> Firsts
     requires at { AgreesAt own (core.now, table.now) }
-    requires first { (beside : Beside) → first ≡ first_on (room_of beside (core.now, table.now)) own }
+    requires first { (beside : Beside) → first.now ≡ first_at (room_of beside (core.now, table.now)) own }
     ensures each { (beside : Beside) → result.items ≡ firsts_of (room_of beside (core.now, table.now)) }
     ensures length { length result.items ≡ length core.now.lanes.items }
     ensures counted { (longest : ℕ) → AreNoLonger longest (core.now, table.now) →
@@ -146,7 +156,7 @@ pub fn firsts<Q: SiblingQueue, L: Ledger>(
     let mut firsts = Firsts::new();
     for cpu in 0..core.lanes.len() {
         let other = first_beside(core, table, own, first, cpu as u8, steps);
-        firsts.push(kept_of(other, &core.lanes));
+        firsts.push(other);
     }
     firsts
 }
@@ -183,38 +193,4 @@ pub fn lead_cookie<Q: SiblingQueue>(
     push_online(&mut order, core, cpu, core.lanes.len() as u8);
     push_online(&mut order, core, 0, cpu);
     cookie_of_lead(&order, firsts)
-}
-
-/// The task's pid, none for idle.
-pub fn pid_of(task: Option<Task>) -> Option<Pid>
-    ensures { result ≡ pid_of task }
-{
-    Some(task?.spec.pid)
-}
-
-/// The task's cookie, and 0 for idle.
-pub fn cookie_of(task: Option<Task>) -> Cookie
-    ensures { result ≡ cookie_of task }
-{
-    match task {
-        Some(task) => task.cookie,
-        None => 0,
-    }
-}
-
-/// Whether this is a fair task.
-pub fn is_fair_task(task: Option<Task>) -> bool
-    ensures { result ≡ is_fair_task task }
-{
-    match task {
-        Some(task) => is_fair(&task),
-        None => false,
-    }
-}
-
-/// Whether a sibling is forced idle that gets this in place of its first task.
-fn is_forced(is_online: bool, chosen: Option<Task>) -> bool
-    ensures { result ≡ (is_online && is_none chosen) }
-{
-    is_online && chosen.is_none()
 }

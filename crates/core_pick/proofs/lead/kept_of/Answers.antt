@@ -1,4 +1,5 @@
 use Rattle.std.proofs.Common.{◌∙◌, ap, sym, map, Some}
+use Rattle.std.specs.Prelude.{option_copied}
 use Rattle.std.proofs.lemmas.List.{get_or-map}
 use Rattle.cs_types.specs.Room.{SiblingState, absent}
 use Rattle.core_lanes.specs.Lanes.{lane_state}
@@ -18,7 +19,7 @@ bounds-lanes-task-in-Some g c = rw c.in-Some.is at c.requires.home
 pub returns-in-Some : goal.returns-in-Some
 returns-in-Some g c =
     let lanes = c.args.lanes.now in
-    let task = c.in-Some.task in
+    let task = c.in-Some.task.now in
     let class = c.number.ensures ∙ c.class.ensures in
     let snapshot = sym (ap (λ (s : SiblingState). s.snapshot) (get_or-map lane_state lanes task.home c.index-lanes-task.result absent (rw c.in-Some.is at c.requires.home))) in
     (λ i. let kept : First = record {
@@ -29,4 +30,4 @@ returns-in-Some g c =
       rank = c.rank_of.ensures i;
       snapshot = snapshot i;
     } in kept)
-    ∙ ap (kept_of (snapshot_in (map lane_state lanes))) (sym c.in-Some.is)
+    ∙ ap (λ first. kept_of (snapshot_in (map lane_state lanes)) (option_copied first)) (sym c.in-Some.is)

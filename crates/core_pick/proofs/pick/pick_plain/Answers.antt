@@ -8,6 +8,7 @@ use Rattle.cs_types.specs.Selection.{pid_of, first_on, is_fair_task, running}
 use Rattle.core_lanes.specs.Lanes.{at, lane_state, room_of}
 use Rattle.core_lanes.specs.Numbers.{Numbers, numbers_of, touched}
 use Rattle.core_lanes.proofs.Stays.{lane_at, numbers_kept, queues_kept, alike_stays, both_stay}
+use Rattle.core_pick.specs.declared.lead.First.{First}
 use Rattle.core_pick.proofs.pick.pick_plain.Goals as goal
 
 pub returns : goal.returns
@@ -22,13 +23,13 @@ returns g c now table is_first =
     let own = numbers_kept lanes cpu lane after is c.run_first.ensures.number in
     record {
       pick = λ beside.
-          let run = c.unwrap_or.ensures ∙ ap (λ pid. unwrap_or pid 0) (c.pid_of-pid.ensures ∙ ap pid_of (is_first (at now beside))) in
+          let run = c.unwrap_or.ensures ∙ ap (λ (kept : First). unwrap_or kept.run 0) (is_first (at now beside)) in
           λ i. let pick : Pick = record { kind = Plain; run = run i; core = 0; forced = 0 } in pick;
       room = λ beside.
           let room = room_of (at now beside) (old, table) in
           let first = is_first (at now beside) in
-          let run = c.pid_of-pid.ensures ∙ ap pid_of first in
-          let fair = c.is_fair_task.ensures ∙ ap is_fair_task first in
+          let run = ap (λ (kept : First). kept.run) first in
+          let fair = ap (λ (kept : First). kept.is_fair) first in
           let was = sym (lane_at lanes cpu lane c.requires.cpu is) in
           let state : lane_state after ≡ record (running (sibling_of room cpu) (pid_of (first_on room cpu))) { snapshot = cond (is_fair_task (first_on room cpu)) (sibling_of room cpu).least (sibling_of room cpu).snapshot } =
           c.run_first.ensures.state ∙ (λ i. record (running (was i) (run i)) { snapshot = cond (fair i) (was i).least (was i).snapshot }) in

@@ -2,10 +2,11 @@ use Rattle.std.proofs.Common.{◌≡◌, ◌∙◌, ap, sym, true, false}
 use Rattle.std.specs.Prelude.{◌&&◌, ◌||◌, ◌==◌, is_none}
 use Rattle.std.proofs.Math.Bool.{and-false}
 use Rattle.cs_types.specs.Room.{is_online}
-use Rattle.cs_types.specs.Selection.{first_on, pid_of, cookie_of, is_fair_task}
+use Rattle.cs_types.specs.Selection.{first_on, pid_of, cookie_of, is_fair_task, choice}
 use Rattle.core_lanes.specs.Lanes.{room_of}
 use Rattle.core_pick.specs.declared.choice.Choice.{Choice}
 use Rattle.core_pick.specs.declared.lead.First.{First}
+use Rattle.core_pick.specs.Choice.{searched}
 use Rattle.core_pick.proofs.Choices.{is_none-pid_of, choice_kept, choice_searched, not_forced, forced_searched}
 use Rattle.core_pick.proofs.selection.choice_at.Goals as goal
 
@@ -30,9 +31,7 @@ returns-clause-choice g c beside snapshot is =
     let tested : (is_none first || (cookie_of first == c.args.cookie)) ≡ false =
     ap (λ b. b || (cookie_of first == c.args.cookie)) (sym (is_none-pid_of first))
     ∙ ap (λ (kept : First). is_none kept.run || (kept.cookie == c.args.cookie)) (sym is) ∙ sym c.is_kept.ensures ∙ c.if-is_kept.false in
-    let chosen = c.first_with-chosen.ensures.first beside ∙ sym (choice_searched room c.args.cookie c.args.cpu tested) in
-    let run = c.pid_of.ensures ∙ ap pid_of chosen in
+    let found = c.as_ref.ensures.value ∙ c.first_with-found.ensures.first beside ∙ sym (choice_searched room c.args.cookie c.args.cpu tested) in
     let online = c.is_online-is_online.ensures beside c.args.table.now in
-    let forced = c.is_forced.ensures ∙ (λ i. online i && is_none (chosen i)) ∙ sym (ap (λ b. is_online room c.args.cpu && b) (forced_searched room c.args.cookie c.args.cpu tested)) in
-    let fair = c.is_fair_task.ensures ∙ ap is_fair_task chosen in
-    λ i. let choice : Choice = record { run = run i; is_online = online i; is_forced = forced i; is_fair = fair i } in choice
+    let forced = sym (ap (λ b. is_online room c.args.cpu && b) (forced_searched room c.args.cookie c.args.cpu tested)) in
+    c.searched.ensures ∙ (λ i. searched (found i) (online i)) ∙ (λ i. record (searched (choice room c.args.cookie c.args.cpu) (is_online room c.args.cpu)) { is_forced = forced i })
