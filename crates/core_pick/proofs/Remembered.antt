@@ -1,22 +1,19 @@
 -- Remembered: the tasks that remember the occupation after a selection, and what stays where they do.
-use Rattle.std.proofs.Common.{◌≡◌, ℕ, ◌<◌, Bool, true, false, cond, List, [], ◌∷◌, ◌++◌, map, length, refl, subst, sym, ap, ◌∙◌, arith, eqb, Option, Some, None, inl, inr}
+use Rattle.std.proofs.Common.{◌≡◌, ℕ, ◌<◌, Bool, true, false, cond, List, [], ◌∷◌, ◌++◌, map, length, refl, subst, sym, ap, ◌∙◌, arith, eqb, Option, Some, None}
 use Rattle.std.specs.Prelude.{◌==◌, ◌&&◌, ◌||◌, find, IfSome, IsTrue}
 use Rattle.std.specs.List.{list_any}
-use Rattle.std.specs.Option.{option_and_then, option_map}
-use Rattle.std.proofs.lemmas.Bool.{cases_Bool, cond-true, cond-false, eqb-true}
+use Rattle.std.specs.Option.{option_map}
+use Rattle.std.proofs.lemmas.Bool.{cond-false}
 use Rattle.std.proofs.lemmas.Bool.Decides.{nat_tests}
 use Rattle.std.proofs.lemmas.List.Elements.{All-map, All-weaker}
-use Rattle.std.proofs.lemmas.List.{map-id}
 use Rattle.cs_types.specs.declared.task.Task.{Task}
 use Rattle.cs_types.specs.Queue.{queued_of}
 use Rattle.cs_types.specs.Room.{has_pid}
 use Rattle.cs_types.specs.Selection.{is_run}
-use Rattle.cs_types.proofs.Foremost.{find_passes}
 use Rattle.cs_types.proofs.Siblings.{map-map_alike}
 use Rattle.cs_types.proofs.Spots.{find-map}
 use Rattle.cs_types.proofs.Tasks.{found_again}
-use Rattle.task_table.specs.Table.{Table, Rises, IsSound as IsTable}
-use Rattle.task_table.proofs.Tables.{changed_each}
+use Rattle.task_table.specs.Table.{Table, IsSound as IsTable}
 use Rattle.core_lanes.specs.declared.queue.SiblingQueue.{Ghosts}
 use Rattle.core_lanes.specs.declared.lanes.Core.{Core}
 use Rattle.core_lanes.specs.Queued.{queued_among, queued_at, IsOf, AreStamped}

@@ -27,6 +27,15 @@ pub struct Choice {
     pub is_fair: bool,
 }
 
+impl Choice {
+    /// Whether a task is chosen for the sibling.
+    fn is_chosen(&self) -> bool
+        ensures { result ≡ (self.now.is_online && is_some self.now.run) }
+    {
+        self.is_online && self.run.is_some()
+    }
+}
+
 /// What each sibling gets, in the order of their numbers.
 pub type Choices = ArrayVec<Choice, MOST_SIBLINGS>;
 
@@ -50,23 +59,30 @@ pub fn searched(found: Option<&Task>, is_online: bool) -> Choice
     }
 }
 
-/// How many siblings are forced idle.
-pub fn forced_count(choices: &[Choice]) -> u8
-    requires { length choices.now ≤ 16 }
-    ensures { result ≡ count_by (λ choice. choice.is_forced) choices.now }
-{
-    choices.iter().filter(|choice| choice.is_forced).count() as u8
+/// What a selection counts.
+#[derive(Clone, Copy)]
+pub struct Counts {
+    /// How many siblings are forced idle.
+    pub forced: u8,
+    /// For how many siblings a task is chosen.
+    pub occupation: u8,
 }
 
-/// For how many siblings a task is chosen.
-pub fn occupation(choices: &[Choice]) -> u8
+/// The counts of these choices.
+pub fn counted(choices: &[Choice]) -> Counts
     requires { length choices.now ≤ 16 }
-    ensures { result ≡ count_by (λ choice. choice.is_online && is_some choice.run) choices.now }
+    ensures forced { result.forced ≡ count_by (λ choice. choice.is_forced) choices.now }
+    ensures occupation { result.occupation ≡ count_by (λ choice. choice.is_online && is_some choice.run) choices.now }
 {
-    choices
-        .iter()
-        .filter(|choice| choice.is_online && choice.run.is_some())
-        .count() as u8
+    let mut counts = Counts {
+        forced: 0,
+        occupation: 0,
+    };
+    for choice in choices {
+        counts.forced += u8::from(choice.is_forced);
+        counts.occupation += u8::from(choice.is_chosen());
+    }
+    counts
 }
 
 /// The task that is chosen for the sibling, if one is, remembers the occupation.

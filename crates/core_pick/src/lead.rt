@@ -1,6 +1,6 @@
 //! The lead of first tasks. It is a file of its own since it alone knows what a task offers.
 
-ghost use Rattle.std.specs.Prelude.{◌≡◌, ℕ, ◌<◌, ◌≤◌, length, map, unwrap_or, All, IfSome, List, Option, option_copied};
+ghost use Rattle.std.specs.Prelude.{◌≡◌, ℕ, ◌<◌, length, map, All, IfSome, List, Option, option_copied};
 ghost use Rattle.std.specs.Option.{option_and_then};
 ghost use Rattle.cs_types.specs.declared.task.Task.{Task as SomeTask};
 ghost use Rattle.cs_types.specs.Order.{foremost, outranks};
@@ -13,7 +13,7 @@ use crate::choice::MOST_SIBLINGS;
 use arrayvec::ArrayVec;
 use core_lanes::{Lane, is_fair};
 use cs_types::{Cookie, Cpu, Pid, Policy, Task};
-use sibling_priority::{IDLE, Offer, lead};
+use sibling_priority::{IDLE, Offer, higher};
 
 /// What a selection keeps of the first task of a sibling, which is less than the task. For idle it is what no
 /// task has.
@@ -80,10 +80,12 @@ pub fn kept_of<Q: Drop>(first: Option<&Task>, lanes: &[Lane<Q>]) -> First
     }
 }
 
-/// What the sibling with this first task offers.
-fn offer(first: &First, cpu: Cpu) -> Offer
-    ensures { result ≡ record { cpu = cpu; pid = unwrap_or first.now.run 0; class = first.now.class; rank = first.now.rank; snapshot = first.now.snapshot } }
+/// What the sibling offers, where this is kept of the first tasks of all siblings.
+fn offer(firsts: &[First], cpu: Cpu) -> Offer
+    requires { cpu < length firsts.now }
+    ensures { result ≡ offer_in firsts.now cpu }
 {
+    let first = &firsts[cpu as usize];
     Offer {
         cpu,
         pid: first.run.unwrap_or(0),
@@ -96,18 +98,19 @@ fn offer(first: &First, cpu: Cpu) -> Offer
 /// The cookie of the earliest of the first tasks of these siblings than which no other is higher, and 0 for idle.
 /// The first tasks are those of all siblings.
 pub fn cookie_of_lead(order: &[Cpu], firsts: &[First]) -> Cookie
-    requires few { length order.now ≤ 16 }
     requires within { All (λ cpu. cpu < length firsts.now) order.now }
     requires ranges { All IsInRange (map (offer_in firsts.now) order.now) }
     ensures { (snapshot : ℕ → ℕ) (tasks : List (Option SomeTask)) → firsts.now ≡ map (kept_of snapshot) tasks → All IsFirst tasks →
         result ≡ cookie_of (option_and_then (λ first. first) (foremost (outranks snapshot) (map (first_among tasks) order.now))) }
 {
-    let mut offers: ArrayVec<Offer, MOST_SIBLINGS> = ArrayVec::new();
-    for cpu in order {
-        offers.push(offer(&firsts[*cpu as usize], *cpu));
-    }
-    if offers.is_empty() {
+    if order.is_empty() {
         return 0;
     }
-    firsts[order[lead(&offers)] as usize].cookie
+    let mut lead = 0;
+    for index in 1..order.len() {
+        if higher(&offer(firsts, order[index]), &offer(firsts, order[lead])) {
+            lead = index;
+        }
+    }
+    firsts[order[lead] as usize].cookie
 }

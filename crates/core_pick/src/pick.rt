@@ -13,9 +13,9 @@ ghost use Rattle.core_pick.specs.Schedules.{MayPick, MaySchedule, Schedules, Cha
 
 use crate::account::charge;
 use crate::balance::balance;
-use crate::choice::{forced_count, occupation, update_siblings, update_tasks};
-use crate::lead::First;
-use crate::selection::{choices, first_at, firsts, lead_cookie};
+use crate::choice::{Choices, Counts, counted, update_siblings, update_tasks};
+use crate::lead::{First, Firsts};
+use crate::selection::{ask, choose, first_at, lead_cookie};
 use crate::sibling::{run, run_first};
 use core_lanes::{Core, SiblingQueue};
 use cs_types::{Cookie, Cpu, Kind, Pick, Pid, Steps};
@@ -123,10 +123,10 @@ fn select_for<Q: SiblingQueue, L: Ledger>(
     ensures counted { (longest : ℕ) → AreNoLonger longest (core.old, table.old) →
         steps.new ≤ steps.old + length core.old.lanes.items * Q.most_compared longest }
 {
-    let choices = choices(core, table, firsts, cookie, steps);
+    let mut choices = Choices::new();
+    choose(&mut choices, core, table, firsts, cookie, steps);
     let choices = choices.as_slice();
-    let forced = forced_count(choices);
-    let occupation = occupation(choices);
+    let Counts { forced, occupation } = counted(choices);
     let renews = renews_snapshots(core.account.count(), forced);
     core.cookie = cookie;
     core.account.begin(cookie, forced, occupation, now);
@@ -152,7 +152,8 @@ fn select<Q: SiblingQueue, L: Ledger>(
     ensures counted { (longest : ℕ) → AreNoLonger longest (core.old, table.old) →
         steps.new + Q.most_compared longest ≤ steps.old + most_of_schedule (length core.old.lanes.items) (Q.most_compared longest) }
 {
-    let firsts = firsts(core, table, cpu, first, steps);
+    let mut firsts = Firsts::new();
+    ask(&mut firsts, core, table, cpu, first, steps);
     let firsts = firsts.as_slice();
     let cookie = lead_cookie(core, table, firsts, cpu);
     let run = select_for(core, table, cpu, firsts, cookie, now, steps);

@@ -1,7 +1,7 @@
 //! What a selection for the core asks of the queues: the lead, and what each sibling gets for a core cookie.
 //! It is a file of its own since it changes nothing.
 
-ghost use Rattle.std.specs.Prelude.{◌≡◌, ℕ, ◌+◌, ◌-◌, ◌*◌, ◌<◌, ◌≤◌, ◌++◌, ◌||◌, ◌==◌, length, map, filter, None, is_none, if◌then◌else◌};
+ghost use Rattle.std.specs.Prelude.{◌≡◌, ℕ, ◌+◌, ◌-◌, ◌*◌, ◌<◌, ◌≤◌, [], ◌++◌, ◌||◌, ◌==◌, length, map, filter, None, is_none, if◌then◌else◌};
 ghost use Rattle.std.specs.List.{range_with_len};
 ghost use Rattle.arrayvec.specs.ArrayVec.{array_vec_len};
 ghost use Rattle.cs_types.specs.Room.{is_online};
@@ -76,28 +76,28 @@ fn choice_at<Q: SiblingQueue, L: Ledger>(
     searched(found.as_ref(), is_online)
 }
 
-/// What each sibling gets for a core cookie, where these are their first tasks.
-pub fn choices<Q: SiblingQueue, L: Ledger>(
+/// Puts into the empty list what each sibling gets for a core cookie, where this is kept of their first tasks.
+pub fn choose<Q: SiblingQueue, L: Ledger>(
+    choices: &mut Choices,
     core: &Core<Q>,
     table: &TaskTable,
     firsts: &[First],
     cookie: Cookie,
     steps: &mut Steps<L>,
-) -> Choices
+)
+    requires empty { choices.old.items ≡ [] }
     requires agree { Agree (core.now, table.now) }
     requires each { length firsts.now ≡ length core.now.lanes.items }
     ensures each { (beside : Beside) → let room = room_of beside (core.now, table.now) in
-        firsts.now ≡ firsts_of room → result.items ≡ map (choice_at room cookie) (range_with_len 0 (length core.now.lanes.items)) }
-    ensures length { length result.items ≡ length core.now.lanes.items }
+        firsts.now ≡ firsts_of room → choices.new.items ≡ map (choice_at room cookie) (range_with_len 0 (length core.now.lanes.items)) }
+    ensures length { length choices.new.items ≡ length core.now.lanes.items }
     ensures counted { (longest : ℕ) → AreNoLonger longest (core.now, table.now) →
         steps.new ≤ steps.old + length core.now.lanes.items * Q.most_compared longest }
 {
-    let mut choices = Choices::new();
     for cpu in 0..core.lanes.len() {
         let first = &firsts[cpu];
         choices.push(choice_at(core, table, first, cookie, cpu as u8, steps));
     }
-    choices
 }
 
 /// What is kept of the first task of a sibling, which is asked for it.
@@ -138,27 +138,28 @@ fn first_beside<Q: SiblingQueue, L: Ledger>(
     }
 }
 
-/// What is kept of the first task of each sibling, where this is the one's. Each of the others is asked once.
-pub fn firsts<Q: SiblingQueue, L: Ledger>(
+/// Puts into the empty list what is kept of the first task of each sibling, where this is the one's. Each of the
+/// others is asked once.
+pub fn ask<Q: SiblingQueue, L: Ledger>(
+    firsts: &mut Firsts,
     core: &Core<Q>,
     table: &TaskTable,
     own: Cpu,
     first: &First,
     steps: &mut Steps<L>,
-) -> Firsts
+)
+    requires empty { firsts.old.items ≡ [] }
     requires at { AgreesAt own (core.now, table.now) }
     requires first { (beside : Beside) → first.now ≡ first_at (room_of beside (core.now, table.now)) own }
-    ensures each { (beside : Beside) → result.items ≡ firsts_of (room_of beside (core.now, table.now)) }
-    ensures length { length result.items ≡ length core.now.lanes.items }
+    ensures each { (beside : Beside) → firsts.new.items ≡ firsts_of (room_of beside (core.now, table.now)) }
+    ensures length { length firsts.new.items ≡ length core.now.lanes.items }
     ensures counted { (longest : ℕ) → AreNoLonger longest (core.now, table.now) →
         steps.new + Q.most_compared longest ≤ steps.old + length core.now.lanes.items * Q.most_compared longest }
 {
-    let mut firsts = Firsts::new();
     for cpu in 0..core.lanes.len() {
         let other = first_beside(core, table, own, first, cpu as u8, steps);
         firsts.push(other);
     }
-    firsts
 }
 
 /// Puts the online siblings from one on up to another after the others.

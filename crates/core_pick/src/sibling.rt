@@ -49,24 +49,19 @@ pub fn hand<Q: Drop>(
     ensures number { lane.new.number ≡ lane.old.number }
     ensures queue { lane.new.queue ≡ lane.old.queue }
 {
-    let selects = cpu == selector;
     let runs_it = lane.run == choice.run;
-    lane.run = if selects { choice.run } else { lane.run };
-    lane.waiting = if selects || runs_it {
-        None
+    if cpu == selector {
+        run(lane, choice.run);
+    } else if runs_it {
+        lane.waiting = None;
     } else {
-        Some(choice.run)
-    };
-    lane.pending = !selects && (!runs_it || lane.pending);
-    lane.ran = if selects { 0 } else { lane.ran };
-    lane.idle_occupation = if choice.run.is_none() {
-        occupation
-    } else {
-        lane.idle_occupation
-    };
-    lane.snapshot = if choice.is_fair && renews {
-        lane.least
-    } else {
-        lane.snapshot
-    };
+        lane.waiting = Some(choice.run);
+        lane.pending = true;
+    }
+    if choice.run.is_none() {
+        lane.idle_occupation = occupation;
+    }
+    if choice.is_fair && renews {
+        lane.snapshot = lane.least;
+    }
 }

@@ -15,13 +15,13 @@ use Rattle.core_lanes.proofs.Stays.{number_of, queues_kept, alike_stays, both_st
 use Rattle.core_pick.proofs.pick.select.Goals as goal
 
 pub lead_cookie-cookie-requires-clause-firsts : goal.lead_cookie-cookie-requires-clause-firsts
-lead_cookie-cookie-requires-clause-firsts g c beside = c.as_slice-firsts.ensures.value ∙ c.firsts-firsts.ensures.each beside
+lead_cookie-cookie-requires-clause-firsts g c beside = c.as_slice-firsts.ensures.value ∙ c.ask.ensures.each beside
 
 pub select_for-run-requires-clause-firsts : goal.select_for-run-requires-clause-firsts
-select_for-run-requires-clause-firsts g c beside = c.as_slice-firsts.ensures.value ∙ c.firsts-firsts.ensures.each beside
+select_for-run-requires-clause-firsts g c beside = c.as_slice-firsts.ensures.value ∙ c.ask.ensures.each beside
 
 pub select_for-run-requires-clause-each : goal.select_for-run-requires-clause-each
-select_for-run-requires-clause-each g c = ap length c.as_slice-firsts.ensures.value ∙ c.firsts-firsts.ensures.length
+select_for-run-requires-clause-each g c = ap length c.as_slice-firsts.ensures.value ∙ c.ask.ensures.length
 
 pub select_for-run-requires-clause-lead : goal.select_for-run-requires-clause-lead
 select_for-run-requires-clause-lead g c beside = c.lead_cookie-cookie.ensures beside
@@ -74,4 +74,4 @@ returns-clause-schedules g c =
 
 pub returns-clause-counted : goal.returns-clause-counted
 returns-clause-counted g c longest longer =
-    omega (arith, c.firsts-firsts.ensures.counted longest longer, c.select_for-run.ensures.counted longest longer)
+    omega (arith, c.ask.ensures.counted longest longer, c.select_for-run.ensures.counted longest longer)

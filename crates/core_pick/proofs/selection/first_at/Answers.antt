@@ -1,4 +1,4 @@
-use Rattle.std.proofs.Common.{◌≡◌, ◌∙◌, ◌<◌, List, [], ◌∷◌, ap, sym, subst, length, map, arith}
+use Rattle.std.proofs.Common.{◌∙◌, ◌<◌, List, [], ◌∷◌, ap, sym, subst, length, map, arith}
 use Rattle.std.specs.Prelude.{Option, None, IfSome, option_copied}
 use Rattle.std.proofs.lemmas.List.Elements.{All-weaker}
 use Rattle.cs_types.specs.declared.task.Task.{Task}

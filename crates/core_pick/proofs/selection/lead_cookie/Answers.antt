@@ -69,9 +69,6 @@ are_policies g c =
     each_first g c (λ task. IsPolicy task.spec.policy)
     (All-weaker (IsFit (length c.args.core.now.lanes.items)) (λ (task : Task). IsPolicy task.spec.policy) (λ task fit. fit.policy) c.args.table.now.tasks c.requires.at.agree.tasks)
 
-pub cookie_of_lead-requires-clause-few : goal.cookie_of_lead-requires-clause-few
-cookie_of_lead-requires-clause-few g c = c.deref.ensures.1
-
 pub cookie_of_lead-requires-clause-within : goal.cookie_of_lead-requires-clause-within
 cookie_of_lead-requires-clause-within g c =
     let room = room_of some_beside (c.args.core.now, c.args.table.now) in

@@ -3,7 +3,7 @@ use Rattle.std.specs.List.{range_with_len}
 use Rattle.arrayvec.specs.ArrayVec.{array_vec_len}
 use Rattle.core_lanes.specs.Lanes.{Beside, room_of, AreNoLonger}
 use Rattle.core_pick.specs.Choice.{choice_at, firsts_of}
-use Rattle.core_pick.proofs.selection.choices.Given as goal
+use Rattle.core_pick.proofs.selection.choose.Given as goal
 
 abbrev pub invariant-loop-cpu : goal.invariant-loop-cpu
 invariant-loop-cpu g l = record {

@@ -7,7 +7,7 @@ use Rattle.core_lanes.specs.Lanes.{lane_state, room_of}
 use Rattle.core_pick.specs.declared.lead.First.{First}
 use Rattle.core_pick.specs.Choice.{kept_of}
 use Rattle.core_pick.proofs.Asked.{one_more_but_own, all_but_own, spared}
-use Rattle.core_pick.proofs.selection.firsts.Goals as goal
+use Rattle.core_pick.proofs.selection.ask.Goals as goal
 
 pub loop-cpu-preserved : goal.loop-cpu-preserved
 loop-cpu-preserved g c = record {

@@ -7,7 +7,7 @@ use Rattle.core_lanes.specs.Lanes.{lane_state, room_of}
 use Rattle.core_pick.specs.Choice.{choice_at}
 use Rattle.core_pick.proofs.Asked.{one_more}
 use Rattle.core_pick.proofs.Choices.{kept_is}
-use Rattle.core_pick.proofs.selection.choices.Goals as goal
+use Rattle.core_pick.proofs.selection.choose.Goals as goal
 
 pub loop-cpu-preserved : goal.loop-cpu-preserved
 loop-cpu-preserved g c = record {

@@ -5,7 +5,7 @@ use Rattle.cs_types.specs.Selection.{first_on, snapshot_of}
 use Rattle.core_lanes.specs.Lanes.{Beside, room_of, AreNoLonger}
 use Rattle.core_pick.specs.Choice.{kept_of}
 use Rattle.core_pick.proofs.Asked.{spared}
-use Rattle.core_pick.proofs.selection.firsts.Given as goal
+use Rattle.core_pick.proofs.selection.ask.Given as goal
 
 abbrev pub invariant-loop-cpu : goal.invariant-loop-cpu
 invariant-loop-cpu g l = record {
