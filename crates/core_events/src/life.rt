@@ -12,7 +12,7 @@ use crate::state::State;
 use core_lanes::{SiblingQueue, task_of};
 use cs_outside::Guard;
 use cs_types::{Pid, Steps, Task};
-use fork_inherit::{ForkFault, end, fork};
+use fork_inherit::{ForkFault, end_alone, fork};
 use std::sync::ledger::Ledger;
 
 impl<Q: SiblingQueue, G: Guard> State<Q, G> {
@@ -26,7 +26,7 @@ impl<Q: SiblingQueue, G: Guard> State<Q, G> {
         ensures { Touches 1 self.old self.new (λ room. without room task) }
     {
         self.core.dequeue(&mut self.tasks, task, steps);
-        let (_, forced) = end(&mut self.tasks, &mut self.refs, task.spec.pid).unwrap();
+        let (_, forced) = end_alone(&mut self.tasks, &mut self.refs, task.spec.pid);
         self.ended.push_reserved((task.spec.pid, forced));
     }
 

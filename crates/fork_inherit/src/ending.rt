@@ -1,6 +1,6 @@
 //! The end of a task.
 
-ghost use Rattle.std.specs.Prelude.{◌≡◌, ℕ, ◌==◌, filter, find, not, false, Some, IsSomeAnd, OnOk, OnErr, if◌then◌else◌};
+ghost use Rattle.std.specs.Prelude.{◌≡◌, ℕ, ◌==◌, filter, find, not, false, Some, IfSome, IsSomeAnd, OnOk, OnErr, if◌then◌else◌};
 ghost use Rattle.cs_types.specs.declared.task.Task.{Task as SomeTask};
 ghost use Rattle.cs_types.specs.Room.{RoomState, has_pid};
 ghost use Rattle.cs_types.specs.Step.{has_threads};
@@ -30,9 +30,34 @@ pub fn has_threads(table: &TaskTable, task: &Task) -> bool
             .any(|other| group.has(other) && other.spec.pid != leader)
 }
 
-/// The task with the pid, which is asleep, is no longer among the living (`do_exit`, kernel/exit.c),
-/// and the reference to its cookie is given back (`sched_core_free`, kernel/sched/core_sched.c).
-/// It gives the task and what it was charged for forced idle, in ns.
+/// The task with the pid, which is asleep and leads no thread group that has another member, is no longer among
+/// the living (`do_exit`, kernel/exit.c), and the reference to its cookie is given back (`sched_core_free`,
+/// kernel/sched/core_sched.c). It gives the task and what it was charged for forced idle, in ns.
+pub fn end_alone(table: &mut TaskTable, refs: &mut CookieRefs, pid: Pid) -> (Task, u64)
+    requires asleep { IsSomeAnd (find (has_pid pid) table.old.tasks) (λ task. task.queued ≡ false) }
+    requires alone { (room : RoomState) → room.tasks ≡ table.old.tasks →
+        IfSome (find (has_pid pid) table.old.tasks) (λ task. has_threads room task ≡ false) }
+    requires agree { Agree refs.old table.old.tasks }
+
+    ensures task { find (has_pid pid) table.old.tasks ≡ Some result.0 }
+    ensures forced { result.1 ≡ total_in table.old pid }
+    ensures ended { table.new ≡
+        record table.old { tasks = filter (λ other. not (has_pid pid other)) table.old.tasks; totals = table.new.totals } }
+    ensures totals { (other : ℕ) → total_in table.new other ≡ (if other == pid then 0 else total_in table.old other) }
+
+    ensures agree { Agree refs.new table.new.tasks }
+    ensures next { refs.new.next ≡ refs.old.next }
+    ensures limit { refs.new.limit ≡ refs.old.limit }
+    ensures sound { IsSound table.new }
+{
+    let task = table.find(pid).copied().unwrap();
+    let forced = table.forced(pid);
+    table.remove(pid);
+    refs.put(task.cookie);
+    (task, forced)
+}
+
+/// The task with the pid, which is asleep, ends as `end_alone` says.
 ///
 /// `HasThreads` comes exactly where the task leads a thread group that has another member: there are
 /// no zombies. It changes nothing.
@@ -58,12 +83,9 @@ pub fn end(
     ensures limit { refs.new.limit ≡ refs.old.limit }
     ensures sound { IsSound table.new }
 {
-    let task = table.find(pid).copied().unwrap();
-    if has_threads(table, &task) {
+    let task = table.find(pid).unwrap();
+    if has_threads(table, task) {
         return Err(HasThreads);
     }
-    let forced = table.forced(pid);
-    table.remove(pid);
-    refs.put(task.cookie);
-    Ok((task, forced))
+    Ok(end_alone(table, refs, pid))
 }

@@ -1,7 +1,5 @@
 use Rattle.std.proofs.Common.{ℕ, map, ◌+◌, ◌≡◌, ◌++◌, ◌∷◌, [], List, ap, ◌∙◌, refl, sym, subst, false, length}
-use Rattle.std.specs.Prelude.{Ok, All, Some, find, not, IsSomeAnd, ◌==◌, ◌&&◌}
-use Rattle.std.specs.Result.{IsOk}
-use Rattle.std.proofs.lemmas.Bool.{cond-false}
+use Rattle.std.specs.Prelude.{All, Some, IfSome, find, not, IsSomeAnd, ◌==◌, ◌&&◌}
 use Rattle.std.proofs.lemmas.List.Elements.{All-filter}
 use Rattle.cs_types.specs.declared.task.Task.{Task}
 use Rattle.cs_types.specs.Room.{RoomState, has_pid}
@@ -49,24 +47,25 @@ dequeue-requires-clause-knows g c =
       cookie = refl;
     }
 
-pub end-requires-clause-asleep : goal.end-requires-clause-asleep
-end-requires-clause-asleep g c =
+pub end_alone-forced-requires-clause-asleep : goal.end_alone-forced-requires-clause-asleep
+end_alone-forced-requires-clause-asleep g c =
     subst (λ one. IsSomeAnd one (λ (task : Task). task.queued ≡ false))
     (sym (found (both c.args.self.now) (c.dequeue.new.self, c.dequeue.new.table) c.args.task c.dequeue.ensures.room c.requires.there)) refl
 
-pub end-requires-clause-agree : goal.end-requires-clause-agree
-end-requires-clause-agree g c =
-    ((lifted c.args.self.now (c.dequeue.new.self, c.dequeue.new.table) c.dequeue.ensures.stays).sound c.requires.sound).refs
-
-pub unwrap-forced-requires : goal.unwrap-forced-requires
-unwrap-forced-requires g c =
+pub end_alone-forced-requires-clause-alone : goal.end_alone-forced-requires-clause-alone
+end_alone-forced-requires-clause-alone g c room same =
     let old = both c.args.self.now in
     let mid = c.dequeue.new.self in
     let table = c.dequeue.new.table in
-    let task = c.args.task in
-    let asleep : Task = record task { queued = false } in
-    subst IsOk (sym (c.end.ensures.answer (room_of some_beside (mid, table)) asleep refl (found old (mid, table) task c.dequeue.ensures.room c.requires.there)))
-    (rw (alone old (mid, table) task c.dequeue.ensures.room (c.requires.alone [])) refl)
+    let asleep : Task = record c.args.task { queued = false } in
+    subst (λ one. IfSome one (λ (task : Task). has_threads room task ≡ false))
+    (sym (found old (mid, table) c.args.task c.dequeue.ensures.room c.requires.there))
+    (ap (λ (tasks : List Task). let with_these : RoomState = record room { tasks = tasks } in has_threads with_these asleep) same
+    ∙ alone old (mid, table) c.args.task c.dequeue.ensures.room (c.requires.alone []))
+
+pub end_alone-forced-requires-clause-agree : goal.end_alone-forced-requires-clause-agree
+end_alone-forced-requires-clause-agree g c =
+    ((lifted c.args.self.now (c.dequeue.new.self, c.dequeue.new.table) c.dequeue.ensures.stays).sound c.requires.sound).refs
 
 pub returns : goal.returns
 returns g c =
@@ -77,38 +76,33 @@ returns g c =
     let pid = task.spec.pid in
     let asleep : Task = record task { queued = false } in
     let gone = λ (other : Task). not (has_pid pid other) in
-    let less : Table = record table { tasks = but pid table.tasks; totals = c.end.new.table.totals } in
-    let ended : c.end.new.table ≡ less = rw c.unwrap-forced.ensures at c.end.ensures.ended in
+    let less : Table = record table { tasks = but pid table.tasks; totals = c.end_alone-forced.new.table.totals } in
+    let ended : c.end_alone-forced.new.table ≡ less = c.end_alone-forced.ensures.ended in
     let there = found (both old) (mid, table) task c.dequeue.ensures.room c.requires.there in
-    let forced : c.unwrap-forced.result.1 ≡ total_in table pid =
-    (let is : Ok c.unwrap-forced.result ≡ Ok (asleep, total_in table pid) =
-    sym c.unwrap-forced.ensures ∙ c.end.ensures.answer (room_of some_beside (mid, table)) asleep refl there
-    ∙ cond-false _ _ _ (alone (both old) (mid, table) task c.dequeue.ensures.room (c.requires.alone [])) in
-    let same : c.unwrap-forced.result ≡ (asleep, total_in table pid) = cc in
-    ap (λ (one : Task × ℕ). one.1) same) in
-    let moved : (other : ℕ) → total_in c.end.new.table other + total_among c.push_reserved.new.self.items other ≡ total_in table other + total_among old.ended.items other =
-    λ other. ap (λ (items : List (ℕ × ℕ)). total_in c.end.new.table other + total_among items other) c.push_reserved.ensures.items
-    ∙ total-moved (total_in table) (total_in c.end.new.table) pid c.unwrap-forced.result.1 old.ended.items (rw c.unwrap-forced.ensures at c.end.ensures.totals) forced other in
+    let forced : c.end_alone-forced.result.1 ≡ total_in table pid = c.end_alone-forced.ensures.forced in
+    let moved : (other : ℕ) → total_in c.end_alone-forced.new.table other + total_among c.push_reserved.new.self.items other ≡ total_in table other + total_among old.ended.items other =
+    λ other. ap (λ (items : List (ℕ × ℕ)). total_in c.end_alone-forced.new.table other + total_among items other) c.push_reserved.ensures.items
+    ∙ total-moved (total_in table) (total_in c.end_alone-forced.new.table) pid c.end_alone-forced.result.1 old.ended.items c.end_alone-forced.ensures.totals forced other in
     record {
       room = λ intervals.
           let beside = beside_of intervals old in
-          (λ i. room_by (record beside { cookie_limit = c.end.ensures.limit i; ended = c.push_reserved.ensures.items i; next_cookie = c.end.ensures.next i }) (bare mid) (ended i))
-          ∙ (λ i. let left : RoomState = record (c.dequeue.ensures.room beside i) { tasks = but pid (c.dequeue.ensures.room beside i).tasks; ended = map_push (λ (one : ℕ × ℕ). one.0) old.ended.items (pid, c.unwrap-forced.result.1) i } in left)
+          (λ i. room_by (record beside { cookie_limit = c.end_alone-forced.ensures.limit i; ended = c.push_reserved.ensures.items i; next_cookie = c.end_alone-forced.ensures.next i }) (bare mid) (ended i))
+          ∙ (λ i. let left : RoomState = record (c.dequeue.ensures.room beside i) { tasks = but pid (c.dequeue.ensures.room beside i).tasks; ended = map_push (λ (one : ℕ × ℕ). one.0) old.ended.items (pid, c.end_alone-forced.result.1) i } in left)
           ∙ ap (λ (tasks : List Task). let left : RoomState = record (room_with intervals old) { tasks = tasks; ended = map (λ one. one.0) old.ended.items ++ pid ∷ [] } in left) (but-changed asleep old.tasks.tasks);
       numbers =
           (λ i. record (state_numbers old) { task = mid.task_number; pick = mid.pick_number; own = (bare mid).own; intervals = mid.account.intervals; totals = λ other. moved other i })
           ∙ ap (with_ended old.ended.items) c.dequeue.ensures.numbers;
       stays = both_stay (lifted old (mid, table) c.dequeue.ensures.stays) (record {
         sound = λ sound. record {
-          agree = subst (λ (t : Table). Agree (mid, t)) (sym ended) (agree-but mid table asleep c.end.new.table.totals there refl (subst IsTable ended c.end.ensures.sound) sound.agree);
+          agree = subst (λ (t : Table). Agree (mid, t)) (sym ended) (agree-but mid table asleep c.end_alone-forced.new.table.totals there refl (subst IsTable ended c.end_alone-forced.ensures.sound) sound.agree);
           limit = ap (λ (t : Table). t.limit) ended ∙ sound.limit;
           user_top = sound.user_top;
           pids = subst (λ (t : Table). All (λ (task : Task). IsGiven old.next_pid task.spec.pid) t.tasks) (sym ended)
               (All-filter gone (λ (task : Task). IsGiven old.next_pid task.spec.pid) table.tasks sound.pids);
-          ended = subst (λ items. All (IsGone old.next_pid c.end.new.table.tasks items) items) (sym c.push_reserved.ensures.items)
-              (subst (λ (t : Table). All (IsGone old.next_pid t.tasks (old.ended.items ++ (pid, c.unwrap-forced.result.1) ∷ [])) (old.ended.items ++ (pid, c.unwrap-forced.result.1) ∷ [])) (sym ended)
-              (gone-push old.next_pid pid c.unwrap-forced.result.1 table.tasks asleep old.ended.items there (found_in (λ (task : Task). IsGiven old.next_pid task.spec.pid) pid table.tasks asleep sound.pids there).1 sound.ended));
-          refs = c.end.ensures.agree;
+          ended = subst (λ items. All (IsGone old.next_pid c.end_alone-forced.new.table.tasks items) items) (sym c.push_reserved.ensures.items)
+              (subst (λ (t : Table). All (IsGone old.next_pid t.tasks (old.ended.items ++ (pid, c.end_alone-forced.result.1) ∷ [])) (old.ended.items ++ (pid, c.end_alone-forced.result.1) ∷ [])) (sym ended)
+              (gone-push old.next_pid pid c.end_alone-forced.result.1 table.tasks asleep old.ended.items there (found_in (λ (task : Task). IsGiven old.next_pid task.spec.pid) pid table.tasks asleep sound.pids there).1 sound.ended));
+          refs = c.end_alone-forced.ensures.agree;
         };
         siblings = refl;
         ends = c.push_reserved.ensures.capacity;

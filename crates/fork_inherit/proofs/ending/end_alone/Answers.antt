@@ -3,7 +3,7 @@ use Rattle.cookie_refs.specs.Refs.{Agree}
 use Rattle.cookie_refs.proofs.Agreements.{own_cookie_is_live, AgreeBut-without}
 use Rattle.task_table.specs.Table.{Table}
 use Rattle.task_table.proofs.Tables.{found_alone}
-use Rattle.fork_inherit.proofs.ending.end.Goals as goal
+use Rattle.fork_inherit.proofs.ending.end_alone.Goals as goal
 
 pub put-requires : goal.put-requires
 put-requires c =
