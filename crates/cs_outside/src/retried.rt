@@ -27,6 +27,8 @@ pub fn read_some<R: Read>(input: &mut R, buf: &mut [u8]) -> Result<usize, Failed
 /// Gives one or more bytes from the start of the piece to the writer, and answers how many. A write
 /// that was interrupted before it took any is made again, up to 2^64 - 1 times. One that takes
 /// nothing has failed.
+// Apart from its callers, so that a sink that only gathers is small enough to stand in the loop of a caller.
+#[inline(never)]
 pub fn write_some<W: Write>(output: &mut W, piece: &[u8]) -> Result<usize, Failed>
     ensures some { IfOk result (λ n. 0 < n) }
     ensures within { IfOk result (λ n. n ≤ length piece.now) }

@@ -42,6 +42,8 @@ impl StdSink {
 
     /// Gives all that is gathered to the device. At an `Err` the device failed, and what it did not
     /// take is still gathered.
+    // Apart from `write`, which mostly only gathers.
+    #[inline(never)]
     pub fn flush(&mut self) -> Result<(), Failed>
         ensures ok { OnOk result (self.new ≡ record self.old { gathered = [] }) }
         ensures kept { IsRest self.old.gathered self.new.gathered }
