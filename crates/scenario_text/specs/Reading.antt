@@ -273,12 +273,12 @@ step_line siblings words =
 
 unfoldable pub line_of : ℕ → Place → Parts → Read ScenarioLine
 line_of siblings place words =
-    if is_word (words.at 0) (codes "task")
+    if is_word (words.at 0) (codes "step")
+    then (step_line siblings words >>= λ step. Ok (forms.Step step))
+    else (if is_word (words.at 0) (codes "task")
     then task_line siblings place words
     else (if is_word (words.at 0) (codes "teach")
     then teach_line place words
-    else (if is_word (words.at 0) (codes "step")
-    then (step_line siblings words >>= λ step. Ok (forms.Step step))
     else (if is_word (words.at 0) (codes "end") && words.count == 1 then Ok forms.End else Err Shape)))
 
 -- ---- the plan: the tasks, the teach lines and the steps that are read

@@ -92,6 +92,7 @@ fn next_limits(lines: &mut Lines<'_>, siblings: u8) -> Result<Head, BadKind>
 }
 
 /// What the next three lines say, which are the first of a text.
+#[inline(never)]
 pub(crate) fn next_head(lines: &mut Lines<'_>) -> Result<Head, ReadFault>
     requires { 1 ≤ length lines.old }
     ensures { ReadsHead lines.old result lines.new }

@@ -66,12 +66,12 @@ pub(crate) fn parse_line(
     let [name, ..] = *words else {
         return Err(BadKind::Shape);
     };
-    if is_word(name, "task") {
+    if is_word(name, "step") {
+        Ok(ScenarioLine::Step(parse_step(words, siblings)?))
+    } else if is_word(name, "task") {
         parse_task_line(words, siblings, place)
     } else if is_word(name, "teach") {
         parse_teach_line(words, place)
-    } else if is_word(name, "step") {
-        Ok(ScenarioLine::Step(parse_step(words, siblings)?))
     } else if is_word(name, "end") && words.len() == 1 {
         Ok(ScenarioLine::End)
     } else {

@@ -36,6 +36,7 @@ impl<'a> Lines<'a> {
     /// The words of the next line, which a line feed has to end. They are put into the slots, in place of
     /// another line's.
     #[tactic(auto, unfolding(crate::specs::Faults::lines_in))]
+    #[inline(always)]
     pub fn next_line<'r>(&mut self, slots: &'r mut Slots<'a>) -> Result<&'r [&'a [u8]], BadKind>
         ensures { Takes (λ words. texts words.now) result self.new (line_at self.old) }
     {

@@ -7,6 +7,7 @@ ghost use Rattle.scenario_text.specs.Faults.{pieces};
 use memchr::memchr;
 
 /// What stands before the first separator, and what stands after it. `None` where there is none.
+#[inline(always)]
 pub(crate) fn cut(bytes: &[u8], separator: u8) -> Option<(&[u8], &[u8])>
     ensures pieces { MatchOption result (pieces separator bytes.now ≡ bytes.now ∷ [])
         (λ parts. pieces separator bytes.now ≡ parts.0.now ∷ pieces separator parts.1.now) }
