@@ -22,8 +22,8 @@ fn stamps_on(table: &TaskTable, cpu: Cpu) -> Stamps
 {
     let mut stamps = Stamps::new();
     for position in 0..table.len() as usize {
-        let task = *table.at(position).unwrap();
-        if is_on(&task, cpu) {
+        let task = table.at(position).unwrap();
+        if is_on(task, cpu) {
             stamps.push(task.stamp);
         }
     }

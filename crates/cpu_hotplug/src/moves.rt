@@ -39,9 +39,9 @@ pub fn move_off<Q: SiblingQueue, L: Ledger>(
     core.task_number += 2 * count;
     core.empty_queue(cpu);
     for position in 0..table.len() as usize {
-        let task = *table.at(position).unwrap();
+        let task = table.at(position).unwrap();
         if task.queued && task.home == cpu {
-            let moved = core.moved_to(to, task);
+            let moved = core.moved_to(to, *task);
             let stamp = next + count_before(&stamps, task.stamp);
             core.enter(table, Task { stamp, ..moved }, steps);
         }

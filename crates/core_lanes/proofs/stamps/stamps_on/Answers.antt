@@ -32,10 +32,10 @@ loop-position-preserved c =
     let tasks = c.args.table.now.tasks in
     let cpu = c.args.cpu in
     let position = c.loop-position.position in
-    let task = c.unwrap.result.now in
+    let task = c.unwrap-task.result.now in
     let before = c.loop-position.stamps.items in
     let within : position < length tasks = omega (arith, c.loop-position-test.true, c.len-position-end.ensures.len) in
-    let at : slice_get tasks position ≡ Some task = sym c.at.ensures.task ∙ ap option_copied c.unwrap.ensures in
+    let at : slice_get tasks position ≡ Some task = sym c.at.ensures.task ∙ ap option_copied c.unwrap-task.ensures in
     let is : task ≡ get_or tasks position task = ap (λ found. unwrap_or found task) (sym at ∙ slice_get-get_or tasks position task within) in
     elim c.if-is_on.branch [
       | then-is_on w ↦ record {
