@@ -5,7 +5,7 @@ use Rattle.std.specs.Prelude.{IsTrue}
 use Rattle.std.specs.FinMap.{is_sorted}
 use Rattle.order_tree.specs.Order.{Entry, key_cmp}
 use Rattle.order_tree.specs.Branch.{Branch}
-use Rattle.order_tree.specs.Balance.{joined, fewest, DifferBy, IsFork}
+use Rattle.order_tree.specs.Balance.{joined, fewest, HasMany, DifferBy, IsFork}
 use Rattle.order_tree.proofs.Entries.{is_sorted-front, is_sorted-back}
 use Rattle.order_tree.proofs.Heights.{fewest-fork, height-fits}
 use Rattle.order_tree.proofs.Keys.{key_total}
@@ -20,8 +20,23 @@ IsFork-from left entry right levels rising even one_more many_left many_right =
       rising = rising;
       one_more = one_more;
       even = even;
+      many_left = many_left;
+      many_right = many_right;
       many = subst (λ h. fewest h ≤ length (joined left entry right)) (sym one_more) all;
     }
+
+-- the same, where a side was exchanged for one as high
+pub IsFork-left : (left : Branch) (entry : Entry) (right : Branch) (levels : ℕ) (side : Branch) → IsFork left entry levels right →
+    IsTrue (is_sorted key_cmp (joined side entry right)) → side.height ≡ left.height → HasMany side → IsFork side entry levels right
+IsFork-left left entry right levels side fork rising same many =
+    IsFork-from side entry right levels rising (subst (λ h. DifferBy 1 h right.height) (sym same) fork.even)
+    (fork.one_more ∙ ap (λ h. max h right.height + 1) (sym same)) many fork.many_right
+
+pub IsFork-right : (left : Branch) (entry : Entry) (right : Branch) (levels : ℕ) (side : Branch) → IsFork left entry levels right →
+    IsTrue (is_sorted key_cmp (joined left entry side)) → side.height ≡ right.height → HasMany side → IsFork left entry levels side
+IsFork-right left entry right levels side fork rising same many =
+    IsFork-from left entry side levels rising (subst (λ h. DifferBy 1 left.height h) (sym same) fork.even)
+    (fork.one_more ∙ ap (λ h. max left.height h + 1) (sym same)) fork.many_left many
 
 -- no side is so high that a level more would not fit
 pub heights-fit : (left : Branch) (entry : Entry) (right : Branch) → fewest left.height ≤ length left.entries → fewest right.height ≤ length right.entries →

@@ -4,7 +4,7 @@ use Rattle.std.proofs.lemmas.Bool.{cases_lt}
 use Rattle.std.proofs.lemmas.Int.Digits.{length-digits_of-le}
 use Rattle.cs_types.specs.Comparisons.{digits}
 use Rattle.cs_types.proofs.Comparisons.{digits-step}
-use Rattle.order_tree.specs.Balance.{fewest, DifferBy}
+use Rattle.order_tree.specs.Balance.{fewest, DifferBy, IsSettled}
 
 fewest-suc : (h : ℕ) → fewest h ≤ fewest (suc h)
 fewest-suc zero = omega arith
@@ -52,3 +52,27 @@ digits-le n few = length-digits_of-le 2 32 n (omega arith) few
 -- no tree is higher than this
 pub height-fits : (h n : ℕ) → fewest h ≤ n → n < 2 ^ 32 → h ≤ 64
 height-fits h n many few = omega (arith, height-le h n many, digits-le n few)
+
+-- ---- what a node settles to, of which a side changed
+
+-- a height that is the same or one level higher
+abbrev pub NotLower : ℕ → ℕ → Type 0
+NotLower before after = (before ≤ after) × (after ≤ before + 1)
+
+pub IsSettled-turn : (l r h : ℕ) → IsSettled l r h → IsSettled r l h
+IsSettled-turn l r h s =
+    let low = s.not_lower in
+    let high = s.at_most_one_higher in record {
+      not_lower = omega arith;
+      at_most_one_higher = omega arith;
+      one_higher = λ even. let same = s.one_higher (even.1, even.0) in omega arith;
+    }
+
+pub settles-higher : (l r side levels h : ℕ) → DifferBy 1 l r → levels ≡ max l r + 1 → NotLower l side → IsSettled side r h → NotLower levels h
+settles-higher l r side levels h even one_more near s =
+    let low = s.not_lower in
+    let high = s.at_most_one_higher in
+    elim (cases_lt (r + 1) side) [
+      | inl less ↦ (omega arith, omega arith)
+      | inr more ↦ let exact = s.one_higher (omega arith, omega arith) in (omega arith, omega arith)
+    ]

@@ -1,5 +1,5 @@
 -- A tree that was taken apart: where a key goes, and what a change of a side makes of the whole.
-use Rattle.std.proofs.Common.{◌≡◌, ℕ, ◌+◌, ◌*◌, ◌<◌, ◌≤◌, Bool, true, false, cond, List, ◌∷◌, ◌++◌, Box, Option, None, Some, length, refl, sym, ap, ◌∙◌, subst, arith, length-append}
+use Rattle.std.proofs.Common.{◌≡◌, ℕ, ◌+◌, ◌*◌, ◌^◌, ◌<◌, ◌≤◌, Bool, true, false, cond, List, ◌∷◌, ◌++◌, Box, Option, None, Some, length, max, refl, sym, ap, ◌∙◌, subst, arith, length-append}
 use Rattle.std.specs.Prelude.{[], IsTrue, is_some, slice_get}
 use Rattle.std.specs.FinMap.{find, put, is_sorted}
 use Rattle.std.specs.FinMap.Entries.{length-put, length_without}
@@ -11,11 +11,12 @@ use Rattle.std.specs.List as list
 use Rattle.std.specs.Option.{option_or}
 use Rattle.std.specs.declared.alloc.Global.{Global}
 use Rattle.order_tree.specs.Branch.{Branch, without, reaches}
-use Rattle.order_tree.specs.Balance.{entry_in, joined, branch_of, fewest, IsFork, IsBalanced, IsRoot}
+use Rattle.order_tree.specs.Balance.{entry_in, joined, branch_of, fewest, HasMany, IsSettled, IsUnevenFork, IsFork, IsBalanced, IsRoot, IsUneven, SettlesTo}
 use Rattle.order_tree.specs.declared.key.Key.{Key}
 use Rattle.order_tree.specs.declared.tree.Node.{Node}
 use Rattle.order_tree.proofs.Entries.{find-left, find-right, find-middle, put-left, put-right, is_sorted-put_of, where_key-left, where_key-right, where_key-middle, is_sorted-without, find_passes-left, find_passes-right}
-use Rattle.order_tree.proofs.Heights.{height-le}
+use Rattle.order_tree.proofs.Heights.{height-le, NotLower, IsSettled-turn, settles-higher}
+use Rattle.order_tree.proofs.Forks.{IsFork-left, IsFork-right}
 use Rattle.order_tree.proofs.Keys.{key_total}
 use Rattle.cs_types.specs.Comparisons.{digits}
 
@@ -24,8 +25,8 @@ abbrev pub sought : Key → Bool → List Entry → Option Entry
 sought key at es = list.find (λ (e : Entry). reaches at (key_cmp e.0 key)) es
 
 -- how the keys of two nodes compare, where their copies were compared
-pub compared : {a node b other : Node} {r : Ordering} → a ≡ node → b ≡ other → r ≡ key_cmp a.key b.key → key_cmp node.key other.key ≡ r
-compared a_is b_is is = (λ i. key_cmp (sym a_is i).key (sym b_is i).key) ∙ sym is
+pub compared : {a node : Node} (other : Node) {r : Ordering} → a ≡ node → r ≡ key_cmp a.key other.key → key_cmp node.key other.key ≡ r
+compared other a_is is = (λ i. key_cmp (sym a_is i).key other.key) ∙ sym is
 
 pub compared_key : (key : Key) {b other : Node} {r : Ordering} → b ≡ other → r ≡ key_cmp key b.key → key_cmp key other.key ≡ r
 compared_key key b_is is = (λ i. key_cmp key (sym b_is i).key) ∙ sym is
@@ -76,6 +77,98 @@ IsRoot-from {root} {whole} {node} view_is balanced is =
           subst (λ h. IsFork node.value.left (entry_in node.value) h node.value.right) (ap (λ (b : Branch). b.height) seen)
           (subst IsBalanced is balanced);
     }
+
+max_turn : (a b : ℕ) → max a b ≡ max b a
+max_turn a b = omega arith
+
+-- a tree that is balanced has many entries
+pub many-balanced : (root : Option (Box Node Global)) → IsBalanced root → HasMany (branch_of root)
+many-balanced None balanced = omega arith
+many-balanced (Some node) balanced = balanced.many
+
+-- a node that is the root of a tree
+pub record IsNode (whole : Branch) (node : Node) : Type 0 where
+  pub root : IsRoot whole node.left (entry_in node) node.right
+  pub height : node.height ≡ whole.height
+
+pub IsNode-from : {root : Option (Box Node Global)} {whole : Branch} {box : Box Node Global} {node : Node} → branch_of root ≡ whole → IsBalanced root →
+    root ≡ Some box → node ≡ box.value → IsNode whole node
+IsNode-from {root} {whole} {box} {node} view_is balanced is same =
+    subst (IsNode whole) (sym same) (record {
+      root = IsRoot-from view_is balanced is;
+      height = ap (λ (b : Branch). b.height) (ap branch_of (sym is) ∙ view_is);
+    })
+
+-- A node of which a side was exchanged: what its entries are, the height that it still holds, and those that it can settle to. Where the side is as high
+-- as before, the node is in balance.
+pub record IsExchanged (whole : Branch) (after : List Entry) (changed : Bool) (left : Branch) (entry : Entry) (levels : ℕ)
+    (right : Branch) : Type 0 where
+  pub entries : joined left entry right ≡ after
+  pub height : levels ≡ whole.height
+  pub kept : changed ≡ false → IsFork left entry levels right
+  pub uneven : IsUnevenFork left entry right
+  pub settled : (h : ℕ) → IsSettled left.height right.height h → NotLower whole.height h
+
+abbrev pub Exchanged : Branch → List Entry → Bool → Option (Box Node Global) → Type 0
+Exchanged whole after changed None = ⊥
+Exchanged whole after changed (Some node) =
+    IsExchanged whole after changed node.value.left (entry_in node.value) node.value.height node.value.right
+
+module _ (whole : Branch) (after : List Entry) (changed : Bool) where
+  pub entries_of : (root : Option (Box Node Global)) → Exchanged whole after changed root → (branch_of root).entries ≡ after
+  entries_of None s = absurd s
+  entries_of (Some node) s = s.entries
+
+  pub height_of : (root : Option (Box Node Global)) → Exchanged whole after changed root → (branch_of root).height ≡ whole.height
+  height_of None s = absurd s
+  height_of (Some node) s = s.height
+
+  pub kept_of : (root : Option (Box Node Global)) → Exchanged whole after changed root → changed ≡ false → IsBalanced root
+  kept_of None s same = absurd s
+  kept_of (Some node) s same = s.kept same
+
+  pub uneven_of : (root : Option (Box Node Global)) → Exchanged whole after changed root → IsUneven root
+  uneven_of None s = absurd s
+  uneven_of (Some node) s = s.uneven
+
+  pub settled_of : (root : Option (Box Node Global)) → Exchanged whole after changed root → (h : ℕ) → SettlesTo root h → NotLower whole.height h
+  settled_of None s = absurd s
+  settled_of (Some node) s = s.settled
+
+-- a node of which a side is exchanged for one that is as high or a level higher
+module _ {whole : Branch} {node : Node} (at : IsNode whole node) (side : Branch) (after : List Entry) (changed : Bool) where
+  pub exchanged-left : is_sorted key_cmp (joined side (entry_in node) node.right) ≡ true → length (joined side (entry_in node) node.right) < 2 ^ 32 →
+      joined side (entry_in node) node.right ≡ after → NotLower node.left.height side.height → (changed ≡ false → side.height ≡ node.left.height) → HasMany side →
+      IsExchanged whole after changed side (entry_in node) node.height node.right
+  exchanged-left rising fits is by same many =
+      let even = at.root.fork.even in
+      record {
+        entries = is;
+        height = at.height;
+        kept = λ kept.
+            subst (λ h. IsFork side (entry_in node) h node.right) (sym at.height)
+            (IsFork-left node.left (entry_in node) node.right whole.height side at.root.fork rising (same kept) many);
+        uneven = record { rising = rising; uneven = (omega arith, omega arith); fits = fits };
+        settled = λ h settled. settles-higher node.left.height node.right.height side.height whole.height h even at.root.fork.one_more by settled;
+      }
+
+  pub exchanged-right : is_sorted key_cmp (joined node.left (entry_in node) side) ≡ true → length (joined node.left (entry_in node) side) < 2 ^ 32 →
+      joined node.left (entry_in node) side ≡ after → NotLower node.right.height side.height → (changed ≡ false → side.height ≡ node.right.height) → HasMany side →
+      IsExchanged whole after changed node.left (entry_in node) node.height side
+  exchanged-right rising fits is by same many =
+      let even = at.root.fork.even in
+      record {
+        entries = is;
+        height = at.height;
+        kept = λ kept.
+            subst (λ h. IsFork node.left (entry_in node) h side) (sym at.height)
+            (IsFork-right node.left (entry_in node) node.right whole.height side at.root.fork rising (same kept) many);
+        uneven = record { rising = rising; uneven = (omega arith, omega arith); fits = fits };
+        settled = λ h settled.
+            settles-higher node.right.height node.left.height side.height whole.height h (even.1, even.0)
+            (at.root.fork.one_more ∙ ap (λ m. m + 1) (max_turn node.left.height node.right.height)) by
+            (IsSettled-turn node.left.height side.height h settled);
+      }
 
 module _ {whole left : Branch} {entry : Entry} {right : Branch} (root : IsRoot whole left entry right) where
   pub rising_of : is_sorted key_cmp whole.entries ≡ true

@@ -1,5 +1,5 @@
 -- Balance: what a node stands for, and what always holds of one. No public clause cites this module.
-use Rattle.std.specs.Prelude.{◌≡◌, ℕ, zero, suc, ◌+◌, ◌≤◌, max, List, [], ◌∷◌, ◌++◌, length, IsTrue, Option, Some, None}
+use Rattle.std.specs.Prelude.{◌≡◌, ℕ, zero, suc, ◌+◌, ◌^◌, ◌<◌, ◌≤◌, max, List, [], ◌∷◌, ◌++◌, length, IsTrue, Option, Some, None}
 use Rattle.std.specs.FinMap.{is_sorted}
 use Rattle.order_tree.specs.Order.{Entry, key_cmp}
 use Rattle.order_tree.specs.Branch.{Branch}
@@ -36,11 +36,17 @@ fewest (suc (suc height)) = fewest (suc height) + fewest height + 1
 abbrev pub DifferBy : ℕ → ℕ → ℕ → Type 0
 DifferBy most a b = (a ≤ b + most) × (b ≤ a + most)
 
+-- a tree has as many entries as its height asks for
+abbrev pub HasMany : Branch → Type 0
+HasMany branch = fewest branch.height ≤ length branch.entries
+
 -- The keys rise, the height is the right one, and the sides are nearly as high as each other, so that there are many entries.
 pub record IsFork (left : Branch) (entry : Entry) (levels : ℕ) (right : Branch) : Type 0 where
   pub rising : IsTrue (is_sorted key_cmp (joined left entry right))
   pub one_more : levels ≡ max left.height right.height + 1
   pub even : DifferBy 1 left.height right.height
+  pub many_left : HasMany left
+  pub many_right : HasMany right
   pub many : fewest levels ≤ length (joined left entry right)
 
 abbrev pub IsBalanced : Option (Box Node Global) → Type 0
@@ -63,3 +69,18 @@ pub record IsFirst (whole : Branch) (entry : Entry) (others : Branch) : Type 0 w
   pub entries : whole.entries ≡ entry ∷ others.entries
   pub not_higher : others.height ≤ whole.height
   pub at_most_one_lower : whole.height ≤ others.height + 1
+
+-- The keys rise, and are not too many. The sides differ in height by two at most.
+pub record IsUnevenFork (left : Branch) (entry : Entry) (right : Branch) : Type 0 where
+  pub rising : IsTrue (is_sorted key_cmp (joined left entry right))
+  pub uneven : DifferBy 2 left.height right.height
+  pub fits : length (joined left entry right) < 2 ^ 32
+
+abbrev pub IsUneven : Option (Box Node Global) → Type 0
+IsUneven None = Unit {0}
+IsUneven (Some node) = IsUnevenFork node.value.left (entry_in node.value) node.value.right
+
+-- the height that a root settles to
+abbrev pub SettlesTo : Option (Box Node Global) → ℕ → Type 0
+SettlesTo None settled = settled ≡ 0
+SettlesTo (Some node) settled = IsSettled node.value.left.height node.value.right.height settled

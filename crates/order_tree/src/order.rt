@@ -25,6 +25,8 @@ pub struct OrderTree {
     count: u32,
     /// How many more there may be.
     spare: u32,
+    /// The entry of the least key, which is asked for more often than it changes.
+    first: Option<(Key, Pid)>,
     alloc: Global,
 }
 
@@ -54,6 +56,7 @@ impl OrderTree {
             nodes: Vec::new(alloc),
             count: 0,
             spare: 0,
+            first: None,
             alloc,
         }
     }
@@ -88,7 +91,8 @@ impl OrderTree {
     {
         let mut node = self.nodes.pop().unwrap();
         node.hold(key, pid);
-        self.tree = mem::replace(&mut self.tree, Tree::empty()).insert(node, steps);
+        self.tree.insert(node, steps);
+        self.first = entry_of(self.tree.first());
         self.count += 1;
         self.spare -= 1;
     }
@@ -102,6 +106,7 @@ impl OrderTree {
     {
         let (tree, taken) = mem::replace(&mut self.tree, Tree::empty()).remove(key, steps);
         self.tree = tree;
+        self.first = entry_of(self.tree.first());
         let Some(node) = taken else {
             return false;
         };
@@ -117,17 +122,19 @@ impl OrderTree {
         ensures spare { self.new.spare ≡ self.old.spare + map.len self.old.members }
     {
         mem::replace(&mut self.tree, Tree::empty()).give(&mut self.nodes);
+        self.first = None;
         self.spare += self.count;
         self.count = 0;
     }
 
     /// The least key, and the pid there. `None` exactly where there is no key.
+    #[inline(always)]
     pub fn first<L: Ledger>(&self, steps: &mut Steps<L>) -> Option<(Key, Pid)>
         ensures first { result ≡ first_of self.now.members }
         ensures counted { steps.new ≡ steps.old }
     {
         let _ = steps;
-        entry_of(self.tree.first())
+        self.first
     }
 
     /// The least key that is not below this one, and the pid there. `None` exactly where each key is

@@ -1,13 +1,13 @@
 //! The tree: its nodes, and how they keep in balance.
 
-ghost use Rattle.std.specs.Prelude.{◌≡◌, ◌+◌, ◌*◌, ◌^◌, ◌<◌, ◌≤◌, [], ◌++◌, length, max, ◌↔◌, IsTrue, None, MatchOption, is_some, slice_get, vec_capacity};
+ghost use Rattle.std.specs.Prelude.{◌≡◌, ◌+◌, ◌*◌, ◌^◌, ◌<◌, ◌≤◌, [], ◌++◌, false, length, max, ◌↔◌, IsTrue, None, MatchOption, is_some, slice_get, vec_capacity};
 ghost use Rattle.std.specs.List as list;
 ghost use Rattle.std.specs.Option.{option_or};
 ghost use Rattle.std.specs.FinMap.{find, put, is_sorted};
 ghost use Rattle.cs_types.specs.Comparisons.{digits};
 ghost use Rattle.order_tree.specs.Order.{key_cmp};
 ghost use Rattle.order_tree.specs.Branch.{without, reaches};
-ghost use Rattle.order_tree.specs.Balance.{entry_in, entry_at, joined, fewest, DifferBy, IsRoot, IsSettled, IsFirst};
+ghost use Rattle.order_tree.specs.Balance.{entry_in, entry_at, joined, branch_of, HasMany, DifferBy, IsBalanced, IsUneven, IsRoot, IsSettled, SettlesTo, IsFirst};
 
 use crate::key::Key;
 use cs_types::{Pid, Steps};
@@ -106,7 +106,7 @@ impl Tree {
     #[inline(always)]
     fn height(&self) -> u8
         ensures height { result ≡ self.now.height }
-        ensures many { fewest self.now.height ≤ length self.now.entries }
+        ensures many { HasMany self.now }
     {
         match &self.root {
             None => 0,
@@ -171,25 +171,38 @@ impl Tree {
         }
     }
 
-    /// The tree with the node in its place. No entry has its key.
-    pub fn insert<L: Ledger>(self, node: Box<Node>, steps: &mut Steps<L>) -> Tree
-        requires free { find key_cmp node.value.key self.entries ≡ None }
-        requires fits { length self.entries + 1 < 2 ^ 32 }
-        ensures entries { result.entries ≡ put key_cmp node.value.key node.value.pid self.entries }
-        ensures not_lower { self.height ≤ result.height }
-        ensures at_most_one_higher { result.height ≤ self.height + 1 }
-        ensures shallow { self.height ≤ 2 * digits (length self.entries) }
-        ensures counted { steps.new ≤ steps.old + self.height }
+    /// Puts the node in its place, where no entry has its key. The result tells whether the height changed.
+    pub fn insert<L: Ledger>(&mut self, node: Box<Node>, steps: &mut Steps<L>) -> bool
+        requires free { find key_cmp node.value.key self.old.entries ≡ None }
+        requires fits { length self.old.entries + 1 < 2 ^ 32 }
+        ensures entries { self.new.entries ≡ put key_cmp node.value.key node.value.pid self.old.entries }
+        ensures not_lower { self.old.height ≤ self.new.height }
+        ensures at_most_one_higher { self.new.height ≤ self.old.height + 1 }
+        ensures unchanged { result ≡ false → self.new.height ≡ self.old.height }
+        ensures many { HasMany self.new }
+        ensures shallow { self.old.height ≤ 2 * digits (length self.old.entries) }
+        ensures counted { steps.new ≤ steps.old + self.old.height }
     {
-        let Some(parts) = self.open() else {
-            return fork(Tree::empty(), node, Tree::empty());
+        let Some(root) = &mut self.root else {
+            *self = fork(Tree::empty(), node, Tree::empty());
+            return true;
         };
+        let Node {
+            left,
+            key,
+            right,
+            ..
+        } = &mut **root;
         steps.tick();
-        match node.key.cmp(&parts.node.key) {
-            Ordering::Less => balance(parts.left.insert(node, steps), parts.node, parts.right),
+        let changed = match node.key.cmp(key) {
+            Ordering::Less => left.insert(node, steps),
             Ordering::Equal => unreachable!(),
-            Ordering::Greater => balance(parts.left, parts.node, parts.right.insert(node, steps)),
+            Ordering::Greater => right.insert(node, steps),
+        };
+        if !changed {
+            return false;
         }
+        settle(&mut self.root)
     }
 
     /// The node of the first entry, and the tree of the others. It compares no key.
@@ -343,6 +356,28 @@ fn balance(left: Tree, node: Box<Node>, right: Tree) -> Tree
     } else {
         fork(left, node, right)
     }
+}
+
+/// Brings a root into balance whose sides differ in height by two at most. The result tells whether its
+/// height changed.
+#[inline(never)]
+fn settle(root: &mut Option<Box<Node>>) -> bool
+    requires uneven { IsUneven root.old }
+    ensures balanced { IsBalanced root.new }
+    ensures entries { (branch_of root.new).entries ≡ (branch_of root.old).entries }
+    ensures settled { SettlesTo root.old (branch_of root.new).height }
+    ensures unchanged { result ≡ false → (branch_of root.new).height ≡ (branch_of root.old).height }
+{
+    let Some(mut node) = mem::replace(root, None) else {
+        return false;
+    };
+    let before = node.height;
+    let left = mem::replace(&mut node.left, Tree::empty());
+    let right = mem::replace(&mut node.right, Tree::empty());
+    let tree = balance(left, node, right);
+    let changed = tree.height() != before;
+    *root = tree.root;
+    changed
 }
 
 /// The tree of the two sides of a node, without it.

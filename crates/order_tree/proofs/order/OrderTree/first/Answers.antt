@@ -3,4 +3,4 @@ use Rattle.order_tree.proofs.Members.{first_of-from_sorted}
 use Rattle.order_tree.proofs.order.OrderTree.first.Goals as goal
 
 pub returns-clause-first : goal.returns-clause-first
-returns-clause-first g c = rw (← c.self.view_is) (c.entry_of.ensures ∙ c.first.ensures ∙ sym (first_of-from_sorted c.self.inside.tree.entries c.self.invariant.rising))
+returns-clause-first g c = rw (← c.self.view_is) (c.self.invariant.first ∙ sym (first_of-from_sorted c.self.inside.tree.entries c.self.invariant.rising))

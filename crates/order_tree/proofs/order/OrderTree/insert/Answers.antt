@@ -2,7 +2,6 @@ use Rattle.std.proofs.Common.{◌≡◌, ◌+◌, List, ◌++◌, length, Option
 use Rattle.std.specs.Option.{option_to_list}
 use Rattle.std.specs.FinMap.{find, put}
 use Rattle.order_tree.specs.Order.{Entry, Ordered, key_cmp}
-use Rattle.order_tree.specs.Branch.{Branch}
 use Rattle.order_tree.proofs.Placed.{IsPut, IsPut-from}
 use Rattle.order_tree.proofs.Members.{find-free, map_of-put, within}
 use Rattle.order_tree.proofs.order.OrderTree.insert.Given as given
@@ -15,17 +14,15 @@ popped before after o x is some = ap length is ∙ length-append after (option_t
 
 pub insert-requires-clause-free : goal.insert-requires-clause-free
 insert-requires-clause-free g c =
-    ap (λ (e : Entry). find key_cmp e.0 c.replace.result.entries) c.hold.ensures
-    ∙ ap (λ (b : Branch). find key_cmp c.args.key b.entries) c.replace.ensures.value
+    ap (λ (e : Entry). find key_cmp e.0 c.self.inside.tree.entries) c.hold.ensures
     ∙ find-free c.self.inside.tree.entries c.self.invariant.rising _ (ap (λ (o : Ordered). o.members) c.self.view_is) c.args.key c.requires.free
 
-enters : (g : given.Over) (c : After-insert g) → IsPut c.self.inside.tree.entries c.args.key c.args.pid c.insert.result.entries
+enters : (g : given.Over) (c : After-insert g) → IsPut c.self.inside.tree.entries c.args.key c.args.pid c.insert.new.self.entries
 enters g c =
     IsPut-from _ _ _ _ c.self.invariant.rising
     (find-free c.self.inside.tree.entries c.self.invariant.rising _ (ap (λ (o : Ordered). o.members) c.self.view_is) c.args.key c.requires.free)
     (c.insert.ensures.entries
-    ∙ ap (λ (e : Entry). put key_cmp e.0 e.1 c.replace.result.entries) c.hold.ensures
-    ∙ ap (λ (b : Branch). put key_cmp c.args.key c.args.pid b.entries) c.replace.ensures.value)
+    ∙ ap (λ (e : Entry). put key_cmp e.0 e.1 c.self.inside.tree.entries) c.hold.ensures)
 
 pub invariant_of-self : goal.invariant_of-self
 invariant_of-self g c =
@@ -37,6 +34,7 @@ invariant_of-self g c =
     let spare = rw (← c.self.view_is) at c.requires.spare in record {
       rising = put.rising;
       counted = omega arith;
+      first = c.entry_of-self-inside.ensures ∙ c.first.ensures;
       nodes = omega arith;
       places = omega arith;
       few = omega arith;
@@ -50,4 +48,4 @@ returns-clause-members g c =
 pub returns-clause-counted : goal.returns-clause-counted
 returns-clause-counted g c =
     rw (← c.self.view_is)
-    (within c.self.inside.tree.entries c.self.invariant.rising _ _ c.self.inside.tree.height (rw c.replace.ensures.value at c.insert.ensures.counted) (rw c.replace.ensures.value at c.insert.ensures.shallow))
+    (within c.self.inside.tree.entries c.self.invariant.rising _ _ c.self.inside.tree.height c.insert.ensures.counted c.insert.ensures.shallow)
