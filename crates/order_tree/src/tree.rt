@@ -368,6 +368,32 @@ fn settle(root: &mut Option<Box<Node>>) -> bool
     ensures settled { SettlesTo root.old (branch_of root.new).height }
     ensures unchanged { result ≡ false → (branch_of root.new).height ≡ (branch_of root.old).height }
 {
+    let Some(node) = root else {
+        return false;
+    };
+    let Node {
+        left,
+        height,
+        right,
+        ..
+    } = &mut **node;
+    let (left_height, right_height) = (left.height(), right.height());
+    if left_height > right_height + 1 || right_height > left_height + 1 {
+        return turn(root);
+    }
+    let before = mem::replace(height, left_height.max(right_height) + 1);
+    *height != before
+}
+
+/// The same, where one side is two levels higher than the other and is turned up.
+#[inline(never)]
+fn turn(root: &mut Option<Box<Node>>) -> bool
+    requires uneven { IsUneven root.old }
+    ensures balanced { IsBalanced root.new }
+    ensures entries { (branch_of root.new).entries ≡ (branch_of root.old).entries }
+    ensures settled { SettlesTo root.old (branch_of root.new).height }
+    ensures unchanged { result ≡ false → (branch_of root.new).height ≡ (branch_of root.old).height }
+{
     let Some(mut node) = mem::replace(root, None) else {
         return false;
     };
