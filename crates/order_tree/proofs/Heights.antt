@@ -45,6 +45,21 @@ height-le (suc (suc h)) n many =
     let half : fewest h ≤ n / 2 = omega arith in
     omega (arith, height-le h (n / 2) half, digits-step n (omega arith))
 
+fewest-suc-pos : (h : ℕ) → 1 ≤ fewest (suc h)
+fewest-suc-pos zero = omega arith
+fewest-suc-pos (suc h) = omega arith
+
+-- where there is an entry, one comparison more is within the bound
+pub height-lt : (h n : ℕ) → 1 ≤ n → fewest h ≤ n → h + 1 ≤ 2 * digits n
+height-lt zero n some many = omega (arith, digits-step n some)
+height-lt (suc zero) n some many = omega (arith, digits-step n some)
+height-lt (suc (suc h)) n some many =
+    let pos = fewest-suc-pos h in
+    let below = fewest-suc h in
+    let half : fewest h ≤ n / 2 = omega arith in
+    let half_some : 1 ≤ n / 2 = omega arith in
+    omega (arith, height-lt h (n / 2) half_some half, digits-step n some)
+
 digits-le : (n : ℕ) → n < 2 ^ 32 → digits n ≤ 32
 unfolding digits
 digits-le n few = length-digits_of-le 2 32 n (omega arith) few

@@ -1,5 +1,5 @@
 -- The map that a tree's entries are, and what is asked of it.
-use Rattle.std.proofs.Common.{◌≡◌, ℕ, ◌+◌, ◌*◌, ◌≤◌, true, false, not, cond, List, length, None, refl, sym, ap, ◌∙◌, subst, arith}
+use Rattle.std.proofs.Common.{◌≡◌, ℕ, ◌+◌, ◌*◌, ◌≤◌, true, false, not, cond, List, [], ◌∷◌, length, Option, None, refl, sym, ap, ◌∙◌, subst, arith}
 use Rattle.std.specs.Prelude.{slice_get, find, is_some}
 use Rattle.std.specs.Ordering.{is_lt, is_gt}
 use Rattle.std.specs.declared.cmp.Ordering.{Ordering}
@@ -14,6 +14,8 @@ use Rattle.order_tree.specs.Order.{Entry, Members, key_cmp, first_of, first_from
 use Rattle.order_tree.specs.Branch.{without, reaches}
 use Rattle.order_tree.specs.declared.key.Key.{Key}
 use Rattle.order_tree.proofs.Entries.{from_sorted-put, from_sorted-without}
+use Rattle.order_tree.specs.Balance.{fewest}
+use Rattle.order_tree.proofs.Heights.{height-le, height-lt}
 use Rattle.order_tree.proofs.Keys.{key_total, key_cmp-IsAntisymmetric}
 use Rattle.order_tree.proofs.Placed.{sought}
 
@@ -52,6 +54,15 @@ module _ (es : List Entry) (rising : is_sorted key_cmp es ≡ true) where
   pub within : (old new height : ℕ) → new ≤ old + height → height ≤ 2 * digits (length es) → new ≤ old + 2 * digits (len map_of)
   within old new height counted shallow =
       subst (λ n. new ≤ old + 2 * digits n) (sym (len-from_sorted key_cmp es rising)) (omega arith)
+
+  -- the same of a call that compares the first too, where there is one
+  pub within-first : (first : Option Entry) (old middle new height : ℕ) → first ≡ slice_get es 0 → middle ≤ old + 1 → (first ≡ None → middle ≡ old) →
+      new ≤ middle + height → fewest height ≤ length es → new ≤ old + 2 * digits (len map_of)
+  within-first first old middle new height is one alone counted many =
+      subst (λ n. new ≤ old + 2 * digits n) (sym (len-from_sorted key_cmp es rising)) (by_cases es is many) where
+        by_cases : (es : List Entry) → first ≡ slice_get es 0 → fewest height ≤ length es → new ≤ old + 2 * digits (length es)
+        by_cases [] is many = let same = alone is in let most = height-le height 0 many in omega arith
+        by_cases (e ∷ es) is many = let most = height-lt height (length (e ∷ es)) (omega arith) many in omega arith
 
   pub find-free : (members : Members) → map_of ≡ members → (key : Key) → fin.get members key ≡ None → fin.find key_cmp key es ≡ None
   find-free members is key free = sym (get-map_of key) ∙ ap (λ (m : Members). fin.get m key) is ∙ free

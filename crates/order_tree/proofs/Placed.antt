@@ -177,9 +177,12 @@ module _ {whole left : Branch} {entry : Entry} {right : Branch} (root : IsRoot w
   pub sides_shorter : (length left.entries < length whole.entries) × (length right.entries < length whole.entries)
   sides_shorter = let count = ap length root.entries ∙ length-append left.entries (entry ∷ right.entries) in (omega arith, omega arith)
 
+  pub many_of : HasMany whole
+  many_of = subst (λ n. fewest whole.height ≤ n) (sym (ap length root.entries)) root.fork.many
+
   -- a tree is as high as its number of entries lets it be
   pub shallow_of : whole.height ≤ 2 * digits (length whole.entries)
-  shallow_of = height-le whole.height (length whole.entries) (subst (λ n. fewest whole.height ≤ n) (sym (ap length root.entries)) root.fork.many)
+  shallow_of = height-le whole.height (length whole.entries) many_of
 
   module _ (key : Key) where
     pub find-left_of : key_cmp key entry.0 ≡ Less → find key_cmp key whole.entries ≡ find key_cmp key left.entries

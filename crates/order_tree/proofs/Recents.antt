@@ -40,7 +40,7 @@ kept b entry = cond b (Some entry) None
 
 module _ (entry : Entry) where
   -- the least of them
-  least-put : (es : List Entry) → find key_cmp entry.0 es ≡ None → slice_get (put key_cmp entry.0 entry.1 es) 0 ≡ lesser (Some entry) (slice_get es 0)
+  pub least-put : (es : List Entry) → find key_cmp entry.0 es ≡ None → slice_get (put key_cmp entry.0 entry.1 es) 0 ≡ lesser (Some entry) (slice_get es 0)
   least-put [] free = refl
   least-put (e ∷ es) free = by_cases (key_cmp entry.0 e.0) refl where
     by_cases : (r : Ordering) → key_cmp entry.0 e.0 ≡ r → slice_get (put key_cmp entry.0 entry.1 (e ∷ es)) 0 ≡ lesser (Some entry) (Some e)

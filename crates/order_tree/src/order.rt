@@ -5,11 +5,13 @@ ghost use Rattle.std.specs.FinMap as map;
 ghost use Rattle.cs_types.specs.Comparisons.{digits};
 ghost use Rattle.order_tree.specs.Order.{first_of, first_from, next_of};
 ghost use Rattle.order_tree.specs.Balance.{entry_at};
+ghost use Rattle.order_tree.specs.Recent.{lesser};
 
 use crate::key::Key;
 use crate::tree::{Node, Tree};
 use cs_types::{OutOfMemory, Pid, Steps};
 use std::alloc::Global;
+use std::cmp::Ordering;
 use std::marker::Model;
 use std::mem;
 use std::sync::ledger::Ledger;
@@ -89,10 +91,10 @@ impl OrderTree {
         ensures spare { self.new.spare + 1 ≡ self.old.spare }
         ensures counted { steps.new ≤ steps.old + 2 * digits (map.len self.old.members) }
     {
+        self.first = lesser(Some((key, pid)), self.first, steps);
         let mut node = self.nodes.pop().unwrap();
         node.hold(key, pid);
         self.tree.insert(node, steps);
-        self.first = entry_of(self.tree.first());
         self.count += 1;
         self.spare -= 1;
     }
@@ -160,6 +162,30 @@ impl OrderTree {
         ensures few { result + self.now.spare < 2 ^ 32 }
     {
         self.count
+    }
+}
+
+/// The entry with the lesser key. Where one is not there it is the other.
+#[inline(always)]
+pub fn lesser<L: Ledger>(
+    one: Option<(Key, Pid)>,
+    other: Option<(Key, Pid)>,
+    steps: &mut Steps<L>,
+) -> Option<(Key, Pid)>
+    ensures lesser { result ≡ lesser one other }
+    ensures counted { steps.new ≤ steps.old + 1 }
+    ensures alone { other ≡ None → steps.new ≡ steps.old }
+{
+    let Some(left) = one else {
+        return other;
+    };
+    let Some(right) = other else {
+        return one;
+    };
+    steps.tick();
+    match left.0.cmp(&right.0) {
+        Ordering::Less => one,
+        _ => other,
     }
 }
 

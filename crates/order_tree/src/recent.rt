@@ -8,7 +8,7 @@ ghost use Rattle.order_tree.specs.Order.{first_of, first_from, next_of};
 ghost use Rattle.order_tree.specs.Recent.{lesser, reaching, is_at};
 
 use crate::key::Key;
-use crate::order::OrderTree;
+use crate::order::{OrderTree, lesser};
 use crate::tree::reaches;
 use cs_types::{OutOfMemory, Pid, Steps};
 use std::alloc::Global;
@@ -170,28 +170,5 @@ fn reaching<L: Ledger>(
         Some((other, pid))
     } else {
         None
-    }
-}
-
-/// The entry with the lesser key. Where one is not there it is the other.
-#[inline(always)]
-fn lesser<L: Ledger>(
-    one: Option<(Key, Pid)>,
-    other: Option<(Key, Pid)>,
-    steps: &mut Steps<L>,
-) -> Option<(Key, Pid)>
-    ensures lesser { result ≡ lesser one other }
-    ensures counted { steps.new ≤ steps.old + 1 }
-{
-    let Some(left) = one else {
-        return other;
-    };
-    let Some(right) = other else {
-        return one;
-    };
-    steps.tick();
-    match left.0.cmp(&right.0) {
-        Ordering::Less => one,
-        _ => other,
     }
 }

@@ -179,8 +179,8 @@ impl Tree {
         ensures not_lower { self.old.height ≤ self.new.height }
         ensures at_most_one_higher { self.new.height ≤ self.old.height + 1 }
         ensures unchanged { result ≡ false → self.new.height ≡ self.old.height }
+        ensures many_before { HasMany self.old }
         ensures many { HasMany self.new }
-        ensures shallow { self.old.height ≤ 2 * digits (length self.old.entries) }
         ensures counted { steps.new ≤ steps.old + self.old.height }
     {
         let Some(root) = &mut self.root else {

@@ -1,9 +1,12 @@
-use Rattle.std.proofs.Common.{◌≡◌, ◌+◌, List, ◌++◌, length, Option, Some, ap, ◌∙◌, arith, length-append}
+use Rattle.std.proofs.Common.{◌≡◌, ◌+◌, List, ◌++◌, length, Option, None, Some, sym, ap, ◌∙◌, arith, length-append}
+use Rattle.std.specs.Prelude.{slice_get}
 use Rattle.std.specs.Option.{option_to_list}
 use Rattle.std.specs.FinMap.{find, put}
 use Rattle.order_tree.specs.Order.{Entry, Ordered, key_cmp}
 use Rattle.order_tree.proofs.Placed.{IsPut, IsPut-from}
-use Rattle.order_tree.proofs.Members.{find-free, map_of-put, within}
+use Rattle.order_tree.proofs.Members.{find-free, map_of-put, within-first}
+use Rattle.order_tree.specs.Recent.{lesser}
+use Rattle.order_tree.proofs.Recents.{least-put}
 use Rattle.order_tree.proofs.order.OrderTree.insert.Given as given
 use Rattle.order_tree.proofs.order.OrderTree.insert.Goals as goal
 use Rattle.order_tree.proofs.order.OrderTree.insert.Goals.{After-insert}
@@ -17,10 +20,14 @@ insert-requires-clause-free g c =
     ap (λ (e : Entry). find key_cmp e.0 c.self.inside.tree.entries) c.hold.ensures
     ∙ find-free c.self.inside.tree.entries c.self.invariant.rising _ (ap (λ (o : Ordered). o.members) c.self.view_is) c.args.key c.requires.free
 
+-- the key is not there
+free : (g : given.Over) (c : After-insert g) → find key_cmp c.args.key c.self.inside.tree.entries ≡ None
+free g c = find-free c.self.inside.tree.entries c.self.invariant.rising _ (ap (λ (o : Ordered). o.members) c.self.view_is) c.args.key c.requires.free
+
 enters : (g : given.Over) (c : After-insert g) → IsPut c.self.inside.tree.entries c.args.key c.args.pid c.insert.new.self.entries
 enters g c =
     IsPut-from _ _ _ _ c.self.invariant.rising
-    (find-free c.self.inside.tree.entries c.self.invariant.rising _ (ap (λ (o : Ordered). o.members) c.self.view_is) c.args.key c.requires.free)
+    (free g c)
     (c.insert.ensures.entries
     ∙ ap (λ (e : Entry). put key_cmp e.0 e.1 c.self.inside.tree.entries) c.hold.ensures)
 
@@ -34,7 +41,10 @@ invariant_of-self g c =
     let spare = rw (← c.self.view_is) at c.requires.spare in record {
       rising = put.rising;
       counted = omega arith;
-      first = c.entry_of-self-inside.ensures ∙ c.first.ensures;
+      first =
+          c.lesser-self-inside.ensures.lesser ∙ ap (lesser (Some (c.args.key, c.args.pid))) sound.first
+          ∙ sym (least-put (c.args.key, c.args.pid) c.self.inside.tree.entries (free g (goal.at.invariant_of-self g c).After-insert))
+          ∙ ap (λ (es : List Entry). slice_get es 0) (sym put.entries);
       nodes = omega arith;
       places = omega arith;
       few = omega arith;
@@ -48,4 +58,5 @@ returns-clause-members g c =
 pub returns-clause-counted : goal.returns-clause-counted
 returns-clause-counted g c =
     rw (← c.self.view_is)
-    (within c.self.inside.tree.entries c.self.invariant.rising _ _ c.self.inside.tree.height c.insert.ensures.counted c.insert.ensures.shallow)
+    (within-first c.self.inside.tree.entries c.self.invariant.rising c.self.inside.first _ _ _ c.self.inside.tree.height c.self.invariant.first
+    c.lesser-self-inside.ensures.counted c.lesser-self-inside.ensures.alone c.insert.ensures.counted c.insert.ensures.many_before)

@@ -1,7 +1,7 @@
 use Rattle.std.proofs.Common.{rules, ◌≡◌, ◌+◌, ◌<◌, ◌^◌, None, length, sym, ◌∙◌, arith}
 use Rattle.std.specs.FinMap.{find, put}
 use Rattle.order_tree.specs.Order.{key_cmp}
-use Rattle.order_tree.proofs.Placed.{compared, sides_shorter, find-left_of, find-right_of, find-at_root, IsNode-from, IsPut-left, IsPut-right, shallow_of, many-balanced, Exchanged, exchanged-left, exchanged-right, entries_of, height_of, kept_of, uneven_of, settled_of}
+use Rattle.order_tree.proofs.Placed.{compared, sides_shorter, find-left_of, find-right_of, find-at_root, IsNode-from, IsPut-left, IsPut-right, many_of, many-balanced, Exchanged, exchanged-left, exchanged-right, entries_of, height_of, kept_of, uneven_of, settled_of}
 use Rattle.order_tree.proofs.tree.Tree.+insert.Given as given
 use Rattle.order_tree.proofs.tree.Tree.+insert.Goals as goal
 use Rattle.order_tree.proofs.tree.Tree.+insert.Goals.{Joined-cmp, in-Less, in-Greater}
@@ -70,8 +70,8 @@ pub returns-then-not-changed-clause-many : goal.returns-then-not-changed-clause-
 returns-then-not-changed-clause-many g t c =
     many-balanced _ (kept_of _ _ _ _ (root g t (goal.at.returns-then-not-changed-clause-many g t c).Joined-cmp) c.if-not-changed.true)
 
-pub returns-then-not-changed-clause-shallow : goal.returns-then-not-changed-clause-shallow
-returns-then-not-changed-clause-shallow g t c = shallow_of (IsNode-from c.self.view_is c.self.invariant c.in-Some.is c.deref_mut.ensures.value).root
+pub returns-then-not-changed-clause-many_before : goal.returns-then-not-changed-clause-many_before
+returns-then-not-changed-clause-many_before g t c = many_of (IsNode-from c.self.view_is c.self.invariant c.in-Some.is c.deref_mut.ensures.value).root
 
 -- ---- where it is not
 
@@ -96,5 +96,5 @@ returns-clause-unchanged g t c unchanged =
 pub returns-clause-many : goal.returns-clause-many
 returns-clause-many g t c = many-balanced _ c.settle.ensures.balanced
 
-pub returns-clause-shallow : goal.returns-clause-shallow
-returns-clause-shallow g t c = shallow_of (IsNode-from c.self.view_is c.self.invariant c.in-Some.is c.deref_mut.ensures.value).root
+pub returns-clause-many_before : goal.returns-clause-many_before
+returns-clause-many_before g t c = many_of (IsNode-from c.self.view_is c.self.invariant c.in-Some.is c.deref_mut.ensures.value).root
