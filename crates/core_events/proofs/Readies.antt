@@ -1,12 +1,13 @@
 -- Readies: what the events of a state have in common.
-use Rattle.std.proofs.Common.{◌≡◌, ℕ, ◌+◌, ◌^◌, ◌<◌, Bool, true, false, cond, refl, subst, sym, ap, ◌∙◌, arith, length, Option, Some, None}
-use Rattle.std.specs.Prelude.{find}
+use Rattle.std.proofs.Common.{◌≡◌, ℕ, ◌+◌, ◌^◌, ◌<◌, Bool, true, false, cond, ltb, refl, subst, sym, ap, ◌∙◌, arith, length, Option, Some, None}
+use Rattle.std.specs.Prelude.{find, IfSome, nat_lt, not, ◌==◌, ◌&&◌}
+use Rattle.std.proofs.lemmas.Bool.{eqb-true, lt-ltb}
 use Rattle.cs_types.specs.declared.event.Event.TheVariants.{Turn, Resched, Offline, Online}
 use Rattle.cs_types.specs.declared.reply.Pick.{Pick}
 use Rattle.cs_types.specs.declared.reply.Reply.{Reply}
 use Rattle.cs_types.specs.declared.reply.Reply.TheVariants.{Picked}
 use Rattle.cs_types.specs.declared.task.Task.{Task}
-use Rattle.cs_types.specs.Room.{RoomState, has_pid, sibling_of, queued_on}
+use Rattle.cs_types.specs.Room.{RoomState, Waiting, has_pid, sibling_of, queued_on}
 use Rattle.cs_types.specs.Selection.{schedule, balance, pick_anew, adopt_or_pick_anew}
 use Rattle.cs_types.specs.Accounting.{charge}
 use Rattle.cs_types.proofs.Accounts.{account_of, charged_up_to, charge-again}
@@ -15,9 +16,9 @@ use Rattle.core_lanes.specs.declared.lanes.Core.{Core}
 use Rattle.task_table.specs.Table.{Table}
 use Rattle.core_lanes.specs.Queued.{IsOf}
 use Rattle.core_lanes.specs.Lanes.{Agree, IsFit, KnowsApart}
-use Rattle.core_lanes.specs.Numbers.{Numbers, touched}
+use Rattle.core_lanes.specs.Numbers.{Numbers, touched, is_fresh_by}
 use Rattle.core_lanes.proofs.Stays.{found_in}
-use Rattle.core_pick.specs.Schedules.{MayPick, MaySchedule}
+use Rattle.core_pick.specs.Schedules.{own_of, may_adopt_by, MayPick, MaySchedule}
 use Rattle.core_events.specs.declared.state.State.{State}
 use Rattle.core_events.specs.State.{both, IsReady}
 use Rattle.core_events.specs.Steps.{numbers_after}
@@ -47,6 +48,29 @@ may_schedule state cpu below ready = record { picks = may_pick state cpu below r
 pub may_touch_after : {Q G : Type 0} {g : Ghosts Q} (state : State Q G g) → IsReady state → (paid now : Numbers) → paid.task ≡ state.core.task_number → now ≡ touched 1 paid →
     now.task + 1 < 2 ^ 64
 may_touch_after state ready paid now same is = omega (arith, ready.spares.touches, same, ap (λ (numbers : Numbers). numbers.task) is)
+
+-- The numbers let a sibling adopt exactly where the selection is fresh, while its own number is below the pick number.
+same_test : (task pick own : ℕ) → own < pick → ((pick == task) && not (own == pick)) ≡ (nat_lt 0 pick && (pick == task))
+same_test task pick own below =
+    ap (λ b. (pick == task) && not b) (differs (own == pick) refl) ∙ with_true (pick == task)
+    ∙ ap (λ b. b && (pick == task)) (sym (lt-ltb 0 pick (omega (arith, below)))) where
+      differs : (equal : Bool) → (own == pick) ≡ equal → (own == pick) ≡ false
+      differs true is = absurd (omega (arith, below, eqb-true own pick is))
+      differs false is = is
+
+      with_true : (b : Bool) → (b && true) ≡ b
+      with_true true = refl
+      with_true false = refl
+
+-- A schedule is the same by the three numbers as by what was touched.
+pub same_schedule : (numbers : Numbers) (room : RoomState) (cpu : ℕ) → IfSome (sibling_of room cpu).waiting (λ run. own_of cpu numbers < numbers.pick) →
+    schedule room (may_adopt_by cpu numbers) cpu ≡ schedule room (is_fresh_by numbers) cpu
+same_schedule numbers room cpu behind = ap (balance cpu) (by_waiting (sibling_of room cpu).waiting behind) where
+  by_waiting : (waiting : Waiting) → IfSome waiting (λ run. own_of cpu numbers < numbers.pick) →
+      adopt_or_pick_anew room (may_adopt_by cpu numbers) cpu waiting ≡ adopt_or_pick_anew room (is_fresh_by numbers) cpu waiting
+  by_waiting None below = refl
+  by_waiting (Some run) below =
+      ap (λ b. adopt_or_pick_anew room b cpu (Some run)) (same_test numbers.task numbers.pick (own_of cpu numbers) below)
 
 -- a turn that is answered with a pick is counted as a reschedule is
 pub turn_as_resched : (room : RoomState) (cpu : ℕ) (answer : Reply) (pick : Pick) (numbers : Numbers) → answer ≡ Picked pick →

@@ -1,5 +1,5 @@
 -- Views: what the machine shows of its state is what the fold of its entries shows.
-use Rattle.std.proofs.Common.{◌+◌, zero, suc, [], ◌∷◌, map, ◌≡◌, ℕ, ◌<◌, true, false, List, refl, length, get_or, ltb, sym, ap, ◌∙◌, arith, Option, Some, None, Bor, is_some}
+use Rattle.std.proofs.Common.{◌+◌, zero, suc, [], ◌∷◌, map, ◌≡◌, ℕ, ◌<◌, true, false, List, refl, length, get_or, ltb, sym, ap, ◌∙◌, subst, arith, Option, Some, None, Bor, is_some}
 use Rattle.std.specs.Prelude.{All, find, IfSome, unwrap_or, option_copied, slice_get}
 use Rattle.std.specs.Option.{option_map}
 use Rattle.std.proofs.lemmas.List.Elements.{All-head, All-tail, All-weaker}
@@ -11,16 +11,19 @@ use Rattle.std.proofs.lemmas.List.FromFn.{get_or-map-range_with_len}
 use Rattle.std.proofs.lemmas.Option.{slice_get_past, slice_get_read}
 use Rattle.std.proofs.lemmas.Bool.{cond-true, cond-false, ltb-true, ltb-false}
 use Rattle.cs_types.specs.declared.view.CpuView.{CpuView}
-use Rattle.cs_types.specs.Room.{Opening, RoomState, SiblingState, has_pid, sibling_of}
-use Rattle.cs_types.specs.Touches.{own_number}
+use Rattle.cs_types.specs.Scenario.{IsPlayable}
+use Rattle.cs_types.specs.Room.{Opening, RoomState, SiblingState, Waiting, has_pid, sibling_of}
+use Rattle.cs_types.specs.Touches.{own_number, pick_number}
 use Rattle.cs_types.specs.View.{cpu_view, end_view, task_after, task_view, forced_of}
-use Rattle.cs_types.specs.History.{History, moment_of, fold_of, ledger_of}
+use Rattle.cs_types.specs.History.{History, AreEvents, IsLegal, moment_of, fold_of, ledger_of}
+use Rattle.cs_types.proofs.Trust.{holds-moment_of}
 use Rattle.core_lanes.specs.declared.queue.SiblingQueue.{Ghosts}
 use Rattle.core_lanes.specs.declared.lane.Lane.{Lane}
 use Rattle.core_lanes.specs.Lanes.{lane_state, lane_view}
 use Rattle.core_lanes.specs.Numbers.{Numbers}
+use Rattle.core_pick.specs.Schedules.{own_of}
 use Rattle.core_lanes.proofs.Stays.{lane_at}
-use Rattle.core_events.specs.State.{room_with, IsSound, IsGone}
+use Rattle.core_events.specs.State.{room_with, state_numbers, IsSound, IsGone}
 use Rattle.core_events.specs.declared.state.State.{State}
 use Rattle.cs_types.specs.declared.task.Task.{Task}
 use Rattle.core_events.proofs.Machines.{Folds}
@@ -100,6 +103,24 @@ number_at {Q} opening state entries cpu x folds as_many below is =
     ∙ sym (get_or-map (λ (s : Lane Q). s.number) state.core.lanes.items cpu x 0 below)
     ∙ ap (λ (numbers : Numbers). get_or numbers.own cpu 0) folds.numbers
     ∙ get_or-map-range_with_len (λ other. own_number other (ledger_of opening entries)) 0 opening.scenario.siblings cpu cpu 0 (omega (arith, as_many)) (omega arith)
+
+-- while something waits for a sibling, its own number is below the pick number
+pub behind_of : {Q G : Type 0} {g : Ghosts Q} (opening : Opening) (state : State Q G g) (entries : History) → Folds opening state entries →
+    length state.core.lanes.items ≡ opening.scenario.siblings → IsPlayable opening.scenario → AreEvents opening entries → IsLegal opening entries →
+    (cpu : ℕ) → cpu < length state.core.lanes.items →
+    IfSome (sibling_of (room_with [] state) cpu).waiting (λ run. own_of cpu (state_numbers state) < (state_numbers state).pick)
+behind_of opening state entries folds as_many playable events legal cpu below =
+    let moment = moment_of opening entries in
+    let own : own_of cpu (state_numbers state) ≡ own_number cpu moment.ledger =
+    ap (λ (numbers : Numbers). get_or numbers.own cpu 0) folds.numbers
+    ∙ get_or-map-range_with_len (λ other. own_number other moment.ledger) 0 opening.scenario.siblings cpu cpu 0 (omega (arith, as_many, below)) (omega arith) in
+    let pick : (state_numbers state).pick ≡ pick_number moment.ledger = ap (λ (numbers : Numbers). numbers.pick) folds.numbers in
+    below_by (sibling_of (room_with [] state) cpu).waiting _ _ _ _ own pick
+    (subst (λ (room : RoomState). IfSome (sibling_of room cpu).waiting (λ run. own_number cpu moment.ledger < pick_number moment.ledger)) (sym folds.fold)
+    ((holds-moment_of opening entries playable events legal).behind cpu)) where
+      below_by : (waiting : Waiting) (own other pick last : ℕ) → own ≡ other → pick ≡ last → IfSome waiting (λ run. other < last) → IfSome waiting (λ run. own < pick)
+      below_by None own other pick last same too low = tt
+      below_by (Some run) own other pick last same too low = omega (arith, same, too, low)
 
 some_shown : {Q G : Type 0} {g : Ghosts Q} (opening : Opening) (state : State Q G g) (entries : History) (cpu : ℕ) (x : Lane Q) → Folds opening state entries →
     length state.core.lanes.items ≡ opening.scenario.siblings → ltb cpu (length state.core.lanes.items) ≡ true → x ≡ get_or state.core.lanes.items cpu x →

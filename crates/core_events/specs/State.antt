@@ -1,8 +1,8 @@
 -- State: the room that a state stands for, what always holds of it, and what an event asks of it.
-use Rattle.std.specs.Prelude.{◌≡◌, ◌≢◌, ℕ, ◌+◌, ◌*◌, ◌^◌, ◌<◌, List, length, All, vec_len, vec_capacity}
+use Rattle.std.specs.Prelude.{◌≡◌, ◌≢◌, ℕ, ◌+◌, ◌*◌, ◌^◌, ◌<◌, List, [], length, All, IfSome, vec_len, vec_capacity}
 use Rattle.cs_types.specs.Scenario.{IsWithin}
 use Rattle.cs_types.specs.declared.task.Task.{Task}
-use Rattle.cs_types.specs.Room.{RoomState, Interval}
+use Rattle.cs_types.specs.Room.{RoomState, Interval, sibling_of}
 use Rattle.cs_types.proofs.Timely.{IsTimely}
 use Rattle.cookie_refs.specs.Refs.{AgreeBut}
 use Rattle.task_table.specs.Table.{Table, total_among}
@@ -10,7 +10,7 @@ use Rattle.core_lanes.specs.declared.queue.SiblingQueue.{Ghosts}
 use Rattle.core_lanes.specs.declared.lanes.Core.{Core}
 use Rattle.core_lanes.specs.Lanes.{Beside, room_of, Agree}
 use Rattle.core_lanes.specs.Numbers.{Numbers, numbers_of, with_ended}
-use Rattle.core_pick.specs.Schedules.{IsPaid}
+use Rattle.core_pick.specs.Schedules.{own_of, IsPaid}
 use Rattle.core_events.specs.declared.state.State.{State}
 
 -- ---- the room
@@ -98,9 +98,11 @@ pub record HasSpares {Q G : Type 0} {g : Ghosts Q} (state : State Q G g) : Type 
   pub places : All (λ lane. lane.place + 1 < 2 ^ 32) state.core.lanes.items
   pub asked : All (λ guard. guard.asked < 2 ^ 62) state.guards.guards.all
 
--- the state may take an event
+-- the state may take an event; while something waits for a sibling, its own number is below the pick number
 pub record IsReady {Q G : Type 0} {g : Ghosts Q} (state : State Q G g) : Type 0 where
   pub sound : IsSound state
   pub time : IsOnTime state
   pub paid : IsPaid state.clock (both state)
+  pub behind : (cpu : ℕ) → cpu < length state.core.lanes.items →
+      IfSome (sibling_of (room_with [] state) cpu).waiting (λ run. own_of cpu (state_numbers state) < (state_numbers state).pick)
   pub spares : HasSpares state

@@ -1,5 +1,5 @@
 -- Schedules: what a charge and a schedule ask of a core and its table, and what they make of them.
-use Rattle.std.specs.Prelude.{◌≡◌, ℕ, ◌+◌, ◌*◌, ◌^◌, ◌≤◌, ◌<◌, length, unwrap_or}
+use Rattle.std.specs.Prelude.{◌≡◌, ℕ, ◌+◌, ◌*◌, ◌^◌, ◌≤◌, ◌<◌, ◌==◌, ◌&&◌, not, Bool, length, unwrap_or, slice_index_or}
 use Rattle.cs_types.specs.declared.reply.Pick.{Pick}
 use Rattle.cs_types.specs.Room.{RoomState}
 use Rattle.cs_types.specs.Selection.{Scheduled}
@@ -7,8 +7,20 @@ use Rattle.task_table.specs.Table.{Table, total_in}
 use Rattle.core_lanes.specs.declared.queue.SiblingQueue.{Ghosts}
 use Rattle.core_lanes.specs.declared.lanes.Core.{Core}
 use Rattle.core_lanes.specs.Lanes.{Beside, at, room_of, Agree, HasLowTimes}
-use Rattle.core_lanes.specs.Numbers.{numbers_of, numbers_in, booked, touched, took}
+use Rattle.core_lanes.specs.Numbers.{Numbers, numbers_of, numbers_in, booked, touched, took}
 use Rattle.core_lanes.specs.Changes.{Stays, BecomesCharged, IsBooked}
+
+-- ---- what decides an adoption
+
+-- a sibling's own number
+abbrev pub own_of : ℕ → Numbers → ℕ
+own_of cpu numbers = slice_index_or numbers.own cpu 0
+
+-- whether the three numbers let a sibling adopt what waits for it: nothing was touched since the last selection for the
+-- core, and the sibling took no pick of that (`core_pick_seq`, `core_task_seq` and `core_sched_seq` in `pick_next_task`,
+-- kernel/sched/core.c)
+abbrev pub may_adopt_by : ℕ → Numbers → Bool
+may_adopt_by cpu numbers = (numbers.pick == numbers.task) && not (own_of cpu numbers == numbers.pick)
 
 -- ---- what is asked
 

@@ -1,15 +1,15 @@
 //! A schedule, in its three cases (`pick_next_task`, kernel/sched/core.c).
 
-ghost use Rattle.std.specs.Prelude.{◌≡◌, ℕ, ◌+◌, ◌*◌, ◌^◌, ◌<◌, ◌≤◌, length, ◌==◌, ◌&&◌, ◌||◌, is_some, None, IfSome, IfNone, if◌then◌else◌};
+ghost use Rattle.std.specs.Prelude.{◌≡◌, ℕ, ◌+◌, ◌*◌, ◌^◌, ◌<◌, ◌≤◌, length, ◌==◌, ◌&&◌, ◌||◌, not, is_some, None, IfSome, IfNone, if◌then◌else◌};
 ghost use Rattle.cs_types.specs.Room.{sibling_of, is_online};
 ghost use Rattle.cs_types.specs.Selection.{cookie_of, lead_from, pid_of, choice, forced_count, is_plain, adopt, pick_plain, select_for, select, pick_anew, adopt_or_pick_anew, balance, schedule};
 ghost use Rattle.task_table.specs.Table.{Table};
 ghost use Rattle.core_lanes.specs.Lanes.{Beside, at, room_of, AgreesAt, AreNoLonger};
-ghost use Rattle.core_lanes.specs.Numbers.{numbers_of, is_fresh_by};
+ghost use Rattle.core_lanes.specs.Numbers.{numbers_of};
 ghost use Rattle.core_lanes.specs.Changes.{Stays};
 ghost use Rattle.core_pick.specs.Choice.{first_at, firsts_of};
 ghost use Rattle.core_pick.specs.Comparisons.{most_of_schedule};
-ghost use Rattle.core_pick.specs.Schedules.{MayPick, MaySchedule, Schedules, ChargesAndSchedules};
+ghost use Rattle.core_pick.specs.Schedules.{may_adopt_by, MayPick, MaySchedule, Schedules, ChargesAndSchedules};
 
 use crate::account::charge;
 use crate::balance::balance;
@@ -24,14 +24,23 @@ use task_table::TaskTable;
 
 // ---- the fast path
 
-/// What waits for the sibling and may be adopted: nothing was touched since it was chosen.
+/// Whether these numbers let a sibling adopt what waits for it: nothing was touched since the last selection for the
+/// core, and the sibling took no pick of that.
+fn may_adopt(task_number: u64, pick_number: u64, own_number: u64) -> bool
+    ensures { result ≡ ((pick_number == task_number) && not (own_number == pick_number)) }
+{
+    pick_number == task_number && own_number != pick_number
+}
+
+/// What waits for the sibling, where its own number and those of the core let it adopt that.
 fn adoptable<Q: SiblingQueue>(core: &Core<Q>, cpu: Cpu) -> Option<Option<Pid>>
     requires { cpu < length core.now.lanes.items }
     ensures { (beside : Beside) (table : Table) → result ≡
-        (if is_fresh_by (numbers_of (core.now, table)) then (sibling_of (room_of beside (core.now, table)) cpu).waiting else None) }
+        (if may_adopt_by cpu (numbers_of (core.now, table)) then (sibling_of (room_of beside (core.now, table)) cpu).waiting else None) }
 {
-    if core.is_fresh() {
-        core.lanes[cpu as usize].waiting
+    let lane = &core.lanes[cpu as usize];
+    if may_adopt(core.task_number, core.pick_number, lane.number) {
+        lane.waiting
     } else {
         None
     }
@@ -221,7 +230,7 @@ fn adopt_or_pick_anew<Q: SiblingQueue, L: Ledger>(
 ) -> Pick
     requires { MaySchedule now cpu (core.old, table.old) }
     ensures schedules { ChargesAndSchedules now (core.old, table.old) (core.new, table.new) cpu result
-        (λ room. adopt_or_pick_anew room (is_fresh_by (numbers_of (core.old, table.old))) cpu (sibling_of room cpu).waiting) }
+        (λ room. adopt_or_pick_anew room (may_adopt_by cpu (numbers_of (core.old, table.old))) cpu (sibling_of room cpu).waiting) }
     ensures counted { (longest : ℕ) → AreNoLonger longest (core.old, table.old) →
         steps.new ≤ steps.old + most_of_schedule (length core.old.lanes.items) (Q.most_compared longest) }
 {
@@ -249,7 +258,7 @@ pub fn schedule<Q: SiblingQueue, L: Ledger>(
     ensures core { IfNone result (core.new ≡ core.old) }
     ensures table { IfNone result (table.new ≡ table.old) }
     ensures schedules { IfSome result (λ pick. ChargesAndSchedules now (core.old, table.old) (core.new, table.new) cpu pick
-        (λ room. schedule room (is_fresh_by (numbers_of (core.old, table.old))) cpu)) }
+        (λ room. schedule room (may_adopt_by cpu (numbers_of (core.old, table.old))) cpu)) }
 
     // How many comparisons the queues make for it, where none is longer than so many tasks.
     ensures counted { (longest : ℕ) → AreNoLonger longest (core.old, table.old) →

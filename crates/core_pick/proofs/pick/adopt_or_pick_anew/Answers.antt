@@ -6,7 +6,8 @@ use Rattle.cs_types.specs.Accounting.{charge}
 use Rattle.task_table.specs.Table.{Table}
 use Rattle.core_lanes.specs.Queued.{queued_among}
 use Rattle.core_lanes.specs.Lanes.{Beside, BareCore, bare, AreLow, at, beside_after, room_of}
-use Rattle.core_lanes.specs.Numbers.{Numbers, numbers_of, numbers_in, with_ended, booked, took, is_fresh_by}
+use Rattle.core_lanes.specs.Numbers.{Numbers, numbers_of, numbers_in, with_ended, booked, took}
+use Rattle.core_pick.specs.Schedules.{may_adopt_by}
 use Rattle.core_lanes.specs.Changes.{Kept}
 use Rattle.core_lanes.proofs.Stays.{both_stay}
 use Rattle.core_pick.specs.Comparisons.{most_of_schedule}
@@ -30,11 +31,11 @@ pub returns-in-Some-clause-schedules : goal.returns-in-Some-clause-schedules
 returns-in-Some-clause-schedules g c =
     let now = c.args.now in
     let cpu = c.args.cpu in
-    let fresh = is_fresh_by (numbers_of (c.args.core.now, c.args.table.now)) in
+    let may_adopt = may_adopt_by c.args.cpu (numbers_of (c.args.core.now, c.args.table.now)) in
     let adopts = c.adopt.ensures now c.args.table.now in
     ChargesAndSchedules-same now (c.args.core.now, c.args.table.now) (c.adopt.new.core, c.args.table.now) cpu c.adopt.result
-    (λ room. adopt room cpu c.in-Some.waiting) (λ room. adopt_or_pick_anew room fresh cpu (sibling_of room cpu).waiting)
-    (λ beside. is_adopted (room_of (at now beside) (c.args.core.now, c.args.table.now)) fresh cpu c.in-Some.waiting (c.in-Some.ensures (at now beside) c.args.table.now))
+    (λ room. adopt room cpu c.in-Some.waiting) (λ room. adopt_or_pick_anew room may_adopt cpu (sibling_of room cpu).waiting)
+    (λ beside. is_adopted (room_of (at now beside) (c.args.core.now, c.args.table.now)) may_adopt cpu c.in-Some.waiting (c.in-Some.ensures (at now beside) c.args.table.now))
     (record {
       pick = adopts.pick;
       room = λ beside. stands {Q = g.row.Q.Denot} {g = g.Q.SiblingQueue} (at now beside) (c.adopt.new.core, c.args.table.now) _ (adopts.room beside);
@@ -46,15 +47,15 @@ pub returns-in-None-clause-schedules : goal.returns-in-None-clause-schedules
 returns-in-None-clause-schedules g c =
     let now = c.args.now in
     let cpu = c.args.cpu in
-    let fresh = is_fresh_by (numbers_of (c.args.core.now, c.args.table.now)) in
+    let may_adopt = may_adopt_by c.args.cpu (numbers_of (c.args.core.now, c.args.table.now)) in
     let picked = c.pick_anew.ensures.schedules in
     let paid : Beside → Beside = λ beside. beside_after (at now beside) (charge (room_of (at now beside) (c.args.core.now, c.args.table.now))) in
     let room : (beside : Beside) → room_of (paid beside) (c.pick_anew.new.core, c.pick_anew.new.table)
     ≡ (pick_anew (charge (room_of (at now beside) (c.args.core.now, c.args.table.now))) cpu).room =
     λ beside. picked.room (paid beside) ∙ ap (λ (r : RoomState). (pick_anew r cpu).room) (c.charge.ensures.charges.room beside) in
     ChargesAndSchedules-same now (c.args.core.now, c.args.table.now) (c.pick_anew.new.core, c.pick_anew.new.table) cpu c.pick_anew.result
-    (λ room. pick_anew (charge room) cpu) (λ room. adopt_or_pick_anew room fresh cpu (sibling_of room cpu).waiting)
-    (λ beside. is_not_adopted (room_of (at now beside) (c.args.core.now, c.args.table.now)) fresh cpu (c.in-None.ensures (at now beside) c.args.table.now))
+    (λ room. pick_anew (charge room) cpu) (λ room. adopt_or_pick_anew room may_adopt cpu (sibling_of room cpu).waiting)
+    (λ beside. is_not_adopted (room_of (at now beside) (c.args.core.now, c.args.table.now)) may_adopt cpu (c.in-None.ensures (at now beside) c.args.table.now))
     (record {
       pick = λ beside. picked.pick (paid beside) ∙ ap (λ (r : RoomState). (pick_anew r cpu).pick) (c.charge.ensures.charges.room beside);
       room = λ beside. stands {Q = g.row.Q.Denot} {g = g.Q.SiblingQueue} (paid beside) (c.pick_anew.new.core, c.pick_anew.new.table) _ (room beside);

@@ -8,16 +8,17 @@ use Rattle.cs_types.specs.declared.reply.Entry.{Entry}
 use Rattle.cs_types.specs.Scenario.{IsEvent}
 use Rattle.cs_types.specs.Room.{RoomState, SiblingState}
 use Rattle.cs_types.specs.Touches.{selection_of}
-use Rattle.cs_types.specs.History.{fold_of, reply_to, history_of}
+use Rattle.cs_types.specs.History.{fold_of, reply_to, history_of, IsLegal}
 use Rattle.cs_types.specs.Laws.{SelectsForTheCore, scheduling_room, cpu_of, LeavesTheRoom}
 use Rattle.cs_types.proofs.Numbers.{asked-fold_of, task_number-ledger_of, next_stamp-fold_of, next_cookie-fold_of, next_pid-fold_of, ended-fold_of}
 use Rattle.cs_types.proofs.Tasks.{few-fold_of}
+use Rattle.cs_types.proofs.Histories.{IsLegal-history_of}
 use Rattle.cs_types.proofs.Selections.{selects}
 use Rattle.cs_types.proofs.Refusals.{refused_leaves}
 use Rattle.cs_types.proofs.BalancePlaces.{places-fold_of}
 use Rattle.cs_types.proofs.Times.{timely-fold_of, clock-step}
 use Rattle.cs_types.proofs.Accounts.{IsAccounted, account_of, charged_up_to, accounted-fold_of}
-use Rattle.core_events.proofs.Views.{total_kept}
+use Rattle.core_events.proofs.Views.{total_kept, behind_of}
 use Rattle.cs_types.proofs.Timely.{IsTimely}
 use Rattle.core_lanes.specs.declared.lane.Lane.{Lane}
 use Rattle.core_lanes.specs.Numbers.{Numbers, is_fresh_by}
@@ -65,6 +66,8 @@ counted-reply-requires-clause-ready g c =
         totals = λ pid. subst (λ (r : RoomState). total_in a.state.tasks pid ≤ 255 * charged_up_to (account_of r)) (sym fold)
             (omega (arith, total_kept (opening_of a) a.state a.entries.items pid folds, accounted.totals pid));
       };
+      behind = behind_of (opening_of a) a.state a.entries.items folds c.self.invariant.siblings c.self.invariant.playable c.self.invariant.events
+          (subst (IsLegal (opening_of a)) (sym c.self.invariant.history) (IsLegal-history_of (opening_of a) _));
       spares = record {
         touches = omega (
           arith,
