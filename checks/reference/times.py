@@ -55,11 +55,31 @@ def task_doing(room, task):
     return 'waited' if task.queued else 'slept'
 
 
+def leaving(room, event):
+    """The task that an event may end, and its cookie before that."""
+    if event[0] != 'exit' or event[1] >= len(room.sib) or room.sib[event[1]].run is None:
+        return None
+    task = room.sib[event[1]].run
+    return task.pid, task.cookie
+
+
+def charges(room, left_with):
+    """What each task was charged, the cookie for which that counts, and what each cookie is charged: that of the living tasks
+    which have it, and of the ended ones which had it when they ended."""
+    charged = {task.pid: task.total for task in list(room.tasks.values()) + room.ended}
+    counts_for = {pid: room.tasks[pid].cookie if pid in room.tasks else left_with[pid] for pid in charged}
+    by_cookie = Counter()
+    for pid, total in charged.items():
+        by_cookie[counts_for[pid]] += total
+    assert sum(by_cookie.values()) == sum(charged.values()), 'each charge counts for one cookie'
+    return charged, counts_for, by_cookie
+
+
 def summary(scenario):
     """The text of what is told of a scenario's replay."""
     room = reference.Room(scenario, check=False)
     siblings = [dict.fromkeys(['ran', 'idle', 'offline', 'cookie', 'none', 'pending'], 0) for _ in room.sib]
-    tasks, cookies = {}, {}
+    tasks, cookies, left_with = {}, {}, {}
     exposed = lasting = longest = pending = total = 0
     pairs = {}
     for _, event, text in scenario.steps:
@@ -80,20 +100,26 @@ def summary(scenario):
             exposed += delta * is_exposed
             lasting = lasting + delta if is_exposed else 0
             longest = max(longest, lasting)
+        left = leaving(room, event)
         room.apply(event, text)
+        if left is not None and left[0] not in room.tasks:
+            left_with[left[0]] = left[1]
     room.drain()
-    charged = {task.pid: task.total for task in list(room.tasks.values()) + room.ended}
+    charged, counts_for, by_cookie = charges(room, left_with)
     lines = []
     for cpu, times in enumerate(siblings):
         assert sum(times.values()) - times['pending'] == total, 'what a sibling did adds up to all time'
         lines.append('cpu %d ran %d idle %d offline %d pending %d' % (cpu, *(times[of] for of in ('ran', 'idle', 'offline', 'pending'))))
         lines.append('forced %d cookie %d none %d' % (cpu, times['cookie'], times['none']))
-    for pid, times in sorted(tasks.items()):
+    for pid in sorted(tasks.keys() | {pid for pid, total in charged.items() if total}):
+        times = tasks.get(pid, Counter())
         if pid in room.tasks and any(pid == line[0] for line in scenario.tasks):
             assert sum(times.values()) == total, 'a task of the scenario that lives at the end lived all the time'
-        lines.append('task %d ran %d waited %d slept %d charged %d' % (pid, times['ran'], times['waited'], times['slept'], charged[pid]))
-    for cookie, times in sorted(cookies.items()):
-        lines.append('cookie %d ran %d waited %d slept %d' % (cookie, times['ran'], times['waited'], times['slept']))
+        lines.append('task %d ran %d waited %d slept %d charged %d cookie %d' % (
+            pid, times['ran'], times['waited'], times['slept'], charged[pid], counts_for[pid]))
+    for cookie in sorted(cookies.keys() | {cookie for cookie, total in by_cookie.items() if total}):
+        times = cookies.get(cookie, Counter())
+        lines.append('cookie %d ran %d waited %d slept %d charged %d' % (cookie, times['ran'], times['waited'], times['slept'], by_cookie[cookie]))
     assert exposed <= pending, 'tasks with distinct cookies run side by side only where a reschedule is pending'
     assert all(0 < time <= exposed for time in pairs.values()), 'a pair is exposed for no longer than the core is'
     lines.append('exposed %d longest %d' % (exposed, longest))

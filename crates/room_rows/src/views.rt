@@ -1,6 +1,6 @@
 //! What `coresched_view` shows of runs whose numbers were worked out by hand: a reschedule that is not taken for a
-//! while, idling forced by a task with a cookie and by one without, and a task that waits behind its equal. And its
-//! words and faults.
+//! while, idling forced by a task with a cookie and by one without, a task that waits behind its equal, and one that ends
+//! under another cookie. And its words and faults.
 
 use crate::commands::{only, sink_of, source_of, words_of};
 use cs_outside::PairGuard;
@@ -50,10 +50,10 @@ fn summary_of_a_window(rt: HostRuntime) {
 forced 0 cookie 1000 none 0
 cpu 1 ran 51000 idle 0 offline 0 pending 0
 forced 1 cookie 0 none 0
-task 1 ran 50000 waited 1000 slept 0 charged 0
-task 2 ran 51000 waited 0 slept 0 charged 51000
-cookie 1 ran 50000 waited 1000 slept 0
-cookie 2 ran 51000 waited 0 slept 0
+task 1 ran 50000 waited 1000 slept 0 charged 0 cookie 1
+task 2 ran 51000 waited 0 slept 0 charged 51000 cookie 2
+cookie 1 ran 50000 waited 1000 slept 0 charged 0
+cookie 2 ran 51000 waited 0 slept 0 charged 51000
 exposed 50000 longest 50000
 pair 1 2 exposed 50000
 pending 50000
@@ -109,10 +109,10 @@ fn summary_of_idling_under_no_cookie(rt: HostRuntime) {
 forced 0 cookie 0 none 0
 cpu 1 ran 0 idle 0 offline 0 pending 300
 forced 1 cookie 300 none 2000
-task 1 ran 2000 waited 0 slept 300 charged 0
-task 2 ran 0 waited 2300 slept 0 charged 0
-cookie 0 ran 2000 waited 0 slept 300
-cookie 1 ran 0 waited 2300 slept 0
+task 1 ran 2000 waited 0 slept 300 charged 0 cookie 0
+task 2 ran 0 waited 2300 slept 0 charged 0 cookie 1
+cookie 0 ran 2000 waited 0 slept 300 charged 0
+cookie 1 ran 0 waited 2300 slept 0 charged 0
 exposed 0 longest 0
 pending 300
 replies NoTask 0 Awake 1 Idle 0 NoCaller 0 Offline 0 errors 0
@@ -146,16 +146,57 @@ end
 fn summary_of_a_wait(rt: HostRuntime) {
     let output = "cpu 0 ran 3400 idle 50 offline 0 pending 0
 forced 0 cookie 0 none 0
-task 1 ran 3000 waited 0 slept 450 charged 0
-task 2 ran 400 waited 3000 slept 50 charged 0
-task 3 ran 0 waited 0 slept 3450 charged 0
-cookie 0 ran 3400 waited 3000 slept 3950
+task 1 ran 3000 waited 0 slept 450 charged 0 cookie 0
+task 2 ran 400 waited 3000 slept 50 charged 0 cookie 0
+task 3 ran 0 waited 0 slept 3450 charged 0 cookie 0
+cookie 0 ran 3400 waited 3000 slept 3950 charged 0
 exposed 0 longest 0
 pending 0
 replies NoTask 1 Awake 1 Idle 1 NoCaller 0 Offline 0 errors 0
 total 3450
 ";
     expect_view(&rt, &["summary"], BEHIND_ITS_EQUAL, Status::Done, output);
+}
+
+/// Task 2 runs for 1 us under the cookie 2 while sibling 0 idles, is charged for that, makes itself the cookie 3 and ends.
+/// So its charge counts for 3, which no task had for any time. Then 500 ns go by before sibling 0 takes task 1.
+const ENDS_UNDER_ANOTHER: &str = "coresched 1
+siblings 2
+limits 8 8 65536
+task 1 1 1 0 fifo:10 1000 1000 1000 1000 1000 1000 0 1 1
+task 2 2 2 1 fifo:20 1000 1000 1000 1000 1000 1000 0 1 1
+step c0 prctl 1 1 0 0 0
+step c0 prctl 2 1 0 0 0
+step c0 wake 1
+step s0 turn
+step c0 wake 2
+step s1 turn
+step s0 turn
+step c0 advance 1000
+step s1 tick
+step c0 prctl 2 1 0 0 0
+step s1 exit
+step c0 advance 500
+end
+";
+
+#[test]
+fn summary_of_a_task_that_ended(rt: HostRuntime) {
+    let output = "cpu 0 ran 0 idle 0 offline 0 pending 500
+forced 0 cookie 1500 none 0
+cpu 1 ran 1000 idle 500 offline 0 pending 0
+forced 1 cookie 0 none 0
+task 1 ran 0 waited 1500 slept 0 charged 0 cookie 1
+task 2 ran 1000 waited 0 slept 0 charged 1000 cookie 3
+cookie 1 ran 0 waited 1500 slept 0 charged 0
+cookie 2 ran 1000 waited 0 slept 0 charged 0
+cookie 3 ran 0 waited 0 slept 0 charged 1000
+exposed 0 longest 0
+pending 500
+replies NoTask 0 Awake 0 Idle 0 NoCaller 0 Offline 0 errors 0
+total 1500
+";
+    expect_view(&rt, &["summary"], ENDS_UNDER_ANOTHER, Status::Done, output);
 }
 
 #[test]

@@ -10,7 +10,8 @@ use Rattle.run_times.proofs.Laws.{spans_of-drained, times_of-drained}
 use Rattle.exposed_pairs.specs.declared.rows.PairTime.{PairTime}
 use Rattle.exposed_pairs.specs.Pairs.{ArePairsIn}
 use Rattle.exposed_pairs.proofs.Laws.{rows-le}
-use Rattle.task_times.specs.TaskSums.{TaskSums, sums_in, sums_of}
+use Rattle.task_times.specs.TaskSums.{TaskSums, sums_of}
+use Rattle.task_times.proofs.Summed.{sums_so_far-drained}
 use Rattle.run_summary.specs.declared.replies.ReplyCounts.{ReplyCounts}
 use Rattle.run_summary.specs.Replies.{replies_of}
 use Rattle.run_summary.specs.Summaries.{Summary, ArePartsOf, IsSummaryOf}
@@ -20,7 +21,7 @@ parts_of-drained opening past now summary drained parts =
     record {
       times = parts.times ∙ times_of-drained opening past now drained;
       pairs = subst (λ (spans : List Span). ArePairsIn spans summary.pairs.rows) (spans_of-drained opening past now drained) parts.pairs;
-      tasks = parts.tasks ∙ ap (sums_in summary.tasks.entries (λ pid. 0)) (spans_of-drained opening past now drained);
+      tasks = parts.tasks ∙ sums_so_far-drained summary.tasks.entries opening past now drained;
     }
 
 -- with what is noted at the end the parts are the summary

@@ -13,7 +13,7 @@ pub record Summary : Type 0 where
   pub times : Times
   -- for how long tasks with which two cookies ran side by side
   pub pairs : Pairs
-  -- for how long each task and the tasks of each cookie did what
+  -- for how long each task and the tasks of each cookie did what, and what they were charged
   pub tasks : TaskSums
   -- how many steps were refused, and how
   pub replies : ReplyCounts

@@ -9,7 +9,7 @@ ghost use Rattle.run_times.specs.Sums.{did};
 ghost use Rattle.exposed_pairs.specs.Pairs.{most_rows};
 ghost use Rattle.task_times.specs.declared.times.TaskTimes.{TaskTimes};
 ghost use Rattle.task_times.specs.Living.{lives};
-ghost use Rattle.task_times.specs.TaskSums.{lived};
+ghost use Rattle.task_times.specs.TaskSums.{all_charged, lived};
 ghost use Rattle.run_summary.specs.Replies.{count_of, all_refused};
 ghost use Rattle.run_summary.specs.Summaries.{ArePartsOf, IsSummaryOf};
 
@@ -71,6 +71,10 @@ pub fn summarized_run<R: Room>(
     ensures lived { let state = fold_of (R.opening room.new) (R.history room.new) in
         IfOk result (λ summary. All (λ spec. lives spec.pid state ≡ true → (none : TaskTimes) →
         lived (slice_index_or summary.tasks.tasks spec.pid none) ≡ state.clock) (R.opening room.new).scenario.tasks) }
+
+    // What all cookies are charged adds up to what all tasks are. So no charge is lost, and none is counted twice.
+    ensures charged { IfOk result (λ summary.
+        sum_by (λ times. times.charged) summary.tasks.cookies ≡ all_charged summary.tasks.tasks) }
 
     // Tasks with distinct cookies ran side by side for no longer than some sibling was pending, and never where none
     // was at any advance.

@@ -9,7 +9,7 @@ ghost use Rattle.cs_types.specs.History.{fold_of, AreEvents};
 ghost use Rattle.exposed_pairs.specs.Pairs.{most_rows};
 ghost use Rattle.task_times.specs.declared.times.TaskTimes.{TaskTimes};
 ghost use Rattle.task_times.specs.Living.{lives};
-ghost use Rattle.task_times.specs.TaskSums.{lived, sums_so_far, sums_of};
+ghost use Rattle.task_times.specs.TaskSums.{all_charged, lived, sums_so_far, sums_of};
 ghost use Rattle.run_summary.specs.Replies.{replies_of};
 ghost use Rattle.run_summary.specs.Summaries.{ArePartsOf, IsSummaryOf};
 
@@ -97,6 +97,9 @@ impl RunSummary {
         ensures clock { let state = fold_of (R.opening room.now) (R.history room.now) in
             All (λ spec. lives spec.pid state ≡ true → (none : TaskTimes) →
             lived (slice_index_or self.new.tasks.tasks spec.pid none) ≡ state.clock) (R.opening room.now).scenario.tasks }
+
+        // What all cookies are charged adds up to what all tasks are.
+        ensures charged { sum_by (λ times. times.charged) self.new.tasks.cookies ≡ all_charged self.new.tasks.tasks }
     {
         self.tasks.close(room);
         self.replies = ReplyCounts::of(room);
@@ -116,7 +119,7 @@ impl RunSummary {
         self.pairs.rows()
     }
 
-    /// For how long each task and the tasks of each cookie did what.
+    /// For how long each task and the tasks of each cookie did what, and what they were charged.
     pub fn tasks(&self) -> &RunTasks
         ensures { result.now ≡ self.now.tasks }
     {

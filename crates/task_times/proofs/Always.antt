@@ -37,8 +37,8 @@ use Rattle.run_times.specs.Times.{Span, advance_of, span_of, spans_from, spans_o
 use Rattle.run_times.proofs.Clock.{total_time-clock}
 use Rattle.task_times.specs.declared.times.TaskTimes.{TaskTimes}
 use Rattle.task_times.specs.declared.times.CookieTimes.{CookieTimes}
-use Rattle.task_times.specs.Living.{lives, holders, charged_in}
-use Rattle.task_times.specs.TaskSums.{TaskSums, task_times, cookie_times, lived, had, time_by, pids_for, cookies_for, sums_of}
+use Rattle.task_times.specs.Living.{lives, holders, charged_in, cookie_at}
+use Rattle.task_times.specs.TaskSums.{TaskSums, task_times, cookie_times, lived, had, time_by, pids_for, cookies_for, charged_to, sums_of}
 use Rattle.task_times.proofs.Summed.{lived-task_times, had-cookie_times, row_at}
 
 -- none of these tasks has the pid
@@ -239,45 +239,47 @@ all_lived pid moment (entry ∷ entries) given later =
     )
 
 -- What each task of the scenario that lives at the end ran, waited and slept adds up to the clock.
-pub lived-clock : (opening : Opening) (history : History) (charged : ℕ) →
+pub lived-clock : (opening : Opening) (history : History) (charged cookie : ℕ) →
     All (λ (spec : TaskSpec). lives spec.pid (fold_of opening history) ≡ true →
-    lived (task_times charged (spans_of opening history) spec.pid) ≡ (fold_of opening history).clock) opening.scenario.tasks
-lived-clock opening history charged =
+    lived (task_times charged cookie (spans_of opening history) spec.pid) ≡ (fold_of opening history).clock) opening.scenario.tasks
+lived-clock opening history charged cookie =
     let room = fold_of opening history in
     let specs = opening.scenario.tasks in
-    let Holds : TaskSpec → Type 0 = λ spec. lives spec.pid room ≡ true → lived (task_times charged (spans_of opening history) spec.pid) ≡ room.clock in
+    let Holds : TaskSpec → Type 0 = λ spec. lives spec.pid room ≡ true → lived (task_times charged cookie (spans_of opening history) spec.pid) ≡ room.clock in
     All-from_recursion Holds specs
     (each_weaker (λ (spec : TaskSpec). spec.pid < first_pid specs) Holds specs
     (λ spec given later.
-    lived-task_times charged (spans_of opening history) spec.pid ∙ all_lived spec.pid (beginning opening) history given later ∙ total_time-clock opening history)
+    lived-task_times charged cookie (spans_of opening history) spec.pid ∙ all_lived spec.pid (beginning opening) history given later ∙ total_time-clock opening history)
     (below_first_pid specs))
 
 -- ---- of the sums at the end
 
+-- the row of a task then
+abbrev end_row : Opening → History → ℕ → TaskTimes
+end_row opening history pid = task_times (charged_in (fold_of opening history) pid) (cookie_at opening history pid) (spans_of opening history) pid
+
 pub lived_at : (entries : ℕ) (opening : Opening) (history : History) (sums : TaskSums) → sums ≡ sums_of entries opening history →
     (pid : ℕ) (none : TaskTimes) → pid < length sums.tasks → lived (get_or sums.tasks pid none) ≡ time_in (lives pid) (spans_of opening history)
 lived_at entries opening history sums is pid none few =
-    let spans = spans_of opening history in
-    let charged = charged_in (fold_of opening history) in
-    ap lived (row_at (λ p. task_times (charged p) spans p) (pids_for entries) sums.tasks (ap (λ (s : TaskSums). s.tasks) is) pid none few)
-    ∙ lived-task_times (charged pid) spans pid
+    ap lived (row_at (end_row opening history) (pids_for entries) sums.tasks (ap (λ (s : TaskSums). s.tasks) is) pid none few)
+    ∙ lived-task_times (charged_in (fold_of opening history) pid) (cookie_at opening history pid) (spans_of opening history) pid
 
 pub had_at : (entries : ℕ) (opening : Opening) (history : History) (sums : TaskSums) → sums ≡ sums_of entries opening history →
     (cookie : ℕ) (none : CookieTimes) → cookie < length sums.cookies → had (get_or sums.cookies cookie none) ≡ time_by (λ room. length (holders cookie room)) (spans_of opening history)
 had_at entries opening history sums is cookie none few =
     let spans = spans_of opening history in
-    ap had (row_at (cookie_times spans) (cookies_for entries) sums.cookies (ap (λ (s : TaskSums). s.cookies) is) cookie none few)
-    ∙ had-cookie_times spans cookie
+    let charged = charged_to (sums_of entries opening history).tasks in
+    ap had (row_at (λ k. cookie_times (charged k) spans k) (cookies_for entries) sums.cookies (ap (λ (s : TaskSums). s.cookies) is) cookie none few)
+    ∙ had-cookie_times (charged cookie) spans cookie
 
 pub clock_at : (entries : ℕ) (opening : Opening) (history : History) (sums : TaskSums) → IsPlayable opening.scenario → sums ≡ sums_of entries opening history →
     All (λ (spec : TaskSpec). lives spec.pid (fold_of opening history) ≡ true → (none : TaskTimes) →
     lived (get_or sums.tasks spec.pid none) ≡ (fold_of opening history).clock) opening.scenario.tasks
 clock_at entries opening history sums playable is = λ k d under later none.
     let spans = spans_of opening history in
-    let charged = charged_in (fold_of opening history) in
     let pid = (get_or opening.scenario.tasks k d).pid in
     let low = (playable.tasks k d under).pid.1 in
-    let many = ap (λ (s : TaskSums). length s.tasks) is ∙ length-map-range_with_len (λ p. task_times (charged p) spans p) 0 (pids_for entries) in
+    let many = ap (λ (s : TaskSums). length s.tasks) is ∙ length-map-range_with_len (end_row opening history) 0 (pids_for entries) in
     lived_at entries opening history sums is pid none (omega (arith, many, low))
-    ∙ sym (lived-task_times (charged pid) spans pid)
-    ∙ lived-clock opening history (charged pid) k d under later
+    ∙ sym (lived-task_times 0 0 spans pid)
+    ∙ lived-clock opening history 0 0 k d under later

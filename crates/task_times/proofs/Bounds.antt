@@ -70,15 +70,15 @@ below_end low high (task ∷ tasks) rises =
 pub pids_below : (room : RoomState) → AreRising room → AllByRecursion (λ (task : Task). task.spec.pid < room.next_pid) room.tasks
 pids_below room rises = (below_end 0 room.next_pid room.tasks rises).1
 
-running_pid : (room : RoomState) (cpu : ℕ) → AreRising room → (task : Task) → running_on room cpu ≡ Some task → task.spec.pid < room.next_pid
+pub running_pid : (room : RoomState) (cpu : ℕ) → AreRising room → (task : Task) → running_on room cpu ≡ Some task → task.spec.pid < room.next_pid
 running_pid room cpu rises task found =
     each_found (λ (t : Task). t.spec.pid < room.next_pid) (has_pid task.spec.pid) room.tasks task (running_is_found room cpu task found).1 (pids_below room rises)
 
 -- the cookie of a found task
-below_found : (room : RoomState) (pid : ℕ) → IsBound room → (task : Task) → task_of room pid ≡ Some task → task.cookie < room.next_cookie
+pub below_found : (room : RoomState) (pid : ℕ) → IsBound room → (task : Task) → task_of room pid ≡ Some task → task.cookie < room.next_cookie
 below_found room pid bound task found = each_found (λ (t : Task). t.cookie < room.next_cookie) (has_pid pid) room.tasks task found bound.1
 
-below_running : (room : RoomState) (cpu : ℕ) → IsBound room → (task : Task) → running_on room cpu ≡ Some task → task.cookie < room.next_cookie
+pub below_running : (room : RoomState) (cpu : ℕ) → IsBound room → (task : Task) → running_on room cpu ≡ Some task → task.cookie < room.next_cookie
 below_running room cpu bound task found = below_found room task.spec.pid bound task ((running_is_found room cpu task found).1)
 
 -- ---- a room at a step

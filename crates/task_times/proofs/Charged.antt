@@ -1,8 +1,8 @@
 -- Charged: what each task was charged, noted one by one.
-use Rattle.std.proofs.Common.{◌≡◌, ℕ, zero, suc, ◌+◌, ◌^◌, ◌<◌, ◌≤◌, Bool, true, false, cond, List, [], ◌∷◌, length, get_or, set, drop, refl, sym, ap, ◌∙◌, subst, arith, Some, None}
-use Rattle.std.specs.Prelude.{All, slice_get, ◌==◌, ◌||◌}
+use Rattle.std.proofs.Common.{◌≡◌, ℕ, zero, suc, ◌+◌, ◌^◌, ◌<◌, ◌≤◌, Bool, true, false, cond, List, [], ◌∷◌, length, get_or, set, drop, refl, sym, ap, ◌∙◌, subst, arith, Option, Some, None}
+use Rattle.std.specs.Prelude.{All, find, is_some, slice_get, ◌==◌, ◌||◌}
 use Rattle.std.specs.List.{AllByRecursion, list_any}
-use Rattle.std.specs.Option.{option_map}
+use Rattle.std.specs.Option.{option_map, option_map_or}
 use Rattle.std.proofs.lemmas.Bool.{both_ways, eq-eqb, eqb-true}
 use Rattle.std.proofs.lemmas.List.{get_or-set_same, get_or-set_other}
 use Rattle.std.proofs.lemmas.List.FromFn.{length-map-range_with_len}
@@ -11,19 +11,20 @@ use Rattle.cs_types.specs.declared.task.Task.{Task}
 use Rattle.cs_types.specs.declared.view.TaskView.{TaskView}
 use Rattle.cs_types.specs.declared.view.EndView.{EndView}
 use Rattle.cs_types.specs.Scenario.{IsPlayable}
-use Rattle.cs_types.specs.Room.{Opening, RoomState, has_pid}
+use Rattle.cs_types.specs.Room.{Opening, RoomState, has_pid, task_of}
 use Rattle.cs_types.specs.History.{History, fold_of}
 use Rattle.cs_types.specs.View.{forced_of, end_view}
 use Rattle.cs_types.proofs.Foremost.{each_weaker}
-use Rattle.cs_types.proofs.Numbers.{ended-fold_of}
+use Rattle.cs_types.proofs.Numbers.{ended-fold_of, next_cookie-fold_of}
 use Rattle.cs_types.proofs.Rising.{AreRising, above_zero}
 use Rattle.run_times.specs.Times.{Span, spans_of}
 use Rattle.run_times.proofs.Shown.{rises_of}
 use Rattle.task_times.specs.declared.times.TaskTimes.{TaskTimes}
-use Rattle.task_times.specs.Living.{charged_in}
-use Rattle.task_times.specs.TaskSums.{TaskSums, task_times, pids_for, sums_so_far, sums_of, with_charge, charged_where}
+use Rattle.task_times.specs.Living.{charged_in, leavers_of, left_with, cookie_at}
+use Rattle.task_times.specs.TaskSums.{task_times, pids_for, sums_so_far, sums_of, counted_for, with_charge, charged_where, charged_living}
 use Rattle.task_times.proofs.Bounds.{bound-fold_of, pids_below}
-use Rattle.task_times.proofs.Summed.{next_pid-le, rows-push}
+use Rattle.task_times.proofs.Summed.{both_below, next_pid-le, rows-push}
+use Rattle.task_times.proofs.Walked.{above_misses}
 use Rattle.task_times.proofs.Walk.{above, next_view, next_of, none_above}
 
 -- one more pid is noted, and the rest is to be
@@ -48,27 +49,51 @@ charge_step room pid k rest rows none few = go (pid == k) refl where
 
 -- ---- the living
 
-abbrev pub charged_living : RoomState → ℕ → ℕ → TaskTimes → TaskTimes
-charged_living room pid k row = charged_where (list_any (has_pid k) (above room pid)) room k row
+-- the times of a task with what it was charged, and with its cookie, where it is one of these
+abbrev pub charged_among : RoomState → List Task → ℕ → TaskTimes → TaskTimes
+charged_among room left pid row = charged_living (find (has_pid pid) left) room pid row
 
-pub living_start : (room : RoomState) (k : ℕ) (row : TaskTimes) → AreRising room → charged_living room 0 k row ≡ charged_where (list_any (has_pid k) room.tasks) room k row
-living_start room k row rises = ap (λ (tasks : List Task). charged_where (list_any (has_pid k) tasks) room k row) (above_zero room.next_pid room.tasks rises)
+abbrev pub charged_above : RoomState → ℕ → ℕ → TaskTimes → TaskTimes
+charged_above room pid k row = charged_among room (above room pid) k row
+
+-- one more task is noted, and the rest is to be
+living_one : (room : RoomState) (task : Task) (left : List Task) (rows : List TaskTimes) (k : ℕ) (none : TaskTimes) → find (has_pid task.spec.pid) left ≡ None → task.spec.pid < length rows →
+    charged_among room left k (get_or (set rows task.spec.pid (charged_living (Some task) room task.spec.pid (get_or rows task.spec.pid none))) k none)
+    ≡ charged_among room (task ∷ left) k (get_or rows k none)
+living_one room task left rows k none past few = go (has_pid k task) refl where
+  own : TaskTimes
+  own = charged_living (Some task) room task.spec.pid (get_or rows task.spec.pid none)
+
+  go : (test : Bool) → has_pid k task ≡ test →
+      charged_among room left k (get_or (set rows task.spec.pid own) k none) ≡ charged_living (cond test (Some task) (find (has_pid k) left)) room k (get_or rows k none)
+  go true is =
+      let e : task.spec.pid ≡ k = eqb-true task.spec.pid k is in
+      let gone : find (has_pid k) left ≡ None = ap (λ (n : ℕ). find (has_pid n) left) (sym e) ∙ past in
+      (λ i. charged_living (gone i) room k (get_or (set rows task.spec.pid own) (sym e i) none))
+      ∙ get_or-set_same rows task.spec.pid own none few
+      ∙ ap (λ (n : ℕ). charged_living (Some task) room n (get_or rows n none)) e
+  go false is =
+      ap (charged_among room left k)
+      (get_or-set_other rows task.spec.pid k own none (λ same. both_ways (has_pid k task) is (eq-eqb task.spec.pid k (sym same))))
+
+pub living_start : (room : RoomState) (k : ℕ) (row : TaskTimes) → AreRising room → charged_above room 0 k row ≡ charged_living (task_of room k) room k row
+living_start room k row rises = ap (λ (tasks : List Task). charged_among room tasks k row) (above_zero room.next_pid room.tasks rises)
 
 pub living_step : (room : RoomState) (pid : ℕ) (view : TaskView) → AreRising room → Some view ≡ next_view room pid → (rows new : List TaskTimes) (k : ℕ) (none : TaskTimes) → view.pid < length rows →
-    new ≡ set rows view.pid (with_charge view.forced (get_or rows view.pid none)) →
-    charged_living room view.pid k (get_or new k none) ≡ charged_living room pid k (get_or rows k none)
+    new ≡ set rows view.pid (with_charge view.forced (counted_for view.cookie (get_or rows view.pid none))) →
+    charged_above room view.pid k (get_or new k none) ≡ charged_above room pid k (get_or rows k none)
 living_step room pid view rises shown rows new k none few is =
     let next = next_of room pid view rises shown in
     let own : view.pid ≡ next.task.spec.pid = ap (λ (v : TaskView). v.pid) next.shown in
     let at = next.task.spec.pid in
-    let now : new ≡ set rows at (with_charge (forced_of room at) (get_or rows at none)) =
-    is ∙ (λ i. set rows (own i) (with_charge (ap (λ (v : TaskView). v.forced) next.shown i) (get_or rows (own i) none))) in
-    (λ i. charged_living room (own i) k (get_or (now i) k none))
-    ∙ charge_step room at k (list_any (has_pid k) (above room at)) rows none (subst (λ (n : ℕ). n < length rows) own few)
-    ∙ ap (λ (left : List Task). charged_where (list_any (has_pid k) left) room k (get_or rows k none)) (sym next.first)
+    let now : new ≡ set rows at (charged_living (Some next.task) room at (get_or rows at none)) =
+    is ∙ (λ i. set rows (own i) (with_charge (ap (λ (v : TaskView). v.forced) next.shown i) (counted_for (ap (λ (v : TaskView). v.cookie) next.shown i) (get_or rows (own i) none)))) in
+    (λ i. charged_above room (own i) k (get_or (now i) k none))
+    ∙ living_one room next.task (above room at) rows k none (above_misses at room.tasks) (subst (λ (n : ℕ). n < length rows) own few)
+    ∙ ap (λ (left : List Task). charged_among room left k (get_or rows k none)) (sym next.first)
 
-pub living_end : (room : RoomState) (pid : ℕ) → None ≡ next_view room pid → (k : ℕ) (row : TaskTimes) → row ≡ charged_living room pid k row
-living_end room pid shown k row = sym (ap (λ (left : List Task). charged_where (list_any (has_pid k) left) room k row) (none_above room pid shown))
+pub living_end : (room : RoomState) (pid : ℕ) → None ≡ next_view room pid → (k : ℕ) (row : TaskTimes) → row ≡ charged_above room pid k row
+living_end room pid shown k row = sym (ap (λ (left : List Task). charged_among room left k row) (none_above room pid shown))
 
 -- ---- the ended
 
@@ -118,37 +143,58 @@ ended_end room place shown k row = sym (ap (λ (left : List ℕ). charged_where 
 
 -- ---- all
 
-charged_both : (room : RoomState) (spans : List Span) (k : ℕ) → task_times (charged_in room k) spans k
-    ≡ charged_where (list_any (λ other. other == k) room.ended) room k (charged_where (list_any (has_pid k) room.tasks) room k (task_times 0 spans k))
-charged_both room spans k = go (list_any (has_pid k) room.tasks) (list_any (λ other. other == k) room.ended) where
-  go : (lives past : Bool) → task_times (cond (lives || past) (forced_of room k) 0) spans k ≡ charged_where past room k (charged_where lives room k (task_times 0 spans k))
-  go true true = refl
-  go true false = refl
-  go false true = refl
-  go false false = refl
+charged_both : (opening : Opening) (history : History) (spans : List Span) (k : ℕ) → let room = fold_of opening history in
+    task_times (charged_in room k) (cookie_at opening history k) spans k
+    ≡ charged_where (list_any (λ other. other == k) room.ended) room k (charged_living (task_of room k) room k (task_times 0 (left_with (leavers_of opening history) k) spans k))
+charged_both opening history spans k = go (task_of room k) (list_any (λ other. other == k) room.ended) where
+  room : RoomState
+  room = fold_of opening history
+
+  left : ℕ
+  left = left_with (leavers_of opening history) k
+
+  go : (found : Option Task) (past : Bool) →
+      task_times (cond (is_some found || past) (forced_of room k) 0) (option_map_or (λ (t : Task). t.cookie) found left) spans k
+      ≡ charged_where past room k (charged_living found room k (task_times 0 left spans k))
+  go (Some task) true = refl
+  go (Some task) false = refl
+  go None true = refl
+  go None false = refl
 
 -- the rows at the end
 pub rows_charged : (entries : ℕ) (opening : Opening) (history : History) (old new : List TaskTimes) →
     let room = fold_of opening history in
     old ≡ (sums_so_far entries opening history).tasks → length new ≡ length old →
     ((k : ℕ) (none : TaskTimes) → k < length old → get_or new k none
-    ≡ charged_where (list_any (λ other. other == k) room.ended) room k (charged_where (list_any (has_pid k) room.tasks) room k (get_or old k none))) →
+    ≡ charged_where (list_any (λ other. other == k) room.ended) room k (charged_living (task_of room k) room k (get_or old k none))) →
     new ≡ (sums_of entries opening history).tasks
 rows_charged entries opening history old new was long each =
     let room = fold_of opening history in
     let spans = spans_of opening history in
-    rows-push (task_times 0 spans) (λ pid. task_times (charged_in room pid) spans pid)
-    (λ k row. charged_where (list_any (λ other. other == k) room.ended) room k (charged_where (list_any (has_pid k) room.tasks) room k row))
-    (charged_both room spans) (pids_for entries) old new (task_times 0 [] 0) was long each
+    rows-push (λ pid. task_times 0 (left_with (leavers_of opening history) pid) spans pid) (λ pid. task_times (charged_in room pid) (cookie_at opening history pid) spans pid)
+    (λ k row. charged_where (list_any (λ other. other == k) room.ended) room k (charged_living (task_of room k) room k row))
+    (charged_both opening history spans) (pids_for entries) old new (task_times 0 0 [] 0) was long each
+
+-- what is said of rows is said of the same rows
+pub each_row : (room : RoomState) (slice rows new : List TaskTimes) → slice ≡ rows →
+    ((k : ℕ) (none : TaskTimes) → k < length slice → get_or new k none
+    ≡ charged_where (list_any (λ other. other == k) room.ended) room k (charged_living (task_of room k) room k (get_or slice k none))) →
+    (k : ℕ) (none : TaskTimes) → k < length rows → get_or new k none
+    ≡ charged_where (list_any (λ other. other == k) room.ended) room k (charged_living (task_of room k) room k (get_or rows k none))
+each_row room slice rows new same each =
+    subst (λ (xs : List TaskTimes). (k : ℕ) (none : TaskTimes) → k < length xs → get_or new k none
+    ≡ charged_where (list_any (λ other. other == k) room.ended) room k (charged_living (task_of room k) room k (get_or xs k none))) same each
 
 -- there is a row for each
-pub living_rows : (entries : ℕ) (opening : Opening) (history : History) (most : ℕ) → IsPlayable opening.scenario → length history ≤ entries → most ≡ pids_for entries →
-    All (λ (task : Task). task.spec.pid < most) (fold_of opening history).tasks
-living_rows entries opening history most playable few is =
+pub living_rows : (entries : ℕ) (opening : Opening) (history : History) (most highest : ℕ) → IsPlayable opening.scenario → length history ≤ entries → most ≡ pids_for entries →
+    entries < highest → All (λ (task : Task). (task.spec.pid < most) × (task.cookie < highest)) (fold_of opening history).tasks
+living_rows entries opening history most highest playable few is fits =
     let room = fold_of opening history in
-    let up = next_pid-le entries opening history playable few in
-    All-from_recursion (λ (task : Task). task.spec.pid < most) room.tasks
-    (each_weaker (λ (task : Task). task.spec.pid < room.next_pid) (λ (task : Task). task.spec.pid < most) room.tasks (λ task below. omega (arith, below, up, is)) (pids_below room (rises_of opening history playable)))
+    let low : opening.scenario.task_limit ≤ 256 = playable.task_limit.1 in
+    All-from_recursion (λ (task : Task). (task.spec.pid < most) × (task.cookie < highest)) room.tasks
+    (both_below most highest room.next_pid room.next_cookie room.tasks (omega (arith, next_pid-le entries opening history playable few, is))
+    (omega (arith, next_cookie-fold_of opening history playable.few_tasks low, few, fits))
+    (pids_below room (rises_of opening history playable)) (bound-fold_of opening history playable).1)
 
 pub ended_rows : (entries : ℕ) (opening : Opening) (history : History) (most : ℕ) → IsPlayable opening.scenario → length history ≤ entries → most ≡ pids_for entries →
     All (λ (pid : ℕ). pid < most) (fold_of opening history).ended
@@ -163,15 +209,5 @@ pub ended_few : (entries : ℕ) (opening : Opening) (history : History) → IsPl
 ended_few entries opening history playable few fits = omega (arith, ended-fold_of opening history playable.few_tasks playable.task_limit.1, few, fits)
 
 pub tasks_long : (entries : ℕ) (opening : Opening) (history : History) (tasks : List TaskTimes) → tasks ≡ (sums_so_far entries opening history).tasks → length tasks ≡ pids_for entries
-tasks_long entries opening history tasks is = ap length is ∙ length-map-range_with_len (task_times 0 (spans_of opening history)) 0 (pids_for entries)
-
--- the sums at the end
-pub sums_charged : (entries : ℕ) (opening : Opening) (history : History) (old : TaskSums) (tasks : List TaskTimes) →
-    let room = fold_of opening history in
-    old ≡ sums_so_far entries opening history → length tasks ≡ length old.tasks →
-    ((k : ℕ) (none : TaskTimes) → k < length old.tasks → get_or tasks k none
-    ≡ charged_where (list_any (λ other. other == k) room.ended) room k (charged_where (list_any (has_pid k) room.tasks) room k (get_or old.tasks k none))) →
-    record old { tasks = tasks } ≡ sums_of entries opening history
-sums_charged entries opening history old tasks was long each =
-    let rows = rows_charged entries opening history old.tasks tasks (ap (λ (s : TaskSums). s.tasks) was) long each in
-    λ i. record (was i) { tasks = rows i }
+tasks_long entries opening history tasks is =
+    ap length is ∙ length-map-range_with_len (λ pid. task_times 0 (left_with (leavers_of opening history) pid) (spans_of opening history) pid) 0 (pids_for entries)

@@ -2,6 +2,8 @@ pub mod Running
 pub mod Walked
 pub mod Walk
 pub mod Bounds
+pub mod Leaving
 pub mod Summed
 pub mod Charged
+pub mod Counted
 pub mod Always

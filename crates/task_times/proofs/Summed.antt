@@ -1,44 +1,50 @@
 -- Summed: the sums of a history, with one advance more.
-use Rattle.std.proofs.Common.{◌≡◌, ℕ, ◌+◌, ◌*◌, ◌<◌, ◌≤◌, ◌^◌, ◌-◌, Bool, true, false, cond, List, [], ◌∷◌, ◌++◌, map, length, get_or, refl, sym, ap, ◌∙◌, subst, zero-add, arith, Option, Some, None}
+use Rattle.std.proofs.Common.{◌≡◌, ℕ, ◌+◌, ◌*◌, ◌<◌, ◌≤◌, ◌^◌, ◌-◌, Bool, true, false, cond, List, [], ◌∷◌, ◌++◌, map, length, get_or, set, refl, sym, ap, ◌∙◌, subst, zero-add, arith, Option, Some, None}
 use Rattle.std.specs.Option.{option_map, option_map_or, option_to_list}
 use Rattle.std.specs.Prelude.{is_some, All, replicate, filter, fold, max, ◌==◌, ◌&&◌}
 use Rattle.std.specs.List.{AllByRecursion, range_with_len}
+use Rattle.std.proofs.lemmas.Bool.{both_ways, eq-eqb, eqb-true}
 use Rattle.std.proofs.lemmas.Nat.{mul-le}
-use Rattle.std.proofs.lemmas.List.{length-replicate, get_or-replicate}
+use Rattle.std.proofs.lemmas.List.{length-replicate, length-set, get_or-replicate, get_or-set_same, get_or-set_other}
 use Rattle.std.proofs.lemmas.List.Elements.{recursion_from_All, All-from_recursion}
 use Rattle.std.proofs.lemmas.List.FromFn.{fill_by_all, get_or-map-range_with_len, length-map-range_with_len}
 use Rattle.std.proofs.lemmas.List.Sums.{sum_by-append, sum_by-cons, sum_by_push}
 use Rattle.cs_types.specs.declared.task.Task.{Task}
 use Rattle.cs_types.specs.declared.task.TaskSpec.{TaskSpec}
 use Rattle.cs_types.specs.declared.event.Event.{Event}
+use Rattle.cs_types.specs.declared.event.Event.TheVariants.{Advance, Exit}
 use Rattle.cs_types.specs.declared.reply.Entry.{Entry}
 use Rattle.cs_types.specs.Scenario.{IsEvent, IsPlayable}
-use Rattle.cs_types.specs.Room.{Opening, RoomState, task_of}
+use Rattle.cs_types.specs.Room.{Opening, RoomState, has_pid, task_of}
 use Rattle.cs_types.specs.Touches.{is_fresh}
 use Rattle.cs_types.specs.History.{History, Moment, beginning, next, fold_of, AreEvents}
+use Rattle.cs_types.specs.Drain.{IsDrained}
 use Rattle.cs_types.proofs.Numbers.{next_pid-fold_of, next_cookie-fold_of}
 use Rattle.cs_types.proofs.Tasks.{few-step, few-fold_of, length-asleep_tasks}
 use Rattle.run_times.specs.Times.{Span, advance_of, span_of, spans_from, spans_of, time_in}
 use Rattle.run_times.proofs.Shown.{rises_of}
+use Rattle.run_times.proofs.Laws.{spans_of-drained}
 use Rattle.run_times.proofs.Spans.{one_span, spans_of-advance, spans_of-still, advance_of-le, total_time-le, time_in-push, time_in-cons, time_in-most}
 use Rattle.task_times.specs.declared.doing.TaskDoing.{TaskDoing}
 use Rattle.task_times.specs.declared.doing.TaskDoing.TheVariants.{Runs, Waits, Sleeps}
 use Rattle.task_times.specs.declared.times.TaskTimes.{TaskTimes}
 use Rattle.task_times.specs.declared.times.CookieTimes.{CookieTimes}
-use Rattle.task_times.specs.Living.{lives, doing_of, doing_at, runs, waits, sleeps, holders, doers}
-use Rattle.task_times.specs.TaskSums.{does_so, task_times, lived, time_by, cookie_times, had, TaskSums, pids_for, cookies_for, sums_in, sums_so_far, with_span, with_doers}
-use Rattle.task_times.proofs.Bounds.{bound-fold_of, pids_below}
+use Rattle.task_times.specs.Living.{lives, doing_of, doing_at, runs, waits, sleeps, holders, doers, leaver, leavers_of, left_with}
+use Rattle.task_times.specs.TaskSums.{does_so, task_times, lived, time_by, cookie_times, had, TaskSums, pids_for, cookies_for, rows_in, parts_in, sums_so_far, with_span, with_doers, counted_for}
+use Rattle.task_times.proofs.Bounds.{bound-fold_of, pids_below, running_pid, below_running}
+use Rattle.task_times.proofs.Leaving.{IsLeaving, leavers_of-push, leavers_of-still, leavers_of-drained, left_with-push}
 use Rattle.task_times.proofs.Walked.{doers_in, few_kept}
 
 -- ---- one span more
 
-pub task_times-push : (spans : List Span) (room : RoomState) (time pid : ℕ) →
-    task_times 0 (spans ++ one_span room time) pid ≡ with_span (doing_at room pid) time (task_times 0 spans pid)
-task_times-push spans room time pid = λ i. record {
+pub task_times-push : (spans : List Span) (room : RoomState) (time cookie pid : ℕ) →
+    task_times 0 cookie (spans ++ one_span room time) pid ≡ with_span (doing_at room pid) time (task_times 0 cookie spans pid)
+task_times-push spans room time cookie pid = λ i. record {
   ran = time_in-push (does_so runs pid) spans room time i;
   waited = time_in-push (does_so waits pid) spans room time i;
   slept = time_in-push (does_so sleeps pid) spans room time i;
   charged = 0;
+  cookie = cookie;
 }
 
 time_by-push : (number : RoomState → ℕ) (spans : List Span) (room : RoomState) (time : ℕ) →
@@ -46,11 +52,12 @@ time_by-push : (number : RoomState → ℕ) (spans : List Span) (room : RoomStat
 time_by-push number spans room time = sum_by_push (λ (span : Span). span.time * number span.room) spans (record { room = room; time = time })
 
 pub cookie_times-push : (spans : List Span) (room : RoomState) (time cookie : ℕ) →
-    cookie_times (spans ++ one_span room time) cookie ≡ with_doers room cookie time (cookie_times spans cookie)
+    cookie_times 0 (spans ++ one_span room time) cookie ≡ with_doers room cookie time (cookie_times 0 spans cookie)
 cookie_times-push spans room time cookie = λ i. record {
   ran = time_by-push (λ r. length (doers runs cookie r)) spans room time i;
   waited = time_by-push (λ r. length (doers waits cookie r)) spans room time i;
   slept = time_by-push (λ r. length (doers sleeps cookie r)) spans room time i;
+  charged = 0;
 }
 
 -- a list of rows goes on by what each row does
@@ -70,19 +77,28 @@ row_at {X = X} f n rows was k none few =
     let many : length rows ≡ n = ap length was ∙ length-map-range_with_len f 0 n in
     ap (λ (xs : List X). get_or xs k none) was ∙ get_or-map-range_with_len f 0 n k k none (omega (arith, many, few)) (zero-add k)
 
--- the sums before the first advance
-pub sums_in-none : (entries : ℕ) (task : TaskTimes) (cookie : CookieTimes) (tasks : List TaskTimes) (cookies : List CookieTimes) →
-    ((pid : ℕ) → task ≡ task_times 0 [] pid) → ((k : ℕ) → cookie ≡ cookie_times [] k) → tasks ≡ replicate (entries + 10000) task → cookies ≡ replicate (entries + 1) cookie →
-    record { entries = length cookies - 1; tasks = tasks; cookies = cookies } ≡ sums_in entries (λ pid. 0) []
-sums_in-none entries task cookie tasks cookies t c are be =
+-- the sums before the first entry
+pub sums_so_far-none : (entries : ℕ) (opening : Opening) (task : TaskTimes) (cookie : CookieTimes) (tasks : List TaskTimes) (cookies : List CookieTimes) →
+    ((pid : ℕ) → task ≡ task_times 0 0 [] pid) → ((k : ℕ) → cookie ≡ cookie_times 0 [] k) → tasks ≡ replicate (entries + 10000) task → cookies ≡ replicate (entries + 1) cookie →
+    record { entries = length cookies - 1; tasks = tasks; cookies = cookies } ≡ sums_so_far entries opening []
+sums_so_far-none entries opening task cookie tasks cookies t c are be =
     let n = entries + 10000 in
     let m = entries + 1 in
     let many : length cookies - 1 ≡ entries = (let long = ap length be ∙ length-replicate m cookie in omega (arith, long)) in
-    let rows : tasks ≡ map (task_times 0 []) (range_with_len 0 n) =
-    are ∙ fill_by_all (task_times 0 []) (replicate n task) n task (length-replicate n task) (λ k below. get_or-replicate n k task task below ∙ t k) in
-    let parts : cookies ≡ map (cookie_times []) (range_with_len 0 m) =
-    be ∙ fill_by_all (cookie_times []) (replicate m cookie) m cookie (length-replicate m cookie) (λ k below. get_or-replicate m k cookie cookie below ∙ c k) in
+    let rows : tasks ≡ map (task_times 0 0 []) (range_with_len 0 n) =
+    are ∙ fill_by_all (task_times 0 0 []) (replicate n task) n task (length-replicate n task) (λ k below. get_or-replicate n k task task below ∙ t k) in
+    let parts : cookies ≡ map (cookie_times 0 []) (range_with_len 0 m) =
+    be ∙ fill_by_all (cookie_times 0 []) (replicate m cookie) m cookie (length-replicate m cookie) (λ k below. get_or-replicate m k cookie cookie below ∙ c k) in
     λ i. record { entries = many i; tasks = rows i; cookies = parts i }
+
+-- the sums by the times and by the tasks that were to end
+abbrev pub sums_by : ℕ → List Span → List Task → TaskSums
+sums_by entries spans leavers = record { entries = entries; tasks = rows_in entries (λ pid. 0) (left_with leavers) spans; cookies = parts_in entries (λ cookie. 0) spans }
+
+-- an advance ends no task
+none_leaves : (room : RoomState) (event : Event) (time : ℕ) → advance_of event ≡ Some time → leaver room event ≡ None
+none_leaves room (Advance delta) time is = refl
+none_leaves room event time is = absurd cc
 
 -- the sums with an advance more
 pub sums_so_far-advance : (entries : ℕ) (opening : Opening) (history : History) (time : ℕ) (old : TaskSums) (tasks : List TaskTimes) (cookies : List CookieTimes) (entry : Entry) →
@@ -95,20 +111,83 @@ pub sums_so_far-advance : (entries : ℕ) (opening : Opening) (history : History
 sums_so_far-advance entries opening history time old tasks cookies entry is was long wide each all =
     let room = fold_of opening history in
     let spans = spans_of opening history in
+    let leavers = leavers_of opening history in
     let their = ap (λ (s : TaskSums). s.tasks) was in
     let own = ap (λ (s : TaskSums). s.cookies) was in
-    let rows = rows-push (task_times 0 spans) (task_times 0 (spans ++ one_span room time)) (λ pid. with_span (doing_at room pid) time) (task_times-push spans room time) (pids_for entries)
-    old.tasks tasks (task_times 0 [] 0) their long each in
-    let parts = rows-push (cookie_times spans) (cookie_times (spans ++ one_span room time)) (λ cookie. with_doers room cookie time) (cookie_times-push spans room time) (cookies_for entries)
-    old.cookies cookies (cookie_times [] 0) own wide all in
-    let many : length cookies - 1 ≡ entries = (let count = ap length parts ∙ length-map-range_with_len (cookie_times (spans ++ one_span room time)) 0 (cookies_for entries) in omega (arith, count)) in
+    let rows = rows-push (λ pid. task_times 0 (left_with leavers pid) spans pid) (λ pid. task_times 0 (left_with leavers pid) (spans ++ one_span room time) pid)
+    (λ pid. with_span (doing_at room pid) time) (λ pid. task_times-push spans room time (left_with leavers pid) pid) (pids_for entries)
+    old.tasks tasks (task_times 0 0 [] 0) their long each in
+    let parts = rows-push (cookie_times 0 spans) (cookie_times 0 (spans ++ one_span room time)) (λ cookie. with_doers room cookie time) (cookie_times-push spans room time) (cookies_for entries)
+    old.cookies cookies (cookie_times 0 [] 0) own wide all in
+    let many : length cookies - 1 ≡ entries = (let count = ap length parts ∙ length-map-range_with_len (cookie_times 0 (spans ++ one_span room time)) 0 (cookies_for entries) in omega (arith, count)) in
     (λ i. record { entries = many i; tasks = rows i; cookies = parts i })
-    ∙ ap (sums_in entries (λ pid. 0)) (sym (spans_of-advance opening history entry time is))
+    ∙ (λ i. sums_by entries (sym (spans_of-advance opening history entry time is) i) (sym (leavers_of-still opening history entry (none_leaves room entry.event time is)) i))
 
--- and with any other entry more
-pub sums_so_far-still : (entries : ℕ) (opening : Opening) (history : History) (entry : Entry) → advance_of entry.event ≡ None →
+-- and with an entry more that is no advance and is to end no task
+pub sums_so_far-still : (entries : ℕ) (opening : Opening) (history : History) (entry : Entry) → advance_of entry.event ≡ None → leaver (fold_of opening history) entry.event ≡ None →
     sums_so_far entries opening history ≡ sums_so_far entries opening (history ++ entry ∷ [])
-sums_so_far-still entries opening history entry is = ap (sums_in entries (λ pid. 0)) (sym (spans_of-still opening history entry is))
+sums_so_far-still entries opening history entry is stays =
+    λ i. sums_by entries (sym (spans_of-still opening history entry is) i) (sym (leavers_of-still opening history entry stays) i)
+
+-- the entries of the end change nothing
+pub sums_so_far-drained : (entries : ℕ) (opening : Opening) (past now : History) → IsDrained opening past now → sums_so_far entries opening past ≡ sums_so_far entries opening now
+sums_so_far-drained entries opening past now drained =
+    λ i. sums_by entries (spans_of-drained opening past now drained i) (leavers_of-drained opening past now drained i)
+
+-- the times of a task with one more that was to end
+abbrev pub with_leaver : Task → ℕ → TaskTimes → TaskTimes
+with_leaver task pid row = cond (has_pid pid task) (counted_for task.cookie row) row
+
+task_times-leave : (leavers : List Task) (spans : List Span) (task : Task) (pid : ℕ) →
+    task_times 0 (left_with (leavers ++ task ∷ []) pid) spans pid ≡ with_leaver task pid (task_times 0 (left_with leavers pid) spans pid)
+task_times-leave leavers spans task pid = ap (λ (cookie : ℕ). task_times 0 cookie spans pid) (left_with-push leavers task pid) ∙ go (has_pid pid task) where
+  go : (test : Bool) → task_times 0 (cond test task.cookie (left_with leavers pid)) spans pid
+      ≡ cond test (counted_for task.cookie (task_times 0 (left_with leavers pid) spans pid)) (task_times 0 (left_with leavers pid) spans pid)
+  go true = refl
+  go false = refl
+
+-- its row is changed, and no other
+row_left : (rows : List TaskTimes) (task : Task) (k : ℕ) (none : TaskTimes) → task.spec.pid < length rows →
+    get_or (set rows task.spec.pid (counted_for task.cookie (get_or rows task.spec.pid none))) k none ≡ with_leaver task k (get_or rows k none)
+row_left rows task k none few = go (has_pid k task) refl where
+  own : TaskTimes
+  own = counted_for task.cookie (get_or rows task.spec.pid none)
+
+  go : (test : Bool) → has_pid k task ≡ test → get_or (set rows task.spec.pid own) k none ≡ cond test (counted_for task.cookie (get_or rows k none)) (get_or rows k none)
+  go true is =
+      let e : task.spec.pid ≡ k = eqb-true task.spec.pid k is in
+      (λ i. get_or (set rows task.spec.pid own) (sym e i) none)
+      ∙ get_or-set_same rows task.spec.pid own none few
+      ∙ ap (λ (n : ℕ). counted_for task.cookie (get_or rows n none)) e
+  go false is = get_or-set_other rows task.spec.pid k own none (λ same. both_ways (has_pid k task) is (eq-eqb task.spec.pid k (sym same)))
+
+-- the sums with an exit more
+pub sums_so_far-leave : (entries : ℕ) (opening : Opening) (history : History) (cpu pid cookie : ℕ) (old : TaskSums) (tasks : List TaskTimes) (entry : Entry) →
+    IsLeaving (fold_of opening history) cpu pid cookie → entry.event ≡ Exit cpu → old ≡ sums_so_far entries opening history → pid < length old.tasks →
+    ((none : TaskTimes) → tasks ≡ set old.tasks pid (counted_for cookie (get_or old.tasks pid none))) →
+    record old { tasks = tasks } ≡ sums_so_far entries opening (history ++ entry ∷ [])
+sums_so_far-leave entries opening history cpu pid cookie old tasks entry leaving is was few set_to =
+    let spans = spans_of opening history in
+    let leavers = leavers_of opening history in
+    let task = leaving.task in
+    let none : TaskTimes = task_times 0 0 [] 0 in
+    let low : task.spec.pid < length old.tasks = subst (λ (n : ℕ). n < length old.tasks) (sym leaving.own_pid) few in
+    let now : (d : TaskTimes) → tasks ≡ set old.tasks task.spec.pid (counted_for task.cookie (get_or old.tasks task.spec.pid d)) =
+    λ d. set_to d ∙ (λ i. set old.tasks (sym leaving.own_pid i) (counted_for (sym leaving.own_cookie i) (get_or old.tasks (sym leaving.own_pid i) d))) in
+    let rows = rows-push (λ k. task_times 0 (left_with leavers k) spans k) (λ k. task_times 0 (left_with (leavers ++ task ∷ []) k) spans k)
+    (with_leaver task) (task_times-leave leavers spans task) (pids_for entries) old.tasks tasks none (ap (λ (s : TaskSums). s.tasks) was)
+    (ap length (now none) ∙ length-set old.tasks task.spec.pid (counted_for task.cookie (get_or old.tasks task.spec.pid none)))
+    (λ k d below. ap (λ (xs : List TaskTimes). get_or xs k d) (now d) ∙ row_left old.tasks task k d low) in
+    let still : advance_of entry.event ≡ None = ap advance_of is in
+    (λ i. record (was i) { tasks = rows i })
+    ∙ (λ i. sums_by entries (sym (spans_of-still opening history entry still) i)
+    (sym (leavers_of-push opening history entry (Some task) (ap (leaver (fold_of opening history)) is ∙ leaving.leaves)) i))
+
+-- and where it was to end no task
+pub sums_so_far-stay : (entries : ℕ) (opening : Opening) (history : History) (cpu : ℕ) (entry : Entry) → leaver (fold_of opening history) (Exit cpu) ≡ None → entry.event ≡ Exit cpu →
+    sums_so_far entries opening history ≡ sums_so_far entries opening (history ++ entry ∷ [])
+sums_so_far-stay entries opening history cpu entry stays is =
+    sums_so_far-still entries opening history entry (ap advance_of is) (ap (leaver (fold_of opening history)) is ∙ stays)
 
 -- ---- there is a row for each
 
@@ -117,7 +196,7 @@ first_pid-le : (specs : List TaskSpec) (most from : ℕ) → from ≤ most → A
 first_pid-le [] most from low each = low
 first_pid-le (spec ∷ specs) most from low each = first_pid-le specs most (max from spec.pid) (omega (arith, low, each.0)) each.1
 
-both_below : (pids cookies next most : ℕ) (tasks : List Task) → next ≤ pids → most ≤ cookies → AllByRecursion (λ (task : Task). task.spec.pid < next) tasks →
+pub both_below : (pids cookies next most : ℕ) (tasks : List Task) → next ≤ pids → most ≤ cookies → AllByRecursion (λ (task : Task). task.spec.pid < next) tasks →
     AllByRecursion (λ (task : Task). task.cookie < most) tasks → AllByRecursion (λ (task : Task). (task.spec.pid < pids) × (task.cookie < cookies)) tasks
 both_below pids cookies next most [] a b p q = tt
 both_below pids cookies next most (task ∷ tasks) a b p q = ((omega (arith, a, p.0), omega (arith, b, q.0)), both_below pids cookies next most tasks a b p.1 q.1)
@@ -136,8 +215,9 @@ pub rows_for : (entries : ℕ) (opening : Opening) (history : History) (tasks : 
 rows_for entries opening history tasks cookies playable few are be =
     let room = fold_of opening history in
     let spans = spans_of opening history in
-    let long : length tasks ≡ entries + 10000 = ap length are ∙ length-map-range_with_len (task_times 0 spans) 0 (pids_for entries) in
-    let wide : length cookies ≡ entries + 1 = ap length be ∙ length-map-range_with_len (cookie_times spans) 0 (cookies_for entries) in
+    let leavers = leavers_of opening history in
+    let long : length tasks ≡ entries + 10000 = ap length are ∙ length-map-range_with_len (λ pid. task_times 0 (left_with leavers pid) spans pid) 0 (pids_for entries) in
+    let wide : length cookies ≡ entries + 1 = ap length be ∙ length-map-range_with_len (cookie_times 0 spans) 0 (cookies_for entries) in
     let low : opening.scenario.task_limit ≤ 256 = playable.task_limit.1 in
     let up = next_pid-le entries opening history playable few in
     let on = next_cookie-fold_of opening history playable.few_tasks low in
@@ -145,14 +225,43 @@ rows_for entries opening history tasks cookies playable few are be =
     (both_below (length tasks) (length cookies) room.next_pid room.next_cookie room.tasks (omega (arith, long, up)) (omega (arith, wide, on, few))
     (pids_below room (rises_of opening history playable)) (bound-fold_of opening history playable).1)
 
+-- the task that an exit is to end has one
+pub leaver_row : (entries : ℕ) (opening : Opening) (history : History) (cpu pid cookie : ℕ) (tasks : List TaskTimes) → IsPlayable opening.scenario → length history ≤ entries →
+    IsLeaving (fold_of opening history) cpu pid cookie → tasks ≡ (sums_so_far entries opening history).tasks → pid < length tasks
+leaver_row entries opening history cpu pid cookie tasks playable few leaving are =
+    let room = fold_of opening history in
+    let spans = spans_of opening history in
+    let leavers = leavers_of opening history in
+    let long : length tasks ≡ entries + 10000 = ap length are ∙ length-map-range_with_len (λ k. task_times 0 (left_with leavers k) spans k) 0 (pids_for entries) in
+    omega (
+      arith,
+      long,
+      leaving.own_pid,
+      next_pid-le entries opening history playable few,
+      running_pid room cpu (rises_of opening history playable) leaving.task leaving.runs,
+    )
+
+-- and its cookie is no greater than the number of entries
+pub leaver_cookie-le : (entries : ℕ) (opening : Opening) (history : History) (cpu pid cookie : ℕ) → IsPlayable opening.scenario → length history ≤ entries →
+    IsLeaving (fold_of opening history) cpu pid cookie → cookie ≤ entries
+leaver_cookie-le entries opening history cpu pid cookie playable few leaving =
+    let low : opening.scenario.task_limit ≤ 256 = playable.task_limit.1 in
+    omega (
+      arith,
+      few,
+      leaving.own_cookie,
+      next_cookie-fold_of opening history playable.few_tasks low,
+      below_running (fold_of opening history) cpu (bound-fold_of opening history playable) leaving.task leaving.runs,
+    )
+
 -- ---- the sums fit
 
 -- What a task ran, waited and slept adds up to the time in which it lived.
-pub lived-task_times : (charged : ℕ) (spans : List Span) (pid : ℕ) → lived (task_times charged spans pid) ≡ time_in (lives pid) spans
-lived-task_times charged [] pid = refl
-lived-task_times charged (span ∷ spans) pid = go (task_of span.room pid) refl (lived-task_times charged spans pid) where
+pub lived-task_times : (charged cookie : ℕ) (spans : List Span) (pid : ℕ) → lived (task_times charged cookie spans pid) ≡ time_in (lives pid) spans
+lived-task_times charged cookie [] pid = refl
+lived-task_times charged cookie (span ∷ spans) pid = go (task_of span.room pid) refl (lived-task_times charged cookie spans pid) where
   Known : List Span → Type 0
-  Known ss = lived (task_times charged ss pid) ≡ time_in (lives pid) ss
+  Known ss = lived (task_times charged cookie ss pid) ≡ time_in (lives pid) ss
 
   by_doing : (task : Task) → task_of span.room pid ≡ Some task → (doing : TaskDoing) → doing_of span.room task ≡ doing → Known spans → Known (span ∷ spans)
   by_doing task e Runs does rest =
@@ -247,12 +356,12 @@ times_three : (time a b c d : ℕ) → a + b + c ≡ d → time * a + time * b +
 times_three time a b c d is = (let all : time * a + time * b + time * c ≡ time * (a + b + c) = grind arith in all) ∙ ap (λ n. time * n) is
 
 -- What the tasks of a cookie ran, waited and slept adds up to the time of each of them while it had it.
-pub had-cookie_times : (spans : List Span) (cookie : ℕ) → had (cookie_times spans cookie) ≡ time_by (λ room. length (holders cookie room)) spans
-had-cookie_times [] cookie = refl
-had-cookie_times (span ∷ spans) cookie =
+pub had-cookie_times : (charged : ℕ) (spans : List Span) (cookie : ℕ) → had (cookie_times charged spans cookie) ≡ time_by (λ room. length (holders cookie room)) spans
+had-cookie_times charged [] cookie = refl
+had-cookie_times charged (span ∷ spans) cookie =
     omega (
       arith,
-      had-cookie_times spans cookie,
+      had-cookie_times charged spans cookie,
       times_three span.time (length (doers runs cookie span.room)) (length (doers waits cookie span.room)) (length (doers sleeps cookie span.room)) (length (holders cookie span.room))
           (by_doings span.room cookie span.room.tasks),
       sum_by-cons (λ (s : Span). s.time * length (doers runs cookie s.room)) span spans,
@@ -263,9 +372,9 @@ had-cookie_times (span ∷ spans) cookie =
 
 -- It is no more than that of all tasks.
 had-le : (opening : Opening) (history : History) (cookie : ℕ) → IsPlayable opening.scenario → AreEvents opening history →
-    had (cookie_times (spans_of opening history) cookie) ≤ 256000000000 * length history
+    had (cookie_times 0 (spans_of opening history) cookie) ≤ 256000000000 * length history
 had-le opening history cookie playable events =
-    subst (λ (n : ℕ). n ≤ 256000000000 * length history) (sym (had-cookie_times (spans_of opening history) cookie))
+    subst (λ (n : ℕ). n ≤ 256000000000 * length history) (sym (had-cookie_times 0 (spans_of opening history) cookie))
     (time_by-le opening.scenario.siblings (beginning opening) history (λ room. length (holders cookie room))
     (recursion_from_All (λ (entry : Entry). IsEvent opening.scenario.siblings entry.event) history events)
     (omega (arith, playable.few_tasks, length-asleep_tasks opening.scenario.tasks)) playable.task_limit.1
@@ -275,11 +384,12 @@ pub room_for_lived : (entries : ℕ) (opening : Opening) (history : History) (ta
     tasks ≡ (sums_so_far entries opening history).tasks → 1000000000 * 2 ^ 26 ≤ most → All (λ (times : TaskTimes). lived times + time ≤ most) tasks
 room_for_lived entries opening history tasks time most events few short are fits = λ k none under.
     let spans = spans_of opening history in
-    let same : lived (get_or tasks k none) ≡ lived (task_times 0 spans k) = ap lived (row_at (task_times 0 spans) (pids_for entries) tasks are k none under) in
+    let cookie = left_with (leavers_of opening history) in
+    let same : lived (get_or tasks k none) ≡ lived (task_times 0 (cookie k) spans k) = ap lived (row_at (λ pid. task_times 0 (cookie pid) spans pid) (pids_for entries) tasks are k none under) in
     omega (
       arith,
       same,
-      lived-task_times 0 spans k,
+      lived-task_times 0 (cookie k) spans k,
       time_in-most (lives k) spans,
       total_time-le opening.scenario.siblings (beginning opening) history
           (recursion_from_All (λ (entry : Entry). IsEvent opening.scenario.siblings entry.event) history events),
@@ -294,7 +404,7 @@ pub room_for_had : (entries : ℕ) (opening : Opening) (history : History) (cook
     All (λ (times : CookieTimes). had times + time * length (fold_of opening history).tasks ≤ most) cookies
 room_for_had entries opening history cookies time most playable events few short are fits = λ k none under.
     let spans = spans_of opening history in
-    let same : had (get_or cookies k none) ≡ had (cookie_times spans k) = ap had (row_at (cookie_times spans) (cookies_for entries) cookies are k none under) in
+    let same : had (get_or cookies k none) ≡ had (cookie_times 0 spans k) = ap had (row_at (cookie_times 0 spans) (cookies_for entries) cookies are k none under) in
     omega (
       arith,
       same,

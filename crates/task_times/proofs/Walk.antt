@@ -63,15 +63,6 @@ next_row room pids cookies pid view rows shown = go (task_after room pid) refl s
       subst (λ (v : TaskView). (v.pid < pids) × (v.cookie < cookies)) (sym its)
       (each_found (λ (t : Task). (t.spec.pid < pids) × (t.cookie < cookies)) (is_above pid) room.tasks task e (recursion_from_All (λ (t : Task). (t.spec.pid < pids) × (t.cookie < cookies)) room.tasks rows))
 
-pub next_pid_row : (room : RoomState) (pids pid : ℕ) (view : TaskView) → All (λ (task : Task). task.spec.pid < pids) room.tasks → Some view ≡ next_view room pid → view.pid < pids
-next_pid_row room pids pid view rows shown = go (task_after room pid) refl shown where
-  go : (found : Option Task) → task_after room pid ≡ found → Some view ≡ option_map (task_view room) found → view.pid < pids
-  go None e is = absurd cc
-  go (Some task) e is =
-      let its : view ≡ task_view room task = cc in
-      subst (λ (v : TaskView). v.pid < pids) (sym its)
-      (each_found (λ (t : Task). t.spec.pid < pids) (is_above pid) room.tasks task e (recursion_from_All (λ (t : Task). t.spec.pid < pids) room.tasks rows))
-
 does_it : (room : RoomState) (pid : ℕ) (view : TaskView) (doing : TaskDoing) → (next : IsNext room pid view) → Some doing ≡ doing_at room view.pid → doing ≡ doing_of room next.task
 does_it room pid view doing next is =
     let same : Some doing ≡ Some (doing_of room next.task) =
@@ -154,5 +145,5 @@ rows_end room pid shown k time row = sym (ap (λ (left : List Task). with_span (
 pub parts_end : (room : RoomState) (pid : ℕ) → None ≡ next_view room pid → (k time : ℕ) (row : CookieTimes) → row ≡ with_doers_in room (above room pid) k time row
 parts_end room pid shown k time row =
     let still : (n : ℕ) → n ≡ n + time * 0 = λ n. omega arith in
-    (λ i. record { ran = still row.ran i; waited = still row.waited i; slept = still row.slept i })
+    (λ i. record { ran = still row.ran i; waited = still row.waited i; slept = still row.slept i; charged = row.charged })
     ∙ sym (ap (λ (left : List Task). with_doers_in room left k time row) (none_above room pid shown))

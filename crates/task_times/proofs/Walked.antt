@@ -30,6 +30,7 @@ with_doers_in room left cookie time times =
       ran = times.ran + time * length (doers_in room left runs cookie);
       waited = times.waited + time * length (doers_in room left waits cookie);
       slept = times.slept + time * length (doers_in room left sleeps cookie);
+      charged = times.charged;
     }
 
 -- ---- the task that is next
@@ -90,6 +91,7 @@ cookies_step room task left time rows k none few = go (task.cookie == k) refl wh
         ran = (get_or rows k none).ran + time * kept runs test;
         waited = (get_or rows k none).waited + time * kept waits test;
         slept = (get_or rows k none).slept + time * kept sleeps test;
+        charged = (get_or rows k none).charged;
       }
   go true is =
       let e : task.cookie ≡ k = eqb-true task.cookie k is in
@@ -101,6 +103,7 @@ cookies_step room task left time rows k none few = go (task.cookie == k) refl wh
         ran = one_more (runs doing) row.ran time task (doers_in room left runs k) i;
         waited = one_more (waits doing) row.waited time task (doers_in room left waits k) i;
         slept = one_more (sleeps doing) row.slept time task (doers_in room left sleeps k) i;
+        charged = row.charged;
       })
   go false is =
       ap (with_doers_in room left k time)

@@ -1,7 +1,8 @@
--- TaskSums: for how long each task and the tasks of each cookie did what.
-use Rattle.std.specs.Prelude.{ℕ, ◌+◌, ◌*◌, Bool, false, if◌then◌else◌, List, length, map, sum_by, Option}
+-- TaskSums: for how long each task and the tasks of each cookie did what, and what they were charged.
+use Rattle.std.specs.Prelude.{ℕ, ◌+◌, ◌*◌, ◌==◌, Bool, false, if◌then◌else◌, List, length, map, filter, sum_by, Option}
 use Rattle.std.specs.List.{range_with_len}
 use Rattle.std.specs.Option.{option_map_or}
+use Rattle.cs_types.specs.declared.task.Task.{Task}
 use Rattle.cs_types.specs.Room.{Opening, RoomState}
 use Rattle.cs_types.specs.History.{History, fold_of}
 use Rattle.cs_types.specs.View.{forced_of}
@@ -10,7 +11,7 @@ use Rattle.task_times.specs.declared.doing.TaskDoing.{TaskDoing}
 use Rattle.task_times.specs.declared.doing.TaskDoing.TheVariants.{Runs, Waits, Sleeps}
 use Rattle.task_times.specs.declared.times.TaskTimes.{TaskTimes}
 use Rattle.task_times.specs.declared.times.CookieTimes.{CookieTimes}
-use Rattle.task_times.specs.Living.{doing_at, runs, waits, sleeps, doers, charged_in}
+use Rattle.task_times.specs.Living.{doing_at, runs, waits, sleeps, doers, charged_in, leavers_of, left_with, cookie_at}
 
 -- ---- a task
 
@@ -18,14 +19,15 @@ use Rattle.task_times.specs.Living.{doing_at, runs, waits, sleeps, doers, charge
 abbrev pub does_so : (TaskDoing → Bool) → ℕ → RoomState → Bool
 does_so does pid room = option_map_or does (doing_at room pid) false
 
--- the times of the task with a pid in these spans, beside what it was charged
-abbrev pub task_times : ℕ → List Span → ℕ → TaskTimes
-task_times charged spans pid =
+-- the times of the task with a pid in these spans, beside what it was charged and the cookie for which it counts
+abbrev pub task_times : ℕ → ℕ → List Span → ℕ → TaskTimes
+task_times charged cookie spans pid =
     record {
       ran = time_in (does_so runs pid) spans;
       waited = time_in (does_so waits pid) spans;
       slept = time_in (does_so sleeps pid) spans;
       charged = charged;
+      cookie = cookie;
     }
 
 -- all that a task did
@@ -42,13 +44,23 @@ time_by number spans = sum_by (λ span. span.time * number span.room) spans
 abbrev pub time_of : (TaskDoing → Bool) → ℕ → List Span → ℕ
 time_of does cookie spans = time_by (λ room. length (doers does cookie room)) spans
 
-abbrev pub cookie_times : List Span → ℕ → CookieTimes
-cookie_times spans cookie =
+-- the times of the tasks of a cookie in these spans, beside what was charged to it
+abbrev pub cookie_times : ℕ → List Span → ℕ → CookieTimes
+cookie_times charged spans cookie =
     record {
       ran = time_of runs cookie spans;
       waited = time_of waits cookie spans;
       slept = time_of sleeps cookie spans;
+      charged = charged;
     }
+
+-- what these tasks were charged, all together
+abbrev pub all_charged : List TaskTimes → ℕ
+all_charged tasks = sum_by (λ times. times.charged) tasks
+
+-- what was charged to a cookie: what those of these tasks were that count for it
+abbrev pub charged_to : List TaskTimes → ℕ → ℕ
+charged_to tasks cookie = all_charged (filter (λ times. times.cookie == cookie) tasks)
 
 -- all that the tasks of a cookie did
 abbrev pub had : CookieTimes → ℕ
@@ -72,22 +84,36 @@ pids_for entries = entries + 10000
 abbrev pub cookies_for : ℕ → ℕ
 cookies_for entries = entries + 1
 
--- the sums in these spans, by what each task was charged
-abbrev pub sums_in : ℕ → (ℕ → ℕ) → List Span → TaskSums
-sums_in entries charged spans =
+-- the rows of the tasks in these spans, by what each was charged and the cookie for which it counts
+abbrev pub rows_in : ℕ → (ℕ → ℕ) → (ℕ → ℕ) → List Span → List TaskTimes
+rows_in entries charged cookie spans =
+    map (λ pid. task_times (charged pid) (cookie pid) spans pid) (range_with_len 0 (pids_for entries))
+
+-- the rows of the cookies in these spans, by what was charged to each
+abbrev pub parts_in : ℕ → (ℕ → ℕ) → List Span → List CookieTimes
+parts_in entries charged spans =
+    map (λ cookie. cookie_times (charged cookie) spans cookie) (range_with_len 0 (cookies_for entries))
+
+-- the sums of a history that goes on: what is charged, and the cookies of the living, are told at its end
+abbrev pub sums_so_far : ℕ → Opening → History → TaskSums
+sums_so_far entries opening history =
+    let spans = spans_of opening history in
     record {
       entries = entries;
-      tasks = map (λ pid. task_times (charged pid) spans pid) (range_with_len 0 (pids_for entries));
-      cookies = map (cookie_times spans) (range_with_len 0 (cookies_for entries));
+      tasks = rows_in entries (λ pid. 0) (left_with (leavers_of opening history)) spans;
+      cookies = parts_in entries (λ cookie. 0) spans;
     }
-
--- the sums of a history that goes on: what tasks are charged is told at its end
-abbrev pub sums_so_far : ℕ → Opening → History → TaskSums
-sums_so_far entries opening history = sums_in entries (λ pid. 0) (spans_of opening history)
 
 -- the sums of a history at its end
 abbrev pub sums_of : ℕ → Opening → History → TaskSums
-sums_of entries opening history = sums_in entries (charged_in (fold_of opening history)) (spans_of opening history)
+sums_of entries opening history =
+    let spans = spans_of opening history in
+    let tasks = rows_in entries (charged_in (fold_of opening history)) (cookie_at opening history) spans in
+    record {
+      entries = entries;
+      tasks = tasks;
+      cookies = parts_in entries (charged_to tasks) spans;
+    }
 
 -- ---- one span more
 
@@ -99,6 +125,7 @@ with_span doing time times =
       waited = if option_map_or waits doing false then times.waited + time else times.waited;
       slept = if option_map_or sleeps doing false then times.slept + time else times.slept;
       charged = times.charged;
+      cookie = times.cookie;
     }
 
 -- what the tasks of a cookie did of one kind
@@ -114,6 +141,7 @@ with_one doing time times =
       ran = if runs doing then times.ran + time else times.ran;
       waited = if waits doing then times.waited + time else times.waited;
       slept = if sleeps doing then times.slept + time else times.slept;
+      charged = times.charged;
     }
 
 -- the times of a cookie with one span more, by how many of its tasks do what in that
@@ -123,9 +151,14 @@ with_doers room cookie time times =
       ran = times.ran + time * length (doers runs cookie room);
       waited = times.waited + time * length (doers waits cookie room);
       slept = times.slept + time * length (doers sleeps cookie room);
+      charged = times.charged;
     }
 
 -- ---- what tasks are charged
+
+-- the times of a task with the cookie for which it counts
+abbrev pub counted_for : ℕ → TaskTimes → TaskTimes
+counted_for cookie times = record times { cookie = cookie }
 
 -- the times of a task with what it was charged
 abbrev pub with_charge : ℕ → TaskTimes → TaskTimes
@@ -134,3 +167,12 @@ with_charge charged times = record times { charged = charged }
 -- the times of a task, with what it was charged in a room where that is to be told
 abbrev pub charged_where : Bool → RoomState → ℕ → TaskTimes → TaskTimes
 charged_where told room pid times = if told then with_charge (forced_of room pid) times else times
+
+-- the times of a task, with what it was charged and the cookie that it has where it lives
+abbrev pub charged_living : Option Task → RoomState → ℕ → TaskTimes → TaskTimes
+charged_living found room pid times =
+    option_map_or (λ task. with_charge (forced_of room pid) (counted_for task.cookie times)) found times
+
+-- the times of a cookie with so much more charged to it
+abbrev pub with_charged : ℕ → CookieTimes → CookieTimes
+with_charged charged times = record times { charged = times.charged + charged }

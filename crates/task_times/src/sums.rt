@@ -1,8 +1,9 @@
 //! The times of the tasks of a run, as it goes on.
 
-ghost use Rattle.std.specs.Prelude.{◌≡◌, ◌+◌, ◌-◌, ◌*◌, ◌^◌, ◌<◌, ◌≤◌, ℕ, [], ◌∷◌, ◌++◌, length, All, IfOk, Some, true, ◌==◌, slice_index_or, slice_set};
+ghost use Rattle.std.specs.Prelude.{◌≡◌, ◌+◌, ◌-◌, ◌*◌, ◌^◌, ◌<◌, ◌≤◌, ℕ, [], ◌∷◌, ◌++◌, length, All, IfOk, Some, true, ◌==◌, sum_by, slice_index_or, slice_set};
 ghost use Rattle.std.specs.List.{list_any};
-ghost use Rattle.cs_types.specs.Room.{has_pid};
+ghost use Rattle.cs_types.specs.declared.event.Event.TheVariants.{Exit};
+ghost use Rattle.cs_types.specs.Room.{Opening, task_of};
 ghost use Rattle.cs_types.specs.declared.reply.Entry.{Entry};
 ghost use Rattle.cs_types.specs.Scenario.{IsEvent, IsPlayable};
 ghost use Rattle.cs_types.specs.History.{fold_of, AreEvents};
@@ -13,12 +14,13 @@ ghost use Rattle.task_times.specs.TaskSums as sums;
 use crate::doing::TaskDoing;
 use crate::looks::doing_of;
 use crate::times::{CookieTimes, TaskTimes};
-use cs_types::{Event, Room, TaskView};
-use run_times::advance_of;
+use cs_types::{Cpu, Event, Room, TaskView};
+use run_times::{advance_of, cookie_run};
 use std::alloc::{AllocError, Global};
 use std::marker::Model;
 
-/// For how long each task and the tasks of each cookie did what in a run, in ns. After it is opened it takes no memory.
+/// For how long each task and the tasks of each cookie did what in a run, and what they were charged, in ns. After it is
+/// opened it takes no memory.
 #[derive(Drop)]
 pub struct RunTasks {
     /// By the pid.
@@ -28,7 +30,7 @@ pub struct RunTasks {
 }
 
 impl Model for RunTasks {
-    ghost use Rattle.std.specs.Prelude.{◌-◌, length};
+    ghost use Rattle.std.specs.Prelude.{◌-◌, ◌^◌, ◌<◌, length};
     ghost use Rattle.task_times.specs.TaskSums.{TaskSums};
 
     ghost Value = { TaskSums };
@@ -38,6 +40,8 @@ impl Model for RunTasks {
       tasks = times.tasks.items;
       cookies = times.cookies.items;
     } };
+
+    ghost invariant = { λ times. (length times.tasks.items < 2 ^ 32) × (length times.cookies.items < 2 ^ 32) };
 }
 
 /// Adds the time of an advance to one task and to its cookie, by what it does before it.
@@ -84,18 +88,18 @@ fn add_to_each<R: Room>(tasks: &mut [TaskTimes], cookies: &mut [CookieTimes], ro
     }
 }
 
-/// Notes what each living task was charged.
+/// Notes what each living task was charged, and the cookie that it has.
 fn charge_living<R: Room>(tasks: &mut [TaskTimes], room: &R)
     requires playable { IsPlayable (R.opening room.now).scenario }
-    requires rows { All (λ task. task.spec.pid < length tasks.old) (fold_of (R.opening room.now) (R.history room.now)).tasks }
+    requires rows { All (λ task. (task.spec.pid < length tasks.old) × (task.cookie < 2 ^ 32)) (fold_of (R.opening room.now) (R.history room.now)).tasks }
     ensures { let state = fold_of (R.opening room.now) (R.history room.now) in
         (pid : ℕ) (none : TaskTimes) → pid < length tasks.old →
         slice_index_or tasks.new pid none
-        ≡ sums.charged_where (list_any (has_pid pid) state.tasks) state pid (slice_index_or tasks.old pid none) }
+        ≡ sums.charged_living (task_of state pid) state pid (slice_index_or tasks.old pid none) }
 {
     let mut pid = 0;
     while let Some(task) = room.task_after(pid) {
-        tasks[task.pid as usize].charge(task.forced);
+        tasks[task.pid as usize].charge_for(task.forced, task.cookie);
         pid = task.pid;
     }
 }
@@ -116,28 +120,41 @@ fn charge_ended<R: Room>(tasks: &mut [TaskTimes], room: &R)
     }
 }
 
-/// Notes what each task was charged, whether it lives or ended.
+/// Notes what each task was charged, whether it lives or ended, and the cookie that each living one has.
 fn charge_each<R: Room>(tasks: &mut [TaskTimes], room: &R)
     requires playable { IsPlayable (R.opening room.now).scenario }
-    requires rows { All (λ task. task.spec.pid < length tasks.old) (fold_of (R.opening room.now) (R.history room.now)).tasks }
+    requires rows { All (λ task. (task.spec.pid < length tasks.old) × (task.cookie < 2 ^ 32)) (fold_of (R.opening room.now) (R.history room.now)).tasks }
     requires ended { All (λ pid. pid < length tasks.old) (fold_of (R.opening room.now) (R.history room.now)).ended }
     requires few { length (fold_of (R.opening room.now) (R.history room.now)).ended < 2 ^ 26 }
     ensures { let state = fold_of (R.opening room.now) (R.history room.now) in
         (pid : ℕ) (none : TaskTimes) → pid < length tasks.old →
         slice_index_or tasks.new pid none
         ≡ sums.charged_where (list_any (λ other. other == pid) state.ended) state pid
-        (sums.charged_where (list_any (has_pid pid) state.tasks) state pid (slice_index_or tasks.old pid none)) }
+        (sums.charged_living (task_of state pid) state pid (slice_index_or tasks.old pid none)) }
 {
     charge_living(tasks, room);
     charge_ended(tasks, room);
 }
 
+/// Adds what each task was charged to the row of the cookie for which it counts.
+fn charge_cookies(cookies: &mut [CookieTimes], tasks: &[TaskTimes])
+    requires rows { All (λ times. times.cookie < length cookies.old) tasks.now }
+    requires fits { All (λ times. times.charged + u64.MAX * length tasks.now ≤ u128.MAX) cookies.old }
+    ensures { (cookie : ℕ) (none : CookieTimes) → cookie < length cookies.old →
+        slice_index_or cookies.new cookie none
+        ≡ sums.with_charged (sums.charged_to tasks.now cookie) (slice_index_or cookies.old cookie none) }
+{
+    for times in tasks {
+        cookies[times.cookie as usize].charge(times.charged);
+    }
+}
+
 impl RunTasks {
-    /// The times before the first advance, with room for this number of entries: those of the steps, and those of the end
+    /// The times before the first entry, with room for this number of entries: those of the steps, and those of the end
     /// where these are told too.
     pub fn open(alloc: Global, entries: usize) -> Result<Self, AllocError>
         requires { entries < 2 ^ 26 }
-        ensures { IfOk result (λ times. times ≡ sums.sums_in entries (λ pid. 0) []) }
+        ensures { IfOk result (λ times. (opening : Opening) → times ≡ sums.sums_so_far entries opening []) }
     {
         Ok(RunTasks {
             tasks: vec![in alloc; TaskTimes::none(); entries + 10000]?,
@@ -164,6 +181,22 @@ impl RunTasks {
         );
     }
 
+    /// Notes the cookie of the task that the sibling is to end, by what it runs before that.
+    fn leave<R: Room>(&mut self, room: &R, cpu: Cpu)
+        requires playable { IsPlayable (R.opening room.now).scenario }
+        requires times { self.old ≡ sums.sums_so_far self.old.entries (R.opening room.now) (R.history room.now) }
+        requires few { length (R.history room.now) ≤ self.old.entries }
+        requires fits { self.old.entries < 2 ^ 26 }
+        ensures { (entry : Entry) → entry.event ≡ Exit cpu →
+            self.new ≡ sums.sums_so_far self.old.entries (R.opening room.now) (R.history room.now ++ entry ∷ []) }
+    {
+        if let Some(cookie) = cookie_run(room, cpu) {
+            if let Some(view) = room.cpu(cpu) {
+                self.tasks[view.run as usize].count_for(cookie);
+            }
+        }
+    }
+
     /// Takes in an event that is to be made next in the room, whoever makes it. The room has to be the one whose times
     /// these are, and may have made as many entries as there is room for.
     pub fn before<R: Room>(&mut self, room: &R, event: Event)
@@ -178,10 +211,12 @@ impl RunTasks {
     {
         if let Some(time) = advance_of(event) {
             self.advance(room, time);
+        } else if let Event::Exit(cpu) = event {
+            self.leave(room, cpu);
         }
     }
 
-    /// Notes what each task was charged, at the end of a run. The room has to be the one whose times these are, and may
+    /// Notes what each task was charged, at the end of a run, and counts it for a cookie. The room has to be the one whose times these are, and may
     /// have made as many entries as there is room for.
     pub fn close<R: Room>(&mut self, room: &R)
         requires playable { IsPlayable (R.opening room.now).scenario }
@@ -204,20 +239,26 @@ impl RunTasks {
         ensures shared { (cookie : ℕ) (none : CookieTimes) → cookie < length self.new.cookies →
             sums.had (slice_index_or self.new.cookies cookie none)
             ≡ sums.time_by (λ state. length (living.holders cookie state)) (span.spans_of (R.opening room.now) (R.history room.now)) }
+
+        // What all cookies are charged adds up to what all tasks are. So no charge is lost, and none is counted twice.
+        ensures charged { sum_by (λ times. times.charged) self.new.cookies ≡ sums.all_charged self.new.tasks }
     {
         charge_each(self.tasks.as_mut_slice(), room);
+        charge_cookies(self.cookies.as_mut_slice(), self.tasks.as_slice());
     }
 
     /// The times of each task, by its pid.
     pub fn tasks(&self) -> &[TaskTimes]
-        ensures { result.now ≡ self.now.tasks }
+        ensures rows { result.now ≡ self.now.tasks }
+        ensures few { length result.now < 2 ^ 32 }
     {
         self.tasks.as_slice()
     }
 
     /// The times of the tasks of each cookie, by its number, 0 for none.
     pub fn cookies(&self) -> &[CookieTimes]
-        ensures { result.now ≡ self.now.cookies }
+        ensures rows { result.now ≡ self.now.cookies }
+        ensures few { length result.now < 2 ^ 32 }
     {
         self.cookies.as_slice()
     }

@@ -14,16 +14,17 @@ use Rattle.scenario_text.specs.Text.{line}
 use Rattle.times_report.specs.TaskLines.{lines_of_tasks, lines_of_cookies, task_lines, task_text}
 use Rattle.scenario_text.proofs.Reached.{AreLeft, all_left, none_left, whole_prefix, line_more, line_prefix, part_more, part_prefix}
 
-pub task_line_text : (pid ran waited slept charged : Word) →
-    ((((((((((codes "task " ++ pid) ++ codes " ran ") ++ ran) ++ codes " waited ") ++ waited) ++ codes " slept ") ++ slept)
-    ++ codes " charged ") ++ charged) ++ codes "\n")
-    ≡ line (codes "task" ∷ pid ∷ codes "ran" ∷ ran ∷ codes "waited" ∷ waited ∷ codes "slept" ∷ slept ∷ codes "charged" ∷ charged ∷ [])
-task_line_text pid ran waited slept charged = simp append_assoc
+pub task_line_text : (pid ran waited slept charged cookie : Word) →
+    ((((((((((((codes "task " ++ pid) ++ codes " ran ") ++ ran) ++ codes " waited ") ++ waited) ++ codes " slept ") ++ slept)
+    ++ codes " charged ") ++ charged) ++ codes " cookie ") ++ cookie) ++ codes "\n")
+    ≡ line (codes "task" ∷ pid ∷ codes "ran" ∷ ran ∷ codes "waited" ∷ waited ∷ codes "slept" ∷ slept ∷ codes "charged" ∷ charged ∷ codes "cookie" ∷ cookie ∷ [])
+task_line_text pid ran waited slept charged cookie = simp append_assoc
 
-pub cookie_line_text : (cookie ran waited slept : Word) →
-    ((((((((codes "cookie " ++ cookie) ++ codes " ran ") ++ ran) ++ codes " waited ") ++ waited) ++ codes " slept ") ++ slept) ++ codes "\n")
-    ≡ line (codes "cookie" ∷ cookie ∷ codes "ran" ∷ ran ∷ codes "waited" ∷ waited ∷ codes "slept" ∷ slept ∷ [])
-cookie_line_text cookie ran waited slept = simp append_assoc
+pub cookie_line_text : (cookie ran waited slept charged : Word) →
+    ((((((((((codes "cookie " ++ cookie) ++ codes " ran ") ++ ran) ++ codes " waited ") ++ waited) ++ codes " slept ") ++ slept)
+    ++ codes " charged ") ++ charged) ++ codes "\n")
+    ≡ line (codes "cookie" ∷ cookie ∷ codes "ran" ∷ ran ∷ codes "waited" ∷ waited ∷ codes "slept" ∷ slept ∷ codes "charged" ∷ charged ∷ [])
+cookie_line_text cookie ran waited slept charged = simp append_assoc
 
 -- ---- a line that is written where a test holds
 

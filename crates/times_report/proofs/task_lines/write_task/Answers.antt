@@ -7,17 +7,17 @@ use Rattle.times_report.specs.TaskLines.{task_words, line_of_task}
 use Rattle.times_report.proofs.Rows.{where_sent, where_prefix, where_none, where_none_prefix}
 use Rattle.times_report.proofs.task_lines.write_task.Goals as goal
 
-pub returns-then-has_lived-clause-ok : goal.returns-then-has_lived-clause-ok
-returns-then-has_lived-clause-ok g c =
+pub returns-then-is_shown-clause-ok : goal.returns-then-is_shown-clause-ok
+returns-then-is_shown-clause-ok g c =
     on_ok_weaker {Q = g.K.Sink.written c.write_all.new.sink ≡ appended (g.K.Sink.written c.args.sink.now) (flat_map line (line_of_task (c.args.pid, c.args.times.now)))} c.write_all.result
-    (λ sent. where_sent _ (task_words c.args.pid c.args.times.now) _ _ _ (sym c.has_lived.ensures ∙ c.if-has_lived.true) (c.as_bytes.ensures ∙ c.task_line.ensures) sent) c.write_all.ensures.ok
+    (λ sent. where_sent _ (task_words c.args.pid c.args.times.now) _ _ _ (sym c.is_shown.ensures ∙ c.if-is_shown.true) (c.as_bytes.ensures ∙ c.task_line.ensures) sent) c.write_all.ensures.ok
 
-pub returns-then-has_lived-clause-prefix : goal.returns-then-has_lived-clause-prefix
-returns-then-has_lived-clause-prefix g c =
-    where_prefix _ (task_words c.args.pid c.args.times.now) _ _ _ (sym c.has_lived.ensures ∙ c.if-has_lived.true) (c.as_bytes.ensures ∙ c.task_line.ensures) c.write_all.ensures.prefix
+pub returns-then-is_shown-clause-prefix : goal.returns-then-is_shown-clause-prefix
+returns-then-is_shown-clause-prefix g c =
+    where_prefix _ (task_words c.args.pid c.args.times.now) _ _ _ (sym c.is_shown.ensures ∙ c.if-is_shown.true) (c.as_bytes.ensures ∙ c.task_line.ensures) c.write_all.ensures.prefix
 
-pub returns-else-has_lived-clause-ok : goal.returns-else-has_lived-clause-ok
-returns-else-has_lived-clause-ok g c = where_none _ (task_words c.args.pid c.args.times.now) _ (sym c.has_lived.ensures ∙ c.if-has_lived.false)
+pub returns-else-is_shown-clause-ok : goal.returns-else-is_shown-clause-ok
+returns-else-is_shown-clause-ok g c = where_none _ (task_words c.args.pid c.args.times.now) _ (sym c.is_shown.ensures ∙ c.if-is_shown.false)
 
-pub returns-else-has_lived-clause-prefix : goal.returns-else-has_lived-clause-prefix
-returns-else-has_lived-clause-prefix g c = where_none_prefix _ (task_words c.args.pid c.args.times.now) _ (sym c.has_lived.ensures ∙ c.if-has_lived.false)
+pub returns-else-is_shown-clause-prefix : goal.returns-else-is_shown-clause-prefix
+returns-else-is_shown-clause-prefix g c = where_none_prefix _ (task_words c.args.pid c.args.times.now) _ (sym c.is_shown.ensures ∙ c.if-is_shown.false)
