@@ -42,11 +42,11 @@ use Rattle.task_times.specs.TaskSums.{TaskSums, task_times, cookie_times, lived,
 use Rattle.task_times.proofs.Summed.{lived-task_times, had-cookie_times, row_at}
 
 -- none of these tasks has the pid
-abbrev AreOthers : ℕ → List Task → Type 0
+abbrev pub AreOthers : ℕ → List Task → Type 0
 AreOthers pid tasks = AllByRecursion (λ (task : Task). task.spec.pid ≢ pid) tasks
 
 -- a pid that was given, and that no task has where the test says so
-abbrev IsGone : Bool → ℕ → RoomState → Type 0
+abbrev pub IsGone : Bool → ℕ → RoomState → Type 0
 IsGone test pid room = (pid < room.next_pid) × (test ≡ true → AreOthers pid room.tasks)
 
 -- ---- a room at a step
@@ -73,7 +73,7 @@ gone-adopt_or_pick_anew test pid room fresh cpu None gone = gone-pick_anew test 
 gone-adopt_or_pick_anew test pid room true cpu (Some run) gone = gone
 gone-adopt_or_pick_anew test pid room false cpu (Some run) gone = gone-pick_anew test pid (charge room) cpu gone
 
-gone-schedule : (test : Bool) (pid : ℕ) (room : RoomState) (fresh : Bool) (cpu : ℕ) → IsGone test pid room → IsGone test pid (schedule room fresh cpu).room
+pub gone-schedule : (test : Bool) (pid : ℕ) (room : RoomState) (fresh : Bool) (cpu : ℕ) → IsGone test pid room → IsGone test pid (schedule room fresh cpu).room
 gone-schedule test pid room fresh cpu gone = gone-adopt_or_pick_anew test pid room fresh cpu (sibling_of room cpu).waiting gone
 
 gone-try_steal : (test : Bool) (pid : ℕ) (room : RoomState) (cpu : ℕ) (task : Option Task) → IsGone test pid room → IsGone test pid (try_steal room cpu task).room
@@ -168,7 +168,7 @@ gone-with_answer test pid room set Zero gone = (
 )
 gone-with_answer test pid room set answer gone = gone
 
-gone-step : (test : Bool) (pid : ℕ) (room : RoomState) (fresh : Bool) (event : Event) → IsGone test pid room → IsGone test pid (step room fresh event).room
+pub gone-step : (test : Bool) (pid : ℕ) (room : RoomState) (fresh : Bool) (event : Event) → IsGone test pid room → IsGone test pid (step room fresh event).room
 gone-step test pid room fresh (Turn cpu) gone = gone-unless_offline test pid room cpu _ gone (gone-turn test pid room fresh cpu gone)
 gone-step test pid room fresh (Resched cpu) gone = gone-unless_offline test pid room cpu _ gone (gone-schedule test pid room fresh cpu gone)
 gone-step test pid room fresh (Block cpu) gone = gone-unless_offline test pid room cpu _ gone (gone-block test pid room cpu (running_on room cpu) gone)
@@ -187,7 +187,7 @@ gone-step test pid room fresh (Prctl caller ask) gone =
 
 -- ---- in all of a history
 
-gone_after : (test : Bool) (pid : ℕ) (moment : Moment) (entries : List Entry) → IsGone test pid moment.room → IsGone test pid (after moment entries).room
+pub gone_after : (test : Bool) (pid : ℕ) (moment : Moment) (entries : List Entry) → IsGone test pid moment.room → IsGone test pid (after moment entries).room
 gone_after test pid moment [] gone = gone
 gone_after test pid moment (entry ∷ entries) gone = gone_after test pid (next moment entry) entries (gone-step test pid moment.room (is_fresh moment.ledger) entry.event gone)
 
@@ -200,7 +200,7 @@ missed pid (task ∷ tasks) none = go (has_pid pid task) refl none (missed pid t
   go true is found rest = absurd cc
   go false is found rest = ((λ same. both_ways (has_pid pid task) is (eq-eqb task.spec.pid pid same)), rest found)
 
-no_search : (pid : ℕ) (tasks : List Task) → AreOthers pid tasks → find (has_pid pid) tasks ≡ None
+pub no_search : (pid : ℕ) (tasks : List Task) → AreOthers pid tasks → find (has_pid pid) tasks ≡ None
 no_search pid tasks others =
     find_none (has_pid pid) tasks (each_weaker (λ (t : Task). t.spec.pid ≢ pid) (λ (t : Task). has_pid pid t ≡ false) tasks (λ t other. ne_eqb t.spec.pid pid other) others)
 
@@ -255,7 +255,7 @@ lived-clock opening history charged cookie =
 -- ---- of the sums at the end
 
 -- the row of a task then
-abbrev end_row : Opening → History → ℕ → TaskTimes
+abbrev pub end_row : Opening → History → ℕ → TaskTimes
 end_row opening history pid = task_times (charged_in (fold_of opening history) pid) (cookie_at opening history pid) (spans_of opening history) pid
 
 pub lived_at : (entries : ℕ) (opening : Opening) (history : History) (sums : TaskSums) → sums ≡ sums_of entries opening history →

@@ -26,7 +26,7 @@ use Rattle.task_times.proofs.Bounds.{bound-fold_of, below_running, below_found}
 
 -- ---- more entries
 
-leavers_from-append : (moment : Moment) (entries more : List Entry) →
+pub leavers_from-append : (moment : Moment) (entries more : List Entry) →
     leavers_from moment (entries ++ more) ≡ leavers_from moment entries ++ leavers_from (after moment entries) more
 leavers_from-append moment [] more = refl
 leavers_from-append moment (entry ∷ entries) more =
@@ -79,7 +79,7 @@ leaver_cookie room cpu = go (is_online room cpu) where
   go false = refl
 
 -- what a sibling which is online runs
-leaver_runs : (room : RoomState) (cpu : ℕ) (task : Task) → leaver room (Exit cpu) ≡ Some task → running_on room cpu ≡ Some task
+pub leaver_runs : (room : RoomState) (cpu : ℕ) (task : Task) → leaver room (Exit cpu) ≡ Some task → running_on room cpu ≡ Some task
 leaver_runs room cpu task is = go (is_online room cpu) is where
   go : (test : Bool) → cond test (running_on room cpu) None ≡ Some task → running_on room cpu ≡ Some task
   go true e = e
@@ -131,7 +131,7 @@ none_leaving_there moment cpu shown =
 
 -- ---- each cookie has a row
 
-each_listed : (P : Task → Type 0) (found : Option Task) (tasks : List Task) → ((task : Task) → found ≡ Some task → P task) → AllByRecursion P tasks →
+pub each_listed : (P : Task → Type 0) (found : Option Task) (tasks : List Task) → ((task : Task) → found ≡ Some task → P task) → AllByRecursion P tasks →
     AllByRecursion P (option_to_list found ++ tasks)
 each_listed P None tasks its rest = rest
 each_listed P (Some task) tasks its rest = (its task refl, rest)
@@ -154,14 +154,14 @@ leavers_below opening past (entry ∷ rest) most playable few =
     (subst (λ (moment : Moment). AllByRecursion (λ (task : Task). task.cookie < most) (leavers_from moment rest)) (moment_of-push opening past entry)
     (leavers_below opening (past ++ entry ∷ []) rest most playable (omega (arith, length-append past (entry ∷ []), few))))
 
-each_reversed : (P : Task → Type 0) (tasks more : List Task) → AllByRecursion P tasks → AllByRecursion P more → AllByRecursion P (tasks ++ more)
-each_reversed P [] more each rest = rest
-each_reversed P (task ∷ tasks) more each rest = (each.0, each_reversed P tasks more each.1 rest)
+each_both : (P : Task → Type 0) (tasks more : List Task) → AllByRecursion P tasks → AllByRecursion P more → AllByRecursion P (tasks ++ more)
+each_both P [] more each rest = rest
+each_both P (task ∷ tasks) more each rest = (each.0, each_both P tasks more each.1 rest)
 
-each-reverse : (P : Task → Type 0) (tasks : List Task) → AllByRecursion P tasks → AllByRecursion P (reverse tasks)
+pub each-reverse : (P : Task → Type 0) (tasks : List Task) → AllByRecursion P tasks → AllByRecursion P (reverse tasks)
 each-reverse P [] each = tt
 each-reverse P (task ∷ tasks) each =
-    subst (AllByRecursion P) (sym (reverse-append (task ∷ []) tasks)) (each_reversed P (reverse tasks) (task ∷ []) (each-reverse P tasks each.1) (each.0, tt))
+    subst (AllByRecursion P) (sym (reverse-append (task ∷ []) tasks)) (each_both P (reverse tasks) (task ∷ []) (each-reverse P tasks each.1) (each.0, tt))
 
 left_with-below : (leavers : List Task) (pid most : ℕ) → 0 < most → AllByRecursion (λ (task : Task). task.cookie < most) leavers → left_with leavers pid < most
 left_with-below leavers pid most some each = go (find (has_pid pid) (reverse leavers)) refl where

@@ -7,3 +7,4 @@ pub mod Summed
 pub mod Charged
 pub mod Counted
 pub mod Always
+pub mod Ended

@@ -1,12 +1,13 @@
 -- Living: what a task does at a moment, which tasks of a cookie do the same, and for which cookie a task counts.
-use Rattle.std.specs.Prelude.{ℕ, Bool, true, false, ◌==◌, ◌&&◌, ◌||◌, if◌then◌else◌, List, [], ◌∷◌, ◌++◌, filter, find, reverse, Option, None, is_some}
+use Rattle.std.specs.Prelude.{ℕ, Bool, true, false, ◌==◌, ◌&&◌, ◌||◌, if◌then◌else◌, List, [], ◌∷◌, ◌++◌, filter, find, reverse, Option, Some, None, is_some}
 use Rattle.std.specs.List.{list_any}
-use Rattle.std.specs.Option.{option_map, option_map_or, option_to_list}
+use Rattle.std.specs.Option.{option_map, option_map_or, option_and_then, option_to_list}
 use Rattle.cs_types.specs.declared.task.Task.{Task}
 use Rattle.cs_types.specs.declared.event.Event.{Event}
 use Rattle.cs_types.specs.declared.event.Event.TheVariants.{Exit}
 use Rattle.cs_types.specs.declared.reply.Entry.{Entry}
 use Rattle.cs_types.specs.Room.{Opening, RoomState, has_pid, task_of, running_on, is_online}
+use Rattle.cs_types.specs.Step.{has_threads}
 use Rattle.cs_types.specs.Time.{is_running}
 use Rattle.cs_types.specs.View.{forced_of}
 use Rattle.cs_types.specs.History.{History, Moment, beginning, next, fold_of}
@@ -59,6 +60,10 @@ charged_in room pid = if is_known room pid then forced_of room pid else 0
 abbrev pub leaver : RoomState → Event → Option Task
 leaver room (Exit cpu) = if is_online room cpu then running_on room cpu else None
 leaver room event = None
+
+-- the task that an event ends: the one that it is to end, where that leads no others
+abbrev pub ended_by : RoomState → Event → Option Task
+ended_by room event = option_and_then (λ task. if has_threads room task then None else Some task) (leaver room event)
 
 -- the tasks that these entries were to end, made from a moment on, each as it was before its exit
 abbrev pub leavers_from : Moment → List Entry → List Task

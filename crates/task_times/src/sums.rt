@@ -2,11 +2,12 @@
 
 ghost use Rattle.std.specs.Prelude.{◌≡◌, ◌+◌, ◌-◌, ◌*◌, ◌^◌, ◌<◌, ◌≤◌, ℕ, [], ◌∷◌, ◌++◌, length, All, IfOk, Some, true, ◌==◌, sum_by, slice_index_or, slice_set};
 ghost use Rattle.std.specs.List.{list_any};
+ghost use Rattle.cs_types.specs.declared.task.Task.{Task};
 ghost use Rattle.cs_types.specs.declared.event.Event.TheVariants.{Exit};
 ghost use Rattle.cs_types.specs.Room.{Opening, task_of};
 ghost use Rattle.cs_types.specs.declared.reply.Entry.{Entry};
 ghost use Rattle.cs_types.specs.Scenario.{IsEvent, IsPlayable};
-ghost use Rattle.cs_types.specs.History.{fold_of, AreEvents};
+ghost use Rattle.cs_types.specs.History.{History, fold_of, AreEvents};
 ghost use Rattle.run_times.specs.Times as span;
 ghost use Rattle.task_times.specs.Living as living;
 ghost use Rattle.task_times.specs.TaskSums as sums;
@@ -239,6 +240,11 @@ impl RunTasks {
         ensures shared { (cookie : ℕ) (none : CookieTimes) → cookie < length self.new.cookies →
             sums.had (slice_index_or self.new.cookies cookie none)
             ≡ sums.time_by (λ state. length (living.holders cookie state)) (span.spans_of (R.opening room.now) (R.history room.now)) }
+
+        // A task that ended counts for the cookie that it had right before the exit that ended it.
+        ensures ended { (past rest : History) (entry : Entry) (task : Task) → R.history room.now ≡ past ++ entry ∷ rest →
+            living.ended_by (fold_of (R.opening room.now) past) entry.event ≡ Some task →
+            (none : TaskTimes) → (slice_index_or self.new.tasks task.spec.pid none).cookie ≡ task.cookie }
 
         // What all cookies are charged adds up to what all tasks are. So no charge is lost, and none is counted twice.
         ensures charged { sum_by (λ times. times.charged) self.new.cookies ≡ sums.all_charged self.new.tasks }

@@ -5,6 +5,7 @@ use Rattle.task_times.specs.TaskSums.{TaskSums}
 use Rattle.task_times.proofs.Charged.{living_rows, ended_rows, ended_few, tasks_long, each_row, rows_charged}
 use Rattle.task_times.proofs.Counted.{rows_below, uncharged, cookies_wide, each_part, sums_charged, charged_at}
 use Rattle.task_times.proofs.Always.{lived_at, clock_at, had_at}
+use Rattle.task_times.proofs.Ended.{ended_at_end}
 use Rattle.task_times.proofs.sums.RunTasks.close.Goals as goal
 
 pub charge_each-requires-clause-rows : goal.charge_each-requires-clause-rows
@@ -73,6 +74,10 @@ returns-clause-clock g c = clock_at _ (g.R.Room.opening c.args.room.now) (g.R.Ro
 
 pub returns-clause-shared : goal.returns-clause-shared
 returns-clause-shared g c = had_at _ (g.R.Room.opening c.args.room.now) (g.R.Room.history c.args.room.now) _ (returns-clause-times g c)
+
+pub returns-clause-ended : goal.returns-clause-ended
+returns-clause-ended g c =
+    ended_at_end _ (g.R.Room.opening c.args.room.now) (g.R.Room.history c.args.room.now) _ c.requires.playable c.requires.few (returns-clause-times g c)
 
 pub returns-clause-charged : goal.returns-clause-charged
 returns-clause-charged g c =
