@@ -14,7 +14,7 @@ use Rattle.run_times.specs.Times.{Span, spans_of}
 use Rattle.task_times.specs.declared.times.TaskTimes.{TaskTimes}
 use Rattle.task_times.specs.declared.times.CookieTimes.{CookieTimes}
 use Rattle.task_times.specs.Living.{charged_in, cookie_at}
-use Rattle.task_times.specs.TaskSums.{TaskSums, task_times, cookie_times, all_charged, charged_to, pids_for, cookies_for, sums_so_far, sums_of, with_charged}
+use Rattle.task_times.specs.TaskSums.{TaskSums, task_times, cookie_times, all_charged, charged_to, pids_for, cookies_for, sums_so_far, sums_of, charged_more}
 use Rattle.task_times.proofs.Leaving.{cookie_at-below}
 use Rattle.task_times.proofs.Summed.{rows-push, row_at}
 
@@ -43,41 +43,41 @@ charged_to-more tasks i d cookie few =
     ∙ ap (λ (n : ℕ). charged_to (take i tasks) cookie + n) (charged_to-one (get_or tasks i d) cookie)
 
 -- the row of a cookie with so much more charged to it twice
-with_charged-twice : (a b : ℕ) (row : CookieTimes) → with_charged b (with_charged a row) ≡ with_charged (a + b) row
-with_charged-twice a b row = let same : row.charged + a + b ≡ row.charged + (a + b) = omega arith in λ i. record row { charged = same i }
+charged_more-twice : (a b : ℕ) (row : CookieTimes) → charged_more b (charged_more a row) ≡ charged_more (a + b) row
+charged_more-twice a b row = let same : row.charged + a + b ≡ row.charged + (a + b) = omega arith in λ i. record row { charged = same i }
 
-pub with_charged-none : (row : CookieTimes) → row ≡ with_charged 0 row
-with_charged-none row = let same : row.charged ≡ row.charged + 0 = omega arith in λ i. record row { charged = same i }
+pub charged_more-none : (row : CookieTimes) → row ≡ charged_more 0 row
+charged_more-none row = let same : row.charged ≡ row.charged + 0 = omega arith in λ i. record row { charged = same i }
 
 -- the row of its cookie goes on by what it is charged, and no other
 share_step : (rows : List CookieTimes) (times : TaskTimes) (k : ℕ) (none : CookieTimes) → times.cookie < length rows →
-    get_or (set rows times.cookie (with_charged times.charged (get_or rows times.cookie none))) k none ≡ with_charged (share times k) (get_or rows k none)
+    get_or (set rows times.cookie (charged_more times.charged (get_or rows times.cookie none))) k none ≡ charged_more (share times k) (get_or rows k none)
 share_step rows times k none few = go (times.cookie == k) refl where
   own : CookieTimes
-  own = with_charged times.charged (get_or rows times.cookie none)
+  own = charged_more times.charged (get_or rows times.cookie none)
 
-  go : (test : Bool) → (times.cookie == k) ≡ test → get_or (set rows times.cookie own) k none ≡ with_charged (cond test times.charged 0) (get_or rows k none)
+  go : (test : Bool) → (times.cookie == k) ≡ test → get_or (set rows times.cookie own) k none ≡ charged_more (cond test times.charged 0) (get_or rows k none)
   go true is =
       let e : times.cookie ≡ k = eqb-true times.cookie k is in
       (λ i. get_or (set rows times.cookie own) (sym e i) none)
       ∙ get_or-set_same rows times.cookie own none few
-      ∙ ap (λ (n : ℕ). with_charged times.charged (get_or rows n none)) e
+      ∙ ap (λ (n : ℕ). charged_more times.charged (get_or rows n none)) e
   go false is =
       get_or-set_other rows times.cookie k own none (λ same. both_ways (times.cookie == k) is (eq-eqb times.cookie k (sym same)))
-      ∙ with_charged-none (get_or rows k none)
+      ∙ charged_more-none (get_or rows k none)
 
 -- the rows with one task more
 pub cookies_more : (old rows new : List CookieTimes) (tasks : List TaskTimes) (i : ℕ) (d : TaskTimes) → i < length tasks → (get_or tasks i d).cookie < length rows →
-    ((none : CookieTimes) → new ≡ set rows (get_or tasks i d).cookie (with_charged (get_or tasks i d).charged (get_or rows (get_or tasks i d).cookie none))) →
-    (k : ℕ) (none : CookieTimes) → get_or rows k none ≡ with_charged (charged_to (take i tasks) k) (get_or old k none) →
-    get_or new k none ≡ with_charged (charged_to (take (i + 1) tasks) k) (get_or old k none)
+    ((none : CookieTimes) → new ≡ set rows (get_or tasks i d).cookie (charged_more (get_or tasks i d).charged (get_or rows (get_or tasks i d).cookie none))) →
+    (k : ℕ) (none : CookieTimes) → get_or rows k none ≡ charged_more (charged_to (take i tasks) k) (get_or old k none) →
+    get_or new k none ≡ charged_more (charged_to (take (i + 1) tasks) k) (get_or old k none)
 cookies_more old rows new tasks i d few low is k none so_far =
     let times = get_or tasks i d in
     ap (λ (xs : List CookieTimes). get_or xs k none) (is none)
     ∙ share_step rows times k none low
-    ∙ ap (with_charged (share times k)) so_far
-    ∙ with_charged-twice (charged_to (take i tasks) k) (share times k) (get_or old k none)
-    ∙ ap (λ (n : ℕ). with_charged n (get_or old k none)) (sym (charged_to-more tasks i d k few))
+    ∙ ap (charged_more (share times k)) so_far
+    ∙ charged_more-twice (charged_to (take i tasks) k) (share times k) (get_or old k none)
+    ∙ ap (λ (n : ℕ). charged_more n (get_or old k none)) (sym (charged_to-more tasks i d k few))
 
 -- and there is room for the tasks that are left
 pub cookies_fit : (rows : List CookieTimes) (at : ℕ) (row : CookieTimes) (left most : ℕ) (d : CookieTimes) → at < length rows → row.charged ≤ (get_or rows at d).charged + 18446744073709551615 →
@@ -182,26 +182,26 @@ uncharged entries opening history cookies are = λ k d under.
 
 -- what is said of rows is said of the same rows
 pub each_part : (slice tasks : List TaskTimes) (parts rows new : List CookieTimes) → slice ≡ tasks → parts ≡ rows →
-    ((k : ℕ) (none : CookieTimes) → k < length parts → get_or new k none ≡ with_charged (charged_to slice k) (get_or parts k none)) →
-    (k : ℕ) (none : CookieTimes) → k < length rows → get_or new k none ≡ with_charged (charged_to tasks k) (get_or rows k none)
+    ((k : ℕ) (none : CookieTimes) → k < length parts → get_or new k none ≡ charged_more (charged_to slice k) (get_or parts k none)) →
+    (k : ℕ) (none : CookieTimes) → k < length rows → get_or new k none ≡ charged_more (charged_to tasks k) (get_or rows k none)
 each_part slice tasks parts rows new are same each =
-    subst (λ (xs : List CookieTimes). (k : ℕ) (none : CookieTimes) → k < length xs → get_or new k none ≡ with_charged (charged_to tasks k) (get_or xs k none)) same
-    (subst (λ (ts : List TaskTimes). (k : ℕ) (none : CookieTimes) → k < length parts → get_or new k none ≡ with_charged (charged_to ts k) (get_or parts k none)) are each)
+    subst (λ (xs : List CookieTimes). (k : ℕ) (none : CookieTimes) → k < length xs → get_or new k none ≡ charged_more (charged_to tasks k) (get_or xs k none)) same
+    (subst (λ (ts : List TaskTimes). (k : ℕ) (none : CookieTimes) → k < length parts → get_or new k none ≡ charged_more (charged_to ts k) (get_or parts k none)) are each)
 
 -- the sums at the end
 pub sums_charged : (entries : ℕ) (opening : Opening) (history : History) (old : TaskSums) (tasks : List TaskTimes) (cookies : List CookieTimes) →
     old ≡ sums_so_far entries opening history → tasks ≡ (sums_of entries opening history).tasks → length cookies ≡ length old.cookies →
-    ((k : ℕ) (none : CookieTimes) → k < length old.cookies → get_or cookies k none ≡ with_charged (charged_to tasks k) (get_or old.cookies k none)) →
+    ((k : ℕ) (none : CookieTimes) → k < length old.cookies → get_or cookies k none ≡ charged_more (charged_to tasks k) (get_or old.cookies k none)) →
     record { entries = length cookies - 1; tasks = tasks; cookies = cookies } ≡ sums_of entries opening history
 sums_charged entries opening history old tasks cookies was are wide each =
     let spans = spans_of opening history in
     let end = (sums_of entries opening history).tasks in
     let charged = charged_to end in
-    let step : (k : ℕ) → cookie_times (charged k) spans k ≡ with_charged (charged k) (cookie_times 0 spans k) =
+    let step : (k : ℕ) → cookie_times (charged k) spans k ≡ charged_more (charged k) (cookie_times 0 spans k) =
     λ k. (let same : charged k ≡ 0 + charged k = omega arith in λ i. record (cookie_times 0 spans k) { charged = same i }) in
     let parts : cookies ≡ map (λ k. cookie_times (charged k) spans k) (range_with_len 0 (cookies_for entries)) =
-    rows-push (cookie_times 0 spans) (λ k. cookie_times (charged k) spans k) (λ k. with_charged (charged k)) step (cookies_for entries)
+    rows-push (cookie_times 0 spans) (λ k. cookie_times (charged k) spans k) (λ k. charged_more (charged k)) step (cookies_for entries)
     old.cookies cookies (cookie_times 0 [] 0) (ap (λ (s : TaskSums). s.cookies) was) wide
-    (λ k none few. each k none few ∙ ap (λ (ts : List TaskTimes). with_charged (charged_to ts k) (get_or old.cookies k none)) are) in
+    (λ k none few. each k none few ∙ ap (λ (ts : List TaskTimes). charged_more (charged_to ts k) (get_or old.cookies k none)) are) in
     let many : length cookies - 1 ≡ entries = (let count = ap length parts ∙ length-map-range_with_len (λ k. cookie_times (charged k) spans k) 0 (cookies_for entries) in omega (arith, count)) in
     λ i. record { entries = many i; tasks = are i; cookies = parts i }

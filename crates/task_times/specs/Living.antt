@@ -79,7 +79,8 @@ abbrev pub left_with : List Task → ℕ → ℕ
 left_with leavers pid = option_map_or (λ task. task.cookie) (find (has_pid pid) (reverse leavers)) 0
 
 -- The cookie for which a task counts: of one that lives the cookie that it has, of one that ended the cookie that it had
--- then. An exit can be refused, so a task may be to end more than once; with the last it ended.
+-- when it was last to end. An exit can be refused, so a task may be to end more than once; after the one that ends it no
+-- other is.
 abbrev pub cookie_at : Opening → History → ℕ → ℕ
 cookie_at opening history pid =
     option_map_or (λ task. task.cookie) (task_of (fold_of opening history) pid) (left_with (leavers_of opening history) pid)

@@ -174,5 +174,5 @@ charged_living found room pid times =
     option_map_or (λ task. with_charge (forced_of room pid) (counted_for task.cookie times)) found times
 
 -- the times of a cookie with so much more charged to it
-abbrev pub with_charged : ℕ → CookieTimes → CookieTimes
-with_charged charged times = record times { charged = times.charged + charged }
+abbrev pub charged_more : ℕ → CookieTimes → CookieTimes
+charged_more charged times = record times { charged = times.charged + charged }

@@ -143,7 +143,7 @@ fn charge_cookies(cookies: &mut [CookieTimes], tasks: &[TaskTimes])
     requires fits { All (λ times. times.charged + u64.MAX * length tasks.now ≤ u128.MAX) cookies.old }
     ensures { (cookie : ℕ) (none : CookieTimes) → cookie < length cookies.old →
         slice_index_or cookies.new cookie none
-        ≡ sums.with_charged (sums.charged_to tasks.now cookie) (slice_index_or cookies.old cookie none) }
+        ≡ sums.charged_more (sums.charged_to tasks.now cookie) (slice_index_or cookies.old cookie none) }
 {
     for times in tasks {
         cookies[times.cookie as usize].charge(times.charged);
@@ -217,8 +217,8 @@ impl RunTasks {
         }
     }
 
-    /// Notes what each task was charged, at the end of a run, and counts it for a cookie. The room has to be the one whose times these are, and may
-    /// have made as many entries as there is room for.
+    /// Notes what each task was charged and the cookie for which that counts, and adds it up by cookies, at the end of a
+    /// run. The room has to be the one whose times these are, and may have made as many entries as there is room for.
     pub fn close<R: Room>(&mut self, room: &R)
         requires playable { IsPlayable (R.opening room.now).scenario }
         requires times { self.old ≡ sums.sums_so_far self.old.entries (R.opening room.now) (R.history room.now) }

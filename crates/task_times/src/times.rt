@@ -1,7 +1,7 @@
 //! The times of one task, and of the tasks of one cookie.
 
 ghost use Rattle.std.specs.Prelude.{◌≡◌, ◌+◌, ◌^◌, ◌<◌, ◌≤◌, ◌||◌, [], Some, nat_lt};
-ghost use Rattle.task_times.specs.TaskSums.{task_times, cookie_times, lived, had, part, counted_for, with_one, with_span, with_charge, with_charged};
+ghost use Rattle.task_times.specs.TaskSums.{task_times, cookie_times, lived, had, part, counted_for, with_one, with_span, with_charge, charged_more};
 
 use crate::doing::TaskDoing;
 use cs_types::Cookie;
@@ -123,7 +123,7 @@ impl CookieTimes {
     /// Adds what a task was charged. There has to be room for the most that can be.
     pub(crate) fn charge(&mut self, charged: u64)
         requires { self.old.charged + u64.MAX ≤ u128.MAX }
-        ensures sum { self.new ≡ with_charged charged self.old }
+        ensures sum { self.new ≡ charged_more charged self.old }
         ensures most { self.new.charged ≤ self.old.charged + u64.MAX }
     {
         self.charged += u128::from(charged);

@@ -1,8 +1,8 @@
 use Rattle.std.proofs.Common.{◌<◌, ◌-◌, ◌+◌, length, set, get_or, ap, ◌∙◌, arith}
 use Rattle.std.proofs.lemmas.List.{get_or_default, take_all}
 use Rattle.task_times.specs.declared.times.TaskTimes.{TaskTimes}
-use Rattle.task_times.specs.TaskSums.{charged_to, with_charged}
-use Rattle.task_times.proofs.Counted.{with_charged-none, cookies_more, cookies_fit}
+use Rattle.task_times.specs.TaskSums.{charged_to, charged_more}
+use Rattle.task_times.proofs.Counted.{charged_more-none, cookies_more, cookies_fit}
 use Rattle.task_times.proofs.sums.charge_cookies.Goals as goal
 
 pub charge-requires : goal.charge-requires
@@ -13,7 +13,7 @@ charge-requires c =
 pub loop-times-init : goal.loop-times-init
 loop-times-init c =
     record {
-      rows = λ k none few. with_charged-none (get_or c.args.cookies.now k none);
+      rows = λ k none few. charged_more-none (get_or c.args.cookies.now k none);
       fits = λ k none few. omega (arith, c.requires.fits k none few);
     }
 
@@ -28,7 +28,7 @@ loop-times-preserved c =
     record {
       rows = λ k d few.
           cookies_more c.args.cookies.now rows _ tasks i none c.loop-times-test.true low
-          (λ e. ap (set rows times.cookie) (c.charge.ensures.sum ∙ ap (with_charged times.charged) (get_or_default rows times.cookie _ e low)))
+          (λ e. ap (set rows times.cookie) (c.charge.ensures.sum ∙ ap (charged_more times.charged) (get_or_default rows times.cookie _ e low)))
           k d (c.loop-times.invariant.rows k d few);
       fits = λ k d few.
           cookies_fit rows times.cookie c.charge.new.self (length tasks - (i + 1)) _ _ low c.charge.ensures.most
@@ -39,4 +39,4 @@ loop-times-preserved c =
 pub returns : goal.returns
 returns c = λ cookie none few.
     c.loop-times.invariant.rows cookie none few
-    ∙ ap (λ ts. with_charged (charged_to ts cookie) (get_or c.args.cookies.now cookie none)) (take_all c.loop-times.times-index c.args.tasks.now (omega (arith, c.loop-times-test.false)))
+    ∙ ap (λ ts. charged_more (charged_to ts cookie) (get_or c.args.cookies.now cookie none)) (take_all c.loop-times.times-index c.args.tasks.now (omega (arith, c.loop-times-test.false)))
