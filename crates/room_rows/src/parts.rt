@@ -120,11 +120,14 @@ fn expect_not_added(rt: &impl Abort, table: &mut TaskTable) {
     assert!(rt; table.len() == 3);
 }
 
-/// Expects that task 2 changes.
+/// Expects that task 2 changes, and remembers an occupation.
 fn expect_changed(rt: &impl Abort, table: &mut TaskTable) {
     let task = *table.find(2).expect(rt, "a task");
     let old = table.change(Task { cookie: 7, ..task });
     assert!(rt; matches!(old, Some(Task { cookie: 0, .. })));
+    table.remember(2, 3);
+    let task = table.find(2).expect(rt, "a task");
+    assert!(rt; (task.cookie, task.occupation) == (7, 3));
 }
 
 /// Expects that task 2 is removed as it was changed.
