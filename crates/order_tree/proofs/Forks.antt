@@ -1,49 +1,54 @@
 -- Nodes over two trees: what holds of them, and the lists that turning them keeps.
-use Rattle.std.proofs.Common.{◌≡◌, ℕ, ◌+◌, ◌^◌, ◌<◌, ◌≤◌, true, List, ◌∷◌, ◌++◌, length, max, sym, ap, ◌∙◌, subst, append_assoc, arith, length-append}
+use Rattle.std.proofs.Common.{◌≡◌, ℕ, ◌+◌, true, List, ◌∷◌, ◌++◌, length, max, refl, sym, ap, ◌∙◌, subst, append_assoc, arith, length-append}
 use Rattle.std.proofs.lemmas.Bool.{and_parts}
-use Rattle.std.specs.Prelude.{IsTrue}
 use Rattle.std.specs.FinMap.{is_sorted}
+use Rattle.std.specs.declared.cmp.Ordering.{Ordering}
+use Rattle.std.specs.declared.cmp.Ordering.TheVariants.{Less, Equal, Greater}
 use Rattle.order_tree.specs.Order.{Entry, key_cmp}
 use Rattle.order_tree.specs.Branch.{Branch}
-use Rattle.order_tree.specs.Balance.{joined, fewest, HasMany, DifferBy, IsFork}
+use Rattle.order_tree.specs.Balance.{entry_in, split, AreNear, Leans, HoldsSides, IsFork, IsEven}
+use Rattle.order_tree.specs.declared.tree.Node.{Node}
 use Rattle.order_tree.proofs.Entries.{is_sorted-front, is_sorted-back}
-use Rattle.order_tree.proofs.Heights.{fewest-fork, height-fits}
+use Rattle.order_tree.proofs.Heights.{fewest-fork}
 use Rattle.order_tree.proofs.Keys.{key_total}
 
-pub IsFork-from : (left : Branch) (entry : Entry) (right : Branch) (levels : ℕ) →
-    IsTrue (is_sorted key_cmp (joined left entry right)) → DifferBy 1 left.height right.height → levels ≡ max left.height right.height + 1 →
-    fewest left.height ≤ length left.entries → fewest right.height ≤ length right.entries → IsFork left entry levels right
-IsFork-from left entry right levels rising even one_more many_left many_right =
-    let enough = fewest-fork left.height right.height (length left.entries) (length right.entries) even many_left many_right in
-    let count = length-append left.entries (entry ∷ right.entries) in
-    let all : fewest (max left.height right.height + 1) ≤ length (joined left entry right) = omega arith in record {
-      rising = rising;
-      one_more = one_more;
+-- sides that lean some way are near each other
+leans-near : (lean : Ordering) (l r : ℕ) → Leans lean l r → AreNear l r
+leans-near Less l r is = (omega arith, omega arith)
+leans-near Equal l r is = (omega arith, omega arith)
+leans-near Greater l r is = (omega arith, omega arith)
+
+-- sides of which each is a level higher lean the same way
+pub leans-higher : (lean : Ordering) (l r : ℕ) → Leans lean l r → Leans lean (l + 1) (r + 1)
+leans-higher Less l r is = omega arith
+leans-higher Equal l r is = omega arith
+leans-higher Greater l r is = omega arith
+
+pub IsFork-from : (left : Branch) (entry : Entry) (right : Branch) (lean : Ordering) → HoldsSides left entry right → Leans lean left.height right.height →
+    IsFork left entry (max left.height right.height + 1) right
+IsFork-from left entry right lean sides leans =
+    let even = leans-near lean left.height right.height leans in
+    let enough = fewest-fork left.height right.height (length left.entries) (length right.entries) even sides.many_left sides.many_right in
+    let count = length-append left.entries (entry ∷ right.entries) in record {
+      sides = sides;
+      one_more = refl;
       even = even;
-      many_left = many_left;
-      many_right = many_right;
-      many = subst (λ h. fewest h ≤ length (joined left entry right)) (sym one_more) all;
+      many = omega arith;
     }
 
--- the same, where a side was exchanged for one as high
-pub IsFork-left : (left : Branch) (entry : Entry) (right : Branch) (levels : ℕ) (side : Branch) → IsFork left entry levels right →
-    IsTrue (is_sorted key_cmp (joined side entry right)) → side.height ≡ left.height → HasMany side → IsFork side entry levels right
-IsFork-left left entry right levels side fork rising same many =
-    IsFork-from side entry right levels rising (subst (λ h. DifferBy 1 h right.height) (sym same) fork.even)
-    (fork.one_more ∙ ap (λ h. max h right.height + 1) (sym same)) many fork.many_right
+pub IsEven-from : (node : Node) → HoldsSides node.left (entry_in node) node.right → Leans node.lean node.left.height node.right.height → IsEven node
+IsEven-from node sides leans = record { fork = IsFork-from node.left (entry_in node) node.right node.lean sides leans; lean = leans }
 
-pub IsFork-right : (left : Branch) (entry : Entry) (right : Branch) (levels : ℕ) (side : Branch) → IsFork left entry levels right →
-    IsTrue (is_sorted key_cmp (joined left entry side)) → side.height ≡ right.height → HasMany side → IsFork left entry levels side
-IsFork-right left entry right levels side fork rising same many =
-    IsFork-from left entry side levels rising (subst (λ h. DifferBy 1 left.height h) (sym same) fork.even)
-    (fork.one_more ∙ ap (λ h. max left.height h + 1) (sym same)) fork.many_left many
+-- how the nodes lean that take over the sides of a middle one
+pub leans-low : (lean : Ordering) (l r h : ℕ) → Leans lean l r → max l r ≡ h → Leans (split lean).0 h l
+leans-low Less l r h is most = omega arith
+leans-low Equal l r h is most = omega arith
+leans-low Greater l r h is most = omega arith
 
--- no side is so high that a level more would not fit
-pub heights-fit : (left : Branch) (entry : Entry) (right : Branch) → fewest left.height ≤ length left.entries → fewest right.height ≤ length right.entries →
-    length (joined left entry right) < 2 ^ 32 → (left.height ≤ 64) × (right.height ≤ 64)
-heights-fit left entry right many_left many_right few =
-    let count = length-append left.entries (entry ∷ right.entries) in
-    (height-fits left.height (length left.entries) many_left (omega arith), height-fits right.height (length right.entries) many_right (omega arith))
+pub leans-high : (lean : Ordering) (l r h : ℕ) → Leans lean l r → max l r ≡ h → Leans (split lean).1 r h
+leans-high Less l r h is most = omega arith
+leans-high Equal l r h is most = omega arith
+leans-high Greater l r h is most = omega arith
 
 -- ---- the parts of entries that rise
 

@@ -1,10 +1,9 @@
 -- How many entries a tree of some height has, and so how high a tree of some entries is.
-use Rattle.std.proofs.Common.{◌≡◌, ℕ, zero, suc, ◌+◌, ◌*◌, ◌/◌, ◌^◌, ◌<◌, ◌≤◌, max, inl, inr, subst, arith}
+use Rattle.std.proofs.Common.{◌≡◌, ℕ, zero, suc, ◌+◌, ◌*◌, ◌/◌, ◌≤◌, Bool, true, false, cond, max, inl, inr, ap, ◌∙◌, subst, arith}
 use Rattle.std.proofs.lemmas.Bool.{cases_lt}
-use Rattle.std.proofs.lemmas.Int.Digits.{length-digits_of-le}
 use Rattle.cs_types.specs.Comparisons.{digits}
 use Rattle.cs_types.proofs.Comparisons.{digits-step}
-use Rattle.order_tree.specs.Balance.{fewest, DifferBy, IsSettled}
+use Rattle.order_tree.specs.Balance.{fewest, AreNear}
 
 fewest-suc : (h : ℕ) → fewest h ≤ fewest (suc h)
 fewest-suc zero = omega arith
@@ -23,7 +22,7 @@ fewest-over (suc l) r nl nr le near left right =
     ]
 
 -- a node over trees with enough entries has enough of them
-pub fewest-fork : (l r nl nr : ℕ) → DifferBy 1 l r → fewest l ≤ nl → fewest r ≤ nr → fewest (max l r + 1) ≤ nl + suc nr
+pub fewest-fork : (l r nl nr : ℕ) → AreNear l r → fewest l ≤ nl → fewest r ≤ nr → fewest (max l r + 1) ≤ nl + suc nr
 fewest-fork l r nl nr even left right =
     elim (cases_lt l r) [
       | inl less ↦
@@ -60,34 +59,13 @@ height-lt (suc (suc h)) n some many =
     let half_some : 1 ≤ n / 2 = omega arith in
     omega (arith, height-lt h (n / 2) half_some half, digits-step n some)
 
-digits-le : (n : ℕ) → n < 2 ^ 32 → digits n ≤ 32
-unfolding digits
-digits-le n few = length-digits_of-le 2 32 n (omega arith) few
+pub fewest-none : (h : ℕ) → fewest h ≤ 0 → h ≡ 0
+fewest-none zero none = omega arith
+fewest-none (suc h) none = let some = fewest-suc-pos h in absurd (omega arith)
 
--- no tree is higher than this
-pub height-fits : (h n : ℕ) → fewest h ≤ n → n < 2 ^ 32 → h ≤ 64
-height-fits h n many few = omega (arith, height-le h n many, digits-le n few)
+-- a height by whether it is a level lower than before
+pub level_kept : (before after : ℕ) {lower : Bool} → before ≡ after + cond lower 1 0 → lower ≡ false → after ≡ before
+level_kept before after is kept = let told = is ∙ ap (λ b. after + cond b 1 0) kept in omega arith
 
--- ---- what a node settles to, of which a side changed
-
--- a height that is the same or one level higher
-abbrev pub NotLower : ℕ → ℕ → Type 0
-NotLower before after = (before ≤ after) × (after ≤ before + 1)
-
-pub IsSettled-turn : (l r h : ℕ) → IsSettled l r h → IsSettled r l h
-IsSettled-turn l r h s =
-    let low = s.not_lower in
-    let high = s.at_most_one_higher in record {
-      not_lower = omega arith;
-      at_most_one_higher = omega arith;
-      one_higher = λ even. let same = s.one_higher (even.1, even.0) in omega arith;
-    }
-
-pub settles-higher : (l r side levels h : ℕ) → DifferBy 1 l r → levels ≡ max l r + 1 → NotLower l side → IsSettled side r h → NotLower levels h
-settles-higher l r side levels h even one_more near s =
-    let low = s.not_lower in
-    let high = s.at_most_one_higher in
-    elim (cases_lt (r + 1) side) [
-      | inl less ↦ (omega arith, omega arith)
-      | inr more ↦ let exact = s.one_higher (omega arith, omega arith) in (omega arith, omega arith)
-    ]
+pub level_lost : (before after : ℕ) {lower : Bool} → before ≡ after + cond lower 1 0 → lower ≡ true → before ≡ after + 1
+level_lost before after is lost = is ∙ ap (λ b. after + cond b 1 0) lost

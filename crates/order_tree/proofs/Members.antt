@@ -1,7 +1,9 @@
 -- The map that a tree's entries are, and what is asked of it.
-use Rattle.std.proofs.Common.{◌≡◌, ℕ, ◌+◌, ◌*◌, ◌≤◌, true, false, not, cond, List, [], ◌∷◌, length, Option, None, refl, sym, ap, ◌∙◌, subst, arith}
+use Rattle.std.proofs.Common.{◌≡◌, ℕ, ◌+◌, ◌*◌, ◌≤◌, true, false, not, cond, eqb, List, [], ◌∷◌, length, Option, None, Some, inl, inr, refl, sym, ap, ◌∙◌, subst, arith}
 use Rattle.std.specs.Prelude.{slice_get, find, is_some}
-use Rattle.std.specs.Ordering.{is_lt, is_gt}
+use Rattle.std.proofs.lemmas.Bool.{cases_Bool, cond-true, cond-false}
+use Rattle.std.proofs.lemmas.Bool.Decides.{nat_tests}
+use Rattle.std.specs.Ordering.{is_lt, is_gt, eq_by_cmp}
 use Rattle.std.specs.declared.cmp.Ordering.{Ordering}
 use Rattle.std.specs.declared.cmp.Ordering.TheVariants.{Less, Equal, Greater}
 use Rattle.std.specs.FinMap as fin
@@ -12,6 +14,7 @@ use Rattle.cs_types.proofs.Queues.{said, len-from_sorted}
 use Rattle.cs_types.proofs.Foremost.{find_same}
 use Rattle.order_tree.specs.Order.{Entry, Members, key_cmp, first_of, first_from, next_of}
 use Rattle.order_tree.specs.Branch.{without, reaches}
+use Rattle.order_tree.specs.Recent.{renewed}
 use Rattle.order_tree.specs.declared.key.Key.{Key}
 use Rattle.order_tree.proofs.Entries.{from_sorted-put, from_sorted-without}
 use Rattle.order_tree.specs.Balance.{fewest}
@@ -85,3 +88,36 @@ module _ (es : List Entry) (rising : is_sorted key_cmp es ≡ true) where
   -- how many entries there are without those of a key
   pub length-without : (key : Key) → cond (is_some (fin.find key_cmp key es)) 1 0 + length (without key es) ≡ length es
   length-without key = length_without key_cmp key_total key es (said rising)
+
+-- the first entry that is left where a pid was taken out: the old one, where that has another pid
+pub first-without : (es : List Entry) (key : Key) (pid : ℕ) → fin.find key_cmp key es ≡ Some pid →
+    slice_get (without key es) 0 ≡ renewed (slice_get es 0) pid (slice_get (without key es) 0)
+first-without [] key pid found = refl
+first-without (e ∷ es) key pid found =
+    elim (cases_Bool (eqb e.1 pid)) [
+      | inl same ↦ sym (cond-true (eqb e.1 pid) (slice_get (without key (e ∷ es)) 0) (Some e) same)
+      | inr other ↦
+          elim (cases_Bool (eq_by_cmp key_cmp key e.0)) [
+            | inl tie ↦
+                let both : Some e.1 ≡ Some pid = sym (cond-true (eq_by_cmp key_cmp key e.0) (Some e.1) (fin.find key_cmp key es) tie) ∙ found in
+                let same : e.1 ≡ pid = cc in
+                let bad : eqb e.1 pid ≡ true = grind (arith, nat_tests) in
+                let never = sym bad ∙ other in
+                absurd cc
+            | inr apart ↦
+                ap (λ b. slice_get (cond (not b) (e ∷ without key es) (without key es)) 0) apart
+                ∙ sym (cond-false (eqb e.1 pid) (slice_get (without key (e ∷ es)) 0) (Some e) other)
+          ]
+    ]
+
+-- entries among which there is none of a key
+pub without-none : (es : List Entry) (key : Key) → fin.find key_cmp key es ≡ None → without key es ≡ es
+without-none [] key none = refl
+without-none (e ∷ es) key none =
+    elim (cases_Bool (eq_by_cmp key_cmp key e.0)) [
+      | inl tie ↦ let both = sym (cond-true (eq_by_cmp key_cmp key e.0) (Some e.1) (fin.find key_cmp key es) tie) ∙ none in cc
+      | inr apart ↦
+          ap (λ b. cond (not b) (e ∷ without key es) (without key es)) apart
+          ∙ ap (λ (rest : List Entry). e ∷ rest)
+          (without-none es key (sym (cond-false (eq_by_cmp key_cmp key e.0) (Some e.1) (fin.find key_cmp key es) apart) ∙ none))
+    ]

@@ -2,21 +2,23 @@
 use Rattle.std.proofs.Common.{◌≡◌, ℕ, ◌+◌, ◌*◌, ◌^◌, ◌<◌, ◌≤◌, Bool, true, false, cond, List, ◌∷◌, ◌++◌, Box, Option, None, Some, length, max, refl, sym, ap, ◌∙◌, subst, arith, length-append}
 use Rattle.std.specs.Prelude.{[], IsTrue, is_some, slice_get}
 use Rattle.std.specs.FinMap.{find, put, is_sorted}
+use Rattle.std.specs.Ordering.{is_lt}
+use Rattle.std.specs.Cmp.{tied_itself}
 use Rattle.std.specs.FinMap.Entries.{length-put, length_without}
 use Rattle.std.specs.declared.cmp.Ordering.{Ordering}
 use Rattle.std.specs.declared.cmp.Ordering.TheVariants.{Less, Equal, Greater}
 use Rattle.cs_types.proofs.Queues.{said}
 use Rattle.order_tree.specs.Order.{Entry, key_cmp}
 use Rattle.std.specs.List as list
-use Rattle.std.specs.Option.{option_or}
+use Rattle.std.specs.Option.{option_map, option_or}
 use Rattle.std.specs.declared.alloc.Global.{Global}
 use Rattle.order_tree.specs.Branch.{Branch, without, reaches}
-use Rattle.order_tree.specs.Balance.{entry_in, joined, branch_of, fewest, HasMany, IsSettled, IsUnevenFork, IsFork, IsBalanced, IsRoot, IsUneven, SettlesTo}
+use Rattle.order_tree.specs.Balance.{entry_in, joined, branch_of, fewest, HasMany, Leans, HoldsSides, IsFork, IsEven, IsBalanced, IsRoot, IsTaken, IsTakenIf, IsUprooted}
 use Rattle.order_tree.specs.declared.key.Key.{Key}
 use Rattle.order_tree.specs.declared.tree.Node.{Node}
-use Rattle.order_tree.proofs.Entries.{find-left, find-right, find-middle, put-left, put-right, is_sorted-put_of, where_key-left, where_key-right, where_key-middle, is_sorted-without, find_passes-left, find_passes-right}
-use Rattle.order_tree.proofs.Heights.{height-le, NotLower, IsSettled-turn, settles-higher}
-use Rattle.order_tree.proofs.Forks.{IsFork-left, IsFork-right}
+use Rattle.order_tree.proofs.Entries.{less_by, find-left, find-right, find-middle, put-left, put-right, is_sorted-put_of, where_key-left, where_key-right, where_key-middle, is_sorted-without, find_passes-left, find_passes-right}
+use Rattle.order_tree.proofs.Heights.{height-le, fewest-none}
+use Rattle.order_tree.proofs.Forks.{leans-higher}
 use Rattle.order_tree.proofs.Keys.{key_total}
 use Rattle.cs_types.specs.Comparisons.{digits}
 
@@ -24,9 +26,9 @@ use Rattle.cs_types.specs.Comparisons.{digits}
 abbrev pub sought : Key → Bool → List Entry → Option Entry
 sought key at es = list.find (λ (e : Entry). reaches at (key_cmp e.0 key)) es
 
--- how the keys of two nodes compare, where their copies were compared
-pub compared : {a node : Node} (other : Node) {r : Ordering} → a ≡ node → r ≡ key_cmp a.key other.key → key_cmp node.key other.key ≡ r
-compared other a_is is = (λ i. key_cmp (sym a_is i).key other.key) ∙ sym is
+-- how the keys of two nodes compare, where it was asked of a copy whether one is below the other
+pub below : {a node : Node} (other : Node) {b : Bool} → a ≡ node → b ≡ is_lt (key_cmp a.key other.key) → b ≡ true → key_cmp node.key other.key ≡ Less
+below other a_is is holds = (λ i. key_cmp (sym a_is i).key other.key) ∙ less_by _ (sym is ∙ holds)
 
 pub compared_key : (key : Key) {b other : Node} {r : Ordering} → b ≡ other → r ≡ key_cmp key b.key → key_cmp key other.key ≡ r
 compared_key key b_is is = (λ i. key_cmp key (sym b_is i).key) ∙ sym is
@@ -71,108 +73,66 @@ IsCut-from before key after rising is =
 pub IsRoot-from : {root : Option (Box Node Global)} {whole : Branch} {node : Box Node Global} → branch_of root ≡ whole → IsBalanced root → root ≡ Some node →
     IsRoot whole node.value.left (entry_in node.value) node.value.right
 IsRoot-from {root} {whole} {node} view_is balanced is =
-    let seen : branch_of (Some node) ≡ whole = ap branch_of (sym is) ∙ view_is in record {
+    let seen : branch_of (Some node) ≡ whole = ap branch_of (sym is) ∙ view_is in
+    let even : IsEven node.value = subst IsBalanced is balanced in record {
       entries = ap (λ (b : Branch). b.entries) (sym seen);
-      fork =
-          subst (λ h. IsFork node.value.left (entry_in node.value) h node.value.right) (ap (λ (b : Branch). b.height) seen)
-          (subst IsBalanced is balanced);
+      fork = subst (λ h. IsFork node.value.left (entry_in node.value) h node.value.right) (ap (λ (b : Branch). b.height) seen) even.fork;
     }
-
-max_turn : (a b : ℕ) → max a b ≡ max b a
-max_turn a b = omega arith
 
 -- a tree that is balanced has many entries
 pub many-balanced : (root : Option (Box Node Global)) → IsBalanced root → HasMany (branch_of root)
 many-balanced None balanced = omega arith
-many-balanced (Some node) balanced = balanced.many
+many-balanced (Some node) balanced = balanced.fork.many
+
+-- a tree with no entry has no root
+pub no_root : (root : Option (Box Node Global)) → (branch_of root).entries ≡ [] → root ≡ None
+no_root None none = refl
+no_root (Some node) none = let count = ap length none ∙ refl in let more = length-append node.value.left.entries (entry_in node.value ∷ node.value.right.entries) in absurd (omega arith)
 
 -- a node that is the root of a tree
 pub record IsNode (whole : Branch) (node : Node) : Type 0 where
   pub root : IsRoot whole node.left (entry_in node) node.right
-  pub height : node.height ≡ whole.height
+  pub lean : Leans node.lean node.left.height node.right.height
 
 pub IsNode-from : {root : Option (Box Node Global)} {whole : Branch} {box : Box Node Global} {node : Node} → branch_of root ≡ whole → IsBalanced root →
     root ≡ Some box → node ≡ box.value → IsNode whole node
 IsNode-from {root} {whole} {box} {node} view_is balanced is same =
-    subst (IsNode whole) (sym same) (record {
-      root = IsRoot-from view_is balanced is;
-      height = ap (λ (b : Branch). b.height) (ap branch_of (sym is) ∙ view_is);
-    })
+    let even : IsEven box.value = subst IsBalanced is balanced in
+    subst (IsNode whole) (sym same) (record { root = IsRoot-from view_is balanced is; lean = even.lean })
 
--- A node of which a side was exchanged: what its entries are, the height that it still holds, and those that it can settle to. Where the side is as high
--- as before, the node is in balance.
-pub record IsExchanged (whole : Branch) (after : List Entry) (changed : Bool) (left : Branch) (entry : Entry) (levels : ℕ)
-    (right : Branch) : Type 0 where
-  pub entries : joined left entry right ≡ after
-  pub height : levels ≡ whole.height
-  pub kept : changed ≡ false → IsFork left entry levels right
-  pub uneven : IsUnevenFork left entry right
-  pub settled : (h : ℕ) → IsSettled left.height right.height h → NotLower whole.height h
+-- a node of which a side is exchanged
+module _ {whole : Branch} {node : Node} (at : IsNode whole node) (side : Branch) where
+  pub sides-left : is_sorted key_cmp (joined side (entry_in node) node.right) ≡ true → HasMany side → HoldsSides side (entry_in node) node.right
+  sides-left rising many = record { rising = rising; many_left = many; many_right = at.root.fork.sides.many_right }
 
-abbrev pub Exchanged : Branch → List Entry → Bool → Option (Box Node Global) → Type 0
-Exchanged whole after changed None = ⊥
-Exchanged whole after changed (Some node) =
-    IsExchanged whole after changed node.value.left (entry_in node.value) node.value.height node.value.right
+  pub sides-right : is_sorted key_cmp (joined node.left (entry_in node) side) ≡ true → HasMany side → HoldsSides node.left (entry_in node) side
+  sides-right rising many = record { rising = rising; many_left = at.root.fork.sides.many_left; many_right = many }
 
-module _ (whole : Branch) (after : List Entry) (changed : Bool) where
-  pub entries_of : (root : Option (Box Node Global)) → Exchanged whole after changed root → (branch_of root).entries ≡ after
-  entries_of None s = absurd s
-  entries_of (Some node) s = s.entries
+  -- it leans as before where the side is as high, and where the side grew, as if the other had grown too
+  pub leans-left : side.height ≡ node.left.height → Leans node.lean side.height node.right.height
+  leans-left same = subst (λ h. Leans node.lean h node.right.height) (sym same) at.lean
 
-  pub height_of : (root : Option (Box Node Global)) → Exchanged whole after changed root → (branch_of root).height ≡ whole.height
-  height_of None s = absurd s
-  height_of (Some node) s = s.height
+  pub leans-right : side.height ≡ node.right.height → Leans node.lean node.left.height side.height
+  leans-right same = subst (λ h. Leans node.lean node.left.height h) (sym same) at.lean
 
-  pub kept_of : (root : Option (Box Node Global)) → Exchanged whole after changed root → changed ≡ false → IsBalanced root
-  kept_of None s same = absurd s
-  kept_of (Some node) s same = s.kept same
+  pub tilts-left : side.height ≡ node.left.height + 1 → Leans node.lean side.height (node.right.height + 1)
+  tilts-left same =
+      subst (λ h. Leans node.lean h (node.right.height + 1)) (sym same) (leans-higher node.lean node.left.height node.right.height at.lean)
 
-  pub uneven_of : (root : Option (Box Node Global)) → Exchanged whole after changed root → IsUneven root
-  uneven_of None s = absurd s
-  uneven_of (Some node) s = s.uneven
+  pub tilts-right : side.height ≡ node.right.height + 1 → Leans node.lean (node.left.height + 1) side.height
+  tilts-right same =
+      subst (λ h. Leans node.lean (node.left.height + 1) h) (sym same) (leans-higher node.lean node.left.height node.right.height at.lean)
 
-  pub settled_of : (root : Option (Box Node Global)) → Exchanged whole after changed root → (h : ℕ) → SettlesTo root h → NotLower whole.height h
-  settled_of None s = absurd s
-  settled_of (Some node) s = s.settled
+  -- where the side is a level lower, the other is a level higher than the node says
+  pub sinks-left : node.left.height ≡ side.height + 1 → Leans node.lean (side.height + 1) node.right.height
+  sinks-left same = subst (λ h. Leans node.lean h node.right.height) same at.lean
 
--- a node of which a side is exchanged for one that is as high or a level higher
-module _ {whole : Branch} {node : Node} (at : IsNode whole node) (side : Branch) (after : List Entry) (changed : Bool) where
-  pub exchanged-left : is_sorted key_cmp (joined side (entry_in node) node.right) ≡ true → length (joined side (entry_in node) node.right) < 2 ^ 32 →
-      joined side (entry_in node) node.right ≡ after → NotLower node.left.height side.height → (changed ≡ false → side.height ≡ node.left.height) → HasMany side →
-      IsExchanged whole after changed side (entry_in node) node.height node.right
-  exchanged-left rising fits is by same many =
-      let even = at.root.fork.even in
-      record {
-        entries = is;
-        height = at.height;
-        kept = λ kept.
-            subst (λ h. IsFork side (entry_in node) h node.right) (sym at.height)
-            (IsFork-left node.left (entry_in node) node.right whole.height side at.root.fork rising (same kept) many);
-        uneven = record { rising = rising; uneven = (omega arith, omega arith); fits = fits };
-        settled = λ h settled. settles-higher node.left.height node.right.height side.height whole.height h even at.root.fork.one_more by settled;
-      }
-
-  pub exchanged-right : is_sorted key_cmp (joined node.left (entry_in node) side) ≡ true → length (joined node.left (entry_in node) side) < 2 ^ 32 →
-      joined node.left (entry_in node) side ≡ after → NotLower node.right.height side.height → (changed ≡ false → side.height ≡ node.right.height) → HasMany side →
-      IsExchanged whole after changed node.left (entry_in node) node.height side
-  exchanged-right rising fits is by same many =
-      let even = at.root.fork.even in
-      record {
-        entries = is;
-        height = at.height;
-        kept = λ kept.
-            subst (λ h. IsFork node.left (entry_in node) h side) (sym at.height)
-            (IsFork-right node.left (entry_in node) node.right whole.height side at.root.fork rising (same kept) many);
-        uneven = record { rising = rising; uneven = (omega arith, omega arith); fits = fits };
-        settled = λ h settled.
-            settles-higher node.right.height node.left.height side.height whole.height h (even.1, even.0)
-            (at.root.fork.one_more ∙ ap (λ m. m + 1) (max_turn node.left.height node.right.height)) by
-            (IsSettled-turn node.left.height side.height h settled);
-      }
+  pub sinks-right : node.right.height ≡ side.height + 1 → Leans node.lean node.left.height (side.height + 1)
+  sinks-right same = subst (λ h. Leans node.lean node.left.height h) same at.lean
 
 module _ {whole left : Branch} {entry : Entry} {right : Branch} (root : IsRoot whole left entry right) where
   pub rising_of : is_sorted key_cmp whole.entries ≡ true
-  rising_of = ap (is_sorted key_cmp) root.entries ∙ root.fork.rising
+  rising_of = ap (is_sorted key_cmp) root.entries ∙ root.fork.sides.rising
 
   pub sides_shorter : (length left.entries < length whole.entries) × (length right.entries < length whole.entries)
   sides_shorter = let count = ap length root.entries ∙ length-append left.entries (entry ∷ right.entries) in (omega arith, omega arith)
@@ -186,13 +146,13 @@ module _ {whole left : Branch} {entry : Entry} {right : Branch} (root : IsRoot w
 
   module _ (key : Key) where
     pub find-left_of : key_cmp key entry.0 ≡ Less → find key_cmp key whole.entries ≡ find key_cmp key left.entries
-    find-left_of less = ap (find key_cmp key) root.entries ∙ find-left key_total key left.entries entry right.entries root.fork.rising less
+    find-left_of less = ap (find key_cmp key) root.entries ∙ find-left key_total key left.entries entry right.entries root.fork.sides.rising less
 
     pub find-right_of : key_cmp key entry.0 ≡ Greater → find key_cmp key whole.entries ≡ find key_cmp key right.entries
-    find-right_of more = ap (find key_cmp key) root.entries ∙ find-right key_total key left.entries entry right.entries root.fork.rising more
+    find-right_of more = ap (find key_cmp key) root.entries ∙ find-right key_total key left.entries entry right.entries root.fork.sides.rising more
 
     pub find-at_root : key_cmp key entry.0 ≡ Equal → find key_cmp key whole.entries ≡ Some entry.1
-    find-at_root same = ap (find key_cmp key) root.entries ∙ find-middle key_total key left.entries entry right.entries root.fork.rising same
+    find-at_root same = ap (find key_cmp key) root.entries ∙ find-middle key_total key left.entries entry right.entries root.fork.sides.rising same
 
     module _ (pid : ℕ) (free : find key_cmp key whole.entries ≡ None) (side : Branch) where
       pub IsPut-left : key_cmp key entry.0 ≡ Less → side.entries ≡ put key_cmp key pid left.entries → IsPut whole.entries key pid (joined side entry right)
@@ -206,7 +166,7 @@ module _ {whole left : Branch} {entry : Entry} {right : Branch} (root : IsRoot w
       IsPut-right more is =
           IsPut-from _ _ _ _ rising_of free
           (ap (λ r. left.entries ++ entry ∷ r) is
-          ∙ sym (put-right key_total key pid left.entries entry right.entries root.fork.rising more)
+          ∙ sym (put-right key_total key pid left.entries entry right.entries root.fork.sides.rising more)
           ∙ ap (put key_cmp key pid) (sym root.entries))
 
     module _ (side : Branch) where
@@ -214,20 +174,20 @@ module _ {whole left : Branch} {entry : Entry} {right : Branch} (root : IsRoot w
       IsCut-left less is =
           IsCut-from _ _ _ rising_of
           (ap (λ l. l ++ entry ∷ right.entries) is
-          ∙ sym (where_key-left key_total key left.entries entry right.entries root.fork.rising less)
+          ∙ sym (where_key-left key_total key left.entries entry right.entries root.fork.sides.rising less)
           ∙ ap (without key) (sym root.entries))
 
       pub IsCut-right : key_cmp key entry.0 ≡ Greater → side.entries ≡ without key right.entries → IsCut whole.entries key (joined left entry side)
       IsCut-right more is =
           IsCut-from _ _ _ rising_of
           (ap (λ r. left.entries ++ entry ∷ r) is
-          ∙ sym (where_key-right key_total key left.entries entry right.entries root.fork.rising more)
+          ∙ sym (where_key-right key_total key left.entries entry right.entries root.fork.sides.rising more)
           ∙ ap (without key) (sym root.entries))
 
     pub IsCut-root : key_cmp key entry.0 ≡ Equal → IsCut whole.entries key (left.entries ++ right.entries)
     IsCut-root same =
         IsCut-from _ _ _ rising_of
-        (sym (where_key-middle key_total key left.entries entry right.entries root.fork.rising same) ∙ ap (without key) (sym root.entries))
+        (sym (where_key-middle key_total key left.entries entry right.entries root.fork.sides.rising same) ∙ ap (without key) (sym root.entries))
 
     -- ---- a search for the first key above a given one, or at it
 
@@ -238,7 +198,7 @@ module _ {whole left : Branch} {entry : Entry} {right : Branch} (root : IsRoot w
       pub seek-right : reaches at (key_cmp entry.0 key) ≡ false → sought key at whole.entries ≡ sought key at right.entries
       seek-right fail =
           ap (sought key at) root.entries
-          ∙ find_passes-right key_total key (reaches at) left.entries entry right.entries root.fork.rising refl refl fail
+          ∙ find_passes-right key_total key (reaches at) left.entries entry right.entries root.fork.sides.rising refl refl fail
 
 -- what stands first where the left side is not empty
 pub first-joined : (left right : List Entry) (entry : Entry) → (left ≡ [] → ⊥) → slice_get (left ++ entry ∷ right) 0 ≡ slice_get left 0
@@ -258,3 +218,39 @@ option_or-None (Some x) = refl
 pub option_or-Some : {A : Type 0} (o : Option A) (x : A) (other : Option A) → option_or (option_or o (Some x)) other ≡ option_or o (Some x)
 option_or-Some None x other = refl
 option_or-Some (Some y) x other = refl
+
+-- a key that is not below that of a root, and stands nowhere in the tree
+pub not_below_root : {whole : Branch} {own node a : Node} {b : Bool} → IsNode whole own → a ≡ node → b ≡ is_lt (key_cmp a.key own.key) → b ≡ false →
+    find key_cmp node.key whole.entries ≡ None → key_cmp node.key own.key ≡ Greater
+not_below_root {own = own} {node = node} at a_is is fails free =
+    by_cases (key_cmp node.key own.key) refl ((λ i. is_lt (key_cmp (sym a_is i).key own.key)) ∙ sym is ∙ fails) where
+      by_cases : (r : Ordering) → key_cmp node.key own.key ≡ r → is_lt r ≡ false → r ≡ Greater
+      by_cases Less same other = absurd cc
+      by_cases Equal same other = let both = sym (find-at_root at.root node.key same) ∙ free in absurd cc
+      by_cases Greater same other = refl
+
+-- a node that takes the first entry of its right side for its own
+pub sides-raised : {whole : Branch} {node : Node} → IsNode whole node → (entry : Entry) (others : Branch) → node.right.entries ≡ entry ∷ others.entries → HasMany others →
+    HoldsSides node.left entry others
+sides-raised {node = node} at entry others is many = record {
+  rising =
+      ap (λ r. is_sorted key_cmp (node.left.entries ++ r)) (sym is)
+      ∙ (IsCut-root at.root node.key (tied_itself key_total node.key)).rising;
+  many_left = at.root.fork.sides.many_left;
+  many_right = many;
+}
+
+-- a tree with no entry has no level
+pub level-none : (branch : Branch) → HasMany branch → branch.entries ≡ [] → branch.height ≡ 0
+level-none branch many none = let count = ap length none in let low : fewest branch.height ≤ 0 = omega arith in fewest-none branch.height low
+
+pub uprooted : {old taken : Option (Box Node Global)} {node box : Box Node Global} {after : Branch} {lower : Bool} → old ≡ Some node → taken ≡ Some box →
+    IsTaken node.value box.value after lower → IsUprooted old taken after lower
+uprooted {taken = taken} {node = node} {after = after} {lower = lower} was is t =
+    subst (λ o. IsUprooted o taken after lower) (sym was) (subst (λ o. IsUprooted (Some node) o after lower) (sym is) t)
+
+-- what is left of a tree without its root
+pub left_of : (node : Node) (taken : Option (Box Node Global)) (after : Branch) (lower : Bool) → IsTakenIf node taken after lower →
+    (after.entries ≡ node.left.entries ++ node.right.entries) × (option_map (λ (n : Box Node Global). n.value.pid) taken ≡ Some node.pid)
+left_of node None after lower t = absurd t
+left_of node (Some box) after lower t = (t.entries, ap Some t.pid)

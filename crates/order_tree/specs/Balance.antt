@@ -1,6 +1,8 @@
 -- Balance: what a node stands for, and what always holds of one. No public clause cites this module.
-use Rattle.std.specs.Prelude.{◌≡◌, ℕ, zero, suc, ◌+◌, ◌^◌, ◌<◌, ◌≤◌, max, List, [], ◌∷◌, ◌++◌, length, IsTrue, Option, Some, None}
+use Rattle.std.specs.Prelude.{◌≡◌, ℕ, zero, suc, ◌+◌, ◌<◌, ◌≤◌, max, Bool, true, false, List, [], ◌∷◌, ◌++◌, length, IsTrue, Option, Some, None, if◌then◌else◌}
 use Rattle.std.specs.FinMap.{is_sorted}
+use Rattle.std.specs.declared.cmp.Ordering.{Ordering}
+use Rattle.std.specs.declared.cmp.Ordering.TheVariants.{Less, Equal, Greater}
 use Rattle.order_tree.specs.Order.{Entry, key_cmp}
 use Rattle.order_tree.specs.Branch.{Branch}
 use Rattle.order_tree.specs.declared.tree.Node.{Node}
@@ -24,7 +26,8 @@ joined left entry right = left.entries ++ entry ∷ right.entries
 -- what a tree with this root stands for
 abbrev pub branch_of : Option (Box Node Global) → Branch
 branch_of None = record { entries = []; height = 0 }
-branch_of (Some node) = record { entries = joined node.value.left (entry_in node.value) node.value.right; height = node.value.height }
+branch_of (Some node) =
+    record { entries = joined node.value.left (entry_in node.value) node.value.right; height = max node.value.left.height node.value.right.height + 1 }
 
 -- the fewest entries that a balanced tree of this height has
 abbrev pub fewest : ℕ → ℕ
@@ -32,55 +35,111 @@ fewest zero = 0
 fewest (suc zero) = 1
 fewest (suc (suc height)) = fewest (suc height) + fewest height + 1
 
--- neither number is more than this above the other
-abbrev pub DifferBy : ℕ → ℕ → ℕ → Type 0
-DifferBy most a b = (a ≤ b + most) × (b ≤ a + most)
+-- neither number is more than one above the other
+abbrev pub AreNear : ℕ → ℕ → Type 0
+AreNear a b = (a ≤ b + 1) × (b ≤ a + 1)
+
+-- how the heights of two sides compare that are near each other
+abbrev pub Leans : Ordering → ℕ → ℕ → Type 0
+Leans Less left right = left + 1 ≡ right
+Leans Equal left right = left ≡ right
+Leans Greater left right = left ≡ right + 1
+
+-- how two nodes lean that take over the sides of one that leans so
+abbrev pub split : Ordering → Ordering × Ordering
+split Less = (Greater, Equal)
+split Equal = (Equal, Equal)
+split Greater = (Equal, Less)
 
 -- a tree has as many entries as its height asks for
 abbrev pub HasMany : Branch → Type 0
 HasMany branch = fewest branch.height ≤ length branch.entries
 
--- The keys rise, the height is the right one, and the sides are nearly as high as each other, so that there are many entries.
-pub record IsFork (left : Branch) (entry : Entry) (levels : ℕ) (right : Branch) : Type 0 where
+-- a node that has no sides
+pub record IsBare (node : Node) : Type 0 where
+  pub left : node.left.entries ≡ []
+  pub right : node.right.entries ≡ []
+
+-- The keys rise, and the sides have many entries.
+pub record HoldsSides (left : Branch) (entry : Entry) (right : Branch) : Type 0 where
   pub rising : IsTrue (is_sorted key_cmp (joined left entry right))
-  pub one_more : levels ≡ max left.height right.height + 1
-  pub even : DifferBy 1 left.height right.height
   pub many_left : HasMany left
   pub many_right : HasMany right
+
+-- The height is the right one, and the sides are nearly as high as each other, so that there are many entries.
+pub record IsFork (left : Branch) (entry : Entry) (levels : ℕ) (right : Branch) : Type 0 where
+  pub sides : HoldsSides left entry right
+  pub one_more : levels ≡ max left.height right.height + 1
+  pub even : AreNear left.height right.height
   pub many : fewest levels ≤ length (joined left entry right)
+
+-- a node in balance, which says how its sides compare
+pub record IsEven (node : Node) : Type 0 where
+  pub fork : IsFork node.left (entry_in node) (max node.left.height node.right.height + 1) node.right
+  pub lean : Leans node.lean node.left.height node.right.height
 
 abbrev pub IsBalanced : Option (Box Node Global) → Type 0
 IsBalanced None = Unit {0}
-IsBalanced (Some node) = IsFork node.value.left (entry_in node.value) node.value.height node.value.right
+IsBalanced (Some node) = IsEven node.value
 
 -- a tree with this entry at its root, over these two sides
 pub record IsRoot (whole left : Branch) (entry : Entry) (right : Branch) : Type 0 where
   pub entries : whole.entries ≡ joined left entry right
   pub fork : IsFork left entry whole.height right
 
--- the height that a node settles to with sides of these heights
-pub record IsSettled (left right settled : ℕ) : Type 0 where
-  pub not_lower : max left right ≤ settled
-  pub at_most_one_higher : settled ≤ max left right + 1
-  pub one_higher : DifferBy 1 left right → settled ≡ max left right + 1
-
--- a tree as its first entry and the tree of the others, which is as high or one level lower
-pub record IsFirst (whole : Branch) (entry : Entry) (others : Branch) : Type 0 where
+-- a tree as its first entry and the tree of the others, which is a level lower or as high
+pub record IsFirst (whole : Branch) (entry : Entry) (others : Branch) (lower : Bool) : Type 0 where
   pub entries : whole.entries ≡ entry ∷ others.entries
-  pub not_higher : others.height ≤ whole.height
-  pub at_most_one_lower : whole.height ≤ others.height + 1
+  pub height : whole.height ≡ others.height + (if lower then 1 else 0)
 
--- The keys rise, and are not too many. The sides differ in height by two at most.
-pub record IsUnevenFork (left : Branch) (entry : Entry) (right : Branch) : Type 0 where
-  pub rising : IsTrue (is_sorted key_cmp (joined left entry right))
-  pub uneven : DifferBy 2 left.height right.height
-  pub fits : length (joined left entry right) < 2 ^ 32
+-- ---- a node of which a side is higher than it says
 
-abbrev pub IsUneven : Option (Box Node Global) → Type 0
-IsUneven None = Unit {0}
-IsUneven (Some node) = IsUnevenFork node.value.left (entry_in node.value) node.value.right
+-- a root whose sides compare so
+pub record IsTilted (node : Node) (left right : ℕ) : Type 0 where
+  pub sides : HoldsSides node.left (entry_in node) node.right
+  pub lean : Leans node.lean left right
 
--- the height that a root settles to
-abbrev pub SettlesTo : Option (Box Node Global) → ℕ → Type 0
-SettlesTo None settled = settled ≡ 0
-SettlesTo (Some node) settled = IsSettled node.value.left.height node.value.right.height settled
+-- its left side is a level higher, or its right side
+abbrev pub TiltsLeft : Option (Box Node Global) → Type 0
+TiltsLeft None = ⊥
+TiltsLeft (Some node) = IsTilted node.value node.value.left.height (node.value.right.height + 1)
+
+abbrev pub TiltsRight : Option (Box Node Global) → Type 0
+TiltsRight None = ⊥
+TiltsRight (Some node) = IsTilted node.value (node.value.left.height + 1) node.value.right.height
+
+-- one side is two levels higher than the other
+pub record IsHigh (node : Node) (high low : ℕ) : Type 0 where
+  pub sides : HoldsSides node.left (entry_in node) node.right
+  pub two_higher : high ≡ low + 2
+
+abbrev pub IsHighLeft : Option (Box Node Global) → Type 0
+IsHighLeft None = ⊥
+IsHighLeft (Some node) = IsHigh node.value node.value.left.height node.value.right.height
+
+abbrev pub IsHighRight : Option (Box Node Global) → Type 0
+IsHighRight None = ⊥
+IsHighRight (Some node) = IsHigh node.value node.value.right.height node.value.left.height
+
+-- the height that a root comes to where its sides are then as high as each other
+abbrev pub left_levels : Option (Box Node Global) → ℕ
+left_levels None = 0
+left_levels (Some node) = max node.value.left.height (node.value.right.height + 1)
+
+abbrev pub right_levels : Option (Box Node Global) → ℕ
+right_levels None = 0
+right_levels (Some node) = max (node.value.left.height + 1) node.value.right.height
+
+-- a tree without the entry of its root, and the node that is spare then
+pub record IsTaken (node taken : Node) (after : Branch) (lower : Bool) : Type 0 where
+  pub entries : after.entries ≡ node.left.entries ++ node.right.entries
+  pub pid : taken.pid ≡ node.pid
+  pub height : max node.left.height node.right.height + 1 ≡ after.height + (if lower then 1 else 0)
+
+abbrev pub IsTakenIf : Node → Option (Box Node Global) → Branch → Bool → Type 0
+IsTakenIf node None after lower = ⊥
+IsTakenIf node (Some taken) after lower = IsTaken node taken.value after lower
+
+abbrev pub IsUprooted : Option (Box Node Global) → Option (Box Node Global) → Branch → Bool → Type 0
+IsUprooted None taken after lower = ⊥
+IsUprooted (Some node) taken after lower = IsTakenIf node.value taken after lower

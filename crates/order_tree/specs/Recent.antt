@@ -1,5 +1,5 @@
 -- Recent: a tree beside which an entry stands that was put last. No public clause cites this module.
-use Rattle.std.specs.Prelude.{◌≡◌, ◌-◌, ◌<◌, Bool, false, Option, Some, None, IfSome, if◌then◌else◌}
+use Rattle.std.specs.Prelude.{◌≡◌, ℕ, ◌-◌, ◌<◌, ◌==◌, Bool, false, Option, Some, None, IfSome, if◌then◌else◌}
 use Rattle.std.specs.FinMap.{get, insert}
 use Rattle.std.specs.Option.{option_len}
 use Rattle.std.specs.Ordering.{is_lt, eq_by_cmp}
@@ -39,3 +39,8 @@ abbrev pub lesser : Option Entry → Option Entry → Option Entry
 lesser None other = other
 lesser (Some entry) None = Some entry
 lesser (Some entry) (Some other) = if is_lt (key_cmp entry.0 other.0) then Some entry else Some other
+
+-- the first entry of a tree from which a pid was taken: the old one, where that has another pid
+abbrev pub renewed : Option Entry → ℕ → Option Entry → Option Entry
+renewed None taken anew = None
+renewed (Some entry) taken anew = if entry.1 == taken then anew else Some entry

@@ -1,5 +1,9 @@
 //! The keys of the tree.
 
+ghost use Rattle.std.specs.Prelude.{◌≡◌};
+ghost use Rattle.std.specs.Ordering.{is_lt};
+ghost use Rattle.order_tree.specs.Order.{key_cmp};
+
 /// A key. Keys compare by group, then by class, then by rank, then by stamp.
 #[derive(Clone, Copy, PartialEq, Eq, PartialOrd, Ord)]
 pub struct Key {
@@ -21,4 +25,21 @@ impl Key {
         rank: 0,
         stamp: 0,
     };
+
+    /// Whether it stands before the other.
+    #[inline(always)]
+    pub fn is_below(&self, other: &Key) -> bool
+        ensures { result ≡ is_lt (key_cmp self.now other.now) }
+    {
+        if self.group != other.group {
+            return self.group < other.group;
+        }
+        if self.class != other.class {
+            return self.class < other.class;
+        }
+        if self.rank != other.rank {
+            return self.rank < other.rank;
+        }
+        self.stamp < other.stamp
+    }
 }

@@ -1,11 +1,11 @@
 //! The tree with the nodes that are spare. It is apart since here alone memory is taken.
 
-ghost use Rattle.std.specs.Prelude.{◌≡◌, ◌+◌, ◌*◌, ◌^◌, ◌<◌, ◌≤◌, max, None, OnOk, OnErr, if◌then◌else◌, length, vec_capacity};
+ghost use Rattle.std.specs.Prelude.{◌≡◌, ◌+◌, ◌*◌, ◌^◌, ◌<◌, ◌≤◌, max, None, OnOk, OnErr, if◌then◌else◌, length, slice_get, vec_capacity};
 ghost use Rattle.std.specs.FinMap as map;
 ghost use Rattle.cs_types.specs.Comparisons.{digits};
 ghost use Rattle.order_tree.specs.Order.{first_of, first_from, next_of};
 ghost use Rattle.order_tree.specs.Balance.{entry_at};
-ghost use Rattle.order_tree.specs.Recent.{lesser};
+ghost use Rattle.order_tree.specs.Recent.{lesser, renewed};
 
 use crate::key::Key;
 use crate::tree::{Node, Tree};
@@ -91,7 +91,7 @@ impl OrderTree {
         ensures spare { self.new.spare + 1 ≡ self.old.spare }
         ensures counted { steps.new ≤ steps.old + 2 * digits (map.len self.old.members) }
     {
-        self.first = lesser(Some((key, pid)), self.first, steps);
+        take_lesser(&mut self.first, key, pid, steps);
         let mut node = self.nodes.pop().unwrap();
         node.hold(key, pid);
         self.tree.insert(node, steps);
@@ -106,12 +106,11 @@ impl OrderTree {
         ensures spare { self.new.spare ≡ self.old.spare + (if result then 1 else 0) }
         ensures counted { steps.new ≤ steps.old + 2 * digits (map.len self.old.members) }
     {
-        let (tree, taken) = mem::replace(&mut self.tree, Tree::empty()).remove(key, steps);
-        self.tree = tree;
-        self.first = entry_of(self.tree.first());
+        let (taken, _) = self.tree.remove(key, steps);
         let Some(node) = taken else {
             return false;
         };
+        renew(&mut self.first, node.pid(), &self.tree);
         self.nodes.push(node).unwrap();
         self.count -= 1;
         self.spare += 1;
@@ -186,6 +185,35 @@ pub fn lesser<L: Ledger>(
     match left.0.cmp(&right.0) {
         Ordering::Less => one,
         _ => other,
+    }
+}
+
+/// Writes an entry where none is, or one with a greater key.
+#[inline(always)]
+fn take_lesser<L: Ledger>(first: &mut Option<(Key, Pid)>, key: Key, pid: Pid, steps: &mut Steps<L>)
+    ensures lesser { first.new ≡ lesser (Some (key, pid)) first.old }
+    ensures counted { steps.new ≤ steps.old + 1 }
+    ensures alone { first.old ≡ None → steps.new ≡ steps.old }
+{
+    if let Some((least, _)) = first {
+        steps.tick();
+        if !key.is_below(least) {
+            return;
+        }
+    }
+    *first = Some((key, pid));
+}
+
+/// Looks in the tree for the first entry anew, where the old one had the pid that was taken out.
+#[inline(always)]
+fn renew(first: &mut Option<(Key, Pid)>, taken: Pid, tree: &Tree)
+    ensures { first.new ≡ renewed first.old taken (slice_get tree.now.entries 0) }
+{
+    let Some((_, pid)) = first else {
+        return;
+    };
+    if *pid == taken {
+        *first = entry_of(tree.first());
     }
 }
 

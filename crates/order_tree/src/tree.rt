@@ -1,13 +1,13 @@
 //! The tree: its nodes, and how they keep in balance.
 
-ghost use Rattle.std.specs.Prelude.{◌≡◌, ◌+◌, ◌*◌, ◌^◌, ◌<◌, ◌≤◌, [], ◌++◌, false, length, max, ◌↔◌, IsTrue, None, MatchOption, is_some, slice_get, vec_capacity};
+ghost use Rattle.std.specs.Prelude.{◌≡◌, ◌≢◌, ◌+◌, ◌*◌, ◌≤◌, [], ◌∷◌, true, length, max, ◌↔◌, IsTrue, None, IfSome, MatchOption, if◌then◌else◌, slice_get, vec_capacity};
 ghost use Rattle.std.specs.List as list;
-ghost use Rattle.std.specs.Option.{option_or};
+ghost use Rattle.std.specs.Option.{option_map, option_or};
 ghost use Rattle.std.specs.FinMap.{find, put, is_sorted};
 ghost use Rattle.cs_types.specs.Comparisons.{digits};
 ghost use Rattle.order_tree.specs.Order.{key_cmp};
 ghost use Rattle.order_tree.specs.Branch.{without, reaches};
-ghost use Rattle.order_tree.specs.Balance.{entry_in, entry_at, joined, branch_of, HasMany, DifferBy, IsBalanced, IsUneven, IsRoot, IsSettled, SettlesTo, IsFirst};
+ghost use Rattle.order_tree.specs.Balance.{entry_in, entry_at, joined, branch_of, split, HasMany, IsBare, Leans, HoldsSides, IsBalanced, IsRoot, IsFirst, TiltsLeft, TiltsRight, IsHighLeft, IsHighRight, left_levels, right_levels, IsUprooted};
 
 use crate::key::Key;
 use cs_types::{Pid, Steps};
@@ -30,8 +30,8 @@ pub struct Node {
     left: Tree,
     key: Key,
     pid: Pid,
-    /// The number of levels from here on.
-    height: u8,
+    /// How the height of the left side compares with that of the right.
+    lean: Ordering,
     right: Tree,
 }
 
@@ -72,7 +72,7 @@ impl Node {
             left: Tree::empty(),
             key: Key::BLANK,
             pid: 0,
-            height: 0,
+            lean: Ordering::Equal,
             right: Tree::empty(),
         }
     }
@@ -82,6 +82,13 @@ impl Node {
         ensures { result ≡ entry_in self.now }
     {
         (self.key, self.pid)
+    }
+
+    /// Its pid.
+    pub fn pid(&self) -> Pid
+        ensures { result ≡ self.now.pid }
+    {
+        self.pid
     }
 
     /// Writes an entry over the node's.
@@ -102,24 +109,13 @@ impl Tree {
         Tree { root: None }
     }
 
-    /// The number of levels. A tree of many levels has many entries.
-    #[inline(always)]
-    fn height(&self) -> u8
-        ensures height { result ≡ self.now.height }
-        ensures many { HasMany self.now }
-    {
-        match &self.root {
-            None => 0,
-            Some(node) => node.height,
-        }
-    }
-
     /// The two sides of the root, and the root.
     #[inline(always)]
     fn open(self) -> Option<Parts>
         ensures none { result ≡ None → self.height ≡ 0 }
         ensures shallow { self.height ≤ 2 * digits (length self.entries) }
         ensures parts { MatchOption result (self.entries ≡ []) (λ parts. IsRoot self parts.left (entry_in parts.node.value) parts.right) }
+        ensures node { IfSome result (λ parts. IsBare parts.node.value × Leans parts.node.value.lean parts.left.height parts.right.height) }
     {
         let mut node = self.root?;
         let left = mem::replace(&mut node.left, Tree::empty());
@@ -171,21 +167,18 @@ impl Tree {
         }
     }
 
-    /// Puts the node in its place, where no entry has its key. The result tells whether the height changed.
+    /// Puts the node in its place, where no entry has its key. The result tells whether the tree is a level
+    /// higher then.
     pub fn insert<L: Ledger>(&mut self, node: Box<Node>, steps: &mut Steps<L>) -> bool
         requires free { find key_cmp node.value.key self.old.entries ≡ None }
-        requires fits { length self.old.entries + 1 < 2 ^ 32 }
         ensures entries { self.new.entries ≡ put key_cmp node.value.key node.value.pid self.old.entries }
-        ensures not_lower { self.old.height ≤ self.new.height }
-        ensures at_most_one_higher { self.new.height ≤ self.old.height + 1 }
-        ensures unchanged { result ≡ false → self.new.height ≡ self.old.height }
+        ensures height { self.new.height ≡ self.old.height + (if result then 1 else 0) }
         ensures many_before { HasMany self.old }
         ensures many { HasMany self.new }
         ensures counted { steps.new ≤ steps.old + self.old.height }
     {
         let Some(root) = &mut self.root else {
-            *self = fork(Tree::empty(), node, Tree::empty());
-            return true;
+            return plant(&mut self.root, node);
         };
         let Node {
             left,
@@ -194,28 +187,37 @@ impl Tree {
             ..
         } = &mut **root;
         steps.tick();
-        let changed = match node.key.cmp(key) {
-            Ordering::Less => left.insert(node, steps),
-            Ordering::Equal => unreachable!(),
-            Ordering::Greater => right.insert(node, steps),
-        };
-        if !changed {
+        if node.key.is_below(key) {
+            if !left.insert(node, steps) {
+                return false;
+            }
+            return lean_left(&mut self.root);
+        }
+        if !right.insert(node, steps) {
             return false;
         }
-        settle(&mut self.root)
+        lean_right(&mut self.root)
     }
 
-    /// The node of the first entry, and the tree of the others. It compares no key.
-    fn take_first(self) -> Option<(Box<Node>, Tree)>
-        requires fits { length self.entries < 2 ^ 32 }
-        ensures none { result ≡ None → self.height ≡ 0 }
-        ensures first { MatchOption result (self.entries ≡ []) (λ taken. IsFirst self (entry_in taken.0.value) taken.1) }
+    /// Takes out the node of the first entry. It compares no key. The result tells also whether the tree is a
+    /// level lower then.
+    fn take_first(&mut self) -> Option<(Box<Node>, bool)>
+        ensures none { result ≡ None → self.new ≡ self.old }
+        ensures first { MatchOption result (self.old.entries ≡ []) (λ taken. IsFirst self.old (entry_in taken.0.value) self.new taken.1) }
+        ensures many_before { HasMany self.old }
+        ensures many { HasMany self.new }
     {
-        let parts = self.open()?;
-        match parts.left.take_first() {
-            None => Some((parts.node, parts.right)),
-            Some((first, left)) => Some((first, balance(left, parts.node, parts.right))),
+        let root = self.root.as_mut()?;
+        let Node { left, right, .. } = &mut **root;
+        let Some((first, lower)) = left.take_first() else {
+            let right = mem::replace(right, Tree::empty());
+            let first = mem::replace(&mut self.root, right.root)?;
+            return Some((first, true));
+        };
+        if !lower {
+            return Some((first, false));
         }
+        Some((first, !lean_right(&mut self.root)))
     }
 
     /// Gives its nodes to the list, which has places for them. It compares no key.
@@ -232,30 +234,45 @@ impl Tree {
         parts.right.give(nodes);
     }
 
-    /// The tree without the entry at the key, and the node in which that stood. `None` comes exactly
-    /// where no entry has the key.
-    pub fn remove<L: Ledger>(self, key: &Key, steps: &mut Steps<L>) -> (Tree, Option<Box<Node>>)
-        requires fits { length self.entries < 2 ^ 32 }
-        ensures entries { result.0.entries ≡ without key.now self.entries }
-        ensures taken { is_some result.1 ≡ is_some (find key_cmp key.now self.entries) }
-        ensures not_higher { result.0.height ≤ self.height }
-        ensures at_most_one_lower { self.height ≤ result.0.height + 1 }
-        ensures shallow { self.height ≤ 2 * digits (length self.entries) }
-        ensures counted { steps.new ≤ steps.old + self.height }
+    /// Takes out the entry at the key, and gives the node that is spare then. `None` comes exactly where no
+    /// entry has the key. The result tells also whether the tree is a level lower then.
+    pub fn remove<L: Ledger>(
+        &mut self,
+        key: &Key,
+        steps: &mut Steps<L>,
+    ) -> (Option<Box<Node>>, bool)
+        ensures entries { self.new.entries ≡ without key.now self.old.entries }
+        ensures taken { option_map (λ node. node.value.pid) result.0 ≡ find key_cmp key.now self.old.entries }
+        ensures height { self.old.height ≡ self.new.height + (if result.1 then 1 else 0) }
+        ensures many_before { HasMany self.old }
+        ensures many { HasMany self.new }
+        ensures counted { steps.new ≤ steps.old + self.old.height }
     {
-        let Some(parts) = self.open() else {
-            return (Tree::empty(), None);
+        let Some(root) = &mut self.root else {
+            return (None, false);
         };
+        let Node {
+            left,
+            key: own,
+            right,
+            ..
+        } = &mut **root;
         steps.tick();
-        match key.cmp(&parts.node.key) {
+        match key.cmp(own) {
             Ordering::Less => {
-                let (left, taken) = parts.left.remove(key, steps);
-                (balance(left, parts.node, parts.right), taken)
+                let (taken, lower) = left.remove(key, steps);
+                if !lower {
+                    return (taken, false);
+                }
+                (taken, !lean_right(&mut self.root))
             }
-            Ordering::Equal => (join(parts.left, parts.right), Some(parts.node)),
+            Ordering::Equal => uproot(&mut self.root),
             Ordering::Greater => {
-                let (right, taken) = parts.right.remove(key, steps);
-                (balance(parts.left, parts.node, right), taken)
+                let (taken, lower) = right.remove(key, steps);
+                if !lower {
+                    return (taken, false);
+                }
+                (taken, !lean_left(&mut self.root))
             }
         }
     }
@@ -272,151 +289,218 @@ pub fn reaches(order: Ordering, at: bool) -> bool
     }
 }
 
-/// The tree of a node over two trees of nearly the same height.
-#[inline(always)]
-fn fork(left: Tree, mut node: Box<Node>, right: Tree) -> Tree
-    requires rising { IsTrue (is_sorted key_cmp (joined left (entry_in node.value) right)) }
-    requires even { DifferBy 1 left.height right.height }
-    requires fits { length (joined left (entry_in node.value) right) < 2 ^ 32 }
-    ensures entries { result.entries ≡ joined left (entry_in node.value) right }
-    ensures settled { IsSettled left.height right.height result.height }
+/// Puts a node where no tree is. The result tells that the height changed.
+#[inline(never)]
+fn plant(root: &mut Option<Box<Node>>, mut node: Box<Node>) -> bool
+    requires none { root.old ≡ None }
+    ensures balanced { IsBalanced root.new }
+    ensures entries { (branch_of root.new).entries ≡ entry_in node.value ∷ [] }
+    ensures height { (branch_of root.new).height ≡ 1 }
+    ensures changed { result ≡ true }
 {
-    let height = left.height().max(right.height()) + 1;
+    let leaf = &mut *node;
+    leaf.left = Tree::empty();
+    leaf.lean = Ordering::Equal;
+    leaf.right = Tree::empty();
+    *root = Some(node);
+    true
+}
+
+/// Puts a tree where none is. Nothing is let go, so a caller saves no registers for that.
+#[inline(always)]
+fn hang(place: &mut Tree, tree: Tree)
+    requires empty { place.old.entries ≡ [] }
+    ensures { place.new ≡ tree }
+{
+    let old = mem::replace(place, tree);
+    let None = old.root else { unreachable!() };
+}
+
+/// The tree of a node that has no sides, over two trees of nearly the same height.
+#[inline(always)]
+fn fork(left: Tree, mut node: Box<Node>, lean: Ordering, right: Tree) -> Tree
+    requires bare { IsBare node.value }
+    requires sides { HoldsSides left (entry_in node.value) right }
+    requires lean { Leans lean left.height right.height }
+    ensures entries { result.entries ≡ joined left (entry_in node.value) right }
+    ensures height { result.height ≡ max left.height right.height + 1 }
+    ensures many { HasMany result }
+{
     let root = &mut *node;
-    root.left = left;
-    root.height = height;
-    root.right = right;
+    hang(&mut root.left, left);
+    root.lean = lean;
+    hang(&mut root.right, right);
     Tree { root: Some(node) }
 }
 
-/// The tree of a node whose left side is two levels higher than its right: its left side is turned up.
+/// Brings a root into balance whose left side is a level higher than the root says. The result tells whether
+/// the sides then differ in height.
 #[inline(never)]
-fn lean_left(left: Tree, node: Box<Node>, right: Tree) -> Tree
-    requires rising { IsTrue (is_sorted key_cmp (joined left (entry_in node.value) right)) }
-    requires two_higher { left.height ≡ right.height + 2 }
-    requires fits { length (joined left (entry_in node.value) right) < 2 ^ 32 }
-    ensures entries { result.entries ≡ joined left (entry_in node.value) right }
-    ensures not_lower { left.height ≤ result.height }
-    ensures at_most_one_higher { result.height ≤ left.height + 1 }
+fn lean_left(root: &mut Option<Box<Node>>) -> bool
+    requires tilted { TiltsLeft root.old }
+    ensures balanced { IsBalanced root.new }
+    ensures entries { (branch_of root.new).entries ≡ (branch_of root.old).entries }
+    ensures height { (branch_of root.new).height ≡ left_levels root.old + (if result then 1 else 0) }
 {
+    let Some(node) = root else { unreachable!() };
+    match node.lean {
+        Ordering::Less => {
+            node.lean = Ordering::Equal;
+            false
+        }
+        Ordering::Equal => {
+            node.lean = Ordering::Greater;
+            true
+        }
+        Ordering::Greater => turn_right(root),
+    }
+}
+
+/// The same of a root whose right side is a level higher than the root says.
+#[inline(never)]
+fn lean_right(root: &mut Option<Box<Node>>) -> bool
+    requires tilted { TiltsRight root.old }
+    ensures balanced { IsBalanced root.new }
+    ensures entries { (branch_of root.new).entries ≡ (branch_of root.old).entries }
+    ensures height { (branch_of root.new).height ≡ right_levels root.old + (if result then 1 else 0) }
+{
+    let Some(node) = root else { unreachable!() };
+    match node.lean {
+        Ordering::Greater => {
+            node.lean = Ordering::Equal;
+            false
+        }
+        Ordering::Equal => {
+            node.lean = Ordering::Less;
+            true
+        }
+        Ordering::Less => turn_left(root),
+    }
+}
+
+/// Turns up the left side of a root, which is two levels higher than the right. The result tells whether the
+/// sides then differ in height.
+#[inline(never)]
+fn turn_right(root: &mut Option<Box<Node>>) -> bool
+    requires high { IsHighLeft root.old }
+    ensures balanced { IsBalanced root.new }
+    ensures entries { (branch_of root.new).entries ≡ (branch_of root.old).entries }
+    ensures height { (branch_of root.new).height ≡ left_levels root.old + (if result then 1 else 0) }
+{
+    let Some(mut node) = mem::replace(root, None) else {
+        unreachable!()
+    };
+    let left = mem::replace(&mut node.left, Tree::empty());
+    let right = mem::replace(&mut node.right, Tree::empty());
     let Some(outer) = left.open() else {
         unreachable!()
     };
-    if outer.left.height() >= outer.right.height() {
-        let inner = fork(outer.right, node, right);
-        return fork(outer.left, outer.node, inner);
+    match outer.node.lean {
+        Ordering::Greater => {
+            let inner = fork(outer.right, node, Ordering::Equal, right);
+            let tree = fork(outer.left, outer.node, Ordering::Equal, inner);
+            *root = tree.root;
+            false
+        }
+        Ordering::Equal => {
+            let inner = fork(outer.right, node, Ordering::Greater, right);
+            let tree = fork(outer.left, outer.node, Ordering::Less, inner);
+            *root = tree.root;
+            true
+        }
+        Ordering::Less => {
+            let Some(middle) = outer.right.open() else {
+                unreachable!()
+            };
+            let (low_lean, high_lean) = split(middle.node.lean);
+            let low = fork(outer.left, outer.node, low_lean, middle.left);
+            let high = fork(middle.right, node, high_lean, right);
+            let tree = fork(low, middle.node, Ordering::Equal, high);
+            *root = tree.root;
+            false
+        }
     }
-    let Some(middle) = outer.right.open() else {
-        unreachable!()
-    };
-    let low = fork(outer.left, outer.node, middle.left);
-    let high = fork(middle.right, node, right);
-    fork(low, middle.node, high)
 }
 
-/// The tree of a node whose right side is two levels higher than its left: its right side is turned up.
+/// Turns up the right side of a root, which is two levels higher than the left. The result tells whether the
+/// sides then differ in height.
 #[inline(never)]
-fn lean_right(left: Tree, node: Box<Node>, right: Tree) -> Tree
-    requires rising { IsTrue (is_sorted key_cmp (joined left (entry_in node.value) right)) }
-    requires two_higher { right.height ≡ left.height + 2 }
-    requires fits { length (joined left (entry_in node.value) right) < 2 ^ 32 }
-    ensures entries { result.entries ≡ joined left (entry_in node.value) right }
-    ensures not_lower { right.height ≤ result.height }
-    ensures at_most_one_higher { result.height ≤ right.height + 1 }
+fn turn_left(root: &mut Option<Box<Node>>) -> bool
+    requires high { IsHighRight root.old }
+    ensures balanced { IsBalanced root.new }
+    ensures entries { (branch_of root.new).entries ≡ (branch_of root.old).entries }
+    ensures height { (branch_of root.new).height ≡ right_levels root.old + (if result then 1 else 0) }
 {
+    let Some(mut node) = mem::replace(root, None) else {
+        unreachable!()
+    };
+    let left = mem::replace(&mut node.left, Tree::empty());
+    let right = mem::replace(&mut node.right, Tree::empty());
     let Some(outer) = right.open() else {
         unreachable!()
     };
-    if outer.right.height() >= outer.left.height() {
-        let inner = fork(left, node, outer.left);
-        return fork(inner, outer.node, outer.right);
+    match outer.node.lean {
+        Ordering::Less => {
+            let inner = fork(left, node, Ordering::Equal, outer.left);
+            let tree = fork(inner, outer.node, Ordering::Equal, outer.right);
+            *root = tree.root;
+            false
+        }
+        Ordering::Equal => {
+            let inner = fork(left, node, Ordering::Less, outer.left);
+            let tree = fork(inner, outer.node, Ordering::Greater, outer.right);
+            *root = tree.root;
+            true
+        }
+        Ordering::Greater => {
+            let Some(middle) = outer.left.open() else {
+                unreachable!()
+            };
+            let (low_lean, high_lean) = split(middle.node.lean);
+            let low = fork(left, node, low_lean, middle.left);
+            let high = fork(middle.right, outer.node, high_lean, outer.right);
+            let tree = fork(low, middle.node, Ordering::Equal, high);
+            *root = tree.root;
+            false
+        }
     }
-    let Some(middle) = outer.left.open() else {
-        unreachable!()
-    };
-    let low = fork(left, node, middle.left);
-    let high = fork(middle.right, outer.node, outer.right);
-    fork(low, middle.node, high)
 }
 
-/// The tree of a node over two trees whose heights differ by two at most.
+/// How the nodes lean that take over the sides of one that leans so.
 #[inline(always)]
-fn balance(left: Tree, node: Box<Node>, right: Tree) -> Tree
-    requires rising { IsTrue (is_sorted key_cmp (joined left (entry_in node.value) right)) }
-    requires uneven { DifferBy 2 left.height right.height }
-    requires fits { length (joined left (entry_in node.value) right) < 2 ^ 32 }
-    ensures entries { result.entries ≡ joined left (entry_in node.value) right }
-    ensures settled { IsSettled left.height right.height result.height }
+fn split(lean: Ordering) -> (Ordering, Ordering)
+    ensures { result ≡ split lean }
 {
-    let (left_height, right_height) = (left.height(), right.height());
-    if left_height > right_height + 1 {
-        lean_left(left, node, right)
-    } else if right_height > left_height + 1 {
-        lean_right(left, node, right)
-    } else {
-        fork(left, node, right)
+    match lean {
+        Ordering::Less => (Ordering::Greater, Ordering::Equal),
+        Ordering::Equal => (Ordering::Equal, Ordering::Equal),
+        Ordering::Greater => (Ordering::Equal, Ordering::Less),
     }
 }
 
-/// Brings a root into balance whose sides differ in height by two at most. The result tells whether its
-/// height changed.
-#[inline(never)]
-fn settle(root: &mut Option<Box<Node>>) -> bool
-    requires uneven { IsUneven root.old }
+/// Takes the root out of its tree. The result has its node, and tells whether the tree is a level lower then.
+fn uproot(root: &mut Option<Box<Node>>) -> (Option<Box<Node>>, bool)
+    requires some { root.old ≢ None }
+    requires balanced { IsBalanced root.old }
     ensures balanced { IsBalanced root.new }
-    ensures entries { (branch_of root.new).entries ≡ (branch_of root.old).entries }
-    ensures settled { SettlesTo root.old (branch_of root.new).height }
-    ensures unchanged { result ≡ false → (branch_of root.new).height ≡ (branch_of root.old).height }
+    ensures uprooted { IsUprooted root.old result.0 (branch_of root.new) result.1 }
 {
-    let Some(node) = root else {
-        return false;
-    };
+    let Some(node) = root else { unreachable!() };
     let Node {
         left,
-        height,
+        key,
+        pid,
         right,
         ..
     } = &mut **node;
-    let (left_height, right_height) = (left.height(), right.height());
-    if left_height > right_height + 1 || right_height > left_height + 1 {
-        return turn(root);
-    }
-    let before = mem::replace(height, left_height.max(right_height) + 1);
-    *height != before
-}
-
-/// The same, where one side is two levels higher than the other and is turned up.
-#[inline(never)]
-fn turn(root: &mut Option<Box<Node>>) -> bool
-    requires uneven { IsUneven root.old }
-    ensures balanced { IsBalanced root.new }
-    ensures entries { (branch_of root.new).entries ≡ (branch_of root.old).entries }
-    ensures settled { SettlesTo root.old (branch_of root.new).height }
-    ensures unchanged { result ≡ false → (branch_of root.new).height ≡ (branch_of root.old).height }
-{
-    let Some(mut node) = mem::replace(root, None) else {
-        return false;
+    let Some((mut first, lower)) = right.take_first() else {
+        let left = mem::replace(left, Tree::empty());
+        return (mem::replace(root, left.root), true);
     };
-    let before = node.height;
-    let left = mem::replace(&mut node.left, Tree::empty());
-    let right = mem::replace(&mut node.right, Tree::empty());
-    let tree = balance(left, node, right);
-    let changed = tree.height() != before;
-    *root = tree.root;
-    changed
-}
-
-/// The tree of the two sides of a node, without it.
-fn join(left: Tree, right: Tree) -> Tree
-    requires rising { IsTrue (is_sorted key_cmp (left.entries ++ right.entries)) }
-    requires even { DifferBy 1 left.height right.height }
-    requires fits { length (left.entries ++ right.entries) < 2 ^ 32 }
-    ensures entries { result.entries ≡ left.entries ++ right.entries }
-    ensures not_lower { max left.height right.height ≤ result.height }
-    ensures at_most_one_higher { result.height ≤ max left.height right.height + 1 }
-{
-    match right.take_first() {
-        None => left,
-        Some((first, right)) => balance(left, first, right),
+    mem::swap(key, &mut first.key);
+    mem::swap(pid, &mut first.pid);
+    if !lower {
+        return (Some(first), false);
     }
+    (Some(first), !lean_left(root))
 }

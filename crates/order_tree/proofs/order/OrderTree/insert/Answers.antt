@@ -15,10 +15,12 @@ use Rattle.order_tree.proofs.order.OrderTree.insert.Goals.{After-insert}
 popped : {A : Type 0} (before after : List A) (o : Option A) (x : A) → before ≡ after ++ option_to_list o → o ≡ Some x → length before ≡ length after + 1
 popped before after o x is some = ap length is ∙ length-append after (option_to_list o) ∙ ap (λ p. length after + length (option_to_list p)) some
 
-pub insert-requires-clause-free : goal.insert-requires-clause-free
-insert-requires-clause-free g c =
-    ap (λ (e : Entry). find key_cmp e.0 c.self.inside.tree.entries) c.hold.ensures
-    ∙ find-free c.self.inside.tree.entries c.self.invariant.rising _ (ap (λ (o : Ordered). o.members) c.self.view_is) c.args.key c.requires.free
+pub insert-requires : goal.insert-requires
+insert-requires g c = record {
+  free =
+      ap (λ (e : Entry). find key_cmp e.0 c.self.inside.tree.entries) c.hold.ensures
+      ∙ find-free c.self.inside.tree.entries c.self.invariant.rising _ (ap (λ (o : Ordered). o.members) c.self.view_is) c.args.key c.requires.free;
+}
 
 -- the key is not there
 free : (g : given.Over) (c : After-insert g) → find key_cmp c.args.key c.self.inside.tree.entries ≡ None
@@ -42,7 +44,7 @@ invariant_of-self g c =
       rising = put.rising;
       counted = omega arith;
       first =
-          c.lesser-self-inside.ensures.lesser ∙ ap (lesser (Some (c.args.key, c.args.pid))) sound.first
+          c.take_lesser.ensures.lesser ∙ ap (lesser (Some (c.args.key, c.args.pid))) sound.first
           ∙ sym (least-put (c.args.key, c.args.pid) c.self.inside.tree.entries (free g (goal.at.invariant_of-self g c).After-insert))
           ∙ ap (λ (es : List Entry). slice_get es 0) (sym put.entries);
       nodes = omega arith;
@@ -59,4 +61,4 @@ pub returns-clause-counted : goal.returns-clause-counted
 returns-clause-counted g c =
     rw (← c.self.view_is)
     (within-first c.self.inside.tree.entries c.self.invariant.rising c.self.inside.first _ _ _ c.self.inside.tree.height c.self.invariant.first
-    c.lesser-self-inside.ensures.counted c.lesser-self-inside.ensures.alone c.insert.ensures.counted c.insert.ensures.many_before)
+    c.take_lesser.ensures.counted c.take_lesser.ensures.alone c.insert.ensures.counted c.insert.ensures.many_before)

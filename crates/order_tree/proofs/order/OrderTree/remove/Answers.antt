@@ -1,47 +1,47 @@
-use Rattle.std.proofs.Common.{◌≡◌, ◌+◌, cond, length, Option, Box, Global, sym, ap, ◌∙◌, arith}
-use Rattle.std.specs.Prelude.{is_some}
+use Rattle.std.proofs.Common.{◌≡◌, ℕ, ◌+◌, true, cond, List, length, Option, Some, None, Box, Global, refl, sym, ap, ◌∙◌, arith}
+use Rattle.std.specs.Prelude.{is_some, slice_get}
+use Rattle.std.specs.Option.{option_map}
 use Rattle.std.proofs.lemmas.List.{length_push}
-use Rattle.std.specs.FinMap.{find, contains_key}
-use Rattle.order_tree.specs.Order.{Ordered, key_cmp}
-use Rattle.order_tree.specs.Branch.{Branch, without}
+use Rattle.std.specs.FinMap.{find, is_sorted}
+use Rattle.order_tree.specs.Order.{Entry, Ordered, key_cmp}
+use Rattle.order_tree.specs.Branch.{without}
+use Rattle.order_tree.specs.Recent.{renewed}
+use Rattle.order_tree.specs.declared.key.Key.{Key}
 use Rattle.order_tree.specs.declared.tree.Node.{Node}
-use Rattle.order_tree.proofs.Placed.{IsCut, IsCut-from}
-use Rattle.order_tree.proofs.Members.{map_of-without, contains_key-map_of, length-without, within}
-use Rattle.order_tree.proofs.order.OrderTree.remove.Given as given
+use Rattle.order_tree.proofs.Heights.{height-le}
+use Rattle.order_tree.proofs.Placed.{IsCut-from}
+use Rattle.order_tree.proofs.Members.{map_of-without, contains_key-map_of, length-without, within, first-without, without-none}
 use Rattle.order_tree.proofs.order.OrderTree.remove.Goals as goal
-use Rattle.order_tree.proofs.order.OrderTree.remove.Goals.{After-remove-tree}
 
--- the tree is the old one without the key
-cut : (g : given.Over) (c : After-remove-tree g) → IsCut c.self.inside.tree.entries c.args.key.now c.remove-tree.result.0.entries
-cut g c =
-    IsCut-from _ _ _ c.self.invariant.rising (c.remove-tree.ensures.entries ∙ ap (λ (b : Branch). without c.args.key.now b.entries) c.replace.ensures.value)
+-- the pid of a node, if one came out
+abbrev pid_in : Option (Box Node Global) → Option ℕ
+pid_in taken = option_map (λ (node : Box Node Global). node.value.pid) taken
 
--- a node came out where the key was there
-found : (g : given.Over) (c : After-remove-tree g) → is_some c.remove-tree.result.1 ≡ is_some (find key_cmp c.args.key.now c.self.inside.tree.entries)
-found g c = c.remove-tree.ensures.taken ∙ ap (λ (b : Branch). is_some (find key_cmp c.args.key.now b.entries)) c.replace.ensures.value
+some-pid : (taken : Option (Box Node Global)) → is_some taken ≡ is_some (pid_in taken)
+some-pid None = refl
+some-pid (Some node) = refl
 
-contains : (g : given.Over) (c : After-remove-tree g) → is_some c.remove-tree.result.1 ≡ contains_key c.args.self.now.members c.args.key.now
-contains g c =
-    found g c ∙ sym (contains_key-map_of c.self.inside.tree.entries c.self.invariant.rising _ (ap (λ (o : Ordered). o.members) c.self.view_is) c.args.key.now)
-
--- how many there are now
-counted : (g : given.Over) (c : After-remove-tree g) →
-    cond (is_some c.remove-tree.result.1) 1 0 + length c.remove-tree.result.0.entries ≡ length c.self.inside.tree.entries
-counted g c =
-    ap (λ b. cond b 1 0 + length c.remove-tree.result.0.entries) (found g c)
-    ∙ ap (λ n. cond (is_some (find key_cmp c.args.key.now c.self.inside.tree.entries)) 1 0 + n) (ap length (cut g c).entries)
-    ∙ length-without c.self.inside.tree.entries c.self.invariant.rising c.args.key.now
+-- how many there are where a node came out exactly where the key was there
+counted : (es : List Entry) → is_sorted key_cmp es ≡ true → (key : Key) (after : List Entry) (taken : Option (Box Node Global)) → after ≡ without key es →
+    pid_in taken ≡ find key_cmp key es → cond (is_some taken) 1 0 + length after ≡ length es
+counted es rising key after taken is found =
+    (λ i. cond ((some-pid taken ∙ ap is_some found) i) 1 0 + length (is i))
+    ∙ length-without es rising key
 
 -- ---- where the key was not there
 
 pub invariant_of-self : goal.invariant_of-self
 invariant_of-self g c =
-    let at = (goal.at.invariant_of-self g c).After-remove-tree in
     let sound = c.self.invariant in
-    let count = sym (ap (λ (o : Option (Box Node Global)). cond (is_some o) 1 0 + length c.remove-tree.result.0.entries) c.in_default.is) ∙ counted g at in record {
-      rising = (cut g at).rising;
+    let es = c.self.inside.tree.entries in
+    let cut = IsCut-from es c.args.key.now _ sound.rising c.remove-taken.ensures.entries in
+    let none = sym c.remove-taken.ensures.taken ∙ ap pid_in c.in_default.is in
+    let count =
+    sym (ap (λ (o : Option (Box Node Global)). cond (is_some o) 1 0 + length c.remove-taken.new.self.entries) c.in_default.is)
+    ∙ counted es sound.rising c.args.key.now c.remove-taken.new.self.entries c.remove-taken.result.0 cut.entries c.remove-taken.ensures.taken in record {
+      rising = cut.rising;
       counted = omega arith;
-      first = c.entry_of-self-inside.ensures ∙ c.first.ensures;
+      first = sound.first ∙ ap (λ (xs : List Entry). slice_get xs 0) (sym (cut.entries ∙ without-none es c.args.key.now none));
       nodes = sound.nodes;
       places = sound.places;
       few = sound.few;
@@ -49,32 +49,44 @@ invariant_of-self g c =
 
 pub returns-in_default-clause-found : goal.returns-in_default-clause-found
 returns-in_default-clause-found g c =
-    ap (λ (o : Option (Box Node Global)). is_some o) (sym c.in_default.is) ∙ contains g (goal.at.returns-in_default-clause-found g c).After-remove-tree
+    ap (λ (o : Option (Box Node Global)). is_some o) (sym c.in_default.is)
+    ∙ some-pid c.remove-taken.result.0
+    ∙ ap is_some c.remove-taken.ensures.taken
+    ∙ sym (contains_key-map_of c.self.inside.tree.entries c.self.invariant.rising _ (ap (λ (o : Ordered). o.members) c.self.view_is) c.args.key.now)
 
 pub returns-in_default-clause-members : goal.returns-in_default-clause-members
 returns-in_default-clause-members g c =
     map_of-without c.self.inside.tree.entries c.self.invariant.rising _ (ap (λ (o : Ordered). o.members) c.self.view_is) c.args.key.now _
-    (cut g (goal.at.returns-in_default-clause-members g c).After-remove-tree).entries
+    c.remove-taken.ensures.entries
 
 pub returns-in_default-clause-counted : goal.returns-in_default-clause-counted
 returns-in_default-clause-counted g c =
     rw (← c.self.view_is)
-    (within c.self.inside.tree.entries c.self.invariant.rising _ _ c.self.inside.tree.height (rw c.replace.ensures.value at c.remove-tree.ensures.counted)
-    (rw c.replace.ensures.value at c.remove-tree.ensures.shallow))
+    (within c.self.inside.tree.entries c.self.invariant.rising _ _ c.self.inside.tree.height c.remove-taken.ensures.counted
+    (height-le _ _ c.remove-taken.ensures.many_before))
 
 -- ---- where it was
 
 pub invariant_of-self-2 : goal.invariant_of-self-2
 invariant_of-self-2 g c =
-    let at = (goal.at.invariant_of-self-2 g c).After-remove-tree in
     let sound = c.self.invariant in
-    let count = sym (ap (λ (o : Option (Box Node Global)). cond (is_some o) 1 0 + length c.remove-tree.result.0.entries) c.in-Some.is) ∙ counted g at in
+    let es = c.self.inside.tree.entries in
+    let cut = IsCut-from es c.args.key.now _ sound.rising c.remove-taken.ensures.entries in
+    let found = sym c.remove-taken.ensures.taken ∙ ap pid_in c.in-Some.is in
+    let pid : c.pid.result ≡ c.in-Some.node.value.pid = c.pid.ensures ∙ ap (λ (n : Node). n.pid) c.deref.ensures in
+    let count =
+    sym (ap (λ (o : Option (Box Node Global)). cond (is_some o) 1 0 + length c.remove-taken.new.self.entries) c.in-Some.is)
+    ∙ counted es sound.rising c.args.key.now c.remove-taken.new.self.entries c.remove-taken.result.0 cut.entries c.remove-taken.ensures.taken in
     let items = rw c.unwrap.ensures at c.push.ensures.items in
     let nodes = ap length items ∙ length_push c.self.inside.nodes.items c.in-Some.node in
     let capacity = c.push.ensures.capacity in record {
-      rising = (cut g at).rising;
+      rising = cut.rising;
       counted = omega arith;
-      first = c.entry_of-self-inside.ensures ∙ c.first.ensures;
+      first =
+          c.renew.ensures
+          ∙ (λ i. renewed (sound.first i) (pid i) (slice_get (cut.entries i) 0))
+          ∙ sym (first-without es c.args.key.now c.in-Some.node.value.pid found)
+          ∙ ap (λ (xs : List Entry). slice_get xs 0) (sym cut.entries);
       nodes = omega arith;
       places = omega arith;
       few = omega arith;
@@ -82,15 +94,18 @@ invariant_of-self-2 g c =
 
 pub returns-clause-found : goal.returns-clause-found
 returns-clause-found g c =
-    ap (λ (o : Option (Box Node Global)). is_some o) (sym c.in-Some.is) ∙ contains g (goal.at.returns-clause-found g c).After-remove-tree
+    ap (λ (o : Option (Box Node Global)). is_some o) (sym c.in-Some.is)
+    ∙ some-pid c.remove-taken.result.0
+    ∙ ap is_some c.remove-taken.ensures.taken
+    ∙ sym (contains_key-map_of c.self.inside.tree.entries c.self.invariant.rising _ (ap (λ (o : Ordered). o.members) c.self.view_is) c.args.key.now)
 
 pub returns-clause-members : goal.returns-clause-members
 returns-clause-members g c =
     map_of-without c.self.inside.tree.entries c.self.invariant.rising _ (ap (λ (o : Ordered). o.members) c.self.view_is) c.args.key.now _
-    (cut g (goal.at.returns-clause-members g c).After-remove-tree).entries
+    c.remove-taken.ensures.entries
 
 pub returns-clause-counted : goal.returns-clause-counted
 returns-clause-counted g c =
     rw (← c.self.view_is)
-    (within c.self.inside.tree.entries c.self.invariant.rising _ _ c.self.inside.tree.height (rw c.replace.ensures.value at c.remove-tree.ensures.counted)
-    (rw c.replace.ensures.value at c.remove-tree.ensures.shallow))
+    (within c.self.inside.tree.entries c.self.invariant.rising _ _ c.self.inside.tree.height c.remove-taken.ensures.counted
+    (height-le _ _ c.remove-taken.ensures.many_before))

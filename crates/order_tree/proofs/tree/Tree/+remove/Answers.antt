@@ -1,66 +1,106 @@
-use Rattle.std.proofs.Common.{◌++◌, sym, ap, ◌∙◌, arith}
-use Rattle.std.specs.Prelude.{is_some}
-use Rattle.order_tree.specs.Balance.{entry_in, joined}
-use Rattle.order_tree.proofs.Placed.{compared_key, find-left_of, find-right_of, find-at_root, IsCut, IsCut-left, IsCut-right, IsCut-root}
-use Rattle.order_tree.proofs.tree.Tree.+remove.Given as given
+use Rattle.std.proofs.Common.{sym, ◌∙◌}
+use Rattle.order_tree.specs.Balance.{branch_of}
+use Rattle.order_tree.proofs.Placed.{find-left_of, find-right_of, find-at_root, IsNode-from, IsCut-left, IsCut-right, IsCut-root, sides-left, sides-right, leans-left, leans-right, sinks-left, sinks-right, left_of}
+use Rattle.order_tree.proofs.Forks.{IsEven-from}
+use Rattle.order_tree.proofs.Heights.{level_kept, level_lost}
 use Rattle.order_tree.proofs.tree.Tree.+remove.Goals as goal
-use Rattle.order_tree.proofs.tree.Tree.+remove.Goals.{After-remove-left, In-Equal, After-remove-right}
 
 -- ---- the left side
 
-left : (g : given.Over) (t : _) (c : After-remove-left g t) →
-    IsCut c.args.self.entries c.args.key.now (joined c.remove-left.result.0 (entry_in c.in-Some.parts.node.value) c.in-Some.parts.right)
-left g t c =
-    IsCut-left c.in-Some.ensures.parts c.args.key.now c.remove-left.result.0 (compared_key c.args.key.now c.deref.ensures c.in-Less.ensures) c.remove-left.ensures.entries
+pub invariant_of-self-then-not-lower : goal.invariant_of-self-then-not-lower
+invariant_of-self-then-not-lower g t c =
+    let at = IsNode-from c.self.view_is c.self.invariant c.in-Some.is c.deref_mut.ensures.value in
+    let cut = IsCut-left at.root c.args.key.now c.remove-taken.new.self (sym c.in-Less.ensures) c.remove-taken.ensures.entries in
+    IsEven-from (record c.deref_mut.result.now { left = c.remove-taken.new.self }) (sides-left at c.remove-taken.new.self cut.rising c.remove-taken.ensures.many)
+    (leans-left at c.remove-taken.new.self (level_kept _ _ c.remove-taken.ensures.height c.if-not-lower.true))
 
-pub balance-requires-clause-rising : goal.balance-requires-clause-rising
-balance-requires-clause-rising g t c = (left g t c).rising
+pub returns-then-not-lower-clause-entries : goal.returns-then-not-lower-clause-entries
+returns-then-not-lower-clause-entries g t c =
+    let at = IsNode-from c.self.view_is c.self.invariant c.in-Some.is c.deref_mut.ensures.value in
+    (IsCut-left at.root c.args.key.now c.remove-taken.new.self (sym c.in-Less.ensures) c.remove-taken.ensures.entries).entries
 
-pub balance-requires-clause-fits : goal.balance-requires-clause-fits
-balance-requires-clause-fits g t c = let count = (left g t c).count in omega arith
+pub returns-then-not-lower-clause-taken : goal.returns-then-not-lower-clause-taken
+returns-then-not-lower-clause-taken g t c =
+    let at = IsNode-from c.self.view_is c.self.invariant c.in-Some.is c.deref_mut.ensures.value in
+    c.remove-taken.ensures.taken ∙ sym (find-left_of at.root c.args.key.now (sym c.in-Less.ensures))
 
-pub returns-in-Less-clause-entries : goal.returns-in-Less-clause-entries
-returns-in-Less-clause-entries g t c = c.balance.ensures.entries ∙ (left g t (goal.at.returns-in-Less-clause-entries g t c).After-remove-left).entries
+pub returns-then-not-lower-clause-many : goal.returns-then-not-lower-clause-many
+returns-then-not-lower-clause-many g t c = (invariant_of-self-then-not-lower g t c).fork.many
 
-pub returns-in-Less-clause-taken : goal.returns-in-Less-clause-taken
-returns-in-Less-clause-taken g t c =
-    c.remove-left.ensures.taken
-    ∙ ap is_some (sym (find-left_of c.in-Some.ensures.parts c.args.key.now (compared_key c.args.key.now c.deref.ensures c.in-Less.ensures)))
+pub lean_right-requires : goal.lean_right-requires
+lean_right-requires g t c =
+    let at = IsNode-from c.self.view_is c.self.invariant c.in-Some.is c.deref_mut.ensures.value in
+    let cut = IsCut-left at.root c.args.key.now c.remove-taken.new.self (sym c.in-Less.ensures) c.remove-taken.ensures.entries in record {
+      tilted = record {
+        sides = sides-left at c.remove-taken.new.self cut.rising c.remove-taken.ensures.many;
+        lean = sinks-left at c.remove-taken.new.self (level_lost _ _ c.remove-taken.ensures.height c.if-not-lower.false);
+      };
+    }
+
+pub returns-else-not-lower-clause-entries : goal.returns-else-not-lower-clause-entries
+returns-else-not-lower-clause-entries g t c =
+    let at = IsNode-from c.self.view_is c.self.invariant c.in-Some.is c.deref_mut.ensures.value in
+    c.lean_right.ensures.entries
+    ∙ (IsCut-left at.root c.args.key.now c.remove-taken.new.self (sym c.in-Less.ensures) c.remove-taken.ensures.entries).entries
+
+pub returns-else-not-lower-clause-taken : goal.returns-else-not-lower-clause-taken
+returns-else-not-lower-clause-taken g t c =
+    let at = IsNode-from c.self.view_is c.self.invariant c.in-Some.is c.deref_mut.ensures.value in
+    c.remove-taken.ensures.taken ∙ sym (find-left_of at.root c.args.key.now (sym c.in-Less.ensures))
 
 -- ---- the root
 
-root : (g : given.Over) (t : _) (c : In-Equal g t) → IsCut c.args.self.entries c.args.key.now (c.in-Some.parts.left.entries ++ c.in-Some.parts.right.entries)
-root g t c = IsCut-root c.in-Some.ensures.parts c.args.key.now (compared_key c.args.key.now c.deref.ensures c.in-Equal.ensures)
-
-pub join-requires-clause-rising : goal.join-requires-clause-rising
-join-requires-clause-rising g t c = (root g t c).rising
-
 pub returns-in-Equal-clause-entries : goal.returns-in-Equal-clause-entries
-returns-in-Equal-clause-entries g t c = c.join.ensures.entries ∙ (root g t (goal.at.returns-in-Equal-clause-entries g t c).In-Equal).entries
+returns-in-Equal-clause-entries g t c =
+    let at = IsNode-from c.self.view_is c.self.invariant c.in-Some.is c.deref_mut.ensures.value in
+    (left_of c.deref_mut.result.now c.uproot.result.0 (branch_of c.uproot.new.root) c.uproot.result.1 c.uproot.ensures.uprooted).0
+    ∙ (IsCut-root at.root c.args.key.now (sym c.in-Equal.ensures)).entries
 
 pub returns-in-Equal-clause-taken : goal.returns-in-Equal-clause-taken
 returns-in-Equal-clause-taken g t c =
-    ap is_some (sym (find-at_root c.in-Some.ensures.parts c.args.key.now (compared_key c.args.key.now c.deref.ensures c.in-Equal.ensures)))
+    let at = IsNode-from c.self.view_is c.self.invariant c.in-Some.is c.deref_mut.ensures.value in
+    (left_of c.deref_mut.result.now c.uproot.result.0 (branch_of c.uproot.new.root) c.uproot.result.1 c.uproot.ensures.uprooted).1
+    ∙ sym (find-at_root at.root c.args.key.now (sym c.in-Equal.ensures))
 
 -- ---- the right side
 
-right : (g : given.Over) (t : _) (c : After-remove-right g t) →
-    IsCut c.args.self.entries c.args.key.now (joined c.in-Some.parts.left (entry_in c.in-Some.parts.node.value) c.remove-right.result.0)
-right g t c =
-    IsCut-right c.in-Some.ensures.parts c.args.key.now c.remove-right.result.0 (compared_key c.args.key.now c.deref.ensures c.in-Greater.ensures)
-    c.remove-right.ensures.entries
+pub invariant_of-self-then-not-lower-2 : goal.invariant_of-self-then-not-lower-2
+invariant_of-self-then-not-lower-2 g t c =
+    let at = IsNode-from c.self.view_is c.self.invariant c.in-Some.is c.deref_mut.ensures.value in
+    let cut = IsCut-right at.root c.args.key.now c.remove-taken-in-Greater.new.self (sym c.in-Greater.ensures) c.remove-taken-in-Greater.ensures.entries in
+    IsEven-from (record c.deref_mut.result.now { right = c.remove-taken-in-Greater.new.self }) (sides-right at c.remove-taken-in-Greater.new.self cut.rising c.remove-taken-in-Greater.ensures.many)
+    (leans-right at c.remove-taken-in-Greater.new.self (level_kept _ _ c.remove-taken-in-Greater.ensures.height c.if-not-lower-2.true))
 
-pub balance-requires-in-Greater-clause-rising : goal.balance-requires-in-Greater-clause-rising
-balance-requires-in-Greater-clause-rising g t c = (right g t c).rising
+pub returns-then-not-lower-2-clause-entries : goal.returns-then-not-lower-2-clause-entries
+returns-then-not-lower-2-clause-entries g t c =
+    let at = IsNode-from c.self.view_is c.self.invariant c.in-Some.is c.deref_mut.ensures.value in
+    (IsCut-right at.root c.args.key.now c.remove-taken-in-Greater.new.self (sym c.in-Greater.ensures) c.remove-taken-in-Greater.ensures.entries).entries
 
-pub balance-requires-in-Greater-clause-fits : goal.balance-requires-in-Greater-clause-fits
-balance-requires-in-Greater-clause-fits g t c = let count = (right g t c).count in omega arith
+pub returns-then-not-lower-2-clause-taken : goal.returns-then-not-lower-2-clause-taken
+returns-then-not-lower-2-clause-taken g t c =
+    let at = IsNode-from c.self.view_is c.self.invariant c.in-Some.is c.deref_mut.ensures.value in
+    c.remove-taken-in-Greater.ensures.taken ∙ sym (find-right_of at.root c.args.key.now (sym c.in-Greater.ensures))
 
-pub returns-in-Greater-clause-entries : goal.returns-in-Greater-clause-entries
-returns-in-Greater-clause-entries g t c =
-    c.balance-in-Greater.ensures.entries ∙ (right g t (goal.at.returns-in-Greater-clause-entries g t c).After-remove-right).entries
+pub returns-then-not-lower-2-clause-many : goal.returns-then-not-lower-2-clause-many
+returns-then-not-lower-2-clause-many g t c = (invariant_of-self-then-not-lower-2 g t c).fork.many
 
-pub returns-in-Greater-clause-taken : goal.returns-in-Greater-clause-taken
-returns-in-Greater-clause-taken g t c =
-    c.remove-right.ensures.taken
-    ∙ ap is_some (sym (find-right_of c.in-Some.ensures.parts c.args.key.now (compared_key c.args.key.now c.deref.ensures c.in-Greater.ensures)))
+pub lean_left-requires : goal.lean_left-requires
+lean_left-requires g t c =
+    let at = IsNode-from c.self.view_is c.self.invariant c.in-Some.is c.deref_mut.ensures.value in
+    let cut = IsCut-right at.root c.args.key.now c.remove-taken-in-Greater.new.self (sym c.in-Greater.ensures) c.remove-taken-in-Greater.ensures.entries in record {
+      tilted = record {
+        sides = sides-right at c.remove-taken-in-Greater.new.self cut.rising c.remove-taken-in-Greater.ensures.many;
+        lean = sinks-right at c.remove-taken-in-Greater.new.self (level_lost _ _ c.remove-taken-in-Greater.ensures.height c.if-not-lower-2.false);
+      };
+    }
+
+pub returns-else-not-lower-2-clause-entries : goal.returns-else-not-lower-2-clause-entries
+returns-else-not-lower-2-clause-entries g t c =
+    let at = IsNode-from c.self.view_is c.self.invariant c.in-Some.is c.deref_mut.ensures.value in
+    c.lean_left.ensures.entries
+    ∙ (IsCut-right at.root c.args.key.now c.remove-taken-in-Greater.new.self (sym c.in-Greater.ensures) c.remove-taken-in-Greater.ensures.entries).entries
+
+pub returns-else-not-lower-2-clause-taken : goal.returns-else-not-lower-2-clause-taken
+returns-else-not-lower-2-clause-taken g t c =
+    let at = IsNode-from c.self.view_is c.self.invariant c.in-Some.is c.deref_mut.ensures.value in
+    c.remove-taken-in-Greater.ensures.taken ∙ sym (find-right_of at.root c.args.key.now (sym c.in-Greater.ensures))
