@@ -1,5 +1,5 @@
 -- Balance: what a node stands for, and what always holds of one. No public clause cites this module.
-use Rattle.std.specs.Prelude.{◌≡◌, ℕ, zero, suc, ◌+◌, ◌<◌, ◌≤◌, max, Bool, true, false, List, [], ◌∷◌, ◌++◌, length, IsTrue, Option, Some, None, if◌then◌else◌}
+use Rattle.std.specs.Prelude.{◌≡◌, ℕ, zero, suc, ◌+◌, ◌≤◌, max, Bool, List, [], ◌∷◌, ◌++◌, length, IsTrue, Option, Some, None, if◌then◌else◌}
 use Rattle.std.specs.FinMap.{is_sorted}
 use Rattle.std.specs.declared.cmp.Ordering.{Ordering}
 use Rattle.std.specs.declared.cmp.Ordering.TheVariants.{Less, Equal, Greater}
@@ -58,7 +58,9 @@ HasMany branch = fewest branch.height ≤ length branch.entries
 -- a node that has no sides
 pub record IsBare (node : Node) : Type 0 where
   pub left : node.left.entries ≡ []
+  pub left_height : node.left.height ≡ 0
   pub right : node.right.entries ≡ []
+  pub right_height : node.right.height ≡ 0
 
 -- The keys rise, and the sides have many entries.
 pub record HoldsSides (left : Branch) (entry : Entry) (right : Branch) : Type 0 where

@@ -11,7 +11,6 @@ use crate::key::Key;
 use crate::tree::{Node, Tree};
 use cs_types::{OutOfMemory, Pid, Steps};
 use std::alloc::Global;
-use std::cmp::Ordering;
 use std::marker::Model;
 use std::mem;
 use std::sync::ledger::Ledger;
@@ -182,9 +181,10 @@ pub fn lesser<L: Ledger>(
         return one;
     };
     steps.tick();
-    match left.0.cmp(&right.0) {
-        Ordering::Less => one,
-        _ => other,
+    if left.0.is_below(&right.0) {
+        one
+    } else {
+        other
     }
 }
 

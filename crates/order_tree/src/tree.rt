@@ -125,7 +125,8 @@ impl Tree {
 
     /// Whether it has no entry.
     fn is_empty(&self) -> bool
-        ensures { IsTrue result ↔ self.now.entries ≡ [] }
+        ensures entries { IsTrue result ↔ self.now.entries ≡ [] }
+        ensures height { IsTrue result → self.now.height ≡ 0 }
     {
         self.root.is_none()
     }
@@ -290,7 +291,7 @@ pub fn reaches(order: Ordering, at: bool) -> bool
 }
 
 /// Puts a node where no tree is. The result tells that the height changed.
-#[inline(never)]
+#[inline(always)]
 fn plant(root: &mut Option<Box<Node>>, mut node: Box<Node>) -> bool
     requires none { root.old ≡ None }
     ensures balanced { IsBalanced root.new }
@@ -299,14 +300,48 @@ fn plant(root: &mut Option<Box<Node>>, mut node: Box<Node>) -> bool
     ensures changed { result ≡ true }
 {
     let leaf = &mut *node;
-    leaf.left = Tree::empty();
+    strip(leaf);
     leaf.lean = Ordering::Equal;
-    leaf.right = Tree::empty();
-    *root = Some(node);
+    let None = mem::replace(root, Some(node)) else {
+        unreachable!()
+    };
     true
 }
 
+/// Takes a node's sides from it, where it has any. A spare node has none.
+#[inline(always)]
+fn strip(node: &mut Node)
+    ensures bare { IsBare node.new }
+    ensures entry { entry_in node.new ≡ entry_in node.old }
+{
+    if !node.left.is_empty() || !node.right.is_empty() {
+        prune(node);
+    }
+}
+
+/// Takes a node's sides from it.
+#[inline(never)]
+fn prune(node: &mut Node)
+    ensures bare { IsBare node.new }
+    ensures entry { entry_in node.new ≡ entry_in node.old }
+{
+    node.left = Tree::empty();
+    node.right = Tree::empty();
+}
+
 /// Puts a tree where none is. Nothing is let go, so a caller saves no registers for that.
+#[inline(always)]
+fn set_root(root: &mut Option<Box<Node>>, tree: Tree)
+    requires none { root.old ≡ None }
+    ensures balanced { IsBalanced root.new }
+    ensures tree { branch_of root.new ≡ tree }
+{
+    let None = mem::replace(root, tree.root) else {
+        unreachable!()
+    };
+}
+
+/// Puts a tree where an empty one is.
 #[inline(always)]
 fn hang(place: &mut Tree, tree: Tree)
     requires empty { place.old.entries ≡ [] }
@@ -335,7 +370,7 @@ fn fork(left: Tree, mut node: Box<Node>, lean: Ordering, right: Tree) -> Tree
 
 /// Brings a root into balance whose left side is a level higher than the root says. The result tells whether
 /// the sides then differ in height.
-#[inline(never)]
+#[inline(always)]
 fn lean_left(root: &mut Option<Box<Node>>) -> bool
     requires tilted { TiltsLeft root.old }
     ensures balanced { IsBalanced root.new }
@@ -357,7 +392,7 @@ fn lean_left(root: &mut Option<Box<Node>>) -> bool
 }
 
 /// The same of a root whose right side is a level higher than the root says.
-#[inline(never)]
+#[inline(always)]
 fn lean_right(root: &mut Option<Box<Node>>) -> bool
     requires tilted { TiltsRight root.old }
     ensures balanced { IsBalanced root.new }
@@ -399,13 +434,13 @@ fn turn_right(root: &mut Option<Box<Node>>) -> bool
         Ordering::Greater => {
             let inner = fork(outer.right, node, Ordering::Equal, right);
             let tree = fork(outer.left, outer.node, Ordering::Equal, inner);
-            *root = tree.root;
+            set_root(root, tree);
             false
         }
         Ordering::Equal => {
             let inner = fork(outer.right, node, Ordering::Greater, right);
             let tree = fork(outer.left, outer.node, Ordering::Less, inner);
-            *root = tree.root;
+            set_root(root, tree);
             true
         }
         Ordering::Less => {
@@ -416,7 +451,7 @@ fn turn_right(root: &mut Option<Box<Node>>) -> bool
             let low = fork(outer.left, outer.node, low_lean, middle.left);
             let high = fork(middle.right, node, high_lean, right);
             let tree = fork(low, middle.node, Ordering::Equal, high);
-            *root = tree.root;
+            set_root(root, tree);
             false
         }
     }
@@ -443,13 +478,13 @@ fn turn_left(root: &mut Option<Box<Node>>) -> bool
         Ordering::Less => {
             let inner = fork(left, node, Ordering::Equal, outer.left);
             let tree = fork(inner, outer.node, Ordering::Equal, outer.right);
-            *root = tree.root;
+            set_root(root, tree);
             false
         }
         Ordering::Equal => {
             let inner = fork(left, node, Ordering::Less, outer.left);
             let tree = fork(inner, outer.node, Ordering::Greater, outer.right);
-            *root = tree.root;
+            set_root(root, tree);
             true
         }
         Ordering::Greater => {
@@ -460,7 +495,7 @@ fn turn_left(root: &mut Option<Box<Node>>) -> bool
             let low = fork(left, node, low_lean, middle.left);
             let high = fork(middle.right, outer.node, high_lean, outer.right);
             let tree = fork(low, middle.node, Ordering::Equal, high);
-            *root = tree.root;
+            set_root(root, tree);
             false
         }
     }

@@ -1,9 +1,8 @@
-use Rattle.std.proofs.Common.{rules, ◌≡◌, ◌+◌, ◌∷◌, ◌++◌, [], true, sym, ap, ◌∙◌, subst, refl, arith}
+use Rattle.std.proofs.Common.{rules, ◌≡◌, ◌∷◌, ◌++◌, [], true, sym, ap, ◌∙◌, subst, refl, arith}
 use Rattle.std.proofs.lemmas.List.{append-nil}
 use Rattle.order_tree.specs.Order.{Entry}
 use Rattle.order_tree.specs.Branch.{Branch}
 use Rattle.order_tree.specs.Balance.{entry_in, branch_of, IsTaken}
-use Rattle.order_tree.specs.declared.tree.Node.{Node}
 use Rattle.order_tree.proofs.Placed.{IsNode, IsNode-from, sides-raised, leans-right, sinks-right, level-none, uprooted}
 use Rattle.order_tree.proofs.Heights.{level_kept, level_lost}
 use Rattle.order_tree.proofs.Forks.{IsEven-from}

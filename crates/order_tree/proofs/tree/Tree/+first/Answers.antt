@@ -7,7 +7,7 @@ use Rattle.order_tree.proofs.tree.Tree.+first.Goals as goal
 pub returns : goal.returns
 returns t c =
     let root = IsRoot-from c.self.view_is c.self.invariant c.in-Some.is in
-    let some = not_empty c.is_empty.result c.is_empty.ensures c.if-is_empty.false in
+    let some = not_empty c.is_empty.result c.is_empty.ensures.entries c.if-is_empty.false in
     c.first.ensures
     ∙ ap (λ (n : Node). slice_get n.left.entries 0) c.deref-2.ensures
     ∙ sym (first-joined _ _ _ (λ none. some (ap (λ (n : Node). n.left.entries) c.deref.ensures ∙ none)))

@@ -1,7 +1,7 @@
-use Rattle.std.proofs.Common.{rules, ◌≡◌, ◌+◌, None, sym, ◌∙◌, arith}
+use Rattle.std.proofs.Common.{rules, ◌≡◌, None, sym, ◌∙◌, arith}
 use Rattle.std.specs.FinMap.{find}
 use Rattle.order_tree.specs.Order.{key_cmp}
-use Rattle.order_tree.proofs.Placed.{below, not_below_root, sides_shorter, find-left_of, find-right_of, IsNode, IsNode-from, IsPut-left, IsPut-right, sides-left, sides-right, leans-left, leans-right, tilts-left, tilts-right}
+use Rattle.order_tree.proofs.Placed.{below, not_below_root, sides_shorter, find-left_of, find-right_of, IsNode-from, IsPut-left, IsPut-right, sides-left, sides-right, leans-left, leans-right, tilts-left, tilts-right}
 use Rattle.order_tree.proofs.Forks.{IsEven-from}
 use Rattle.order_tree.proofs.tree.Tree.+insert.Goals as goal
 
