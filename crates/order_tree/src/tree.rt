@@ -291,7 +291,7 @@ pub fn reaches(order: Ordering, at: bool) -> bool
 }
 
 /// Puts a node where no tree is. The result tells that the height changed.
-#[inline(always)]
+#[inline(never)]
 fn plant(root: &mut Option<Box<Node>>, mut node: Box<Node>) -> bool
     requires none { root.old ≡ None }
     ensures balanced { IsBalanced root.new }
