@@ -42,16 +42,6 @@ fn touches(task: &Task, cookie: Cookie) -> u64
     u64::from(task.cookie != 0) + u64::from(cookie != 0)
 }
 
-/// The member of the group with the least pid above this one.
-fn member_after(table: &TaskTable, group: Group, after: Pid) -> Option<Task>
-    ensures some { IfSome result (λ task. group_above group after table.now.tasks ≡ task ∷ group_above group task.spec.pid table.now.tasks) }
-    ensures there { IfSome result (IsOf table.now.tasks) }
-    ensures none { IfNone result (group_above group after table.now.tasks ≡ []) }
-{
-    let next = table.next_in(group, after)?;
-    table.find(next).copied()
-}
-
 impl<Q: SiblingQueue, G: Guard> State<Q, G> {
     /// The task has the cookie, with a reference of its own, and where it runs its sibling becomes
     /// pending.
@@ -76,7 +66,7 @@ impl<Q: SiblingQueue, G: Guard> State<Q, G> {
     {
         let mut after = 0;
         for _ in 0..self.tasks.len() {
-            let Some(task) = member_after(&self.tasks, group, after) else {
+            let Some(task) = self.tasks.next_in(group, after).copied() else {
                 return;
             };
             self.set_cookie(task, cookie, steps);

@@ -92,8 +92,7 @@ fn view(task: &Task, forced: u64) -> TaskView
 fn task_after<Q: SiblingQueue, G: Guard>(state: &State<Q, G>, pid: Pid) -> Option<Task>
     ensures { (intervals : List Interval) → result ≡ task_after (room_with intervals state.now) pid }
 {
-    let next = state.tasks.next_in(Group::All, pid)?;
-    state.tasks.find(next).copied()
+    state.tasks.next_in(Group::All, pid).copied()
 }
 
 /// Makes the step of an event. The ledger of the blank is the one in which its comparisons are counted.

@@ -23,11 +23,10 @@ pub fn has_threads(table: &TaskTable, task: &Task) -> bool
     ensures { (room : RoomState) → room.tasks ≡ table.now.tasks → result ≡ has_threads room task.now }
 {
     let leader = task.spec.pid;
-    let group = Group::Threads(leader);
     task.spec.tgid == leader
         && table
-            .iter()
-            .any(|other| group.has(other) && other.spec.pid != leader)
+            .members(Group::Threads(leader))
+            .any(|other| other.spec.pid != leader)
 }
 
 /// The task with the pid, which is asleep and leads no thread group that has another member, is no longer among
@@ -50,9 +49,7 @@ pub fn end_alone(table: &mut TaskTable, refs: &mut CookieRefs, pid: Pid) -> (Tas
     ensures limit { refs.new.limit ≡ refs.old.limit }
     ensures sound { IsSound table.new }
 {
-    let task = table.find(pid).copied().unwrap();
-    let forced = table.forced(pid);
-    table.remove(pid);
+    let (task, forced) = table.remove(pid).unwrap();
     refs.put(task.cookie);
     (task, forced)
 }

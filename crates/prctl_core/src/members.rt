@@ -1,9 +1,9 @@
 //! Whose cookie a call sets, and whether its caller may access them all.
 
-ghost use Rattle.std.specs.Prelude.{◌≡◌, ℕ, ◌+◌, ◌*◌, ◌<◌, ◌^◌, ◌||◌, not, if◌then◌else◌, [], length, filter, All};
+ghost use Rattle.std.specs.Prelude.{◌≡◌, ◌+◌, ◌<◌, ◌^◌, length, filter, All};
 ghost use Rattle.cs_types.specs.Guards.{asked_each};
 ghost use Rattle.std.specs.List.{list_all};
-ghost use Rattle.cs_types.specs.Access.{may_access, asked_about};
+ghost use Rattle.cs_types.specs.Access.{may_access};
 ghost use Rattle.task_table.specs.Group.{is_in_group};
 ghost use Rattle.prctl_core.specs.Plan.{NamesMembers, NamesCaller, asked_about_all, asked_about_members_of};
 
@@ -11,24 +11,9 @@ use crate::admitted::Called;
 use crate::arguments::Scope;
 use crate::decision::Target;
 use cs_outside::Guard;
-use cs_types::{Errno, Task, TaskSpec};
+use cs_types::{Errno, TaskSpec};
 use ptrace_check::{Guards, may_access};
 use task_table::{Group, TaskTable};
-
-/// Whether the task is no member of the group, or the caller may access it. The guards are asked about a
-/// member alone, each of the at most 16 active ones at most once.
-fn passes<G: Guard>(guards: &mut Guards<G>, caller: &TaskSpec, group: Group, task: &Task) -> bool
-    requires asked { All (λ guard. guard.asked < 2 ^ 63) guards.old.guards.all }
-    ensures passes { result ≡ (not (is_in_group group task.now) || may_access guards.old.guards caller.now task.now.spec) }
-    ensures asked { guards.new.guards ≡ asked_each guards.old.guards
-        (if is_in_group group task.now then asked_about guards.old.guards caller.now task.now.spec else []) }
-    ensures counts { (bound left : ℕ) → 16 * (left + 1) < bound →
-        All (λ guard. guard.asked + 16 * (left + 1) < bound) guards.old.guards.all →
-        All (λ guard. guard.asked + 16 * left < bound) guards.new.guards.all }
-    ensures caps { guards.new.caps ≡ guards.old.caps }
-{
-    !group.has(task) || may_access(caller, &task.spec, guards)
-}
 
 /// Whether the caller may access every member of the group. They are asked by rising pid, up to the
 /// first that is refused.
@@ -44,8 +29,8 @@ fn may_access_all<G: Guard>(
     ensures asked { guards.new.guards ≡ asked_each guards.old.guards (asked_about_all guards.old.guards caller.now (filter (is_in_group group) table.now.tasks)) }
     ensures caps { guards.new.caps ≡ guards.old.caps }
 {
-    for member in table.iter() {
-        if !passes(guards, caller, group, member) {
+    for member in table.members(group) {
+        if !may_access(caller, &member.spec, guards) {
             return false;
         }
     }

@@ -98,8 +98,11 @@ fn expect_groups(rt: &impl Abort, table: &TaskTable) {
         (Group::Threads(1), 2, None),
         (Group::Process(3), 0, Some(3)),
     ] {
-        assert!(rt; table.next_in(group, after) == next, "after {after}");
+        let pid = table.next_in(group, after).map(|task| task.spec.pid);
+        assert!(rt; pid == next, "after {after}");
     }
+    let threads = table.members(Group::Threads(1));
+    assert!(rt; threads.map(|task| task.spec.pid).eq([1, 2]));
 }
 
 #[test]

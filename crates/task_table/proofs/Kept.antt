@@ -6,7 +6,7 @@ use Rattle.std.proofs.lemmas.Bool.{ne_eqb}
 use Rattle.slab.specs.Slab.{Slab, get, slab_len, Updates, with_value}
 use Rattle.slab.proofs.SlabLemmas.{ContainsKey-within}
 use Rattle.std.proofs.lemmas.List.Sums.{sum_by-set}
-use Rattle.std.proofs.lemmas.List.{length-set, length-map}
+use Rattle.std.proofs.lemmas.List.{length-set, length-map, map-set, set-get_or}
 use Rattle.std.proofs.Math.Seq.{map-set_same}
 use Rattle.cs_types.specs.declared.task.Task.{Task}
 use Rattle.cs_types.specs.declared.task.TaskSpec.{TaskSpec}
@@ -15,11 +15,11 @@ use Rattle.task_table.specs.declared.entry.Entry.{Entry}
 use Rattle.task_table.specs.Table.{pid_of, Table, Rises, add_answer}
 use Rattle.task_table.specs.declared.fault.AddFault.TheVariants.{Full}
 use Rattle.task_table.specs.Positions.{IsAt, IsGap}
-use Rattle.task_table.specs.Inside.{slot_of, tasks_at, totals_of, IsKept}
+use Rattle.task_table.specs.Inside.{slot_of, tasks_at, totals_of, groups_of, groups_told, TellGroups, IsWalk, IsKept}
 use Rattle.task_table.proofs.Rising.{find_at, find_none, none_gap, without_at, with_at, inserted_gap, rises_insert, rises_remove, rises_set, pids_set, at_within, split_within}
 use Rattle.task_table.proofs.Tables.{changed_each}
 use Rattle.task_table.proofs.Totals.{total-none}
-use Rattle.task_table.proofs.Slots.{insert_both, remove_both, length_both, listed, slot_at, others_elsewhere, holds_insert, holds_remove, holds_set}
+use Rattle.task_table.proofs.Slots.{insert_both, remove_both, length_both, listed, filled, slot_at, others_elsewhere, holds_insert, holds_remove, holds_set}
 
 -- the task at the position of a pid has it
 pub at_some : (pid position : ℕ) (tasks : List Task) → IsAt pid position tasks →
@@ -28,6 +28,22 @@ at_some pid position [] at = absurd at
 at_some pid zero (task ∷ rest) at = (task, refl, at.0)
 at_some pid (suc position) (task ∷ rest) at = at_some pid position rest at.1
 
+-- the entry with the groups of this task
+abbrev pub with_groups : Task → Entry → Entry
+with_groups task entry = record entry { tgid = task.spec.tgid; pgid = task.spec.pgid }
+
+-- the entry at a position tells the groups of the task there
+groups_at : (entries : List Entry) (tasks : List Task) → TellGroups entries tasks → (position : ℕ) (d : Entry) (task : Task) →
+    position < length entries → slice_get tasks position ≡ Some task → groups_told (get_or entries position d) ≡ groups_of task
+groups_at [] tasks tell position d task within is = absurd (omega arith)
+groups_at (entry ∷ entries) [] tell position d task within is = absurd cc
+groups_at (entry ∷ entries) (first ∷ tasks) tell zero d task within is =
+    let same : first ≡ task = cc in
+    let head : groups_told entry ≡ groups_of first = cc in
+    head ∙ ap groups_of same
+groups_at (entry ∷ entries) (first ∷ tasks) tell (suc position) d task within is =
+    groups_at entries tasks (cc) position d task (omega arith) is
+
 module _ {slots : Slab Task} {entries : List Entry} {room limit : ℕ} {tasks : List Task} (kept : IsKept slots entries room limit tasks) where
   -- what is kept is what the slots hold
   pub kept_view : tasks_at slots entries ≡ tasks
@@ -35,6 +51,10 @@ module _ {slots : Slab Task} {entries : List Entry} {room limit : ℕ} {tasks : 
 
   pub kept_again : IsKept slots entries room limit (tasks_at slots entries)
   kept_again = subst (IsKept slots entries room limit) (sym kept_view) kept
+
+  -- a walk over all entries
+  pub kept_walk : IsWalk slots entries
+  kept_walk = record { filled = filled slots entries tasks kept.holds; groups = kept.groups ∙ ap (map groups_of) (sym kept_view) }
 
   pub kept_length : length entries ≡ length tasks
   kept_length = length_both (λ entry. entry.pid) pid_of entries tasks kept.index
@@ -61,10 +81,10 @@ module _ {slots : Slab Task} {entries : List Entry} {room limit : ℕ} {tasks : 
   -- a task goes into an empty slot, and an entry for it into its gap
   pub kept_insert : (new : Slab Task) (after : List Entry) (more key position : ℕ) (task : Task) → IsGap task.spec.pid position tasks →
       get slots key ≡ None → Updates slots new key (Some task) → slab_len new ≡ slab_len slots + 1 → new.capacity ≡ slots.capacity →
-      room ≤ more → length entries ≢ limit → after ≡ insert entries position (record { pid = task.spec.pid; key = key; forced = 0 }) →
+      room ≤ more → length entries ≢ limit → after ≡ insert entries position (record { pid = task.spec.pid; tgid = task.spec.tgid; pgid = task.spec.pgid; key = key; forced = 0 }) →
       IsKept new after more limit (inserted task tasks)
   kept_insert new after more key position task gap empty updates longer same_room more_room free is =
-      let entry : Entry = record { pid = task.spec.pid; key = key; forced = 0 } in
+      let entry : Entry = record { pid = task.spec.pid; tgid = task.spec.tgid; pgid = task.spec.pgid; key = key; forced = 0 } in
       let inside = gap_in_entries task.spec.pid position gap in
       let long : length after ≡ length entries + 1 = ap length is ∙ length-insert entries position entry inside in
       let there = sym (inserted_gap task position tasks gap) in
@@ -74,6 +94,7 @@ module _ {slots : Slab Task} {entries : List Entry} {room limit : ℕ} {tasks : 
         holds = subst (λ es. map (λ (e : Entry). get new e.key) es ≡ map Some (inserted task tasks)) (sym is)
             (holds_insert slots new key task empty updates entries tasks position entry refl kept.holds ∙ ap (map Some) there);
         index = index;
+        groups = ap (map groups_told) is ∙ insert_both groups_told groups_of entries tasks position entry task kept.groups refl ∙ ap (map groups_of) there;
         sound = record {
           rising = subst Rises there (rises_insert task 0 position tasks kept.sound.rising (omega arith) gap);
           known = λ pid none. total-none pid after (inserted task tasks) index none;
@@ -102,6 +123,7 @@ module _ {slots : Slab Task} {entries : List Entry} {room limit : ℕ} {tasks : 
             ∙ holds_remove slots new entry.key there.0 there.1 updates entries tasks position (subst (λ p. IsAt p position tasks) (sym there.2) at) kept.holds
             ∙ ap (map Some) without;
         index = index;
+        groups = ap (map groups_told) is ∙ remove_both groups_told groups_of entries tasks position kept.groups ∙ ap (map groups_of) without;
         sound = record {
           rising = subst Rises without (rises_remove pid 0 position tasks kept.sound.rising at);
           known = λ other none. total-none other after _ index none;
@@ -115,12 +137,13 @@ module _ {slots : Slab Task} {entries : List Entry} {room limit : ℕ} {tasks : 
 
   -- the entry of a pid gets another total
   pub kept_entry : (position : ℕ) (old new : Entry) → old ≡ get_or entries position old → new.pid ≡ old.pid → new.key ≡ old.key →
-      IsKept slots (set entries position new) room limit tasks
-  kept_entry position old new is pid key =
+      groups_told new ≡ groups_told old → IsKept slots (set entries position new) room limit tasks
+  kept_entry position old new is pid key groups =
       let index = map-set_same (λ (e : Entry). e.pid) entries position new old (pid ∙ ap (λ (e : Entry). e.pid) is) ∙ kept.index in
       record {
         holds = map-set_same (slot_of slots) entries position new old (ap (get slots) key ∙ ap (slot_of slots) is) ∙ kept.holds;
         index = index;
+        groups = map-set_same groups_told entries position new old (groups ∙ ap groups_told is) ∙ kept.groups;
         sound = record {
           rising = kept.sound.rising;
           known = λ pid none. total-none pid (set entries position new) tasks index none;
@@ -132,31 +155,44 @@ module _ {slots : Slab Task} {entries : List Entry} {room limit : ℕ} {tasks : 
         room_for_tasks = kept.room_for_tasks;
       }
 
-  -- the slot of a pid gets another task with the pid
-  pub kept_set : (new : Slab Task) (position : ℕ) (entry : Entry) (task : Task) → IsAt task.spec.pid position tasks →
+  -- the slot of a pid gets another task with the pid, and the entry its groups
+  pub kept_set : (new : Slab Task) (after : List Entry) (position : ℕ) (entry : Entry) (task : Task) → IsAt task.spec.pid position tasks →
       entry ≡ get_or entries position entry → Updates slots new entry.key (Some task) → slab_len new ≡ slab_len slots →
-      new.capacity ≡ slots.capacity →
-      IsKept new entries room limit (map (λ other. cond (has_pid task.spec.pid other) task other) tasks)
-  kept_set new position entry task at here updates same_length same_room =
+      new.capacity ≡ slots.capacity → after ≡ set entries position (with_groups task entry) →
+      IsKept new after room limit (map (λ other. cond (has_pid task.spec.pid other) task other) tasks)
+  kept_set new after position entry task at here updates same_length same_room is =
+      let now = with_groups task entry in
       let there = found_some task.spec.pid position entry at here in
       let inside = position_within task.spec.pid position at in
       let with = sym (with_at task position tasks at) in
-      let index = kept.index ∙ sym (pids_set task position tasks at) ∙ ap (map pid_of) with in
+      let index = ap (map (λ (e : Entry). e.pid)) is ∙ map-set_same (λ (e : Entry). e.pid) entries position now entry (ap (λ (e : Entry). e.pid) here)
+      ∙ kept.index ∙ sym (pids_set task position tasks at) ∙ ap (map pid_of) with in
       record {
-        holds = holds_set slots new entry.key task updates entries tasks position entry inside (ap (λ (e : Entry). e.key) (sym here))
+        holds = ap (map (slot_of new)) is
+            ∙ map-set_same (slot_of new) entries position now entry (ap (slot_of new) here)
+            ∙ holds_set slots new entry.key task updates entries tasks position entry inside (ap (λ (e : Entry). e.key) (sym here))
             (others_elsewhere slots entry.key there.0 there.1 position entries tasks kept.holds (subst (λ p. IsAt p position tasks) (sym there.2) at)) kept.holds
             ∙ ap (map Some) with;
         index = index;
+        groups = ap (map groups_told) is ∙ map-set groups_told entries position now ∙ ap (λ (gs : List (ℕ × ℕ)). set gs position (groups_of task)) kept.groups
+            ∙ sym (map-set groups_of tasks position task) ∙ ap (map groups_of) with;
         sound = record {
           rising = subst Rises with (rises_set task 0 position tasks kept.sound.rising at);
-          known = λ pid none. total-none pid entries _ index none;
+          known = λ pid none. total-none pid after _ index none;
           few = omega (arith, length-map tasks (λ other. cond (has_pid task.spec.pid other) task other), kept.sound.few);
           limit = kept.sound.limit;
         };
-        counted = same_length ∙ kept.counted;
+        counted = same_length ∙ kept.counted ∙ sym (ap length is ∙ length-set entries position now);
         room_for_entries = kept.room_for_entries;
         room_for_tasks = omega (arith, kept.room_for_tasks, same_room);
       }
+
+  -- the totals stay
+  pub totals_set : (after : List Entry) (position : ℕ) (entry : Entry) (task : Task) → entry ≡ get_or entries position entry →
+      after ≡ set entries position (with_groups task entry) → totals_of after ≡ totals_of entries
+  totals_set after position entry task here is =
+      let total : Entry → ℕ × ℕ = λ entry. (entry.pid, entry.forced) in
+      ap totals_of is ∙ map-set_same total entries position (with_groups task entry) entry (ap total here)
 
   -- the task in the slot of a pid remembers an occupation
   pub kept_remembered : (new : Slab Task) (pid position occupation : ℕ) (entry : Entry) (task : Task) → IsAt pid position tasks →
@@ -170,10 +206,16 @@ module _ {slots : Slab Task} {entries : List Entry} {room limit : ℕ} {tasks : 
       let is : there.0 ≡ task = cc in
       let has : task.spec.pid ≡ pid = ap pid_of (sym is) ∙ there.2 in
       let it = sym (found pid position entry at here) ∙ in_slot in
+      let told = ap groups_told here
+      ∙ groups_at entries tasks kept.groups position entry task (position_within pid position at) (sym (find_at pid position tasks at) ∙ it) in
+      let same : with_groups task entry ≡ entry = (λ i. record entry { tgid = (sym told i).0; pgid = (sym told i).1 }) in
+      let whole : entries ≡ set entries position (with_groups task entry) =
+      sym (set-get_or entries position entry) ∙ ap (set entries position) (sym here ∙ sym same) in
       subst (IsKept new entries room limit)
       (changed_each (λ t. record t { occupation = occupation }) tasks task kept.sound.rising (subst (λ n. find (has_pid n) tasks ≡ Some task) (sym has) it)
       ∙ ap (λ n. map (λ (other : Task). cond (has_pid n other) (record other { occupation = occupation }) other) tasks) has)
-      (kept_set new position entry (record task { occupation = occupation }) (subst (λ n. IsAt n position tasks) (sym has) at) here updates same_length same_room)
+      (kept_set new entries position entry (record task { occupation = occupation }) (subst (λ n. IsAt n position tasks) (sym has) at) here updates same_length same_room
+      whole)
 
 -- a write in a slot that has a task leaves how many there are
 pub slab_len-with_value : (slots : Slab Task) (key : ℕ) (old new : Task) → get slots key ≡ Some old → slab_len (with_value slots key new) ≡ slab_len slots

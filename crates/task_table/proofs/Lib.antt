@@ -3,3 +3,4 @@ pub mod Slots
 pub mod Kept
 pub mod Tables
 pub mod Totals
+pub mod Walks

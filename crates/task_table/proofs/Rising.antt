@@ -335,13 +335,6 @@ find_first q (task ∷ rest) =
       | false ↦ find_first q rest
     ]
 
--- the first member above a pid is the first from the position above it
-pub walked : (p : Task → Bool) (pid position : ℕ) (tasks : List Task) → IsAbove pid position tasks →
-    find p (drop position tasks) ≡ find (λ task. p task && ltb pid task.spec.pid) tasks
-walked p pid position tasks above =
-    find_first p (drop position tasks) ∙ ap (λ (ts : List Task). slice_get ts 0) (sym (filter_split p pid position tasks above))
-    ∙ sym (find_first (λ task. p task && ltb pid task.spec.pid) tasks)
-
 -- the members above a pid are the first of them and those above its pid
 pub walked_on : (p : Task → Bool) (pid : ℕ) (tasks : List Task) → Rises tasks → (first : Option Task) →
     first ≡ find (λ task. p task && ltb pid task.spec.pid) tasks →

@@ -1,7 +1,7 @@
 -- What the slots of the entries hold, after a write, an insert and a removal.
 use Rattle.std.proofs.Common.{Bor, ◌≡◌, ◌≢◌, ℕ, zero, suc, ◌+◌, ◌<◌, List, [], ◌∷◌, map, length, get_or, set, drop, Option, Some, None, refl, sym, ap, ◌∙◌, subst, arith}
 use Rattle.std.specs.Prelude.{insert, remove, slice_get, option_copied}
-use Rattle.std.specs.Iterator.{YieldsFirstRef}
+use Rattle.std.specs.Iterator.{YieldsFirstRef, MakesProgress, item_count}
 use Rattle.std.specs.List.{AllByRecursion}
 use Rattle.std.proofs.lemmas.List.{length-map, drop-map}
 use Rattle.slab.specs.Slab.{Slab, get, Updates}
@@ -64,19 +64,22 @@ pub holds_drop : (slots : Slab Task) (entries : List Entry) (tasks : List Task) 
 holds_drop slots entries tasks position holds =
     sym (drop-map (slot_of slots) position entries) ∙ ap (drop position) holds ∙ drop-map Some position tasks
 
--- the first entry has the first task, and the others have the others
-pub holds_first : (slots : Slab Task) (first : Entry) (others : List Entry) (tasks : List Task) → Holds slots (first ∷ others) tasks →
-    (task : Task) × (get slots first.key ≡ Some task) × (tasks ≡ task ∷ tasks_at slots others) × EachFilled slots others
-holds_first slots first others [] holds = absurd cc
-holds_first slots first others (task ∷ rest) holds =
-    let later : Holds slots others rest = cc in
-    (task, cc, ap (λ (ts : List Task). task ∷ ts) (sym (listed slots others rest later)), filled slots others rest later)
-
 -- a walk yields the task that it found
 pub steps_from : (left : List Task) (found : Option (Bor Task)) (rest : List Task) (task : Task) → option_copied found ≡ Some task →
     left ≡ task ∷ rest → YieldsFirstRef (λ (ts : List Task). ts) left found rest
 steps_from left None rest task is lefts = absurd cc
 steps_from left (Some at) rest task is lefts = let same : at.now ≡ task = cc in lefts ∙ ap (λ (t : Task). t ∷ rest) (sym same)
+
+-- and at the end nothing
+pub steps_out : (left : List Task) (found : Option (Bor Task)) → found ≡ None → left ≡ [] → YieldsFirstRef (λ (ts : List Task). ts) left found left
+steps_out left None is none = (none, none)
+steps_out left (Some at) is none = absurd cc
+
+-- so it goes on to its end
+pub goes_on : {can : List Task → Type 0} → ((left : List Task) → can left) → (left : List Task) (found : Option (Bor Task)) (rest : List Task) →
+    YieldsFirstRef (λ (ts : List Task). ts) left found rest → MakesProgress can (item_count (λ (ts : List Task). ts)) left found rest
+goes_on may left None rest steps = record { on = λ _. tt; keeps = tt; rests = λ _. tt }
+goes_on may left (Some at) rest steps = record { on = λ _. (may rest, tt, omega (arith, ap length steps)); keeps = may rest; rests = λ _. tt }
 
 -- the task at a position is in the slot of the entry there
 pub slot_at : (slots : Slab Task) (entries : List Entry) (tasks : List Task) → Holds slots entries tasks → (i : ℕ) (d : Entry) →

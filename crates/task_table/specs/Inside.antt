@@ -1,9 +1,11 @@
 -- How a table keeps its tasks: in slots, with an index of entries. No public clause cites this module.
-use Rattle.std.specs.Prelude.{◌≡◌, ℕ, ◌≤◌, List, map, length, Option, Some}
+use Rattle.std.specs.Prelude.{◌≡◌, ℕ, Bool, true, ◌==◌, ◌≤◌, List, map, length, Option, Some}
 use Rattle.std.specs.List.{filter_map}
 use Rattle.slab.specs.Slab.{Slab, get, slab_len}
 use Rattle.cs_types.specs.declared.task.Task.{Task}
 use Rattle.task_table.specs.declared.entry.Entry.{Entry}
+use Rattle.task_table.specs.declared.group.Group.{Group}
+use Rattle.task_table.specs.declared.group.Group.TheVariants.{All, Threads, Process}
 use Rattle.task_table.specs.Table.{IsSound}
 use Rattle.task_table.specs.Positions.{IsIndexOf}
 
@@ -27,10 +29,33 @@ Holds slots entries tasks = map (slot_of slots) entries ≡ map Some tasks
 abbrev pub EachFilled : Slab Task → List Entry → Type 0
 EachFilled slots entries = Holds slots entries (tasks_at slots entries)
 
+-- whether an entry tells that its task is of the group
+abbrev pub tells_group : Group → Entry → Bool
+tells_group All entry = true
+tells_group (Threads leader) entry = entry.tgid == leader
+tells_group (Process number) entry = entry.pgid == number
+
+-- the thread group and the process group of a task, and those that an entry tells
+abbrev pub groups_of : Task → ℕ × ℕ
+groups_of task = (task.spec.tgid, task.spec.pgid)
+
+abbrev pub groups_told : Entry → ℕ × ℕ
+groups_told entry = (entry.tgid, entry.pgid)
+
+-- each entry tells the groups of its task
+abbrev pub TellGroups : List Entry → List Task → Type 0
+TellGroups entries tasks = map groups_told entries ≡ map groups_of tasks
+
+-- a walk over these entries finds a task in each slot, and its groups in the entry
+pub record IsWalk (slots : Slab Task) (entries : List Entry) : Type 0 where
+  pub filled : EachFilled slots entries
+  pub groups : TellGroups entries (tasks_at slots entries)
+
 -- the entries name all slots that have a task, these tasks make a sound table, and the slots can take the limit
 pub record IsKept (slots : Slab Task) (entries : List Entry) (room limit : ℕ) (tasks : List Task) : Type 0 where
   pub holds : Holds slots entries tasks
   pub index : IsIndexOf entries tasks
+  pub groups : TellGroups entries tasks
   pub sound : IsSound (record { tasks = tasks; totals = totals_of entries; limit = limit })
   pub counted : slab_len slots ≡ length entries
   pub room_for_entries : limit ≤ room

@@ -3,18 +3,59 @@
 ghost use Rattle.std.specs.Prelude.{◌≡◌, MatchResult, List};
 ghost use Rattle.cs_types.specs.declared.task.Task.{Task as SomeTask};
 ghost use Rattle.task_table.specs.Table.{Rises};
+ghost use Rattle.std.specs.List.{position};
 ghost use Rattle.task_table.specs.Positions.{IsIndexOf, IsAt, IsGap, IsAbove};
+ghost use Rattle.task_table.specs.Inside.{tells_group};
 
-use cs_types::Pid;
+use crate::group::Group;
+use cs_types::{Pid, TaskSpec};
 
-/// Where the task with a pid is kept, and what it was charged.
+/// Where the task with a pid is kept, of which groups it is, and what it was charged. A walk over a group reads the
+/// entries alone.
 #[derive(Clone, Copy)]
 pub(crate) struct Entry {
     pub pid: Pid,
+    /// Its thread group, the pid of its leader.
+    pub tgid: Pid,
+    /// Its process group.
+    pub pgid: u32,
     /// Its slot.
     pub key: usize,
     /// What it was charged for forced idle, in ns (`core_forceidle_sum`).
     pub forced: u64,
+}
+
+impl Entry {
+    /// The entry of a task in this slot, which was charged nothing.
+    pub fn of(spec: &TaskSpec, key: usize) -> Entry
+        ensures { result ≡ record { pid = spec.now.pid; tgid = spec.now.tgid; pgid = spec.now.pgid; key = key; forced = 0 } }
+    {
+        Entry {
+            pid: spec.pid,
+            tgid: spec.tgid,
+            pgid: spec.pgid,
+            key,
+            forced: 0,
+        }
+    }
+
+    /// Whether its task is of the group.
+    pub fn is_in(&self, group: Group) -> bool
+        ensures { result ≡ tells_group group self.now }
+    {
+        match group {
+            Group::All => true,
+            Group::Threads(leader) => self.tgid == leader,
+            Group::Process(number) => self.pgid == number,
+        }
+    }
+}
+
+/// The position of the first entry of the group. `None` exactly where there is none.
+pub(crate) fn first_in(entries: &[Entry], group: Group) -> Option<usize>
+    ensures { result ≡ position (tells_group group) entries.now }
+{
+    entries.iter().position(|entry| entry.is_in(group))
 }
 
 /// The position of the entry with the pid, or the position where it would go. The entries rise by pid.

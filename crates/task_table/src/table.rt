@@ -1,13 +1,13 @@
 //! The table. It is apart since it alone keeps the slots and the index in step.
 
-ghost use Rattle.std.specs.Prelude.{◌≡◌, ℕ, ◌+◌, ◌<◌, ◌^◌, ◌≤◌, ◌==◌, ◌&&◌, nat_lt, [], ◌∷◌, length, map, drop, filter, find, not, if◌then◌else◌, IfOk, IfNone, IfSome, OnOk, OnErr, MatchResult, MatchOption, option_copied, slice_get, IsSome};
+ghost use Rattle.std.specs.Prelude.{◌≡◌, ℕ, ◌+◌, ◌<◌, ◌^◌, ◌≤◌, ◌==◌, ◌&&◌, nat_lt, [], ◌∷◌, length, map, drop, filter, find, not, Some, if◌then◌else◌, IfOk, IfNone, IfSome, OnOk, OnErr, MatchResult, MatchOption, option_copied, slice_get, IsSome};
 ghost use Rattle.std.specs.Option.{option_map};
 ghost use Rattle.cs_types.specs.Room.{asleep, inserted, has_pid};
 ghost use Rattle.cs_types.specs.declared.task.Task.{Task as SomeTask};
-ghost use Rattle.task_table.specs.Table.{Table, pid_of, total_in, IsSound, add_answer};
+ghost use Rattle.task_table.specs.Table.{Table, total_in, IsSound, add_answer};
 ghost use Rattle.task_table.specs.Group.{is_in_group, group_above};
 ghost use Rattle.task_table.specs.Walk.{WalksInOrder};
-ghost use Rattle.task_table.specs.Positions.{IsAt, IsGap};
+ghost use Rattle.task_table.specs.Positions.{IsAt, IsGap, IsAbove};
 
 use crate::entry::{Entry, position_above, position_of};
 use crate::fault::AddFault;
@@ -134,12 +134,9 @@ impl TaskTable {
             return Err(AddFault::Full(self.limit));
         }
         let key = self.slots.insert_reserved(asleep(spec));
-        let entry = Entry {
-            pid: spec.pid,
-            key,
-            forced: 0,
-        };
-        self.entries.insert(position, entry).unwrap();
+        self.entries
+            .insert(position, Entry::of(&spec, key))
+            .unwrap();
         self.places.note(&self.entries, position);
         Ok(())
     }
@@ -205,7 +202,10 @@ impl TaskTable {
         let Ok(position) = self.position_of(task.spec.pid) else {
             return None;
         };
-        let slot = &mut self.slots[self.entries[position].key];
+        let entry = &mut self.entries[position];
+        entry.tgid = task.spec.tgid;
+        entry.pgid = task.spec.pgid;
+        let slot = &mut self.slots[entry.key];
         let old = *slot;
         *slot = task;
         Some(old)
@@ -243,26 +243,25 @@ impl TaskTable {
         Some((task, entry.forced))
     }
 
-    /// The least pid above `after` of a task of the group. `None` exactly where there is none.
-    pub fn next_in(&self, group: Group, after: Pid) -> Option<Pid>
-        ensures next { result ≡ option_map pid_of (find (λ task. is_in_group group task && nat_lt after task.spec.pid) self.now.tasks) }
-        ensures rest { MatchOption result (group_above group after self.now.tasks ≡ [])
-            (λ pid. map pid_of (group_above group after self.now.tasks) ≡ pid ∷ map pid_of (group_above group pid self.now.tasks)) }
-        ensures member { IfSome result (λ pid. find (has_pid pid) self.now.tasks ≡
-            find (λ task. is_in_group group task && nat_lt after task.spec.pid) self.now.tasks) }
-        ensures sound { IsSound self.now }
+    /// The position of the first task with a greater pid, or the number of tasks.
+    fn position_above(&self, pid: Pid) -> usize
+        ensures { IsAbove pid result self.now.tasks }
     {
-        let next = self.member_above(group, after)?;
-        Some(next.spec.pid)
+        match self.noted(pid) {
+            Some(position) => position + 1,
+            None => position_above(&self.entries, pid),
+        }
     }
 
-    /// The task of the group with the least pid above `after`.
-    fn member_above(&self, group: Group, after: Pid) -> Option<&Task>
-        ensures member { option_copied result ≡ find (λ task. is_in_group group task && nat_lt after task.spec.pid) self.now.tasks }
+    /// The task of the group with the least pid above `after`. `None` exactly where there is none.
+    pub fn next_in(&self, group: Group, after: Pid) -> Option<&Task>
+        ensures next { option_copied result ≡ find (λ task. is_in_group group task && nat_lt after task.spec.pid) self.now.tasks }
+        ensures rest { MatchOption result (group_above group after self.now.tasks ≡ [])
+            (λ next. group_above group after self.now.tasks ≡ next.now ∷ group_above group next.now.spec.pid self.now.tasks) }
+        ensures there { IfSome result (λ next. find (has_pid next.now.spec.pid) self.now.tasks ≡ Some next.now) }
         ensures sound { IsSound self.now }
     {
-        self.tasks_from(position_above(&self.entries, after))
-            .find(|task| group.has(task))
+        self.members_from(group, self.position_above(after)).next()
     }
 
     /// How many tasks there are, 0 to the limit.
@@ -279,16 +278,26 @@ impl TaskTable {
         ensures runs { WalksInOrder }
         ensures sound { IsSound self.now }
     {
-        self.tasks_from(0)
+        self.members(Group::All)
     }
 
-    /// The tasks from a position on, by rising pid.
-    fn tasks_from(&self, position: usize) -> Tasks<'_>
+    /// The tasks of the group by rising pid.
+    pub fn members(&self, group: Group) -> Tasks<'_>
+        ensures members { result ≡ filter (is_in_group group) self.now.tasks }
+        ensures runs { WalksInOrder }
+        ensures sound { IsSound self.now }
+    {
+        self.members_from(group, 0)
+    }
+
+    /// The tasks of the group from a position on, by rising pid.
+    fn members_from(&self, group: Group, position: usize) -> Tasks<'_>
         requires { position ≤ length self.now.tasks }
-        ensures tasks { result ≡ drop position self.now.tasks }
+        ensures members { result ≡ filter (is_in_group group) (drop position self.now.tasks) }
         ensures sound { IsSound self.now }
     {
         Tasks {
+            group,
             entries: &self.entries[position..],
             slots: &self.slots,
         }

@@ -1,29 +1,32 @@
-//! A walk over the tasks of a table.
+//! A walk over the tasks of a group.
 
 ghost use Rattle.std.specs.Iterator.{YieldsFirstRef, item_count};
 
-use crate::entry::Entry;
+use crate::entry::{Entry, first_in};
+use crate::group::Group;
 use cs_types::Task;
 use slab::Slab;
 use std::marker::Model;
 
-/// The tasks of a table that a walk has left, by rising pid.
+/// The tasks of a group that a walk has left, by rising pid.
 #[derive(Drop)]
 pub struct Tasks<'a> {
+    pub(crate) group: Group,
     pub(crate) entries: &'a [Entry],
     pub(crate) slots: &'a Slab<Task>,
 }
 
 impl<'a> Model for Tasks<'a> {
-    ghost use Rattle.std.specs.Prelude.{List};
+    ghost use Rattle.std.specs.Prelude.{List, filter};
     ghost use Rattle.cs_types.specs.declared.task.Task.{Task as SomeTask};
-    ghost use Rattle.task_table.specs.Inside.{tasks_at, EachFilled};
+    ghost use Rattle.task_table.specs.Group.{is_in_group};
+    ghost use Rattle.task_table.specs.Inside.{tasks_at, IsWalk};
 
     ghost Value = { List SomeTask };
 
-    ghost view = { λ left. tasks_at left.slots.now left.entries.now };
+    ghost view = { λ left. filter (is_in_group left.group) (tasks_at left.slots.now left.entries.now) };
 
-    ghost invariant = { λ left. EachFilled left.slots.now left.entries.now };
+    ghost invariant = { λ left. IsWalk left.slots.now left.entries.now };
 }
 
 impl<'a> Iterator for Tasks<'a> {
@@ -34,8 +37,9 @@ impl<'a> Iterator for Tasks<'a> {
     ghost remaining = { item_count (λ left. left) };
 
     fn next(&mut self) -> Option<&'a Task> {
-        let (first, others) = self.entries.split_first()?;
-        self.entries = others;
-        self.slots.get(first.key)
+        let position = first_in(self.entries, self.group)?;
+        let key = self.entries[position].key;
+        self.entries = &self.entries[position + 1..];
+        self.slots.get(key)
     }
 }

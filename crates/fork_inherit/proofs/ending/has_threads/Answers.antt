@@ -1,16 +1,22 @@
 use Rattle.std.proofs.Common.{Bor, List, ◌∙◌, sym, ap, eqb, not, rules, tests, eq-eqb}
-use Rattle.std.specs.Prelude.{◌&&◌}
+use Rattle.std.specs.Prelude.{◌&&◌, filter}
 use Rattle.std.specs.List.{list_any}
 use Rattle.std.proofs.lemmas.Iterator.Consumers.{YieldsList-from_first}
 use Rattle.std.proofs.lemmas.Iterator.Search.{any_from_yields_List}
 use Rattle.cs_types.specs.declared.task.Task.{Task}
+use Rattle.task_table.specs.declared.group.Group.TheVariants.{Threads}
+use Rattle.task_table.specs.Group.{is_in_group}
+use Rattle.fork_inherit.proofs.Threads.{any_of_kept}
 use Rattle.fork_inherit.proofs.ending.has_threads.Goals as goal
 
 pub returns-then-task-leader : goal.returns-then-task-leader
 returns-then-task-leader c room same =
     let leader = c.args.task.now.spec.pid in
-    let is_other : Task → _ = λ (task : Task). eqb task.spec.tgid leader && not (eqb task.spec.pid leader) in
-    let walk = YieldsList-from_first (λ (x : Bor Task). x.now) (λ (left : List Task). left) c.args.table.now.tasks c.iter.ensures.tasks in
+    let tasks = c.args.table.now.tasks in
+    let is_member : Task → _ = λ (task : Task). eqb task.spec.tgid leader in
+    let is_other : Task → _ = λ (task : Task). not (eqb task.spec.pid leader) in
+    let walk = YieldsList-from_first (λ (x : Bor Task). x.now) (λ (left : List Task). left) (filter is_member tasks) c.members.ensures.members in
     any_from_yields_List is_other _ _ c.any.result c.any.ensures.ran walk (λ x b q k. search (rules, tests))
-    ∙ ap (list_any is_other) (sym same)
-    ∙ ap (λ b. b && list_any is_other room.tasks) (sym (eq-eqb _ _ c.if-task-leader.true))
+    ∙ any_of_kept is_member is_other tasks
+    ∙ ap (list_any (λ task. is_member task && is_other task)) (sym same)
+    ∙ ap (λ b. b && list_any (λ task. is_member task && is_other task) room.tasks) (sym (eq-eqb _ _ c.if-task-leader.true))

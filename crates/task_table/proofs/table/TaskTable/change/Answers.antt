@@ -1,4 +1,4 @@
-use Rattle.std.proofs.Common.{arith, ◌∙◌, sym, ap, refl, map, if◌then◌else◌}
+use Rattle.std.proofs.Common.{arith, ◌∙◌, sym, ap, refl, map, set, if◌then◌else◌}
 use Rattle.std.specs.Prelude.{vec_capacity}
 use Rattle.slab.specs.Slab.{with_value}
 use Rattle.slab.proofs.SlabLemmas.{Updates-with_value}
@@ -6,7 +6,7 @@ use Rattle.cs_types.specs.Room.{has_pid}
 use Rattle.task_table.specs.Table.{Table}
 use Rattle.task_table.specs.Inside.{IsKept}
 use Rattle.task_table.proofs.Rising.{none_gap, find_none, with_none}
-use Rattle.task_table.proofs.Kept.{kept_of, kept_again, seen_as, position_within, found, found_some, kept_set, slab_len-with_value}
+use Rattle.task_table.proofs.Kept.{kept_of, kept_again, seen_as, with_groups, position_within, found, found_some, kept_set, totals_set, slab_len-with_value}
 use Rattle.task_table.proofs.table.TaskTable.change.Goals as goal
 
 pub returns-in_default-clause-old : goal.returns-in_default-clause-old
@@ -17,25 +17,28 @@ returns-in_default-clause-changed c =
     ap (λ ts. let table : Table = record c.args.self.now { tasks = ts } in table)
     (sym (with_none c.args.task c.args.self.now.tasks (none_gap c.args.task.spec.pid _ c.args.self.now.tasks c.in_default.ensures.position)))
 
-pub index-requires : goal.index-requires
-index-requires c =
+pub index_mut-entry-requires : goal.index_mut-entry-requires
+index_mut-entry-requires c =
     omega (arith, c.self.inside.entries.ok.0, position_within (kept_of _ _ _ _ _ c.self.view_is c.self.invariant) c.args.task.spec.pid c.in-Ok.position c.in-Ok.ensures.position)
 
 pub index_mut-slot-requires : goal.index_mut-slot-requires
 index_mut-slot-requires c =
     let kept = kept_of _ _ _ _ _ c.self.view_is c.self.invariant in
-    let there = found_some kept c.args.task.spec.pid c.in-Ok.position _ c.in-Ok.ensures.position c.index.ensures in
+    let there = found_some kept c.args.task.spec.pid c.in-Ok.position _ c.in-Ok.ensures.position c.index_mut-entry.ensures.value in
     rw there.1 refl
 
-after : (c : goal.After-self-1) → IsKept (with_value c.self.inside.slots c.index.result.now.key c.args.task) c.self.inside.entries.items
+after : (c : goal.After-self-2-1) → IsKept (with_value c.self.inside.slots c.index_mut-entry.result.now.key c.args.task)
+    (set c.self.inside.entries.items c.in-Ok.position (with_groups c.args.task c.index_mut-entry.result.now))
     (vec_capacity c.self.inside.entries) c.self.inside.limit
     (map (λ other. if has_pid c.args.task.spec.pid other then c.args.task else other) c.args.self.now.tasks)
 after c =
     let kept = kept_of _ _ _ _ _ c.self.view_is c.self.invariant in
-    let there = found_some kept c.args.task.spec.pid c.in-Ok.position _ c.in-Ok.ensures.position c.index.ensures in
-    kept_set kept _ c.in-Ok.position c.index.result.now c.args.task c.in-Ok.ensures.position c.index.ensures
-    (Updates-with_value c.self.inside.slots c.index.result.now.key c.args.task (rw there.1 refl))
-    (slab_len-with_value c.self.inside.slots c.index.result.now.key there.0 c.args.task there.1) refl
+    let entry = c.index_mut-entry.result.now in
+    let here = c.index_mut-entry.ensures.value in
+    let there = found_some kept c.args.task.spec.pid c.in-Ok.position entry c.in-Ok.ensures.position here in
+    kept_set kept _ _ c.in-Ok.position entry c.args.task c.in-Ok.ensures.position here
+    (Updates-with_value c.self.inside.slots entry.key c.args.task (rw there.1 refl))
+    (slab_len-with_value c.self.inside.slots entry.key there.0 c.args.task there.1) refl refl
 
 pub invariant_of-self : goal.invariant_of-self
 invariant_of-self c = kept_again (after c)
@@ -43,11 +46,13 @@ invariant_of-self c = kept_again (after c)
 pub returns-clause-old : goal.returns-clause-old
 returns-clause-old c =
     sym c.index_mut-slot.ensures.value
-    ∙ found (kept_of _ _ _ _ _ c.self.view_is c.self.invariant) c.args.task.spec.pid c.in-Ok.position _ c.in-Ok.ensures.position c.index.ensures
+    ∙ found (kept_of _ _ _ _ _ c.self.view_is c.self.invariant) c.args.task.spec.pid c.in-Ok.position _ c.in-Ok.ensures.position c.index_mut-entry.ensures.value
 
 pub returns-clause-changed : goal.returns-clause-changed
 returns-clause-changed c =
     seen_as _ _ _ _ _ _ (after c) (ap (λ (t : Table). t.limit) c.self.view_is)
+    ∙ ap (λ totals. let table : Table = record c.args.self.now { tasks = map (λ other. if has_pid c.args.task.spec.pid other then c.args.task else other) c.args.self.now.tasks; totals = totals } in table)
+    (totals_set (kept_of _ _ _ _ _ c.self.view_is c.self.invariant) _ c.in-Ok.position c.index_mut-entry.result.now c.args.task c.index_mut-entry.ensures.value refl)
     ∙ ap (λ (t : Table). let table : Table = record c.args.self.now { tasks = map (λ other. if has_pid c.args.task.spec.pid other then c.args.task else other) c.args.self.now.tasks; totals = t.totals } in table) c.self.view_is
 
 pub returns-clause-sound : goal.returns-clause-sound

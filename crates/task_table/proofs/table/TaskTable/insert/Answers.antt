@@ -24,7 +24,7 @@ after c =
     kept_insert (kept_of _ _ _ _ _ c.self.view_is c.self.invariant) c.insert_reserved-key.new.self c.insert.new.self.items _ c.insert_reserved-key.result
     c.args.position (asleep c.args.spec) c.requires c.insert_reserved-key.ensures.was_vacant
     (rw c.asleep.ensures at c.insert_reserved-key.ensures.updates) c.insert_reserved-key.ensures.len c.insert_reserved-key.ensures.capacity
-    c.insert.ensures.capacity (λ full. c.if-len-self.false (c.len.ensures ∙ c.self.inside.entries.ok.0 ∙ full)) (rw c.unwrap.ensures at c.insert.ensures.items)
+    c.insert.ensures.capacity (λ full. c.if-len-self.false (c.len.ensures ∙ c.self.inside.entries.ok.0 ∙ full)) (rw (c.unwrap.ensures, c.of.ensures) at c.insert.ensures.items)
 
 pub invariant_of-self : goal.invariant_of-self
 invariant_of-self c = kept_again (after c)
@@ -43,6 +43,6 @@ returns-clause-sound c = (kept_again (after c)).sound
 
 pub returns-clause-totals : goal.returns-clause-totals
 returns-clause-totals c pid =
-    ap (λ (entries : List Entry). total_among (totals_of entries) pid) (rw c.unwrap.ensures at c.insert.ensures.items)
+    ap (λ (entries : List Entry). total_among (totals_of entries) pid) (rw (c.unwrap.ensures, c.of.ensures) at c.insert.ensures.items)
     ∙ total-insert pid c.args.position c.self.inside.entries.items _ refl
     ∙ ap (λ (t : Table). total_in t pid) c.self.view_is

@@ -1,20 +1,21 @@
-use Rattle.std.proofs.Common.{sym, ◌∙◌, ap, map, Some, None}
+use Rattle.std.proofs.Common.{◌≡◌}
+use Rattle.std.specs.Prelude.{◌&&◌, nat_lt, find, option_copied}
 use Rattle.task_table.specs.Group.{is_in_group}
-use Rattle.task_table.specs.Table.{pid_of}
-use Rattle.task_table.proofs.Rising.{walked_on, find_again}
+use Rattle.task_table.proofs.Rising.{split_within}
+use Rattle.task_table.proofs.Walks.{next_is, next_rest, next_there}
 use Rattle.task_table.proofs.table.TaskTable.next_in.Goals as goal
 
-pub returns-in_err-next-clause-rest : goal.returns-in_err-next-clause-rest
-returns-in_err-next-clause-rest c =
-    rw c.from_residual.ensures
-    (walked_on (is_in_group c.args.group) c.args.after c.args.self.now.tasks c.member_above.ensures.sound.rising None c.in_err-next.ensures.member)
+pub members_from-requires : goal.members_from-requires
+members_from-requires c = split_within _ _ c.position_above.result c.args.self.now.tasks c.position_above.ensures
+
+is : (c : goal.After-next) → option_copied c.next.result ≡ find (λ task. is_in_group c.args.group task && nat_lt c.args.after task.spec.pid) c.args.self.now.tasks
+is c = next_is c.args.group c.args.after c.position_above.result c.args.self.now.tasks _ c.position_above.ensures c.members_from.ensures.members c.next.result _ c.next.ensures.steps
+
+pub returns-clause-next : goal.returns-clause-next
+returns-clause-next c = is c
 
 pub returns-clause-rest : goal.returns-clause-rest
-returns-clause-rest c =
-    ap (map pid_of)
-    (walked_on (is_in_group c.args.group) c.args.after c.args.self.now.tasks c.member_above.ensures.sound.rising (Some c.in_ok-next.next.now) c.in_ok-next.ensures.member)
+returns-clause-rest c = next_rest c.args.group c.args.after c.args.self.now.tasks c.members_from.ensures.sound.rising c.next.result (is c)
 
-pub returns-clause-member : goal.returns-clause-member
-returns-clause-member c =
-    find_again _ 0 c.args.self.now.tasks c.in_ok-next.next.now c.member_above.ensures.sound.rising (sym c.in_ok-next.ensures.member)
-    ∙ c.in_ok-next.ensures.member
+pub returns-clause-there : goal.returns-clause-there
+returns-clause-there c = next_there c.args.group c.args.after c.args.self.now.tasks c.members_from.ensures.sound.rising c.next.result (is c)

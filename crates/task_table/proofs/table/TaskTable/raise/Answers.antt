@@ -34,7 +34,7 @@ overflow_add-index_mut c =
 
 after : (c : goal.After-self-1) → IsKept c.self.inside.slots (set c.self.inside.entries.items c.in-Ok.position (record c.index_mut.result.now { forced = c.index_mut.result.now.forced + c.args.share }))
     (vec_capacity c.self.inside.entries) c.self.inside.limit c.args.self.now.tasks
-after c = kept_entry (kept_of _ _ _ _ _ c.self.view_is c.self.invariant) c.in-Ok.position c.index_mut.result.now _ c.index_mut.ensures.value refl refl
+after c = kept_entry (kept_of _ _ _ _ _ c.self.view_is c.self.invariant) c.in-Ok.position c.index_mut.result.now _ c.index_mut.ensures.value refl refl refl
 
 pub invariant_of-self : goal.invariant_of-self
 invariant_of-self c = kept_again (after c)

@@ -1,22 +1,35 @@
-use Rattle.std.proofs.Common.{◌≡◌, ◌∷◌, subst, sym, ◌∙◌, Some}
-use Rattle.slab.specs.Slab.{get}
-use Rattle.cs_types.specs.declared.task.Task.{Task}
-use Rattle.task_table.specs.Inside.{tasks_at, EachFilled, Holds}
-use Rattle.task_table.proofs.Slots.{holds_first, steps_from}
+use Rattle.std.proofs.Common.{◌≡◌, ◌-◌, ◌∙◌, ◌∷◌, ◌+◌, List, length, filter, take, drop, subst, sym, ap}
+use Rattle.std.proofs.lemmas.List.{take_rest}
+use Rattle.task_table.specs.declared.entry.Entry.{Entry}
+use Rattle.task_table.specs.Group.{is_in_group}
+use Rattle.task_table.specs.Inside.{tasks_at, IsWalk}
+use Rattle.task_table.proofs.Slots.{steps_from, steps_out, goes_on}
+use Rattle.task_table.proofs.Walks.{walk_from, walked_to, walked_out}
 use Rattle.task_table.proofs.tasks.TasksIterator.next.Goals as goal
 
-first_left : (c : goal.After-get) → (task : Task) × (get c.self.inside.slots.now c.in_ok-first.first.now.key ≡ Some task)
-    × (tasks_at c.self.inside.slots.now c.self.inside.entries.now ≡ task ∷ tasks_at c.self.inside.slots.now c.in_ok-first.others.now)
-    × EachFilled c.self.inside.slots.now c.in_ok-first.others.now
-first_left c =
-    let slots = c.self.inside.slots.now in
-    holds_first slots c.in_ok-first.first.now c.in_ok-first.others.now _
-    (subst (λ es. Holds slots es (tasks_at slots c.self.inside.entries.now)) c.in_ok-first.ensures.cases.0 c.self.invariant)
+part : (c : goal.After-get) → take (length c.self.inside.entries.now - (c.in_ok-position.position + 1)) (drop (c.in_ok-position.position + 1) c.self.inside.entries.now)
+    ≡ drop (c.in_ok-position.position + 1) c.self.inside.entries.now
+part c = take_rest c.self.inside.entries.now (c.in_ok-position.position + 1)
 
 pub invariant_of-self : goal.invariant_of-self
-invariant_of-self c = (first_left c).3
+invariant_of-self c =
+    subst (IsWalk c.self.inside.slots.now) (sym (part c))
+    (walk_from c.self.inside.slots.now c.self.inside.entries.now c.self.invariant (c.in_ok-position.position + 1))
+
+pub returns-in_err-position-clause-steps : goal.returns-in_err-position-clause-steps
+returns-in_err-position-clause-steps c =
+    steps_out c.args.self.now c.from_residual.result c.from_residual.ensures
+    (sym c.self.view_is
+    ∙ walked_out c.self.inside.slots.now c.self.inside.entries.now c.self.invariant c.self.inside.group (sym c.first_in.ensures ∙ c.in_err-position.was))
 
 pub returns-clause-steps : goal.returns-clause-steps
 returns-clause-steps c =
-    let first = first_left c in
-    steps_from _ c.get.result _ first.0 (c.get.ensures ∙ first.1) (sym c.self.view_is ∙ first.2)
+    let slots = c.self.inside.slots.now in
+    let first = walked_to slots c.self.inside.entries.now c.self.invariant c.self.inside.group c.in_ok-position.position _
+    (sym c.first_in.ensures ∙ c.in_ok-position.was) in
+    steps_from _ c.get.result _ first.0 (c.get.ensures ∙ first.1)
+    (sym c.self.view_is ∙ first.2
+    ∙ ap (λ (entries : List Entry). first.0 ∷ filter (is_in_group c.self.inside.group) (tasks_at slots entries)) (sym (part c)))
+
+pub returns-clause-goes : goal.returns-clause-goes
+returns-clause-goes c = goes_on (λ _. tt) c.args.self.now c.get.result _ (returns-clause-steps c)
