@@ -1,1 +1,1 @@
-mod Threads
+mod Ends

@@ -232,6 +232,7 @@ impl TaskTable {
             record self.old { tasks = filter (λ task. not (has_pid pid task)) self.old.tasks; totals = self.new.totals } }
         ensures totals { (other : ℕ) → total_in self.new other ≡ (if other == pid then 0 else total_in self.old other) }
         ensures absent { IfNone result (self.new ≡ self.old) }
+        ensures before { IsSound self.old }
         ensures sound { IsSound self.new }
     {
         let Ok(position) = self.position_of(pid) else {
