@@ -1,6 +1,6 @@
 //! Cookies: what a plan of `prctl` sets. It is a file of its own since no other event sets one.
 
-ghost use Rattle.std.specs.Prelude.{◌≡◌, ◌+◌, ◌*◌, ◌^◌, ◌<◌, ◌≤◌, ◌∷◌, [], length, map, IfSome, IfNone};
+ghost use Rattle.std.specs.Prelude.{◌≡◌, ◌+◌, ◌*◌, ◌^◌, ◌<◌, ◌≤◌, ◌∷◌, [], length, map};
 ghost use Rattle.cs_types.specs.declared.event.Event.TheVariants.{Prctl};
 ghost use Rattle.cs_types.specs.Touches.{cookie_touches};
 ghost use Rattle.task_table.specs.Group.{group_above};
@@ -18,7 +18,7 @@ use cs_outside::Guard;
 use cs_types::{Ask, Cookie, Pid, Reply, Steps, Task};
 use prctl_core::{Planned, Target, plan};
 use std::sync::ledger::Ledger;
-use task_table::{Group, TaskTable};
+use task_table::Group;
 
 /// Each sibling that runs the task with the pid becomes pending.
 fn flag_runners<Q: Drop>(lanes: &mut [Lane<Q>], pid: Pid)
@@ -45,16 +45,16 @@ fn touches(task: &Task, cookie: Cookie) -> u64
 impl<Q: SiblingQueue, G: Guard> State<Q, G> {
     /// The task has the cookie, with a reference of its own, and where it runs its sibling becomes
     /// pending.
-    fn set_cookie<L: Ledger>(&mut self, task: Task, cookie: Cookie, steps: &mut Steps<L>)
+    fn set_cookie<L: Ledger>(&mut self, task: &Task, cookie: Cookie, steps: &mut Steps<L>)
         requires sound { IsSoundBut self.old cookie }
-        requires there { IsOf self.old.tasks.tasks task }
+        requires there { IsOf self.old.tasks.tasks task.now }
         requires touches { self.old.core.task_number + 2 < 2 ^ 64 }
-        ensures { SetsCookies self.old self.new (task ∷ []) cookie }
+        ensures { SetsCookies self.old self.new (task.now ∷ []) cookie }
     {
         self.refs.get(cookie);
         self.refs.put(task.cookie);
-        self.core.set_cookie(&mut self.tasks, &task, cookie, steps);
-        self.core.task_number += touches(&task, cookie);
+        self.core.set_cookie(&mut self.tasks, task, cookie, steps);
+        self.core.task_number += touches(task, cookie);
         flag_runners(&mut self.core.lanes, task.spec.pid);
     }
 
@@ -69,7 +69,7 @@ impl<Q: SiblingQueue, G: Guard> State<Q, G> {
             let Some(task) = self.tasks.next_in(group, after).copied() else {
                 return;
             };
-            self.set_cookie(task, cookie, steps);
+            self.set_cookie(&task, cookie, steps);
             after = task.spec.pid;
         }
     }
@@ -84,7 +84,7 @@ impl<Q: SiblingQueue, G: Guard> State<Q, G> {
             Target::Nobody => {}
             Target::One(pid) => {
                 if let Some(task) = task_of(&self.tasks, pid) {
-                    self.set_cookie(task, cookie, steps);
+                    self.set_cookie(&task, cookie, steps);
                 }
             }
             Target::Threads(tgid) => self.set_group(Group::Threads(tgid), cookie, steps),

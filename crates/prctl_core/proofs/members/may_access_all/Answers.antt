@@ -1,5 +1,7 @@
 use Rattle.std.proofs.Common.{◌≡◌, ℕ, ◌∙◌, ◌∷◌, ap, sym, subst, true, arith, length, List}
 use Rattle.std.specs.Prelude.{filter, All, ◌+◌, ◌*◌, ◌<◌, ◌^◌}
+use Rattle.std.proofs.lemmas.List.Elements.{All-weaker}
+use Rattle.std.proofs.lemmas.List.Sums.{length-filter, count_by-le-length}
 use Rattle.cs_types.specs.declared.task.Task.{Task}
 use Rattle.cs_types.specs.Guards.{GuardState, GuardList, asked_each}
 use Rattle.cs_types.specs.Access.{may_access, asked_about}
@@ -43,4 +45,15 @@ loop-member-preserved g c =
           (omega (arith, c.loop-member.invariant.left, ap (λ (tasks : List Task). length tasks) steps)) c.may_access.ensures.few
           (subst (λ (n : ℕ). All (λ (guard : GuardState). guard.asked + 16 * n < most) now.all)
           (omega (arith, ap (λ (tasks : List Task). length tasks) steps)) c.loop-member.invariant.counts));
+    }
+
+pub may_access-requires : goal.may_access-requires
+may_access-requires g c =
+    let tasks = c.args.table.now.tasks in
+    let members = filter (is_in_group c.args.group) tasks in
+    let few : length members < 2 ^ 16 = omega (arith, length-filter (is_in_group c.args.group) tasks, count_by-le-length (is_in_group c.args.group) tasks, c.requires.few) in
+    record {
+      asked = All-weaker (λ (guard : GuardState). guard.asked + 16 * length c.loop-member.member-iterator < 2 ^ 62 + 16 + 16 * length members)
+          (λ (guard : GuardState). guard.asked < 2 ^ 63)
+          (λ guard is. omega (arith, is, few)) c.loop-member.guards.guards.all c.loop-member.invariant.counts;
     }

@@ -10,7 +10,7 @@ use Rattle.prctl_core.proofs.members.may_access_all.Given as goal
 
 abbrev pub invariant-loop-member : goal.invariant-loop-member
 invariant-loop-member g l =
-    let members = filter (is_in_group l.group) l.table.tasks in
+    let members = filter (is_in_group l.fn.group) l.table.tasks in
     record {
       caps : l.guards.caps ≡ l.initial.guards.caps;
       alike : (caller target : TaskSpec) → may_access l.guards.guards caller target ≡ may_access l.initial.guards.guards caller target;

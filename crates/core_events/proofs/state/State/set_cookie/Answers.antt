@@ -28,14 +28,14 @@ pub put-requires : goal.put-requires
 put-requires g c own =
     omega (
       arith,
-      c.get.ensures.counts c.args.task.cookie,
-      own_cookie_is_live c.args.self.now.refs c.args.self.now.tasks.tasks c.args.cookie c.args.task.spec.pid c.args.task c.requires.there c.requires.sound.refs own,
+      c.get.ensures.counts c.args.task.now.cookie,
+      own_cookie_is_live c.args.self.now.refs c.args.self.now.tasks.tasks c.args.cookie c.args.task.now.spec.pid c.args.task.now c.requires.there c.requires.sound.refs own,
     )
 
 pub returns : goal.returns
 returns g c =
     let old = c.args.self.now in
-    let pid = c.args.task.spec.pid in
+    let pid = c.args.task.now.spec.pid in
     let tasks = old.tasks.tasks in
     let there = c.requires.there in
     let mid = c.set_cookie.new.self in
@@ -59,27 +59,27 @@ returns g c =
     let stays = alike_stays (mid, c.set_cookie.new.table) _ queues refl refl in
     record {
       room = λ intervals.
-          sets_one (beside_of intervals old) c.put.new.self.limit c.put.new.self.next touches (bare old.core) core old.tasks c.set_cookie.new.table c.args.task c.args.cookie
+          sets_one (beside_of intervals old) c.put.new.self.limit c.put.new.self.next touches (bare old.core) core old.tasks c.set_cookie.new.table c.args.task.now c.args.cookie
           c.requires.sound.agree.table.rising there table (c.put.ensures.limit ∙ c.get.ensures.limit) (c.put.ensures.next ∙ c.get.ensures.next) is;
-      numbers = (λ i. with_ended old.ended.items (numbers_by (is i) (table i))) ∙ ap (λ n. touched n (state_numbers old)) (touches_alone c.args.task c.args.cookie touches c.touches.ensures.touches);
+      numbers = (λ i. with_ended old.ended.items (numbers_by (is i) (table i))) ∙ ap (λ n. touched n (state_numbers old)) (touches_alone c.args.task.now c.args.cookie touches c.touches.ensures.touches);
       stays = record {
         sound = λ sound. record {
           agree = stays.agree c.set_cookie.ensures.agree;
           limit = ap (λ (t : Table). t.limit) table ∙ sound.limit;
           user_top = sound.user_top;
           pids = subst (λ (t : Table). All (λ (task : Task). IsGiven old.next_pid task.spec.pid) t.tasks) (sym table)
-              (All-replaced (λ (task : Task). IsGiven old.next_pid task.spec.pid) (record c.args.task { cookie = c.args.cookie }) tasks
-              (found_in (λ (task : Task). IsGiven old.next_pid task.spec.pid) pid tasks c.args.task sound.pids there) sound.pids);
+              (All-replaced (λ (task : Task). IsGiven old.next_pid task.spec.pid) (record c.args.task.now { cookie = c.args.cookie }) tasks
+              (found_in (λ (task : Task). IsGiven old.next_pid task.spec.pid) pid tasks c.args.task.now sound.pids there) sound.pids);
           ended = subst (λ (t : Table). All (IsGone old.next_pid t.tasks old.ended.items) old.ended.items) (sym table)
-              (All-weaker (IsGone old.next_pid tasks old.ended.items) (IsGone old.next_pid (map (replaced_by (record c.args.task { cookie = c.args.cookie })) tasks) old.ended.items)
+              (All-weaker (IsGone old.next_pid tasks old.ended.items) (IsGone old.next_pid (map (replaced_by (record c.args.task.now { cookie = c.args.cookie })) tasks) old.ended.items)
               (λ one gone. record {
                 given = gone.given;
-                absent = All-replaced (λ (task : Task). task.spec.pid ≢ one.0) (record c.args.task { cookie = c.args.cookie }) tasks
-                    (found_in (λ (task : Task). task.spec.pid ≢ one.0) pid tasks c.args.task gone.absent there) gone.absent;
+                absent = All-replaced (λ (task : Task). task.spec.pid ≢ one.0) (record c.args.task.now { cookie = c.args.cookie }) tasks
+                    (found_in (λ (task : Task). task.spec.pid ≢ one.0) pid tasks c.args.task.now gone.absent there) gone.absent;
                 alone = gone.alone;
               }) old.ended.items sound.ended);
           refs = subst (λ (t : Table). AgreeBut c.put.new.self t.tasks c.args.cookie) (sym table)
-              (AgreeBut-with_cookie old.refs c.get.new.self c.put.new.self tasks c.args.cookie pid c.args.cookie c.args.task
+              (AgreeBut-with_cookie old.refs c.get.new.self c.put.new.self tasks c.args.cookie pid c.args.cookie c.args.task.now
               (rising_pairs 0 tasks sound.agree.table.rising) there c.get.ensures.counts c.put.ensures.counts sound.refs);
         };
         siblings = ap (λ (k : Kept). k.siblings) stays.kept ∙ as_many_bare old.core mid same;

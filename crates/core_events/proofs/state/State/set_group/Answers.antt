@@ -1,4 +1,4 @@
-use Rattle.std.proofs.Common.{◌≡◌, ◌∙◌, ◌≤◌, List, [], ◌∷◌, sym, ap, refl, length, arith, ltb}
+use Rattle.std.proofs.Common.{◌≡◌, ◌∙◌, ◌≤◌, List, Some, None, [], ◌∷◌, sym, ap, refl, length, arith, ltb}
 use Rattle.std.specs.Prelude.{◌&&◌}
 use Rattle.std.proofs.lemmas.List.Sums.{length-filter, count_by-le-length}
 use Rattle.cs_types.specs.declared.task.Task.{Task}
@@ -6,7 +6,7 @@ use Rattle.cs_types.specs.Room.{RoomState}
 use Rattle.task_table.specs.Group.{is_in_group, group_above}
 use Rattle.task_table.proofs.Tables.{above_kept}
 use Rattle.core_events.proofs.States.{both_stay, same_stays}
-use Rattle.core_events.proofs.Settings.{group_done, group_room, group_numbers, group_touches}
+use Rattle.core_events.proofs.Settings.{member_next, member_none, member_there, group_done, group_room, group_numbers, group_touches}
 use Rattle.core_events.proofs.state.State.set_group.Goals as goal
 
 few_members : (group : _) (tasks : List Task) → length (group_above group 0 tasks) ≤ length tasks
@@ -28,7 +28,8 @@ loop-init g c = record {
 pub returns-in_default : goal.returns-in_default
 returns-in_default g c =
     group_done c.args.self.now c.loop.self c.args.cookie (group_above c.args.group c.loop.after c.loop.self.tasks.tasks) (group_above c.args.group 0 c.args.self.now.tasks.tasks)
-    c.loop.invariant.room c.loop.invariant.numbers c.in_default.ensures.none c.loop.invariant.stays
+    c.loop.invariant.room c.loop.invariant.numbers
+    (member_none c.args.group c.loop.after c.loop.self.tasks.tasks c.next_in.ensures.sound.rising None (c.in_default.ensures ∙ c.next_in.ensures.next)) c.loop.invariant.stays
 
 pub set_cookie-requires-clause-touches : goal.set_cookie-requires-clause-touches
 set_cookie-requires-clause-touches g c =
@@ -50,7 +51,9 @@ loop-preserved g c =
     let kept : rest ≡ group_above c.args.group task.spec.pid tasks =
     ap (λ (room : RoomState). group_above c.args.group task.spec.pid room.tasks) (c.set_cookie.ensures.room [])
     ∙ above_kept c.args.group c.args.cookie task tasks in
-    let is : left ≡ task ∷ rest = c.in-Some.ensures.some ∙ ap (λ (ts : List Task). task ∷ ts) (sym kept) in
+    let is : left ≡ task ∷ rest =
+    member_next c.args.group c.loop.after tasks c.next_in.ensures.sound.rising (Some task) (c.in-Some.ensures ∙ c.next_in.ensures.next)
+    ∙ ap (λ (ts : List Task). task ∷ ts) (sym kept) in
     record {
       stays = both_stay c.loop.invariant.stays c.set_cookie.ensures.stays;
       room = group_room c.args.self.now c.loop.self c.args.cookie left all c.loop.invariant.room c.loop.invariant.numbers c.set_cookie.new.self task rest is c.set_cookie.ensures;
@@ -66,3 +69,7 @@ returns g c =
 
 pub set_cookie-requires-clause-sound : goal.set_cookie-requires-clause-sound
 set_cookie-requires-clause-sound g c = c.loop.invariant.stays.sound c.requires.sound
+
+pub set_cookie-requires-clause-there : goal.set_cookie-requires-clause-there
+set_cookie-requires-clause-there g c =
+    member_there c.args.group c.loop.after c.loop.self.tasks.tasks c.next_in.ensures.sound.rising (Some c.in-Some.task) (c.in-Some.ensures ∙ c.next_in.ensures.next)
