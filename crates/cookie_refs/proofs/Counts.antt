@@ -1,7 +1,6 @@
 -- The count of a cookie among the live ones: at its index, where it has none, and in the map that they are.
-use Rattle.std.proofs.Common.{◌≡◌, ◌≢◌, ℕ, zero, suc, ◌+◌, ◌<◌, ◌≤◌, Bool, true, false, cond, List, [], ◌∷◌, ◌++◌, inl, inr, length, get_or, set, Result, Ok, Err, IfSome, IfNone, refl, sym, ap, ◌∙◌, subst, Some, arith}
+use Rattle.std.proofs.Common.{◌≡◌, ◌≢◌, ℕ, suc, ◌+◌, ◌<◌, ◌≤◌, true, false, cond, List, [], ◌∷◌, ◌++◌, inl, inr, length, get_or, set, Result, Ok, Err, IfSome, IfNone, refl, sym, ap, ◌∙◌, Some, arith}
 use Rattle.std.specs.Prelude.{◌==◌, unwrap_or}
-use lib.Dec.{T}
 use Rattle.std.specs.List.{All, AllPairs, remove, sum_by}
 use Rattle.std.specs.List.Sorted.{IsSearchInRange, IsBinarySearchResult, IsNonDecreasingBy}
 use Rattle.std.specs.Result.{result_ok}
@@ -18,7 +17,7 @@ use Rattle.std.proofs.lemmas.List.Quantifiers.{all_pairs_remove}
 use Rattle.cs_types.proofs.Selections.{get_or-set_alike}
 use Rattle.cs_types.proofs.Queues.{said, len-from_sorted}
 use Rattle.cookie_refs.specs.declared.refs.LiveCookie.{LiveCookie}
-use Rattle.cookie_refs.specs.Inside.{IsRising, IsAt, count_in, entries_of}
+use Rattle.cookie_refs.specs.Inside.{IsRising, AreCookies, IsAt, count_in, entries_of}
 
 -- what holds of all pairs holds of those of the rest, and of the first with each of the rest
 pub AllPairs-tail : {X : Type 0} (R : X → X → Type 0) (x : X) (xs : List X) → AllPairs R (x ∷ xs) → AllPairs R xs
@@ -35,6 +34,10 @@ sum_by_none f xs none = omega (arith, sum_by-le f 0 xs (λ k d lt. omega (arith,
 count_absent : (live : List LiveCookie) (cookie : ℕ) → All (λ one. one.cookie ≢ cookie) live → count_in live cookie ≡ 0
 count_absent live cookie absent =
     sum_by_none _ live (λ k d lt. let other = absent k d lt in grind (arith, nat_tests))
+
+-- 0 is in no entry
+pub count_of_none : (live : List LiveCookie) → AreCookies live → count_in live 0 ≡ 0
+count_of_none live cookies = count_absent live 0 (λ k d lt same. omega (arith, cookies k d lt, same))
 
 -- the next serial is in no entry
 pub count_in-next : (live : List LiveCookie) (next : ℕ) → All (λ one. one.cookie < next) live → count_in live next ≡ 0
@@ -69,6 +72,14 @@ module _ (live : List LiveCookie) (rising : IsRising live) (cookie : ℕ) where
       let parts = sum_by-remove (λ (one : LiveCookie). cond (one.cookie == cookie) one.count 0) live index d lt in
       grind (arith, nat_tests, count_elsewhere index lt there, there d)
 
+  -- an entry with the cookie is at its index
+  pub at_index : (index : ℕ) → index < length live → ((d : LiveCookie) → (get_or live index d).cookie ≡ cookie) → IsAt live cookie index
+  at_index index in_range there = record {
+    in_range = in_range;
+    cookie_there = there;
+    count_there = λ d. count_at index d in_range there;
+  }
+
   -- the comparisons with a serial rise along the list, as a binary search asks
   comparisons_rise : IsNonDecreasingBy (λ one. ordering_index (nat_cmp one.cookie cookie)) live
   comparisons_rise i j d le in_range = grind (arith, nat_tests, rising i j d)
@@ -79,14 +90,7 @@ module _ (live : List LiveCookie) (rising : IsRising live) (cookie : ℕ) where
       record { found : IfSome (result_ok end) (IsAt live cookie); none : IfNone (result_ok end) (count_in live cookie ≡ 0) }
   searched (Ok index) in_range equal =
       let there : (d : LiveCookie) → (get_or live index d).cookie ≡ cookie = λ d. ranked _ cookie _ (sym (equal d)) in
-      record {
-        found = record {
-          in_range = in_range;
-          cookie_there = there;
-          count_there = λ d. count_at index d in_range there;
-        };
-        none = tt;
-      }
+      record { found = at_index index in_range there; none = tt }
   searched (Err index) in_range parted = record {
     found = tt;
     none = count_absent live cookie (λ k d lt same.

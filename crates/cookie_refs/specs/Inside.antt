@@ -17,10 +17,14 @@ refs_of refs = record { counts = from_sorted (entries_of refs.live.items); next 
 abbrev pub IsRising : List LiveCookie → Type 0
 IsRising live = AllPairs (λ one other. one.cookie < other.cookie) live
 
+-- None of them is 0.
+abbrev pub AreCookies : List LiveCookie → Type 0
+AreCookies live = All (λ one. 0 < one.cookie) live
+
 -- The serials rise from 1 up to the next, each with a reference, and there are as many as the limit at most.
 pub record IsSound (refs : Inside) : Type 0 where
   pub rising : IsRising refs.live.items
-  pub above_0 : All (λ one. 0 < one.cookie) refs.live.items
+  pub above_0 : AreCookies refs.live.items
   pub below_next : All (λ one. one.cookie < refs.next) refs.live.items
   pub counted : All (λ one. 0 < one.count) refs.live.items
   pub next_above_0 : 0 < refs.next

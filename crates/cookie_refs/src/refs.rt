@@ -1,10 +1,11 @@
 //! How many references each live cookie has, in one vector by rising serial.
 
-ghost use Rattle.std.specs.Prelude.{◌≡◌, ◌≢◌, ℕ, ◌+◌, ◌^◌, ◌<◌, ◌↔◌, ◌==◌, if◌then◌else◌, IsErr, IfOk, IfErr, OnOk, OnErr, IfSome, IfNone, ◌≤◌, length};
+ghost use Rattle.std.specs.Prelude.{◌≡◌, ◌≢◌, ℕ, ◌+◌, ◌^◌, ◌<◌, ◌↔◌, ◌==◌, if◌then◌else◌, IsErr, IfOk, IfErr, OnOk, OnErr, IfSome, IfNone, ◌≤◌, length, IsTrue};
 ghost use Rattle.cs_types.specs.Prctl.{live_cookies};
 ghost use Rattle.cookie_refs.specs.Refs.{count_of, live_count, references, Agree};
-ghost use Rattle.cookie_refs.specs.Inside.{IsRising, IsAt, count_in};
+ghost use Rattle.cookie_refs.specs.Inside.{IsRising, AreCookies, IsAt, count_in};
 
+use crate::places::Places;
 use cs_types::{Cookie, OutOfMemory};
 use std::alloc::Global;
 use std::marker::Model;
@@ -30,6 +31,7 @@ struct LiveCookie {
 #[derive(Drop)]
 pub struct CookieRefs {
     live: Vec<LiveCookie>,
+    places: Places,
     next: Cookie,
     limit: u16,
 }
@@ -60,6 +62,7 @@ impl CookieRefs {
         let live = Vec::with_capacity(alloc, usize::from(limit))?;
         Ok(CookieRefs {
             live,
+            places: Places::none(),
             next: 1,
             limit,
         })
@@ -108,7 +111,7 @@ impl CookieRefs {
         ensures next { self.new.next ≡ self.old.next }
         ensures limit { self.new.limit ≡ self.old.limit }
     {
-        if let Some(index) = index_of(&self.live, cookie) {
+        if let Some(index) = find(&self.live, &mut self.places, cookie) {
             self.live[index].count += 1;
         }
     }
@@ -124,7 +127,7 @@ impl CookieRefs {
         ensures next { self.new.next ≡ self.old.next }
         ensures limit { self.new.limit ≡ self.old.limit }
     {
-        if let Some(index) = index_of(&self.live, cookie) {
+        if let Some(index) = find(&self.live, &mut self.places, cookie) {
             if self.live[index].count == 1 {
                 self.live.remove(index);
             } else {
@@ -163,4 +166,34 @@ fn index_of(live: &[LiveCookie], cookie: Cookie) -> Option<usize>
     ensures none { IfNone result (count_in live.now cookie ≡ 0) }
 {
     live.binary_search_by_key(&cookie, |one| one.cookie).ok()
+}
+
+/// Whether the live cookie at the index is this one.
+fn is_at(live: &[LiveCookie], index: usize, cookie: Cookie) -> bool
+    requires { IsRising live.now }
+    ensures { IsTrue result → IsAt live.now cookie index }
+{
+    match live.get(index) {
+        Some(one) => one.cookie == cookie,
+        None => false,
+    }
+}
+
+/// The index of a live cookie. It is noted, so that the next search for it is one look. For 0 there is none.
+fn find(live: &[LiveCookie], places: &mut Places, cookie: Cookie) -> Option<usize>
+    requires rising { IsRising live.now }
+    requires cookies { AreCookies live.now }
+    ensures found { IfSome result (IsAt live.now cookie) }
+    ensures none { IfNone result (count_in live.now cookie ≡ 0) }
+{
+    if cookie == 0 {
+        return None;
+    }
+    let noted = places.of(cookie);
+    if is_at(live, noted, cookie) {
+        return Some(noted);
+    }
+    let index = index_of(live, cookie)?;
+    places.note(cookie, index);
+    Some(index)
 }
