@@ -66,7 +66,7 @@ create_planned tasks old new guards after called planned at_limit below =
 pub may_access_all-asked_each : (guards : GuardList) (asked : List ℕ) (tasks : List Task) (called : Called) →
     may_access_all (asked_each guards asked) tasks called ≡ may_access_all guards tasks called
 may_access_all-asked_each guards asked tasks called =
-    λ i. list_all (λ (member : Task). may_access-asked_each guards asked called.caller.spec member.spec i) (members_of tasks called)
+    λ i. list_all (λ (member : Task). may_access-asked_each guards asked called.caller.now.spec member.spec i) (members_of tasks called)
 
 pub asked_about_all-asked_each : (guards : GuardList) (asked : List ℕ) (caller : TaskSpec) (tasks : List Task) →
     asked_about_all (asked_each guards asked) caller tasks ≡ asked_about_all guards caller tasks
@@ -88,51 +88,51 @@ module _ (room : RoomState) (pid : ℕ) (ask : Ask) (called : Called) (is : IsCa
   alone = ap (λ n. n == 0) (sym is.scope)
 
   -- the caller may access the members
-  allowed : (tasks : List Task) → room.tasks ≡ tasks → may_access_members room ask.scope (Some called.caller) (Some called.target) ≡ may_access_all room.guards tasks called
+  allowed : (tasks : List Task) → room.tasks ≡ tasks → may_access_members room ask.scope (Some called.caller.now) (Some called.target.now) ≡ may_access_all room.guards tasks called
   allowed tasks same =
       let scope = sym is.scope in
-      λ i. list_all (λ member. may_access room.guards called.caller.spec member.spec) (filter (λ task. is_in_scope (scope i) called.target.spec task.spec) (same i))
+      λ i. list_all (λ member. may_access room.guards called.caller.now.spec member.spec) (filter (λ task. is_in_scope (scope i) called.target.now.spec task.spec) (same i))
 
   -- ---- the guards that are asked
 
   -- the guards once they were asked about the target
   abbrev pub asked_first : GuardList
-  asked_first = asked_each room.guards (asked_about room.guards called.caller.spec called.target.spec)
+  asked_first = asked_each room.guards (asked_about room.guards called.caller.now.spec called.target.now.spec)
 
   -- what is asked about the members is the same after that
   about_members : (tasks : List Task) → room.tasks ≡ tasks →
-      cond (is_thread ask) [] (asked_about_members room ask.scope (Some called.caller) (Some called.target)) ≡ asked_about_members_of asked_first tasks called
+      cond (is_thread ask) [] (asked_about_members room ask.scope (Some called.caller.now) (Some called.target.now)) ≡ asked_about_members_of asked_first tasks called
   about_members tasks same =
       let scope = sym is.scope in
-      (λ i. cond (alone i) [] (asked_about_all room.guards called.caller.spec (filter (λ task. is_in_scope (scope i) called.target.spec task.spec) (same i))))
+      (λ i. cond (alone i) [] (asked_about_all room.guards called.caller.now.spec (filter (λ task. is_in_scope (scope i) called.target.now.spec task.spec) (same i))))
       ∙ ap (λ (asked : List ℕ). cond (is_alone called) [] asked)
-      (sym (asked_about_all-asked_each room.guards (asked_about room.guards called.caller.spec called.target.spec) called.caller.spec (members_of tasks called)))
+      (sym (asked_about_all-asked_each room.guards (asked_about room.guards called.caller.now.spec called.target.now.spec) called.caller.now.spec (members_of tasks called)))
 
   -- where nobody is asked but about the target
-  pub after_target : asked_by_call room pid ask ≡ about_target room called.caller called.target → asked_first ≡ asked_each room.guards (asked_by_call room pid ask)
+  pub after_target : asked_by_call room pid ask ≡ about_target room called.caller.now called.target.now → asked_first ≡ asked_each room.guards (asked_by_call room pid ask)
   after_target asks =
-      sym (asked_each-append room.guards (asked_about room.guards called.caller.spec called.target.spec) [])
+      sym (asked_each-append room.guards (asked_about room.guards called.caller.now.spec called.target.now.spec) [])
       ∙ sym (ap (asked_each room.guards) asks)
 
   -- where some are asked about the members too
-  pub after_all : (tasks : List Task) → room.tasks ≡ tasks → asked_by_call room pid ask ≡ about_all room ask called.caller called.target →
+  pub after_all : (tasks : List Task) → room.tasks ≡ tasks → asked_by_call room pid ask ≡ about_all room ask called.caller.now called.target.now →
       asked_each asked_first (asked_about_members_of asked_first tasks called) ≡ asked_each room.guards (asked_by_call room pid ask)
   after_all tasks same asks =
       ap (asked_each asked_first) (sym (about_members tasks same))
-      ∙ sym (asked_each-append asked_first (cond (is_thread ask) [] (asked_about_members room ask.scope (Some called.caller) (Some called.target))) [])
-      ∙ sym (asked_each-append room.guards (asked_about room.guards called.caller.spec called.target.spec) (cond (is_thread ask) [] (asked_about_members room ask.scope (Some called.caller) (Some called.target)) ++ []))
+      ∙ sym (asked_each-append asked_first (cond (is_thread ask) [] (asked_about_members room ask.scope (Some called.caller.now) (Some called.target.now))) [])
+      ∙ sym (asked_each-append room.guards (asked_about room.guards called.caller.now.spec called.target.now.spec) (cond (is_thread ask) [] (asked_about_members room ask.scope (Some called.caller.now) (Some called.target.now)) ++ []))
       ∙ sym (ap (asked_each room.guards) asks)
 
   -- the members are named in the room as they are after it
   pub names_alike : (tasks : List Task) (to : Result Target Errno) → NamesMembers asked_first tasks called to → NamesMembers room.guards tasks called to
   names_alike tasks (Ok to) names =
-      (names.0, ap (λ b. not (is_alone called) && not b) (sym (may_access_all-asked_each room.guards (asked_about room.guards called.caller.spec called.target.spec) tasks called)) ∙ names.1)
+      (names.0, ap (λ b. not (is_alone called) && not b) (sym (may_access_all-asked_each room.guards (asked_about room.guards called.caller.now.spec called.target.now.spec) tasks called)) ∙ names.1)
   names_alike tasks (Err errno) names =
-      (names.0, names.1, sym (may_access_all-asked_each room.guards (asked_about room.guards called.caller.spec called.target.spec) tasks called) ∙ names.2)
+      (names.0, names.1, sym (may_access_all-asked_each room.guards (asked_about room.guards called.caller.now.spec called.target.now.spec) tasks called) ∙ names.2)
 
   -- ---- the answer of each command
 
-  pub get_settles : (top : ℕ) → room.user_top ≡ top → called.command ≡ Get → Settles room pid ask (reply_of (get_plan called ask.addr top)) false (about_target room called.caller called.target)
+  pub get_settles : (top : ℕ) → room.user_top ≡ top → called.command ≡ Get → Settles room pid ask (reply_of (get_plan called ask.addr top)) false (about_target room called.caller.now called.target.now)
   get_settles top same command =
       let cmd : ask.cmd ≡ 0 = sym is.command ∙ ap command_number command in
       let misplaced : (not (is_thread ask) || not (ask.addr % 8 == 0)) ≡ (not (is_alone called) || not (ask.addr % 8 == 0)) =
@@ -144,13 +144,13 @@ module _ (room : RoomState) (pid : ℕ) (ask : Ask) (called : Called) (is : IsCa
             ask.cmd ≡ 0 →
             (not (is_thread ask) || not (ask.addr % 8 == 0)) ≡ (not (is_alone called) || not (ask.addr % 8 == 0)) →
             (nat_lt ask.addr 4096 || nat_lt (room.user_top - 8) ask.addr) ≡ (nat_lt ask.addr 4096 || nat_lt (top - 8) ask.addr) →
-            Settles room pid ask (reply_of (get_plan called ask.addr top)) false (about_target room called.caller called.target)
+            Settles room pid ask (reply_of (get_plan called ask.addr top)) false (about_target room called.caller.now called.target.now)
         by_place true b at to cmd misplaced outside =
-            rw at (get_misplaced room pid ask called.caller called.target is.admitted cmd (misplaced ∙ at))
+            rw at (get_misplaced room pid ask called.caller.now called.target.now is.admitted cmd (misplaced ∙ at))
         by_place false true at to cmd misplaced outside =
-            rw (at, to) (get_outside room pid ask called.caller called.target is.admitted cmd (misplaced ∙ at) (outside ∙ to))
+            rw (at, to) (get_outside room pid ask called.caller.now called.target.now is.admitted cmd (misplaced ∙ at) (outside ∙ to))
         by_place false false at to cmd misplaced outside =
-            rw (at, to) (got room pid ask called.caller called.target is.admitted cmd (misplaced ∙ at) (outside ∙ to))
+            rw (at, to) (got room pid ask called.caller.now called.target.now is.admitted cmd (misplaced ∙ at) (outside ∙ to))
 
   -- whether there is room for one more cookie
   room_test : (limit : ℕ) (test : Bool) (tasks : List Task) → room.tasks ≡ tasks → room.cookie_limit ≡ limit →
@@ -158,55 +158,55 @@ module _ (room : RoomState) (pid : ℕ) (ask : Ask) (called : Called) (is : IsCa
   room_test limit test tasks same there is_test = (λ i. length (live_cookies (same i)) == there i) ∙ is_test
 
   create_full : (tasks : List Task) (limit : ℕ) → room.tasks ≡ tasks → room.cookie_limit ≡ limit → called.command ≡ Create →
-      length (live_cookies tasks) ≡ limit → Settles room pid ask (Refused Enomem) false (about_target room called.caller called.target)
+      length (live_cookies tasks) ≡ limit → Settles room pid ask (Refused Enomem) false (about_target room called.caller.now called.target.now)
   create_full tasks limit same there command is_full =
-      full room pid ask called.caller called.target is.admitted (sym is.command ∙ ap command_number command)
+      full room pid ask called.caller.now called.target.now is.admitted (sym is.command ∙ ap command_number command)
       (room_test limit true tasks same there (eq-eqb _ _ is_full))
 
   -- what is given where the caller may access all
   may_give : (tasks : List Task) → room.tasks ≡ tasks → (not (is_alone called) && not (may_access_all room.guards tasks called)) ≡ false →
-      (not (is_thread ask) && not (may_access_members room ask.scope (Some called.caller) (Some called.target))) ≡ false
+      (not (is_thread ask) && not (may_access_members room ask.scope (Some called.caller.now) (Some called.target.now))) ≡ false
   may_give tasks same may = (λ i. not (alone i) && not (allowed tasks same i)) ∙ may
 
   create_settles : (tasks : List Task) (limit cookie : ℕ) (to : Result Target Errno) → room.tasks ≡ tasks → room.cookie_limit ≡ limit → called.command ≡ Create →
-      length (live_cookies tasks) ≢ limit → NamesMembers room.guards tasks called to → Settles room pid ask (reply_of (gift cookie to)) true (about_all room ask called.caller called.target)
+      length (live_cookies tasks) ≢ limit → NamesMembers room.guards tasks called to → Settles room pid ask (reply_of (gift cookie to)) true (about_all room ask called.caller.now called.target.now)
   create_settles tasks limit cookie (Ok to) same there command room_left names =
-      created room pid ask called.caller called.target is.admitted (sym is.command ∙ ap command_number command)
+      created room pid ask called.caller.now called.target.now is.admitted (sym is.command ∙ ap command_number command)
       (room_test limit false tasks same there (ne_eqb _ _ room_left)) (may_give tasks same names.1)
   create_settles tasks limit cookie (Err errno) same there command room_left names =
-      subst (λ e. Settles room pid ask (Refused e) true (about_all room ask called.caller called.target)) (sym names.0)
-      (create_refused room pid ask called.caller called.target is.admitted (sym is.command ∙ ap command_number command)
+      subst (λ e. Settles room pid ask (Refused e) true (about_all room ask called.caller.now called.target.now)) (sym names.0)
+      (create_refused room pid ask called.caller.now called.target.now is.admitted (sym is.command ∙ ap command_number command)
       (room_test limit false tasks same there (ne_eqb _ _ room_left)) (alone ∙ names.1) (allowed tasks same ∙ names.2))
 
   pub share_settles : (tasks : List Task) (cookie : ℕ) (to : Result Target Errno) → room.tasks ≡ tasks → called.command ≡ ShareTo →
-      NamesMembers room.guards tasks called to → Settles room pid ask (reply_of (gift cookie to)) false (about_all room ask called.caller called.target)
+      NamesMembers room.guards tasks called to → Settles room pid ask (reply_of (gift cookie to)) false (about_all room ask called.caller.now called.target.now)
   share_settles tasks cookie (Ok to) same command names =
-      shared room pid ask called.caller called.target is.admitted (sym is.command ∙ ap command_number command) (may_give tasks same names.1)
+      shared room pid ask called.caller.now called.target.now is.admitted (sym is.command ∙ ap command_number command) (may_give tasks same names.1)
   share_settles tasks cookie (Err errno) same command names =
-      subst (λ e. Settles room pid ask (Refused e) false (about_all room ask called.caller called.target)) (sym names.0)
-      (share_refused room pid ask called.caller called.target is.admitted (sym is.command ∙ ap command_number command)
+      subst (λ e. Settles room pid ask (Refused e) false (about_all room ask called.caller.now called.target.now)) (sym names.0)
+      (share_refused room pid ask called.caller.now called.target.now is.admitted (sym is.command ∙ ap command_number command)
       (alone ∙ names.1) (allowed tasks same ∙ names.2))
 
-  pub from_settles : (cookie : ℕ) (to : Result Target Errno) → called.command ≡ ShareFrom → NamesCaller called to → Settles room pid ask (reply_of (gift cookie to)) false (about_target room called.caller called.target)
+  pub from_settles : (cookie : ℕ) (to : Result Target Errno) → called.command ≡ ShareFrom → NamesCaller called to → Settles room pid ask (reply_of (gift cookie to)) false (about_target room called.caller.now called.target.now)
   from_settles cookie (Ok to) command names =
-      from_one room pid ask called.caller called.target is.admitted (sym is.command ∙ ap command_number command) (alone ∙ names.1)
+      from_one room pid ask called.caller.now called.target.now is.admitted (sym is.command ∙ ap command_number command) (alone ∙ names.1)
   from_settles cookie (Err errno) command names =
-      subst (λ e. Settles room pid ask (Refused e) false (about_target room called.caller called.target)) (sym names.0)
-      (from_many room pid ask called.caller called.target is.admitted (sym is.command ∙ ap command_number command) (alone ∙ names.1))
+      subst (λ e. Settles room pid ask (Refused e) false (about_target room called.caller.now called.target.now)) (sym names.0)
+      (from_many room pid ask called.caller.now called.target.now is.admitted (sym is.command ∙ ap command_number command) (alone ∙ names.1))
 
   -- ---- what each command sets
 
-  setting_is : setting_of room pid ask ≡ setting_by room called.caller called.target ask
+  setting_is : setting_of room pid ask ≡ setting_by room called.caller.now called.target.now ask
   setting_is = rw (is.admitted.target, is.admitted.caller) refl
 
   -- the members get a cookie
   members_set : (tasks : List Task) (cookie : ℕ) (to : Result Target Errno) → room.tasks ≡ tasks → NamesMembers room.guards tasks called to →
-      setting_by room called.caller called.target ask ≡ record { tasks = filter (λ task. is_in_scope ask.scope called.target.spec task.spec) room.tasks; cookie = cookie } →
+      setting_by room called.caller.now called.target.now ask ≡ record { tasks = filter (λ task. is_in_scope ask.scope called.target.now.spec task.spec) room.tasks; cookie = cookie } →
       SetsIn room pid ask (gift cookie to)
   members_set tasks cookie (Err errno) same names gives = tt
   members_set tasks cookie (Ok to) same names gives =
       let scope = sym is.scope in
-      let there = ap (named to) same ∙ names.0 ∙ sym (λ j. filter (λ task. is_in_scope (scope j) called.target.spec task.spec) (same j)) in
+      let there = ap (named to) same ∙ names.0 ∙ sym (λ j. filter (λ task. is_in_scope (scope j) called.target.now.spec task.spec) (same j)) in
       λ zero. (λ i. record { tasks = there i; cookie = cookie }) ∙ sym (setting_is ∙ gives)
 
   create_sets : (tasks : List Task) (cookie : ℕ) (to : Result Target Errno) → room.tasks ≡ tasks → room.next_cookie ≡ cookie → called.command ≡ Create →
@@ -215,18 +215,18 @@ module _ (room : RoomState) (pid : ℕ) (ask : Ask) (called : Called) (is : IsCa
       members_set tasks cookie to same names (rw (sym is.command ∙ ap command_number command) (rw next refl))
 
   pub share_sets : (tasks : List Task) (to : Result Target Errno) → room.tasks ≡ tasks → called.command ≡ ShareTo →
-      NamesMembers room.guards tasks called to → SetsIn room pid ask (gift called.caller.cookie to)
+      NamesMembers room.guards tasks called to → SetsIn room pid ask (gift called.caller.now.cookie to)
   share_sets tasks to same command names =
-      members_set tasks called.caller.cookie to same names (rw (sym is.command ∙ ap command_number command) refl)
+      members_set tasks called.caller.now.cookie to same names (rw (sym is.command ∙ ap command_number command) refl)
 
   pub from_sets : (table : Table) (to : Result Target Errno) → room.tasks ≡ table.tasks → AreThere table called → called.command ≡ ShareFrom →
-      NamesCaller called to → SetsIn room pid ask (gift called.target.cookie to)
+      NamesCaller called to → SetsIn room pid ask (gift called.target.now.cookie to)
   from_sets table (Err errno) same there command names = tt
   from_sets table (Ok to) same there command names =
-      let alone_caller : named to room.tasks ≡ called.caller ∷ [] =
-      ap (λ t. named t room.tasks) names.0 ∙ ap (named (One called.caller.spec.pid)) same
-      ∙ found_alone 0 called.caller.spec.pid table.tasks called.caller there.sound.rising there.caller in
-      λ zero. (λ i. record { tasks = alone_caller i; cookie = called.target.cookie })
+      let alone_caller : named to room.tasks ≡ called.caller.now ∷ [] =
+      ap (λ t. named t room.tasks) names.0 ∙ ap (named (One called.caller.now.spec.pid)) same
+      ∙ found_alone 0 called.caller.now.spec.pid table.tasks called.caller.now there.sound.rising there.caller in
+      λ zero. (λ i. record { tasks = alone_caller i; cookie = called.target.now.cookie })
       ∙ sym (setting_is ∙ (rw (sym is.command ∙ ap command_number command) refl))
 
   -- ---- a CREATE, at the limit and below it

@@ -108,7 +108,7 @@ pub record Settles (room : RoomState) (pid : ℕ) (ask : Ask) (reply : Reply) (i
 
 -- a call that is admitted, or its answer
 pub record IsCall (room : RoomState) (pid : ℕ) (ask : Ask) (called : Called) : Type 0 where
-  pub admitted : IsAdmitted room pid ask called.caller called.target
+  pub admitted : IsAdmitted room pid ask called.caller.now called.target.now
   pub command : command_number called.command ≡ ask.cmd
   pub scope : scope_number called.scope ≡ ask.scope
 
@@ -118,14 +118,14 @@ Admits room pid ask (Err reply) = Settles room pid ask reply false (asked_by_cal
 
 -- the guards that are asked until a call is admitted, or refused
 abbrev pub asked_to_admit : RoomState → ℕ → Ask → Result Called Reply → List ℕ
-asked_to_admit room pid ask (Ok called) = asked_about room.guards called.caller.spec called.target.spec
+asked_to_admit room pid ask (Ok called) = asked_about room.guards called.caller.now.spec called.target.now.spec
 asked_to_admit room pid ask (Err reply) = asked_by_call room pid ask
 
 -- the caller and the target are tasks of the table
 pub record AreThere (table : Table) (called : Called) : Type 0 where
   pub sound : IsSound table
-  pub caller : find (has_pid called.caller.spec.pid) table.tasks ≡ Some called.caller
-  pub target : find (has_pid called.target.spec.pid) table.tasks ≡ Some called.target
+  pub caller : find (has_pid called.caller.now.spec.pid) table.tasks ≡ Some called.caller.now
+  pub target : find (has_pid called.target.now.spec.pid) table.tasks ≡ Some called.target.now
 
 -- ---- members
 
@@ -135,12 +135,12 @@ is_alone called = scope_number called.scope == 0
 
 -- the members of a call's scope
 abbrev pub members_of : List Task → Called → List Task
-members_of tasks called = filter (λ task. is_in_scope (scope_number called.scope) called.target.spec task.spec) tasks
+members_of tasks called = filter (λ task. is_in_scope (scope_number called.scope) called.target.now.spec task.spec) tasks
 
 -- whether the caller may access every one of them
 abbrev pub may_access_all : GuardList → List Task → Called → Bool
 may_access_all guards tasks called =
-    list_all (λ member. may_access guards called.caller.spec member.spec) (members_of tasks called)
+    list_all (λ member. may_access guards called.caller.now.spec member.spec) (members_of tasks called)
 
 -- the guards that are asked about these tasks, up to the first that may not be accessed
 abbrev pub asked_about_all : GuardList → TaskSpec → List Task → List ℕ
@@ -150,7 +150,7 @@ asked_about_all guards caller tasks =
 -- those that are asked about the members: nobody where that is the target alone
 abbrev pub asked_about_members_of : GuardList → List Task → Called → List ℕ
 asked_about_members_of guards tasks called =
-    if is_alone called then [] else asked_about_all guards called.caller.spec (members_of tasks called)
+    if is_alone called then [] else asked_about_all guards called.caller.now.spec (members_of tasks called)
 
 -- The members are named, or one of more than the target alone may not be accessed.
 abbrev pub NamesMembers : GuardList → List Task → Called → Result Target Errno → Type 0
@@ -161,7 +161,7 @@ NamesMembers guards tasks called (Err errno) =
 
 -- The caller is named, or the scope is not the target alone.
 abbrev pub NamesCaller : Called → Result Target Errno → Type 0
-NamesCaller called (Ok to) = (to ≡ One called.caller.spec.pid) × (is_alone called ≡ true)
+NamesCaller called (Ok to) = (to ≡ One called.caller.now.spec.pid) × (is_alone called ≡ true)
 NamesCaller called (Err errno) = (errno ≡ Einval) × (is_alone called ≡ false)
 
 -- ---- what each command comes to
@@ -174,7 +174,7 @@ get_plan called addr user_top =
     else (
     if nat_lt addr 4096 || nat_lt (user_top - 8) addr
     then Answer (Refused Efault)
-    else Go (record { to = Nobody; cookie = 0; reply = Value called.target.cookie })
+    else Go (record { to = Nobody; cookie = 0; reply = Value called.target.now.cookie })
     )
 
 -- a cookie for the tasks, or an error

@@ -41,7 +41,7 @@ fn may_access_all<G: Guard>(
 pub fn members<G: Guard>(
     table: &TaskTable,
     guards: &mut Guards<G>,
-    called: &Called,
+    called: &Called<'_>,
 ) -> Result<Target, Errno>
     requires few { length table.now.tasks < 2 ^ 16 }
     requires asked { All (λ guard. guard.asked < 2 ^ 62 + 16) guards.old.guards.all }
@@ -63,7 +63,7 @@ pub fn members<G: Guard>(
 }
 
 /// The caller itself, or EINVAL where the scope is not the target alone.
-pub fn itself(called: &Called) -> Result<Target, Errno>
+pub fn itself(called: &Called<'_>) -> Result<Target, Errno>
     ensures { NamesCaller called.now result }
 {
     match called.scope {

@@ -33,7 +33,7 @@ fn refused(errno: Errno) -> Planned
 }
 
 /// What a GET comes to.
-fn get(called: &Called, addr: u64, user_top: u64) -> Planned
+fn get(called: &Called<'_>, addr: u64, user_top: u64) -> Planned
     requires user_top { IsWithin 8192 9223372036854775807 user_top }
     ensures { result ≡ get_plan called.now addr user_top }
 {
@@ -77,7 +77,7 @@ fn create<G: Guard>(
     table: &TaskTable,
     refs: &mut CookieRefs,
     guards: &mut Guards<G>,
-    called: &Called,
+    called: &Called<'_>,
 ) -> Planned
     requires agree { Agree refs.old table.now.tasks }
     requires serial { refs.old.next < 2 ^ 63 }
@@ -165,8 +165,8 @@ pub fn plan<G: Guard>(
         Command::Create => create(table, refs, guards, &called),
         Command::ShareTo => {
             let to = members(table, guards, &called);
-            share(table, refs, &called.caller, to)
+            share(table, refs, called.caller, to)
         }
-        Command::ShareFrom => share(table, refs, &called.target, itself(&called)),
+        Command::ShareFrom => share(table, refs, called.target, itself(&called)),
     }
 }

@@ -1,4 +1,4 @@
-use Rattle.std.proofs.Common.{rules, ◌≡◌, ◌∙◌, ℕ, Bool, List, [], sym, ap, Some, None}
+use Rattle.std.proofs.Common.{rules, ◌≡◌, ◌∙◌, ℕ, List, [], sym, ap, Some, None}
 use Rattle.std.specs.Prelude.{nat_lt, find, Option, All, ◌+◌, ◌*◌, ◌^◌, ◌<◌, ◌≤◌, length}
 use Rattle.std.proofs.Common.{arith, subst}
 use Rattle.std.proofs.lemmas.List.Elements.{All-weaker}
@@ -10,16 +10,14 @@ use mir.Val.{SFits}
 use Rattle.std.proofs.lemmas.Int.{to_z-of_z}
 use Rattle.std.proofs.lemmas.Bool.{lt-ltb, le-ltb}
 use Rattle.cs_types.specs.declared.task.Task.{Task}
-use Rattle.cs_types.specs.declared.reply.Reply.{Reply}
 use Rattle.cs_types.specs.Guards.{GuardState, GuardList, asked_each}
 use Rattle.cs_types.specs.Access.{may_access, asked_about}
 use Rattle.cs_types.proofs.Accesses.{asked_each-append}
-use Rattle.prctl_core.specs.Plan.{Settles}
 use Rattle.cs_types.specs.declared.event.Ask.{Ask}
-use Rattle.cs_types.specs.Room.{RoomState, has_pid, task_of, online}
-use Rattle.cs_types.specs.Prctl.{asked_by_call, named_by, target_of}
+use Rattle.cs_types.specs.Room.{RoomState, has_pid, task_of}
+use Rattle.cs_types.specs.Prctl.{named_by, target_of}
 use Rattle.cs_types.proofs.Tasks.{found_again}
-use Rattle.prctl_core.proofs.Rows.{about_target, as_asked, no_caller, few_online, invalid, no_target, no_access}
+use Rattle.prctl_core.proofs.Rows.{as_asked, no_caller, few_online, invalid, no_target, no_access}
 use Rattle.prctl_core.proofs.admitted.admit.Goals as goal
 
 -- what a room has of the caller and of the target
@@ -37,92 +35,92 @@ nobody_asked room guards asked same none = sym same ∙ sym (ap (asked_each room
 
 pub returns-in_default-clause-admits : goal.returns-in_default-clause-admits
 returns-in_default-clause-admits g c room same there guarded =
-    as_asked (no_caller room c.args.caller c.args.ask.now (caller_in room _ c.args.caller None same (c.in_default.ensures ∙ c.find.ensures.task)))
+    as_asked (no_caller room c.args.caller c.args.ask.now (caller_in room _ c.args.caller None same c.in_default.ensures.task))
 
 pub returns-in_default-clause-asked : goal.returns-in_default-clause-asked
 returns-in_default-clause-asked g c room same there guarded =
-    nobody_asked room _ _ guarded (no_caller room c.args.caller c.args.ask.now (caller_in room _ c.args.caller None same (c.in_default.ensures ∙ c.find.ensures.task))).asks
+    nobody_asked room _ _ guarded (no_caller room c.args.caller c.args.ask.now (caller_in room _ c.args.caller None same c.in_default.ensures.task)).asks
 
 pub returns-then-online-lt2-clause-admits : goal.returns-then-online-lt2-clause-admits
 returns-then-online-lt2-clause-admits g c room same there guarded =
-    as_asked (few_online room c.args.caller c.args.ask.now c.in-Some.by
-    (caller_in room _ c.args.caller _ same (c.in-Some.ensures ∙ c.find.ensures.task))
+    as_asked (few_online room c.args.caller c.args.ask.now c.in-Some.by.now
+    (caller_in room _ c.args.caller _ same c.in-Some.ensures.task)
     (ap (λ n. nat_lt n 2) there ∙ lt-ltb _ _ c.if-online-lt2.true))
 
 pub returns-then-online-lt2-clause-asked : goal.returns-then-online-lt2-clause-asked
 returns-then-online-lt2-clause-asked g c room same there guarded =
-    nobody_asked room _ _ guarded (few_online room c.args.caller c.args.ask.now c.in-Some.by
-    (caller_in room _ c.args.caller _ same (c.in-Some.ensures ∙ c.find.ensures.task))
+    nobody_asked room _ _ guarded (few_online room c.args.caller c.args.ask.now c.in-Some.by.now
+    (caller_in room _ c.args.caller _ same c.in-Some.ensures.task)
     (ap (λ n. nat_lt n 2) there ∙ lt-ltb _ _ c.if-online-lt2.true)).asks
 
 pub returns-in_default-arguments-clause-admits : goal.returns-in_default-arguments-clause-admits
 returns-in_default-arguments-clause-admits g c room same there guarded =
-    as_asked (invalid room c.args.caller c.args.ask.now c.in-Some.by
-    (caller_in room _ c.args.caller _ same (c.in-Some.ensures ∙ c.find.ensures.task))
+    as_asked (invalid room c.args.caller c.args.ask.now c.in-Some.by.now
+    (caller_in room _ c.args.caller _ same c.in-Some.ensures.task)
     (ap (λ n. nat_lt n 2) there ∙ le-ltb _ _ c.if-online-lt2.false)
     (sym c.in_default-arguments.ensures.invalid))
 
 pub returns-in_default-arguments-clause-asked : goal.returns-in_default-arguments-clause-asked
 returns-in_default-arguments-clause-asked g c room same there guarded =
-    nobody_asked room _ _ guarded (invalid room c.args.caller c.args.ask.now c.in-Some.by
-    (caller_in room _ c.args.caller _ same (c.in-Some.ensures ∙ c.find.ensures.task))
+    nobody_asked room _ _ guarded (invalid room c.args.caller c.args.ask.now c.in-Some.by.now
+    (caller_in room _ c.args.caller _ same c.in-Some.ensures.task)
     (ap (λ n. nat_lt n 2) there ∙ le-ltb _ _ c.if-online-lt2.false)
     (sym c.in_default-arguments.ensures.invalid)).asks
 
 pub named_by-requires : goal.named_by-requires
-named_by-requires g c = record { there = found_again c.args.caller c.args.table.now.tasks c.in-Some.by (sym (c.in-Some.ensures ∙ c.find.ensures.task)) }
+named_by-requires g c = record { there = found_again c.args.caller c.args.table.now.tasks c.in-Some.by.now (sym c.in-Some.ensures.task) }
 
 pub returns-in_default-named_by-clause-admits : goal.returns-in_default-named_by-clause-admits
 returns-in_default-named_by-clause-admits g c room same there guarded =
     let fits : SFits w32 c.args.ask.now.pid = search rules in
-    let by = caller_in room _ c.args.caller _ same (c.in-Some.ensures ∙ c.find.ensures.task) in
-    as_asked (no_target room c.args.caller c.args.ask.now c.in-Some.by by
+    let by = caller_in room _ c.args.caller _ same c.in-Some.ensures.task in
+    as_asked (no_target room c.args.caller c.args.ask.now c.in-Some.by.now by
     (ap (λ n. nat_lt n 2) there ∙ le-ltb _ _ c.if-online-lt2.false)
     (sym c.in-Some-arguments.ensures.invalid)
-    (target_in room c.args.caller c.args.ask.now c.in-Some.by None by (simp to_z-of_z at c.in_default-named_by.ensures.named room same)))
+    (target_in room c.args.caller c.args.ask.now c.in-Some.by.now None by (simp to_z-of_z at c.in_default-named_by.ensures.named room same)))
 
 pub returns-in_default-named_by-clause-asked : goal.returns-in_default-named_by-clause-asked
 returns-in_default-named_by-clause-asked g c room same there guarded =
     let fits : SFits w32 c.args.ask.now.pid = search rules in
-    let by = caller_in room _ c.args.caller _ same (c.in-Some.ensures ∙ c.find.ensures.task) in
-    nobody_asked room _ _ guarded (no_target room c.args.caller c.args.ask.now c.in-Some.by by
+    let by = caller_in room _ c.args.caller _ same c.in-Some.ensures.task in
+    nobody_asked room _ _ guarded (no_target room c.args.caller c.args.ask.now c.in-Some.by.now by
     (ap (λ n. nat_lt n 2) there ∙ le-ltb _ _ c.if-online-lt2.false)
     (sym c.in-Some-arguments.ensures.invalid)
-    (target_in room c.args.caller c.args.ask.now c.in-Some.by None by (simp to_z-of_z at c.in_default-named_by.ensures.named room same))).asks
+    (target_in room c.args.caller c.args.ask.now c.in-Some.by.now None by (simp to_z-of_z at c.in_default-named_by.ensures.named room same))).asks
 
 pub returns-then-not-may_access-clause-admits : goal.returns-then-not-may_access-clause-admits
 returns-then-not-may_access-clause-admits g c room same there guarded =
     let fits : SFits w32 c.args.ask.now.pid = search rules in
-    let by = caller_in room _ c.args.caller _ same (c.in-Some.ensures ∙ c.find.ensures.task) in
-    as_asked (no_access room c.args.caller c.args.ask.now c.in-Some.by c.in-Some-named_by.target by
+    let by = caller_in room _ c.args.caller _ same c.in-Some.ensures.task in
+    as_asked (no_access room c.args.caller c.args.ask.now c.in-Some.by.now c.in-Some-named_by.target.now by
     (ap (λ n. nat_lt n 2) there ∙ le-ltb _ _ c.if-online-lt2.false)
     (sym c.in-Some-arguments.ensures.invalid)
-    (target_in room c.args.caller c.args.ask.now c.in-Some.by _ by (simp to_z-of_z at c.in-Some-named_by.ensures.named room same))
-    (ap (λ (guards : GuardList). may_access guards c.in-Some.by.spec c.in-Some-named_by.target.spec) guarded ∙ sym c.may_access.ensures.decision ∙ c.if-not-may_access.true))
+    (target_in room c.args.caller c.args.ask.now c.in-Some.by.now _ by (simp to_z-of_z at c.in-Some-named_by.ensures.named room same))
+    (ap (λ (guards : GuardList). may_access guards c.in-Some.by.now.spec c.in-Some-named_by.target.now.spec) guarded ∙ sym c.may_access.ensures.decision ∙ c.if-not-may_access.true))
 
 pub returns-then-not-may_access-clause-asked : goal.returns-then-not-may_access-clause-asked
 returns-then-not-may_access-clause-asked g c room same there guarded =
     let fits : SFits w32 c.args.ask.now.pid = search rules in
-    let by = caller_in room _ c.args.caller _ same (c.in-Some.ensures ∙ c.find.ensures.task) in
-    let settles = no_access room c.args.caller c.args.ask.now c.in-Some.by c.in-Some-named_by.target by
+    let by = caller_in room _ c.args.caller _ same c.in-Some.ensures.task in
+    let settles = no_access room c.args.caller c.args.ask.now c.in-Some.by.now c.in-Some-named_by.target.now by
     (ap (λ n. nat_lt n 2) there ∙ le-ltb _ _ c.if-online-lt2.false)
     (sym c.in-Some-arguments.ensures.invalid)
-    (target_in room c.args.caller c.args.ask.now c.in-Some.by _ by (simp to_z-of_z at c.in-Some-named_by.ensures.named room same))
-    (ap (λ (guards : GuardList). may_access guards c.in-Some.by.spec c.in-Some-named_by.target.spec) guarded ∙ sym c.may_access.ensures.decision ∙ c.if-not-may_access.true) in
+    (target_in room c.args.caller c.args.ask.now c.in-Some.by.now _ by (simp to_z-of_z at c.in-Some-named_by.ensures.named room same))
+    (ap (λ (guards : GuardList). may_access guards c.in-Some.by.now.spec c.in-Some-named_by.target.now.spec) guarded ∙ sym c.may_access.ensures.decision ∙ c.if-not-may_access.true) in
     c.may_access.ensures.asked
-    ∙ ap (λ (guards : GuardList). asked_each guards (asked_about guards c.in-Some.by.spec c.in-Some-named_by.target.spec)) (sym guarded)
-    ∙ sym (asked_each-append room.guards (asked_about room.guards c.in-Some.by.spec c.in-Some-named_by.target.spec) [])
+    ∙ ap (λ (guards : GuardList). asked_each guards (asked_about guards c.in-Some.by.now.spec c.in-Some-named_by.target.now.spec)) (sym guarded)
+    ∙ sym (asked_each-append room.guards (asked_about room.guards c.in-Some.by.now.spec c.in-Some-named_by.target.now.spec) [])
     ∙ sym (ap (asked_each room.guards) settles.asks)
 
 pub returns-clause-asked : goal.returns-clause-asked
 returns-clause-asked g c room same there guarded =
     c.may_access.ensures.asked
-    ∙ ap (λ (guards : GuardList). asked_each guards (asked_about guards c.in-Some.by.spec c.in-Some-named_by.target.spec)) (sym guarded)
+    ∙ ap (λ (guards : GuardList). asked_each guards (asked_about guards c.in-Some.by.now.spec c.in-Some-named_by.target.now.spec)) (sym guarded)
 
 pub returns-clause-there : goal.returns-clause-there
 returns-clause-there g c = record {
   sound = c.find.ensures.sound;
-  caller = found_again c.args.caller c.args.table.now.tasks c.in-Some.by (sym (c.in-Some.ensures ∙ c.find.ensures.task));
+  caller = found_again c.args.caller c.args.table.now.tasks c.in-Some.by.now (sym c.in-Some.ensures.task);
   target = c.in-Some-named_by.ensures.there;
 }
 
@@ -137,8 +135,8 @@ counts_left guards after caller target asked few low =
 
 pub returns-then-not-may_access-clause-counts : goal.returns-then-not-may_access-clause-counts
 returns-then-not-may_access-clause-counts g c =
-    counts_left _ _ c.in-Some.by.spec c.in-Some-named_by.target.spec c.may_access.ensures.asked c.may_access.ensures.few c.requires.asked
+    counts_left _ _ c.in-Some.by.now.spec c.in-Some-named_by.target.now.spec c.may_access.ensures.asked c.may_access.ensures.few c.requires.asked
 
 pub returns-clause-counts : goal.returns-clause-counts
 returns-clause-counts g c =
-    counts_left _ _ c.in-Some.by.spec c.in-Some-named_by.target.spec c.may_access.ensures.asked c.may_access.ensures.few c.requires.asked
+    counts_left _ _ c.in-Some.by.now.spec c.in-Some-named_by.target.now.spec c.may_access.ensures.asked c.may_access.ensures.few c.requires.asked

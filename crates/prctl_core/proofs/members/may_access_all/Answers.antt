@@ -10,7 +10,7 @@ use Rattle.cs_types.proofs.Askings.{asked-access}
 use Rattle.std.specs.List.{list_all}
 use Rattle.task_table.specs.Group.{is_in_group}
 use Rattle.prctl_core.specs.Plan.{asked_about_all}
-use Rattle.prctl_core.proofs.Asking.{asked-passes, asked-stops, all-goes}
+use Rattle.prctl_core.proofs.Asking.{asked-passes, all-goes}
 use Rattle.prctl_core.proofs.members.may_access_all.Goals as goal
 
 pub loop-member-preserved : goal.loop-member-preserved

@@ -74,7 +74,7 @@ returns-in-Create-clause-planned g c =
 pub returns-in-ShareTo-clause-answer : goal.returns-in-ShareTo-clause-answer
 returns-in-ShareTo-clause-answer g c room is =
     let call : IsCall room c.args.caller c.args.ask.now c.in-Ok.called = c.in-Ok.ensures.admits room is.tasks is.online is.guards in
-    (share_settles room c.args.caller c.args.ask.now c.in-Ok.called call c.args.table.now.tasks c.in-Ok.called.caller.cookie c.members-to.result is.tasks c.in-ShareTo.is (names_alike room c.args.caller c.args.ask.now c.in-Ok.called call c.args.table.now.tasks c.members-to.result
+    (share_settles room c.args.caller c.args.ask.now c.in-Ok.called call c.args.table.now.tasks c.in-Ok.called.caller.now.cookie c.members-to.result is.tasks c.in-ShareTo.is (names_alike room c.args.caller c.args.ask.now c.in-Ok.called call c.args.table.now.tasks c.members-to.result
     (subst (λ (guards : GuardList). NamesMembers guards c.args.table.now.tasks c.in-Ok.called c.members-to.result) (c.in-Ok.ensures.asked room is.tasks is.online is.guards) c.members-to.ensures.named))).answer
     ∙ ap reply_of (sym c.share.ensures.plan)
 
@@ -90,7 +90,7 @@ returns-in-ShareTo-clause-serial g c room is =
     let call : IsCall room c.args.caller c.args.ask.now c.in-Ok.called = c.in-Ok.ensures.admits room is.tasks is.online is.guards in
     c.share.ensures.next ∙ sym is.next_cookie
     ∙ ap (λ made. (with_used room made (asked_by_call room c.args.caller c.args.ask.now)).next_cookie)
-    (sym (share_settles room c.args.caller c.args.ask.now c.in-Ok.called call c.args.table.now.tasks c.in-Ok.called.caller.cookie c.members-to.result is.tasks c.in-ShareTo.is (names_alike room c.args.caller c.args.ask.now c.in-Ok.called call c.args.table.now.tasks c.members-to.result
+    (sym (share_settles room c.args.caller c.args.ask.now c.in-Ok.called call c.args.table.now.tasks c.in-Ok.called.caller.now.cookie c.members-to.result is.tasks c.in-ShareTo.is (names_alike room c.args.caller c.args.ask.now c.in-Ok.called call c.args.table.now.tasks c.members-to.result
     (subst (λ (guards : GuardList). NamesMembers guards c.args.table.now.tasks c.in-Ok.called c.members-to.result) (c.in-Ok.ensures.asked room is.tasks is.online is.guards) c.members-to.ensures.named))).makes)
 
 pub returns-in-ShareTo-clause-asked : goal.returns-in-ShareTo-clause-asked
@@ -100,17 +100,17 @@ returns-in-ShareTo-clause-asked g c room is =
     c.members-to.ensures.asked
     ∙ ap (λ (guards : GuardList). asked_each guards (asked_about_members_of guards c.args.table.now.tasks c.in-Ok.called)) first
     ∙ after_all room c.args.caller c.args.ask.now c.in-Ok.called call c.args.table.now.tasks is.tasks
-    (share_settles room c.args.caller c.args.ask.now c.in-Ok.called call c.args.table.now.tasks c.in-Ok.called.caller.cookie c.members-to.result is.tasks c.in-ShareTo.is (names_alike room c.args.caller c.args.ask.now c.in-Ok.called call c.args.table.now.tasks c.members-to.result
+    (share_settles room c.args.caller c.args.ask.now c.in-Ok.called call c.args.table.now.tasks c.in-Ok.called.caller.now.cookie c.members-to.result is.tasks c.in-ShareTo.is (names_alike room c.args.caller c.args.ask.now c.in-Ok.called call c.args.table.now.tasks c.members-to.result
     (subst (λ (guards : GuardList). NamesMembers guards c.args.table.now.tasks c.in-Ok.called c.members-to.result) (c.in-Ok.ensures.asked room is.tasks is.online is.guards) c.members-to.ensures.named))).asks
 
 pub returns-in-ShareTo-clause-planned : goal.returns-in-ShareTo-clause-planned
 returns-in-ShareTo-clause-planned g c =
-    subst IsPlanned (sym c.share.ensures.plan) (gift_planned c.in-Ok.called.caller.cookie c.members-to.result)
+    subst IsPlanned (sym c.share.ensures.plan) (gift_planned c.in-Ok.called.caller.now.cookie c.members-to.result)
 
 pub returns-in-ShareFrom-clause-answer : goal.returns-in-ShareFrom-clause-answer
 returns-in-ShareFrom-clause-answer g c room is =
     let call : IsCall room c.args.caller c.args.ask.now c.in-Ok.called = c.in-Ok.ensures.admits room is.tasks is.online is.guards in
-    (from_settles room c.args.caller c.args.ask.now c.in-Ok.called call c.in-Ok.called.target.cookie c.itself.result c.in-ShareFrom.is c.itself.ensures).answer
+    (from_settles room c.args.caller c.args.ask.now c.in-Ok.called call c.in-Ok.called.target.now.cookie c.itself.result c.in-ShareFrom.is c.itself.ensures).answer
     ∙ ap reply_of (sym c.share-in-ShareFrom.ensures.plan)
 
 pub returns-in-ShareFrom-clause-sets : goal.returns-in-ShareFrom-clause-sets
@@ -124,15 +124,15 @@ returns-in-ShareFrom-clause-serial g c room is =
     let call : IsCall room c.args.caller c.args.ask.now c.in-Ok.called = c.in-Ok.ensures.admits room is.tasks is.online is.guards in
     c.share-in-ShareFrom.ensures.next ∙ sym is.next_cookie
     ∙ ap (λ made. (with_used room made (asked_by_call room c.args.caller c.args.ask.now)).next_cookie)
-    (sym (from_settles room c.args.caller c.args.ask.now c.in-Ok.called call c.in-Ok.called.target.cookie c.itself.result c.in-ShareFrom.is c.itself.ensures).makes)
+    (sym (from_settles room c.args.caller c.args.ask.now c.in-Ok.called call c.in-Ok.called.target.now.cookie c.itself.result c.in-ShareFrom.is c.itself.ensures).makes)
 
 pub returns-in-ShareFrom-clause-asked : goal.returns-in-ShareFrom-clause-asked
 returns-in-ShareFrom-clause-asked g c room is =
     let call : IsCall room c.args.caller c.args.ask.now c.in-Ok.called = c.in-Ok.ensures.admits room is.tasks is.online is.guards in
     c.in-Ok.ensures.asked room is.tasks is.online is.guards
     ∙ after_target room c.args.caller c.args.ask.now c.in-Ok.called call
-    (from_settles room c.args.caller c.args.ask.now c.in-Ok.called call c.in-Ok.called.target.cookie c.itself.result c.in-ShareFrom.is c.itself.ensures).asks
+    (from_settles room c.args.caller c.args.ask.now c.in-Ok.called call c.in-Ok.called.target.now.cookie c.itself.result c.in-ShareFrom.is c.itself.ensures).asks
 
 pub returns-in-ShareFrom-clause-planned : goal.returns-in-ShareFrom-clause-planned
 returns-in-ShareFrom-clause-planned g c =
-    subst IsPlanned (sym c.share-in-ShareFrom.ensures.plan) (gift_planned c.in-Ok.called.target.cookie c.itself.result)
+    subst IsPlanned (sym c.share-in-ShareFrom.ensures.plan) (gift_planned c.in-Ok.called.target.now.cookie c.itself.result)
