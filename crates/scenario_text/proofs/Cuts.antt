@@ -60,12 +60,12 @@ cut_at separator bytes end some =
     ]
 
 -- there is always a piece
-record HasPiece (all : List (List ℕ)) : Type 0 where
-  first : List ℕ
-  more : List (List ℕ)
-  is : all ≡ first ∷ more
+pub record HasPiece (all : List (List ℕ)) : Type 0 where
+  pub first : List ℕ
+  pub more : List (List ℕ)
+  pub is : all ≡ first ∷ more
 
-has_piece : (separator : ℕ) (bytes : List ℕ) → HasPiece (pieces separator bytes)
+pub has_piece : (separator : ℕ) (bytes : List ℕ) → HasPiece (pieces separator bytes)
 unfolding pieces
 has_piece separator [] = record { first = []; more = []; is = refl }
 has_piece separator (byte ∷ bytes) =

@@ -19,6 +19,7 @@ pub mod Firsts
 pub mod Beginnings
 pub mod Building
 pub mod Plain
+pub mod SiblingLines
 pub mod Again
 pub mod Scenarios
 pub mod Replies

@@ -88,7 +88,7 @@ plain_made siblings (Caller j) event few is =
     (plain_actor siblings (Caller j) event few is, plain_event siblings event few is.event)
 plain_made siblings End event few is = absurd is.actor
 
-plain_step : (siblings : ℕ) (step : Step) → siblings < 256 → IsStep siblings step → AllByRecursion IsPlain (step_words step)
+pub plain_step : (siblings : ℕ) (step : Step) → siblings < 256 → IsStep siblings step → AllByRecursion IsPlain (step_words step)
 plain_step siblings step few is = (plain_word _ refl refl, plain_made siblings step.actor step.event few is)
 
 plain_tasks : (siblings : ℕ) (tasks : List TaskSpec) → siblings < 256 → AllByRecursion (IsTask siblings) tasks → ArePlain (map task_words tasks)

@@ -227,7 +227,7 @@ joined_is (Err kind) right f y e = absurd cc
 abbrev SaysStep : ℕ → List Word → Step → Type 0
 SaysStep siblings words step = (words ≡ step_words step) × IsStep siblings step
 
-sibling_step_is : (siblings : ℕ) (digits : Word) (event : List Word) (step : Step) → 1 ≤ siblings → siblings < 256 → sibling_step siblings digits (parts event) ≡ Ok step → SaysStep siblings (codes "step" ∷ (codes "s" ++ digits) ∷ event) step
+pub sibling_step_is : (siblings : ℕ) (digits : Word) (event : List Word) (step : Step) → 1 ≤ siblings → siblings < 256 → sibling_step siblings digits (parts event) ≡ Ok step → SaysStep siblings (codes "step" ∷ (codes "s" ++ digits) ∷ event) step
 sibling_step_is siblings digits event step some few e =
     let both = joined_is (read_in sibling_readings (parts event)) (is_number 0 (siblings - 1) digits) (λ make. by (Sibling (value digits)) (make (value digits))) step e in
     let w = cpu_is siblings digits some few both.2 in

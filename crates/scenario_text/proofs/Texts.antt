@@ -36,7 +36,7 @@ each_lacks byte (first ∷ word) h =
     let parts = and_parts (not (eqb first byte)) (lacks byte word) h in
     (not-true (eqb first byte) parts.0, each_lacks byte word parts.1)
 
-all_lack : (byte : ℕ) (word : Word) → lacks byte word ≡ true → All (λ b. eqb b byte ≡ false) word
+pub all_lack : (byte : ℕ) (word : Word) → lacks byte word ≡ true → All (λ b. eqb b byte ≡ false) word
 all_lack byte word h = All-from_recursion (λ b. eqb b byte ≡ false) word (each_lacks byte word h)
 
 pub lacks-append : (byte : ℕ) (a b : Word) → lacks byte a ≡ true → lacks byte b ≡ true → lacks byte (a ++ b) ≡ true

@@ -69,7 +69,7 @@ usable_event siblings few actor (Online cpu) is some = rw (some, some_number cpu
 usable_event siblings few actor (Load index) is some = rw (some, some_number index (omega arith)) refl
 usable_event siblings few actor (Unload index) is some = rw (some, some_number index (omega arith)) refl
 
-usable_step : (siblings : ℕ) → siblings < 256 → (actor : Actor) (event : Event) → IsStep siblings (record { actor = actor; event = event }) → usable (step_words (record { actor = actor; event = event })) ≡ true
+pub usable_step : (siblings : ℕ) → siblings < 256 → (actor : Actor) (event : Event) → IsStep siblings (record { actor = actor; event = event }) → usable (step_words (record { actor = actor; event = event })) ≡ true
 usable_step siblings few (Sibling i) event is = usable_event siblings few (codes "s" ++ decimal i) event is.event (ne_eqb _ 0 (λ e. omega arith))
 usable_step siblings few (Caller j) event is = usable_event siblings few (codes "c" ++ decimal j) event is.event (ne_eqb _ 0 (λ e. omega arith))
 usable_step siblings few End event is = absurd is.actor

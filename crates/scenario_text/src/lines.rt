@@ -1,13 +1,17 @@
 //! The lines of a text, taken one after the other, each as its words. It is separate so that what reads
 //! lines speaks of their words alone, and of no line feeds.
 
-ghost use Rattle.std.specs.Prelude.{◌≡◌};
+ghost use Rattle.std.specs.Prelude.{◌≡◌, MatchOption, Ok};
+ghost use Rattle.cs_types.specs.Scenario.{IsWithin, IsStep};
+ghost use Rattle.scenario_text.specs.Text.{step_words};
 ghost use Rattle.scenario_text.specs.Faults.{lines_in, is_nothing};
 ghost use Rattle.scenario_text.specs.Reading.{texts, Takes, line_at};
 
 use crate::fault::BadKind;
-use crate::pieces::cut;
+use crate::pieces::{cut, cut_near};
+use crate::step::parse_sibling_step;
 use crate::words::{Slots, words_of};
+use cs_types::Step;
 use std::marker::Model;
 
 /// The lines of a text that are still to be taken.
@@ -45,6 +49,22 @@ impl<'a> Lines<'a> {
         };
         self.rest = rest;
         words_of(line, slots)
+    }
+
+    /// Takes the next line where it is a right step line of a sibling, as most are, with no search for the line's
+    /// end. Else nothing is taken.
+    #[inline(always)]
+    pub fn next_sibling_step(&mut self, siblings: u8) -> Option<Step>
+        requires { IsWithin 1 255 siblings }
+        ensures { MatchOption result (self.new ≡ self.old)
+            (λ step. IsStep siblings step × (line_at self.old ≡ Ok (step_words step, self.new))) }
+    {
+        // (the number of a sibling is one digit)
+        let (digit, behind) = self.rest.strip_prefix(b"step s")?.split_at_checked(1)?;
+        let (name, rest) = cut_near(behind.strip_prefix(b" ")?, b'\n')?;
+        let step = parse_sibling_step(digit, name, siblings).ok()?;
+        self.rest = rest;
+        Some(step)
     }
 
     /// Whether no byte is left.

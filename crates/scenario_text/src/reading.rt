@@ -16,7 +16,7 @@ use cs_types::{List, Scenario};
 use std::alloc::Global;
 
 /// The next line, which may follow those of the plan. Its words are put into the slots, in place of
-/// another line's.
+/// another line's, but for the step of a sibling.
 #[tactic(auto, using(crate::proofs::Cuts::lent_is), unfolding(crate::specs::Reading::next_of))]
 fn next_line<'a>(
     lines: &mut Lines<'a>,
@@ -24,9 +24,15 @@ fn next_line<'a>(
     head: Head,
     plan: &Plan,
 ) -> Result<ScenarioLine, BadKind>
-    requires { HasFewLines (contents plan.now) }
+    requires head { IsHead head }
+    requires few { HasFewLines (contents plan.now) }
     ensures { Takes (λ line. line) result lines.new (next_of head (contents plan.now) lines.old) }
 {
+    if let Some(step) = lines.next_sibling_step(head.siblings) {
+        let line = ScenarioLine::Step(step);
+        plan.check(&line, head.task_limit)?;
+        return Ok(line);
+    }
     let words = lines.next_line(slots)?;
     let line = parse_line(words, head.siblings, plan.place())?;
     plan.check(&line, head.task_limit)?;

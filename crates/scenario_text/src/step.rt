@@ -4,7 +4,7 @@
 ghost use Rattle.std.specs.Prelude.{◌≡◌, [], ◌∷◌, true, false, codes, MatchResult};
 ghost use Rattle.scenario_text.specs.declared.fault.BadKind.TheVariants.{Number};
 ghost use Rattle.scenario_text.specs.Grammar.{is_word, is_number, is_signed, value, child};
-ghost use Rattle.scenario_text.specs.Reading.{lent, read_in, signed_value, ask_value, caller_readings, sibling_step, caller_step, step_line};
+ghost use Rattle.scenario_text.specs.Reading.{parts, lent, read_in, signed_value, ask_value, caller_readings, sibling_step, caller_step, step_line};
 
 use crate::fault::BadKind;
 use crate::number::{parse_cpu, parse_number, parse_signed};
@@ -95,18 +95,24 @@ fn parse_caller_event(words: &[&[u8]], siblings: u8) -> Result<Event, BadKind>
     }
 }
 
-/// What the sibling of this number does, to itself.
-fn parse_sibling_step(digits: &[u8], event: &[&[u8]], siblings: u8) -> Result<Step, BadKind>
-    ensures { result ≡ sibling_step siblings digits.now (lent event.now) }
+/// What the sibling of this number does, to itself, where the event is one word.
+#[inline(always)]
+pub(crate) fn parse_sibling_step(digits: &[u8], name: &[u8], siblings: u8) -> Result<Step, BadKind>
+    ensures { result ≡ sibling_step siblings digits.now (parts (name.now ∷ [])) }
 {
     let cpu = parse_cpu(digits, siblings);
-    let event = match *event {
-        [name] if is_word(name, "turn") => Event::Turn(cpu?),
-        [name] if is_word(name, "resched") => Event::Resched(cpu?),
-        [name] if is_word(name, "block") => Event::Block(cpu?),
-        [name] if is_word(name, "exit") => Event::Exit(cpu?),
-        [name] if is_word(name, "tick") => Event::Tick(cpu?),
-        _ => return Err(BadKind::Shape),
+    let event = if is_word(name, "turn") {
+        Event::Turn(cpu?)
+    } else if is_word(name, "resched") {
+        Event::Resched(cpu?)
+    } else if is_word(name, "block") {
+        Event::Block(cpu?)
+    } else if is_word(name, "exit") {
+        Event::Exit(cpu?)
+    } else if is_word(name, "tick") {
+        Event::Tick(cpu?)
+    } else {
+        return Err(BadKind::Shape);
     };
     Ok(Step {
         actor: Actor::Sibling(cpu?),
@@ -135,7 +141,10 @@ pub(crate) fn parse_step(words: &[&[u8]], siblings: u8) -> Result<Step, BadKind>
         return Err(BadKind::Shape);
     };
     if let Some(digits) = actor.strip_prefix(b"s") {
-        parse_sibling_step(digits, event, siblings)
+        let [name] = *event else {
+            return Err(BadKind::Shape);
+        };
+        parse_sibling_step(digits, name, siblings)
     } else if let Some(digits) = actor.strip_prefix(b"c") {
         parse_caller_step(digits, event, siblings)
     } else {
