@@ -17,7 +17,7 @@ use crate::lines::{
 };
 use cs_outside::{Failed, Sink, write_all};
 use cs_types::Room;
-use scenario_text::entry_text;
+use scenario_text::{Line, entry_text};
 
 /// The line of each entry.
 pub(crate) fn write_entries<R: Room, K: Sink>(room: &R, sink: &mut K) -> Result<(), Failed>
@@ -31,9 +31,10 @@ pub(crate) fn write_entries<R: Room, K: Sink>(room: &R, sink: &mut K) -> Result<
     // The numbers of the replies that were written have 64 bits.
     ensures numbers { OnOk result (All (λ entry. FitsReply entry.reply) (R.history room.now)) }
 {
+    let mut line = Line::new();
     for index in 0..room.length() {
         let entry = room.entry(index).unwrap();
-        entry_text(&entry, sink)?;
+        entry_text(&entry, &mut line, sink)?;
     }
     Ok(())
 }

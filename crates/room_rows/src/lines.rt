@@ -3,7 +3,7 @@
 use crate::commands::{only, sink_of};
 use cs_outside::MemSink;
 use cs_types::{Actor, Ask, Cookie, Entry, Errno, Event, Kind, Pick, Pid, Reply};
-use scenario_text::entry_text;
+use scenario_text::{Line, entry_text};
 use std::process::Abort;
 
 fn wake(caller: u8, pid: Pid, reply: Reply) -> Entry {
@@ -90,7 +90,7 @@ fn ended(pid: Pid, pick: Pick) -> Reply {
 /// Expects this line of the entry, written in one piece.
 fn expect_line<R: AllocGlobal + Abort>(rt: &R, entry: &Entry, line: &str) {
     let mut sink = sink_of(rt, 128, Vec::new(rt.alloc()));
-    entry_text(entry, &mut sink).expect(rt, line);
+    entry_text(entry, &mut Line::new(), &mut sink).expect(rt, line);
     assert!(rt; sink.bytes() == line.as_bytes());
     assert!(rt; sink.calls() == 1);
 }
@@ -303,7 +303,7 @@ fn expect_written(
     is_written: bool,
     text: &str,
 ) {
-    let is_whole = entry_text(entry, sink).is_ok();
+    let is_whole = entry_text(entry, &mut Line::new(), sink).is_ok();
     assert!(rt; is_whole == is_written && sink.bytes() == text.as_bytes());
 }
 

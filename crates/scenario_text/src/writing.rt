@@ -14,10 +14,10 @@ pub use line::Line;
 pub use scenario::scenario_text;
 
 /// Writes the line of an entry to the sink, with its line feed, in one piece, and again with the rest
-/// where the sink took only a part. It takes no memory.
+/// where the sink took only a part. It takes no memory: the entry is put on `line`, in place of what is there.
 ///
 /// At an `Err` the sink has failed, and a prefix of the line is written.
-pub fn entry_text<K: Sink>(entry: &Entry, sink: &mut K) -> Result<(), Failed>
+pub fn entry_text<K: Sink>(entry: &Entry, line: &mut Line, sink: &mut K) -> Result<(), Failed>
     ensures ok { OnOk result (K.written sink.new ≡ appended (K.written sink.old) (entry_text entry.now)) }
     ensures prefix { WritesPrefix (K.written sink.old) (entry_text entry.now) (K.written sink.new) }
 
@@ -25,7 +25,7 @@ pub fn entry_text<K: Sink>(entry: &Entry, sink: &mut K) -> Result<(), Failed>
     ensures failed { OnErr result (Rose (K.faults sink.old) (K.faults sink.new)) }
     ensures counted { K.faults sink.old ≤ K.faults sink.new }
 {
-    let mut line = Line::new();
+    line.clear();
     line.entry(*entry);
     write_all(sink, line.as_bytes())
 }

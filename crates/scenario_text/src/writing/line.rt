@@ -37,6 +37,13 @@ impl Line {
         }
     }
 
+    /// Takes off what is on the line.
+    pub(crate) fn clear(&mut self)
+        ensures { self.new ≡ [] }
+    {
+        self.text.clear();
+    }
+
     /// What is on the line.
     pub fn as_bytes(&self) -> &[u8]
         ensures { result.now ≡ self.now }
@@ -91,7 +98,7 @@ impl Line {
         ensures longest { length self.new ≤ length self.old + 71 }
     {
         match (actor, event) {
-            (Actor::End, Event::Resched(cpu)) => self.named("resched", cpu),
+            (Actor::End, Event::Resched(cpu)) => self.indexed("resched", cpu),
             _ => self.event(event),
         }
     }
@@ -126,10 +133,10 @@ impl Line {
                 self.text(" ");
                 self.policy(policy);
             }
-            Event::Offline(cpu) => self.named("offline", cpu),
-            Event::Online(cpu) => self.named("online", cpu),
-            Event::Load(index) => self.named("load", index),
-            Event::Unload(index) => self.named("unload", index),
+            Event::Offline(cpu) => self.indexed("offline", cpu),
+            Event::Online(cpu) => self.indexed("online", cpu),
+            Event::Load(index) => self.indexed("load", index),
+            Event::Unload(index) => self.indexed("unload", index),
         }
     }
 
@@ -221,7 +228,7 @@ impl Line {
             Reply::Picked(pick) => self.pick(pick),
             Reply::Nothing => self.text("Nothing"),
             Reply::Stole { pid, from } => self.stolen(pid, from),
-            Reply::Missed(cpu) => self.named("Missed", cpu),
+            Reply::Missed(cpu) => self.indexed("Missed", cpu),
             Reply::Offline => self.text("Offline"),
             Reply::Slept { pid, pick } => {
                 self.text("Slept ");
@@ -233,7 +240,7 @@ impl Line {
             }
             Reply::Idle => self.text("Idle"),
             Reply::HasThreads => self.text("HasThreads"),
-            Reply::Woken(cpu) => self.named("Woken", cpu),
+            Reply::Woken(cpu) => self.indexed("Woken", cpu),
             Reply::Awake => self.text("Awake"),
             Reply::NoTask => self.text("NoTask"),
             Reply::Now(clock) => self.named("Now", clock),
@@ -289,7 +296,7 @@ impl Line {
         self.text(" core ");
         self.number(pick.core);
         self.text(" forced ");
-        self.number(pick.forced);
+        self.short(pick.forced);
     }
 
     fn kind(&mut self, kind: Kind)
@@ -343,6 +350,17 @@ impl Line {
         self.text(name);
         self.text(" ");
         self.number(number);
+    }
+
+    /// A word, and the number of a sibling or a guard.
+    fn indexed(&mut self, name: &str, number: u8)
+        requires { length self.old + length name.now + 4 ≤ line_room }
+        ensures text { self.new ≡ self.old ++ spaced (name.now ∷ decimal number ∷ []) }
+        ensures longest { length self.new ≤ length self.old + length name.now + 4 }
+    {
+        self.text(name);
+        self.text(" ");
+        self.short(number);
     }
 
     /// A space, and one more number.
