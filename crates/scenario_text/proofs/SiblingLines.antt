@@ -12,10 +12,10 @@ use Rattle.scenario_text.specs.declared.line.ScenarioLine.TheVariants as forms
 use Rattle.scenario_text.specs.Words.{Word}
 use Rattle.scenario_text.specs.Text.{spaced, step_words}
 use Rattle.scenario_text.specs.Grammar.{begins}
-use Rattle.scenario_text.specs.Faults.{pieces, words_in, lines_in}
+use Rattle.scenario_text.specs.Faults.{pieces, lines_in}
 use Rattle.scenario_text.specs.Reading.{◌>>=◌, Contents, place_after, parts, Read, usable, line_at, line_check, next_of, IsHead, sibling_step}
 use Rattle.scenario_text.proofs.Fields.{mark_is}
-use Rattle.scenario_text.proofs.Cuts.{HasPiece, has_piece, line_at-lines_in}
+use Rattle.scenario_text.proofs.Cuts.{has_piece, line_at-lines_in}
 use Rattle.scenario_text.proofs.Texts.{IsPlain, words_in-spaced, spaced_lacks, all_lack}
 use Rattle.scenario_text.proofs.Steps.{sibling_step_is}
 use Rattle.scenario_text.proofs.Forms.{line_again}

@@ -120,7 +120,6 @@ fn write_lines<T: Lined, K: Sink>(items: &[T], sink: &mut K) -> Result<(), Faile
 /// the sink took only a part. It takes no memory.
 ///
 /// At an `Err` the sink has failed, and a prefix of the text is written.
-#[tactic(auto, using(crate::proofs::Scenarios::text_is_its_own))]
 pub fn scenario_text<K: Sink>(scenario: &Scenario, sink: &mut K) -> Result<(), Failed>
     ensures ok { OnOk result (K.written sink.new ≡ appended (K.written sink.old) (scenario_text scenario.now)) }
     ensures prefix { WritesPrefix (K.written sink.old) (scenario_text scenario.now) (K.written sink.new) }

@@ -6,6 +6,7 @@ use Rattle.cs_outside.specs.Device.{appended, WritesPrefix}
 use Rattle.scenario_text.specs.Words.{Word, task_words, teach_words}
 use Rattle.scenario_text.specs.Text.{line, version_words, siblings_words, limits_words, step_words, end_words, scenario_lines, scenario_text}
 use Rattle.scenario_text.proofs.Reached.{AreLeft, all_left, none_left, line_more, line_prefix, part_more, part_prefix}
+use Rattle.scenario_text.proofs.Scenarios.{text_is_its_own}
 use Rattle.scenario_text.proofs.writing.scenario.scenario_text.Goals as goal
 
 abbrev head : Scenario → List (List Word)
@@ -85,3 +86,18 @@ returns-clause-prefix g c =
     let steps = items_more teach_words s.teaches _ (after_teaches s) _ _ _ _ teaches c.items-2.ensures c.in_ok-write_lines-2.ensures.ok in
     let end = items_more step_words s.steps _ last _ _ _ _ steps c.items-3.ensures c.in_ok-write_lines-3.ensures.ok in
     line_prefix _ _ end_words [] _ _ _ end refl c.write_all.ensures.prefix
+
+pub returns-in_err-write_head-clause-read_back : goal.returns-in_err-write_head-clause-read_back
+returns-in_err-write_head-clause-read_back g c = text_is_its_own c.args.scenario.now
+
+pub returns-in_err-write_lines-clause-read_back : goal.returns-in_err-write_lines-clause-read_back
+returns-in_err-write_lines-clause-read_back g c = text_is_its_own c.args.scenario.now
+
+pub returns-in_err-write_lines-2-clause-read_back : goal.returns-in_err-write_lines-2-clause-read_back
+returns-in_err-write_lines-2-clause-read_back g c = text_is_its_own c.args.scenario.now
+
+pub returns-in_err-write_lines-3-clause-read_back : goal.returns-in_err-write_lines-3-clause-read_back
+returns-in_err-write_lines-3-clause-read_back g c = text_is_its_own c.args.scenario.now
+
+pub returns-clause-read_back : goal.returns-clause-read_back
+returns-clause-read_back g c = text_is_its_own c.args.scenario.now
