@@ -1,7 +1,7 @@
 -- StepLines: a caller's event with a word that is not right is refused, whichever event and whichever word it is.
-use Rattle.std.proofs.Common.{◌≡◌, ◌∙◌, ℕ, zero, suc, ◌<◌, Bool, true, false, cond, eqb, [], ◌∷◌, length, get_or, Err, refl, sym, ap, arith}
+use Rattle.std.proofs.Common.{◌≡◌, ◌∙◌, ℕ, zero, suc, ◌<◌, Bool, true, false, cond, eqb, ltb, [], ◌∷◌, length, get_or, Err, refl, sym, ap, arith}
 use Rattle.std.specs.Prelude.{◌&&◌}
-use Rattle.std.proofs.lemmas.Bool.{and_parts, cond-true, cond-false}
+use Rattle.std.proofs.lemmas.Bool.{and_parts, ltb-true, cond-true, cond-false}
 use Rattle.std.proofs.Math.Bool.{and-false}
 use Rattle.scenario_text.specs.declared.fault.BadKind.TheVariants.{Number}
 use Rattle.scenario_text.specs.Words.{Word}
@@ -51,7 +51,7 @@ wrong_in (suc k) (reading ∷ readings) name words place is differ shape inside 
 
 -- of the k-th form of a caller's event
 pub wrong_event : (siblings k : ℕ) (name : Word) (words : Parts) (place : ℕ) → is_word (words.at 0) name ≡ true → all_differ k (caller_readings siblings) name ≡ true →
-    has (form_at k (caller_readings siblings)) words ≡ true → place < length (form_at k (caller_readings siblings)) →
+    has (form_at k (caller_readings siblings)) words ≡ true → ltb place (length (form_at k (caller_readings siblings))) ≡ true →
     (get_or (form_at k (caller_readings siblings)) place (number 0 0)).is_right (words.at place) ≡ false → Err Number ≡ read_in (caller_readings siblings) words
 wrong_event siblings k name words place named differ shape inside wrong =
-    wrong_in k (caller_readings siblings) name words place (word_is (words.at 0) name named) differ shape inside wrong
+    wrong_in k (caller_readings siblings) name words place (word_is (words.at 0) name named) differ shape (ltb-true place _ inside) wrong

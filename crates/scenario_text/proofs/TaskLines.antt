@@ -1,7 +1,7 @@
 -- TaskLines: a task line with a word that is not right is refused, whichever word it is.
-use Rattle.std.proofs.Common.{◌≡◌, ◌∙◌, ℕ, zero, suc, ◌+◌, ◌<◌, Bool, true, false, [], ◌∷◌, length, get_or, Err, refl, sym, ap, arith}
+use Rattle.std.proofs.Common.{◌≡◌, ◌∙◌, ℕ, zero, suc, ◌+◌, ◌≤◌, ◌<◌, Bool, true, false, ltb, [], ◌∷◌, length, get_or, Err, refl, sym, ap, arith}
 use Rattle.std.specs.Prelude.{◌&&◌, codes}
-use Rattle.std.proofs.lemmas.Bool.{and_from, eq-eqb, cond-true, cond-false}
+use Rattle.std.proofs.lemmas.Bool.{and_from, eq-eqb, ltb-true, cond-true, cond-false}
 use Rattle.std.proofs.Math.Bool.{and-false}
 use Rattle.scenario_text.specs.declared.fault.BadKind.TheVariants.{Number}
 use Rattle.scenario_text.specs.Grammar.{is_word, Form, number, policy, task_form}
@@ -16,11 +16,15 @@ wrong_field (field ∷ fields) k zero place words at inside wrong =
 wrong_field (field ∷ fields) k (suc j) place words at inside wrong =
     ap (λ (b : Bool). field.is_right (words.at k) && b) (wrong_field fields (suc k) j place words (omega (arith, at)) (omega arith) wrong) ∙ and-false _
 
+-- a pattern of so many words
+pub exactly : (k n : ℕ) → k ≤ n → n < suc k → n ≡ k
+exactly k n low high = omega arith
+
 -- the shape of a task line
 pub task_shape : (siblings : ℕ) (words : Parts) → words.count ≡ 15 → is_word (words.at 0) (codes "task") ≡ true → policy.has_shape (words.at 5) ≡ true → has (task_form siblings) words ≡ true
 task_shape siblings words count name shape =
     and_from _ _ (eq-eqb words.count 15 count) (and_from _ _ name (and_from _ _ shape refl))
 
-pub wrong_task : (siblings : ℕ) (words : Parts) (place : ℕ) → has (task_form siblings) words ≡ true → place < 15 → (get_or (task_form siblings) place (number 0 0)).is_right (words.at place) ≡ false → Err Number ≡ read_in ((task_form siblings, task_value) ∷ []) words
+pub wrong_task : (siblings : ℕ) (words : Parts) (place : ℕ) → has (task_form siblings) words ≡ true → ltb place 15 ≡ true → (get_or (task_form siblings) place (number 0 0)).is_right (words.at place) ≡ false → Err Number ≡ read_in ((task_form siblings, task_value) ∷ []) words
 wrong_task siblings words place shape inside wrong =
-    sym (cond-true _ _ _ shape ∙ cond-false _ _ _ (wrong_field (task_form siblings) 0 place place words (omega arith) inside wrong))
+    sym (cond-true _ _ _ shape ∙ cond-false _ _ _ (wrong_field (task_form siblings) 0 place place words (omega arith) (ltb-true place 15 inside) wrong))
