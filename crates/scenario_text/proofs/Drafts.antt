@@ -410,3 +410,7 @@ module _ (head : Head) (is : IsHead head) (plan : Contents) (planned : IsPlan he
   unfolding next_of
   next_again line next more fits checked =
       rw (usable_line head.siblings few_siblings.1 (place_after plan) line fits, line_again head.siblings (place_after plan) line few_siblings.1 fits, checked) refl
+
+-- fewer lines are left behind a line
+pub is_shorter : (lines rest more : List (List Word)) (words next : List Word) → lines ≡ words ∷ next ∷ more → rest ≡ next ∷ more → length rest < length lines
+is_shorter lines rest more words next lines_are rest_is = omega (arith, ap length lines_are, ap length rest_is)

@@ -1,4 +1,4 @@
-use Rattle.std.proofs.Common.{List, Ok, sym, ap, subst, ◌∙◌, ◌++◌, length, arith}
+use Rattle.std.proofs.Common.{List, Ok, sym, ap, subst, ◌∙◌, ◌++◌}
 use Rattle.std.proofs.lemmas.Result.{err_from_is_err_and}
 use Rattle.cs_types.specs.declared.task.TaskSpec.{TaskSpec}
 use Rattle.cs_types.specs.declared.event.Step.{Step}
@@ -9,7 +9,7 @@ use Rattle.scenario_text.specs.declared.line.ScenarioLine.TheVariants as forms
 use Rattle.scenario_text.specs.Reading.{contents, head_lines, next_of, place_after}
 use Rattle.scenario_text.proofs.Beginnings.{OnLine, told_fault, told_line}
 use Rattle.scenario_text.proofs.Building.{with_task, with_teach, with_step, ReadSoFar, task_grows, teach_grows, step_grows, grown, refused, complete, late}
-use Rattle.scenario_text.proofs.Drafts.{next_good}
+use Rattle.scenario_text.proofs.Drafts.{next_good, is_shorter}
 use Rattle.scenario_text.proofs.reading.read_plan.Goals as goal
 
 pub returns-in_err-task : goal.returns-in_err-task
@@ -31,7 +31,7 @@ loop-plan-smaller-in-Continue-branch-3 c =
     let lines = c.loop-plan.lines in
     let taken = told_line (next_of head plan lines) c.next_line.new.lines c.place-number.result.number c.next_line.result c.on_line.result c.next_line.ensures c.on_line.ensures _ c.in_ok-task.was in
     let next = next_good head c.requires.head plan c.loop-plan.invariant.is lines _ _ taken in
-    omega (arith, ap length next.lines_are, ap length next.rest_is)
+    is_shorter _ _ _ _ _ next.lines_are next.rest_is
 
 pub loop-plan-preserved-in-Continue-branch-3 : goal.loop-plan-preserved-in-Continue-branch-3
 loop-plan-preserved-in-Continue-branch-3 c =
@@ -54,7 +54,7 @@ loop-plan-smaller-in-Continue-branch-4 c =
     let lines = c.loop-plan.lines in
     let taken = told_line (next_of head plan lines) c.next_line.new.lines c.place-number.result.number c.next_line.result c.on_line.result c.next_line.ensures c.on_line.ensures _ c.in_ok-task.was in
     let next = next_good head c.requires.head plan c.loop-plan.invariant.is lines _ _ taken in
-    omega (arith, ap length next.lines_are, ap length next.rest_is)
+    is_shorter _ _ _ _ _ next.lines_are next.rest_is
 
 pub loop-plan-preserved-in-Continue-branch-4 : goal.loop-plan-preserved-in-Continue-branch-4
 loop-plan-preserved-in-Continue-branch-4 c =
@@ -77,7 +77,7 @@ loop-plan-smaller c =
     let lines = c.loop-plan.lines in
     let taken = told_line (next_of head plan lines) c.next_line.new.lines c.place-number.result.number c.next_line.result c.on_line.result c.next_line.ensures c.on_line.ensures _ c.in_ok-task.was in
     let next = next_good head c.requires.head plan c.loop-plan.invariant.is lines _ _ taken in
-    omega (arith, ap length next.lines_are, ap length next.rest_is)
+    is_shorter _ _ _ _ _ next.lines_are next.rest_is
 
 pub loop-plan-preserved : goal.loop-plan-preserved
 loop-plan-preserved c =
