@@ -19,7 +19,7 @@ use Rattle.scenario_text.specs.Words.{Word, task_words, teach_words}
 use Rattle.scenario_text.specs.Text.{step_words, end_words}
 use Rattle.scenario_text.specs.Grammar.{has_shape, end_form}
 use Rattle.scenario_text.specs.Faults.{has_end, is_nothing, kind_of, IsFirstBad}
-use Rattle.scenario_text.specs.Reading.{◌>>=◌, Contents, HasFewLines, place_after, has_fresh_pid, has_leader, check, line_check, next_of, AreGood, IsHead, head_lines, IsPlan, plan_lines, nothing}
+use Rattle.scenario_text.specs.Reading.{◌>>=◌, Contents, place_after, has_fresh_pid, has_leader, check, line_check, next_of, AreGood, IsHead, head_lines, IsPlan, plan_lines, nothing}
 use Rattle.scenario_text.proofs.Forms.{line_words, IsLine}
 use Rattle.scenario_text.proofs.Followers.{distinct_push, led_push, numbered_push}
 use Rattle.scenario_text.proofs.Kinded.{after_kind}
@@ -166,13 +166,6 @@ draft_length head plan =
     let l3 = length-map plan.teaches teach_words in
     let l4 = length-map plan.steps step_words in
     omega arith
-
-pub few_lines : (head : Head) (plan : Contents) → IsHead head → IsPlan head.siblings head.task_limit plan → HasFewLines plan
-few_lines head plan is planned = record {
-  tasks = let few = planned.few_tasks in omega (arith, is.task_limit);
-  teaches = planned.few_teaches;
-  steps = planned.few_steps;
-}
 
 module _ (head : Head) (is : IsHead head) (start : List (List Word)) (plan : Contents) (lines : List (List Word)) (so_far : ReadSoFar head start plan lines) where
   -- a line that is no end makes the plan longer

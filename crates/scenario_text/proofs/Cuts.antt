@@ -11,7 +11,7 @@ use Rattle.std.proofs.Math.Bool.{or-true}
 use Rattle.std.proofs.lemmas.List.Splits.{slice_split_none, slice_split_first}
 use Rattle.std.proofs.lemmas.List.Sums.{fails_before_first, position_or_len_is}
 use Rattle.memchr.specs.Find.{IsFirstByte, is_byte}
-use Rattle.scenario_text.specs.declared.fault.BadKind.TheVariants.{Cut, Shape}
+use Rattle.scenario_text.specs.declared.fault.BadKind.TheVariants.{Shape}
 use Rattle.scenario_text.specs.Words.{Word}
 use Rattle.scenario_text.specs.Faults.{pieces, words_in, lines_in, is_nothing}
 use Rattle.scenario_text.specs.Reading.{Read, ◌>>=◌, parts, lent, after, texts, Reads, Takes, used, line_at}
@@ -170,11 +170,6 @@ unfolding lines_in
 line_at-lines_in text line rest cut =
     let more = has_piece 10 rest in
     rw (cut, more.is) refl
-
--- the only line is not ended
-pub line_at-uncut : (text : List ℕ) → pieces 10 text ≡ text ∷ [] → line_at (lines_in text) ≡ Err Cut
-unfolding lines_in
-line_at-uncut text uncut = rw uncut refl
 
 -- a line of a byte and more is more than an empty word
 not_blank : (byte : ℕ) (line : List ℕ) → words_in (byte ∷ line) ≡ [] ∷ [] → ⊥

@@ -41,9 +41,6 @@ limits_are siblings words head few e =
 
 -- ---- what is spelled so is read
 
-pub version_again : read_in version_reading (parts version_words) ≡ Ok tt
-version_again = refl
-
 pub count_again : (siblings : ℕ) → IsWithin 1 8 siblings → read_in siblings_reading (parts (count_words siblings)) ≡ Ok siblings
 count_again siblings is =
     let again = number_again 1 8 siblings (omega arith) is in rw (again.right, again.same) refl

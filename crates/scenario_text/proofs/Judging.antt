@@ -7,7 +7,7 @@ use Rattle.scenario_text.specs.declared.fault.BadKind.TheVariants.{After, Cut, S
 use Rattle.scenario_text.specs.Words.{Word}
 use Rattle.scenario_text.specs.Grammar.{Form, has_shape, is_right}
 use Rattle.scenario_text.specs.Faults.{is_right_in}
-use Rattle.scenario_text.specs.Reading.{parts, shaped, righted, has, Read, Readings, read_in, joined}
+use Rattle.scenario_text.specs.Reading.{parts, shaped, righted, has, Read, Readings, read_in}
 
 -- ---- parts of lines
 
@@ -110,17 +110,6 @@ module _ {A : Type 0} (words : List Word) (forms more : List Form) where
   judged_before (Err Twice) none h = absurd h
   judged_before (Err Leader) none h = absurd h
   judged_before (Err Full) none h = absurd h
-
--- the same line, seen by a view
-pub judged_map : {A B : Type 0} (f : A → B) (r : Read A) (forms : List Form) (words : List Word) → Judged r forms words → Judged (joined r true f) forms words
-judged_map f (Ok x) forms words h = h
-judged_map f (Err Shape) forms words h = h
-judged_map f (Err Number) forms words h = h
-judged_map f (Err After) forms words h = absurd h
-judged_map f (Err Cut) forms words h = absurd h
-judged_map f (Err Twice) forms words h = absurd h
-judged_map f (Err Leader) forms words h = absurd h
-judged_map f (Err Full) forms words h = absurd h
 
 -- the forms of readings
 abbrev pub forms_of : {A : Type 0} → Readings A → List Form

@@ -1,6 +1,6 @@
 -- Scenarios: what is read from a text is the scenario of the text, and no line of a scenario's text is bad.
 use Rattle.std.proofs.Common.{◌≡◌, ℕ, ◌+◌, ◌<◌, List, [], ◌∷◌, ◌++◌, length, map, get_or, Result, Ok, Err, refl, sym, ap, subst, ◌∙◌, arith, append_assoc, inl, inr, All}
-use Rattle.std.specs.Prelude.{◌⊎◌, MatchResult, IfOk, IfErr, IsErrAnd, codes}
+use Rattle.std.specs.Prelude.{◌⊎◌, MatchResult, IfOk, IsErrAnd, codes}
 use Rattle.std.specs.List.{AllByRecursion, range_with_len}
 use Rattle.std.proofs.lemmas.List.{append-nil, length-map}
 use Rattle.std.proofs.lemmas.List.Elements.{recursion_from_All}
@@ -16,7 +16,7 @@ use Rattle.scenario_text.specs.declared.head.Head.{Head}
 use Rattle.scenario_text.specs.Words.{Word, task_words, teach_words}
 use Rattle.scenario_text.specs.Text.{step_words, end_words, scenario_lines, scenario_text}
 use Rattle.scenario_text.specs.Faults.{lines_in, is_named, named, IsFirstBad}
-use Rattle.scenario_text.specs.Reader.{IsTextOf, HasNoScenario, HasOneScenario, Tells}
+use Rattle.scenario_text.specs.Reader.{IsTextOf, HasNoScenario, HasOneScenario}
 use Rattle.scenario_text.specs.Grammar.{task_form, teach_form}
 use Rattle.scenario_text.specs.Reading.{parts, read_in, task_value, teach_value, step_line, siblings_reading, limits_reading, head_words, Contents, IsHead, head_lines, IsPlan, plan_lines, nothing, ReadsLines}
 use Rattle.scenario_text.proofs.Texts.{lines_in-flat_map, text_is}
@@ -240,10 +240,6 @@ pub only_of : (bytes : List ℕ) (r : Result Scenario ReadFault) → ReadsLines 
 only_of bytes (Ok found) read s is = one_scenario bytes found s (found_is bytes found read) is
 only_of bytes (Err OutOfMemory) read s is = refl
 only_of bytes (Err (Bad number kind)) read s is = absurd (none_of bytes number kind read s is)
-
-pub told_of : (bytes : List ℕ) (r : Result Scenario ReadFault) → ReadsLines (lines_in bytes) r → IfErr r (Tells (lines_in bytes))
-told_of bytes (Ok found) read = tt
-told_of bytes (Err fault) read = read
 
 pub bad_of : (bytes : List ℕ) (r : Result Scenario ReadFault) → ReadsLines (lines_in bytes) r → (number : ℕ) (kind : BadKind) → IsFirstBad (lines_in bytes) number kind →
     IsErrAnd r (λ fault. (fault ≡ Bad number kind) ⊎ (fault ≡ OutOfMemory))
