@@ -59,7 +59,7 @@ impl<'a> Lines<'a> {
         ensures { MatchOption result (self.new ≡ self.old)
             (λ step. IsStep siblings step × (line_at self.old ≡ Ok (step_words step, self.new))) }
     {
-        // (the number of a sibling is one digit)
+        // The number is one digit, since a scenario has at most 8 siblings.
         let (digit, behind) = self.rest.strip_prefix(b"step s")?.split_at_checked(1)?;
         let (name, rest) = cut_near(behind.strip_prefix(b" ")?, b'\n')?;
         let step = parse_sibling_step(digit, name, siblings).ok()?;
