@@ -1,7 +1,9 @@
-use Rattle.std.proofs.Common.{refl, ◌∙◌, sym, ap, arith, rules}
+use Rattle.std.proofs.Common.{All, refl, ◌∙◌, sym, ap, subst, arith, rules, take_all}
 use Rattle.std.specs.List.{flat_map}
 use Rattle.std.proofs.lemmas.List.{drop_all}
+use Rattle.cs_types.specs.declared.reply.Entry.{Entry}
 use Rattle.scenario_text.specs.Text.{entry_text}
+use Rattle.scenario_text.specs.Entry.{FitsReply}
 use Rattle.scenario_text.proofs.Reached.{reached_more, reached_prefix, whole_prefix, reached_end}
 use Rattle.room_report.proofs.Left.{entries_next, fits_next}
 use Rattle.room_report.proofs.parts.write_entries.Goals as goal
@@ -27,3 +29,9 @@ pub returns-clause-prefix : goal.returns-clause-prefix
 returns-clause-prefix g c =
     whole_prefix _ _ _ (reached_end _ _ _ _ c.loop-index.invariant.reached
     (ap (flat_map entry_text) (drop_all c.loop-index.index (g.R.Room.history c.args.room.now) (omega (arith, c.length-index-end.ensures.length, c.loop-index-test.false)))))
+
+pub returns-clause-numbers : goal.returns-clause-numbers
+returns-clause-numbers g c =
+    subst (All (λ (entry : Entry). FitsReply entry.reply))
+    (take_all c.loop-index.index (g.R.Room.history c.args.room.now) (omega (arith, c.length-index-end.ensures.length, c.loop-index-test.false)))
+    c.loop-index.invariant.numbers
