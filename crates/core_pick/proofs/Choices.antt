@@ -2,29 +2,31 @@
 use Rattle.std.proofs.Common.{◌≡◌, ℕ, suc, ◌+◌, ◌-◌, ◌<◌, ◌≤◌, Bool, true, false, cond, List, [], ◌∷◌, ◌++◌, map, length, get_or, refl, sym, ap, ◌∙◌, append_assoc, arith}
 use Rattle.std.specs.Prelude.{◌||◌, ◌&&◌, ◌==◌, filter, count_by, All, Option, Some, None, is_none, is_some, IfSome, not}
 use Rattle.std.specs.List.{list_any, list_all, range_with_len}
-use Rattle.std.specs.Option.{option_and_then}
 use Rattle.std.proofs.lemmas.Bool.{cond-true, cond-false}
 use Rattle.std.proofs.lemmas.List.{get_or-map}
-use Rattle.std.proofs.lemmas.List.Elements.{filter-append, All-map, All-filter, All-append, All-head, All-tail}
+use Rattle.std.proofs.lemmas.List.Elements.{filter-append, All-map, All-filter, All-append}
 use Rattle.std.proofs.lemmas.List.FromFn.{get_or-map-range_with_len, get_or-range_with_len, length-range_with_len, length-map-range_with_len}
 use Rattle.cs_types.specs.Room.{RoomState, is_online, online, online_from, queued_on}
-use Rattle.cs_types.specs.Order.{first_of, goes_before, foremost, outranks}
-use Rattle.cs_types.specs.Selection.{first_on, cookie_of, pid_of, snapshot_of, queued_with, choice, is_forced, forced_count, occupation_of, is_run, task_after_selection, lead_from}
+use Rattle.cs_types.specs.Order.{first_of, goes_before}
+use Rattle.cs_types.specs.Selection.{first_on, cookie_of, pid_of, queued_with, choice, is_forced, forced_count, occupation_of, is_run, task_after_selection}
 use Rattle.cs_types.specs.declared.task.Task.{Task}
-use Rattle.sibling_priority.specs.declared.offer.Offer.{Offer}
-use Rattle.sibling_priority.specs.Offers.{AreOffersOf, IsFirst, class_of_first, rank_of_first, snapshot_of_first}
 use Rattle.core_pick.specs.declared.choice.Choice.{Choice}
 use Rattle.core_pick.specs.declared.lead.First.{First}
-use Rattle.core_pick.specs.Choice.{first_among, kept_of, first_tasks, firsts_of, no_first, offer_in, choice_at, choices_of, task_after_choices}
+use Rattle.core_pick.specs.Choice.{kept_of, run_of, first_at, first_tasks, firsts_of, choice_at, choices_of, task_after_choices}
 use Rattle.core_lanes.proofs.Lists.{count_at, any_at, range_more, All-find}
 
 is_some-pid_of : (task : Option Task) → is_some (pid_of task) ≡ is_some task
 is_some-pid_of None = refl
 is_some-pid_of (Some task) = refl
 
-pub is_none-pid_of : (task : Option Task) → is_none (pid_of task) ≡ is_none task
-is_none-pid_of None = refl
-is_none-pid_of (Some task) = refl
+-- what is kept of a first task tells whether there is one, and which
+pub not-is_some : (first : Option Task) → not (is_some first) ≡ is_none first
+not-is_some None = refl
+not-is_some (Some task) = refl
+
+pub run_of-kept_of : (first : Option Task) → run_of (kept_of first) ≡ pid_of first
+run_of-kept_of None = refl
+run_of-kept_of (Some task) = refl
 
 -- ---- the choice
 
@@ -137,45 +139,13 @@ online_within room cpu le =
           let there = get_or-range_with_len from n k d inside in
           omega (arith, there)
 
--- the first of a sibling is found among those of all, and so is what is kept of it
-pub first_is : (room : RoomState) (cpu : ℕ) → cpu < length room.siblings → first_among (first_tasks room) cpu ≡ first_on room cpu
-first_is room cpu below = get_or-map-range_with_len (first_on room) 0 (length room.siblings) cpu cpu None below (omega arith)
-
+-- what is kept of the first of a sibling is found among that of all
 pub kept_is : (room : RoomState) (firsts : List First) → firsts ≡ firsts_of room → (cpu : ℕ) (d : First) → cpu < length room.siblings →
-    get_or firsts cpu d ≡ kept_of (snapshot_of room) (first_on room cpu)
+    get_or firsts cpu d ≡ first_at room cpu
 kept_is room firsts are cpu d below =
     ap (λ (fs : List First). get_or fs cpu d) are
-    ∙ get_or-map (kept_of (snapshot_of room)) (first_tasks room) cpu None d (omega (arith, below, length-map-range_with_len (first_on room) 0 (length room.siblings)))
-    ∙ ap (kept_of (snapshot_of room)) (first_is room cpu below)
-
--- the firsts of some siblings are found among those of all
-pub firsts_among : (room : RoomState) (cpus : List ℕ) → All (λ cpu. cpu < length room.siblings) cpus →
-    map (first_among (first_tasks room)) cpus ≡ map (first_on room) cpus
-firsts_among room [] within = refl
-firsts_among room (cpu ∷ cpus) within =
-    let P : ℕ → Type 0 = λ cpu. cpu < length room.siblings in
-    let first = first_is room cpu (All-head P cpu cpus within) in
-    λ i. first i ∷ firsts_among room cpus (All-tail P cpu cpus within) i
-
--- what is offered by what is kept of first tasks are the offers of these
-pub AreOffersOf-kept : (snapshot : ℕ → ℕ) (tasks : List (Option Task)) (order : List ℕ) → All (λ cpu. cpu < length tasks) order →
-    All IsFirst (map (first_among tasks) order) → AreOffersOf snapshot (map (first_among tasks) order) (map (offer_in (map (kept_of snapshot) tasks)) order)
-AreOffersOf-kept snapshot tasks order within priorities = record {
-  classes = each (λ o. o.class) class_of_first (λ cpu below. ap (λ (kept : First). kept.class) (at cpu below)) order within;
-  ranks = each (λ o. o.rank) rank_of_first (λ cpu below. ap (λ (kept : First). kept.rank) (at cpu below)) order within;
-  snapshots = each (λ o. o.snapshot) (snapshot_of_first snapshot) (λ cpu below. ap (λ (kept : First). kept.snapshot) (at cpu below)) order within;
-  priorities = priorities;
-} where
-  at : (cpu : ℕ) → cpu < length tasks → get_or (map (kept_of snapshot) tasks) cpu no_first ≡ kept_of snapshot (first_among tasks cpu)
-  at cpu below = get_or-map (kept_of snapshot) tasks cpu None no_first below
-
-  each : (part : Offer → ℕ) (of : Option Task → ℕ) →
-      ((cpu : ℕ) → cpu < length tasks → part (offer_in (map (kept_of snapshot) tasks) cpu) ≡ of (first_among tasks cpu)) →
-      (cpus : List ℕ) → All (λ cpu. cpu < length tasks) cpus → map part (map (offer_in (map (kept_of snapshot) tasks)) cpus) ≡ map of (map (first_among tasks) cpus)
-  each part of same [] inside = refl
-  each part of same (cpu ∷ cpus) inside =
-      let P : ℕ → Type 0 = λ cpu. cpu < length tasks in
-      λ i. same cpu (All-head P cpu cpus inside) i ∷ each part of same cpus (All-tail P cpu cpus inside) i
+    ∙ get_or-map kept_of (first_tasks room) cpu None d (omega (arith, below, length-map-range_with_len (first_on room) 0 (length room.siblings)))
+    ∙ ap kept_of (get_or-map-range_with_len (first_on room) 0 (length room.siblings) cpu cpu None below (omega arith))
 
 -- each first is a task of the room
 pub All-firsts : (P : Task → Type 0) (room : RoomState) (cpus : List ℕ) → All P room.tasks → All (λ first. IfSome first P) (map (first_on room) cpus)
@@ -183,11 +153,6 @@ All-firsts P room cpus all =
     All-map (λ (first : Option Task). IfSome first P) (first_on room) cpus (λ k d lt.
     All-find P (λ task. list_all (λ other. not (goes_before other task)) (queued_on room (get_or cpus k d))) (queued_on room (get_or cpus k d))
     (All-filter (λ task. task.queued && (task.home == get_or cpus k d)) P room.tasks all))
-
--- the lead among the firsts, by its definition
-pub lead_is : (room : RoomState) (cpu : ℕ) → option_and_then (λ (first : Option Task). first) (foremost (outranks (snapshot_of room)) (map (first_on room) (online_from room cpu))) ≡ lead_from room cpu
-unfolding lead_from
-lead_is room cpu = refl
 
 -- a task after a selection, as the code finds it among the choices
 pub map-task_after_choices : (room : RoomState) (core occupation : ℕ) (tasks : List Task) → occupation ≡ occupation_of room core →

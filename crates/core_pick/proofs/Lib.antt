@@ -2,5 +2,6 @@ pub mod Accounts
 pub mod Choices
 pub mod Remembered
 pub mod Ranges
+pub mod Leads
 pub mod Cases
 pub mod Asked

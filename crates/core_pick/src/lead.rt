@@ -1,43 +1,53 @@
 //! The lead of first tasks. It is a file of its own since it alone knows what a task offers.
 
-ghost use Rattle.std.specs.Prelude.{◌≡◌, ℕ, ◌<◌, length, map, All, IfSome, List, Option, option_copied};
-ghost use Rattle.std.specs.Option.{option_and_then};
-ghost use Rattle.cs_types.specs.declared.task.Task.{Task as SomeTask};
-ghost use Rattle.cs_types.specs.Order.{foremost, outranks};
-ghost use Rattle.cs_types.specs.Selection.{cookie_of};
-ghost use Rattle.sibling_priority.specs.Offers.{IsFirst, IsInRange, rank_of_first};
-ghost use Rattle.core_lanes.specs.Lanes.{lane_state};
-ghost use Rattle.core_pick.specs.Choice.{snapshot_in, first_among, kept_of, offer_in};
+ghost use Rattle.std.specs.Prelude.{◌≡◌, ℕ, ◌-◌, ◌<◌, ◌≤◌, ◌++◌, length, map, filter, All, IfSome, List, option_copied, if◌then◌else◌};
+ghost use Rattle.std.specs.List.{range_with_len};
+ghost use Rattle.std.specs.Option.{option_map_or};
+ghost use Rattle.cs_types.specs.Room.{is_online};
+ghost use Rattle.cs_types.specs.Order.{foremost};
+ghost use Rattle.cs_types.specs.Selection.{snapshot_of};
+ghost use Rattle.sibling_priority.specs.Offers.{IsFirst, rank_of_first};
+ghost use Rattle.task_table.specs.Table.{Table};
+ghost use Rattle.core_lanes.specs.Lanes.{Beside, lane_state, room_of};
+ghost use Rattle.core_pick.specs.Choice.{snapshot_in, kept_of, run_of, offer_in, is_ahead, AreInRange};
 
 use crate::choice::MOST_SIBLINGS;
 use arrayvec::ArrayVec;
-use core_lanes::{Lane, is_fair};
+use core_lanes::{Core, Lane, SiblingQueue, is_fair};
 use cs_types::{Cookie, Cpu, Pid, Policy, Task};
 use sibling_priority::{IDLE, Offer, higher};
 
 /// What a selection keeps of the first task of a sibling, which is less than the task. For idle it is what no
-/// task has.
+/// task has. The fields leave no gap between them, which would be copied with them.
 #[derive(Clone, Copy, Default)]
 pub struct First {
-    /// The task, none for idle.
-    pub run: Option<Pid>,
-    /// Its cookie, 0 for none.
-    pub cookie: Cookie,
-    /// Whether it is fair.
-    pub is_fair: bool,
-    /// Its class, the smaller the higher.
-    pub class: u8,
     /// Its rank within the class, the smaller the higher.
     pub rank: u128,
-    /// The least virtual time of its home, as it was last kept for comparisons, in ns.
-    pub snapshot: u128,
+    /// Its cookie, 0 for none.
+    pub cookie: Cookie,
+    /// Its number, 0 for idle.
+    pub pid: Pid,
+    /// Its class, the smaller the higher.
+    pub class: u8,
+    /// Its home, 0 for idle.
+    pub home: Cpu,
+    /// Whether there is a task.
+    pub is_task: bool,
+    /// Whether it is fair.
+    pub is_fair: bool,
+}
+
+impl First {
+    /// The task, none for idle.
+    pub fn run(&self) -> Option<Pid>
+        ensures { result ≡ run_of self.now }
+    {
+        if self.is_task { Some(self.pid) } else { None }
+    }
 }
 
 /// What is kept of the first task of each sibling, in the order of their numbers.
 pub type Firsts = ArrayVec<First, MOST_SIBLINGS>;
-
-/// Siblings in the order in which one looks at them.
-pub type Order = ArrayVec<Cpu, MOST_SIBLINGS>;
 
 /// The place of a first task within its class, the smaller the higher.
 fn rank_of(task: &Task) -> u128
@@ -53,64 +63,99 @@ fn rank_of(task: &Task) -> u128
     }
 }
 
-/// What is kept of this first task, whose home is one of these siblings.
+/// What is kept of this first task.
 #[inline(always)]
-pub fn kept_of<Q: Drop>(first: Option<&Task>, lanes: &[Lane<Q>]) -> First
-    requires first { IsFirst (option_copied first) }
-    requires home { IfSome (option_copied first) (λ task. task.home < length lanes.now) }
-    ensures { result ≡ kept_of (snapshot_in (map lane_state lanes.now)) (option_copied first.entry) }
+pub fn kept_of(first: Option<&Task>) -> First
+    requires { IsFirst (option_copied first) }
+    ensures { result ≡ kept_of (option_copied first.entry) }
 {
     match first {
         None => First {
-            run: None,
-            cookie: 0,
-            is_fair: false,
-            class: IDLE,
             rank: 0,
-            snapshot: 0,
+            cookie: 0,
+            pid: 0,
+            class: IDLE,
+            home: 0,
+            is_task: false,
+            is_fair: false,
         },
         Some(task) => First {
-            run: Some(task.spec.pid),
-            cookie: task.cookie,
-            is_fair: is_fair(task),
-            class: task.spec.policy.class().number(),
             rank: rank_of(task),
-            snapshot: lanes[task.home as usize].snapshot,
+            cookie: task.cookie,
+            pid: task.spec.pid,
+            class: task.spec.policy.class().number(),
+            home: task.home,
+            is_task: true,
+            is_fair: is_fair(task),
         },
     }
 }
 
 /// What the sibling offers, where this is kept of the first tasks of all siblings.
-fn offer(firsts: &[First], cpu: Cpu) -> Offer
-    requires { cpu < length firsts.now }
-    ensures { result ≡ offer_in firsts.now cpu }
+fn offer<Q: Drop>(firsts: &[First], lanes: &[Lane<Q>], cpu: Cpu) -> Offer
+    requires within { cpu < length firsts.now }
+    requires homes { All (λ first. first.home < length lanes.now) firsts.now }
+    ensures { result ≡ offer_in (snapshot_in (map lane_state lanes.now)) firsts.now cpu }
 {
     let first = &firsts[cpu as usize];
     Offer {
         cpu,
-        pid: first.run.unwrap_or(0),
+        pid: first.pid,
         class: first.class,
         rank: first.rank,
-        snapshot: first.snapshot,
+        snapshot: if first.is_task {
+            lanes[first.home as usize].snapshot
+        } else {
+            0
+        },
     }
 }
 
-/// The cookie of the earliest of the first tasks of these siblings than which no other is higher, and 0 for idle.
-/// The first tasks are those of all siblings.
-pub fn cookie_of_lead(order: &[Cpu], firsts: &[First]) -> Cookie
-    requires within { All (λ cpu. cpu < length firsts.now) order.now }
-    requires ranges { All IsInRange (map (offer_in firsts.now) order.now) }
-    ensures { (snapshot : ℕ → ℕ) (tasks : List (Option SomeTask)) → firsts.now ≡ map (kept_of snapshot) tasks → All IsFirst tasks →
-        result ≡ cookie_of (option_and_then (λ first. first) (foremost (outranks snapshot) (map (first_among tasks) order.now))) }
+/// The lead of the sibling and those before it, whose lead this is.
+fn lead_with<Q: Drop>(firsts: &[First], lanes: &[Lane<Q>], cpu: Cpu, before: Option<Cpu>) -> Cpu
+    requires cpu { cpu < length firsts.now }
+    requires before { IfSome before (λ lead. lead < length firsts.now) }
+    requires homes { All (λ first. first.home < length lanes.now) firsts.now }
+    requires ranges { AreInRange (snapshot_in (map lane_state lanes.now)) firsts.now }
+    ensures lead { result ≡ option_map_or
+        (λ lead. if is_ahead (snapshot_in (map lane_state lanes.now)) firsts.now cpu lead then cpu else lead) before cpu }
+    ensures within { result < length firsts.now }
 {
-    if order.is_empty() {
-        return 0;
+    let Some(lead) = before else {
+        return cpu;
+    };
+    if higher(&offer(firsts, lanes, cpu), &offer(firsts, lanes, lead)) {
+        cpu
+    } else {
+        lead
     }
-    let mut lead = 0;
-    for index in 1..order.len() {
-        if higher(&offer(firsts, order[index]), &offer(firsts, order[lead])) {
-            lead = index;
+}
+
+/// The lead of the siblings before, which this is, and of the online ones from one on up to another. It is the
+/// earliest whose first task no other is higher than.
+pub fn lead_among<Q: SiblingQueue>(
+    core: &Core<Q>,
+    firsts: &[First],
+    from: Cpu,
+    to: Cpu,
+    before: Option<Cpu>,
+) -> Option<Cpu>
+    requires ordered { from ≤ to }
+    requires to { to ≤ length core.now.lanes.items }
+    requires each { length firsts.now ≡ length core.now.lanes.items }
+    requires homes { All (λ first. first.home < length core.now.lanes.items) firsts.now }
+    requires ranges { AreInRange (snapshot_in (map lane_state core.now.lanes.items)) firsts.now }
+    requires before { IfSome before (λ lead. lead < length firsts.now) }
+    ensures lead { (beside : Beside) (table : Table) (order : List ℕ) → let room = room_of beside (core.now, table) in
+        before ≡ foremost (is_ahead (snapshot_of room) firsts.now) order →
+        result ≡ foremost (is_ahead (snapshot_of room) firsts.now) (order ++ filter (is_online room) (range_with_len from (to - from))) }
+    ensures within { IfSome result (λ lead. lead < length firsts.now) }
+{
+    let mut lead = before;
+    for cpu in from..to {
+        if core.is_online(cpu) {
+            lead = Some(lead_with(firsts, &core.lanes, cpu, lead));
         }
     }
-    firsts[order[lead] as usize].cookie
+    lead
 }

@@ -1,19 +1,16 @@
 //! What a selection for the core asks of the queues: the lead, and what each sibling gets for a core cookie.
 //! It is a file of its own since it changes nothing.
 
-ghost use Rattle.std.specs.Prelude.{◌≡◌, ℕ, ◌+◌, ◌-◌, ◌*◌, ◌<◌, ◌≤◌, [], ◌++◌, ◌||◌, ◌==◌, length, map, filter, None, is_none, if◌then◌else◌};
+ghost use Rattle.std.specs.Prelude.{◌≡◌, ℕ, ◌+◌, ◌*◌, ◌≤◌, [], ◌||◌, ◌==◌, not, length, map, None, if◌then◌else◌};
 ghost use Rattle.std.specs.List.{range_with_len};
-ghost use Rattle.arrayvec.specs.ArrayVec.{array_vec_len};
-ghost use Rattle.cs_types.specs.Room.{is_online};
 ghost use Rattle.cs_types.specs.Order.{first_of};
-ghost use Rattle.cs_types.specs.Selection.{first_on, queued_with, cookie_of, lead_from};
+ghost use Rattle.cs_types.specs.Selection.{queued_with, cookie_of, lead_from};
 ghost use Rattle.core_lanes.specs.Queued.{queued_among};
 ghost use Rattle.core_lanes.specs.Lanes.{Beside, room_of, Agree, AgreesAt, AreNoLonger, HasLowTimes};
-ghost use Rattle.task_table.specs.Table.{Table};
-ghost use Rattle.core_pick.specs.Choice.{choice_at, first_at, firsts_of, kept_of};
+ghost use Rattle.core_pick.specs.Choice.{choice_at, first_at, firsts_of};
 
 use crate::choice::{Choice, Choices, searched};
-use crate::lead::{First, Firsts, Order, cookie_of_lead, kept_of};
+use crate::lead::{First, Firsts, kept_of, lead_among};
 use core_lanes::{Core, SiblingQueue};
 use cs_types::{Cookie, Cpu, Steps, Task};
 use std::sync::ledger::Ledger;
@@ -42,9 +39,9 @@ fn first_with<Q: SiblingQueue, L: Ledger>(
 
 /// Whether a sibling with this first task gets it for a core cookie: it is idle, or has the cookie.
 fn is_kept(first: &First, cookie: Cookie) -> bool
-    ensures { result ≡ (is_none first.now.run || (first.now.cookie == cookie)) }
+    ensures { result ≡ (not first.now.is_task || (first.now.cookie == cookie)) }
 {
-    first.run.is_none() || first.cookie == cookie
+    !first.is_task || first.cookie == cookie
 }
 
 /// What a sibling with this first task gets for a core cookie.
@@ -58,15 +55,14 @@ fn choice_at<Q: SiblingQueue, L: Ledger>(
     steps: &mut Steps<L>,
 ) -> Choice
     requires { AgreesAt cpu (core.now, table.now) }
-    ensures choice { (beside : Beside) (snapshot : ℕ → ℕ) →
-        first.now ≡ kept_of snapshot (first_on (room_of beside (core.now, table.now)) cpu) →
+    ensures choice { (beside : Beside) → first.now ≡ first_at (room_of beside (core.now, table.now)) cpu →
         result ≡ choice_at (room_of beside (core.now, table.now)) cookie cpu }
     ensures counted { steps.new ≤ steps.old + Q.most_compared (length (queued_among table.now.tasks cpu)) }
 {
     let is_online = core.is_online(cpu);
     if is_kept(first, cookie) {
         return Choice {
-            run: first.run,
+            run: first.run(),
             is_online,
             is_forced: false,
             is_fair: first.is_fair,
@@ -113,7 +109,7 @@ pub fn first_at<Q: SiblingQueue, L: Ledger>(
     ensures counted { steps.new ≤ steps.old + Q.most_compared (length (queued_among table.now.tasks cpu)) }
 {
     let first = core.first_on(table, cpu, steps);
-    kept_of(first.as_ref(), &core.lanes)
+    kept_of(first.as_ref())
 }
 
 /// What is kept of the first task of a sibling, where this is that of the sibling of its own.
@@ -162,22 +158,6 @@ pub fn ask<Q: SiblingQueue, L: Ledger>(
     }
 }
 
-/// Puts the online siblings from one on up to another after the others.
-fn push_online<Q: SiblingQueue>(order: &mut Order, core: &Core<Q>, from: Cpu, to: Cpu)
-    requires ordered { from ≤ to }
-    requires within { to ≤ length core.now.lanes.items }
-    requires spare { array_vec_len order.old + (to - from) ≤ 16 }
-    ensures pushed { (beside : Beside) (table : Table) →
-        order.new.items ≡ order.old.items ++ filter (is_online (room_of beside (core.now, table))) (range_with_len from (to - from)) }
-    ensures length { array_vec_len order.new ≤ array_vec_len order.old + (to - from) }
-{
-    for cpu in from..to {
-        if core.is_online(cpu) {
-            order.push(cpu);
-        }
-    }
-}
-
 /// The cookie of the lead of a selection that the sibling makes, where these are the first tasks, and 0 for idle.
 pub fn lead_cookie<Q: SiblingQueue>(
     core: &Core<Q>,
@@ -190,8 +170,9 @@ pub fn lead_cookie<Q: SiblingQueue>(
     requires firsts { (beside : Beside) → firsts.now ≡ firsts_of (room_of beside (core.now, table.now)) }
     ensures { (beside : Beside) → result ≡ cookie_of (lead_from (room_of beside (core.now, table.now)) cpu) }
 {
-    let mut order = Order::new();
-    push_online(&mut order, core, cpu, core.lanes.len() as u8);
-    push_online(&mut order, core, 0, cpu);
-    cookie_of_lead(&order, firsts)
+    let later = lead_among(core, firsts, cpu, core.lanes.len() as u8, None);
+    match lead_among(core, firsts, 0, cpu, later) {
+        Some(lead) => firsts[lead as usize].cookie,
+        None => 0,
+    }
 }

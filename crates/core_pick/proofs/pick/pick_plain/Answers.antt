@@ -1,5 +1,4 @@
 use Rattle.std.proofs.Common.{◌≡◌, ◌∙◌, cond, ap, sym, set, map, refl}
-use Rattle.std.specs.Prelude.{unwrap_or}
 use Rattle.std.proofs.lemmas.List.{map-set}
 use Rattle.cs_types.specs.declared.reply.Kind.TheVariants.{Plain}
 use Rattle.cs_types.specs.declared.reply.Pick.{Pick}
@@ -9,6 +8,8 @@ use Rattle.core_lanes.specs.Lanes.{at, lane_state, room_of}
 use Rattle.core_lanes.specs.Numbers.{Numbers, numbers_of, touched}
 use Rattle.core_lanes.proofs.Stays.{lane_at, numbers_kept, queues_kept, alike_stays, both_stay}
 use Rattle.core_pick.specs.declared.lead.First.{First}
+use Rattle.core_pick.specs.Choice.{run_of}
+use Rattle.core_pick.proofs.Choices.{run_of-kept_of}
 use Rattle.core_pick.proofs.pick.pick_plain.Goals as goal
 
 pub returns : goal.returns
@@ -23,12 +24,12 @@ returns g c now table is_first =
     let own = numbers_kept lanes cpu lane after is c.run_first.ensures.number in
     record {
       pick = λ beside.
-          let run = c.unwrap_or.ensures ∙ ap (λ (kept : First). unwrap_or kept.run 0) (is_first (at now beside)) in
+          let run = ap (λ (kept : First). kept.pid) (is_first (at now beside)) in
           λ i. let pick : Pick = record { kind = Plain; run = run i; core = 0; forced = 0 } in pick;
       room = λ beside.
           let room = room_of (at now beside) (old, table) in
           let first = is_first (at now beside) in
-          let run = ap (λ (kept : First). kept.run) first in
+          let run = c.run.ensures ∙ ap run_of first ∙ run_of-kept_of (first_on room cpu) in
           let fair = ap (λ (kept : First). kept.is_fair) first in
           let was = sym (lane_at lanes cpu lane c.requires.cpu is) in
           let state : lane_state after ≡ record (running (sibling_of room cpu) (pid_of (first_on room cpu))) { snapshot = cond (is_fair_task (first_on room cpu)) (sibling_of room cpu).least (sibling_of room cpu).snapshot } =

@@ -2,7 +2,7 @@ use Rattle.std.proofs.Common.{◌≡◌, ◌∙◌, ◌+◌, ◌*◌, ◌<◌, �
 use Rattle.std.specs.List.{range_with_len}
 use Rattle.std.proofs.lemmas.List.{length-map, map_push}
 use Rattle.std.proofs.lemmas.List.FromFn.{map-range_with_len_more}
-use Rattle.cs_types.specs.Selection.{first_on, snapshot_of}
+use Rattle.cs_types.specs.Selection.{first_on}
 use Rattle.core_lanes.specs.Lanes.{lane_state, room_of}
 use Rattle.core_pick.specs.declared.lead.First.{First}
 use Rattle.core_pick.specs.Choice.{kept_of}
@@ -16,12 +16,11 @@ loop-cpu-preserved g c = record {
       let room = room_of beside (c.args.core.now, c.args.table.now) in
       let cpu = c.loop-cpu.cpu in
       let before = map (first_on room) (range_with_len 0 cpu) in
-      let kept = kept_of (snapshot_of room) in
       c.push.ensures.items
       ∙ ap (λ (firsts : List First). firsts ++ c.first_beside-other.result ∷ []) (c.loop-cpu.invariant.made beside)
-      ∙ ap (λ (first : First). map kept before ++ first ∷ []) (c.first_beside-other.ensures.first beside (c.requires.first beside))
-      ∙ sym (map_push kept before (first_on room cpu))
-      ∙ ap (map kept) (sym (map-range_with_len_more (first_on room) 0 cpu cpu (omega arith)));
+      ∙ ap (λ (first : First). map kept_of before ++ first ∷ []) (c.first_beside-other.ensures.first beside (c.requires.first beside))
+      ∙ sym (map_push kept_of before (first_on room cpu))
+      ∙ ap (map kept_of) (sym (map-range_with_len_more (first_on room) 0 cpu cpu (omega arith)));
   asked = λ longest longer.
       let cpu = c.loop-cpu.cpu in
       let below : cpu < length c.args.core.now.lanes.items = omega (arith, c.loop-cpu-test.true, c.len-cpu-end.ensures, c.args.core.now.lanes.ok.0) in
@@ -33,7 +32,7 @@ returns-clause-each g c beside =
     let core = c.args.core.now in
     let room = room_of beside (core, c.args.table.now) in
     let all : c.loop-cpu.cpu ≡ length (map lane_state core.lanes.items) = omega (arith, core.lanes.ok.0, c.loop-cpu-test.false, c.loop-cpu.auto.cpu-end, length-map core.lanes.items lane_state) in
-    c.loop-cpu.invariant.made beside ∙ ap (λ n. map (kept_of (snapshot_of room)) (map (first_on room) (range_with_len 0 n))) all
+    c.loop-cpu.invariant.made beside ∙ ap (λ n. map kept_of (map (first_on room) (range_with_len 0 n))) all
 
 pub returns-clause-counted : goal.returns-clause-counted
 returns-clause-counted g c longest longer =

@@ -2,7 +2,6 @@ use Rattle.std.proofs.Common.{◌≡◌, ◌∙◌, ◌+◌, ◌*◌, ◌<◌, �
 use Rattle.std.specs.List.{range_with_len}
 use Rattle.std.proofs.lemmas.List.{length-map}
 use Rattle.std.proofs.lemmas.List.FromFn.{map-range_with_len_more}
-use Rattle.cs_types.specs.Selection.{snapshot_of}
 use Rattle.core_lanes.specs.Lanes.{lane_state, room_of}
 use Rattle.core_pick.specs.Choice.{choice_at}
 use Rattle.core_pick.proofs.Asked.{one_more}
@@ -15,7 +14,7 @@ loop-cpu-preserved g c = record {
   made = λ beside are.
       let room = room_of beside (c.args.core.now, c.args.table.now) in
       let below : c.loop-cpu.cpu < length room.siblings = omega (arith, c.loop-cpu-test.true, c.len-cpu-end.ensures, c.args.core.now.lanes.ok.0, length-map c.args.core.now.lanes.items lane_state) in
-      let made = c.choice_at.ensures.choice beside (snapshot_of room) (kept_is room c.args.firsts.now are c.loop-cpu.cpu _ below) in
+      let made = c.choice_at.ensures.choice beside (kept_is room c.args.firsts.now are c.loop-cpu.cpu _ below) in
       rw (c.push.ensures.items, c.loop-cpu.invariant.made beside are, made, map-range_with_len_more (choice_at room c.args.cookie) 0 c.loop-cpu.cpu c.loop-cpu.cpu (omega arith)) refl;
   asked = λ longest longer.
       let below : c.loop-cpu.cpu < length c.args.core.now.lanes.items = omega (arith, c.loop-cpu-test.true, c.len-cpu-end.ensures, c.args.core.now.lanes.ok.0) in
