@@ -85,6 +85,7 @@ impl<Q: SiblingQueue> Core<Q> {
     }
 
     /// The task that a sibling runs, none where it runs idle.
+    #[inline(always)]
     pub fn running_on(&self, table: &TaskTable, cpu: Cpu) -> Option<Task>
         requires { cpu < length self.now.lanes.items }
         ensures task { (beside : Beside) → result ≡ running_on (room_of beside (self.now, table.now)) cpu }
