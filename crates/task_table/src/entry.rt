@@ -58,7 +58,10 @@ pub(crate) fn first_in(entries: &[Entry], group: Group) -> Option<usize>
     entries.iter().position(|entry| entry.is_in(group))
 }
 
-/// The position of the entry with the pid, or the position where it would go. The entries rise by pid.
+/// The position of the entry with the pid, or the position where it would go. The entries rise by pid. It is
+/// seldom called, since most positions are noted.
+#[cold]
+#[inline(never)]
 pub(crate) fn position_of(entries: &[Entry], pid: Pid) -> Result<usize, usize>
     ensures { (tasks : List SomeTask) → IsIndexOf entries.now tasks → Rises tasks →
         MatchResult result (λ position. IsAt pid position tasks) (λ position. IsGap pid position tasks) }

@@ -148,7 +148,7 @@ impl TaskTable {
         ensures sound { IsSound self.now }
     {
         match self.position_of(pid) {
-            Ok(position) => self.at(position),
+            Ok(position) => self.slots.get(self.entries[position].key),
             Err(_) => None,
         }
     }
