@@ -98,22 +98,11 @@ fn update_task(tasks: &mut TaskTable, choice: &Choice, occupation: u8)
     }
 }
 
-/// Makes each task what it is after a selection for the core: those that are chosen remember the
-/// occupation.
-pub fn update_tasks(tasks: &mut TaskTable, choices: &[Choice], occupation: u8)
-    requires { IsTable tasks.old }
-    ensures tasks { tasks.new ≡ record tasks.old { tasks = map (task_after_choices choices.now occupation) tasks.old.tasks } }
-    ensures sound { IsTable tasks.new }
-{
-    for choice in choices {
-        update_task(tasks, choice, occupation);
-    }
-}
-
-/// Hands each online sibling its choice in a selection for the core that the selector makes. The test says
-/// whether snapshots are renewed.
-pub fn update_siblings<Q: Drop>(
+/// Hands each online sibling its choice in a selection for the core that the selector makes, and has each task that
+/// is chosen remember the occupation. The test says whether snapshots are renewed.
+pub fn update<Q: Drop>(
     lanes: &mut [Lane<Q>],
+    tasks: &mut TaskTable,
     selector: Cpu,
     choices: &[Choice],
     occupation: u8,
@@ -121,15 +110,20 @@ pub fn update_siblings<Q: Drop>(
 )
     requires each { length choices.now ≡ length lanes.old }
     requires few { length lanes.old ≤ 16 }
+    requires table { IsTable tasks.old }
     ensures states { (room : RoomState) (cookie : ℕ) → room.siblings ≡ map lane_state lanes.old → choices.now ≡ choices_of room cookie →
         occupation ≡ occupation_of room cookie → renews ≡ renews_snapshots room cookie →
         map lane_state lanes.new ≡ (select_for room selector cookie).siblings }
     ensures numbers { map (λ lane. lane.number) lanes.new ≡ map (λ lane. lane.number) lanes.old }
     ensures queues { map (λ lane. lane.queue) lanes.new ≡ map (λ lane. lane.queue) lanes.old }
+    ensures tasks { tasks.new ≡ record tasks.old { tasks = map (task_after_choices choices.now occupation) tasks.old.tasks } }
+    ensures sound { IsTable tasks.new }
 {
     for (cpu, lane) in lanes.iter_mut().enumerate() {
+        let choice = choices[cpu];
+        update_task(tasks, &choice, occupation);
         if lane.online {
-            hand(lane, selector, cpu as u8, choices[cpu], occupation, renews);
+            hand(lane, selector, cpu as u8, choice, occupation, renews);
         }
     }
 }

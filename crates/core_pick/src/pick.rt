@@ -13,7 +13,7 @@ ghost use Rattle.core_pick.specs.Schedules.{may_adopt_by, MayPick, MaySchedule, 
 
 use crate::account::charge;
 use crate::balance::balance;
-use crate::choice::{Choices, Counts, counted, update_siblings, update_tasks};
+use crate::choice::{Choices, Counts, counted, update};
 use crate::lead::{First, Firsts};
 use crate::selection::{ask, choose, first_at, lead_cookie};
 use crate::sibling::{run, run_first};
@@ -139,8 +139,7 @@ fn select_for<Q: SiblingQueue, L: Ledger>(
     let renews = renews_snapshots(core.account.count(), forced);
     core.cookie = cookie;
     core.account.begin(cookie, forced, occupation, now);
-    update_tasks(table, choices, occupation);
-    update_siblings(&mut core.lanes, cpu, choices, occupation, renews);
+    update(&mut core.lanes, table, cpu, choices, occupation, renews);
     choices[cpu as usize].run
 }
 

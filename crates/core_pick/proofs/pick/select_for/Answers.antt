@@ -50,10 +50,10 @@ returns-clause-room g c beside =
     let started = c.begin.ensures.started ∙ ap (λ n. cond ((n == 0) || (c.args.cookie == 0)) None (Some c.args.now)) forced in
     let tasks = ap (λ (choices : List Choice). map (task_after_choices choices c.counted-forced.result.occupation) c.args.table.now.tasks) are
     ∙ map-task_after_choices room c.args.cookie c.counted-forced.result.occupation c.args.table.now.tasks occupation in
-    let kept_lanes = items-as_many c.args.core.now.lanes c.update_siblings.new.lanes (c.update_siblings.auto.lanes ∙ ap length c.deref_mut.ensures.value) in
+    let kept_lanes = items-as_many c.args.core.now.lanes c.update.new.lanes (c.update.auto.lanes ∙ ap length c.deref_mut.ensures.value) in
     let siblings = ap (map lane_state) kept_lanes
-    ∙ c.update_siblings.ensures.states room c.args.cookie (sym (ap (map lane_state) c.deref_mut.ensures.value)) are occupation renews_is in
-    let table = c.update_tasks.ensures.tasks ∙ (λ i. record c.args.table.now { tasks = tasks i }) in
+    ∙ c.update.ensures.states room c.args.cookie (sym (ap (map lane_state) c.deref_mut.ensures.value)) are occupation renews_is in
+    let table = c.update.ensures.tasks ∙ (λ i. record c.args.table.now { tasks = tasks i }) in
     λ i. record room {
       task_limit = (table i).limit;
       tasks = (table i).tasks;
@@ -66,29 +66,29 @@ returns-clause-room g c beside =
 
 pub returns-clause-stays : goal.returns-clause-stays
 returns-clause-stays g c =
-    let kept_lanes = items-as_many c.args.core.now.lanes c.update_siblings.new.lanes (c.update_siblings.auto.lanes ∙ ap length c.deref_mut.ensures.value) in
-    stays-remembered _ _ c.as_slice-choices.result.now c.counted-forced.result.occupation c.update_tasks.ensures.tasks c.update_tasks.ensures.sound
-    (ap (map queue_of) kept_lanes ∙ c.update_siblings.ensures.queues ∙ ap (map queue_of) c.deref_mut.ensures.value) refl
+    let kept_lanes = items-as_many c.args.core.now.lanes c.update.new.lanes (c.update.auto.lanes ∙ ap length c.deref_mut.ensures.value) in
+    stays-remembered _ _ c.as_slice-choices.result.now c.counted-forced.result.occupation c.update.ensures.tasks c.update.ensures.sound
+    (ap (map queue_of) kept_lanes ∙ c.update.ensures.queues ∙ ap (map queue_of) c.deref_mut.ensures.value) refl
 
-pub update_siblings-requires-clause-each : goal.update_siblings-requires-clause-each
-update_siblings-requires-clause-each g c = ap length c.as_slice-choices.ensures.value ∙ c.choose.ensures.length ∙ sym (ap length c.deref_mut.ensures.value)
+pub update-requires-clause-each : goal.update-requires-clause-each
+update-requires-clause-each g c = ap length c.as_slice-choices.ensures.value ∙ c.choose.ensures.length ∙ sym (ap length c.deref_mut.ensures.value)
 
-pub update_siblings-requires-clause-few : goal.update_siblings-requires-clause-few
-update_siblings-requires-clause-few g c = subst (λ n. n ≤ 16) (sym (ap length c.deref_mut.ensures.value)) c.args.core.now.few
+pub update-requires-clause-few : goal.update-requires-clause-few
+update-requires-clause-few g c = subst (λ n. n ≤ 16) (sym (ap length c.deref_mut.ensures.value)) c.args.core.now.few
 
 pub bounds-choices-cpu : goal.bounds-choices-cpu
 bounds-choices-cpu g c = subst (λ n. c.args.cpu < n) (sym (ap length c.as_slice-choices.ensures.value ∙ c.choose.ensures.length)) c.requires.at.cpu
 
 pub returns-clause-numbers : goal.returns-clause-numbers
 returns-clause-numbers g c =
-    let kept_lanes = items-as_many c.args.core.now.lanes c.update_siblings.new.lanes (c.update_siblings.auto.lanes ∙ ap length c.deref_mut.ensures.value) in
-    let own = ap (map number_of) kept_lanes ∙ c.update_siblings.ensures.numbers ∙ ap (map number_of) c.deref_mut.ensures.value in
-    λ i. record (numbers_by (bare c.args.core.now) (c.update_tasks.ensures.tasks i)) { intervals = c.begin.ensures.intervals i; own = own i }
+    let kept_lanes = items-as_many c.args.core.now.lanes c.update.new.lanes (c.update.auto.lanes ∙ ap length c.deref_mut.ensures.value) in
+    let own = ap (map number_of) kept_lanes ∙ c.update.ensures.numbers ∙ ap (map number_of) c.deref_mut.ensures.value in
+    λ i. record (numbers_by (bare c.args.core.now) (c.update.ensures.tasks i)) { intervals = c.begin.ensures.intervals i; own = own i }
 
 pub invariant_of-core : goal.invariant_of-core
 invariant_of-core g c =
-    let kept_lanes = items-as_many c.args.core.now.lanes c.update_siblings.new.lanes (c.update_siblings.auto.lanes ∙ ap length c.deref_mut.ensures.value) in
-    record { few = subst (λ n. n ≤ 16) (sym (ap length kept_lanes ∙ c.update_siblings.auto.lanes ∙ ap length c.deref_mut.ensures.value)) c.args.core.now.few }
+    let kept_lanes = items-as_many c.args.core.now.lanes c.update.new.lanes (c.update.auto.lanes ∙ ap length c.deref_mut.ensures.value) in
+    record { few = subst (λ n. n ≤ 16) (sym (ap length kept_lanes ∙ c.update.auto.lanes ∙ ap length c.deref_mut.ensures.value)) c.args.core.now.few }
 
 pub returns-clause-counted : goal.returns-clause-counted
 returns-clause-counted g c longest longer = c.choose.ensures.counted longest longer

@@ -1,18 +1,22 @@
-use Rattle.std.proofs.Common.{ℕ, refl, ◌≡◌, ◌<◌, ◌≤◌, ◌*◌, ◌++◌, Fits, w8, w64, subst, ◌∙◌, ap, sym, map, take, drop, length, get_or, arith}
+use Rattle.std.proofs.Common.{List, ℕ, refl, ◌≡◌, ◌<◌, ◌≤◌, ◌*◌, ◌++◌, Fits, w8, w64, subst, ◌∙◌, ap, sym, map, take, drop, length, get_or, arith}
 use Rattle.std.specs.List.{enumerate_from}
 use Rattle.std.proofs.lemmas.Bool.{cond-true, cond-false}
-use Rattle.std.proofs.lemmas.List.{append-nil, map-set, length-map, get_or-map}
+use Rattle.std.proofs.lemmas.List.{append-nil, map-set, map-id, take_more, length-map, get_or-map}
 use Rattle.std.proofs.Math.Seq.{take-length, drop-length}
 use Rattle.cs_types.specs.Room.{RoomState, SiblingState, idle}
 use Rattle.cs_types.specs.Selection.{occupation_of, renews_snapshots, sibling_after_selection, select_for}
 use Rattle.cs_types.proofs.Selections.{numbered_after_selection}
+use Rattle.cs_types.specs.declared.task.Task.{Task}
+use Rattle.task_table.specs.Table.{Table}
 use Rattle.core_lanes.specs.Lanes.{lane_state}
-use Rattle.core_pick.specs.Choice.{choices_of}
+use Rattle.core_pick.specs.declared.choice.Choice.{Choice}
+use Rattle.core_pick.specs.Choice.{choices_of, task_after_choice, task_after_choices}
+use Rattle.core_pick.proofs.Remembered.{map-task_after_choices_push}
 use Rattle.core_lanes.proofs.Lists.{placed_more}
 use Rattle.core_lanes.proofs.Stays.{number_of, queue_of, numbers_kept, queues_kept}
 use Rattle.core_pick.proofs.Choices.{no_choice, choice_in}
-use Rattle.core_pick.proofs.choice.update_siblings.Goals as goal
-use Rattle.core_pick.proofs.choice.update_siblings.Goals.{then-lane, else-lane}
+use Rattle.core_pick.proofs.choice.update.Goals as goal
+use Rattle.core_pick.proofs.choice.update.Goals.{then-lane, else-lane}
 
 -- the number of a sibling fits a byte, and its choice the memory
 number_fits : (cpu count : ℕ) → cpu < count → count ≤ 16 → Fits w8 cpu
@@ -31,7 +35,13 @@ pub bounds-choices-cpu : goal.bounds-choices-cpu
 bounds-choices-cpu g c = subst (λ n. c.loop-cpu.cpu < n) (sym c.requires.each) c.loop-cpu-test.true
 
 pub loop-cpu-init : goal.loop-cpu-init
-loop-cpu-init g c = record { states = λ room core is each occupation renews. refl; numbers = refl; queues = refl }
+loop-cpu-init g c = record {
+  states = λ room core is each occupation renews. refl;
+  numbers = refl;
+  queues = refl;
+  sound = record { rising = c.requires.table.rising; known = c.requires.table.known; few = c.requires.table.few; limit = c.requires.table.limit };
+  so_far = ap (λ (tasks : List Task). let table : Table = record c.args.tasks.now { tasks = tasks } in table) (sym (map-id c.args.tasks.now.tasks));
+}
 
 pub loop-cpu-preserved : goal.loop-cpu-preserved
 loop-cpu-preserved g c =
@@ -47,6 +57,14 @@ loop-cpu-preserved g c =
     placed_more (numbered_after_selection room core c.args.selector) states (map lane_state c.loop-cpu.lanes) cpu now idle within
     (c.loop-cpu.invariant.states room core is each occupation renews)
     (same ∙ ap (λ (state : SiblingState). numbered_after_selection room core c.args.selector (cpu, state)) (sym (get_or-map lane_state c.loop-cpu.lanes cpu lane idle inside))) in
+    let choices = c.args.choices.now in
+    let sound = c.update_task.ensures.sound in
+    let so_far = c.update_task.ensures.tasks
+    ∙ ap (λ (table : Table). let now : Table = record table { tasks = map (task_after_choice (get_or choices cpu no_choice) c.args.occupation) table.tasks } in now) c.loop-cpu.invariant.so_far
+    ∙ ap (λ (tasks : List Task). let table : Table = record c.args.tasks.now { tasks = tasks } in table)
+    (map-task_after_choices_push (take cpu choices) (get_or choices cpu no_choice) c.args.occupation c.args.tasks.now.tasks
+    ∙ ap (λ (so_far : List Choice). map (task_after_choices so_far c.args.occupation) c.args.tasks.now.tasks)
+    (sym (take_more choices cpu no_choice (subst (λ n. cpu < n) (sym c.requires.each) c.loop-cpu-test.true)))) in
     elim c.if-lane.branch [
       | then-lane w ↦ record {
         states = λ room core is each occupation renews.
@@ -58,6 +76,8 @@ loop-cpu-preserved g c =
         numbers = ap (map number_of) w.lanes-is
             ∙ numbers_kept c.loop-cpu.lanes cpu lane w.hand.new.lane c.index-lanes-cpu.is (w.hand.ensures.number ∙ ap number_of (sym c.index-lanes-cpu.is)) ∙ c.loop-cpu.invariant.numbers;
         queues = ap (map queue_of) w.lanes-is ∙ queues_kept c.loop-cpu.lanes cpu lane w.hand.new.lane c.index-lanes-cpu.is (w.hand.ensures.queue ∙ ap queue_of (sym c.index-lanes-cpu.is)) ∙ c.loop-cpu.invariant.queues;
+        sound = sound;
+        so_far = so_far;
       }
       | else-lane w ↦ record {
         states = λ room core is each occupation renews.
@@ -66,6 +86,8 @@ loop-cpu-preserved g c =
             (sym (cond-false old.online (sibling_after_selection room core c.args.selector cpu (lane_state old)) (lane_state old) w.if-lane.false));
         numbers = ap (map number_of) w.lanes-is ∙ numbers_kept c.loop-cpu.lanes cpu lane old c.index-lanes-cpu.is (ap number_of (sym c.index-lanes-cpu.is)) ∙ c.loop-cpu.invariant.numbers;
         queues = ap (map queue_of) w.lanes-is ∙ queues_kept c.loop-cpu.lanes cpu lane old c.index-lanes-cpu.is (ap queue_of (sym c.index-lanes-cpu.is)) ∙ c.loop-cpu.invariant.queues;
+        sound = sound;
+        so_far = so_far;
       }
     ]
 
@@ -79,3 +101,11 @@ returns-clause-states g c room core is each occupation renews =
     ∙ ap (λ n. map after (enumerate_from 0 (take n states)) ++ drop n states) all
     ∙ (λ i. map after (enumerate_from 0 (take-length states i)) ++ drop-length states i)
     ∙ append-nil (map after (enumerate_from 0 states)) ∙ ap (λ siblings. map after (enumerate_from 0 siblings)) (sym is)
+
+pub returns-clause-tasks : goal.returns-clause-tasks
+returns-clause-tasks g c =
+    let choices = c.args.choices.now in
+    let all : c.loop-cpu.cpu ≡ length choices = omega (arith, c.requires.each, c.loop-cpu-test.false, c.loop-cpu.auto.cpu-end) in
+    c.loop-cpu.invariant.so_far
+    ∙ ap (λ (so_far : List Choice). let table : Table = record c.args.tasks.now { tasks = map (task_after_choices so_far c.args.occupation) c.args.tasks.now.tasks } in table)
+    (ap (λ n. take n choices) all ∙ take-length choices)

@@ -3,10 +3,11 @@ use Rattle.std.specs.List.{enumerate_from}
 use Rattle.cs_types.specs.Room.{RoomState}
 use Rattle.cs_types.specs.Selection.{occupation_of, renews_snapshots}
 use Rattle.cs_types.proofs.Selections.{numbered_after_selection}
+use Rattle.task_table.specs.Table.{IsSound as IsTable}
 use Rattle.core_lanes.specs.Lanes.{lane_state}
-use Rattle.core_pick.specs.Choice.{choices_of}
+use Rattle.core_pick.specs.Choice.{choices_of, task_after_choices}
 use Rattle.core_lanes.proofs.Stays.{number_of, queue_of}
-use Rattle.core_pick.proofs.choice.update_siblings.Given as goal
+use Rattle.core_pick.proofs.choice.update.Given as goal
 
 abbrev pub invariant-loop-cpu : goal.invariant-loop-cpu
 invariant-loop-cpu g l =
@@ -17,4 +18,6 @@ invariant-loop-cpu g l =
           map lane_state l.lanes ≡ map (numbered_after_selection room core l.selector) (enumerate_from 0 (take l.cpu states)) ++ drop l.cpu states;
       numbers : map number_of l.lanes ≡ map number_of l.initial.lanes;
       queues : map queue_of l.lanes ≡ map queue_of l.initial.lanes;
+      sound : IsTable l.tasks;
+      so_far : l.tasks ≡ record l.initial.tasks { tasks = map (task_after_choices (take l.cpu l.choices) l.occupation) l.initial.tasks.tasks };
     }
