@@ -220,6 +220,7 @@ impl<Q: SiblingQueue> Core<Q> {
     }
 
     /// The task in the place of the one with its pid, in the table and in the queues.
+    #[inline(always)]
     pub fn replace<L: Ledger>(&mut self, table: &mut TaskTable, task: Task, steps: &mut Steps<L>)
         requires fits { FitsIn (self.old, table.old) task }
         requires agree { Agree (self.old, table.old) }
@@ -305,6 +306,7 @@ impl<Q: SiblingQueue> Core<Q> {
     }
 
     /// The task's numbers are these now.
+    #[inline(always)]
     pub fn change<L: Ledger>(&mut self, table: &mut TaskTable, task: Task, steps: &mut Steps<L>)
         requires knows { Knows (self.old, table.old) task }
         requires agree { Agree (self.old, table.old) }
