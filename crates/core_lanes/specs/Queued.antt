@@ -18,6 +18,10 @@ queued_among tasks cpu = filter (λ task. task.queued && (task.home == cpu)) tas
 abbrev pub queued_at : List Task → ℕ → List Queued
 queued_at tasks cpu = map queued_of (queued_among tasks cpu)
 
+-- a task as it is told where all leave: its stamp, and its pid
+abbrev pub mover_of : Task → ℕ × ℕ
+mover_of task = (task.stamp, task.spec.pid)
+
 -- those but for the one with this pid
 abbrev pub others : ℕ → List Queued → List Queued
 others pid queued = filter (λ task. not (task.pid == pid)) queued

@@ -1,6 +1,8 @@
 //! The core.
 
-ghost use Rattle.std.specs.Prelude.{◌≡◌, ◌≢◌, ℕ, [], ◌+◌, ◌^◌, ◌<◌, ◌≤◌, length, map, find, is_some, All, Some, IfOk, IfSome, slice_get, IsTrue, if◌then◌else◌};
+ghost use Rattle.std.specs.Prelude.{◌≡◌, ◌≢◌, ℕ, [], ◌+◌, ◌^◌, ◌<◌, ◌≤◌, length, map, find, is_some, All, Some, IfOk, IfSome, slice_get, IsPermutation, IsTrue, if◌then◌else◌};
+ghost use Rattle.std.specs.Ordering.{nat_cmp};
+ghost use Rattle.std.specs.List.Sorted.{IsSortedByKey};
 ghost use Rattle.cs_types.specs.declared.task.Task.{Task as SomeTask};
 ghost use Rattle.cs_types.specs.Room.{has_pid, is_online, running_on, with_task, flag};
 ghost use Rattle.cs_types.specs.Selection.{first_on};
@@ -8,11 +10,11 @@ ghost use Rattle.cs_types.specs.Step.{run_idle};
 ghost use Rattle.cs_types.specs.Steal.{set_place};
 ghost use Rattle.cs_types.specs.Queueing.{enqueue, dequeue, moved_to};
 ghost use Rattle.task_table.specs.Table.{Table, IsSound as IsTable};
-ghost use Rattle.core_lanes.specs.Queued.{IsOf, queued_among, queued_at, others, given_cookie, is_alike};
+ghost use Rattle.core_lanes.specs.Queued.{IsOf, queued_among, queued_at, mover_of, others, given_cookie, is_alike};
 
 use crate::lane::Lane;
 use crate::order::is_alike;
-use crate::queue::SiblingQueue;
+use crate::queue::{Movers, SiblingQueue};
 use cs_types::{Cookie, Cpu, OutOfMemory, Pid, Steps, Task};
 use forceidle_account::ForceIdle;
 use std::alloc::Global;
@@ -281,13 +283,21 @@ impl<Q: SiblingQueue> Core<Q> {
         table.change(Task { cookie, ..*task });
     }
 
-    /// The queue of a sibling, whose tasks are about to leave, is empty.
-    pub fn empty_queue(&mut self, leaving: Cpu)
+    /// The queue of a sibling, whose tasks are about to leave, is empty. The list, which has none yet, tells them
+    /// by rising stamp.
+    pub fn empty_queue(&mut self, table: &TaskTable, leaving: Cpu, movers: &mut Movers)
         requires cpu { leaving < length self.old.lanes.items }
+        requires agree { Agree (self.old, table.now) }
+        requires none { movers.old.items ≡ [] }
         ensures bare { bare self.new ≡ bare self.old }
-        ensures away { (table : Table) → Agree (self.old, table) → AgreeAway leaving (self.new, table) }
+        ensures away { AgreeAway leaving (self.new, table.now) }
+        ensures told { IsPermutation (map mover_of (queued_among table.now.tasks leaving)) movers.new.items }
+        ensures rising { IsSortedByKey (λ mover. mover.0) nat_cmp movers.new.items }
     {
-        self.lanes[leaving as usize].queue.clear();
+        self.lanes[leaving as usize]
+            .queue
+            .clear_into(table, leaving, movers);
+        movers.sort_unstable_by_key(|mover| mover.0);
     }
 
     /// The task leaves its home, whose queue is empty already, and enters the queue of its new one.

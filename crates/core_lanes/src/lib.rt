@@ -6,10 +6,8 @@ mod lane;
 mod lanes;
 mod order;
 mod queue;
-mod stamps;
 
 pub use lane::Lane;
 pub use lanes::{Core, task_of};
 pub use order::{goes_before, is_fair, is_higher, priority_of};
-pub use queue::{MOST_TASKS, SiblingQueue, is_on};
-pub use stamps::{Stamps, count_before, sorted_stamps_on};
+pub use queue::{MOST_TASKS, Movers, SiblingQueue, is_on};

@@ -1,19 +1,23 @@
 //! What a sibling's queue is asked. It is a trait, so that one text of the events serves every kind of queue.
 
-ghost use Rattle.std.specs.Prelude.{◌≡◌, ◌≢◌, ◌==◌, ◌&&◌, ℕ, ◌+◌, ◌≤◌, List, [], length, IfOk, IsTrue};
+ghost use Rattle.std.specs.Prelude.{◌≡◌, ◌≢◌, ◌==◌, ◌&&◌, ℕ, ◌+◌, ◌≤◌, List, [], ◌++◌, length, map, IfOk, IsPermutation, IsTrue};
 ghost use Rattle.cs_types.specs.declared.queue.Queued.{Queued};
 ghost use Rattle.cs_types.specs.Order.{first_of};
 ghost use Rattle.cs_types.specs.Scenario.{IsPolicy};
-ghost use Rattle.core_lanes.specs.Queued.{queued_among, queued_at, others, given_cookie, IsOf, HasOwnStamp, with_cookie, behind, smallest_vtime, has_peer, HavePolicies};
+ghost use Rattle.core_lanes.specs.Queued.{queued_among, queued_at, mover_of, others, given_cookie, IsOf, HasOwnStamp, with_cookie, behind, smallest_vtime, has_peer, HavePolicies};
 ghost use Rattle.task_table.specs.Table.{IsSound as IsTable};
 
-use cs_types::{Cookie, Cpu, OutOfMemory, Steps, Task};
+use arrayvec::ArrayVec;
+use cs_types::{Cookie, Cpu, OutOfMemory, Pid, Steps, Task};
 use std::alloc::Global;
 use std::sync::ledger::Ledger;
 use task_table::TaskTable;
 
 /// The most tasks that live at once.
 pub const MOST_TASKS: usize = 256;
+
+/// Some tasks, each by its stamp and its pid.
+pub type Movers = ArrayVec<(u64, Pid), MOST_TASKS>;
 
 /// The queued tasks of one sibling (`struct rq`). The tasks themselves stand in a table, which each call is
 /// handed: what the queue is asked is answered of the tasks that the table has queued on the sibling, and the
@@ -69,9 +73,13 @@ pub trait SiblingQueue: Drop {
         ensures holds { holds self.new table.now.limit (queued_at (given_cookie task.now cookie table.now.tasks) cpu) }
         ensures counted { steps.new ≤ steps.old + most_compared (length (queued_among table.now.tasks cpu)) };
 
-    /// Every task leaves. It can take as many in all as before.
-    fn clear(&mut self)
-        ensures { (most : ℕ) (tasks : List Queued) → holds self.old most tasks → holds self.new most [] };
+    /// Every task leaves, and each is told by its stamp and its pid, in any order. It can take as many in all as
+    /// before. There is a place for each task in the list.
+    fn clear_into(&mut self, table: &TaskTable, cpu: Cpu, movers: &mut Movers)
+        requires places { length movers.old.items + length (queued_among table.now.tasks cpu) ≤ 256 }
+        requires holds { holds self.old table.now.limit (queued_at table.now.tasks cpu) }
+        ensures holds { holds self.new table.now.limit [] }
+        ensures told { IsPermutation (movers.old.items ++ map mover_of (queued_among table.now.tasks cpu)) movers.new.items };
 
     /// The first task, `None` where there is none (`pick_task`).
     fn first<L: Ledger>(&self, table: &TaskTable, cpu: Cpu, steps: &mut Steps<L>) -> Option<Task>

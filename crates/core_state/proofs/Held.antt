@@ -7,10 +7,14 @@ use Rattle.std.specs.FinMap.{get-insert}
 use Rattle.std.specs.Cmp.{tied_itself}
 use Rattle.std.specs.Ordering.{is_eq}
 use Rattle.std.proofs.lemmas.Bool.{cases_Bool, cond-true, cond-false}
+use Rattle.std.specs.List.Sorted.{IsPermutation}
+use Rattle.std.proofs.lemmas.List.{nil_from_length}
 use Rattle.std.proofs.lemmas.List.Elements.{filter-append}
+use Rattle.std.proofs.lemmas.List.Sorted.{IsPermutation-refl, IsPermutation-trans, IsPermutation-cons}
 use Rattle.cs_types.specs.declared.queue.Queued.{Queued}
 use Rattle.cs_types.specs.Queue.{RunQueued, Seat, Seats, Spot, Spots, seat_cmp, spot_cmp, seat_of, spot_of}
 use Rattle.cs_types.proofs.Queues.{seat_total, seat_cmp-IsAntisymmetric, spot_total, spot_cmp-IsAntisymmetric}
+use Rattle.order_tree.proofs.Entries.{IsPermutation-put}
 use Rattle.run_queue.specs.Run.{without, including}
 use Rattle.run_queue.proofs.Ties.{has-insert, had-insert, longer-insert}
 use Rattle.core_state.specs.Held.{AreApart, AreDistinct, Holds, has_cookie, seated, spotted}
@@ -180,3 +184,17 @@ len-seated (task ∷ tasks) distinct =
     (free_at seat_total seat_cmp-IsAntisymmetric seat_of seat_stamp task tasks distinct.0) in
     let rest = len-seated tasks distinct.1 in
     omega arith
+
+-- and has them in another order
+pub entries-seated : (tasks : List Queued) → AreDistinct tasks → IsPermutation (map (λ (t : Queued). (seat_of t, t.pid)) tasks) (fin.entries (seated tasks))
+entries-seated [] distinct =
+    let none : fin.entries (seated []) ≡ [] = nil_from_length _ (sym (fin.len-entries (seated [])) ∙ fin.len-empty seat_cmp ℕ) in
+    subst (IsPermutation []) (sym none) (IsPermutation-refl [])
+entries-seated (task ∷ tasks) distinct =
+    let entry : Seat × ℕ = (seat_of task, task.pid) in
+    let others = map (λ (t : Queued). (seat_of t, t.pid)) tasks in
+    let free = free_at seat_total seat_cmp-IsAntisymmetric seat_of seat_stamp task tasks distinct.0 in
+    subst (IsPermutation (entry ∷ others)) (sym (fin.entries-insert seat_total (seated tasks) (seat_of task) task.pid))
+    (IsPermutation-trans (entry ∷ others) (entry ∷ fin.entries (seated tasks)) (fin.put seat_cmp (seat_of task) task.pid (fin.entries (seated tasks)))
+    (IsPermutation-cons entry others (fin.entries (seated tasks)) (entries-seated tasks distinct.1))
+    (IsPermutation-put seat_cmp entry (fin.entries (seated tasks)) (sym (fin.get-entries (seated tasks) (seat_of task)) ∙ free)))

@@ -2,7 +2,7 @@
 //! task of a pid.
 
 use crate::task::{KINDS, kind_of, queued_of};
-use core_lanes::{SiblingQueue, is_on, task_of};
+use core_lanes::{Movers, SiblingQueue, is_on, task_of};
 use cs_types::{Cookie, Cpu, OutOfMemory, Steps, Task};
 use run_queue::RunQueue;
 use std::alloc::Global;
@@ -62,8 +62,8 @@ impl SiblingQueue for TreeQueue {
         self.run.set_cookie(&queued_of(task), cookie, steps);
     }
 
-    fn clear(&mut self) {
-        self.run.clear();
+    fn clear_into(&mut self, _table: &TaskTable, _cpu: Cpu, movers: &mut Movers) {
+        self.run.clear_into(movers);
         self.kinds = [0; KINDS];
     }
 

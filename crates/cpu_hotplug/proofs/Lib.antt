@@ -1,4 +1,4 @@
 pub mod Onlines
-mod Places
-mod Stamps
+mod Ranks
+mod Leaving
 mod Steps

@@ -8,7 +8,7 @@ ghost use Rattle.core_lanes.specs.Changes.{Touches};
 ghost use Rattle.cpu_hotplug.specs.Leaves.{move_off};
 
 use crate::away::lowest_other;
-use core_lanes::{Core, SiblingQueue, count_before, sorted_stamps_on};
+use core_lanes::{Core, Movers, SiblingQueue, task_of};
 use cs_types::{Cpu, Steps, Task};
 use std::sync::ledger::Ledger;
 use task_table::TaskTable;
@@ -28,22 +28,18 @@ pub fn move_off<Q: SiblingQueue, L: Ledger>(
     requires touches { core.old.task_number + 2 * length table.old.tasks < 2 ^ 64 }
     ensures { Touches (2 * length (queued_among table.old.tasks cpu)) (core.old, table.old) (core.new, table.new) (λ room. move_off room cpu) }
 {
-    let count = u64::from(core.lanes[cpu as usize].queue.count(table, cpu));
-    if count == 0 {
+    if core.lanes[cpu as usize].queue.count(table, cpu) == 0 {
         return;
     }
     let to = lowest_other(core, cpu);
-    let next = core.next_stamp;
-    let stamps = sorted_stamps_on(table, cpu);
-    core.next_stamp += count;
-    core.task_number += 2 * count;
-    core.empty_queue(cpu);
-    for position in 0..table.len() as usize {
-        let task = table.at(position).unwrap();
-        if task.queued && task.home == cpu {
-            let moved = core.moved_to(to, *task);
-            let stamp = next + count_before(&stamps, task.stamp);
-            core.enter(table, Task { stamp, ..moved }, steps);
-        }
+    let mut movers = Movers::new();
+    core.empty_queue(table, cpu, &mut movers);
+    for mover in movers.iter() {
+        let task = task_of(table, mover.1).unwrap();
+        let moved = core.moved_to(to, task);
+        let stamp = core.next_stamp;
+        core.next_stamp += 1;
+        core.task_number += 2;
+        core.enter(table, Task { stamp, ..moved }, steps);
     }
 }

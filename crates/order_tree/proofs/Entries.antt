@@ -1,5 +1,5 @@
 -- Entries that rise by key, parted by one of them: what a search, a put and a removal do to the parts.
-use Rattle.std.proofs.Common.{◌≡◌, Bool, true, false, not, cond, List, [], ◌∷◌, ◌++◌, refl, sym, ap, ◌∙◌, Option, Some, None}
+use Rattle.std.proofs.Common.{◌≡◌, Bool, true, false, not, cond, List, [], ◌∷◌, ◌++◌, refl, sym, ap, ◌∙◌, subst, Option, Some, None}
 use lib.Dec.{T}
 use Rattle.std.specs.Option.{option_or}
 use Rattle.std.specs.List as list
@@ -14,6 +14,8 @@ use Rattle.std.specs.FinMap.Entries.{below_all, where_key, by_order, find-where_
 use Rattle.std.proofs.lemmas.Bool.{and_parts, and_from, cond-true, cond-false}
 use Rattle.std.proofs.lemmas.List.Elements.{filter-append}
 use Rattle.std.proofs.lemmas.List.Folds.{find-append}
+use Rattle.std.specs.List.Sorted.{IsPermutation}
+use Rattle.std.proofs.lemmas.List.Sorted.{IsPermutation-refl, IsPermutation-sym, IsPermutation-trans, IsPermutation-cons, IsPermutation-middle}
 use Rattle.cs_types.proofs.Queues.{said}
 
 -- a test of a comparison that holds
@@ -265,3 +267,22 @@ module _ {K X : Type 0} {R : K → K → Ordering} (o : IsTotalOrder R) where
       ∙ ap (λ b. cond b None (find R query es)) ((eq_by_cmp_equiv o).symm key query)
       ∙ ap (cond (eq_by_cmp R query key) None) (sym (get-from_sorted R es query (said h)))
       ∙ sym (get-remove o (from_sorted es) key query))
+
+-- ---- one entry more
+
+-- Where none has its key, these are the others and that one, in another order.
+pub IsPermutation-put : {K X : Type 0} (R : K → K → Ordering) (e : K × X) (es : List (K × X)) → find R e.0 es ≡ None → IsPermutation (e ∷ es) (put R e.0 e.1 es)
+IsPermutation-put R e [] free = IsPermutation-refl (e ∷ [])
+IsPermutation-put {K} {X} R e (f ∷ fs) free = by_cases (IsPermutation-put R e fs) (R e.0 f.0) refl where
+  with_one : Ordering → List (K × X)
+  with_one r = by_order r (e ∷ f ∷ fs) ((f.0, e.1) ∷ fs) (f ∷ put R e.0 e.1 fs)
+
+  by_cases : (find R e.0 fs ≡ None → IsPermutation (e ∷ fs) (put R e.0 e.1 fs)) → (r : Ordering) → R e.0 f.0 ≡ r → IsPermutation (e ∷ f ∷ fs) (with_one (R e.0 f.0))
+  by_cases rest Less is = subst (λ r. IsPermutation (e ∷ f ∷ fs) (with_one r)) (sym is) (IsPermutation-refl (e ∷ f ∷ fs))
+  by_cases rest Equal is = let both = sym (cond-true (is_eq (R e.0 f.0)) (Some f.1) (find R e.0 fs) (ap is_eq is)) ∙ free in absurd cc
+  by_cases rest Greater is =
+      let others = rest (sym (cond-false (is_eq (R e.0 f.0)) (Some f.1) (find R e.0 fs) (ap is_eq is)) ∙ free) in
+      subst (λ r. IsPermutation (e ∷ f ∷ fs) (with_one r)) (sym is)
+      (IsPermutation-trans (e ∷ f ∷ fs) (f ∷ e ∷ fs) (f ∷ put R e.0 e.1 fs)
+      (IsPermutation-sym (f ∷ e ∷ fs) (e ∷ f ∷ fs) (IsPermutation-middle (f ∷ []) e fs))
+      (IsPermutation-cons f (e ∷ fs) (put R e.0 e.1 fs) others))

@@ -11,9 +11,9 @@ use Rattle.std.specs.FinMap.{entries, get, len, empty, empty_of_len, len-empty, 
 use Rattle.std.proofs.lemmas.Bool.{cases_Bool, cond-true, cond-false}
 use Rattle.cs_types.specs.Queue as queue
 use Rattle.cs_types.proofs.Queues as queues
-use Rattle.order_tree.specs.Order.{Entry, Members, key_cmp, first_of}
+use Rattle.order_tree.specs.Order.{Entry, Members, key_cmp, stamped, first_of}
 use Rattle.order_tree.specs.Renamed.{renamed, map_renamed}
-use Rattle.order_tree.specs.Rank.{rank_at, key_at, IsRankKey, IsOfClass}
+use Rattle.order_tree.specs.Rank.{rank_at, key_at, stamped as ranked_stamp, IsRankKey, IsOfClass}
 use Rattle.order_tree.proofs.Entries.{equal_by}
 use Rattle.order_tree.proofs.Keys.{key_total, key_cmp-IsAntisymmetric}
 use Rattle.order_tree.proofs.Renamed.{IsRenaming, all_of_found, entries-map_renamed, get-map_renamed, len-map_renamed, map_renamed-insert, map_renamed-remove}
@@ -51,6 +51,13 @@ module _ (members : Members) (of_class : IsOfClass members) where
 
   pub len-ranked : len ranked ≡ len members
   len-ranked = len-map_renamed ranks members each
+
+  -- they are told alike where all leave
+  pub told-ranked : map ranked_stamp (entries ranked) ≡ map stamped (entries members)
+  told-ranked = ap (map ranked_stamp) (entries-map_renamed ranks members each) ∙ told (entries members) where
+    told : (es : List Entry) → map ranked_stamp (renamed rank_at es) ≡ map stamped es
+    told [] = refl
+    told (e ∷ es) = ap (λ (rest : List (ℕ × ℕ)). stamped e ∷ rest) (told es)
 
   pub top_of-ranked : queue.top_of ranked ≡ option_map (λ (e : Entry). e.1) (first_of members)
   top_of-ranked =

@@ -1,5 +1,5 @@
 -- A tree beside which an entry stands: what is found of both, and what is left where one is taken out.
-use Rattle.std.proofs.Common.{◌≡◌, ℕ, ◌+◌, ◌-◌, ◌*◌, ◌≤◌, Bool, true, false, cond, List, [], ◌∷◌, Option, None, Some, refl, sym, ap, ◌∙◌, inl, inr, arith}
+use Rattle.std.proofs.Common.{◌≡◌, ℕ, ◌+◌, ◌-◌, ◌*◌, ◌≤◌, Bool, true, false, cond, List, [], ◌∷◌, ◌++◌, map, Option, None, Some, refl, sym, ap, ◌∙◌, subst, inl, inr, arith}
 use Rattle.std.specs.Prelude.{slice_get, is_some}
 use mir.Val.{bool_byte}
 use Rattle.std.specs.List as list
@@ -14,11 +14,14 @@ use Rattle.std.specs.Option.{option_len}
 use Rattle.cs_types.specs.Comparisons.{digits, most_comparisons}
 use Rattle.cs_types.proofs.Comparisons.{most_comparisons-le}
 use Rattle.cs_types.proofs.Foremost.{find_same}
-use Rattle.order_tree.specs.Order.{Entry, Members, Ordered, key_cmp, first_of, first_from, next_of}
+use Rattle.order_tree.specs.Order.{Entry, Members, Ordered, key_cmp, stamped, first_of, first_from, next_of}
 use Rattle.order_tree.specs.Branch.{reaches}
-use Rattle.order_tree.specs.Recent.{with_recent, StandsBeside, is_at, reaching, lesser}
+use Rattle.order_tree.specs.Recent.{with_recent, IsBeside, StandsBeside, is_at, reaching, lesser}
 use Rattle.order_tree.specs.declared.key.Key.{Key}
-use Rattle.order_tree.proofs.Entries.{equal_by}
+use Rattle.std.specs.List.Sorted.{IsPermutation}
+use Rattle.std.proofs.lemmas.List.{append_assoc}
+use Rattle.std.proofs.lemmas.List.Sorted.{IsPermutation-sym, IsPermutation-map, IsPermutation-append_right}
+use Rattle.order_tree.proofs.Entries.{equal_by, IsPermutation-put}
 use Rattle.order_tree.proofs.Keys.{key_total, key_cmp-IsAntisymmetric}
 use Rattle.order_tree.proofs.Members.{not_below, above}
 
@@ -226,3 +229,16 @@ pub spare-recent : (recent : Option Entry) (tree : Ordered) → StandsBeside rec
     (tree.spare - option_len recent) + len (with_recent recent tree.members) ≡ tree.spare + len tree.members
 spare-recent None tree beside = omega arith
 spare-recent (Some entry) tree beside = omega (arith, beside.spare, len-recent (Some entry) tree beside)
+
+-- ---- all that leave
+
+-- all are told, where first that is told which stands beside the tree
+pub told-recent : (entry : Entry) (tree : Ordered) → IsBeside tree entry → (old : List (ℕ × ℕ)) →
+    IsPermutation (old ++ map stamped (entries (with_recent (Some entry) tree.members))) ((old ++ stamped entry ∷ []) ++ map stamped (entries tree.members))
+told-recent entry tree beside old =
+    let es = entries tree.members in
+    let more = put key_cmp entry.0 entry.1 es in
+    let same = IsPermutation-put key_cmp entry es (sym (get-entries tree.members entry.0) ∙ beside.free) in
+    subst (λ (xs : List Entry). IsPermutation (old ++ map stamped xs) ((old ++ stamped entry ∷ []) ++ map stamped es)) (sym (entries-insert key_total tree.members entry.0 entry.1))
+    (subst (IsPermutation (old ++ map stamped more)) (sym (append_assoc old (stamped entry ∷ []) (map stamped es)))
+    (IsPermutation-append_right old (map stamped more) (map stamped (entry ∷ es)) (IsPermutation-map stamped more (entry ∷ es) (IsPermutation-sym (entry ∷ es) more same))))

@@ -15,6 +15,10 @@ key_cmp a b =
 abbrev pub Entry : Type 0
 Entry = Key × ℕ
 
+-- an entry as it is told where all leave: the stamp of its key, and its pid
+abbrev pub stamped : Entry → ℕ × ℕ
+stamped entry = (entry.0.stamp, entry.1)
+
 -- what stands in a tree: the pid at each key. Its entries are in rising order of the keys
 abbrev pub Members : Type 0
 Members = FinMap key_cmp ℕ

@@ -1,5 +1,5 @@
 -- Rank: how the tasks of a scheduling class stand in an ordered tree.
-use Rattle.std.specs.Prelude.{◌≡◌, IsTrue}
+use Rattle.std.specs.Prelude.{◌≡◌, ℕ, IsTrue}
 use Rattle.std.specs.FinMap.{contains_key}
 use Rattle.cs_types.specs.Queue as queue
 use Rattle.cs_types.specs.Queue.{Ranked}
@@ -13,6 +13,10 @@ rank_at key = (key.rank, key.stamp)
 
 abbrev pub key_at : queue.Key → Key
 key_at place = record { group = 0; class = 0; rank = place.0; stamp = place.1 }
+
+-- a task as it is told where all leave: the stamp of its key, and its pid
+abbrev pub stamped : queue.Key × ℕ → ℕ × ℕ
+stamped entry = (entry.0.1, entry.1)
 
 -- a key of the one group and the one class
 abbrev pub IsRankKey : Key → Type 0

@@ -3,12 +3,14 @@
 #![tactic(auto)]
 
 mod key;
+mod movers;
 mod order;
 mod rank;
 mod recent;
 mod tree;
 
 pub use key::Key;
+pub use movers::{MOST_MOVERS, Movers};
 pub use order::OrderTree;
 pub use rank::RankTree;
 pub use recent::RecentTree;

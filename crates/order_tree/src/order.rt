@@ -1,13 +1,15 @@
 //! The tree with the nodes that are spare. It is apart since here alone memory is taken.
 
-ghost use Rattle.std.specs.Prelude.{◌≡◌, ◌+◌, ◌*◌, ◌^◌, ◌<◌, ◌≤◌, max, None, OnOk, OnErr, if◌then◌else◌, length, slice_get, vec_capacity};
+ghost use Rattle.std.specs.Prelude as list;
+ghost use Rattle.std.specs.Prelude.{◌≡◌, ◌+◌, ◌*◌, ◌^◌, ◌<◌, ◌≤◌, max, None, OnOk, OnErr, if◌then◌else◌, length, slice_get, vec_capacity, ◌++◌};
 ghost use Rattle.std.specs.FinMap as map;
 ghost use Rattle.cs_types.specs.Comparisons.{digits};
-ghost use Rattle.order_tree.specs.Order.{first_of, first_from, next_of};
+ghost use Rattle.order_tree.specs.Order.{stamped, first_of, first_from, next_of};
 ghost use Rattle.order_tree.specs.Balance.{entry_at};
 ghost use Rattle.order_tree.specs.Recent.{lesser, renewed};
 
 use crate::key::Key;
+use crate::movers::Movers;
 use crate::tree::{Node, Tree};
 use cs_types::{OutOfMemory, Pid, Steps};
 use std::alloc::Global;
@@ -125,6 +127,17 @@ impl OrderTree {
         self.first = None;
         self.spare += self.count;
         self.count = 0;
+    }
+
+    /// Takes out all pids, and tells them by rising key, each with the stamp of its key. It compares no key.
+    pub fn clear_into(&mut self, movers: &mut Movers)
+        requires room { length movers.old.items + map.len self.old.members ≤ 256 }
+        ensures told { movers.new.items ≡ movers.old.items ++ list.map stamped (map.entries self.old.members) }
+        ensures members { self.new.members ≡ map.empty }
+        ensures spare { self.new.spare ≡ self.old.spare + map.len self.old.members }
+    {
+        self.tree.tell(movers);
+        self.clear();
     }
 
     /// The least key, and the pid there. `None` exactly where there is no key.

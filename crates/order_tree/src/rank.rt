@@ -1,11 +1,12 @@
 //! The queue of a scheduling class: an ordered tree in which all keys are of one group and one class. It is
 //! apart since the classes keep their tasks alike.
 
-ghost use Rattle.std.specs.Prelude.{◌≡◌, ◌+◌};
-ghost use Rattle.std.specs.FinMap.{empty, len};
-ghost use Rattle.order_tree.specs.Rank.{key_at};
+ghost use Rattle.std.specs.Prelude.{◌≡◌, ◌+◌, ◌≤◌, ◌++◌, length, map, IsPermutation};
+ghost use Rattle.std.specs.FinMap.{empty, entries, len};
+ghost use Rattle.order_tree.specs.Rank.{key_at, stamped};
 
 use crate::key::Key;
+use crate::movers::Movers;
 use crate::recent::RecentTree;
 use cs_types::{ClassQueue, OutOfMemory, Pid, Steps};
 use std::alloc::Global;
@@ -44,12 +45,14 @@ impl RankTree {
         }
     }
 
-    /// Every task leaves.
-    pub fn clear(&mut self)
+    /// Every task leaves, and each is told by its stamp and its pid, in any order.
+    pub fn clear_into(&mut self, movers: &mut Movers)
+        requires room { length movers.old.items + len self.old.members ≤ 256 }
+        ensures told { IsPermutation (movers.old.items ++ map stamped (entries self.old.members)) movers.new.items }
         ensures members { self.new.members ≡ empty }
         ensures spare { self.new.spare ≡ self.old.spare + len self.old.members }
     {
-        self.tree.clear();
+        self.tree.clear_into(movers);
     }
 }
 

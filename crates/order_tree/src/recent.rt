@@ -1,13 +1,15 @@
 //! A tree beside which the entry stands that was put last. It is apart, since it knows a tree by its contract
 //! alone.
 
-ghost use Rattle.std.specs.Prelude.{◌≡◌, ◌+◌, ◌<◌, ◌≤◌, max, None, OnOk, OnErr, if◌then◌else◌};
+ghost use Rattle.std.specs.Prelude as list;
+ghost use Rattle.std.specs.Prelude.{◌≡◌, ◌+◌, ◌<◌, ◌≤◌, ◌++◌, length, max, None, OnOk, OnErr, if◌then◌else◌, IsPermutation};
 ghost use Rattle.std.specs.FinMap as map;
 ghost use Rattle.cs_types.specs.Comparisons.{most_comparisons};
-ghost use Rattle.order_tree.specs.Order.{first_of, first_from, next_of};
+ghost use Rattle.order_tree.specs.Order.{stamped, first_of, first_from, next_of};
 ghost use Rattle.order_tree.specs.Recent.{lesser, reaching, is_at};
 
 use crate::key::Key;
+use crate::movers::Movers;
 use crate::order::{OrderTree, lesser};
 use crate::tree::reaches;
 use cs_types::{OutOfMemory, Pid, Steps};
@@ -103,6 +105,19 @@ impl RecentTree {
     {
         self.recent = None;
         self.tree.clear();
+    }
+
+    /// Takes out all pids, and tells each with the stamp of its key, in any order. It compares no key.
+    pub fn clear_into(&mut self, movers: &mut Movers)
+        requires room { length movers.old.items + map.len self.old.members ≤ 256 }
+        ensures told { IsPermutation (movers.old.items ++ list.map stamped (map.entries self.old.members)) movers.new.items }
+        ensures members { self.new.members ≡ map.empty }
+        ensures spare { self.new.spare ≡ self.old.spare + map.len self.old.members }
+    {
+        if let Some((key, pid)) = self.recent.take() {
+            movers.push((key.stamp, pid));
+        }
+        self.tree.clear_into(movers);
     }
 
     /// The least key, and the pid there. `None` exactly where there is no key.

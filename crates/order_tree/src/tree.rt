@@ -1,15 +1,16 @@
 //! The tree: its nodes, and how they keep in balance.
 
-ghost use Rattle.std.specs.Prelude.{◌≡◌, ◌≢◌, ◌+◌, ◌*◌, ◌≤◌, [], ◌∷◌, true, length, max, ◌↔◌, IsTrue, None, IfSome, MatchOption, if◌then◌else◌, slice_get, vec_capacity};
+ghost use Rattle.std.specs.Prelude.{◌≡◌, ◌≢◌, ◌+◌, ◌*◌, ◌≤◌, [], ◌∷◌, ◌++◌, true, length, max, ◌↔◌, IsTrue, None, IfSome, MatchOption, if◌then◌else◌, slice_get, vec_capacity, map};
 ghost use Rattle.std.specs.List as list;
 ghost use Rattle.std.specs.Option.{option_map, option_or};
 ghost use Rattle.std.specs.FinMap.{find, put, is_sorted};
 ghost use Rattle.cs_types.specs.Comparisons.{digits};
-ghost use Rattle.order_tree.specs.Order.{key_cmp};
+ghost use Rattle.order_tree.specs.Order.{key_cmp, stamped};
 ghost use Rattle.order_tree.specs.Branch.{without, reaches};
 ghost use Rattle.order_tree.specs.Balance.{entry_in, entry_at, joined, branch_of, split, HasMany, IsBare, Leans, HoldsSides, IsBalanced, IsRoot, IsFirst, TiltsLeft, TiltsRight, IsHighLeft, IsHighRight, left_levels, right_levels, IsUprooted};
 
 use crate::key::Key;
+use crate::movers::Movers;
 use cs_types::{Pid, Steps};
 use std::cmp::Ordering;
 use std::marker::Model;
@@ -219,6 +220,19 @@ impl Tree {
             return Some((first, false));
         }
         Some((first, !lean_right(&mut self.root)))
+    }
+
+    /// Tells its pids by rising key, each with the stamp of its key. It compares no key.
+    pub fn tell(&self, movers: &mut Movers)
+        requires room { length movers.old.items + length self.now.entries ≤ 256 }
+        ensures told { movers.new.items ≡ movers.old.items ++ map stamped self.now.entries }
+    {
+        let Some(node) = &self.root else {
+            return;
+        };
+        node.left.tell(movers);
+        movers.push((node.key.stamp, node.pid));
+        node.right.tell(movers);
     }
 
     /// Gives its nodes to the list, which has places for them. It compares no key.

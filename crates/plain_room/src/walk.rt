@@ -3,7 +3,7 @@
 ghost use Rattle.std.specs.Prelude.{◌≡◌, ◌==◌, ◌&&◌};
 ghost use Rattle.core_lanes.specs.Queued.{is_peer_of};
 
-use core_lanes::{SiblingQueue, goes_before, is_fair, priority_of};
+use core_lanes::{Movers, SiblingQueue, goes_before, is_fair, is_on, priority_of};
 use cs_types::{Cookie, Cpu, OutOfMemory, Steps, Task};
 use std::alloc::Global;
 use std::sync::ledger::Ledger;
@@ -59,7 +59,13 @@ impl SiblingQueue for Walk {
         _steps: &mut Steps<L>,
     ) {}
 
-    fn clear(&mut self) {}
+    fn clear_into(&mut self, table: &TaskTable, cpu: Cpu, movers: &mut Movers) {
+        for task in table.iter() {
+            if is_on(task, cpu) {
+                movers.push((task.stamp, task.spec.pid));
+            }
+        }
+    }
 
     fn first<L: Ledger>(&self, table: &TaskTable, cpu: Cpu, _steps: &mut Steps<L>) -> Option<Task> {
         table

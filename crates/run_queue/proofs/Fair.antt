@@ -1,5 +1,5 @@
 -- Fair: the first fair task of all classes is the first of its class.
-use Rattle.std.proofs.Common.{◌≡◌, ℕ, Bool, false, List, [], ◌∷◌, ◌++◌, map, refl, ap, ◌∙◌, Option}
+use Rattle.std.proofs.Common.{◌≡◌, ℕ, Bool, false, List, [], ◌∷◌, ◌++◌, map, refl, ap, ◌∙◌}
 use Rattle.std.specs.Prelude.{◌==◌, find, slice_get}
 use Rattle.std.specs.Option.{option_map}
 use Rattle.std.specs.FinMap.{entries, entries-from_sorted, from_sorted}
@@ -7,7 +7,7 @@ use Rattle.std.proofs.lemmas.Bool.{cond-false}
 use Rattle.cs_types.specs.Order.{fair_class}
 use Rattle.cs_types.specs.Queue.{Key, Members, Seat, seat_cmp, top_of}
 use Rattle.cs_types.proofs.Queues.{said}
-use Rattle.run_queue.specs.Classes.{seats_in, joined}
+use Rattle.run_queue.specs.Classes.{joined}
 use Rattle.run_queue.specs.Fair.{first_in}
 use Rattle.run_queue.proofs.Seats.{joined_rise}
 

@@ -10,13 +10,16 @@ use Rattle.std.specs.Ordering.{ordering_then, nat_cmp, is_lt, is_eq, eq_by_cmp}
 use Rattle.std.specs.declared.cmp.Ordering.{Ordering}
 use Rattle.std.specs.declared.cmp.Ordering.TheVariants.{Less, Equal, Greater}
 use Rattle.std.specs.FinMap as fin
-use Rattle.std.specs.FinMap.{FinMap, get, from_sorted, entries, entries_sorted, find, is_sorted, get-from_sorted, get-entries, get-insert, get-remove, same_map, len, len-entries}
+use Rattle.std.specs.FinMap.{FinMap, get, from_sorted, entries, entries_sorted, entries-from_sorted, find, is_sorted, get-from_sorted, get-entries, get-insert, get-remove, same_map, len, len-entries}
 use Rattle.std.specs.FinMap.Entries.{below_all}
 use Rattle.std.proofs.lemmas.Bool.{and_parts, and_from, eqb-true}
-use Rattle.std.proofs.lemmas.List.{length-map}
+use Rattle.std.specs.List.Sorted.{IsPermutation}
+use Rattle.std.proofs.lemmas.List.{length-map, append_assoc, append-nil}
+use Rattle.std.proofs.lemmas.List.Sorted.{IsPermutation-trans, IsPermutation-append_left, length_permutation}
 use Rattle.cs_types.specs.Queue.{top_of, Key, key_cmp, Members, Seat, seat_cmp, Seats}
 use Rattle.cs_types.proofs.Queues.{said, seat_total, seat_cmp-IsAntisymmetric, top_of-from_sorted, len-from_sorted}
-use Rattle.run_queue.specs.Classes.{seats_in, joined}
+use Rattle.order_tree.specs.Rank.{stamped as ranked_stamp}
+use Rattle.run_queue.specs.Classes.{stamped, seats_in, joined}
 
 -- ---- comparisons of seats
 
@@ -84,6 +87,23 @@ find-seated seat class (e ∷ es) later lower =
     ap (λ b. cond b (Some e.1) (find seat_cmp seat (seated class es ++ later))) (is_eq-seat_cmp seat (class, e.0))
     ∙ ap (cond (eqb seat.0 class && is_eq (key_cmp seat.1 e.0)) (Some e.1)) (find-seated seat class es later lower)
     ∙ picked (eqb seat.0 class) (is_eq (key_cmp seat.1 e.0)) (Some e.1) (find key_cmp seat.1 es) (find seat_cmp seat later)
+
+-- the tasks of a class are told by their stamps and pids
+told-seated : (class : ℕ) (es : List (Key × ℕ)) (later : List (Seat × ℕ)) → map stamped (seated class es ++ later) ≡ map ranked_stamp es ++ map stamped later
+told-seated class [] later = refl
+told-seated class (e ∷ es) later = ap (λ (rest : List (ℕ × ℕ)). ranked_stamp e ∷ rest) (told-seated class es later)
+
+-- What was told in any order is told in any order with more behind it.
+pub told-next : (old mid new xs ys : List (ℕ × ℕ)) → IsPermutation (old ++ xs) mid → IsPermutation (mid ++ ys) new → IsPermutation (old ++ (xs ++ ys)) new
+told-next old mid new xs ys first next =
+    subst (λ (told : List (ℕ × ℕ)). IsPermutation told new) (append_assoc old xs ys)
+    (IsPermutation-trans ((old ++ xs) ++ ys) (mid ++ ys) new (IsPermutation-append_left ys (old ++ xs) mid first) next)
+
+pub length-told : (members : Members) (old new : List (ℕ × ℕ)) → IsPermutation (old ++ map ranked_stamp (entries members)) new → length new ≡ length old + len members
+length-told members old new told =
+    length_permutation (old ++ map ranked_stamp (entries members)) new told
+    ∙ length-append old (map ranked_stamp (entries members))
+    ∙ ap (λ n. length old + n) (length-map (entries members) ranked_stamp ∙ sym (len-entries members))
 
 true_by : (b : Bool) → T b → b ≡ true
 true_by true h = refl
@@ -172,6 +192,18 @@ module _ (stop deadline real_time fair : Members) where
       let three = length-seats_in 2 real_time from_fair in
       let four = length-seats_in 3 fair [] in
       omega arith
+
+  -- they are told class by class where all leave
+  pub told-joined : map stamped (entries (from_sorted {R = seat_cmp} (joined stop deadline real_time fair)))
+      ≡ map ranked_stamp (entries stop) ++ (map ranked_stamp (entries deadline) ++ (map ranked_stamp (entries real_time) ++ map ranked_stamp (entries fair)))
+  told-joined =
+      ap (map stamped) (entries-from_sorted seat_cmp (joined stop deadline real_time fair) (said joined_rise))
+      ∙ told-seated 0 (entries stop) from_deadline
+      ∙ ap (λ (rest : List (ℕ × ℕ)). map ranked_stamp (entries stop) ++ rest)
+      (told-seated 1 (entries deadline) from_real_time
+      ∙ ap (λ (rest : List (ℕ × ℕ)). map ranked_stamp (entries deadline) ++ rest)
+      (told-seated 2 (entries real_time) from_fair
+      ∙ ap (λ (rest : List (ℕ × ℕ)). map ranked_stamp (entries real_time) ++ rest) (told-seated 3 (entries fair) [] ∙ append-nil (map ranked_stamp (entries fair)))))
 
   -- the first of all
   abbrev first_of_all : Option ℕ

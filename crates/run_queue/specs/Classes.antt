@@ -4,6 +4,10 @@ use Rattle.std.specs.FinMap.{entries, from_sorted, len}
 use Rattle.cs_types.specs.Queue.{Members, Ranked, Seat, Seated}
 use Rattle.run_queue.specs.declared.classes.Classes.TheInside.{Inside}
 
+-- a task as it is told where all leave: the stamp of its seat, and its pid
+abbrev pub stamped : Seat × ℕ → ℕ × ℕ
+stamped entry = (entry.0.1.1, entry.1)
+
 -- the tasks of a class by rising key, each at its seat
 abbrev pub seats_in : ℕ → Members → List (Seat × ℕ)
 seats_in class members = map (λ entry. ((class, entry.0), entry.1)) (entries members)

@@ -1,7 +1,8 @@
 //! The queues of the classes, with one limit for all. They are apart since tasks with and without a cookie
 //! stand in them alike.
 
-ghost use Rattle.std.specs.Prelude.{◌≡◌, ◌+◌, ◌*◌, ◌<◌, ◌≤◌, max, if◌then◌else◌, OnOk, OnErr, List, All};
+ghost use Rattle.std.specs.Prelude as list;
+ghost use Rattle.std.specs.Prelude.{◌≡◌, ◌+◌, ◌*◌, ◌<◌, ◌≤◌, ◌++◌, length, max, if◌then◌else◌, OnOk, OnErr, List, All, IsPermutation};
 ghost use Rattle.std.specs.FinMap as map;
 ghost use Rattle.std.specs.Option.{option_map};
 ghost use Rattle.cs_types.specs.declared.task.Task.{Task};
@@ -9,11 +10,12 @@ ghost use Rattle.cs_types.specs.Comparisons.{most_comparisons};
 ghost use Rattle.cs_types.specs.Order.{fair_class, priority_of, first_of};
 ghost use Rattle.cs_types.specs.Queue.{seat_of, queue_of, top_of};
 ghost use Rattle.run_queue.specs.Fair.{first_in};
+ghost use Rattle.run_queue.specs.Classes.{stamped};
 
 use cs_types::{ClassQueue, OutOfMemory, Pid, Queued, Steps};
 use deadline_queue::DeadlineQueue;
 use fair_queue::FairQueue;
-use order_tree::RankTree;
+use order_tree::{Movers, RankTree};
 use rt_queue::RtQueue;
 use std::alloc::Global;
 use std::marker::Model;
@@ -112,15 +114,17 @@ impl Classes {
         }
     }
 
-    /// Every task leaves.
-    pub fn clear(&mut self)
+    /// Every task leaves, and each is told by its stamp and its pid, in any order.
+    pub fn clear_into(&mut self, movers: &mut Movers)
+        requires room { length movers.old.items + map.len self.old.tasks ≤ 256 }
+        ensures told { IsPermutation (movers.old.items ++ list.map stamped (map.entries self.old.tasks)) movers.new.items }
         ensures tasks { self.new.tasks ≡ map.empty }
         ensures spare { self.new.spare ≡ self.old.spare + map.len self.old.tasks }
     {
-        self.stop.clear();
-        self.deadline.clear();
-        self.real_time.clear();
-        self.fair.clear();
+        self.stop.clear_into(movers);
+        self.deadline.clear_into(movers);
+        self.real_time.clear_into(movers);
+        self.fair.clear_into(movers);
     }
 
     /// The pid of the first task: the one of the highest class, in that of the least rank, and among

@@ -1,6 +1,7 @@
 //! The run queue: the queues of the classes, and beside them the tasks with cookies.
 
-ghost use Rattle.std.specs.Prelude.{◌≡◌, ℕ, ◌+◌, ◌*◌, ◌<◌, ◌≤◌, max, if◌then◌else◌, None, OnOk, OnErr, IfSome, IsTrue, List, All};
+ghost use Rattle.std.specs.Prelude as list;
+ghost use Rattle.std.specs.Prelude.{◌≡◌, ℕ, ◌+◌, ◌*◌, ◌<◌, ◌≤◌, ◌++◌, length, max, if◌then◌else◌, None, OnOk, OnErr, IfSome, IsTrue, List, All, IsPermutation};
 ghost use Rattle.std.specs.FinMap as map;
 ghost use Rattle.std.specs.Option.{option_map};
 ghost use Rattle.cs_types.specs.declared.task.Task.{Task};
@@ -9,10 +10,12 @@ ghost use Rattle.cs_types.specs.Order.{fair_class, priority_of, first_of};
 ghost use Rattle.cs_types.specs.Queue.{IsRanked, seat_of, spot_of, queue_of, top_of, first_with, next_with};
 ghost use Rattle.run_queue.specs.Fair.{first_in};
 ghost use Rattle.run_queue.specs.Run.{without, including};
+ghost use Rattle.run_queue.specs.Classes.{stamped};
 
 use crate::classes::Classes;
 use cookie_queue::CookieQueue;
 use cs_types::{Cookie, OutOfMemory, Pid, Queued, Steps};
+use order_tree::Movers;
 use std::alloc::Global;
 use std::marker::Model;
 use std::sync::ledger::Ledger;
@@ -157,13 +160,15 @@ impl RunQueue {
         self.enter_cookies(Queued { cookie, ..*task }, steps);
     }
 
-    /// Every task leaves.
-    pub fn clear(&mut self)
+    /// Every task leaves, and each is told by its stamp and its pid, in any order.
+    pub fn clear_into(&mut self, movers: &mut Movers)
+        requires room { length movers.old.items + map.len self.old.tasks ≤ 256 }
+        ensures told { IsPermutation (movers.old.items ++ list.map stamped (map.entries self.old.tasks)) movers.new.items }
         ensures tasks { self.new.tasks ≡ map.empty }
         ensures cookies { self.new.cookies ≡ map.empty }
         ensures spare { self.new.spare ≡ self.old.spare + map.len self.old.tasks }
     {
-        self.classes.clear();
+        self.classes.clear_into(movers);
         self.cookies.clear();
     }
 
