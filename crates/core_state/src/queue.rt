@@ -93,6 +93,7 @@ impl SiblingQueue for TreeQueue {
         task_of(table, self.run.next_of(&queued_of(task), steps)?.pid)
     }
 
+    #[inline(always)]
     fn smallest_vtime<L: Ledger>(
         &self,
         table: &TaskTable,
