@@ -1,4 +1,4 @@
-use Rattle.std.proofs.Common.{ap, ◌∙◌, arith, refl, sym, subst}
+use Rattle.std.proofs.Common.{ap, subst, sym, ◌∙◌, arith, refl}
 use Rattle.cs_types.specs.declared.scenario.Scenario.{Scenario}
 use Rattle.cs_types.specs.Room.{RoomState}
 use Rattle.core_events.specs.Inside.{IsFold}
@@ -9,13 +9,7 @@ invariant_of-result g c =
     let entries = c.in_ok-entries.ensures in
     let state = c.in_ok-state.ensures in
     let most = c.most_entries-most.ensures in
-    subst (λ (s : Scenario). IsFold (record {
-      scenario = record c.of.result { value = s };
-      siblings = c.args.scenario.now.siblings;
-      guards = c.len-count.result;
-      state = c.in_ok-state.state;
-      entries = c.in_ok-entries.entries;
-    })) (sym c.of.ensures)
+    subst (λ (s : Scenario). IsFold (record { scenario = s; guards = c.len-count.result; state = c.in_ok-state.state; entries = c.in_ok-entries.entries })) (sym c.in_ok-copy.ensures)
     (record {
       playable = c.requires.playable;
       events = rw entries.items (λ k d lt. absurd (omega arith));
@@ -24,7 +18,6 @@ invariant_of-result g c =
       numbers = rw entries.items state.numbers;
       sound = state.sound;
       siblings = state.siblings;
-      count = refl;
       slow = omega (arith, ap (λ (room : RoomState). room.clock) state.room);
       few_entries = omega (arith, entries.exact, most);
       ends = state.ends ∙ most;
