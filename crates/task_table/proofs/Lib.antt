@@ -3,4 +3,5 @@ pub mod Slots
 pub mod Kept
 pub mod Tables
 pub mod Totals
+pub mod Blocks
 pub mod Walks

@@ -1,9 +1,9 @@
 //! An entry of the index. The index alone knows the order of the pids.
 
-ghost use Rattle.std.specs.Prelude.{◌≡◌, MatchResult, List};
+ghost use Rattle.std.specs.Prelude.{◌≡◌, ◌≤◌, MatchResult, List, length, drop};
 ghost use Rattle.cs_types.specs.declared.task.Task.{Task as SomeTask};
 ghost use Rattle.task_table.specs.Table.{Rises};
-ghost use Rattle.std.specs.List.{position};
+ghost use Rattle.std.specs.List.{list_any, position, position_from};
 ghost use Rattle.task_table.specs.Positions.{IsIndexOf, IsAt, IsGap, IsAbove};
 ghost use Rattle.task_table.specs.Inside.{tells_group};
 
@@ -51,11 +51,58 @@ impl Entry {
     }
 }
 
+/// How many entries are looked at one by one, before blocks are. The next member is mostly near.
+const NEAR: usize = 4;
+
+/// How many entries are compared at once.
+const BLOCK: usize = 16;
+
+/// Whether an entry is of the group. It looks at each, and so at several at once.
+fn has_any(entries: &[Entry], group: Group) -> bool
+    ensures { result ≡ list_any (tells_group group) entries.now }
+{
+    let mut any = false;
+    for entry in entries {
+        any |= entry.is_in(group);
+    }
+    any
+}
+
+/// From where on an entry of the group is looked for: the blocks between have none.
+fn clear_to(entries: &[Entry], from: usize, group: Group) -> usize
+    requires from { from ≤ length entries.now }
+    ensures within { result ≤ length entries.now }
+    ensures first { position_from (tells_group group) from (drop from entries.now)
+        ≡ position_from (tells_group group) result (drop result entries.now) }
+{
+    let mut clear = from;
+    for _ in 0..(entries.len() - from) / BLOCK {
+        if has_any(&entries[clear..clear + BLOCK], group) {
+            return clear;
+        }
+        clear += BLOCK;
+    }
+    clear
+}
+
+/// The position of the first entry of the group, where each is looked at in turn.
+fn first_among(entries: &[Entry], group: Group) -> Option<usize>
+    ensures { result ≡ position (tells_group group) entries.now }
+{
+    entries.iter().position(|entry| entry.is_in(group))
+}
+
 /// The position of the first entry of the group. `None` exactly where there is none.
 pub(crate) fn first_in(entries: &[Entry], group: Group) -> Option<usize>
     ensures { result ≡ position (tells_group group) entries.now }
 {
-    entries.iter().position(|entry| entry.is_in(group))
+    let near = entries.len().min(NEAR);
+    if let Some(position) = first_among(&entries[..near], group) {
+        return Some(position);
+    }
+    let clear = clear_to(entries, near, group);
+    let position = first_among(&entries[clear..], group)?;
+    Some(clear + position)
 }
 
 /// The position of the entry with the pid, or the position where it would go. The entries rise by pid. It is
