@@ -194,27 +194,30 @@ module _ {slots : Slab Task} {entries : List Entry} {room limit : ℕ} {tasks : 
       let total : Entry → ℕ × ℕ = λ entry. (entry.pid, entry.forced) in
       ap totals_of is ∙ map-set_same total entries position (with_groups task entry) entry (ap total here)
 
-  -- the task in the slot of a pid remembers an occupation
-  pub kept_remembered : (new : Slab Task) (pid position occupation : ℕ) (entry : Entry) (task : Task) → IsAt pid position tasks →
-      entry ≡ get_or entries position entry → get slots entry.key ≡ Some task →
-      Updates slots new entry.key (Some (record task { occupation = occupation })) → slab_len new ≡ slab_len slots →
-      new.capacity ≡ slots.capacity →
-      IsKept new entries room limit (map (λ (other : Task). cond (has_pid pid other) (record other { occupation = occupation }) other) tasks)
-  kept_remembered new pid position occupation entry task at here in_slot updates same_length same_room =
+  -- the task in the slot of a pid changes, but not what its line says of it
+  pub kept_changed : (change : Task → Task) (new : Slab Task) (pid position : ℕ) (entry : Entry) (task : Task) → (change task).spec ≡ task.spec →
+      IsAt pid position tasks → entry ≡ get_or entries position entry → get slots entry.key ≡ Some task →
+      Updates slots new entry.key (Some (change task)) → slab_len new ≡ slab_len slots → new.capacity ≡ slots.capacity →
+      IsKept new entries room limit (map (λ (other : Task). cond (has_pid pid other) (change other) other) tasks)
+  kept_changed change new pid position entry task spec at here in_slot updates same_length same_room =
+      let now = change task in
       let there = found_some pid position entry at here in
       let both : Some there.0 ≡ Some task = sym there.1 ∙ in_slot in
       let is : there.0 ≡ task = cc in
       let has : task.spec.pid ≡ pid = ap pid_of (sym is) ∙ there.2 in
+      let has_now : now.spec.pid ≡ pid = ap (λ (s : TaskSpec). s.pid) spec ∙ has in
       let it = sym (found pid position entry at here) ∙ in_slot in
       let told = ap groups_told here
-      ∙ groups_at entries tasks kept.groups position entry task (position_within pid position at) (sym (find_at pid position tasks at) ∙ it) in
-      let same : with_groups task entry ≡ entry = (λ i. record entry { tgid = (sym told i).0; pgid = (sym told i).1 }) in
-      let whole : entries ≡ set entries position (with_groups task entry) =
+      ∙ groups_at entries tasks kept.groups position entry task (position_within pid position at) (sym (find_at pid position tasks at) ∙ it)
+      ∙ ap (λ (s : TaskSpec). (s.tgid, s.pgid)) (sym spec) in
+      let same : with_groups now entry ≡ entry = (λ i. record entry { tgid = (sym told i).0; pgid = (sym told i).1 }) in
+      let whole : entries ≡ set entries position (with_groups now entry) =
       sym (set-get_or entries position entry) ∙ ap (set entries position) (sym here ∙ sym same) in
       subst (IsKept new entries room limit)
-      (changed_each (λ t. record t { occupation = occupation }) tasks task kept.sound.rising (subst (λ n. find (has_pid n) tasks ≡ Some task) (sym has) it)
-      ∙ ap (λ n. map (λ (other : Task). cond (has_pid n other) (record other { occupation = occupation }) other) tasks) has)
-      (kept_set new entries position entry (record task { occupation = occupation }) (subst (λ n. IsAt n position tasks) (sym has) at) here updates same_length same_room
+      (ap (λ n. map (λ (other : Task). cond (has_pid n other) now other) tasks) (ap (λ (s : TaskSpec). s.pid) spec)
+      ∙ changed_each change tasks task kept.sound.rising (subst (λ n. find (has_pid n) tasks ≡ Some task) (sym has) it)
+      ∙ ap (λ n. map (λ (other : Task). cond (has_pid n other) (change other) other) tasks) has)
+      (kept_set new entries position entry now (subst (λ n. IsAt n position tasks) (sym has_now) at) here updates same_length same_room
       whole)
 
 -- a write in a slot that has a task leaves how many there are

@@ -178,12 +178,12 @@ with_none new (task ∷ rest) none =
     let tail = with_none new rest none.1 in
     cc
 
-pub remembered_none : (pid occupation : ℕ) (tasks : List Task) → NoneHas pid tasks →
-    map (λ (task : Task). cond (has_pid pid task) (record task { occupation = occupation }) task) tasks ≡ tasks
-remembered_none pid occupation [] none = refl
-remembered_none pid occupation (task ∷ rest) none =
-    let head : cond (has_pid pid task) (record task { occupation = occupation }) task ≡ task = cond-false (has_pid pid task) (record task { occupation = occupation }) task none.0 in
-    let tail = remembered_none pid occupation rest none.1 in
+pub changed_none : (change : Task → Task) (pid : ℕ) (tasks : List Task) → NoneHas pid tasks →
+    map (λ (task : Task). cond (has_pid pid task) (change task) task) tasks ≡ tasks
+changed_none change pid [] none = refl
+changed_none change pid (task ∷ rest) none =
+    let head : cond (has_pid pid task) (change task) task ≡ task = cond-false (has_pid pid task) (change task) task none.0 in
+    let tail = changed_none change pid rest none.1 in
     cc
 
 -- above a pid below them all pass those that pass

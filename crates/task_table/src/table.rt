@@ -14,7 +14,7 @@ use crate::fault::AddFault;
 use crate::group::Group;
 use crate::places::Places;
 use crate::tasks::Tasks;
-use cs_types::{OutOfMemory, Pid, Task, TaskSpec};
+use cs_types::{Cpu, OutOfMemory, Pid, Task, TaskSpec};
 use slab::Slab;
 use std::alloc::Global;
 use std::marker::Model;
@@ -221,6 +221,23 @@ impl TaskTable {
     {
         if let Ok(position) = self.position_of(pid) {
             self.slots[self.entries[position].key].occupation = occupation;
+        }
+    }
+
+    /// The task with the pid, if there is one, is at home on this sibling, with this virtual time, in ns, and this stamp.
+    /// Nothing else changes.
+    #[inline(always)]
+    pub fn move_to(&mut self, pid: Pid, home: Cpu, vtime: u128, stamp: u64)
+        ensures moved { self.new ≡ record self.old {
+          tasks = map (λ (task : SomeTask). if has_pid pid task then record task { home = home; vtime = vtime; stamp = stamp } else task) self.old.tasks;
+        } }
+        ensures sound { IsSound self.new }
+    {
+        if let Ok(position) = self.position_of(pid) {
+            let task = &mut self.slots[self.entries[position].key];
+            task.home = home;
+            task.vtime = vtime;
+            task.stamp = stamp;
         }
     }
 

@@ -6,8 +6,8 @@ use Rattle.cs_types.specs.declared.task.Task.{Task}
 use Rattle.cs_types.specs.Room.{has_pid}
 use Rattle.task_table.specs.Table.{Table}
 use Rattle.task_table.specs.Inside.{IsKept}
-use Rattle.task_table.proofs.Rising.{none_gap, remembered_none}
-use Rattle.task_table.proofs.Kept.{kept_of, kept_again, seen_as, position_within, found_some, kept_remembered, slab_len-with_value}
+use Rattle.task_table.proofs.Rising.{none_gap, changed_none}
+use Rattle.task_table.proofs.Kept.{kept_of, kept_again, seen_as, position_within, found_some, kept_changed, slab_len-with_value}
 use Rattle.task_table.proofs.table.TaskTable.remember.Goals as goal
 
 pub index-requires : goal.index-requires
@@ -28,7 +28,7 @@ after c =
     let key = c.index.result.now.key in
     let task = c.index_mut.result.now in
     let now : Task = record task { occupation = c.args.occupation } in
-    kept_remembered kept _ c.args.pid c.in-Ok.position c.args.occupation c.index.result.now task c.in-Ok.ensures.position c.index.ensures c.index_mut.ensures.value
+    kept_changed kept (λ t. record t { occupation = c.args.occupation }) _ c.args.pid c.in-Ok.position c.index.result.now task refl c.in-Ok.ensures.position c.index.ensures c.index_mut.ensures.value
     (Updates-with_value slots key now (rw c.index_mut.ensures.value refl)) (slab_len-with_value slots key task now c.index_mut.ensures.value) refl
 
 pub invariant_of-self : goal.invariant_of-self
@@ -48,4 +48,4 @@ returns-in-Ok-clause-sound c = (kept_again (after c)).sound
 pub returns-in_default-clause-remembered : goal.returns-in_default-clause-remembered
 returns-in_default-clause-remembered c =
     ap (λ ts. let table : Table = record c.args.self.now { tasks = ts } in table)
-    (sym (remembered_none c.args.pid c.args.occupation c.args.self.now.tasks (none_gap c.args.pid _ c.args.self.now.tasks c.in_default.ensures.position)))
+    (sym (changed_none (λ t. record t { occupation = c.args.occupation }) c.args.pid c.args.self.now.tasks (none_gap c.args.pid _ c.args.self.now.tasks c.in_default.ensures.position)))
