@@ -280,7 +280,7 @@ impl<Q: SiblingQueue> Core<Q> {
             return;
         }
         self.set_cookie_in_queue(table, task, cookie, steps);
-        table.change(Task { cookie, ..*task });
+        table.give_cookie(task.spec.pid, cookie);
     }
 
     /// The queue of a sibling, whose tasks are about to leave, is empty. The list, which has none yet, tells them

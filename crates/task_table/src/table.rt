@@ -14,7 +14,7 @@ use crate::fault::AddFault;
 use crate::group::Group;
 use crate::places::Places;
 use crate::tasks::Tasks;
-use cs_types::{Cpu, OutOfMemory, Pid, Task, TaskSpec};
+use cs_types::{Cookie, Cpu, OutOfMemory, Pid, Task, TaskSpec};
 use slab::Slab;
 use std::alloc::Global;
 use std::marker::Model;
@@ -221,6 +221,18 @@ impl TaskTable {
     {
         if let Ok(position) = self.position_of(pid) {
             self.slots[self.entries[position].key].occupation = occupation;
+        }
+    }
+
+    /// The task with the pid, if there is one, has this cookie. Nothing else changes.
+    pub fn give_cookie(&mut self, pid: Pid, cookie: Cookie)
+        ensures given { self.new ≡ record self.old {
+          tasks = map (λ (task : SomeTask). if has_pid pid task then record task { cookie = cookie } else task) self.old.tasks;
+        } }
+        ensures sound { IsSound self.new }
+    {
+        if let Ok(position) = self.position_of(pid) {
+            self.slots[self.entries[position].key].cookie = cookie;
         }
     }
 

@@ -3,6 +3,7 @@ use Rattle.std.specs.Prelude.{length, All, IsTrue}
 use Rattle.cs_types.specs.declared.task.Task.{Task}
 use Rattle.cs_types.proofs.Spots.{replaced_by}
 use Rattle.task_table.specs.Table.{Table}
+use Rattle.task_table.proofs.Tables.{changed_each}
 use Rattle.core_lanes.specs.Queued.{AreStamped}
 use Rattle.core_lanes.specs.Lanes.{BareCore, bare, IsFit, MayStamp, AreHeld}
 use Rattle.core_lanes.proofs.Replaced.{replaced-itself, stamped-replaced, All-replaced}
@@ -21,6 +22,13 @@ pub set_cookie_in_queue-requires-clause-home : goal.set_cookie_in_queue-requires
 set_cookie_in_queue-requires-clause-home g c =
     (found_in (IsFit (length c.args.self.now.lanes.items)) c.args.task.now.spec.pid c.args.table.now.tasks c.args.task.now c.requires.agree.tasks c.requires.there).home
 
+pub returns-clause-table : goal.returns-clause-table
+returns-clause-table g c =
+    let task = c.args.task.now in
+    let before = c.args.table.now in
+    c.give_cookie.ensures.given
+    ∙ (λ i. record before { tasks = sym (changed_each (λ t. record t { cookie = c.args.cookie }) before.tasks task c.requires.agree.table.rising c.requires.there) i })
+
 pub returns-clause-agree : goal.returns-clause-agree
 returns-clause-agree g c =
     let task = c.args.task.now in
@@ -34,7 +42,7 @@ returns-clause-agree g c =
     let same : bare new ≡ bare old = c.set_cookie_in_queue.ensures.bare in
     let many = as_many_bare old new same in
     let after : Table = record before { tasks = map (replaced_by now) before.tasks } in
-    let changed : c.change.new.self ≡ after = c.change.ensures.changed in
+    let changed : c.give_cookie.new.self ≡ after = returns-clause-table g c in
     let fit = found_in (IsFit (length old.lanes.items)) pid before.tasks task agree.tasks there in
     let stamp : IsTrue task.queued → MayStamp old.next_stamp before.tasks now =
     λ queued. record {
@@ -42,7 +50,7 @@ returns-clause-agree g c =
       own = agree.stamped.distinct task there queued;
     } in
     record {
-      table = c.change.ensures.sound;
+      table = c.give_cookie.ensures.sound;
       few_tasks = subst (λ (t : Table). t.limit ≤ 256) (sym changed) agree.few_tasks;
       tasks = subst (λ (t : Table). All (IsFit (length new.lanes.items)) t.tasks) (sym changed)
           (subst (λ n. All (IsFit n) after.tasks) (sym many)
