@@ -1,10 +1,11 @@
 -- Tasks that rise by pid: what a search, a filter and an edit at a position give.
-use Rattle.std.proofs.Common.{◌≡◌, ℕ, zero, suc, ◌+◌, ◌<◌, ◌≤◌, Bool, true, false, not, cond, eqb, ltb, leb, List, [], ◌∷◌, map, length, get_or, set, drop, Option, Some, None, Result, Ok, Err, MatchResult, MatchOption, inl, inr, refl, sym, ap, ◌∙◌, subst, arith, eq-eqb}
+use Rattle.std.proofs.Common.{◌≡◌, ℕ, zero, suc, ◌+◌, ◌-◌, ◌<◌, ◌≤◌, Bool, true, false, not, cond, eqb, ltb, leb, List, [], ◌∷◌, map, length, get_or, set, drop, Option, Some, None, Result, Ok, Err, MatchResult, MatchOption, inl, inr, refl, sym, ap, ◌∙◌, subst, arith, eq-eqb}
 use Rattle.std.specs.Prelude.{◌&&◌, find, filter, insert, remove, slice_get}
 use Rattle.std.specs.List.{AllByRecursion}
 use Rattle.std.specs.List.Sorted.{IsSearchInRange, IsBinarySearchResult, IsNonDecreasingBy, IsPartitionedBy, IsPartitionPoint}
 use Rattle.std.specs.Ordering.{nat_cmp, ordering_index}
 use Rattle.std.proofs.lemmas.Cmp.{ranked}
+use Rattle.std.proofs.lemmas.List.{get_or_default}
 use Rattle.std.proofs.lemmas.List.Sorted.{IsPartitionedBy-leb}
 use Rattle.std.proofs.lemmas.Bool.{ne_eqb, lt-ltb, le-ltb, cases_Bool, cond-true, cond-false}
 use Rattle.std.proofs.lemmas.Bool.Decides.{nat_tests}
@@ -100,6 +101,16 @@ split_from low below from (entry ∷ entries) (task ∷ tasks) index rises (suc 
       split_from (task.spec.pid + 1) below from entries tasks (cc) rises.1 position (omega arith) (λ k d lt. before (suc k) d (omega arith))
           (λ k d le lt. behind (suc k) d (omega arith) (omega arith)),
     )
+
+-- a pid above the last one has its gap at the end
+pub gap_at_end : (entries : List Entry) (tasks : List Task) (pid : ℕ) → IsIndexOf entries tasks → Rises tasks → (last : Entry) → 0 < length entries →
+    (get_or entries (length entries - 1) last).pid < pid → IsGap pid (length entries) tasks
+gap_at_end entries tasks pid index rises last some above =
+    split_from 0 pid (pid + 1) entries tasks index rises (length entries) (omega arith)
+    (λ k d lt. omega (arith, lt, rising_entries 0 entries tasks index rises k (length entries - 1) d (omega arith) (omega arith), last_alike d))
+    (λ k d le lt. absurd (omega arith)) where
+      last_alike : (d : Entry) → (get_or entries (length entries - 1) d).pid < pid
+      last_alike d = omega (arith, above, ap (λ (e : Entry). e.pid) (get_or_default entries (length entries - 1) d last (omega arith)))
 
 -- a binary search by pid ends at the position of the pid, or at the gap for it
 pub searched : (entries : List Entry) (tasks : List Task) (pid : ℕ) → IsIndexOf entries tasks → Rises tasks → (r : Result ℕ ℕ) →

@@ -1,6 +1,6 @@
 //! An entry of the index. The index alone knows the order of the pids.
 
-ghost use Rattle.std.specs.Prelude.{◌≡◌, ◌≤◌, MatchResult, List, length, drop};
+ghost use Rattle.std.specs.Prelude.{◌≡◌, ◌≤◌, IsTrue, MatchResult, List, length, drop};
 ghost use Rattle.cs_types.specs.declared.task.Task.{Task as SomeTask};
 ghost use Rattle.task_table.specs.Table.{Rises};
 ghost use Rattle.std.specs.List.{list_any, position, position_from};
@@ -105,6 +105,17 @@ pub(crate) fn first_in(entries: &[Entry], group: Group) -> Option<usize>
     Some(clear + position)
 }
 
+/// Whether the pid is above those of all entries, which rise by pid. A child's is.
+fn is_above_all(entries: &[Entry], pid: Pid) -> bool
+    ensures { IsTrue result → (tasks : List SomeTask) → IsIndexOf entries.now tasks → Rises tasks →
+        IsGap pid (length entries.now) tasks }
+{
+    match entries.last() {
+        Some(last) => last.pid < pid,
+        None => false,
+    }
+}
+
 /// The position of the entry with the pid, or the position where it would go. The entries rise by pid. It is
 /// seldom called, since most positions are noted.
 #[cold]
@@ -113,6 +124,9 @@ pub(crate) fn position_of(entries: &[Entry], pid: Pid) -> Result<usize, usize>
     ensures { (tasks : List SomeTask) → IsIndexOf entries.now tasks → Rises tasks →
         MatchResult result (λ position. IsAt pid position tasks) (λ position. IsGap pid position tasks) }
 {
+    if is_above_all(entries, pid) {
+        return Err(entries.len());
+    }
     entries.binary_search_by_key(&pid, |entry| entry.pid)
 }
 

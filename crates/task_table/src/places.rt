@@ -1,17 +1,21 @@
 //! Where to look for a pid first. It is apart since nothing that is promised rests on it: a wrong place costs a
 //! search, and no more.
 
+ghost use Rattle.std.specs.Prelude.{◌≡◌, length};
+
 use crate::entry::Entry;
 use cs_types::{OutOfMemory, Pid};
 use std::alloc::Global;
 
-/// How many places are noted, a count. Pids that differ by a multiple of it share one.
-const PLACES: usize = 1024;
+/// How many places are noted, a count. Pids that differ by a multiple of it share one, so it is far above the
+/// number of tasks that live at once.
+const PLACES: usize = 8192;
 
 /// The positions of entries by their pids, as they were last noted.
 #[derive(Drop)]
 pub(crate) struct Places {
-    noted: Vec<usize>,
+    noted: Vec<u16>,
+    ghost all: { length noted.items ≡ 8192 },
 }
 
 impl Places {
@@ -22,16 +26,20 @@ impl Places {
     }
 
     /// The position at which to look for the pid.
-    pub fn of(&self, pid: Pid) -> Option<usize> {
-        self.noted.get(pid as usize % PLACES).copied()
+    pub fn of(&self, pid: Pid) -> usize {
+        self.noted[pid as usize % PLACES] as usize
     }
 
     /// Notes the positions of the entries from this one on.
     pub fn note(&mut self, entries: &[Entry], from: usize) {
-        for (position, entry) in entries.iter().enumerate().skip(from) {
-            if let Some(place) = self.noted.get_mut(entry.pid as usize % PLACES) {
-                *place = position;
-            }
+        let Some(behind) = entries.get(from..) else {
+            return;
+        };
+        let noted = &mut self.noted[..];
+        let mut position = (from % 65536) as u16;
+        for entry in behind {
+            noted[entry.pid as usize % PLACES] = position;
+            position = position.wrapping_add(1);
         }
     }
 }

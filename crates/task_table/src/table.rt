@@ -95,7 +95,7 @@ impl TaskTable {
     fn noted(&self, pid: Pid) -> Option<usize>
         ensures { IfSome result (λ position. IsAt pid position self.now.tasks) }
     {
-        let position = self.places.of(pid)?;
+        let position = self.places.of(pid);
         let noted = self.entries.get(position)?;
         if noted.pid == pid {
             Some(position)
