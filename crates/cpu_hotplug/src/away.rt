@@ -16,7 +16,13 @@ use cs_types::Cpu;
 pub fn online_count<Q: SiblingQueue>(core: &Core<Q>) -> u8
     ensures { (beside : Beside) (table : Table) → result ≡ length (siblings_online (room_of beside (core.now, table))) }
 {
-    core.lanes.iter().filter(|lane| lane.online).count() as u8
+    let mut count = 0;
+    for lane in core.lanes.iter() {
+        if lane.online {
+            count += 1;
+        }
+    }
+    count
 }
 
 /// The lowest other sibling that is online.

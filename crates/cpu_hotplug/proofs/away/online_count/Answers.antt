@@ -1,14 +1,18 @@
-use Rattle.std.proofs.Common.{rules, tests, ◌≡◌, ◌∙◌, length}
+use Rattle.std.proofs.Common.{List, ◌≤◌, ◌∙◌, length, ap, arith}
 use Rattle.std.specs.Prelude.{filter}
-use Rattle.std.proofs.lemmas.Iterator.{YieldsList-from_slice}
-use Rattle.std.proofs.lemmas.Iterator.Consumers.{count_from_yields_List, YieldsList-from_filter}
+use Rattle.std.proofs.lemmas.List.{take_all}
+use Rattle.core_lanes.specs.declared.lane.Lane.{Lane}
 use Rattle.cpu_hotplug.proofs.Onlines.{length-online}
 use Rattle.cpu_hotplug.proofs.away.online_count.Goals as goal
+
+pub overflow_add-count : goal.overflow_add-count
+overflow_add-count g c =
+    omega (arith, c.loop-lane.invariant.few, c.loop-lane-test.true, ap length c.deref-lane-items.ensures.value, c.args.core.now.few)
 
 pub returns : goal.returns
 returns g c beside table =
     let lanes = c.args.core.now.lanes.items in
-    let counted : c.count.result ≡ length (filter (λ lane. lane.online) lanes) =
-    count_from_yields_List c.filter.result c.count.result c.count.ensures.ran
-    (YieldsList-from_filter _ (λ lane. lane.online) (YieldsList-from_slice lanes cc) c.filter.ensures.closure (λ x b q k. search (rules, tests))) in
-    counted ∙ length-online beside (c.args.core.now, table)
+    let past : length lanes ≤ c.loop-lane.lane-index = omega (arith, c.loop-lane-test.false, ap length c.deref-lane-items.ensures.value) in
+    c.loop-lane.invariant.counted
+    ∙ ap (λ (ls : List (Lane g.row.Q.Denot)). length (filter (λ lane. lane.online) ls)) (take_all c.loop-lane.lane-index lanes past)
+    ∙ length-online beside (c.args.core.now, table)
