@@ -207,7 +207,8 @@ module _ {slots : Slab Task} {entries : List Entry} {room limit : ℕ} {tasks : 
       let has : task.spec.pid ≡ pid = ap pid_of (sym is) ∙ there.2 in
       let has_now : now.spec.pid ≡ pid = ap (λ (s : TaskSpec). s.pid) spec ∙ has in
       let it = sym (found pid position entry at here) ∙ in_slot in
-      let told = ap groups_told here
+      let told : groups_told entry ≡ groups_of now =
+      ap groups_told here
       ∙ groups_at entries tasks kept.groups position entry task (position_within pid position at) (sym (find_at pid position tasks at) ∙ it)
       ∙ ap (λ (s : TaskSpec). (s.tgid, s.pgid)) (sym spec) in
       let same : with_groups now entry ≡ entry = (λ i. record entry { tgid = (sym told i).0; pgid = (sym told i).1 }) in
