@@ -1,5 +1,5 @@
 -- Lanes: the room that a core and a table stand for, and that these agree.
-use Rattle.std.specs.Prelude.{◌≡◌, ℕ, ◌^◌, ◌<◌, ◌≤◌, ◌==◌, if◌then◌else◌, List, [], length, map, find, replicate, Some, None, All, IsTrue, slice_get, unwrap_or}
+use Rattle.std.specs.Prelude.{◌≡◌, ◌≢◌, ℕ, ◌+◌, ◌^◌, ◌<◌, ◌≤◌, ◌==◌, if◌then◌else◌, List, [], length, map, find, replicate, Some, None, All, IsTrue, slice_get, unwrap_or}
 use Rattle.cs_types.specs.declared.task.Task.{Task}
 use Rattle.cs_types.specs.declared.view.CpuView.{CpuView}
 use Rattle.cs_types.specs.Scenario.{IsPolicy}
@@ -193,6 +193,19 @@ pub record KnowsApart {Q : Type 0} {g : Ghosts Q} (both : Core Q g × Table) (ta
 pub record Knows {Q : Type 0} {g : Ghosts Q} (both : Core Q g × Table) (task : Task) : Type 0 where
   pub known : KnowsApart both task
   pub stamp : IsTrue task.queued → MayStamp both.0.next_stamp both.1.tasks task
+
+-- The task is a queued one of the table that leaves its sibling for another, with another home and another virtual time. The
+-- next stamp and two touches do not overflow.
+pub record MayEnter {Q : Type 0} {g : Ghosts Q} (both : Core Q g × Table) (task : Task) : Type 0 where
+  pub old : Task
+  pub there : find (has_pid task.spec.pid) both.1.tasks ≡ Some old
+  pub leaves : AgreeAway old.home both
+  pub moved : task ≡ record old { home = task.home; vtime = task.vtime }
+  pub queued : IsTrue task.queued
+  pub home : task.home < length both.0.lanes.items
+  pub elsewhere : task.home ≢ old.home
+  pub stamp : both.0.next_stamp + 1 < 2 ^ 64
+  pub touches : both.0.task_number + 2 < 2 ^ 64
 
 -- ---- how long the queues are
 

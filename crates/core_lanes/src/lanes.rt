@@ -53,8 +53,8 @@ pub struct Core<Q: SiblingQueue> {
 
 impl<Q: SiblingQueue> Core<Q> {
     ghost use Rattle.core_lanes.specs.Queued.{HasOwnStamp};
-    ghost use Rattle.core_lanes.specs.Lanes.{Beside, lane_state, bare_start, queues_of, room_of, bare, Agree, AgreeAway, AgreesAt, AreHeld, AreHeldBut, AreHeldAway, AreHeldAwayBut, FitsIn, Knows, KnowsApart};
-    ghost use Rattle.core_lanes.specs.Numbers.{numbers_of, is_fresh_by};
+    ghost use Rattle.core_lanes.specs.Lanes.{Beside, lane_state, bare_start, queues_of, room_of, bare, Agree, AgreeAway, AgreesAt, AreHeld, AreHeldBut, AreHeldAway, AreHeldAwayBut, FitsIn, Knows, KnowsApart, MayEnter};
+    ghost use Rattle.core_lanes.specs.Numbers.{numbers_of, is_fresh_by, touched};
     ghost use Rattle.core_lanes.specs.Changes.{Becomes, kept_of, Changes, Touches};
 
     /// The siblings, which are 1 to 16, before the first step: each is online and runs idle, and no number is
@@ -300,19 +300,20 @@ impl<Q: SiblingQueue> Core<Q> {
         movers.sort_unstable_by_key(|mover| mover.0);
     }
 
-    /// The task leaves its home, whose queue is empty already, and enters the queue of its new one.
+    /// The task leaves its home, whose queue is empty already, and enters the queue of its new one with the next stamp.
+    #[inline(always)]
     pub fn enter<L: Ledger>(&mut self, table: &mut TaskTable, task: Task, steps: &mut Steps<L>)
-        requires knows { Knows (self.old, table.old) task }
-        requires queued { IsTrue task.queued }
-        requires home { (old : SomeTask) → find (has_pid task.spec.pid) table.old.tasks ≡ Some old → task.home ≢ old.home }
-        requires away { (old : SomeTask) → find (has_pid task.spec.pid) table.old.tasks ≡ Some old → AgreeAway old.home (self.old, table.old) }
-        ensures room { Becomes (self.old, table.old) (self.new, table.new) (λ room. with_task room task) }
-        ensures numbers { numbers_of (self.new, table.new) ≡ numbers_of (self.old, table.old) }
+        requires { MayEnter (self.old, table.old) task }
+        ensures room { Becomes (self.old, table.old) (self.new, table.new) (λ room. enqueue room task) }
+        ensures numbers { numbers_of (self.new, table.new) ≡ touched 2 (numbers_of (self.old, table.old)) }
         ensures kept { kept_of (self.new, table.new) ≡ kept_of (self.old, table.old) }
         ensures away { (old : SomeTask) → find (has_pid task.spec.pid) table.old.tasks ≡ Some old → AgreeAway old.home (self.new, table.new) }
     {
-        table.change(task);
-        self.put_away(table, &task, steps);
+        table.move_to(task.spec.pid, task.home, task.vtime, self.next_stamp);
+        self.next_stamp += 1;
+        self.task_number += 2;
+        let entered = table.find(task.spec.pid).unwrap();
+        self.put_away(table, entered, steps);
     }
 
     /// The task's numbers are these now.

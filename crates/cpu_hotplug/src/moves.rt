@@ -9,7 +9,7 @@ ghost use Rattle.cpu_hotplug.specs.Leaves.{move_off};
 
 use crate::away::lowest_other;
 use core_lanes::{Core, Movers, SiblingQueue, task_of};
-use cs_types::{Cpu, Steps, Task};
+use cs_types::{Cpu, Steps};
 use std::sync::ledger::Ledger;
 use task_table::TaskTable;
 
@@ -37,9 +37,6 @@ pub fn move_off<Q: SiblingQueue, L: Ledger>(
     for mover in movers.iter() {
         let task = task_of(table, mover.1).unwrap();
         let moved = core.moved_to(to, task);
-        let stamp = core.next_stamp;
-        core.next_stamp += 1;
-        core.task_number += 2;
-        core.enter(table, Task { stamp, ..moved }, steps);
+        core.enter(table, moved, steps);
     }
 }

@@ -1,4 +1,4 @@
-use Rattle.std.proofs.Common.{Option, None, Some, ◌≡◌, ◌+◌, ◌*◌, ◌<◌, ◌≤◌, ◌^◌, ℕ, List, refl, subst, sym, ap, ◌∙◌, arith, length, map}
+use Rattle.std.proofs.Common.{Option, None, Some, true, ◌≡◌, ◌+◌, ◌*◌, ◌<◌, ◌≤◌, ◌^◌, ℕ, List, refl, subst, sym, ap, ◌∙◌, arith, length, map}
 use Rattle.std.specs.Prelude.{◌==◌, ◌&&◌, All, find}
 use Rattle.std.specs.Ordering.{nat_cmp}
 use Rattle.std.specs.Option.{IsSome}
@@ -7,16 +7,14 @@ use Rattle.std.proofs.lemmas.Bool.{and_parts, eqb-true}
 use Rattle.std.proofs.lemmas.List.{length-map}
 use Rattle.std.proofs.lemmas.List.Sums.{length-filter, count_by-le-length}
 use Rattle.cs_types.specs.declared.task.Task.{Task}
-use Rattle.cs_types.specs.declared.task.TaskSpec.{TaskSpec}
-use Rattle.cs_types.specs.Scenario.{IsPolicy}
 use Rattle.cs_types.specs.Room.{RoomState, SiblingState, has_pid}
 use Rattle.cs_types.specs.Queue.{queued_of}
 use Rattle.cs_types.proofs.Spots.{replaced_by}
 use Rattle.core_lanes.specs.Queued.{queued_among, queued_at, mover_of}
-use Rattle.core_lanes.specs.Lanes.{BareCore, lane_state, room_by, room_of, AreHeldAway, AgreeAway, IsFit}
+use Rattle.core_lanes.specs.Lanes.{BareCore, lane_state, room_by, room_of, AgreeAway, IsFit}
 use Rattle.core_lanes.specs.Numbers.{Numbers, numbers_by, numbers_of, touched}
 use Rattle.core_lanes.specs.Changes.{Kept, identity_of}
-use Rattle.core_lanes.proofs.Stays.{some_beside, same_stays, agree_again, found_in, stamped-later, stamp_next}
+use Rattle.core_lanes.proofs.Stays.{some_beside, same_stays, agree_again, found_in}
 use Rattle.cpu_hotplug.proofs.Ranks.{each_of, length-movers}
 use Rattle.cpu_hotplug.proofs.Leaving.{moved_is, so_far, none_moved, all_moved, one_more, next_found, next_is, nobody_moves, none_left}
 use Rattle.cpu_hotplug.proofs.moves.move_off.Goals as goal
@@ -117,46 +115,14 @@ moved_to-moved-requires-clause-leasts g c =
     subst (λ (siblings : List SiblingState). All (λ (sibling : SiblingState). sibling.least < 2 ^ 100) siblings)
     (sym (ap (λ (room : RoomState). room.siblings) (c.loop-mover.invariant.room some_beside))) c.requires.low.leasts
 
--- ---- the numbers
-
 -- no more move than there are
 few : (tasks : List Task) (cpu : ℕ) → length (queued_among tasks cpu) ≤ length tasks
 few tasks cpu = omega (arith, length-filter (λ (task : Task). task.queued && (task.home == cpu)) tasks, count_by-le-length (λ (task : Task). task.queued && (task.home == cpu)) tasks)
 
-pub overflow_add-core : goal.overflow_add-core
-overflow_add-core g c =
-    let core = c.args.core.now in
-    let table = c.args.table.now in
-    let cpu = c.args.cpu in
-    let now = c.loop-mover.table in
-    let room = room_of some_beside (core, table) in
-    let list_is = c.deref-mover-items.ensures.0 in
-    let movers = c.deref-mover-items.result.now in
-    let same = subst (IsPermutation (map mover_of (queued_among table.tasks cpu))) (sym list_is) c.empty_queue.ensures.told in
-    let sorted = subst (IsSortedByKey (λ (mover : ℕ × ℕ). mover.0) nat_cmp) (sym list_is) c.empty_queue.ensures.rising in
-    let are = ap (λ (one : RoomState). one.tasks) (c.loop-mover.invariant.room some_beside) in
-    let many = length-movers table.tasks c.requires.agree.table.rising cpu core.next_stamp c.requires.agree.stamped movers same in
-    omega (arith, ap (λ (one : RoomState). one.next_stamp) (c.loop-mover.invariant.room some_beside), c.loop-mover-test.true, many, few table.tasks cpu, c.requires.stamp)
-
-pub overflow_add-core-in-loop-mover : goal.overflow_add-core-in-loop-mover
-overflow_add-core-in-loop-mover g c =
-    let core = c.args.core.now in
-    let table = c.args.table.now in
-    let cpu = c.args.cpu in
-    let now = c.loop-mover.table in
-    let room = room_of some_beside (core, table) in
-    let list_is = c.deref-mover-items.ensures.0 in
-    let movers = c.deref-mover-items.result.now in
-    let same = subst (IsPermutation (map mover_of (queued_among table.tasks cpu))) (sym list_is) c.empty_queue.ensures.told in
-    let sorted = subst (IsSortedByKey (λ (mover : ℕ × ℕ). mover.0) nat_cmp) (sym list_is) c.empty_queue.ensures.rising in
-    let are = ap (λ (one : RoomState). one.tasks) (c.loop-mover.invariant.room some_beside) in
-    let many = length-movers table.tasks c.requires.agree.table.rising cpu core.next_stamp c.requires.agree.stamped movers same in
-    omega (arith, ap (λ (numbers : Numbers). numbers.task) c.loop-mover.invariant.numbers, c.loop-mover-test.true, many, few table.tasks cpu, c.requires.touches)
-
 -- ---- it enters the other queue
 
-pub enter-requires-clause-knows : goal.enter-requires-clause-knows
-enter-requires-clause-knows g c =
+pub enter-requires : goal.enter-requires
+enter-requires g c =
     let core = c.args.core.now in
     let table = c.args.table.now in
     let cpu = c.args.cpu in
@@ -171,87 +137,26 @@ enter-requires-clause-knows g c =
     let next = next_is room cpu c.requires.agree.table.rising c.requires.agree.stamped movers same sorted c.loop-mover.mover-index (0, 0) c.loop-mover-test.true now.tasks are task (sym c.task_of.ensures.task ∙ c.unwrap-task.ensures) in
     let many : length c.loop-mover.core.lanes.items ≡ length core.lanes.items = ap (λ (kept : Kept). kept.siblings) c.loop-mover.invariant.kept in
     let moved = c.moved_to-moved.ensures some_beside now in
-    let spec : c.moved_to-moved.result.spec ≡ task.spec = ap (λ (one : Task). one.spec) moved in
-    let policy = (found_in (IsFit (length core.lanes.items)) task.spec.pid table.tasks task c.requires.agree.tasks next.there).policy in
-    let done : Task = record c.moved_to-moved.result { stamp = c.loop-mover.core.next_stamp } in
+    let movers_are = length-movers table.tasks c.requires.agree.table.rising cpu core.next_stamp c.requires.agree.stamped movers same in
+    let invariant = c.loop-mover.invariant in
+    let on = and_parts task.queued (task.home == cpu) next.on in
+    let home : task.home ≡ cpu = eqb-true task.home cpu on.1 in
     record {
-      known = record {
-        apart = record {
-          old = task;
-          there = ap (λ (one : TaskSpec). find (has_pid one.pid) now.tasks) spec ∙ next.found;
-          fits = record {
-            home = omega (arith, ap (λ (one : Task). one.home) moved, c.lowest_other-to.ensures.within, many);
-            policy = subst (λ (one : TaskSpec). IsPolicy one.policy) (sym spec) policy;
-          };
-        };
-        cookie = ap (λ (one : Task). one.cookie) moved;
-      };
-      stamp = λ queued. stamp_next c.loop-mover.core.next_stamp now.tasks done refl c.loop-mover.invariant.away.stamped;
+      old = task;
+      there = ap (λ (one : Task). find (has_pid one.spec.pid) now.tasks) moved ∙ next.found;
+      leaves = subst (λ n. AgreeAway n (c.loop-mover.core, now)) (sym home) invariant.away;
+      moved = moved ∙ (λ i. let as_moved : Task = record task { home = (sym moved i).home; vtime = (sym moved i).vtime } in as_moved);
+      queued = ap (λ (one : Task). one.queued) moved ∙ on.0;
+      home = omega (arith, ap (λ (one : Task). one.home) moved, c.lowest_other-to.ensures.within, many);
+      elsewhere = λ here.
+          c.requires.another some_beside
+          (sym (c.lowest_other-to.ensures.lowest some_beside table) ∙ sym (ap (λ (one : Task). one.home) moved) ∙ here ∙ home);
+      stamp = omega (arith, ap (λ (one : RoomState). one.next_stamp) (invariant.room some_beside), c.loop-mover-test.true, movers_are, few table.tasks cpu, c.requires.stamp);
+      touches = omega (arith, ap (λ (numbers : Numbers). numbers.task) invariant.numbers, c.loop-mover-test.true, movers_are, few table.tasks cpu, c.requires.touches);
     }
 
-pub enter-requires-clause-queued : goal.enter-requires-clause-queued
-enter-requires-clause-queued g c =
-    let core = c.args.core.now in
-    let table = c.args.table.now in
-    let cpu = c.args.cpu in
-    let now = c.loop-mover.table in
-    let room = room_of some_beside (core, table) in
-    let list_is = c.deref-mover-items.ensures.0 in
-    let movers = c.deref-mover-items.result.now in
-    let same = subst (IsPermutation (map mover_of (queued_among table.tasks cpu))) (sym list_is) c.empty_queue.ensures.told in
-    let sorted = subst (IsSortedByKey (λ (mover : ℕ × ℕ). mover.0) nat_cmp) (sym list_is) c.empty_queue.ensures.rising in
-    let are = ap (λ (one : RoomState). one.tasks) (c.loop-mover.invariant.room some_beside) in
-    let task = c.unwrap-task.result in
-    let next = next_is room cpu c.requires.agree.table.rising c.requires.agree.stamped movers same sorted c.loop-mover.mover-index (0, 0) c.loop-mover-test.true now.tasks are task (sym c.task_of.ensures.task ∙ c.unwrap-task.ensures) in
-    ap (λ (one : Task). one.queued) (c.moved_to-moved.ensures some_beside now) ∙ (and_parts task.queued (task.home == cpu) next.on).0
-
-pub enter-requires-clause-home : goal.enter-requires-clause-home
-enter-requires-clause-home g c old found here =
-    let core = c.args.core.now in
-    let table = c.args.table.now in
-    let cpu = c.args.cpu in
-    let now = c.loop-mover.table in
-    let room = room_of some_beside (core, table) in
-    let list_is = c.deref-mover-items.ensures.0 in
-    let movers = c.deref-mover-items.result.now in
-    let same = subst (IsPermutation (map mover_of (queued_among table.tasks cpu))) (sym list_is) c.empty_queue.ensures.told in
-    let sorted = subst (IsSortedByKey (λ (mover : ℕ × ℕ). mover.0) nat_cmp) (sym list_is) c.empty_queue.ensures.rising in
-    let are = ap (λ (one : RoomState). one.tasks) (c.loop-mover.invariant.room some_beside) in
-    let task = c.unwrap-task.result in
-    let next = next_is room cpu c.requires.agree.table.rising c.requires.agree.stamped movers same sorted c.loop-mover.mover-index (0, 0) c.loop-mover-test.true now.tasks are task (sym c.task_of.ensures.task ∙ c.unwrap-task.ensures) in
-    let moved = c.moved_to-moved.ensures some_beside now in
-    let is : Some old ≡ Some task = sym found ∙ ap (λ (one : Task). find (has_pid one.spec.pid) now.tasks) moved ∙ next.found in
-    let old_is : old ≡ task = cc in
-    c.requires.another some_beside
-    (sym (c.lowest_other-to.ensures.lowest some_beside table) ∙ sym (ap (λ (one : Task). one.home) moved) ∙ here
-    ∙ ap (λ (one : Task). one.home) old_is ∙ eqb-true task.home cpu (and_parts task.queued (task.home == cpu) next.on).1)
-
-pub enter-requires-clause-away : goal.enter-requires-clause-away
-enter-requires-clause-away g c old found =
-    let core = c.args.core.now in
-    let table = c.args.table.now in
-    let cpu = c.args.cpu in
-    let now = c.loop-mover.table in
-    let room = room_of some_beside (core, table) in
-    let list_is = c.deref-mover-items.ensures.0 in
-    let movers = c.deref-mover-items.result.now in
-    let same = subst (IsPermutation (map mover_of (queued_among table.tasks cpu))) (sym list_is) c.empty_queue.ensures.told in
-    let sorted = subst (IsSortedByKey (λ (mover : ℕ × ℕ). mover.0) nat_cmp) (sym list_is) c.empty_queue.ensures.rising in
-    let are = ap (λ (one : RoomState). one.tasks) (c.loop-mover.invariant.room some_beside) in
-    let task = c.unwrap-task.result in
-    let next = next_is room cpu c.requires.agree.table.rising c.requires.agree.stamped movers same sorted c.loop-mover.mover-index (0, 0) c.loop-mover-test.true now.tasks are task (sym c.task_of.ensures.task ∙ c.unwrap-task.ensures) in
-    let moved = c.moved_to-moved.ensures some_beside now in
-    let is : Some old ≡ Some task = sym found ∙ ap (λ (one : Task). find (has_pid one.spec.pid) now.tasks) moved ∙ next.found in
-    let old_is : old ≡ task = cc in
-    let home : old.home ≡ cpu = ap (λ (one : Task). one.home) old_is ∙ eqb-true task.home cpu (and_parts task.queued (task.home == cpu) next.on).1 in
-    let away = c.loop-mover.invariant.away in
-    record {
-      table = away.table;
-      few_tasks = away.few_tasks;
-      tasks = away.tasks;
-      stamped = stamped-later (omega arith) away.stamped;
-      held = subst (λ n. AreHeldAway n (c.loop-mover.core, now)) (sym home) away.held;
-    }
+two_more : (n i : ℕ) → n + 2 * i + 2 ≡ n + 2 * (i + 1)
+two_more n i = omega arith
 
 pub loop-mover-preserved : goal.loop-mover-preserved
 loop-mover-preserved g c =
@@ -270,13 +175,16 @@ loop-mover-preserved g c =
     let i = c.loop-mover.mover-index in
     let on = next.on in
     let stamps = ap (λ (one : RoomState). one.next_stamp) (c.loop-mover.invariant.room some_beside) in
-    let done : Task = record c.moved_to-moved.result { stamp = c.loop-mover.core.next_stamp } in
+    let stamp = c.loop-mover.core.next_stamp in
+    let done : Task = record c.moved_to-moved.result { queued = true; stamp = stamp } in
     let moved = c.moved_to-moved.ensures some_beside now in
+    let queued = ap (λ (one : Task). one.queued) moved ∙ (and_parts task.queued (task.home == cpu) on).0 in
     record {
       room = λ beside.
           let was = room_of beside (core, table) in
           let invariant = c.loop-mover.invariant.room beside in
-          let is = moved_is was (room_of beside (c.loop-mover.core, now)) cpu c.lowest_other-to.result c.loop-mover.core.next_stamp task c.moved_to-moved.result
+          let is = ap (λ b. let one : Task = record c.moved_to-moved.result { queued = b; stamp = stamp } in one) (sym queued)
+          ∙ moved_is was (room_of beside (c.loop-mover.core, now)) cpu c.lowest_other-to.result c.loop-mover.core.next_stamp task c.moved_to-moved.result
           (ap (λ (one : RoomState). one.siblings) invariant) (c.lowest_other-to.ensures.lowest beside table) (c.moved_to-moved.ensures beside now) on
           (stamps ∙ ap (λ n. core.next_stamp + n) (sym next.rank)) in
           let more = ap (map (replaced_by done)) are
@@ -284,8 +192,9 @@ loop-mover-preserved g c =
           let stamp : c.loop-mover.core.next_stamp + 1 ≡ core.next_stamp + (i + 1) = omega (arith, stamps) in
           c.enter.ensures.room beside ∙ (λ j. let after : RoomState = record (invariant j) { tasks = more j; next_stamp = stamp j } in after);
       numbers =
-          let touches : c.loop-mover.core.task_number + 2 ≡ core.task_number + 2 * (i + 1) = omega (arith, ap (λ (numbers : Numbers). numbers.task) c.loop-mover.invariant.numbers) in
-          c.enter.ensures.numbers ∙ (λ j. let after : Numbers = record (c.loop-mover.invariant.numbers j) { task = touches j } in after);
+          c.enter.ensures.numbers
+          ∙ ap (touched 2) c.loop-mover.invariant.numbers
+          ∙ ap (λ n. let after : Numbers = record (numbers_of (core, table)) { task = n } in after) (two_more core.task_number i);
       kept = c.enter.ensures.kept ∙ c.loop-mover.invariant.kept;
       away = subst (λ n. AgreeAway n (c.enter.new.self, c.enter.new.table)) (eqb-true task.home cpu (and_parts task.queued (task.home == cpu) on).1)
           (c.enter.ensures.away task (ap (λ (one : Task). find (has_pid one.spec.pid) now.tasks) moved ∙ next.found));
