@@ -1,5 +1,5 @@
 -- Lanes: the room that a core and a table stand for, and that these agree.
-use Rattle.std.specs.Prelude.{◌≡◌, ◌≢◌, ℕ, ◌+◌, ◌^◌, ◌<◌, ◌≤◌, ◌==◌, if◌then◌else◌, List, [], length, map, find, replicate, Some, None, All, IsTrue, slice_get, unwrap_or}
+use Rattle.std.specs.Prelude.{◌≡◌, ◌≢◌, ℕ, ◌+◌, ◌^◌, ◌<◌, ◌≤◌, ◌==◌, if◌then◌else◌, List, [], length, map, find, replicate, Some, None, true, false, All, IsTrue, slice_get, unwrap_or}
 use Rattle.cs_types.specs.declared.task.Task.{Task}
 use Rattle.cs_types.specs.declared.view.CpuView.{CpuView}
 use Rattle.cs_types.specs.Scenario.{IsPolicy}
@@ -7,7 +7,7 @@ use Rattle.cs_types.specs.Room.{SiblingState, idle, RoomState, Interval, has_pid
 use Rattle.cs_types.specs.Guards.{GuardList}
 use Rattle.forceidle_account.specs.Account.{Account}
 use Rattle.task_table.specs.Table.{Table, IsSound as IsTable}
-use Rattle.core_lanes.specs.Queued.{queued_among, queued_at, others, AreStamped, HasOwnStamp}
+use Rattle.core_lanes.specs.Queued.{queued_among, queued_at, others, IsOf, AreStamped, HasOwnStamp}
 use Rattle.core_lanes.specs.declared.queue.SiblingQueue.{Ghosts}
 use Rattle.core_lanes.specs.declared.lane.Lane.{Lane}
 use Rattle.core_lanes.specs.declared.lanes.Core.{Core}
@@ -27,6 +27,23 @@ lane_state lane =
       snapshot = lane.snapshot;
       ran = lane.ran;
       place = lane.place;
+    }
+
+-- a sibling before the first step, with this queue: online, and running idle
+abbrev pub lane_start : {Q : Type 0} → Q → Lane Q
+lane_start queue =
+    record {
+      online = true;
+      run = None;
+      pending = false;
+      waiting = None;
+      place = 0;
+      snapshot = 0;
+      least = 0;
+      idle_occupation = 0;
+      ran = 0;
+      number = 0;
+      queue = queue;
     }
 
 -- what a machine shows of it
@@ -167,6 +184,12 @@ AgreeAway leaving both = AgreeBy (AreHeldAway leaving both) both
 pub record AgreesAt {Q : Type 0} {g : Ghosts Q} (sibling : ℕ) (both : Core Q g × Table) : Type 0 where
   pub cpu : sibling < length both.0.lanes.items
   pub agree : Agree both
+
+-- the task is one of a table, and its home is a sibling
+pub record IsAtHome {Q : Type 0} {g : Ghosts Q} (both : Core Q g × Table) (task : Task) : Type 0 where
+  pub table : IsTable both.1
+  pub there : IsOf both.1.tasks task
+  pub home : task.home < length both.0.lanes.items
 
 -- a stamp that a queued task may have
 pub record MayStamp (next : ℕ) (tasks : List Task) (task : Task) : Type 0 where

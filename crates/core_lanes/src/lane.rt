@@ -1,8 +1,8 @@
 //! A sibling of the core, with its queue.
 
-ghost use Rattle.std.specs.Prelude.{◌≡◌, Some, None, true, false};
+ghost use Rattle.std.specs.Prelude.{◌≡◌, Some};
 ghost use Rattle.cs_types.specs.Selection.{is_run};
-ghost use Rattle.core_lanes.specs.Lanes.{lane_view};
+ghost use Rattle.core_lanes.specs.Lanes.{lane_start, lane_view};
 
 use cs_types::{CpuView, Pid};
 
@@ -39,19 +39,7 @@ pub struct Lane<Q: Drop> {
 impl<Q: Drop> Lane<Q> {
     /// A sibling before the first step: online, and running idle.
     pub fn with_queue(queue: Q) -> Lane<Q>
-        ensures { result ≡ record {
-          online = true;
-          run = None;
-          pending = false;
-          waiting = None;
-          place = 0;
-          snapshot = 0;
-          least = 0;
-          idle_occupation = 0;
-          ran = 0;
-          number = 0;
-          queue = queue;
-        } }
+        ensures { result ≡ lane_start queue }
     {
         Lane {
             online: true,

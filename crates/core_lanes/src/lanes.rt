@@ -53,7 +53,7 @@ pub struct Core<Q: SiblingQueue> {
 
 impl<Q: SiblingQueue> Core<Q> {
     ghost use Rattle.core_lanes.specs.Queued.{HasOwnStamp};
-    ghost use Rattle.core_lanes.specs.Lanes.{Beside, lane_state, bare_start, queues_of, room_of, bare, Agree, AgreeAway, AgreesAt, AreHeld, AreHeldBut, AreHeldAway, AreHeldAwayBut, FitsIn, Knows, KnowsApart, MayEnter};
+    ghost use Rattle.core_lanes.specs.Lanes.{Beside, lane_state, bare_start, queues_of, room_of, bare, Agree, AgreeAway, AgreesAt, AreHeld, AreHeldBut, AreHeldAway, AreHeldAwayBut, FitsIn, Knows, KnowsApart, IsAtHome, MayEnter};
     ghost use Rattle.core_lanes.specs.Numbers.{numbers_of, is_fresh_by, touched};
     ghost use Rattle.core_lanes.specs.Changes.{Becomes, kept_of, Changes, Touches};
 
@@ -160,9 +160,7 @@ impl<Q: SiblingQueue> Core<Q> {
 
     /// The queue that the task stands in, if one, has it no longer.
     fn take<L: Ledger>(&mut self, table: &TaskTable, task: &Task, steps: &mut Steps<L>)
-        requires there { IsOf table.now.tasks task.now }
-        requires home { task.now.home < length self.old.lanes.items }
-        requires table { IsTable table.now }
+        requires home { IsAtHome (self.old, table.now) task.now }
         requires held { AreHeld (self.old, table.now) }
         ensures bare { bare self.new ≡ bare self.old }
         ensures held { AreHeldBut task.now.spec.pid (self.new, table.now) }
@@ -176,9 +174,7 @@ impl<Q: SiblingQueue> Core<Q> {
 
     /// The queue that the task belongs into, if one, has it.
     fn put<L: Ledger>(&mut self, table: &TaskTable, task: &Task, steps: &mut Steps<L>)
-        requires there { IsOf table.now.tasks task.now }
-        requires home { task.now.home < length self.old.lanes.items }
-        requires table { IsTable table.now }
+        requires home { IsAtHome (self.old, table.now) task.now }
         requires stamp { IsTrue task.now.queued → HasOwnStamp table.now.tasks task.now }
         requires held { AreHeldBut task.now.spec.pid (self.old, table.now) }
         ensures bare { bare self.new ≡ bare self.old }
@@ -193,9 +189,7 @@ impl<Q: SiblingQueue> Core<Q> {
 
     /// The queue of the task's home has it, where the tasks of another sibling leave.
     fn put_away<L: Ledger>(&mut self, table: &TaskTable, task: &Task, steps: &mut Steps<L>)
-        requires there { IsOf table.now.tasks task.now }
-        requires home { task.now.home < length self.old.lanes.items }
-        requires table { IsTable table.now }
+        requires home { IsAtHome (self.old, table.now) task.now }
         requires queued { IsTrue task.now.queued }
         requires stamp { HasOwnStamp table.now.tasks task.now }
         requires held { (queue : _) → slice_get (queues_of self.old) task.now.home ≡ Some queue →
@@ -248,9 +242,7 @@ impl<Q: SiblingQueue> Core<Q> {
         cookie: Cookie,
         steps: &mut Steps<L>,
     )
-        requires there { IsOf table.now.tasks task.now }
-        requires home { task.now.home < length self.old.lanes.items }
-        requires table { IsTable table.now }
+        requires home { IsAtHome (self.old, table.now) task.now }
         requires held { AreHeld (self.old, table.now) }
         ensures bare { bare self.new ≡ bare self.old }
         ensures held { AreHeld (self.new, record table.now { tasks = given_cookie task.now cookie table.now.tasks }) }

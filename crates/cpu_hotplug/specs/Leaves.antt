@@ -1,7 +1,9 @@
 -- Leaves: what the leaving of a sibling makes of the siblings and of the tasks, each by itself.
-use Rattle.std.specs.Prelude.{ℕ, ◌+◌, ◌==◌, ◌||◌, if◌then◌else◌, map, length}
+use Rattle.std.specs.Prelude.{◌≡◌, ℕ, ◌+◌, ◌==◌, ◌||◌, if◌then◌else◌, map, length}
 use Rattle.cs_types.specs.Room.{RoomState, SiblingState, queued_on}
 use Rattle.cs_types.specs.Hotplug.{away, moved_off}
+use Rattle.core_lanes.specs.declared.lane.Lane.{Lane}
+use Rattle.core_lanes.specs.Lanes.{lane_state}
 
 -- a sibling becomes pending where it is online, since another leaves
 abbrev pub beside_one_that_leaves : SiblingState → SiblingState
@@ -10,6 +12,12 @@ beside_one_that_leaves sibling = record sibling { pending = sibling.pending || s
 -- the sibling at a place once the one with the number left
 abbrev pub left : ℕ → ℕ × SiblingState → SiblingState
 left cpu place = if place.0 == cpu then away place.1 else beside_one_that_leaves place.1
+
+-- a sibling is another after this change, with its own number and its queue
+pub record ChangesLane {Q : Type 0} (old new : Lane Q) (change : SiblingState → SiblingState) : Type 0 where
+  pub state : lane_state new ≡ change (lane_state old)
+  pub number : new.number ≡ old.number
+  pub queue : new.queue ≡ old.queue
 
 -- the room once the tasks queued on the sibling moved to the lowest other online one
 abbrev pub move_off : RoomState → ℕ → RoomState

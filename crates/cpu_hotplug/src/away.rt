@@ -7,7 +7,7 @@ ghost use Rattle.cs_types.specs.Room.{online as siblings_online};
 ghost use Rattle.cs_types.specs.Hotplug.{lowest_other, away, back};
 ghost use Rattle.task_table.specs.Table.{Table};
 ghost use Rattle.core_lanes.specs.Lanes.{Beside, lane_state, room_of};
-ghost use Rattle.cpu_hotplug.specs.Leaves.{beside_one_that_leaves, left};
+ghost use Rattle.cpu_hotplug.specs.Leaves.{beside_one_that_leaves, left, ChangesLane};
 
 use core_lanes::{Core, Lane, SiblingQueue};
 use cs_types::Cpu;
@@ -41,9 +41,7 @@ pub fn lowest_other<Q: SiblingQueue>(core: &Core<Q>, cpu: Cpu) -> Cpu
 
 /// The sibling is offline, and runs idle while it is.
 fn set_away<Q: Drop>(lane: &mut Lane<Q>)
-    ensures state { lane_state lane.new ≡ away (lane_state lane.old) }
-    ensures number { lane.new.number ≡ lane.old.number }
-    ensures queue { lane.new.queue ≡ lane.old.queue }
+    ensures { ChangesLane lane.old lane.new away }
 {
     lane.online = false;
     lane.run = None;
@@ -54,9 +52,7 @@ fn set_away<Q: Drop>(lane: &mut Lane<Q>)
 
 /// The sibling becomes pending where it is online, since another leaves.
 fn stand_by<Q: Drop>(lane: &mut Lane<Q>)
-    ensures state { lane_state lane.new ≡ beside_one_that_leaves (lane_state lane.old) }
-    ensures number { lane.new.number ≡ lane.old.number }
-    ensures queue { lane.new.queue ≡ lane.old.queue }
+    ensures { ChangesLane lane.old lane.new beside_one_that_leaves }
 {
     lane.pending |= lane.online;
 }
@@ -79,9 +75,7 @@ pub fn set_one_away<Q: Drop>(lanes: &mut [Lane<Q>], cpu: Cpu)
 
 /// The sibling is online again, runs idle and is pending.
 pub fn set_back<Q: Drop>(lane: &mut Lane<Q>)
-    ensures state { lane_state lane.new ≡ back (lane_state lane.old) }
-    ensures number { lane.new.number ≡ lane.old.number }
-    ensures queue { lane.new.queue ≡ lane.old.queue }
+    ensures { ChangesLane lane.old lane.new back }
 {
     lane.online = true;
     lane.run = None;

@@ -92,17 +92,15 @@ unwrap-entered-requires g c =
 
 -- ---- it enters the queue
 
-pub put_away-requires-clause-there : goal.put_away-requires-clause-there
-put_away-requires-clause-there g c =
-    let there = there_now c.args.self.now c.args.table.now c.args.task c.requires c.move_to.new.self c.move_to.ensures.moved in
-    let is = is_it c.find.result c.unwrap-entered.result (stamped c.args.self.now.next_stamp c.args.task) c.unwrap-entered.ensures (c.find.ensures.task ∙ there) in
-    subst (IsOf c.move_to.new.self.tasks) is there
-
 pub put_away-requires-clause-home : goal.put_away-requires-clause-home
 put_away-requires-clause-home g c =
     let there = there_now c.args.self.now c.args.table.now c.args.task c.requires c.move_to.new.self c.move_to.ensures.moved in
     let is = is_it c.find.result c.unwrap-entered.result (stamped c.args.self.now.next_stamp c.args.task) c.unwrap-entered.ensures (c.find.ensures.task ∙ there) in
-    subst (λ (task : Task). task.home < length c.args.self.now.lanes.items) is c.requires.home
+    record {
+      table = c.find.ensures.sound;
+      there = subst (IsOf c.move_to.new.self.tasks) is there;
+      home = subst (λ (task : Task). task.home < length c.args.self.now.lanes.items) is c.requires.home;
+    }
 
 pub put_away-requires-clause-queued : goal.put_away-requires-clause-queued
 put_away-requires-clause-queued g c =

@@ -13,7 +13,7 @@ pub put-requires-clause-holds : goal.put-requires-clause-holds
 put-requires-clause-holds g c =
     let home = c.args.task.now.home in
     let lane = c.index_mut.result.now in
-    c.requires.held lane.queue (queue_at c.args.self.now.lanes.items home lane c.requires.home c.index_mut.ensures.value)
+    c.requires.held lane.queue (queue_at c.args.self.now.lanes.items home lane c.requires.home.home c.index_mut.ensures.value)
 
 pub returns-clause-bare : goal.returns-clause-bare
 returns-clause-bare g c =
@@ -35,6 +35,6 @@ returns-clause-held g c leaving stays all =
     (λ cpu x. g.Q.SiblingQueue.holds x limit (cond (cpu == leaving) [] (queued_at tasks cpu))) (queues_of c.args.self.now) task.home c.put.new.self
     (λ cpu x other held.
     subst (λ qs. g.Q.SiblingQueue.holds x limit qs)
-    (ap (cond (cpu == leaving) []) (others-absent tasks task cpu c.requires.table.rising c.requires.there (off_elsewhere task cpu other))) held)
+    (ap (cond (cpu == leaving) []) (others-absent tasks task cpu c.requires.home.table.rising c.requires.home.there (off_elsewhere task cpu other))) held)
     all
     (subst (λ qs. g.Q.SiblingQueue.holds c.put.new.self limit qs) (sym (cond-false (task.home == leaving) [] (queued_at tasks task.home) (ne_eqb task.home leaving stays))) c.put.ensures.holds))

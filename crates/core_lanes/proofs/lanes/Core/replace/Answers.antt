@@ -4,6 +4,7 @@ use Rattle.std.proofs.lemmas.Bool.{eqb-true}
 use Rattle.cs_types.specs.Room.{has_pid}
 use Rattle.cs_types.proofs.Foremost.{find_passes}
 use Rattle.cs_types.proofs.Spots.{replaced_by}
+use Rattle.cs_types.proofs.Tasks.{found_again}
 use Rattle.task_table.specs.Table.{Table}
 use Rattle.core_lanes.specs.Queued.{HasOwnStamp, AreStamped}
 use Rattle.core_lanes.specs.Lanes.{BareCore, bare, IsFit, AreHeldBut}
@@ -21,15 +22,21 @@ replace_alike-requires-clause-alike g c = sym c.is_alike.ensures ∙ c.if-is_ali
 pub take-requires-clause-home : goal.take-requires-clause-home
 take-requires-clause-home g c =
     let tasks = c.args.table.now.tasks in
-    (found_in (IsFit (length c.args.self.now.lanes.items)) c.args.task.spec.pid tasks c.unwrap-old.result c.requires.agree.tasks (sym c.task_of.ensures.task ∙ c.unwrap-old.ensures)).home
-
-pub put-requires-clause-there : goal.put-requires-clause-there
-put-requires-clause-there g c =
-    let apart = c.requires.fits.apart in
-    rw c.change.ensures.changed (is_of c.args.task apart.old c.args.table.now.tasks apart.there)
+    let found = sym c.task_of.ensures.task ∙ c.unwrap-old.ensures in
+    record {
+      table = c.requires.agree.table;
+      there = found_again c.args.task.spec.pid tasks c.unwrap-old.result found;
+      home = (found_in (IsFit (length c.args.self.now.lanes.items)) c.args.task.spec.pid tasks c.unwrap-old.result c.requires.agree.tasks found).home;
+    }
 
 pub put-requires-clause-home : goal.put-requires-clause-home
-put-requires-clause-home g c = subst (λ n. c.args.task.home < n) (sym (as_many_bare c.args.self.now c.take.new.self c.take.ensures.bare)) c.requires.fits.apart.fits.home
+put-requires-clause-home g c =
+    let apart = c.requires.fits.apart in
+    record {
+      table = c.change.ensures.sound;
+      there = rw c.change.ensures.changed (is_of c.args.task apart.old c.args.table.now.tasks apart.there);
+      home = subst (λ n. c.args.task.home < n) (sym (as_many_bare c.args.self.now c.take.new.self c.take.ensures.bare)) apart.fits.home;
+    }
 
 pub put-requires-clause-stamp : goal.put-requires-clause-stamp
 put-requires-clause-stamp g c queued =

@@ -20,7 +20,12 @@ returns-then-task-cookie-clause-table g c =
 
 pub set_cookie_in_queue-requires-clause-home : goal.set_cookie_in_queue-requires-clause-home
 set_cookie_in_queue-requires-clause-home g c =
-    (found_in (IsFit (length c.args.self.now.lanes.items)) c.args.task.now.spec.pid c.args.table.now.tasks c.args.task.now c.requires.agree.tasks c.requires.there).home
+    let agree = c.requires.agree in
+    record {
+      table = agree.table;
+      there = c.requires.there;
+      home = (found_in (IsFit (length c.args.self.now.lanes.items)) c.args.task.now.spec.pid c.args.table.now.tasks c.args.task.now agree.tasks c.requires.there).home;
+    }
 
 pub returns-clause-table : goal.returns-clause-table
 returns-clause-table g c =

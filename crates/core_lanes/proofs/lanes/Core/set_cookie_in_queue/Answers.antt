@@ -13,7 +13,7 @@ pub set_cookie-requires-clause-holds : goal.set_cookie-requires-clause-holds
 set_cookie-requires-clause-holds g c =
     let home = c.args.task.now.home in
     let lane = c.index_mut.result.now in
-    c.requires.held home lane.queue (queue_at c.args.self.now.lanes.items home lane c.requires.home c.index_mut.ensures.value)
+    c.requires.held home lane.queue (queue_at c.args.self.now.lanes.items home lane c.requires.home.home c.index_mut.ensures.value)
 
 pub returns-then-task-clause-bare : goal.returns-then-task-clause-bare
 returns-then-task-clause-bare g c =
@@ -34,7 +34,7 @@ returns-then-task-clause-held g c =
     (held-set (λ cpu x. g.Q.SiblingQueue.holds x limit (queued_at tasks cpu)) (λ cpu x. g.Q.SiblingQueue.holds x limit (queued_at (given_cookie task c.args.cookie tasks) cpu)) (queues_of c.args.self.now) task.home c.set_cookie.new.self
     (λ cpu x other held.
     let off = off_elsewhere task cpu other in
-    subst (λ qs. g.Q.SiblingQueue.holds x limit qs) (sym (queued_at-replaced now task tasks cpu c.requires.table.rising c.requires.there off off)) held)
+    subst (λ qs. g.Q.SiblingQueue.holds x limit qs) (sym (queued_at-replaced now task tasks cpu c.requires.home.table.rising c.requires.home.there off off)) held)
     c.requires.held c.set_cookie.ensures.holds)
 
 pub returns-else-task-clause-held : goal.returns-else-task-clause-held
@@ -45,4 +45,4 @@ returns-else-task-clause-held g c cpu x at =
     let limit = c.args.table.now.limit in
     let off = off_asleep task cpu c.if-task.false in
     let held = c.requires.held cpu x at in
-    subst (λ qs. g.Q.SiblingQueue.holds x limit qs) (sym (queued_at-replaced now task tasks cpu c.requires.table.rising c.requires.there off off)) held
+    subst (λ qs. g.Q.SiblingQueue.holds x limit qs) (sym (queued_at-replaced now task tasks cpu c.requires.home.table.rising c.requires.home.there off off)) held

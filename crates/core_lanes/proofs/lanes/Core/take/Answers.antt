@@ -11,7 +11,7 @@ pub take-requires-clause-holds : goal.take-requires-clause-holds
 take-requires-clause-holds g c =
     let home = c.args.task.now.home in
     let lane = c.index_mut.result.now in
-    c.requires.held home lane.queue (queue_at c.args.self.now.lanes.items home lane c.requires.home c.index_mut.ensures.value)
+    c.requires.held home lane.queue (queue_at c.args.self.now.lanes.items home lane c.requires.home.home c.index_mut.ensures.value)
 
 pub returns-then-task-clause-bare : goal.returns-then-task-clause-bare
 returns-then-task-clause-bare g c =
@@ -30,7 +30,7 @@ returns-then-task-clause-held g c =
     let after = record lane { queue = c.take.new.self } in
     rw (map-set queue_of c.args.self.now.lanes.items task.home after)
     (held-set (λ cpu x. g.Q.SiblingQueue.holds x limit (queued_at tasks cpu)) (λ cpu x. g.Q.SiblingQueue.holds x limit (others pid (queued_at tasks cpu))) (queues_of c.args.self.now) task.home c.take.new.self
-    (λ cpu x other held. let off = λ (n : ℕ). off_elsewhere task cpu other in subst (λ qs. g.Q.SiblingQueue.holds x limit qs) (sym (others-absent tasks task cpu c.requires.table.rising c.requires.there (off cpu))) held)
+    (λ cpu x other held. let off = λ (n : ℕ). off_elsewhere task cpu other in subst (λ qs. g.Q.SiblingQueue.holds x limit qs) (sym (others-absent tasks task cpu c.requires.home.table.rising c.requires.home.there (off cpu))) held)
     c.requires.held c.take.ensures.holds)
 
 pub returns-else-task-clause-held : goal.returns-else-task-clause-held
@@ -40,4 +40,4 @@ returns-else-task-clause-held g c cpu x at =
     let limit = c.args.table.now.limit in
     let off = λ (n : ℕ). off_asleep task cpu c.if-task.false in
     let held = c.requires.held cpu x at in
-    subst (λ qs. g.Q.SiblingQueue.holds x limit qs) (sym (others-absent tasks task cpu c.requires.table.rising c.requires.there (off cpu))) held
+    subst (λ qs. g.Q.SiblingQueue.holds x limit qs) (sym (others-absent tasks task cpu c.requires.home.table.rising c.requires.home.there (off cpu))) held
