@@ -2,31 +2,44 @@
 use Rattle.std.proofs.Common.{◌≡◌, ℕ, suc, ◌+◌, ◌-◌, ◌<◌, ◌≤◌, Bool, true, false, cond, List, [], ◌∷◌, ◌++◌, map, length, get_or, refl, sym, ap, ◌∙◌, append_assoc, arith}
 use Rattle.std.specs.Prelude.{◌||◌, ◌&&◌, ◌==◌, filter, count_by, All, Option, Some, None, is_none, is_some, IfSome, not}
 use Rattle.std.specs.List.{list_any, list_all, range_with_len}
-use Rattle.std.proofs.lemmas.Bool.{cond-true, cond-false}
-use Rattle.std.proofs.lemmas.List.{get_or-map}
-use Rattle.std.proofs.lemmas.List.Elements.{filter-append, All-map, All-filter, All-append}
-use Rattle.std.proofs.lemmas.List.FromFn.{get_or-map-range_with_len, get_or-range_with_len, length-range_with_len, length-map-range_with_len}
+use Rattle.std.proofs.lemmas.Bool.{cond-true, cond-false, eqb-true, and_parts}
+use Rattle.std.proofs.lemmas.List.Elements.{filter-append, filter_passes, All-map, All-filter, All-append, All-weaker}
+use Rattle.std.proofs.lemmas.List.FromFn.{get_or-map-range_with_len, get_or-range_with_len, length-range_with_len}
 use Rattle.cs_types.specs.Room.{RoomState, is_online, online, online_from, queued_on}
-use Rattle.cs_types.specs.Order.{first_of, goes_before}
-use Rattle.cs_types.specs.Selection.{first_on, cookie_of, pid_of, queued_with, choice, is_forced, forced_count, occupation_of, is_run, task_after_selection}
+use Rattle.cs_types.specs.Order.{fair_class, idle_class, class_of, first_of, goes_before}
+use Rattle.cs_types.specs.Selection.{first_on, cookie_of, pid_of, is_fair_task, queued_with, choice, is_forced, forced_count, occupation_of, is_run, task_after_selection}
 use Rattle.cs_types.specs.declared.task.Task.{Task}
+use Rattle.cs_types.specs.declared.task.Policy.{Policy}
+use Rattle.cs_types.specs.declared.task.Policy.TheVariants.{Stop, Deadline, Fifo, Rr, Fair}
+use Rattle.sibling_priority.specs.Offers.{class_of_first}
 use Rattle.core_pick.specs.declared.choice.Choice.{Choice}
 use Rattle.core_pick.specs.declared.lead.First.{First}
-use Rattle.core_pick.specs.Choice.{kept_of, run_of, first_at, first_tasks, firsts_of, choice_at, choices_of, task_after_choices}
+use Rattle.core_pick.specs.Choice.{kept_of, run_of, first_at, firsts_of, choice_at, choices_of, task_after_choices}
 use Rattle.core_lanes.proofs.Lists.{count_at, any_at, range_more, All-find}
 
 is_some-pid_of : (task : Option Task) → is_some (pid_of task) ≡ is_some task
 is_some-pid_of None = refl
 is_some-pid_of (Some task) = refl
 
--- what is kept of a first task tells whether there is one, and which
-pub not-is_some : (first : Option Task) → not (is_some first) ≡ is_none first
-not-is_some None = refl
-not-is_some (Some task) = refl
+-- what is kept of a first task tells whether there is one, which, and whether it is fair
+no_idle : (policy : Policy) → (class_of policy == idle_class) ≡ false
+no_idle Stop = refl
+no_idle (Deadline relative) = refl
+no_idle (Fifo priority) = refl
+no_idle (Rr priority) = refl
+no_idle (Fair nice) = refl
 
-pub run_of-kept_of : (first : Option Task) → run_of (kept_of first) ≡ pid_of first
-run_of-kept_of None = refl
-run_of-kept_of (Some task) = refl
+pub is_idle : (first : Option Task) → (class_of_first first == idle_class) ≡ is_none first
+is_idle None = refl
+is_idle (Some task) = no_idle task.spec.policy
+
+pub run_of-kept_of : (snapshot : ℕ) (first : Option Task) → run_of (kept_of snapshot first) ≡ pid_of first
+run_of-kept_of snapshot None = refl
+run_of-kept_of snapshot (Some task) = ap (λ b. cond b None (Some task.spec.pid)) (no_idle task.spec.policy)
+
+pub fair-kept_of : (first : Option Task) → (class_of_first first == fair_class) ≡ is_fair_task first
+fair-kept_of None = refl
+fair-kept_of (Some task) = refl
 
 -- ---- the choice
 
@@ -144,8 +157,7 @@ pub kept_is : (room : RoomState) (firsts : List First) → firsts ≡ firsts_of 
     get_or firsts cpu d ≡ first_at room cpu
 kept_is room firsts are cpu d below =
     ap (λ (fs : List First). get_or fs cpu d) are
-    ∙ get_or-map kept_of (first_tasks room) cpu None d (omega (arith, below, length-map-range_with_len (first_on room) 0 (length room.siblings)))
-    ∙ ap kept_of (get_or-map-range_with_len (first_on room) 0 (length room.siblings) cpu cpu None below (omega arith))
+    ∙ get_or-map-range_with_len (first_at room) 0 (length room.siblings) cpu cpu d below (omega arith)
 
 -- each first is a task of the room
 pub All-firsts : (P : Task → Type 0) (room : RoomState) (cpus : List ℕ) → All P room.tasks → All (λ first. IfSome first P) (map (first_on room) cpus)
@@ -153,6 +165,14 @@ All-firsts P room cpus all =
     All-map (λ (first : Option Task). IfSome first P) (first_on room) cpus (λ k d lt.
     All-find P (λ task. list_all (λ other. not (goes_before other task)) (queued_on room (get_or cpus k d))) (queued_on room (get_or cpus k d))
     (All-filter (λ task. task.queued && (task.home == get_or cpus k d)) P room.tasks all))
+
+-- and at home on its sibling
+pub first_home : (room : RoomState) (cpu : ℕ) → IfSome (first_on room cpu) (λ task. task.home ≡ cpu)
+first_home room cpu =
+    let on : Task → Bool = λ task. task.queued && (task.home == cpu) in
+    All-find (λ task. task.home ≡ cpu) (λ task. list_all (λ other. not (goes_before other task)) (queued_on room cpu)) (queued_on room cpu)
+    (All-weaker (λ task. on task ≡ true) (λ task. task.home ≡ cpu) (λ task is. eqb-true task.home cpu (and_parts task.queued (task.home == cpu) is).1) (queued_on room cpu)
+    (filter_passes on room.tasks))
 
 -- a task after a selection, as the code finds it among the choices
 pub map-task_after_choices : (room : RoomState) (core occupation : ℕ) (tasks : List Task) → occupation ≡ occupation_of room core →

@@ -1,68 +1,55 @@
 -- Choice: what the lead and the choices of a selection are made of, and what the choices make of tasks.
-use Rattle.std.specs.Prelude.{ℕ, ◌<◌, Bool, false, ◌&&◌, if◌then◌else◌, List, length, map, Option, Some, None, is_none, is_some, slice_index_or, unwrap_or}
-use Rattle.std.specs.Option.{option_map_or}
+use Rattle.std.specs.Prelude.{ℕ, ◌+◌, ◌-◌, ◌^◌, ◌<◌, Bool, ◌==◌, ◌&&◌, if◌then◌else◌, List, length, map, Option, Some, None, is_none, slice_index_or, unwrap_or}
 use Rattle.std.specs.List.{list_any, range_with_len}
-use Rattle.cs_types.specs.Room.{RoomState, SiblingState, absent, is_online}
-use Rattle.cs_types.specs.Selection.{first_on, is_run, pid_of, cookie_of, is_fair_task, choice, is_forced}
+use Rattle.cs_types.specs.Room.{RoomState, is_online}
+use Rattle.cs_types.specs.Order.{fair_class, idle_class}
+use Rattle.cs_types.specs.Selection.{first_on, snapshot_of, is_run, pid_of, cookie_of, is_fair_task, choice, is_forced}
 use Rattle.sibling_priority.specs.declared.offer.Offer.{Offer}
 use Rattle.sibling_priority.specs.Offers.{class_of_first, rank_of_first, is_higher_offer, IsInRange}
 use Rattle.core_pick.specs.declared.choice.Choice.{Choice}
 use Rattle.core_pick.specs.declared.lead.First.{First}
 use Rattle.cs_types.specs.declared.task.Task.{Task}
 
--- the snapshot of a sibling among these
-abbrev pub snapshot_in : List SiblingState → ℕ → ℕ
-snapshot_in siblings cpu = (slice_index_or siblings cpu absent).snapshot
+-- The place of a sibling's first task among those of its class, the smaller the higher: its rank. Of a fair one the
+-- snapshot of the sibling is taken off, and a number that no snapshot comes to is added before, so that nothing is below 0.
+abbrev pub place_of : ℕ → Option Task → ℕ
+place_of snapshot first = if class_of_first first == fair_class then rank_of_first first + 2 ^ 100 - snapshot else rank_of_first first
 
--- the home of a first task, 0 for idle
-abbrev pub home_of_first : Option Task → ℕ
-home_of_first first = option_map_or (λ task. task.home) first 0
-
--- what a selection keeps of a first task
-abbrev pub kept_of : Option Task → First
-kept_of first =
-    record {
-      rank = rank_of_first first;
-      cookie = cookie_of first;
-      pid = unwrap_or (pid_of first) 0;
-      class = class_of_first first;
-      home = home_of_first first;
-      is_task = is_some first;
-      is_fair = is_fair_task first;
-    }
+-- what a selection keeps of the first task of a sibling with this snapshot
+abbrev pub kept_of : ℕ → Option Task → First
+kept_of snapshot first =
+    record { place = place_of snapshot first; cookie = cookie_of first; pid = unwrap_or (pid_of first) 0; class = class_of_first first }
 
 -- the task of which this is kept, none for idle
 abbrev pub run_of : First → Option ℕ
-run_of first = if first.is_task then Some first.pid else None
+run_of first = if first.class == idle_class then None else Some first.pid
 
 -- what is kept of the first task of a sibling
 abbrev pub first_at : RoomState → ℕ → First
-first_at room cpu = kept_of (first_on room cpu)
+first_at room cpu = kept_of (snapshot_of room cpu) (first_on room cpu)
 
--- the first tasks of all siblings, and what is kept of them
-abbrev pub first_tasks : RoomState → List (Option Task)
-first_tasks room = map (first_on room) (range_with_len 0 (length room.siblings))
-
+-- and of each
 abbrev pub firsts_of : RoomState → List First
-firsts_of room = map kept_of (first_tasks room)
+firsts_of room = map (first_at room) (range_with_len 0 (length room.siblings))
 
 -- what a read past the last of these would give
 abbrev pub no_first : First
-no_first = record { rank = 0; cookie = 0; pid = 0; class = 0; home = 0; is_task = false; is_fair = false }
+no_first = record { place = 0; cookie = 0; pid = 0; class = 0 }
 
--- what a sibling offers by what is kept of its first, where these are the snapshots of the siblings
-abbrev pub offer_in : (ℕ → ℕ) → List First → ℕ → Offer
-offer_in snapshot firsts cpu =
-    let first = slice_index_or firsts cpu no_first in
-    record { cpu = cpu; pid = first.pid; class = first.class; rank = first.rank; snapshot = if first.is_task then snapshot first.home else 0 }
+-- what a sibling offers by what is kept of its first, from which its snapshot is taken off already
+abbrev pub offer_of_kept : ℕ → First → Offer
+offer_of_kept cpu first = record { cpu = cpu; pid = first.pid; class = first.class; rank = first.place; snapshot = 0 }
+
+abbrev pub offer_in : List First → ℕ → Offer
+offer_in firsts cpu = offer_of_kept cpu (slice_index_or firsts cpu no_first)
 
 -- whether the first of one sibling is higher than that of another
-abbrev pub is_ahead : (ℕ → ℕ) → List First → ℕ → ℕ → Bool
-is_ahead snapshot firsts cpu other = is_higher_offer (offer_in snapshot firsts cpu) (offer_in snapshot firsts other)
+abbrev pub is_ahead : List First → ℕ → ℕ → Bool
+is_ahead firsts cpu other = is_higher_offer (offer_in firsts cpu) (offer_in firsts other)
 
 -- what each sibling offers is in the range of the order
-abbrev pub AreInRange : (ℕ → ℕ) → List First → Type 0
-AreInRange snapshot firsts = (cpu : ℕ) → cpu < length firsts → IsInRange (offer_in snapshot firsts cpu)
+abbrev pub AreInRange : List First → Type 0
+AreInRange firsts = (cpu : ℕ) → cpu < length firsts → IsInRange (offer_in firsts cpu)
 
 -- what a sibling gets for a core cookie
 abbrev pub choice_at : RoomState → ℕ → ℕ → Choice

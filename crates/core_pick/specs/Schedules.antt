@@ -1,12 +1,14 @@
 -- Schedules: what a charge and a schedule ask of a core and its table, and what they make of them.
-use Rattle.std.specs.Prelude.{◌≡◌, ℕ, ◌+◌, ◌*◌, ◌^◌, ◌≤◌, ◌<◌, ◌==◌, ◌&&◌, not, Bool, length, unwrap_or, slice_index_or}
+use Rattle.std.specs.Prelude.{◌≡◌, ℕ, ◌+◌, ◌*◌, ◌^◌, ◌≤◌, ◌<◌, ◌==◌, ◌&&◌, not, Bool, length, Option, IfSome, unwrap_or, slice_index_or}
 use Rattle.cs_types.specs.declared.reply.Pick.{Pick}
+use Rattle.cs_types.specs.declared.task.Task.{Task}
 use Rattle.cs_types.specs.Room.{RoomState}
 use Rattle.cs_types.specs.Selection.{Scheduled}
+use Rattle.sibling_priority.specs.Offers.{IsFirst}
 use Rattle.task_table.specs.Table.{Table, total_in}
 use Rattle.core_lanes.specs.declared.queue.SiblingQueue.{Ghosts}
 use Rattle.core_lanes.specs.declared.lanes.Core.{Core}
-use Rattle.core_lanes.specs.Lanes.{Beside, at, room_of, Agree, HasLowTimes}
+use Rattle.core_lanes.specs.Lanes.{Beside, at, room_of, Agree, AgreesAt, HasLowTimes}
 use Rattle.core_lanes.specs.Numbers.{Numbers, numbers_of, numbers_in, booked, touched, took}
 use Rattle.core_lanes.specs.Changes.{Stays, BecomesCharged, IsBooked}
 
@@ -31,6 +33,17 @@ pub record IsPaid {Q : Type 0} {g : Ghosts Q} (now : ℕ) (both : Core Q g × Ta
   pub few : both.0.account.count ≤ 255
   pub intervals : both.0.account.intervals < 2 ^ 63
   pub totals : (pid : ℕ) → total_in both.1 pid ≤ 255 * unwrap_or both.0.account.started now
+
+-- the sibling may be asked for its first task
+pub record MayAsk {Q : Type 0} {g : Ghosts Q} (sibling : ℕ) (both : Core Q g × Table) : Type 0 where
+  pub at : AgreesAt sibling both
+  pub low : HasLowTimes both
+
+-- what is kept of this first task may be compared, under the snapshot of its sibling
+pub record MayKeep (snapshot : ℕ) (first : Option Task) : Type 0 where
+  pub policy : IsFirst first
+  pub vtime : IfSome first (λ task. task.vtime < 2 ^ 100)
+  pub snapshot_low : snapshot < 2 ^ 100
 
 -- the sibling may pick anew
 pub record MayPick {Q : Type 0} {g : Ghosts Q} (now sibling : ℕ) (both : Core Q g × Table) : Type 0 where

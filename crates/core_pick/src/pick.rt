@@ -87,7 +87,7 @@ fn pick_plain<Q: SiblingQueue>(core: &mut Core<Q>, cpu: Cpu, first: &First) -> P
         Schedules now (core.old, table) (core.new, table) cpu result (λ room. pick_plain room cpu) }
 {
     core.account.close();
-    run_first(&mut core.lanes[cpu as usize], first.run(), first.is_fair);
+    run_first(&mut core.lanes[cpu as usize], first.run(), first.is_fair());
     core.touch();
     Pick {
         kind: Kind::Plain,

@@ -1,18 +1,20 @@
 //! What a selection for the core asks of the queues: the lead, and what each sibling gets for a core cookie.
 //! It is a file of its own since it changes nothing.
 
-ghost use Rattle.std.specs.Prelude.{◌≡◌, ℕ, ◌+◌, ◌*◌, ◌≤◌, [], ◌||◌, ◌==◌, not, length, map, None, if◌then◌else◌};
+ghost use Rattle.std.specs.Prelude.{◌≡◌, ℕ, ◌+◌, ◌*◌, ◌≤◌, [], ◌||◌, ◌==◌, length, map, None, if◌then◌else◌};
 ghost use Rattle.std.specs.List.{range_with_len};
-ghost use Rattle.cs_types.specs.Order.{first_of};
+ghost use Rattle.cs_types.specs.Order.{idle_class, first_of};
 ghost use Rattle.cs_types.specs.Selection.{queued_with, cookie_of, lead_from};
 ghost use Rattle.core_lanes.specs.Queued.{queued_among};
-ghost use Rattle.core_lanes.specs.Lanes.{Beside, room_of, Agree, AgreesAt, AreNoLonger, HasLowTimes};
+ghost use Rattle.core_lanes.specs.Lanes.{Beside, room_of, Agree, AgreesAt, AreNoLonger};
 ghost use Rattle.core_pick.specs.Choice.{choice_at, first_at, firsts_of};
+ghost use Rattle.core_pick.specs.Schedules.{MayAsk};
 
 use crate::choice::{Choice, Choices, searched};
 use crate::lead::{First, Firsts, kept_of, lead_among};
 use core_lanes::{Core, SiblingQueue};
 use cs_types::{Cookie, Cpu, Steps, Task};
+use sibling_priority::IDLE;
 use std::sync::ledger::Ledger;
 use task_table::TaskTable;
 
@@ -39,9 +41,9 @@ fn first_with<Q: SiblingQueue, L: Ledger>(
 
 /// Whether a sibling with this first task gets it for a core cookie: it is idle, or has the cookie.
 fn is_kept(first: &First, cookie: Cookie) -> bool
-    ensures { result ≡ (not first.now.is_task || (first.now.cookie == cookie)) }
+    ensures { result ≡ ((first.now.class == idle_class) || (first.now.cookie == cookie)) }
 {
-    !first.is_task || first.cookie == cookie
+    first.class == IDLE || first.cookie == cookie
 }
 
 /// What a sibling with this first task gets for a core cookie.
@@ -65,7 +67,7 @@ fn choice_at<Q: SiblingQueue, L: Ledger>(
             run: first.run(),
             is_online,
             is_forced: false,
-            is_fair: first.is_fair,
+            is_fair: first.is_fair(),
         };
     }
     let found = first_with(core, table, cookie, cpu, steps);
@@ -104,12 +106,12 @@ pub fn first_at<Q: SiblingQueue, L: Ledger>(
     cpu: Cpu,
     steps: &mut Steps<L>,
 ) -> First
-    requires { AgreesAt cpu (core.now, table.now) }
+    requires { MayAsk cpu (core.now, table.now) }
     ensures first { (beside : Beside) → result ≡ first_at (room_of beside (core.now, table.now)) cpu }
     ensures counted { steps.new ≤ steps.old + Q.most_compared (length (queued_among table.now.tasks cpu)) }
 {
     let first = core.first_on(table, cpu, steps);
-    kept_of(first.as_ref())
+    kept_of(first.as_ref(), core.lanes[cpu as usize].snapshot)
 }
 
 /// What is kept of the first task of a sibling, where this is that of the sibling of its own.
@@ -122,7 +124,7 @@ fn first_beside<Q: SiblingQueue, L: Ledger>(
     cpu: Cpu,
     steps: &mut Steps<L>,
 ) -> First
-    requires { AgreesAt cpu (core.now, table.now) }
+    requires { MayAsk cpu (core.now, table.now) }
     ensures first { (beside : Beside) → let room = room_of beside (core.now, table.now) in
         first.now ≡ first_at room own → result ≡ first_at room cpu }
     ensures counted { steps.new ≤ steps.old + (if cpu == own then 0 else Q.most_compared (length (queued_among table.now.tasks cpu))) }
@@ -145,7 +147,7 @@ pub fn ask<Q: SiblingQueue, L: Ledger>(
     steps: &mut Steps<L>,
 )
     requires empty { firsts.old.items ≡ [] }
-    requires at { AgreesAt own (core.now, table.now) }
+    requires may { MayAsk own (core.now, table.now) }
     requires first { (beside : Beside) → first.now ≡ first_at (room_of beside (core.now, table.now)) own }
     ensures each { (beside : Beside) → firsts.new.items ≡ firsts_of (room_of beside (core.now, table.now)) }
     ensures length { length firsts.new.items ≡ length core.now.lanes.items }
@@ -165,8 +167,7 @@ pub fn lead_cookie<Q: SiblingQueue>(
     firsts: &[First],
     cpu: Cpu,
 ) -> Cookie
-    requires at { AgreesAt cpu (core.now, table.now) }
-    requires low { HasLowTimes (core.now, table.now) }
+    requires may { MayAsk cpu (core.now, table.now) }
     requires firsts { (beside : Beside) → firsts.now ≡ firsts_of (room_of beside (core.now, table.now)) }
     ensures { (beside : Beside) → result ≡ cookie_of (lead_from (room_of beside (core.now, table.now)) cpu) }
 {

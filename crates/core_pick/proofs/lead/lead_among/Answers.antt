@@ -1,9 +1,6 @@
-use Rattle.std.proofs.Common.{◌≡◌, ◌∙◌, ap, sym, subst, ◌<◌, length, arith, List, ℕ, Some, map, cond}
+use Rattle.std.proofs.Common.{◌≡◌, ◌∙◌, ap, sym, subst, ◌<◌, length, arith, ℕ, Some}
 use Rattle.std.specs.Prelude.{IfSome, Option}
-use Rattle.std.specs.Option.{option_map_or}
-use Rattle.core_lanes.specs.declared.lane.Lane.{Lane}
-use Rattle.core_lanes.specs.Lanes.{lane_state, room_of}
-use Rattle.core_pick.specs.Choice.{snapshot_in, is_ahead}
+use Rattle.core_lanes.specs.Lanes.{room_of}
 use Rattle.core_pick.proofs.Leads.{lead_more, lead_stays}
 use Rattle.core_pick.proofs.lead.lead_among.Goals as goal
 use Rattle.core_pick.proofs.lead.lead_among.Goals.{then-is_online, else-is_online}
@@ -20,9 +17,7 @@ loop-cpu-preserved g c = record {
       elim c.if-is_online.branch [
         | then-is_online w ↦
             lead_more room c.args.firsts.now order c.args.from c.loop-cpu.cpu c.loop-cpu.auto.cpu c.loop-cpu.lead c.if-is_online.lead so_far
-            (sym (c.is_online.ensures beside table) ∙ w.if-is_online.true) (w.lead-is ∙ ap Some (w.lead_with.ensures.lead
-            ∙ ap (λ (lanes : List (Lane g.row.Q.Denot)). option_map_or (λ lead. cond (is_ahead (snapshot_in (map lane_state lanes)) c.args.firsts.now c.loop-cpu.cpu lead) c.loop-cpu.cpu lead) c.loop-cpu.lead c.loop-cpu.cpu)
-            w.deref.ensures.value))
+            (sym (c.is_online.ensures beside table) ∙ w.if-is_online.true) (w.lead-is ∙ ap Some w.lead_with.ensures.lead)
         | else-is_online w ↦
             lead_stays room c.args.firsts.now order c.args.from c.loop-cpu.cpu c.loop-cpu.auto.cpu c.loop-cpu.lead c.if-is_online.lead so_far
             (sym (c.is_online.ensures beside table) ∙ w.if-is_online.false) w.lead-is

@@ -2,14 +2,16 @@ use Rattle.std.proofs.Common.{◌≡◌, ◌∙◌, cond, ap, sym, set, map, ref
 use Rattle.std.proofs.lemmas.List.{map-set}
 use Rattle.cs_types.specs.declared.reply.Kind.TheVariants.{Plain}
 use Rattle.cs_types.specs.declared.reply.Pick.{Pick}
+use Rattle.std.specs.Prelude.{◌==◌}
 use Rattle.cs_types.specs.Room.{sibling_of}
-use Rattle.cs_types.specs.Selection.{pid_of, first_on, is_fair_task, running}
+use Rattle.cs_types.specs.Order.{fair_class}
+use Rattle.cs_types.specs.Selection.{pid_of, snapshot_of, first_on, is_fair_task, running}
 use Rattle.core_lanes.specs.Lanes.{at, lane_state, room_of}
 use Rattle.core_lanes.specs.Numbers.{Numbers, numbers_of, touched}
 use Rattle.core_lanes.proofs.Stays.{lane_at, numbers_kept, queues_kept, alike_stays, both_stay}
 use Rattle.core_pick.specs.declared.lead.First.{First}
 use Rattle.core_pick.specs.Choice.{run_of}
-use Rattle.core_pick.proofs.Choices.{run_of-kept_of}
+use Rattle.core_pick.proofs.Choices.{run_of-kept_of, fair-kept_of}
 use Rattle.core_pick.proofs.pick.pick_plain.Goals as goal
 
 pub returns : goal.returns
@@ -29,8 +31,8 @@ returns g c now table is_first =
       room = λ beside.
           let room = room_of (at now beside) (old, table) in
           let first = is_first (at now beside) in
-          let run = c.run.ensures ∙ ap run_of first ∙ run_of-kept_of (first_on room cpu) in
-          let fair = ap (λ (kept : First). kept.is_fair) first in
+          let run = c.run.ensures ∙ ap run_of first ∙ run_of-kept_of (snapshot_of room cpu) (first_on room cpu) in
+          let fair = c.is_fair.ensures ∙ ap (λ (kept : First). kept.class == fair_class) first ∙ fair-kept_of (first_on room cpu) in
           let was = sym (lane_at lanes cpu lane c.requires.cpu is) in
           let state : lane_state after ≡ record (running (sibling_of room cpu) (pid_of (first_on room cpu))) { snapshot = cond (is_fair_task (first_on room cpu)) (sibling_of room cpu).least (sibling_of room cpu).snapshot } =
           c.run_first.ensures.state ∙ (λ i. record (running (was i) (run i)) { snapshot = cond (fair i) (was i).least (was i).snapshot }) in
