@@ -1,10 +1,10 @@
 -- Counts: the counts once a task comes or goes, and what they say of a task's peers.
-use Rattle.std.proofs.Common.{◌≡◌, ◌≢◌, ℕ, zero, suc, ◌+◌, ◌-◌, ◌<◌, ◌≤◌, Bool, true, false, cond, not, ltb, eqb, List, [], ◌∷◌, ◌++◌, map, length, set, get_or, length-set, inl, inr, refl, sym, ap, ◌∙◌, subst, Some, arith}
-use Rattle.std.specs.Prelude.{◌==◌, ◌&&◌, ◌||◌, filter, find, count_by, replicate}
-use Rattle.std.specs.List.{AllByRecursion, list_any}
-use Rattle.std.proofs.lemmas.Bool.{cases_Bool, cases_eq, cond-true, cond-false, eq-eqb, ne_eqb}
+use Rattle.std.proofs.Common.{◌≡◌, ◌≢◌, ℕ, zero, suc, ◌+◌, ◌-◌, ◌%◌, ◌<◌, ◌≤◌, Bool, true, false, cond, not, ltb, eqb, List, [], ◌∷◌, ◌++◌, map, length, set, get_or, length-set, inl, inr, refl, sym, ap, ◌∙◌, arith}
+use Rattle.std.specs.Prelude.{◌==◌, ◌&&◌, ◌||◌, filter, count_by, replicate}
+use Rattle.std.specs.List.{list_any}
+use Rattle.std.proofs.lemmas.Bool.{cases_eq, cond-false, eq-eqb, ne_eqb}
 use Rattle.std.proofs.lemmas.Bool.Decides.{nat_tests}
-use Rattle.std.proofs.lemmas.List.{length-map, get_or-set_other}
+use Rattle.std.proofs.lemmas.List.{length-map, length-replicate, get_or-set_other}
 use Rattle.std.proofs.lemmas.Grind.{get_or-set_at}
 use Rattle.std.proofs.lemmas.List.Sums.{length-filter, count_by-le-length, sum_by-cons}
 use Rattle.std.proofs.lemmas.List.Elements.{recursion_from_All}
@@ -17,10 +17,10 @@ use Rattle.cs_types.specs.Queue.{rank_by, queued_of}
 use Rattle.cs_types.specs.Room.{has_pid}
 use Rattle.task_table.specs.Table.{Rises}
 use Rattle.task_table.proofs.Tables.{found_alone}
-use Rattle.core_lanes.specs.Queued.{queued_among, queued_at, IsOf, HavePolicies, is_peer_of, has_peer}
+use Rattle.core_lanes.specs.Queued.{queued_among, queued_at, with_cookie, IsOf, HavePolicies, is_peer_of, has_peer}
 use Rattle.core_lanes.proofs.Lists.{filter-map, filter-filter}
 use Rattle.core_lanes.proofs.Queues.{is_on}
-use Rattle.core_state.specs.Kinds.{kind_of, count_of, AreCounted}
+use Rattle.core_state.specs.Kinds.{kind_of, lot_of, count_of, AreCounted}
 use Rattle.core_state.proofs.Splits.{IsSplit, length-split}
 use Rattle.core_state.proofs.Asked.{IsLow, low_among, filter_alike}
 
@@ -29,77 +29,77 @@ use Rattle.core_state.proofs.Asked.{IsLow, low_among, filter_alike}
 exchanged : (a b n : ℕ) → a + (b + n) ≡ b + (a + n)
 exchanged a b n = omega arith
 
-module _ (task : Queued) (all rest : List Queued) (split : IsSplit task all rest) where
-  count-split : (kind : ℕ) → count_of kind all ≡ cond (kind_of task == kind) 1 0 + count_of kind rest
-  count-split kind =
-      ap (count_of kind) split.whole ∙ amid split.before ∙ ap (λ (ts : List Queued). cond (kind_of task == kind) 1 0 + count_of kind ts) (sym split.left) where
-        amid : (before : List Queued) → count_of kind (before ++ task ∷ split.after) ≡ cond (kind_of task == kind) 1 0 + count_of kind (before ++ split.after)
-        amid [] = sum_by-cons (λ (t : Queued). cond (kind_of t == kind) 1 0) task split.after
+module _ (number : Queued → ℕ) (task : Queued) (all rest : List Queued) (split : IsSplit task all rest) where
+  count-split : (one : ℕ) → count_of number one all ≡ cond (number task == one) 1 0 + count_of number one rest
+  count-split one =
+      ap (count_of number one) split.whole ∙ amid split.before ∙ ap (λ (ts : List Queued). cond (number task == one) 1 0 + count_of number one ts) (sym split.left) where
+        amid : (before : List Queued) → count_of number one (before ++ task ∷ split.after) ≡ cond (number task == one) 1 0 + count_of number one (before ++ split.after)
+        amid [] = sum_by-cons (λ (t : Queued). cond (number t == one) 1 0) task split.after
         amid (first ∷ before) =
-            sum_by-cons (λ (t : Queued). cond (kind_of t == kind) 1 0) first (before ++ task ∷ split.after)
-            ∙ ap (λ (n : ℕ). cond (kind_of first == kind) 1 0 + n) (amid before)
-            ∙ exchanged (cond (kind_of first == kind) 1 0) (cond (kind_of task == kind) 1 0) (count_of kind (before ++ split.after))
-            ∙ ap (λ (n : ℕ). cond (kind_of task == kind) 1 0 + n) (sym (sum_by-cons (λ (t : Queued). cond (kind_of t == kind) 1 0) first (before ++ split.after)))
+            sum_by-cons (λ (t : Queued). cond (number t == one) 1 0) first (before ++ task ∷ split.after)
+            ∙ ap (λ (n : ℕ). cond (number first == one) 1 0 + n) (amid before)
+            ∙ exchanged (cond (number first == one) 1 0) (cond (number task == one) 1 0) (count_of number one (before ++ split.after))
+            ∙ ap (λ (n : ℕ). cond (number task == one) 1 0 + n) (sym (sum_by-cons (λ (t : Queued). cond (number t == one) 1 0) first (before ++ split.after)))
 
-  of_its_kind : (kind : ℕ) → kind ≡ kind_of task → count_of kind all ≡ 1 + count_of kind rest
-  of_its_kind kind is = count-split kind ∙ ap (λ (b : Bool). cond b 1 0 + count_of kind rest) (eq-eqb (kind_of task) kind (sym is))
+  of_its_number : (one : ℕ) → one ≡ number task → count_of number one all ≡ 1 + count_of number one rest
+  of_its_number one is = count-split one ∙ ap (λ (b : Bool). cond b 1 0 + count_of number one rest) (eq-eqb (number task) one (sym is))
 
-  of_another : (kind : ℕ) → kind ≢ kind_of task → count_of kind all ≡ count_of kind rest
-  of_another kind other =
-      let more = count-split kind ∙ ap (λ (b : Bool). cond b 1 0 + count_of kind rest) (ne_eqb (kind_of task) kind (λ is. other (sym is))) in
+  of_another : (one : ℕ) → one ≢ number task → count_of number one all ≡ count_of number one rest
+  of_another one other =
+      let more = count-split one ∙ ap (λ (b : Bool). cond b 1 0 + count_of number one rest) (ne_eqb (number task) one (λ is. other (sym is))) in
       omega (arith, more)
 
-  module _ (kinds : List ℕ) (kind : ℕ) (is : kind ≡ kind_of task) (few : kind < 104) where
-    pub counted-put : AreCounted kinds rest → AreCounted (set kinds kind (get_or kinds kind 0 + 1)) all
+  module _ (numbers : ℕ) (counts : List ℕ) (one : ℕ) (is : one ≡ number task) (few : one < numbers) where
+    pub counted-put : AreCounted number numbers counts rest → AreCounted number numbers (set counts one (get_or counts one 0 + 1)) all
     counted-put counted = record {
-      many = length-set kinds kind (get_or kinds kind 0 + 1) ∙ counted.many;
+      many = length-set counts one (get_or counts one 0 + 1) ∙ counted.many;
       each = λ other below.
-          elim (cases_eq other kind) [
+          elim (cases_eq other one) [
             | inl same ↦
-                let now = get_or-set_at kinds kind other (get_or kinds kind 0 + 1) 0 same (omega (arith, few, counted.many)) in
-                let one = ap (λ (n : ℕ). count_of n all) same ∙ of_its_kind kind is in
-                let was = counted.each kind few in
-                omega (arith, now, one, was)
+                let now = get_or-set_at counts one other (get_or counts one 0 + 1) 0 same (omega (arith, few, counted.many)) in
+                let more = ap (λ (n : ℕ). count_of number n all) same ∙ of_its_number one is in
+                let was = counted.each one few in
+                omega (arith, now, more, was)
             | inr differs ↦
-                get_or-set_other kinds kind other (get_or kinds kind 0 + 1) 0 differs
+                get_or-set_other counts one other (get_or counts one 0 + 1) 0 differs
                 ∙ counted.each other below ∙ sym (of_another other (λ same. differs (same ∙ sym is)))
           ];
     }
 
-    pub counted-take : AreCounted kinds all → AreCounted (set kinds kind (get_or kinds kind 0 - 1)) rest
+    pub counted-take : AreCounted number numbers counts all → AreCounted number numbers (set counts one (get_or counts one 0 - 1)) rest
     counted-take counted = record {
-      many = length-set kinds kind (get_or kinds kind 0 - 1) ∙ counted.many;
+      many = length-set counts one (get_or counts one 0 - 1) ∙ counted.many;
       each = λ other below.
-          elim (cases_eq other kind) [
+          elim (cases_eq other one) [
             | inl same ↦
-                let now = get_or-set_at kinds kind other (get_or kinds kind 0 - 1) 0 same (omega (arith, few, counted.many)) in
-                let one = of_its_kind kind is in
-                let alike = ap (λ (n : ℕ). count_of n rest) same in
-                let was = counted.each kind few in
-                omega (arith, now, one, was, alike)
+                let now = get_or-set_at counts one other (get_or counts one 0 - 1) 0 same (omega (arith, few, counted.many)) in
+                let more = of_its_number one is in
+                let alike = ap (λ (n : ℕ). count_of number n rest) same in
+                let was = counted.each one few in
+                omega (arith, now, more, was, alike)
             | inr differs ↦
-                get_or-set_other kinds kind other (get_or kinds kind 0 - 1) 0 differs
+                get_or-set_other counts one other (get_or counts one 0 - 1) 0 differs
                 ∙ counted.each other below ∙ of_another other (λ same. differs (same ∙ sym is))
           ];
     }
 
-    pub few-put : AreCounted kinds rest → get_or kinds kind 0 + 1 ≤ length all
-    few-put counted = omega (arith, counted.each kind few, count_by-le-length (λ (t : Queued). kind_of t == kind) rest, length-split task all rest split)
+    pub few-put : AreCounted number numbers counts rest → get_or counts one 0 + 1 ≤ length all
+    few-put counted = omega (arith, counted.each one few, count_by-le-length (λ (t : Queued). number t == one) rest, length-split task all rest split)
 
-    pub some-take : AreCounted kinds all → 1 ≤ get_or kinds kind 0
-    some-take counted = omega (arith, counted.each kind few, of_its_kind kind is)
+    pub some-take : AreCounted number numbers counts all → 1 ≤ get_or counts one 0
+    some-take counted = omega (arith, counted.each one few, of_its_number one is)
 
--- ---- a task that stays, and changes nothing that its kind reads
+-- ---- a task that stays, and changes nothing that its number reads
 
-pub counted-stay : (task now : Queued) (all then rest : List Queued) → IsSplit task all rest → IsSplit now then rest → kind_of now ≡ kind_of task →
-    (kinds : List ℕ) → AreCounted kinds all → AreCounted kinds then
-counted-stay task now all then rest split split_now same kinds counted = record {
+pub counted-stay : (number : Queued → ℕ) (task now : Queued) (all then rest : List Queued) → IsSplit task all rest → IsSplit now then rest → number now ≡ number task →
+    (numbers : ℕ) (counts : List ℕ) → AreCounted number numbers counts all → AreCounted number numbers counts then
+counted-stay number task now all then rest split split_now same numbers counts counted = record {
   many = counted.many;
-  each = λ kind below.
-      counted.each kind below
-      ∙ count-split task all rest split kind
-      ∙ ap (λ (k : ℕ). cond (k == kind) 1 0 + count_of kind rest) (sym same)
-      ∙ sym (count-split now then rest split_now kind);
+  each = λ one below.
+      counted.each one below
+      ∙ count-split number task all rest split one
+      ∙ ap (λ (k : ℕ). cond (k == one) 1 0 + count_of number one rest) (sym same)
+      ∙ sym (count-split number now then rest split_now one);
 }
 
 -- ---- peers
@@ -190,7 +190,7 @@ module _ (tasks : List Task) (cpu : ℕ) (task : Task) (rises : Rises tasks) (th
         one true = refl
         one false = refl
 
-  counted_peers : count_by (is_peer_of task) (queued_among tasks cpu) ≡ count_of (kind_of (queued_of task)) (queued_at tasks cpu)
+  counted_peers : count_by (is_peer_of task) (queued_among tasks cpu) ≡ count_of kind_of (kind_of (queued_of task)) (queued_at tasks cpu)
   counted_peers =
       let kind = kind_of (queued_of task) in
       let queued = queued_among tasks cpu in
@@ -201,11 +201,11 @@ module _ (tasks : List Task) (cpu : ℕ) (task : Task) (rises : Rises tasks) (th
       ∙ length-filter (λ t. kind_of t == kind) (map queued_of queued)
 
   -- It has a peer where more are of its kind than itself.
-  pub has_peer-counted : (kinds : List ℕ) (kind : ℕ) → kind ≡ kind_of (queued_of task) → kind < 104 → AreCounted kinds (queued_at tasks cpu) →
+  pub has_peer-counted : (kinds : List ℕ) (kind : ℕ) → kind ≡ kind_of (queued_of task) → kind < 104 → AreCounted kind_of 104 kinds (queued_at tasks cpu) →
       ltb (cond (is_on cpu task) 1 0) (get_or kinds kind 0) ≡ has_peer task (queued_among tasks cpu)
   has_peer-counted kinds kind is few counted =
       let own = counted_itself in
-      let all = counted.each kind few ∙ ap (λ (n : ℕ). count_of n (queued_at tasks cpu)) is ∙ sym counted_peers in
+      let all = counted.each kind few ∙ ap (λ (n : ℕ). count_of kind_of n (queued_at tasks cpu)) is ∙ sym counted_peers in
       sym ((another (has_pid task.spec.pid) (is_peer_of task) (queued_among tasks cpu)).0 ∙ (λ i. ltb (own i) (sym all i)))
 
 -- ---- no task
@@ -217,5 +217,17 @@ get_or-replicate (suc n) zero x = refl
 get_or-replicate (suc n) (suc place) x = get_or-replicate n place x
 
 -- of none there is none of any kind
-pub counted-none : AreCounted (replicate 104 0) []
-counted-none = record { many = refl; each = λ kind below. get_or-replicate 104 kind 0 }
+pub counted-none : (number : Queued → ℕ) (numbers : ℕ) → AreCounted number numbers (replicate numbers 0) []
+counted-none number numbers = record { many = length-replicate numbers 0; each = λ one below. get_or-replicate numbers one 0 }
+
+-- ---- a lot of which no task is
+
+-- no task has a cookie of that lot
+pub none_with : (tasks : List Task) (cookie : ℕ) → count_of lot_of (cookie % 256) (map queued_of tasks) ≡ 0 → with_cookie cookie tasks ≡ []
+none_with [] cookie none = refl
+none_with (task ∷ tasks) cookie none =
+    let more = sum_by-cons (λ (t : Queued). cond (lot_of t == cookie % 256) 1 0) (queued_of task) (map queued_of tasks) in
+    let other : (task.cookie == cookie) ≡ false = ne_eqb task.cookie cookie (λ is.
+    let counted = ap {B = ℕ} (λ (b : Bool). cond b 1 0) (eq-eqb (task.cookie % 256) (cookie % 256) (ap (λ (n : ℕ). n % 256) is)) in
+    absurd (omega (arith, more, none, counted))) in
+    cond-false _ (task ∷ with_cookie cookie tasks) (with_cookie cookie tasks) other ∙ none_with tasks cookie (omega (arith, more, none))

@@ -4,7 +4,7 @@ use Rattle.std.specs.List.{AllByRecursion}
 use Rattle.std.specs.FinMap.{from_entries}
 use Rattle.cs_types.specs.declared.queue.Queued.{Queued}
 use Rattle.cs_types.specs.Queue.{Seats, Spots, RunQueued, seat_of, spot_of}
-use Rattle.core_state.specs.Kinds.{AreCounted}
+use Rattle.core_state.specs.Kinds.{kind_of, lot_of, AreCounted}
 
 -- the tasks by their seats
 abbrev pub seated : List Queued → Seats
@@ -34,7 +34,8 @@ pub record Holds (run : RunQueued) (most : ℕ) (tasks : List Queued) : Type 0 w
   pub distinct : AreDistinct tasks
   pub room : most ≤ run.spare + length tasks
 
--- a run queue holds the tasks, and these are their counts
-pub record Keeps (run : RunQueued) (kinds : List ℕ) (most : ℕ) (tasks : List Queued) : Type 0 where
+-- a run queue holds the tasks, and these are their counts by kind and by lot
+pub record Keeps (run : RunQueued) (kinds lots : List ℕ) (most : ℕ) (tasks : List Queued) : Type 0 where
   pub trees : Holds run most tasks
-  pub counts : AreCounted kinds tasks
+  pub by_kind : AreCounted kind_of 104 kinds tasks
+  pub by_lot : AreCounted lot_of 256 lots tasks

@@ -1,5 +1,5 @@
--- Kinds: how many tasks of each kind a queue has.
-use Rattle.std.specs.Prelude.{◌≡◌, ℕ, ◌+◌, ◌<◌, ◌==◌, List, length, count_by, if◌then◌else◌}
+-- Kinds: how many tasks of each kind, and with cookies of each lot, a queue has.
+use Rattle.std.specs.Prelude.{◌≡◌, ℕ, ◌+◌, ◌%◌, ◌<◌, ◌==◌, List, length, count_by, if◌then◌else◌}
 use Rattle.std.specs.List.{slice_index_or}
 use Rattle.cs_types.specs.declared.queue.Queued.{Queued}
 use Rattle.cs_types.specs.Order.{real_time_class}
@@ -8,11 +8,15 @@ use Rattle.cs_types.specs.Order.{real_time_class}
 abbrev pub kind_of : Queued → ℕ
 kind_of task = if task.class == real_time_class then 4 + task.rank else task.class
 
--- how many of the tasks are of a kind
-abbrev pub count_of : ℕ → List Queued → ℕ
-count_of kind tasks = count_by (λ task. kind_of task == kind) tasks
+-- the lot of a task's cookie: its last byte
+abbrev pub lot_of : Queued → ℕ
+lot_of task = task.cookie % 256
 
--- These are the counts of the tasks by their kinds.
-pub record AreCounted (kinds : List ℕ) (tasks : List Queued) : Type 0 where
-  pub many : length kinds ≡ 104
-  pub each : (kind : ℕ) → kind < 104 → slice_index_or kinds kind 0 ≡ count_of kind tasks
+-- of how many of the tasks this is the number
+abbrev pub count_of : (Queued → ℕ) → ℕ → List Queued → ℕ
+count_of number one tasks = count_by (λ task. number task == one) tasks
+
+-- These are the counts of the tasks by a number of each, of which there are so many.
+pub record AreCounted (number : Queued → ℕ) (numbers : ℕ) (counts : List ℕ) (tasks : List Queued) : Type 0 where
+  pub many : length counts ≡ numbers
+  pub each : (one : ℕ) → one < numbers → slice_index_or counts one 0 ≡ count_of number one tasks

@@ -1,7 +1,7 @@
 //! The queue with trees: each question is answered from the ordered trees of a run queue, and the table tells the
 //! task of a pid.
 
-use crate::task::{KINDS, kind_of, queued_of};
+use crate::task::{KINDS, LOTS, kind_of, lot_of, queued_of};
 use core_lanes::{Movers, SiblingQueue, is_on, task_of};
 use cs_types::{Cookie, Cpu, OutOfMemory, Steps, Task};
 use run_queue::RunQueue;
@@ -9,11 +9,13 @@ use std::alloc::Global;
 use std::sync::ledger::Ledger;
 use task_table::TaskTable;
 
-/// The queued tasks of a sibling in ordered trees, and how many there are of each kind.
+/// The queued tasks of a sibling in ordered trees, and how many there are of each kind and with cookies of each lot.
+/// A cookie of which no task has the lot is not looked for.
 #[derive(Drop)]
 pub struct TreeQueue {
     run: RunQueue,
     kinds: [u16; KINDS],
+    lots: [u16; LOTS],
 }
 
 impl SiblingQueue for TreeQueue {
@@ -22,7 +24,7 @@ impl SiblingQueue for TreeQueue {
     ghost use Rattle.cs_types.proofs.Comparisons.{most_comparisons-le};
     ghost use Rattle.std.proofs.Math.Nat.{mul-le-mul_left};
 
-    ghost holds = { λ queue most tasks. Keeps queue.run queue.kinds most tasks };
+    ghost holds = { λ queue most tasks. Keeps queue.run queue.kinds queue.lots most tasks };
 
     ghost most_compared = { most_of_call };
 
@@ -32,12 +34,14 @@ impl SiblingQueue for TreeQueue {
         Ok(TreeQueue {
             run,
             kinds: [0; KINDS],
+            lots: [0; LOTS],
         })
     }
 
     fn put<L: Ledger>(&mut self, _table: &TaskTable, _cpu: Cpu, task: &Task, steps: &mut Steps<L>) {
         self.run.enqueue(queued_of(task), steps);
         self.kinds[kind_of(task)] += 1;
+        self.lots[lot_of(task.cookie)] += 1;
     }
 
     fn take<L: Ledger>(
@@ -49,6 +53,7 @@ impl SiblingQueue for TreeQueue {
     ) {
         self.run.dequeue(&queued_of(task), steps);
         self.kinds[kind_of(task)] -= 1;
+        self.lots[lot_of(task.cookie)] -= 1;
     }
 
     fn set_cookie<L: Ledger>(
@@ -60,11 +65,14 @@ impl SiblingQueue for TreeQueue {
         steps: &mut Steps<L>,
     ) {
         self.run.set_cookie(&queued_of(task), cookie, steps);
+        self.lots[lot_of(task.cookie)] -= 1;
+        self.lots[lot_of(cookie)] += 1;
     }
 
     fn clear_into(&mut self, _table: &TaskTable, _cpu: Cpu, movers: &mut Movers) {
         self.run.clear_into(movers);
         self.kinds = [0; KINDS];
+        self.lots = [0; LOTS];
     }
 
     #[inline(always)]
@@ -80,6 +88,9 @@ impl SiblingQueue for TreeQueue {
         _cpu: Cpu,
         steps: &mut Steps<L>,
     ) -> Option<Task> {
+        if self.lots[lot_of(cookie)] == 0 {
+            return None;
+        }
         task_of(table, self.run.first_of(cookie, steps)?.pid)
     }
 

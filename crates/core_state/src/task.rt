@@ -1,13 +1,16 @@
 //! A task as a queue takes it. It is apart, since it alone knows the ranks of the classes.
 
-ghost use Rattle.std.specs.Prelude.{◌≡◌, ◌<◌};
+ghost use Rattle.std.specs.Prelude.{◌≡◌, ◌%◌, ◌<◌};
 ghost use Rattle.cs_types.specs.Queue.{rank_by, queued_of};
 ghost use Rattle.core_state.specs.Kinds.{kind_of};
 
-use cs_types::{Policy, Queued, Task};
+use cs_types::{Cookie, Policy, Queued, Task};
 
 /// The number of kinds: 4 classes, and 100 ranks of real-time tasks.
 pub const KINDS: usize = 104;
+
+/// The number of lots of cookies: those of one lot have one last byte.
+pub const LOTS: usize = 256;
 
 /// The kind of the task: its class, and of a real-time task its rank.
 pub fn kind_of(task: &Task) -> usize
@@ -22,6 +25,15 @@ pub fn kind_of(task: &Task) -> usize
         }
         Policy::Fair(_) => 3,
     }
+}
+
+/// The lot of the cookie.
+#[inline(always)]
+pub fn lot_of(cookie: Cookie) -> usize
+    ensures lot { result ≡ cookie % 256 }
+    ensures few { result < 256 }
+{
+    (cookie % 256) as usize
 }
 
 /// The rank of the task in its class.

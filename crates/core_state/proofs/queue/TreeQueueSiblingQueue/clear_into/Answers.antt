@@ -8,6 +8,7 @@ use Rattle.cs_types.specs.declared.queue.Queued.{Queued}
 use Rattle.cs_types.specs.Queue.{Seats, queued_of, seat_of}
 use Rattle.core_lanes.specs.Queued.{queued_among, mover_of}
 use Rattle.run_queue.specs.Classes.{stamped}
+use Rattle.core_state.specs.Kinds.{kind_of, lot_of}
 use Rattle.core_state.proofs.Held.{len-seated, entries-seated}
 use Rattle.core_state.proofs.Counts.{counted-none}
 use Rattle.core_state.proofs.queue.TreeQueueSiblingQueue.clear_into.Goals as goal
@@ -36,7 +37,8 @@ returns-clause-holds c =
         distinct = tt;
         room = omega (arith, trees.room, c.clear_into.ensures.spare, many);
       };
-      counts = counted-none;
+      by_kind = counted-none kind_of 104;
+      by_lot = counted-none lot_of 256;
     }
 
 pub returns-clause-told : goal.returns-clause-told

@@ -1,13 +1,21 @@
-use Rattle.std.proofs.Common.{◌≡◌, Option, List, None, ap, sym, ◌∙◌, arith}
+use Rattle.std.proofs.Common.{ℕ, ap, sym, ◌∙◌, arith}
 use Rattle.std.specs.Prelude.{◌==◌}
-use Rattle.std.specs.Option.{option_map}
 use Rattle.std.proofs.lemmas.List.Elements.{recursion_from_All}
 use Rattle.cs_types.specs.Order.{first_of}
-use Rattle.cs_types.specs.Queue.{Spots, queued_of, first_with}
-use Rattle.core_lanes.specs.Queued.{queued_among, with_cookie}
+use Rattle.cs_types.specs.Queue.{Spots, first_with}
+use Rattle.core_lanes.specs.Queued.{queued_among, queued_at, with_cookie}
 use Rattle.core_state.proofs.Asked.{IsLow, low_among, first_with-spotted, found_first, none_of, pid_of_some, some_by}
+use Rattle.core_state.specs.Kinds.{lot_of, count_of}
+use Rattle.core_state.proofs.Counts.{none_with}
 use Rattle.core_state.proofs.Compared.{few_of_all}
 use Rattle.core_state.proofs.queue.TreeQueueSiblingQueue.first_with.Goals as goal
+
+pub returns-then-self-lot_of-eq0-clause-first : goal.returns-then-self-lot_of-eq0-clause-first
+returns-then-self-lot_of-eq0-clause-first g c =
+    let tasks = c.args.table.now.tasks in
+    let all = queued_at tasks c.args._cpu in
+    let counted = ap (λ (lot : ℕ). count_of lot_of lot all) (sym c.lot_of.ensures.lot) ∙ sym (c.requires.holds.by_lot.each c.lot_of.result c.lot_of.ensures.few) ∙ c.if-self-lot_of-eq0.true in
+    sym (ap first_of (none_with (queued_among tasks c.args._cpu) c.args.cookie counted))
 
 pub returns-in_err-first_of-clause-first : goal.returns-in_err-first_of-clause-first
 returns-in_err-first_of-clause-first g c =

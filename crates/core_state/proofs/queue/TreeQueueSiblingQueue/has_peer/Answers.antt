@@ -1,4 +1,4 @@
-use Rattle.std.proofs.Common.{◌≡◌, ℕ, Bool, true, false, refl, cond, ltb, get_or, ap, sym, ◌∙◌}
+use Rattle.std.proofs.Common.{◌≡◌, ℕ, Bool, true, false, refl, cond, ltb, get_or, ap, ◌∙◌}
 use Rattle.std.specs.Int.{from_bool}
 use Rattle.core_lanes.proofs.Stays.{found_in}
 use Rattle.cs_types.specs.declared.task.Task.{Task}
@@ -18,4 +18,4 @@ returns-clause-peer g c =
     let policy = found_in (λ (t : Task). IsPolicy t.spec.policy) task.spec.pid tasks task c.requires.policies c.requires.there in
     ap (λ (own : ℕ). ltb own (get_or c.args.self.now.kinds c.kind_of.result 0)) (c.from-own.ensures ∙ byte_is c.is_on.result ∙ ap (λ (b : Bool). cond b 1 0) c.is_on.ensures)
     ∙ has_peer-counted tasks c.args.cpu task c.requires.table.rising c.requires.there c.requires.policies (low_priority task.spec.policy policy)
-    c.args.self.now.kinds c.kind_of.result c.kind_of.ensures.kind c.kind_of.ensures.few c.requires.holds.counts
+    c.args.self.now.kinds c.kind_of.result c.kind_of.ensures.kind c.kind_of.ensures.few c.requires.holds.by_kind

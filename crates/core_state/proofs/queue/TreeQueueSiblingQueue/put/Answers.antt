@@ -1,9 +1,10 @@
-use Rattle.std.proofs.Common.{◌≡◌, ◌<◌, List, length, cond, ap, sym, ◌∙◌, subst, arith}
+use Rattle.std.proofs.Common.{cond, ap, sym, ◌∙◌, subst, arith}
 use Rattle.std.specs.Prelude.{◌==◌}
 use Rattle.std.specs.FinMap as fin
 use Rattle.cs_types.specs.declared.queue.Queued.{Queued}
 use Rattle.cs_types.specs.Queue.{Seats, IsRanked, seat_of, spot_of, queued_of}
 use Rattle.core_lanes.specs.Queued.{queued_at, others}
+use Rattle.core_state.specs.Kinds.{kind_of, lot_of}
 use Rattle.core_state.proofs.Tasks.{is_ranked}
 use Rattle.core_state.proofs.Splits.{length-split, split_at, few_queued, others_apart}
 use Rattle.core_state.proofs.Counts.{counted-put, few-put}
@@ -50,9 +51,12 @@ returns-clause-holds g c =
           (c.enqueue.ensures.cookies
           ∙ ap (λ (queued : Queued). cond (queued.cookie == 0) old.cookies (fin.insert old.cookies (spot_of queued) queued.pid)) c.queued_of.ensures)
           c.enqueue.ensures.spare;
-      counts = counted-put (queued_of task) all rest
+      by_kind = counted-put kind_of (queued_of task) all rest
           (split_at tasks task c.args._cpu c.requires.table.rising c.requires.there c.requires.queued c.requires.home)
-          c.args.self.now.kinds c.kind_of.result c.kind_of.ensures.kind c.kind_of.ensures.few c.requires.holds.counts;
+          104 c.args.self.now.kinds c.kind_of.result c.kind_of.ensures.kind c.kind_of.ensures.few c.requires.holds.by_kind;
+      by_lot = counted-put lot_of (queued_of task) all rest
+          (split_at tasks task c.args._cpu c.requires.table.rising c.requires.there c.requires.queued c.requires.home)
+          256 c.args.self.now.lots c.lot_of.result c.lot_of.ensures.lot c.lot_of.ensures.few c.requires.holds.by_lot;
     }
 
 pub overflow_add-self : goal.overflow_add-self
@@ -60,9 +64,19 @@ overflow_add-self g c =
     let task = c.args.task.now in
     let tasks = c.args._table.now.tasks in
     let all = queued_at tasks c.args._cpu in
-    let few = few-put (queued_of task) all (others task.spec.pid all)
+    let few = few-put kind_of (queued_of task) all (others task.spec.pid all)
     (split_at tasks task c.args._cpu c.requires.table.rising c.requires.there c.requires.queued c.requires.home)
-    c.args.self.now.kinds c.kind_of.result c.kind_of.ensures.kind c.kind_of.ensures.few c.requires.holds.counts in
+    104 c.args.self.now.kinds c.kind_of.result c.kind_of.ensures.kind c.kind_of.ensures.few c.requires.holds.by_kind in
+    omega (arith, few, few_queued tasks c.args._cpu, c.requires.table.few, c.requires.table.limit)
+
+pub overflow_add-self-2 : goal.overflow_add-self-2
+overflow_add-self-2 g c =
+    let task = c.args.task.now in
+    let tasks = c.args._table.now.tasks in
+    let all = queued_at tasks c.args._cpu in
+    let few = few-put lot_of (queued_of task) all (others task.spec.pid all)
+    (split_at tasks task c.args._cpu c.requires.table.rising c.requires.there c.requires.queued c.requires.home)
+    256 c.args.self.now.lots c.lot_of.result c.lot_of.ensures.lot c.lot_of.ensures.few c.requires.holds.by_lot in
     omega (arith, few, few_queued tasks c.args._cpu, c.requires.table.few, c.requires.table.limit)
 
 pub returns-clause-counted : goal.returns-clause-counted

@@ -1,6 +1,7 @@
-use Rattle.std.proofs.Common.{◌≡◌, ℕ, refl, ap, sym, ◌∙◌, subst, arith}
+use Rattle.std.proofs.Common.{◌≡◌, ℕ, ◌-◌, length, set, get_or, refl, ap, sym, ◌∙◌, subst, arith}
 use Rattle.std.specs.Prelude.{IfSome, IsTrue}
 use Rattle.std.specs.FinMap as fin
+use Rattle.std.proofs.lemmas.List.{length-map}
 use Rattle.cs_types.specs.declared.queue.Queued.{Queued}
 use Rattle.cs_types.specs.declared.task.Task.{Task}
 use Rattle.cs_types.specs.Queue.{Seats, Spots, IsRanked, seat_of, spot_of, queued_of}
@@ -8,9 +9,10 @@ use Rattle.run_queue.specs.Run.{without, including}
 use Rattle.core_lanes.specs.Queued.{queued_at, given_cookie, others}
 use Rattle.core_lanes.proofs.Queues.{others-replaced}
 use Rattle.core_lanes.proofs.Replaced.{is_of, rises-replaced}
+use Rattle.core_state.specs.Kinds.{kind_of, lot_of}
 use Rattle.core_state.proofs.Tasks.{is_ranked}
-use Rattle.core_state.proofs.Splits.{IsSplit, split_at}
-use Rattle.core_state.proofs.Counts.{counted-stay}
+use Rattle.core_state.proofs.Splits.{IsSplit, split_at, few_queued}
+use Rattle.core_state.proofs.Counts.{counted-stay, counted-put, counted-take, few-put, some-take}
 use Rattle.core_state.proofs.Held.{apart_others, own_seat, own_spot, own_cookie, Holds-set_cookie}
 use Rattle.core_state.proofs.Compared.{few_of_all}
 use Rattle.core_state.proofs.queue.TreeQueueSiblingQueue.set_cookie.Goals as goal
@@ -72,8 +74,38 @@ returns-clause-holds g c =
           old c.set_cookie.new.self c.args._table.now.limit c.requires.holds.trees c.set_cookie.ensures.tasks
           (c.set_cookie.ensures.cookies ∙ ap (λ (queued : Queued). including (record queued { cookie = cookie }) (without queued old.cookies)) c.queued_of.ensures)
           c.set_cookie.ensures.spare;
-      counts = counted-stay (queued_of task) (queued_of now) all then rest split split_now refl c.args.self.now.kinds c.requires.holds.counts;
+      by_kind = counted-stay kind_of (queued_of task) (queued_of now) all then rest split split_now refl 104 c.args.self.now.kinds c.requires.holds.by_kind;
+      by_lot = counted-put lot_of (queued_of now) then rest split_now 256 (set c.args.self.now.lots c.lot_of.result (get_or c.args.self.now.lots c.lot_of.result 0 - 1))
+          c.lot_of-2.result c.lot_of-2.ensures.lot c.lot_of-2.ensures.few
+          (counted-take lot_of (queued_of task) all rest split 256 c.args.self.now.lots c.lot_of.result c.lot_of.ensures.lot c.lot_of.ensures.few c.requires.holds.by_lot);
     }
+
+pub overflow_sub-self : goal.overflow_sub-self
+overflow_sub-self g c =
+    let task = c.args.task.now in
+    let tasks = c.args._table.now.tasks in
+    let all = queued_at tasks c.args._cpu in
+    some-take lot_of (queued_of task) all (others task.spec.pid all)
+    (split_at tasks task c.args._cpu c.requires.table.rising c.requires.there c.requires.queued c.requires.home)
+    256 c.args.self.now.lots c.lot_of.result c.lot_of.ensures.lot c.lot_of.ensures.few c.requires.holds.by_lot
+
+pub overflow_add-self : goal.overflow_add-self
+overflow_add-self g c =
+    let task = c.args.task.now in
+    let now : Task = record task { cookie = c.args.cookie } in
+    let tasks = c.args._table.now.tasks in
+    let after = given_cookie task c.args.cookie tasks in
+    let all = queued_at tasks c.args._cpu in
+    let then = queued_at after c.args._cpu in
+    let rest = others task.spec.pid all in
+    let lots = c.args.self.now.lots in
+    let split = split_at tasks task c.args._cpu c.requires.table.rising c.requires.there c.requires.queued c.requires.home in
+    let split_now = subst (IsSplit (queued_of now) then) (others-replaced now tasks c.args._cpu)
+    (split_at after now c.args._cpu (rises-replaced now tasks c.requires.table.rising) (is_of now task tasks c.requires.there) c.requires.queued c.requires.home) in
+    let few = few-put lot_of (queued_of now) then rest split_now 256 (set lots c.lot_of.result (get_or lots c.lot_of.result 0 - 1)) c.lot_of-2.result c.lot_of-2.ensures.lot c.lot_of-2.ensures.few
+    (counted-take lot_of (queued_of task) all rest split 256 lots c.lot_of.result c.lot_of.ensures.lot c.lot_of.ensures.few c.requires.holds.by_lot) in
+    let many : length after ≡ length tasks = length-map tasks _ in
+    omega (arith, few, few_queued after c.args._cpu, many, c.requires.table.few, c.requires.table.limit)
 
 pub returns-clause-counted : goal.returns-clause-counted
 returns-clause-counted g c =

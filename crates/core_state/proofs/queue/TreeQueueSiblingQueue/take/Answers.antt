@@ -1,9 +1,10 @@
-use Rattle.std.proofs.Common.{◌≡◌, ℕ, ◌+◌, cond, true, ap, sym, ◌∙◌, subst, Option, arith}
+use Rattle.std.proofs.Common.{◌≡◌, ℕ, ◌+◌, cond, true, ap, sym, ◌∙◌, subst, arith}
 use Rattle.std.specs.Prelude.{◌==◌, IfSome, IsTrue}
 use Rattle.std.specs.FinMap as fin
 use Rattle.cs_types.specs.declared.queue.Queued.{Queued}
 use Rattle.cs_types.specs.Queue.{Seats, Spots, IsRanked, seat_of, spot_of, queued_of}
 use Rattle.core_lanes.specs.Queued.{queued_at, others}
+use Rattle.core_state.specs.Kinds.{kind_of, lot_of}
 use Rattle.core_state.proofs.Tasks.{is_ranked}
 use Rattle.core_state.proofs.Splits.{split_at}
 use Rattle.core_state.proofs.Counts.{counted-take, some-take}
@@ -55,7 +56,8 @@ returns-clause-holds g c =
           (c.dequeue.ensures.tasks ∙ ap (λ (queued : Queued). fin.remove old.tasks (seat_of queued)) c.queued_of.ensures)
           (c.dequeue.ensures.cookies ∙ ap (λ (queued : Queued). cond (queued.cookie == 0) old.cookies (fin.remove old.cookies (spot_of queued))) c.queued_of.ensures)
           (c.dequeue.ensures.spare ∙ ap (λ b. old.spare + cond b 1 0) found);
-      counts = counted-take (queued_of task) all rest split c.args.self.now.kinds c.kind_of.result c.kind_of.ensures.kind c.kind_of.ensures.few c.requires.holds.counts;
+      by_kind = counted-take kind_of (queued_of task) all rest split 104 c.args.self.now.kinds c.kind_of.result c.kind_of.ensures.kind c.kind_of.ensures.few c.requires.holds.by_kind;
+      by_lot = counted-take lot_of (queued_of task) all rest split 256 c.args.self.now.lots c.lot_of.result c.lot_of.ensures.lot c.lot_of.ensures.few c.requires.holds.by_lot;
     }
 
 pub overflow_sub-self : goal.overflow_sub-self
@@ -63,9 +65,18 @@ overflow_sub-self g c =
     let task = c.args.task.now in
     let tasks = c.args._table.now.tasks in
     let all = queued_at tasks c.args._cpu in
-    some-take (queued_of task) all (others task.spec.pid all)
+    some-take kind_of (queued_of task) all (others task.spec.pid all)
     (split_at tasks task c.args._cpu c.requires.table.rising c.requires.there c.requires.queued c.requires.home)
-    c.args.self.now.kinds c.kind_of.result c.kind_of.ensures.kind c.kind_of.ensures.few c.requires.holds.counts
+    104 c.args.self.now.kinds c.kind_of.result c.kind_of.ensures.kind c.kind_of.ensures.few c.requires.holds.by_kind
+
+pub overflow_sub-self-2 : goal.overflow_sub-self-2
+overflow_sub-self-2 g c =
+    let task = c.args.task.now in
+    let tasks = c.args._table.now.tasks in
+    let all = queued_at tasks c.args._cpu in
+    some-take lot_of (queued_of task) all (others task.spec.pid all)
+    (split_at tasks task c.args._cpu c.requires.table.rising c.requires.there c.requires.queued c.requires.home)
+    256 c.args.self.now.lots c.lot_of.result c.lot_of.ensures.lot c.lot_of.ensures.few c.requires.holds.by_lot
 
 pub returns-clause-counted : goal.returns-clause-counted
 returns-clause-counted g c =
