@@ -4,7 +4,7 @@ use Rattle.std.specs.Prelude.{◌||◌, ◌&&◌, ◌==◌, filter, count_by, Al
 use Rattle.std.specs.List.{list_any, list_all, range_with_len}
 use Rattle.std.proofs.lemmas.Bool.{cond-true, cond-false, eqb-true, and_parts}
 use Rattle.std.proofs.lemmas.List.Elements.{filter-append, filter_passes, All-map, All-filter, All-append, All-weaker}
-use Rattle.std.proofs.lemmas.List.FromFn.{get_or-map-range_with_len, get_or-range_with_len, length-range_with_len}
+use Rattle.std.proofs.lemmas.List.FromFn.{get_or-map-range_with_len, get_or-range_with_len, length-range_with_len, length-map-range_with_len}
 use Rattle.cs_types.specs.Room.{RoomState, is_online, online, online_from, queued_on}
 use Rattle.cs_types.specs.Order.{fair_class, idle_class, class_of, first_of, goes_before}
 use Rattle.cs_types.specs.Selection.{first_on, cookie_of, pid_of, is_fair_task, queued_with, choice, is_forced, forced_count, occupation_of, is_run, task_after_selection}
@@ -72,11 +72,9 @@ forced_searched room core cpu other = go (first_on room cpu) (cookie_of (first_o
   go (Some task) same true is = refl
   go (Some task) same false is = refl
 
--- the choices that the code makes, of as many siblings as the room has
-pub choices_are : (room : RoomState) (core count : ℕ) (choices : List Choice) → length room.siblings ≡ count →
-    choices ≡ map (choice_at room core) (range_with_len 0 count) → choices ≡ choices_of room core
-choices_are room core count choices as_many is =
-    is ∙ ap (λ n. map (choice_at room core) (range_with_len 0 n)) (sym as_many)
+-- there are as many choices as siblings
+pub choices_as_many : (room : RoomState) (core : ℕ) (choices : List Choice) → choices ≡ choices_of room core → length choices ≡ length room.siblings
+choices_as_many room core choices are = ap length are ∙ length-map-range_with_len (choice_at room core) 0 (length room.siblings)
 
 -- a count of them is the model's
 pub forced_is : (room : RoomState) (core : ℕ) (choices : List Choice) (count : ℕ) → count ≡ count_by (λ c. c.is_forced) choices → choices ≡ choices_of room core →

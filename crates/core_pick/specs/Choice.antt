@@ -1,9 +1,9 @@
 -- Choice: what the lead and the choices of a selection are made of, and what the choices make of tasks.
-use Rattle.std.specs.Prelude.{ℕ, ◌+◌, ◌-◌, ◌^◌, ◌<◌, Bool, ◌==◌, ◌&&◌, if◌then◌else◌, List, length, map, Option, Some, None, is_none, slice_index_or, unwrap_or}
+use Rattle.std.specs.Prelude.{◌≡◌, ℕ, ◌+◌, ◌-◌, ◌^◌, ◌<◌, Bool, ◌==◌, ◌&&◌, if◌then◌else◌, List, length, map, Option, Some, None, is_none, slice_index_or, unwrap_or}
 use Rattle.std.specs.List.{list_any, range_with_len}
 use Rattle.cs_types.specs.Room.{RoomState, is_online}
 use Rattle.cs_types.specs.Order.{fair_class, idle_class}
-use Rattle.cs_types.specs.Selection.{first_on, snapshot_of, is_run, pid_of, cookie_of, is_fair_task, choice, is_forced}
+use Rattle.cs_types.specs.Selection.{first_on, snapshot_of, is_run, pid_of, cookie_of, is_fair_task, choice, is_forced, occupation_of, renews_snapshots}
 use Rattle.sibling_priority.specs.declared.offer.Offer.{Offer}
 use Rattle.sibling_priority.specs.Offers.{class_of_first, rank_of_first, is_higher_offer, IsInRange}
 use Rattle.core_pick.specs.declared.choice.Choice.{Choice}
@@ -83,3 +83,9 @@ task_after_choice choice occupation task =
 abbrev pub task_after_choices : List Choice → ℕ → Task → Task
 task_after_choices choices occupation task =
     record task { occupation = if list_any (is_choice_of task.spec.pid) choices then occupation else task.occupation }
+
+-- what a selection for a core cookie changes siblings by: the choices, the occupation, and whether snapshots are renewed
+pub record IsPlan (room : RoomState) (core : ℕ) (choices : List Choice) (occupation : ℕ) (renews : Bool) : Type 0 where
+  pub each : choices ≡ choices_of room core
+  pub occupied : occupation ≡ occupation_of room core
+  pub renewed : renews ≡ renews_snapshots room core

@@ -1,6 +1,14 @@
 -- Comparisons: how many a schedule may take (no rule of the kernel's: the bound is this project's).
 use Rattle.std.specs.Prelude.{ℕ, ◌*◌}
+use Rattle.task_table.specs.Table.{Table}
+use Rattle.core_lanes.specs.declared.queue.SiblingQueue.{Ghosts}
+use Rattle.core_lanes.specs.declared.lanes.Core.{Core}
+use Rattle.core_lanes.specs.Lanes.{AreNoLonger}
 
 -- the most of a schedule with so many siblings, where one question takes at most so many: each sibling is asked twice
 abbrev pub most_of_schedule : ℕ → ℕ → ℕ
 most_of_schedule siblings most = 2 * (siblings * most)
+
+-- this holds of the most that one question takes, where no sibling has more tasks than the longest
+abbrev pub Compares : {Q : Type 0} {g : Ghosts Q} → Core Q g × Table → (ℕ → Type 0) → Type 0
+Compares {g = g} both Holds = (longest : ℕ) → AreNoLonger longest both → Holds (g.most_compared longest)

@@ -1,9 +1,9 @@
 -- Schedules: what a charge and a schedule ask of a core and its table, and what they make of them.
-use Rattle.std.specs.Prelude.{◌≡◌, ℕ, ◌+◌, ◌*◌, ◌^◌, ◌≤◌, ◌<◌, ◌==◌, ◌&&◌, not, Bool, length, Option, IfSome, unwrap_or, slice_index_or}
+use Rattle.std.specs.Prelude.{◌≡◌, ℕ, ◌+◌, ◌*◌, ◌^◌, ◌≤◌, ◌<◌, ◌==◌, ◌&&◌, not, Bool, List, length, Option, IfSome, unwrap_or, slice_index_or}
 use Rattle.cs_types.specs.declared.reply.Pick.{Pick}
 use Rattle.cs_types.specs.declared.task.Task.{Task}
 use Rattle.cs_types.specs.Room.{RoomState}
-use Rattle.cs_types.specs.Selection.{Scheduled}
+use Rattle.cs_types.specs.Selection.{Scheduled, cookie_of, lead_from, pid_of, choice, forced_count, select_for}
 use Rattle.sibling_priority.specs.Offers.{IsFirst}
 use Rattle.task_table.specs.Table.{Table, total_in}
 use Rattle.core_lanes.specs.declared.queue.SiblingQueue.{Ghosts}
@@ -11,6 +11,8 @@ use Rattle.core_lanes.specs.declared.lanes.Core.{Core}
 use Rattle.core_lanes.specs.Lanes.{Beside, at, room_of, Agree, AgreesAt, HasLowTimes}
 use Rattle.core_lanes.specs.Numbers.{Numbers, numbers_of, numbers_in, booked, touched, took}
 use Rattle.core_lanes.specs.Changes.{Stays, BecomesCharged, IsBooked}
+use Rattle.core_pick.specs.declared.lead.First.{First}
+use Rattle.core_pick.specs.Choice.{firsts_of}
 
 -- ---- what decides an adoption
 
@@ -58,7 +60,22 @@ pub record MaySchedule {Q : Type 0} {g : Ghosts Q} (now sibling : ℕ) (both : C
   pub picks : MayPick now sibling both
   pub paid : IsPaid now both
 
+-- these are the first tasks of the siblings and the cookie of the lead of a selection that the sibling makes now
+pub record MaySelect {Q : Type 0} {g : Ghosts Q} (now sibling cookie : ℕ) (firsts : List First) (both : Core Q g × Table) : Type 0 where
+  pub at : AgreesAt sibling both
+  pub firsts_are : (beside : Beside) → firsts ≡ firsts_of (room_of beside both)
+  pub lead : (beside : Beside) → cookie ≡ cookie_of (lead_from (room_of beside both) sibling)
+  pub clock : now < 2 ^ 56
+
 -- ---- what becomes of them
+
+-- the new room is the old one after the selection for this cookie, which gives the sibling this
+pub record Selects {Q : Type 0} {g : Ghosts Q} (now : ℕ) (old new : Core Q g × Table) (sibling cookie : ℕ) (run : Option ℕ) : Type 0 where
+  pub room : (beside : Beside) → room_of (at now beside) new ≡ select_for (room_of (at now beside) old) sibling cookie
+  pub numbers : numbers_of new ≡ numbers_of old
+  pub stays : Stays old new
+  pub gets : (beside : Beside) → run ≡ pid_of (choice (room_of beside old) cookie sibling)
+  pub forced : (beside : Beside) → new.0.account.count ≡ forced_count (room_of beside old) cookie
 
 -- the new room is the old one after this change, which charges the open interval at this moment
 pub record Charges {Q : Type 0} {g : Ghosts Q} (now : ℕ) (old new : Core Q g × Table) (change : RoomState → RoomState) : Type 0 where

@@ -3,10 +3,10 @@
 
 ghost use Rattle.std.specs.Prelude.{◌≡◌, ℕ, ◌≤◌, ◌&&◌, count_by, is_some, length, map, option_copied};
 ghost use Rattle.cs_types.specs.Room.{RoomState};
-ghost use Rattle.cs_types.specs.Selection.{occupation_of, renews_snapshots, select_for};
+ghost use Rattle.cs_types.specs.Selection.{select_for};
 ghost use Rattle.task_table.specs.Table.{IsSound as IsTable};
 ghost use Rattle.core_lanes.specs.Lanes.{lane_state};
-ghost use Rattle.core_pick.specs.Choice.{choices_of, searched, task_after_choice, task_after_choices};
+ghost use Rattle.core_pick.specs.Choice.{IsPlan, searched, task_after_choice, task_after_choices};
 
 use crate::sibling::hand;
 use arrayvec::ArrayVec;
@@ -111,9 +111,8 @@ pub fn update<Q: Drop>(
     requires each { length choices.now ≡ length lanes.old }
     requires few { length lanes.old ≤ 16 }
     requires table { IsTable tasks.old }
-    ensures states { (room : RoomState) (cookie : ℕ) → room.siblings ≡ map lane_state lanes.old → choices.now ≡ choices_of room cookie →
-        occupation ≡ occupation_of room cookie → renews ≡ renews_snapshots room cookie →
-        map lane_state lanes.new ≡ (select_for room selector cookie).siblings }
+    ensures states { (room : RoomState) (cookie : ℕ) → room.siblings ≡ map lane_state lanes.old →
+        IsPlan room cookie choices.now occupation renews → map lane_state lanes.new ≡ (select_for room selector cookie).siblings }
     ensures numbers { map (λ lane. lane.number) lanes.new ≡ map (λ lane. lane.number) lanes.old }
     ensures queues { map (λ lane. lane.queue) lanes.new ≡ map (λ lane. lane.queue) lanes.old }
     ensures tasks { tasks.new ≡ record tasks.old { tasks = map (task_after_choices choices.now occupation) tasks.old.tasks } }

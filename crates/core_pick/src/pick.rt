@@ -2,14 +2,13 @@
 
 ghost use Rattle.std.specs.Prelude.{◌≡◌, ℕ, ◌+◌, ◌*◌, ◌^◌, ◌<◌, ◌≤◌, length, ◌==◌, ◌&&◌, ◌||◌, not, is_some, None, IfSome, IfNone, if◌then◌else◌};
 ghost use Rattle.cs_types.specs.Room.{sibling_of, is_online};
-ghost use Rattle.cs_types.specs.Selection.{cookie_of, lead_from, pid_of, choice, forced_count, is_plain, adopt, pick_plain, select_for, select, pick_anew, adopt_or_pick_anew, balance, schedule};
+ghost use Rattle.cs_types.specs.Selection.{is_plain, adopt, pick_plain, select, pick_anew, adopt_or_pick_anew, balance, schedule};
 ghost use Rattle.task_table.specs.Table.{Table};
-ghost use Rattle.core_lanes.specs.Lanes.{Beside, at, room_of, AgreesAt, AreNoLonger};
+ghost use Rattle.core_lanes.specs.Lanes.{Beside, room_of};
 ghost use Rattle.core_lanes.specs.Numbers.{numbers_of};
-ghost use Rattle.core_lanes.specs.Changes.{Stays};
-ghost use Rattle.core_pick.specs.Choice.{first_at, firsts_of};
-ghost use Rattle.core_pick.specs.Comparisons.{most_of_schedule};
-ghost use Rattle.core_pick.specs.Schedules.{may_adopt_by, MayPick, MaySchedule, Schedules, ChargesAndSchedules};
+ghost use Rattle.core_pick.specs.Choice.{first_at};
+ghost use Rattle.core_pick.specs.Comparisons.{most_of_schedule, Compares};
+ghost use Rattle.core_pick.specs.Schedules.{may_adopt_by, MayPick, MaySchedule, MaySelect, Selects, Schedules, ChargesAndSchedules};
 
 use crate::account::charge;
 use crate::balance::balance;
@@ -118,19 +117,9 @@ fn select_for<Q: SiblingQueue, L: Ledger>(
     now: u64,
     steps: &mut Steps<L>,
 ) -> Option<Pid>
-    requires at { AgreesAt cpu (core.old, table.old) }
-    requires firsts { (beside : Beside) → firsts.now ≡ firsts_of (room_of beside (core.old, table.old)) }
-    requires each { length firsts.now ≡ length core.old.lanes.items }
-    requires lead { (beside : Beside) → cookie ≡ cookie_of (lead_from (room_of beside (core.old, table.old)) cpu) }
-    requires clock { now < 2 ^ 56 }
-    ensures room { (beside : Beside) →
-        room_of (at now beside) (core.new, table.new) ≡ select_for (room_of (at now beside) (core.old, table.old)) cpu cookie }
-    ensures numbers { numbers_of (core.new, table.new) ≡ numbers_of (core.old, table.old) }
-    ensures stays { Stays (core.old, table.old) (core.new, table.new) }
-    ensures run { (beside : Beside) → result ≡ pid_of (choice (room_of beside (core.old, table.old)) cookie cpu) }
-    ensures forced { (beside : Beside) → core.new.account.count ≡ forced_count (room_of beside (core.old, table.old)) cookie }
-    ensures counted { (longest : ℕ) → AreNoLonger longest (core.old, table.old) →
-        steps.new ≤ steps.old + length core.old.lanes.items * Q.most_compared longest }
+    requires may { MaySelect now cpu cookie firsts.now (core.old, table.old) }
+    ensures selects { Selects now (core.old, table.old) (core.new, table.new) cpu cookie result }
+    ensures counted { Compares (core.old, table.old) (λ most. steps.new ≤ steps.old + length core.old.lanes.items * most) }
 {
     let mut choices = Choices::new();
     choose(&mut choices, core, table, firsts, cookie, steps);
@@ -157,8 +146,7 @@ fn select<Q: SiblingQueue, L: Ledger>(
     ensures schedules { Schedules now (core.old, table.old) (core.new, table.new) cpu result (λ room. select room cpu) }
 
     // The first was asked before.
-    ensures counted { (longest : ℕ) → AreNoLonger longest (core.old, table.old) →
-        steps.new + Q.most_compared longest ≤ steps.old + most_of_schedule (length core.old.lanes.items) (Q.most_compared longest) }
+    ensures counted { Compares (core.old, table.old) (λ most. steps.new + most ≤ steps.old + most_of_schedule (length core.old.lanes.items) most) }
 {
     let mut firsts = Firsts::new();
     ask(&mut firsts, core, table, cpu, first, steps);
@@ -188,8 +176,7 @@ fn pick_anew<Q: SiblingQueue, L: Ledger>(
 ) -> Pick
     requires { MayPick now cpu (core.old, table.old) }
     ensures schedules { Schedules now (core.old, table.old) (core.new, table.new) cpu result (λ room. pick_anew room cpu) }
-    ensures counted { (longest : ℕ) → AreNoLonger longest (core.old, table.old) →
-        steps.new ≤ steps.old + most_of_schedule (length core.old.lanes.items) (Q.most_compared longest) }
+    ensures counted { Compares (core.old, table.old) (λ most. steps.new ≤ steps.old + most_of_schedule (length core.old.lanes.items) most) }
 {
     let first = first_at(core, table, cpu, steps);
     if is_plain(core, &first) {
@@ -210,8 +197,7 @@ pub fn pick_and_balance<Q: SiblingQueue, L: Ledger>(
     requires { MayPick now cpu (core.old, table.old) }
     ensures schedules { Schedules now (core.old, table.old) (core.new, table.new) cpu result
         (λ room. balance cpu (pick_anew room cpu)) }
-    ensures counted { (longest : ℕ) → AreNoLonger longest (core.old, table.old) →
-        steps.new ≤ steps.old + most_of_schedule (length core.old.lanes.items) (Q.most_compared longest) }
+    ensures counted { Compares (core.old, table.old) (λ most. steps.new ≤ steps.old + most_of_schedule (length core.old.lanes.items) most) }
 {
     let pick = pick_anew(core, table, cpu, now, steps);
     balance(core, table, cpu);
@@ -230,8 +216,7 @@ fn adopt_or_pick_anew<Q: SiblingQueue, L: Ledger>(
     requires { MaySchedule now cpu (core.old, table.old) }
     ensures schedules { ChargesAndSchedules now (core.old, table.old) (core.new, table.new) cpu result
         (λ room. adopt_or_pick_anew room (may_adopt_by cpu (numbers_of (core.old, table.old))) cpu (sibling_of room cpu).waiting) }
-    ensures counted { (longest : ℕ) → AreNoLonger longest (core.old, table.old) →
-        steps.new ≤ steps.old + most_of_schedule (length core.old.lanes.items) (Q.most_compared longest) }
+    ensures counted { Compares (core.old, table.old) (λ most. steps.new ≤ steps.old + most_of_schedule (length core.old.lanes.items) most) }
 {
     match adoptable(core, cpu) {
         Some(waiting) => adopt(core, cpu, waiting),
@@ -260,8 +245,7 @@ pub fn schedule<Q: SiblingQueue, L: Ledger>(
         (λ room. schedule room (may_adopt_by cpu (numbers_of (core.old, table.old))) cpu)) }
 
     // How many comparisons the queues make for it, where none is longer than so many tasks.
-    ensures counted { (longest : ℕ) → AreNoLonger longest (core.old, table.old) →
-        steps.new ≤ steps.old + most_of_schedule (length core.old.lanes.items) (Q.most_compared longest) }
+    ensures counted { Compares (core.old, table.old) (λ most. steps.new ≤ steps.old + most_of_schedule (length core.old.lanes.items) most) }
 {
     if !core.is_online(cpu) {
         return None;

@@ -1,13 +1,13 @@
 //! What a selection for the core asks of the queues: the lead, and what each sibling gets for a core cookie.
 //! It is a file of its own since it changes nothing.
 
-ghost use Rattle.std.specs.Prelude.{◌≡◌, ℕ, ◌+◌, ◌*◌, ◌≤◌, [], ◌||◌, ◌==◌, length, map, None, if◌then◌else◌};
-ghost use Rattle.std.specs.List.{range_with_len};
+ghost use Rattle.std.specs.Prelude.{◌≡◌, ℕ, ◌+◌, ◌*◌, ◌≤◌, [], ◌||◌, ◌==◌, length, None, if◌then◌else◌};
 ghost use Rattle.cs_types.specs.Order.{idle_class, first_of};
 ghost use Rattle.cs_types.specs.Selection.{queued_with, cookie_of, lead_from};
 ghost use Rattle.core_lanes.specs.Queued.{queued_among};
-ghost use Rattle.core_lanes.specs.Lanes.{Beside, room_of, Agree, AgreesAt, AreNoLonger};
-ghost use Rattle.core_pick.specs.Choice.{choice_at, first_at, firsts_of};
+ghost use Rattle.core_lanes.specs.Lanes.{Beside, room_of, Agree, AgreesAt};
+ghost use Rattle.core_pick.specs.Choice.{choice_at, choices_of, first_at, firsts_of};
+ghost use Rattle.core_pick.specs.Comparisons.{Compares};
 ghost use Rattle.core_pick.specs.Schedules.{MayAsk};
 
 use crate::choice::{Choice, Choices, searched};
@@ -85,12 +85,9 @@ pub fn choose<Q: SiblingQueue, L: Ledger>(
 )
     requires empty { choices.old.items ≡ [] }
     requires agree { Agree (core.now, table.now) }
-    requires each { length firsts.now ≡ length core.now.lanes.items }
-    ensures each { (beside : Beside) → let room = room_of beside (core.now, table.now) in
-        firsts.now ≡ firsts_of room → choices.new.items ≡ map (choice_at room cookie) (range_with_len 0 (length core.now.lanes.items)) }
-    ensures length { length choices.new.items ≡ length core.now.lanes.items }
-    ensures counted { (longest : ℕ) → AreNoLonger longest (core.now, table.now) →
-        steps.new ≤ steps.old + length core.now.lanes.items * Q.most_compared longest }
+    requires firsts { (beside : Beside) → firsts.now ≡ firsts_of (room_of beside (core.now, table.now)) }
+    ensures each { (beside : Beside) → choices.new.items ≡ choices_of (room_of beside (core.now, table.now)) cookie }
+    ensures counted { Compares (core.now, table.now) (λ most. steps.new ≤ steps.old + length core.now.lanes.items * most) }
 {
     for cpu in 0..core.lanes.len() {
         let first = &firsts[cpu];
@@ -150,9 +147,7 @@ pub fn ask<Q: SiblingQueue, L: Ledger>(
     requires may { MayAsk own (core.now, table.now) }
     requires first { (beside : Beside) → first.now ≡ first_at (room_of beside (core.now, table.now)) own }
     ensures each { (beside : Beside) → firsts.new.items ≡ firsts_of (room_of beside (core.now, table.now)) }
-    ensures length { length firsts.new.items ≡ length core.now.lanes.items }
-    ensures counted { (longest : ℕ) → AreNoLonger longest (core.now, table.now) →
-        steps.new + Q.most_compared longest ≤ steps.old + length core.now.lanes.items * Q.most_compared longest }
+    ensures counted { Compares (core.now, table.now) (λ most. steps.new + most ≤ steps.old + length core.now.lanes.items * most) }
 {
     for cpu in 0..core.lanes.len() {
         let other = first_beside(core, table, own, first, cpu as u8, steps);

@@ -4,13 +4,13 @@ use Rattle.std.proofs.lemmas.Bool.{cond-true, cond-false}
 use Rattle.std.proofs.lemmas.List.{append-nil, map-set, map-id, take_more, length-map, get_or-map}
 use Rattle.std.proofs.Math.Seq.{take-length, drop-length}
 use Rattle.cs_types.specs.Room.{RoomState, SiblingState, idle}
-use Rattle.cs_types.specs.Selection.{occupation_of, renews_snapshots, sibling_after_selection, select_for}
+use Rattle.cs_types.specs.Selection.{sibling_after_selection, select_for}
 use Rattle.cs_types.proofs.Selections.{numbered_after_selection}
 use Rattle.cs_types.specs.declared.task.Task.{Task}
 use Rattle.task_table.specs.Table.{Table}
 use Rattle.core_lanes.specs.Lanes.{lane_state}
 use Rattle.core_pick.specs.declared.choice.Choice.{Choice}
-use Rattle.core_pick.specs.Choice.{choices_of, task_after_choice, task_after_choices}
+use Rattle.core_pick.specs.Choice.{IsPlan, task_after_choice, task_after_choices}
 use Rattle.core_pick.proofs.Remembered.{map-task_after_choices_push}
 use Rattle.core_lanes.proofs.Lists.{placed_more}
 use Rattle.core_lanes.proofs.Stays.{number_of, queue_of, numbers_kept, queues_kept}
@@ -36,7 +36,7 @@ bounds-choices-cpu g c = subst (λ n. c.loop-cpu.cpu < n) (sym c.requires.each) 
 
 pub loop-cpu-init : goal.loop-cpu-init
 loop-cpu-init g c = record {
-  states = λ room core is each occupation renews. refl;
+  states = λ room core is plan. refl;
   numbers = refl;
   queues = refl;
   sound = record { rising = c.requires.table.rising; known = c.requires.table.known; few = c.requires.table.few; limit = c.requires.table.limit };
@@ -51,11 +51,10 @@ loop-cpu-preserved g c =
     let old = get_or c.loop-cpu.lanes cpu lane in
     let within : cpu < length states = omega (arith, length-map c.args.lanes.now lane_state, c.loop-cpu-test.true) in
     let inside : cpu < length c.loop-cpu.lanes = omega arith in
-    let more = λ (room : RoomState) (core : ℕ) (is : room.siblings ≡ states) (each : c.args.choices.now ≡ choices_of room core)
-    (occupation : c.args.occupation ≡ occupation_of room core) (renews : c.args.renews ≡ renews_snapshots room core) (now : SiblingState)
+    let more = λ (room : RoomState) (core : ℕ) (is : room.siblings ≡ states) (plan : IsPlan room core c.args.choices.now c.args.occupation c.args.renews) (now : SiblingState)
     (same : now ≡ numbered_after_selection room core c.args.selector (cpu, lane_state old)).
     placed_more (numbered_after_selection room core c.args.selector) states (map lane_state c.loop-cpu.lanes) cpu now idle within
-    (c.loop-cpu.invariant.states room core is each occupation renews)
+    (c.loop-cpu.invariant.states room core is plan)
     (same ∙ ap (λ (state : SiblingState). numbered_after_selection room core c.args.selector (cpu, state)) (sym (get_or-map lane_state c.loop-cpu.lanes cpu lane idle inside))) in
     let choices = c.args.choices.now in
     let sound = c.update_task.ensures.sound in
@@ -67,11 +66,11 @@ loop-cpu-preserved g c =
     (sym (take_more choices cpu no_choice (subst (λ n. cpu < n) (sym c.requires.each) c.loop-cpu-test.true)))) in
     elim c.if-lane.branch [
       | then-lane w ↦ record {
-        states = λ room core is each occupation renews.
+        states = λ room core is plan.
             ap (map lane_state) w.lanes-is ∙ map-set lane_state c.loop-cpu.lanes cpu w.hand.new.lane
-            ∙ more room core is each occupation renews (lane_state w.hand.new.lane)
+            ∙ more room core is plan (lane_state w.hand.new.lane)
             (w.hand.ensures.state room core
-            (ap (λ choices. get_or choices cpu no_choice) each ∙ choice_in room core cpu no_choice (omega (arith, within, ap length is))) occupation renews
+            (ap (λ choices. get_or choices cpu no_choice) plan.each ∙ choice_in room core cpu no_choice (omega (arith, within, ap length is))) plan.occupied plan.renewed
             ∙ sym (cond-true old.online (sibling_after_selection room core c.args.selector cpu (lane_state old)) (lane_state old) w.if-lane.true));
         numbers = ap (map number_of) w.lanes-is
             ∙ numbers_kept c.loop-cpu.lanes cpu lane w.hand.new.lane c.index-lanes-cpu.is (w.hand.ensures.number ∙ ap number_of (sym c.index-lanes-cpu.is)) ∙ c.loop-cpu.invariant.numbers;
@@ -80,9 +79,9 @@ loop-cpu-preserved g c =
         so_far = so_far;
       }
       | else-lane w ↦ record {
-        states = λ room core is each occupation renews.
+        states = λ room core is plan.
             ap (map lane_state) w.lanes-is ∙ map-set lane_state c.loop-cpu.lanes cpu old
-            ∙ more room core is each occupation renews (lane_state old)
+            ∙ more room core is plan (lane_state old)
             (sym (cond-false old.online (sibling_after_selection room core c.args.selector cpu (lane_state old)) (lane_state old) w.if-lane.false));
         numbers = ap (map number_of) w.lanes-is ∙ numbers_kept c.loop-cpu.lanes cpu lane old c.index-lanes-cpu.is (ap number_of (sym c.index-lanes-cpu.is)) ∙ c.loop-cpu.invariant.numbers;
         queues = ap (map queue_of) w.lanes-is ∙ queues_kept c.loop-cpu.lanes cpu lane old c.index-lanes-cpu.is (ap queue_of (sym c.index-lanes-cpu.is)) ∙ c.loop-cpu.invariant.queues;
@@ -93,11 +92,11 @@ loop-cpu-preserved g c =
 
 pub returns-clause-states : goal.returns-clause-states
 unfolding select_for
-returns-clause-states g c room core is each occupation renews =
+returns-clause-states g c room core is plan =
     let states = map lane_state c.args.lanes.now in
     let all : c.loop-cpu.cpu ≡ length states = omega (arith, length-map c.args.lanes.now lane_state, c.loop-cpu-test.false, c.loop-cpu.auto.cpu-end) in
     let after = numbered_after_selection room core c.args.selector in
-    c.loop-cpu.invariant.states room core is each occupation renews
+    c.loop-cpu.invariant.states room core is plan
     ∙ ap (λ n. map after (enumerate_from 0 (take n states)) ++ drop n states) all
     ∙ (λ i. map after (enumerate_from 0 (take-length states i)) ++ drop-length states i)
     ∙ append-nil (map after (enumerate_from 0 states)) ∙ ap (λ siblings. map after (enumerate_from 0 siblings)) (sym is)

@@ -1,11 +1,10 @@
 use Rattle.std.proofs.Common.{◌≡◌, ℕ, ◌++◌, map, take, drop}
 use Rattle.std.specs.List.{enumerate_from}
 use Rattle.cs_types.specs.Room.{RoomState}
-use Rattle.cs_types.specs.Selection.{occupation_of, renews_snapshots}
 use Rattle.cs_types.proofs.Selections.{numbered_after_selection}
 use Rattle.task_table.specs.Table.{IsSound as IsTable}
 use Rattle.core_lanes.specs.Lanes.{lane_state}
-use Rattle.core_pick.specs.Choice.{choices_of, task_after_choices}
+use Rattle.core_pick.specs.Choice.{IsPlan, task_after_choices}
 use Rattle.core_lanes.proofs.Stays.{number_of, queue_of}
 use Rattle.core_pick.proofs.choice.update.Given as goal
 
@@ -13,8 +12,7 @@ abbrev pub invariant-loop-cpu : goal.invariant-loop-cpu
 invariant-loop-cpu g l =
     let states = map lane_state l.initial.lanes in
     record {
-      states : (room : RoomState) (core : ℕ) → room.siblings ≡ states → l.choices ≡ choices_of room core →
-          l.occupation ≡ occupation_of room core → l.renews ≡ renews_snapshots room core →
+      states : (room : RoomState) (core : ℕ) → room.siblings ≡ states → IsPlan room core l.choices l.occupation l.renews →
           map lane_state l.lanes ≡ map (numbered_after_selection room core l.selector) (enumerate_from 0 (take l.cpu states)) ++ drop l.cpu states;
       numbers : map number_of l.lanes ≡ map number_of l.initial.lanes;
       queues : map queue_of l.lanes ≡ map queue_of l.initial.lanes;

@@ -6,7 +6,7 @@ use Rattle.cs_types.specs.Room.{SiblingState}
 use Rattle.cs_types.specs.Selection.{running}
 use Rattle.core_lanes.specs.Lanes.{at, lane_state, room_of}
 use Rattle.core_lanes.specs.Numbers.{numbers_of}
-use Rattle.core_lanes.proofs.Stays.{lane_at, number_of, queues_kept, alike_stays}
+use Rattle.core_lanes.proofs.Stays.{lane_at, number_of, queue_of, queues_kept, alike_stays}
 use Rattle.core_pick.proofs.pick.adopt.Goals as goal
 
 pub returns : goal.returns
@@ -19,11 +19,11 @@ returns g c now table =
     let is = c.index_mut-lane.ensures.value in
     let was = sym (lane_at lanes cpu lane c.requires is) in
     let siblings = map-set lane_state lanes cpu after
-    ∙ ap (set (map lane_state lanes) cpu) (c.run.ensures.state ∙ ap (λ (s : SiblingState). running s c.args.waiting) was) in
+    ∙ ap (set (map lane_state lanes) cpu) (ap lane_state c.run.ensures ∙ ap (λ (s : SiblingState). running s c.args.waiting) was) in
     record {
       pick = λ beside. λ i.
           let pick : Pick = record { kind = Adopted; run = c.unwrap_or.ensures i; core = old.cookie; forced = c.count.ensures.count i } in pick;
       room = λ beside. λ i. record (room_of (at now beside) (old, table)) { siblings = siblings i };
       numbers = λ i. record (numbers_of (old, table)) { task = sym (add-zero old.task_number) i; own = map-set number_of lanes cpu after i };
-      stays = alike_stays _ _ (queues_kept lanes cpu lane after is c.run.ensures.queue) refl refl;
+      stays = alike_stays _ _ (queues_kept lanes cpu lane after is (ap queue_of c.run.ensures)) refl refl;
     }

@@ -17,21 +17,22 @@ use Rattle.core_pick.proofs.pick.select.Goals as goal
 pub lead_cookie-cookie-requires-clause-firsts : goal.lead_cookie-cookie-requires-clause-firsts
 lead_cookie-cookie-requires-clause-firsts g c beside = c.as_slice-firsts.ensures.value ∙ c.ask.ensures.each beside
 
-pub select_for-run-requires-clause-firsts : goal.select_for-run-requires-clause-firsts
-select_for-run-requires-clause-firsts g c beside = c.as_slice-firsts.ensures.value ∙ c.ask.ensures.each beside
-
-pub select_for-run-requires-clause-each : goal.select_for-run-requires-clause-each
-select_for-run-requires-clause-each g c = ap length c.as_slice-firsts.ensures.value ∙ c.ask.ensures.length
-
-pub select_for-run-requires-clause-lead : goal.select_for-run-requires-clause-lead
-select_for-run-requires-clause-lead g c beside = c.lead_cookie-cookie.ensures beside
+pub select_for-run-requires : goal.select_for-run-requires
+select_for-run-requires g c = record {
+  may = record {
+    at = record { cpu = c.requires.may.cpu; agree = c.requires.may.agree };
+    firsts_are = λ beside. c.as_slice-firsts.ensures.value ∙ c.ask.ensures.each beside;
+    lead = λ beside. c.lead_cookie-cookie.ensures beside;
+    clock = c.requires.may.clock;
+  };
+}
 
 pub touch-requires : goal.touch-requires
-touch-requires g c = subst (λ n. n + 1 < 2 ^ 64) (sym (ap (λ (n : Numbers). n.task) c.select_for-run.ensures.numbers)) c.requires.may.touches
+touch-requires g c = subst (λ n. n + 1 < 2 ^ 64) (sym (ap (λ (n : Numbers). n.task) c.select_for-run.ensures.selects.numbers)) c.requires.may.touches
 
 pub index_mut-requires : goal.index_mut-requires
 index_mut-requires g c =
-    let kept = (c.touch.ensures c.select_for-run.new.table).stays.kept ∙ c.select_for-run.ensures.stays.kept in
+    let kept = (c.touch.ensures c.select_for-run.new.table).stays.kept ∙ c.select_for-run.ensures.selects.stays.kept in
     subst (λ n. c.args.cpu < n) (sym (c.touch.new.self.lanes.ok.0 ∙ ap (λ (k : Kept). k.siblings) kept)) c.requires.may.cpu
 
 pub invariant_of-core : goal.invariant_of-core
@@ -52,10 +53,10 @@ returns-clause-schedules g c =
           let room = room_of (at now beside) (c.args.core.now, c.args.table.now) in
           let core = c.lead_cookie-cookie.ensures (at now beside) in
           let run = c.unwrap_or.ensures
-          ∙ ap (λ pid. unwrap_or pid 0) (c.select_for-run.ensures.run (at now beside) ∙ ap (λ n. pid_of (choice room n cpu)) core) in
+          ∙ ap (λ pid. unwrap_or pid 0) (c.select_for-run.ensures.selects.gets (at now beside) ∙ ap (λ n. pid_of (choice room n cpu)) core) in
           let forced = c.count.ensures.count
           ∙ ap (λ (r : RoomState). r.forced) (touch.room (at now beside))
-          ∙ c.select_for-run.ensures.forced (at now beside)
+          ∙ c.select_for-run.ensures.selects.forced (at now beside)
           ∙ ap (forced_count room) core in
           λ i. let pick : Pick = record { kind = Selected; run = run i; core = core i; forced = forced i } in pick;
       room = λ beside.
@@ -64,11 +65,11 @@ returns-clause-schedules g c =
           let same = map-set_same lane_state lanes cpu numbered lane (ap lane_state is) in
           (λ i. record (room_of (at now beside) (touched_core, c.select_for-run.new.table)) { siblings = same i })
           ∙ touch.room (at now beside)
-          ∙ c.select_for-run.ensures.room beside
+          ∙ c.select_for-run.ensures.selects.room beside
           ∙ ap (select_for room cpu) core;
       numbers = (λ i. record (numbers_of (touched_core, c.select_for-run.new.table)) { pick = touched_core.task_number; own = map-set number_of lanes cpu numbered i })
-          ∙ ap (λ (n : Numbers). record n { pick = n.task; own = set n.own cpu n.task }) (touch.numbers ∙ ap (touched 1) c.select_for-run.ensures.numbers);
-      stays = both_stay c.select_for-run.ensures.stays
+          ∙ ap (λ (n : Numbers). record n { pick = n.task; own = set n.own cpu n.task }) (touch.numbers ∙ ap (touched 1) c.select_for-run.ensures.selects.numbers);
+      stays = both_stay c.select_for-run.ensures.selects.stays
           (both_stay touch.stays (alike_stays _ _ (queues_kept lanes cpu lane numbered is refl) refl refl));
     }
 

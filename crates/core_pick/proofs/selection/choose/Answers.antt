@@ -5,17 +5,25 @@ use Rattle.std.proofs.lemmas.List.FromFn.{map-range_with_len_more}
 use Rattle.core_lanes.specs.Lanes.{lane_state, room_of}
 use Rattle.core_pick.specs.Choice.{choice_at}
 use Rattle.core_pick.proofs.Asked.{one_more}
+use Rattle.core_lanes.proofs.Stays.{some_beside}
 use Rattle.core_pick.proofs.Choices.{kept_is}
+use Rattle.core_pick.proofs.Leads.{many}
 use Rattle.core_pick.proofs.selection.choose.Goals as goal
+
+pub bounds-firsts-cpu : goal.bounds-firsts-cpu
+bounds-firsts-cpu g c =
+    let core = c.args.core.now in
+    let each = many (room_of some_beside (core, c.args.table.now)) c.args.firsts.now (c.requires.firsts some_beside) in
+    omega (arith, core.lanes.ok.0, c.loop-cpu-test.true, c.len-cpu-end.ensures, each, length-map core.lanes.items lane_state)
 
 pub loop-cpu-preserved : goal.loop-cpu-preserved
 loop-cpu-preserved g c = record {
   counted = omega (arith, c.push.ensures.len, c.loop-cpu.invariant.counted);
-  made = λ beside are.
+  made = λ beside.
       let room = room_of beside (c.args.core.now, c.args.table.now) in
       let below : c.loop-cpu.cpu < length room.siblings = omega (arith, c.loop-cpu-test.true, c.len-cpu-end.ensures, c.args.core.now.lanes.ok.0, length-map c.args.core.now.lanes.items lane_state) in
-      let made = c.choice_at.ensures.choice beside (kept_is room c.args.firsts.now are c.loop-cpu.cpu _ below) in
-      rw (c.push.ensures.items, c.loop-cpu.invariant.made beside are, made, map-range_with_len_more (choice_at room c.args.cookie) 0 c.loop-cpu.cpu c.loop-cpu.cpu (omega arith)) refl;
+      let made = c.choice_at.ensures.choice beside (kept_is room c.args.firsts.now (c.requires.firsts beside) c.loop-cpu.cpu _ below) in
+      rw (c.push.ensures.items, c.loop-cpu.invariant.made beside, made, map-range_with_len_more (choice_at room c.args.cookie) 0 c.loop-cpu.cpu c.loop-cpu.cpu (omega arith)) refl;
   asked = λ longest longer.
       let below : c.loop-cpu.cpu < length c.args.core.now.lanes.items = omega (arith, c.loop-cpu-test.true, c.len-cpu-end.ensures, c.args.core.now.lanes.ok.0) in
       let rises = g.met.Q.SiblingQueue.rises _ _ (longer c.loop-cpu.cpu below) in
@@ -23,10 +31,10 @@ loop-cpu-preserved g c = record {
 }
 
 pub returns-clause-each : goal.returns-clause-each
-returns-clause-each g c beside are =
+returns-clause-each g c beside =
     let core = c.args.core.now in
-    let all : c.loop-cpu.cpu ≡ length core.lanes.items = omega (arith, core.lanes.ok.0, c.loop-cpu-test.false, c.loop-cpu.auto.cpu-end) in
-    c.loop-cpu.invariant.made beside are ∙ ap (λ n. map (choice_at (room_of beside (core, c.args.table.now)) c.args.cookie) (range_with_len 0 n)) all
+    let all : c.loop-cpu.cpu ≡ length (map lane_state core.lanes.items) = omega (arith, core.lanes.ok.0, c.loop-cpu-test.false, c.loop-cpu.auto.cpu-end, length-map core.lanes.items lane_state) in
+    c.loop-cpu.invariant.made beside ∙ ap (λ n. map (choice_at (room_of beside (core, c.args.table.now)) c.args.cookie) (range_with_len 0 n)) all
 
 pub returns-clause-counted : goal.returns-clause-counted
 returns-clause-counted g c longest longer =
