@@ -1,7 +1,9 @@
 -- What the code chooses is the model's choice, and what it counts are the model's counts.
-use Rattle.std.proofs.Common.{◌≡◌, ℕ, suc, ◌+◌, ◌-◌, ◌<◌, ◌≤◌, Bool, true, false, cond, List, [], ◌∷◌, ◌++◌, map, length, get_or, refl, sym, ap, ◌∙◌, append_assoc, arith}
+use Rattle.std.proofs.Common.{◌≡◌, ℕ, suc, ◌+◌, ◌-◌, ◌<◌, ◌≤◌, Bool, true, false, cond, List, [], ◌∷◌, ◌++◌, map, length, get_or, refl, sym, ap, ◌∙◌, append_assoc, arith, Fits, w8}
 use Rattle.std.specs.Prelude.{◌||◌, ◌&&◌, ◌==◌, filter, count_by, All, Option, Some, None, is_none, is_some, IfSome, not}
 use Rattle.std.specs.List.{list_any, list_all, range_with_len}
+use Rattle.std.specs.Int.{from_bool}
+use Rattle.std.proofs.lemmas.List.Sums.{sum_by_push, count_by-le-length}
 use Rattle.std.proofs.lemmas.Bool.{cond-true, cond-false, eqb-true, and_parts}
 use Rattle.std.proofs.lemmas.List.Elements.{filter-append, filter_passes, All-map, All-filter, All-append, All-weaker}
 use Rattle.std.proofs.lemmas.List.FromFn.{get_or-map-range_with_len, get_or-range_with_len, length-range_with_len, length-map-range_with_len}
@@ -75,6 +77,26 @@ forced_searched room core cpu other = go (first_on room cpu) (cookie_of (first_o
 -- there are as many choices as siblings
 pub choices_as_many : (room : RoomState) (core : ℕ) (choices : List Choice) → choices ≡ choices_of room core → length choices ≡ length room.siblings
 choices_as_many room core choices are = ap length are ∙ length-map-range_with_len (choice_at room core) 0 (length room.siblings)
+
+-- a count, once one more is made
+byte_is : (b : Bool) → from_bool b ≡ cond b 1 0
+byte_is true = refl
+byte_is false = refl
+
+pub count_more : (p : Choice → Bool) (choices : List Choice) (choice : Choice) {more : List Choice} {count one : ℕ} → more ≡ choices ++ choice ∷ [] →
+    count ≡ count_by p choices → one ≡ from_bool (p choice) → count + one ≡ count_by p more
+count_more p choices choice made so_far now =
+    (λ i. so_far i + (now ∙ byte_is (p choice)) i)
+    ∙ sym (sum_by_push (λ c. cond (p c) 1 0) choices choice) ∙ ap (count_by p) (sym made)
+
+-- and it fits a byte
+pub one_at_most : (b : Bool) (one : ℕ) → one ≡ from_bool b → one ≤ 1
+one_at_most true one is = omega (arith, is)
+one_at_most false one is = omega (arith, is)
+
+pub few_counted : (p : Choice → Bool) (choices : List Choice) (count one made siblings : ℕ) → count ≡ count_by p choices → length choices ≡ made → made < siblings →
+    siblings ≤ 16 → one ≤ 1 → Fits w8 (count + one)
+few_counted p choices count one made siblings counted many below few least = omega (arith, counted, count_by-le-length p choices, many, below, few, least)
 
 -- a count of them is the model's
 pub forced_is : (room : RoomState) (core : ℕ) (choices : List Choice) (count : ℕ) → count ≡ count_by (λ c. c.is_forced) choices → choices ≡ choices_of room core →

@@ -1,5 +1,5 @@
 -- Choice: what the lead and the choices of a selection are made of, and what the choices make of tasks.
-use Rattle.std.specs.Prelude.{◌≡◌, ℕ, ◌+◌, ◌-◌, ◌^◌, ◌<◌, Bool, ◌==◌, ◌&&◌, if◌then◌else◌, List, length, map, Option, Some, None, is_none, slice_index_or, unwrap_or}
+use Rattle.std.specs.Prelude.{◌≡◌, ℕ, ◌+◌, ◌-◌, ◌^◌, ◌<◌, Bool, ◌==◌, ◌&&◌, if◌then◌else◌, List, length, map, Option, Some, None, is_none, is_some, count_by, slice_index_or, unwrap_or}
 use Rattle.std.specs.List.{list_any, range_with_len}
 use Rattle.cs_types.specs.Room.{RoomState, is_online}
 use Rattle.cs_types.specs.Order.{fair_class, idle_class}
@@ -7,6 +7,7 @@ use Rattle.cs_types.specs.Selection.{first_on, snapshot_of, is_run, pid_of, cook
 use Rattle.sibling_priority.specs.declared.offer.Offer.{Offer}
 use Rattle.sibling_priority.specs.Offers.{class_of_first, rank_of_first, is_higher_offer, IsInRange}
 use Rattle.core_pick.specs.declared.choice.Choice.{Choice}
+use Rattle.core_pick.specs.declared.choice.Counts.{Counts}
 use Rattle.core_pick.specs.declared.lead.First.{First}
 use Rattle.cs_types.specs.declared.task.Task.{Task}
 
@@ -89,3 +90,8 @@ pub record IsPlan (room : RoomState) (core : ℕ) (choices : List Choice) (occup
   pub each : choices ≡ choices_of room core
   pub occupied : occupation ≡ occupation_of room core
   pub renewed : renews ≡ renews_snapshots room core
+
+-- what a selection counts of these choices: how many siblings are forced idle, and for how many a task is chosen
+pub record AreCountsOf (choices : List Choice) (counts : Counts) : Type 0 where
+  pub forced : counts.forced ≡ count_by (λ choice. choice.is_forced) choices
+  pub occupation : counts.occupation ≡ count_by (λ choice. choice.is_online && is_some choice.run) choices

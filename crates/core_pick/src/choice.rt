@@ -1,7 +1,7 @@
 //! What each sibling gets in a selection for the core. It is a file of its own since the selection
 //! counts the choices before it changes siblings and tasks by them.
 
-ghost use Rattle.std.specs.Prelude.{◌≡◌, ℕ, ◌≤◌, ◌&&◌, count_by, is_some, length, map, option_copied};
+ghost use Rattle.std.specs.Prelude.{◌≡◌, ℕ, ◌≤◌, ◌&&◌, is_some, length, map, option_copied};
 ghost use Rattle.cs_types.specs.Room.{RoomState};
 ghost use Rattle.cs_types.specs.Selection.{select_for};
 ghost use Rattle.task_table.specs.Table.{IsSound as IsTable};
@@ -29,7 +29,7 @@ pub struct Choice {
 
 impl Choice {
     /// Whether a task is chosen for the sibling.
-    fn is_chosen(&self) -> bool
+    pub fn is_chosen(&self) -> bool
         ensures { result ≡ (self.now.is_online && is_some self.now.run) }
     {
         self.is_online && self.run.is_some()
@@ -66,23 +66,6 @@ pub struct Counts {
     pub forced: u8,
     /// For how many siblings a task is chosen.
     pub occupation: u8,
-}
-
-/// The counts of these choices.
-pub fn counted(choices: &[Choice]) -> Counts
-    requires { length choices.now ≤ 16 }
-    ensures forced { result.forced ≡ count_by (λ choice. choice.is_forced) choices.now }
-    ensures occupation { result.occupation ≡ count_by (λ choice. choice.is_online && is_some choice.run) choices.now }
-{
-    let mut counts = Counts {
-        forced: 0,
-        occupation: 0,
-    };
-    for choice in choices {
-        counts.forced += u8::from(choice.is_forced);
-        counts.occupation += u8::from(choice.is_chosen());
-    }
-    counts
 }
 
 /// The task that is chosen for the sibling, if one is, remembers the occupation.

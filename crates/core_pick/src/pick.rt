@@ -12,7 +12,7 @@ ghost use Rattle.core_pick.specs.Schedules.{may_adopt_by, MayPick, MaySchedule, 
 
 use crate::account::charge;
 use crate::balance::balance;
-use crate::choice::{Choices, Counts, counted, update};
+use crate::choice::{Choices, Counts, update};
 use crate::lead::{First, Firsts};
 use crate::selection::{ask, choose, first_at, lead_cookie};
 use crate::sibling::{run, run_first};
@@ -122,9 +122,8 @@ fn select_for<Q: SiblingQueue, L: Ledger>(
     ensures counted { Compares (core.old, table.old) (λ most. steps.new ≤ steps.old + length core.old.lanes.items * most) }
 {
     let mut choices = Choices::new();
-    choose(&mut choices, core, table, firsts, cookie, steps);
+    let Counts { forced, occupation } = choose(&mut choices, core, table, firsts, cookie, steps);
     let choices = choices.as_slice();
-    let Counts { forced, occupation } = counted(choices);
     let renews = renews_snapshots(core.account.count(), forced);
     core.cookie = cookie;
     core.account.begin(cookie, forced, occupation, now);

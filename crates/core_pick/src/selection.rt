@@ -6,11 +6,11 @@ ghost use Rattle.cs_types.specs.Order.{idle_class, first_of};
 ghost use Rattle.cs_types.specs.Selection.{queued_with, cookie_of, lead_from};
 ghost use Rattle.core_lanes.specs.Queued.{queued_among};
 ghost use Rattle.core_lanes.specs.Lanes.{Beside, room_of, Agree, AgreesAt};
-ghost use Rattle.core_pick.specs.Choice.{choice_at, choices_of, first_at, firsts_of};
+ghost use Rattle.core_pick.specs.Choice.{choice_at, choices_of, AreCountsOf, first_at, firsts_of};
 ghost use Rattle.core_pick.specs.Comparisons.{Compares};
 ghost use Rattle.core_pick.specs.Schedules.{MayAsk};
 
-use crate::choice::{Choice, Choices, searched};
+use crate::choice::{Choice, Choices, Counts, searched};
 use crate::lead::{First, Firsts, kept_of, lead_among};
 use core_lanes::{Core, SiblingQueue};
 use cs_types::{Cookie, Cpu, Steps, Task};
@@ -74,7 +74,8 @@ fn choice_at<Q: SiblingQueue, L: Ledger>(
     searched(found.as_ref(), is_online)
 }
 
-/// Puts into the empty list what each sibling gets for a core cookie, where this is kept of their first tasks.
+/// Puts into the empty list what each sibling gets for a core cookie, where this is kept of their first tasks, and
+/// counts it.
 pub fn choose<Q: SiblingQueue, L: Ledger>(
     choices: &mut Choices,
     core: &Core<Q>,
@@ -82,17 +83,25 @@ pub fn choose<Q: SiblingQueue, L: Ledger>(
     firsts: &[First],
     cookie: Cookie,
     steps: &mut Steps<L>,
-)
+) -> Counts
     requires empty { choices.old.items ≡ [] }
     requires agree { Agree (core.now, table.now) }
     requires firsts { (beside : Beside) → firsts.now ≡ firsts_of (room_of beside (core.now, table.now)) }
     ensures each { (beside : Beside) → choices.new.items ≡ choices_of (room_of beside (core.now, table.now)) cookie }
+    ensures counts { AreCountsOf choices.new.items result }
     ensures counted { Compares (core.now, table.now) (λ most. steps.new ≤ steps.old + length core.now.lanes.items * most) }
 {
+    let mut counts = Counts {
+        forced: 0,
+        occupation: 0,
+    };
     for cpu in 0..core.lanes.len() {
-        let first = &firsts[cpu];
-        choices.push(choice_at(core, table, first, cookie, cpu as u8, steps));
+        let choice = choice_at(core, table, &firsts[cpu], cookie, cpu as u8, steps);
+        counts.forced += u8::from(choice.is_forced);
+        counts.occupation += u8::from(choice.is_chosen());
+        choices.push(choice);
     }
+    counts
 }
 
 /// What is kept of the first task of a sibling, which is asked for it.

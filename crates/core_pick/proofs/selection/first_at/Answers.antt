@@ -1,10 +1,9 @@
-use Rattle.std.proofs.Common.{◌≡◌, ◌<◌, ◌^◌, ℕ, ◌∙◌, [], ◌∷◌, ap, sym, subst, length, map, arith}
+use Rattle.std.proofs.Common.{◌<◌, ◌^◌, ◌∙◌, [], ◌∷◌, sym, subst, length, map, arith}
 use Rattle.std.specs.Prelude.{Option, None, IfSome}
 use Rattle.std.proofs.lemmas.List.Elements.{All-weaker}
 use Rattle.cs_types.specs.declared.task.Task.{Task}
 use Rattle.cs_types.specs.Room.{SiblingState}
 use Rattle.cs_types.specs.Scenario.{IsPolicy}
-use Rattle.cs_types.specs.Selection.{first_on, snapshot_of}
 use Rattle.core_lanes.specs.Lanes.{lane_state, room_of, IsFit}
 use Rattle.core_lanes.proofs.Stays.{some_beside, lane_at}
 use Rattle.core_pick.specs.Choice.{kept_of}
