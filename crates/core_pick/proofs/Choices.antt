@@ -14,9 +14,10 @@ use Rattle.cs_types.specs.declared.task.Task.{Task}
 use Rattle.cs_types.specs.declared.task.Policy.{Policy}
 use Rattle.cs_types.specs.declared.task.Policy.TheVariants.{Stop, Deadline, Fifo, Rr, Fair}
 use Rattle.sibling_priority.specs.Offers.{class_of_first}
+use Rattle.core_lanes.specs.declared.lane.Lane.{Lane}
 use Rattle.core_pick.specs.declared.choice.Choice.{Choice}
 use Rattle.core_pick.specs.declared.lead.First.{First}
-use Rattle.core_pick.specs.Choice.{kept_of, run_of, first_at, firsts_of, choice_at, choices_of, task_after_choices}
+use Rattle.core_pick.specs.Choice.{own_of, kept_of, run_of, first_at, firsts_of, searched, choice_at, choices_of, task_after_choices}
 use Rattle.core_lanes.proofs.Lists.{count_at, any_at, range_more, All-find}
 
 is_some-pid_of : (task : Option Task) → is_some (pid_of task) ≡ is_some task
@@ -73,6 +74,18 @@ forced_searched room core cpu other = go (first_on room cpu) (cookie_of (first_o
   go None same none is = absurd cc
   go (Some task) same true is = refl
   go (Some task) same false is = refl
+
+-- what the search gives is the choice where the first is not
+pub choice_found : (room : RoomState) (core cpu : ℕ) (first : First) → first ≡ first_at room cpu → ((first.class == idle_class) || (first.cookie == core)) ≡ false →
+    (found : Option Task) → found ≡ cond (core == 0) None (first_of (queued_with room core cpu)) → (online : Bool) → online ≡ is_online room cpu →
+    searched found online ≡ choice_at room core cpu
+choice_found room core cpu first is other found searches online there =
+    let tested : is_kept room core cpu ≡ false =
+    ap (λ b. b || (cookie_of (first_on room cpu) == core)) (sym (is_idle (first_on room cpu)))
+    ∙ ap (λ (kept : First). (kept.class == idle_class) || (kept.cookie == core)) (sym is) ∙ other in
+    let same = searches ∙ sym (choice_searched room core cpu tested) in
+    let forced = sym (ap (λ b. is_online room cpu && b) (forced_searched room core cpu tested)) in
+    (λ i. searched (same i) (there i)) ∙ (λ i. record (searched (choice room core cpu) (is_online room cpu)) { is_forced = forced i })
 
 -- there are as many choices as siblings
 pub choices_as_many : (room : RoomState) (core : ℕ) (choices : List Choice) → choices ≡ choices_of room core → length choices ≡ length room.siblings
@@ -199,3 +212,17 @@ pub map-task_after_choices : (room : RoomState) (core occupation : ℕ) (tasks :
     map (task_after_choices (choices_of room core) occupation) tasks ≡ map (task_after_selection room core) tasks
 map-task_after_choices room core occupation tasks same =
     λ i. map (λ (task : Task). record task { occupation = cond (any-choices room core task.spec.pid i) (same i) task.occupation }) tasks
+
+-- ---- what siblings keep
+
+-- what maps apart is mapped apart
+map_twice : {X Y Z : Type 0} (f : Y → Z) (g : X → Y) (xs : List X) → map f (map g xs) ≡ map (λ x. f (g x)) xs
+map_twice f g [] = refl
+map_twice {Z = Z} f g (x ∷ xs) = ap (λ (zs : List Z). f (g x) ∷ zs) (map_twice f g xs)
+
+module _ {Q : Type 0} (new old : List (Lane Q)) (own : map own_of new ≡ map own_of old) where
+  pub numbers_of_own : map (λ lane. lane.number) new ≡ map (λ lane. lane.number) old
+  numbers_of_own = sym (map_twice (λ (one : ℕ × Q). one.0) own_of new) ∙ ap (map (λ (one : ℕ × Q). one.0)) own ∙ map_twice (λ (one : ℕ × Q). one.0) own_of old
+
+  pub queues_of_own : map (λ lane. lane.queue) new ≡ map (λ lane. lane.queue) old
+  queues_of_own = sym (map_twice (λ (one : ℕ × Q). one.1) own_of new) ∙ ap (map (λ (one : ℕ × Q). one.1)) own ∙ map_twice (λ (one : ℕ × Q). one.1) own_of old

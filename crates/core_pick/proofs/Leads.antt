@@ -3,7 +3,7 @@ use Rattle.std.proofs.Common.{◌≡◌, ℕ, ◌+◌, ◌-◌, ◌<◌, ◌≤�
 use Rattle.std.specs.Prelude.{◌==◌, ◌&&◌, ◌||◌, All, IfSome, Option, Some, None}
 use Rattle.std.specs.Cmp.{IsStrictWeakOrder}
 use Rattle.std.specs.Option.{option_and_then, option_map, option_map_or}
-use Rattle.std.proofs.lemmas.Bool.{cases_eq}
+use Rattle.std.proofs.lemmas.Bool.{cases_eq, cond-true, cond-false}
 use Rattle.std.proofs.lemmas.Bool.Decides.{nat_tests}
 use Rattle.std.proofs.lemmas.List.{append-nil}
 use Rattle.std.proofs.lemmas.List.Elements.{recursion_from_All}
@@ -43,12 +43,29 @@ module _ (room : RoomState) (firsts : List First) (order : List ℕ) (from cpu :
       online_step room from cpu le order (order ++ online_between room from cpu) _ refl
       (ap (λ b. (order ++ online_between room from cpu) ++ cond b (cpu ∷ []) []) (sym is))
 
-  pub lead_more : is_online room cpu ≡ true → now ≡ Some (option_map_or (λ lead. cond (is_ahead firsts cpu lead) cpu lead) before cpu) →
-      now ≡ foremost (is_ahead firsts) (order ++ online_between room from (cpu + 1))
-  lead_more online is =
-      is ∙ ap (λ lead. Some (option_map_or (λ lead. cond (is_ahead firsts cpu lead) cpu lead) lead cpu)) so_far
+  with_more : is_online room cpu ≡ true →
+      Some (option_map_or (λ lead. cond (is_ahead firsts cpu lead) cpu lead) before cpu) ≡ foremost (is_ahead firsts) (order ++ online_between room from (cpu + 1))
+  with_more online =
+      ap (λ lead. Some (option_map_or (λ lead. cond (is_ahead firsts cpu lead) cpu lead) lead cpu)) so_far
       ∙ sym (foremost_more (is_ahead firsts) (is_ahead_is_order firsts) (order ++ online_between room from cpu) cpu)
       ∙ ap (foremost (is_ahead firsts)) (more true online)
+
+  -- it leads, or the lead remains
+  pub lead_more : is_online room cpu ≡ true → option_map_or (is_ahead firsts cpu) before true ≡ true → now ≡ Some cpu →
+      now ≡ foremost (is_ahead firsts) (order ++ online_between room from (cpu + 1))
+  lead_more online ahead is = is ∙ by_test before ahead ∙ with_more online where
+    by_test : (before : Option ℕ) → option_map_or (is_ahead firsts cpu) before true ≡ true →
+        Some cpu ≡ Some (option_map_or (λ lead. cond (is_ahead firsts cpu lead) cpu lead) before cpu)
+    by_test None test = refl
+    by_test (Some lead) test = ap Some (sym (cond-true (is_ahead firsts cpu lead) cpu lead test))
+
+  pub lead_remains : is_online room cpu ≡ true → option_map_or (is_ahead firsts cpu) before true ≡ false → now ≡ before →
+      now ≡ foremost (is_ahead firsts) (order ++ online_between room from (cpu + 1))
+  lead_remains online behind is = is ∙ by_test before behind ∙ with_more online where
+    by_test : (before : Option ℕ) → option_map_or (is_ahead firsts cpu) before true ≡ false →
+        before ≡ Some (option_map_or (λ lead. cond (is_ahead firsts cpu lead) cpu lead) before cpu)
+    by_test None test = absurd cc
+    by_test (Some lead) test = ap Some (sym (cond-false (is_ahead firsts cpu lead) cpu lead test))
 
   pub lead_stays : is_online room cpu ≡ false → now ≡ before → now ≡ foremost (is_ahead firsts) (order ++ online_between room from (cpu + 1))
   lead_stays offline is =

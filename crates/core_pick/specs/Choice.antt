@@ -1,9 +1,10 @@
 -- Choice: what the lead and the choices of a selection are made of, and what the choices make of tasks.
-use Rattle.std.specs.Prelude.{◌≡◌, ℕ, ◌+◌, ◌-◌, ◌^◌, ◌<◌, Bool, ◌==◌, ◌&&◌, if◌then◌else◌, List, length, map, Option, Some, None, is_none, is_some, count_by, slice_index_or, unwrap_or}
+use Rattle.std.specs.Prelude.{◌≡◌, ℕ, ◌+◌, ◌-◌, ◌^◌, ◌<◌, Bool, false, ◌==◌, ◌&&◌, if◌then◌else◌, List, length, map, Option, Some, None, is_none, is_some, count_by, slice_index_or, unwrap_or}
 use Rattle.std.specs.List.{list_any, range_with_len}
 use Rattle.cs_types.specs.Room.{RoomState, is_online}
 use Rattle.cs_types.specs.Order.{fair_class, idle_class}
 use Rattle.cs_types.specs.Selection.{first_on, snapshot_of, is_run, pid_of, cookie_of, is_fair_task, choice, is_forced, occupation_of, renews_snapshots}
+use Rattle.core_lanes.specs.declared.lane.Lane.{Lane}
 use Rattle.sibling_priority.specs.declared.offer.Offer.{Offer}
 use Rattle.sibling_priority.specs.Offers.{class_of_first, rank_of_first, is_higher_offer, IsInRange}
 use Rattle.core_pick.specs.declared.choice.Choice.{Choice}
@@ -95,3 +96,11 @@ pub record IsPlan (room : RoomState) (core : ℕ) (choices : List Choice) (occup
 pub record AreCountsOf (choices : List Choice) (counts : Counts) : Type 0 where
   pub forced : counts.forced ≡ count_by (λ choice. choice.is_forced) choices
   pub occupation : counts.occupation ≡ count_by (λ choice. choice.is_online && is_some choice.run) choices
+
+-- what a selection for the core leaves as it is in a sibling: its own number and its queue
+abbrev pub own_of : {Q : Type 0} → Lane Q → ℕ × Q
+own_of lane = (lane.number, lane.queue)
+
+-- a sibling that runs this from now on: nothing waits for it, and its reschedule is no longer pending
+abbrev pub lane_running : {Q : Type 0} → Lane Q → Option ℕ → Lane Q
+lane_running lane run = record lane { run = run; pending = false; waiting = None; ran = 0 }

@@ -6,7 +6,7 @@ ghost use Rattle.cs_types.specs.Room.{RoomState};
 ghost use Rattle.cs_types.specs.Selection.{select_for};
 ghost use Rattle.task_table.specs.Table.{IsSound as IsTable};
 ghost use Rattle.core_lanes.specs.Lanes.{lane_state};
-ghost use Rattle.core_pick.specs.Choice.{IsPlan, searched, task_after_choice, task_after_choices};
+ghost use Rattle.core_pick.specs.Choice.{IsPlan, own_of, searched, task_after_choice, task_after_choices};
 
 use crate::sibling::hand;
 use arrayvec::ArrayVec;
@@ -96,8 +96,7 @@ pub fn update<Q: Drop>(
     requires table { IsTable tasks.old }
     ensures states { (room : RoomState) (cookie : ℕ) → room.siblings ≡ map lane_state lanes.old →
         IsPlan room cookie choices.now occupation renews → map lane_state lanes.new ≡ (select_for room selector cookie).siblings }
-    ensures numbers { map (λ lane. lane.number) lanes.new ≡ map (λ lane. lane.number) lanes.old }
-    ensures queues { map (λ lane. lane.queue) lanes.new ≡ map (λ lane. lane.queue) lanes.old }
+    ensures own { map own_of lanes.new ≡ map own_of lanes.old }
     ensures tasks { tasks.new ≡ record tasks.old { tasks = map (task_after_choices choices.now occupation) tasks.old.tasks } }
     ensures sound { IsTable tasks.new }
 {

@@ -1,13 +1,13 @@
 //! The lead of first tasks. It is a file of its own since it alone knows what a task offers.
 
-ghost use Rattle.std.specs.Prelude.{◌≡◌, ℕ, ◌-◌, ◌<◌, ◌≤◌, ◌==◌, ◌++◌, length, filter, Some, IfSome, List, option_copied, if◌then◌else◌};
+ghost use Rattle.std.specs.Prelude.{◌≡◌, ℕ, ◌-◌, ◌<◌, ◌≤◌, ◌==◌, ◌++◌, length, filter, true, Some, IfSome, List, option_copied};
 ghost use Rattle.std.specs.List.{range_with_len};
 ghost use Rattle.std.specs.Option.{option_map_or};
 ghost use Rattle.cs_types.specs.Room.{is_online};
 ghost use Rattle.cs_types.specs.Order.{fair_class, foremost};
 ghost use Rattle.task_table.specs.Table.{Table};
 ghost use Rattle.core_lanes.specs.Lanes.{Beside, room_of};
-ghost use Rattle.core_pick.specs.Choice.{place_of, kept_of, run_of, offer_in, is_ahead, AreInRange};
+ghost use Rattle.core_pick.specs.Choice.{place_of, kept_of, run_of, offer_of_kept, is_ahead, AreInRange};
 ghost use Rattle.core_pick.specs.Schedules.{MayKeep};
 
 use crate::choice::MOST_SIBLINGS;
@@ -43,6 +43,20 @@ impl First {
             None
         } else {
             Some(self.pid)
+        }
+    }
+
+    /// What the sibling offers by it.
+    #[inline(always)]
+    fn offer(&self, cpu: Cpu) -> Offer
+        ensures { result ≡ offer_of_kept cpu self.now }
+    {
+        Offer {
+            cpu,
+            pid: self.pid,
+            class: self.class,
+            rank: self.place,
+            snapshot: 0,
         }
     }
 
@@ -94,38 +108,20 @@ pub fn kept_of(first: Option<&Task>, snapshot: u128) -> First
     }
 }
 
-/// What the sibling offers, where this is kept of the first tasks of all siblings.
+/// Whether the sibling leads instead of the lead of those before it, if there is one.
 #[inline(always)]
-fn offer(firsts: &[First], cpu: Cpu) -> Offer
-    requires { cpu < length firsts.now }
-    ensures { result ≡ offer_in firsts.now cpu }
-{
-    let first = &firsts[cpu as usize];
-    Offer {
-        cpu,
-        pid: first.pid,
-        class: first.class,
-        rank: first.place,
-        snapshot: 0,
-    }
-}
-
-/// The lead of the sibling and those before it, whose lead this is.
-#[inline(always)]
-fn lead_with(firsts: &[First], cpu: Cpu, before: Option<Cpu>) -> Cpu
+fn leads(firsts: &[First], cpu: Cpu, before: Option<Cpu>) -> bool
     requires cpu { cpu < length firsts.now }
     requires before { IfSome before (λ lead. lead < length firsts.now) }
     requires ranges { AreInRange firsts.now }
-    ensures lead { result ≡ option_map_or (λ lead. if is_ahead firsts.now cpu lead then cpu else lead) before cpu }
-    ensures within { result < length firsts.now }
+    ensures { result ≡ option_map_or (is_ahead firsts.now cpu) before true }
 {
-    let Some(lead) = before else {
-        return cpu;
-    };
-    if higher(&offer(firsts, cpu), &offer(firsts, lead)) {
-        cpu
-    } else {
-        lead
+    match before {
+        Some(lead) => higher(
+            &firsts[cpu as usize].offer(cpu),
+            &firsts[lead as usize].offer(lead),
+        ),
+        None => true,
     }
 }
 
@@ -150,8 +146,8 @@ pub fn lead_among<Q: SiblingQueue>(
 {
     let mut lead = before;
     for cpu in from..to {
-        if core.is_online(cpu) {
-            lead = Some(lead_with(firsts, cpu, lead));
+        if core.is_online(cpu) && leads(firsts, cpu, lead) {
+            lead = Some(cpu);
         }
     }
     lead

@@ -1,9 +1,9 @@
 //! What a selection for the core asks of the queues: the lead, and what each sibling gets for a core cookie.
 //! It is a file of its own since it changes nothing.
 
-ghost use Rattle.std.specs.Prelude.{◌≡◌, ℕ, ◌+◌, ◌*◌, ◌≤◌, [], ◌||◌, ◌==◌, length, None, if◌then◌else◌};
-ghost use Rattle.cs_types.specs.Order.{idle_class, first_of};
-ghost use Rattle.cs_types.specs.Selection.{queued_with, cookie_of, lead_from};
+ghost use Rattle.std.specs.Prelude.{◌≡◌, ℕ, ◌+◌, ◌*◌, ◌≤◌, [], ◌||◌, ◌==◌, length};
+ghost use Rattle.cs_types.specs.Order.{idle_class};
+ghost use Rattle.cs_types.specs.Selection.{cookie_of, lead_from};
 ghost use Rattle.core_lanes.specs.Queued.{queued_among};
 ghost use Rattle.core_lanes.specs.Lanes.{Beside, room_of, Agree, AgreesAt};
 ghost use Rattle.core_pick.specs.Choice.{choice_at, choices_of, AreCountsOf, first_at, firsts_of};
@@ -13,31 +13,10 @@ ghost use Rattle.core_pick.specs.Schedules.{MayAsk};
 use crate::choice::{Choice, Choices, Counts, searched};
 use crate::lead::{First, Firsts, kept_of, lead_among};
 use core_lanes::{Core, SiblingQueue};
-use cs_types::{Cookie, Cpu, Steps, Task};
+use cs_types::{Cookie, Cpu, Steps};
 use sibling_priority::IDLE;
 use std::sync::ledger::Ledger;
 use task_table::TaskTable;
-
-/// The first task queued on a sibling that has the cookie (`sched_core_find`). None has cookie 0 here.
-fn first_with<Q: SiblingQueue, L: Ledger>(
-    core: &Core<Q>,
-    table: &TaskTable,
-    cookie: Cookie,
-    cpu: Cpu,
-    steps: &mut Steps<L>,
-) -> Option<Task>
-    requires { AgreesAt cpu (core.now, table.now) }
-    ensures first { (beside : Beside) → result ≡
-        (if cookie == 0 then None else first_of (queued_with (room_of beside (core.now, table.now)) cookie cpu)) }
-    ensures counted { steps.new ≤ steps.old + Q.most_compared (length (queued_among table.now.tasks cpu)) }
-{
-    if cookie == 0 {
-        return None;
-    }
-    core.lanes[cpu as usize]
-        .queue
-        .first_with(cookie, table, cpu, steps)
-}
 
 /// Whether a sibling with this first task gets it for a core cookie: it is idle, or has the cookie.
 fn is_kept(first: &First, cookie: Cookie) -> bool
@@ -46,7 +25,8 @@ fn is_kept(first: &First, cookie: Cookie) -> bool
     first.class == IDLE || first.cookie == cookie
 }
 
-/// What a sibling with this first task gets for a core cookie.
+/// What a sibling with this first task gets for a core cookie. Where it does not get that, it is searched for its
+/// first task with the cookie (`sched_core_find`). None is there for cookie 0.
 #[inline(always)]
 fn choice_at<Q: SiblingQueue, L: Ledger>(
     core: &Core<Q>,
@@ -70,7 +50,11 @@ fn choice_at<Q: SiblingQueue, L: Ledger>(
             is_fair: first.is_fair(),
         };
     }
-    let found = first_with(core, table, cookie, cpu, steps);
+    if cookie == 0 {
+        return searched(None, is_online);
+    }
+    let queue = &core.lanes[cpu as usize].queue;
+    let found = queue.first_with(cookie, table, cpu, steps);
     searched(found.as_ref(), is_online)
 }
 
@@ -120,28 +104,6 @@ pub fn first_at<Q: SiblingQueue, L: Ledger>(
     kept_of(first.as_ref(), core.lanes[cpu as usize].snapshot)
 }
 
-/// What is kept of the first task of a sibling, where this is that of the sibling of its own.
-#[inline(always)]
-fn first_beside<Q: SiblingQueue, L: Ledger>(
-    core: &Core<Q>,
-    table: &TaskTable,
-    own: Cpu,
-    first: &First,
-    cpu: Cpu,
-    steps: &mut Steps<L>,
-) -> First
-    requires { MayAsk cpu (core.now, table.now) }
-    ensures first { (beside : Beside) → let room = room_of beside (core.now, table.now) in
-        first.now ≡ first_at room own → result ≡ first_at room cpu }
-    ensures counted { steps.new ≤ steps.old + (if cpu == own then 0 else Q.most_compared (length (queued_among table.now.tasks cpu))) }
-{
-    if cpu == own {
-        *first
-    } else {
-        first_at(core, table, cpu, steps)
-    }
-}
-
 /// Puts into the empty list what is kept of the first task of each sibling, where this is the one's. Each of the
 /// others is asked once.
 pub fn ask<Q: SiblingQueue, L: Ledger>(
@@ -159,8 +121,11 @@ pub fn ask<Q: SiblingQueue, L: Ledger>(
     ensures counted { Compares (core.now, table.now) (λ most. steps.new + most ≤ steps.old + length core.now.lanes.items * most) }
 {
     for cpu in 0..core.lanes.len() {
-        let other = first_beside(core, table, own, first, cpu as u8, steps);
-        firsts.push(other);
+        if cpu as u8 == own {
+            firsts.push(*first);
+        } else {
+            firsts.push(first_at(core, table, cpu as u8, steps));
+        }
     }
 }
 

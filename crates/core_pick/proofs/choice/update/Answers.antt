@@ -2,7 +2,7 @@ use Rattle.std.proofs.Common.{List, ℕ, refl, ◌≡◌, ◌<◌, ◌≤◌, �
 use Rattle.std.specs.List.{enumerate_from}
 use Rattle.std.proofs.lemmas.Bool.{cond-true, cond-false}
 use Rattle.std.proofs.lemmas.List.{append-nil, map-set, map-id, take_more, length-map, get_or-map}
-use Rattle.std.proofs.Math.Seq.{take-length, drop-length}
+use Rattle.std.proofs.Math.Seq.{take-length, drop-length, map-set_same}
 use Rattle.cs_types.specs.Room.{RoomState, SiblingState, idle}
 use Rattle.cs_types.specs.Selection.{sibling_after_selection, select_for}
 use Rattle.cs_types.proofs.Selections.{numbered_after_selection}
@@ -10,10 +10,9 @@ use Rattle.cs_types.specs.declared.task.Task.{Task}
 use Rattle.task_table.specs.Table.{Table}
 use Rattle.core_lanes.specs.Lanes.{lane_state}
 use Rattle.core_pick.specs.declared.choice.Choice.{Choice}
-use Rattle.core_pick.specs.Choice.{IsPlan, task_after_choice, task_after_choices}
+use Rattle.core_pick.specs.Choice.{IsPlan, own_of, task_after_choice, task_after_choices}
 use Rattle.core_pick.proofs.Remembered.{map-task_after_choices_push}
 use Rattle.core_lanes.proofs.Lists.{placed_more}
-use Rattle.core_lanes.proofs.Stays.{number_of, queue_of, numbers_kept, queues_kept}
 use Rattle.core_pick.proofs.Choices.{no_choice, choice_in}
 use Rattle.core_pick.proofs.choice.update.Goals as goal
 use Rattle.core_pick.proofs.choice.update.Goals.{then-lane, else-lane}
@@ -37,8 +36,7 @@ bounds-choices-cpu g c = subst (λ n. c.loop-cpu.cpu < n) (sym c.requires.each) 
 pub loop-cpu-init : goal.loop-cpu-init
 loop-cpu-init g c = record {
   states = λ room core is plan. refl;
-  numbers = refl;
-  queues = refl;
+  own = refl;
   sound = record { rising = c.requires.table.rising; known = c.requires.table.known; few = c.requires.table.few; limit = c.requires.table.limit };
   so_far = ap (λ (tasks : List Task). let table : Table = record c.args.tasks.now { tasks = tasks } in table) (sym (map-id c.args.tasks.now.tasks));
 }
@@ -72,9 +70,8 @@ loop-cpu-preserved g c =
             (w.hand.ensures.state room core
             (ap (λ choices. get_or choices cpu no_choice) plan.each ∙ choice_in room core cpu no_choice (omega (arith, within, ap length is))) plan.occupied plan.renewed
             ∙ sym (cond-true old.online (sibling_after_selection room core c.args.selector cpu (lane_state old)) (lane_state old) w.if-lane.true));
-        numbers = ap (map number_of) w.lanes-is
-            ∙ numbers_kept c.loop-cpu.lanes cpu lane w.hand.new.lane c.index-lanes-cpu.is (w.hand.ensures.number ∙ ap number_of (sym c.index-lanes-cpu.is)) ∙ c.loop-cpu.invariant.numbers;
-        queues = ap (map queue_of) w.lanes-is ∙ queues_kept c.loop-cpu.lanes cpu lane w.hand.new.lane c.index-lanes-cpu.is (w.hand.ensures.queue ∙ ap queue_of (sym c.index-lanes-cpu.is)) ∙ c.loop-cpu.invariant.queues;
+        own = ap (map own_of) w.lanes-is
+            ∙ map-set_same own_of c.loop-cpu.lanes cpu w.hand.new.lane lane w.hand.ensures.own ∙ c.loop-cpu.invariant.own;
         sound = sound;
         so_far = so_far;
       }
@@ -83,8 +80,7 @@ loop-cpu-preserved g c =
             ap (map lane_state) w.lanes-is ∙ map-set lane_state c.loop-cpu.lanes cpu old
             ∙ more room core is plan (lane_state old)
             (sym (cond-false old.online (sibling_after_selection room core c.args.selector cpu (lane_state old)) (lane_state old) w.if-lane.false));
-        numbers = ap (map number_of) w.lanes-is ∙ numbers_kept c.loop-cpu.lanes cpu lane old c.index-lanes-cpu.is (ap number_of (sym c.index-lanes-cpu.is)) ∙ c.loop-cpu.invariant.numbers;
-        queues = ap (map queue_of) w.lanes-is ∙ queues_kept c.loop-cpu.lanes cpu lane old c.index-lanes-cpu.is (ap queue_of (sym c.index-lanes-cpu.is)) ∙ c.loop-cpu.invariant.queues;
+        own = ap (map own_of) w.lanes-is ∙ map-set_same own_of c.loop-cpu.lanes cpu old lane refl ∙ c.loop-cpu.invariant.own;
         sound = sound;
         so_far = so_far;
       }

@@ -9,7 +9,7 @@ use Rattle.core_lanes.proofs.Lists.{items-as_many}
 use Rattle.core_lanes.proofs.Stays.{some_beside, number_of, queue_of}
 use Rattle.core_pick.specs.declared.choice.Choice.{Choice}
 use Rattle.core_pick.specs.Choice.{task_after_choices}
-use Rattle.core_pick.proofs.Choices.{choices_as_many, forced_is, occupation_is, choice_in, map-task_after_choices}
+use Rattle.core_pick.proofs.Choices.{numbers_of_own, queues_of_own, choices_as_many, forced_is, occupation_is, choice_in, map-task_after_choices}
 use Rattle.core_pick.proofs.Remembered.{stays-remembered}
 use Rattle.core_pick.proofs.pick.select_for.Goals as goal
 
@@ -75,12 +75,12 @@ returns-clause-selects g c = record {
       };
   numbers =
       let kept_lanes = items-as_many c.args.core.now.lanes c.update.new.lanes (c.update.auto.lanes ∙ ap length c.deref_mut.ensures.value) in
-      let own = ap (map number_of) kept_lanes ∙ c.update.ensures.numbers ∙ ap (map number_of) c.deref_mut.ensures.value in
+      let own = ap (map number_of) kept_lanes ∙ numbers_of_own c.update.new.lanes _ c.update.ensures.own ∙ ap (map number_of) c.deref_mut.ensures.value in
       λ i. record (numbers_by (bare c.args.core.now) (c.update.ensures.tasks i)) { intervals = c.begin.ensures.intervals i; own = own i };
   stays =
       let kept_lanes = items-as_many c.args.core.now.lanes c.update.new.lanes (c.update.auto.lanes ∙ ap length c.deref_mut.ensures.value) in
       stays-remembered _ _ c.as_slice-choices.result.now c.choose-forced.result.occupation c.update.ensures.tasks c.update.ensures.sound
-      (ap (map queue_of) kept_lanes ∙ c.update.ensures.queues ∙ ap (map queue_of) c.deref_mut.ensures.value) refl;
+      (ap (map queue_of) kept_lanes ∙ queues_of_own c.update.new.lanes _ c.update.ensures.own ∙ ap (map queue_of) c.deref_mut.ensures.value) refl;
   gets = λ beside.
       let room = room_of beside (c.args.core.now, c.args.table.now) in
       let made = c.choose-forced.ensures.each beside in
