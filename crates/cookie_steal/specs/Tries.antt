@@ -1,18 +1,36 @@
 -- Tries: what a steal try makes of a core and its table.
-use Rattle.std.specs.Prelude.{◌≡◌, ℕ, ◌==◌, if◌then◌else◌}
+use Rattle.std.specs.Prelude.{◌≡◌, ℕ, ◌+◌, ◌^◌, ◌<◌, ◌==◌, length, All, if◌then◌else◌}
 use Rattle.cs_types.specs.declared.reply.Reply.{Reply}
 use Rattle.cs_types.specs.declared.reply.Reply.TheVariants as answer
 use Rattle.cs_types.specs.Room.{RoomState, sibling_of}
-use Rattle.cs_types.specs.Steal.{stolen}
+use Rattle.cs_types.specs.Steal.{source_of, stolen}
 use Rattle.cs_types.specs.Step.{Stepped, try_steal}
 use Rattle.task_table.specs.Table.{Table}
 use Rattle.core_lanes.specs.declared.queue.SiblingQueue.{Ghosts}
 use Rattle.core_lanes.specs.declared.lanes.Core.{Core}
-use Rattle.core_lanes.specs.Lanes.{Beside, room_of}
+use Rattle.core_lanes.specs.Lanes.{Beside, room_of, AgreesAt, HasLowTimes}
 use Rattle.core_lanes.specs.Numbers.{numbers_of, touched}
 use Rattle.core_lanes.specs.Changes.{Stays}
 use Rattle.cookie_steal.specs.declared.steal.Try.{Try}
 use Rattle.cookie_steal.specs.declared.steal.Try.TheVariants.{Stole, Missed, NoBalance}
+
+-- ---- what is asked
+
+-- the sibling may try to steal
+pub record MayTry {Q : Type 0} {g : Ghosts Q} (sibling : ℕ) (both : Core Q g × Table) : Type 0 where
+  pub at : AgreesAt sibling both
+  pub low : HasLowTimes both
+  pub places : All (λ lane. lane.place + 1 < 2 ^ 32) both.0.lanes.items
+  pub stamp : both.0.next_stamp + 1 < 2 ^ 64
+  pub touches : both.0.task_number + 2 < 2 ^ 64
+
+-- the source is the sibling from which the thief tries to steal next
+pub record IsSourceOf {Q : Type 0} {g : Ghosts Q} (thief source : ℕ) (both : Core Q g × Table) : Type 0 where
+  pub at : AgreesAt thief both
+  pub within : source < length both.0.lanes.items
+  pub is : (beside : Beside) → source ≡ source_of (room_of beside both) thief
+
+-- ---- what comes of it
 
 -- what a machine answers
 abbrev pub reply_of : Try → Reply

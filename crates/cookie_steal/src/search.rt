@@ -1,11 +1,12 @@
 //! What a thief finds on its source. It is apart, since it asks the source's queue and changes nothing.
 
-ghost use Rattle.std.specs.Prelude.{◌≡◌, ◌≢◌, ◌<◌, length, filter};
+ghost use Rattle.std.specs.Prelude.{◌≡◌, ◌≢◌, filter};
 ghost use Rattle.cs_types.specs.Room.{sibling_of};
 ghost use Rattle.cs_types.specs.Order.{first_of};
 ghost use Rattle.cs_types.specs.Selection.{is_run, queued_with};
-ghost use Rattle.cs_types.specs.Steal.{source_of, may_steal, stolen};
-ghost use Rattle.core_lanes.specs.Lanes.{Beside, lane_state, room_of, Agree};
+ghost use Rattle.cs_types.specs.Steal.{may_steal, stolen};
+ghost use Rattle.core_lanes.specs.Lanes.{Beside, lane_state, room_of};
+ghost use Rattle.cookie_steal.specs.Tries.{IsSourceOf};
 
 use core_lanes::{Core, Lane, SiblingQueue};
 use cs_types::{Cpu, Steps, Task};
@@ -32,9 +33,7 @@ fn first_to_steal<Q: SiblingQueue, L: Ledger>(
     steps: &mut Steps<L>,
 ) -> Option<Task>
     requires cookie { core.now.cookie ≢ 0 }
-    requires thief { thief < length core.now.lanes.items }
-    requires source { source < length core.now.lanes.items }
-    requires agree { Agree (core.now, table.now) }
+    requires source { IsSourceOf thief source (core.now, table.now) }
     ensures { (beside : Beside) → let room = room_of beside (core.now, table.now) in
         result ≡ first_of (filter (may_steal (sibling_of room thief) (sibling_of room source)) (queued_with room room.core_cookie source)) }
 {
@@ -59,10 +58,7 @@ pub fn stolen<Q: SiblingQueue, L: Ledger>(
     source: Cpu,
     steps: &mut Steps<L>,
 ) -> Option<Task>
-    requires thief { thief < length core.now.lanes.items }
-    requires within { source < length core.now.lanes.items }
-    requires source { (beside : Beside) → source ≡ source_of (room_of beside (core.now, table.now)) thief }
-    requires agree { Agree (core.now, table.now) }
+    requires { IsSourceOf thief source (core.now, table.now) }
     ensures stolen { (beside : Beside) → result ≡ stolen (room_of beside (core.now, table.now)) thief }
 {
     if core.cookie == 0 || core.lanes[thief as usize].run.is_some() {

@@ -6,9 +6,9 @@ ghost use Rattle.cs_types.specs.Selection.{first_on};
 ghost use Rattle.cs_types.specs.Steal.{source_of, steal, next_place};
 ghost use Rattle.task_table.specs.Table.{Table};
 ghost use Rattle.core_lanes.specs.Queued.{IsOf};
-ghost use Rattle.core_lanes.specs.Lanes.{Beside, room_of, Agree, AgreesAt, HasLowTimes};
+ghost use Rattle.core_lanes.specs.Lanes.{Beside, room_of, AgreesAt};
 ghost use Rattle.core_lanes.specs.Changes.{Touches};
-ghost use Rattle.cookie_steal.specs.Tries.{TriesToSteal};
+ghost use Rattle.cookie_steal.specs.Tries.{MayTry, IsSourceOf, TriesToSteal};
 
 use crate::search::stolen;
 use core_lanes::{Core, SiblingQueue};
@@ -64,14 +64,9 @@ fn steal<Q: SiblingQueue, L: Ledger>(
     task: Task,
     steps: &mut Steps<L>,
 )
-    requires thief { thief < length core.old.lanes.items }
-    requires within { source < length core.old.lanes.items }
-    requires source { (beside : Beside) → source ≡ source_of (room_of beside (core.old, table.old)) thief }
+    requires may { MayTry thief (core.old, table.old) }
+    requires source { IsSourceOf thief source (core.old, table.old) }
     requires there { IsOf table.old.tasks task }
-    requires agree { Agree (core.old, table.old) }
-    requires low { HasLowTimes (core.old, table.old) }
-    requires stamp { core.old.next_stamp + 1 < 2 ^ 64 }
-    requires touches { core.old.task_number + 2 < 2 ^ 64 }
     ensures { Touches 2 (core.old, table.old) (core.new, table.new) (λ room. steal room thief task) }
 {
     let moved = core.moved_to(thief, task);
@@ -104,11 +99,7 @@ pub fn try_steal<Q: SiblingQueue, L: Ledger>(
     cpu: Cpu,
     steps: &mut Steps<L>,
 ) -> Try
-    requires at { AgreesAt cpu (core.old, table.old) }
-    requires low { HasLowTimes (core.old, table.old) }
-    requires places { All (λ lane. lane.place + 1 < 2 ^ 32) core.old.lanes.items }
-    requires stamp { core.old.next_stamp + 1 < 2 ^ 64 }
-    requires touches { core.old.task_number + 2 < 2 ^ 64 }
+    requires { MayTry cpu (core.old, table.old) }
     ensures { TriesToSteal (core.old, table.old) (core.new, table.new) cpu result }
 {
     if core.lanes[cpu as usize].place == 0 {

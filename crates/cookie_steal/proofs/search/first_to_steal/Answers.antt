@@ -32,7 +32,7 @@ loop-next-init g c =
     let all = candidates core.cookie c.args.source table.tasks in
     let may = may_steal (lane_state c.index-idle.result.now) (lane_state c.index-from.result.now) in
     subst (IsLeft goes_before all may) (sym c.first_with-next.ensures.first)
-    (left_first goes_before goes_before_is_order all (no_two_tie core.next_stamp core.cookie c.args.source table.tasks c.requires.agree.table.rising c.requires.agree.stamped) may)
+    (left_first goes_before goes_before_is_order all (no_two_tie core.next_stamp core.cookie c.args.source table.tasks c.requires.source.at.agree.table.rising c.requires.source.at.agree.stamped) may)
 
 pub returns-then-may_steal : goal.returns-then-may_steal
 returns-then-may_steal g c beside =
@@ -41,10 +41,10 @@ returns-then-may_steal g c beside =
     let all = candidates core.cookie c.args.source table.tasks in
     let may = may_steal (lane_state c.index-idle.result.now) (lane_state c.index-from.result.now) in
     let left = subst (IsLeft goes_before all may) c.in-Some.is c.loop-next.invariant in
-    sym (left_found goes_before goes_before_is_order all (no_two_tie core.next_stamp core.cookie c.args.source table.tasks c.requires.agree.table.rising c.requires.agree.stamped) may
+    sym (left_found goes_before goes_before_is_order all (no_two_tie core.next_stamp core.cookie c.args.source table.tasks c.requires.source.at.agree.table.rising c.requires.source.at.agree.stamped) may
     c.in-Some.task left (sym c.may_steal.ensures ∙ c.if-may_steal.true))
-    ∙ from_room _ _ _ _ all (lane_at core.lanes.items c.args.thief c.index-idle.result.now c.requires.thief c.index-idle.ensures)
-    (lane_at core.lanes.items c.args.source c.index-from.result.now c.requires.source c.index-from.ensures)
+    ∙ from_room _ _ _ _ all (lane_at core.lanes.items c.args.thief c.index-idle.result.now c.requires.source.at.cpu c.index-idle.ensures)
+    (lane_at core.lanes.items c.args.source c.index-from.result.now c.requires.source.within c.index-from.ensures)
 
 pub next_with-next-requires-clause-cookie : goal.next_with-next-requires-clause-cookie
 next_with-next-requires-clause-cookie g c =
@@ -55,10 +55,10 @@ next_with-next-requires-clause-cookie g c =
     λ zero. c.requires.cookie (sym (candidate_parts core.cookie c.args.source tasks c.in-Some.task left.0).2 ∙ zero)
 
 pub first_with-next-requires-clause-policies : goal.first_with-next-requires-clause-policies
-first_with-next-requires-clause-policies g c = policies_of (c.args.core.now, c.args.table.now) c.requires.agree
+first_with-next-requires-clause-policies g c = policies_of (c.args.core.now, c.args.table.now) c.requires.source.at.agree
 
 pub next_with-next-requires-clause-policies : goal.next_with-next-requires-clause-policies
-next_with-next-requires-clause-policies g c = policies_of (c.args.core.now, c.args.table.now) c.requires.agree
+next_with-next-requires-clause-policies g c = policies_of (c.args.core.now, c.args.table.now) c.requires.source.at.agree
 
 pub next_with-next-requires-clause-policy : goal.next_with-next-requires-clause-policy
 next_with-next-requires-clause-policy g c =
@@ -67,13 +67,13 @@ next_with-next-requires-clause-policy g c =
     let task = c.in-Some.task in
     let may = may_steal (lane_state c.index-idle.result.now) (lane_state c.index-from.result.now) in
     let left = subst (IsLeft goes_before (candidates core.cookie c.args.source table.tasks) may) c.in-Some.is c.loop-next.invariant in
-    found_in (λ (t : Task). IsPolicy t.spec.policy) task.spec.pid table.tasks task (policies_of (core, table) c.requires.agree)
-    (is_of table.tasks task c.requires.agree.table.rising (candidate_parts core.cookie c.args.source table.tasks task left.0).0)
+    found_in (λ (t : Task). IsPolicy t.spec.policy) task.spec.pid table.tasks task (policies_of (core, table) c.requires.source.at.agree)
+    (is_of table.tasks task c.requires.source.at.agree.table.rising (candidate_parts core.cookie c.args.source table.tasks task left.0).0)
 
 pub next_with-next-requires-clause-holds : goal.next_with-next-requires-clause-holds
 next_with-next-requires-clause-holds g c =
     let from = c.index-from.result.now in
-    c.requires.agree.held c.args.source from.queue (queue_at c.args.core.now.lanes.items c.args.source from c.requires.source c.index-from.ensures)
+    c.requires.source.at.agree.held c.args.source from.queue (queue_at c.args.core.now.lanes.items c.args.source from c.requires.source.within c.index-from.ensures)
 
 pub loop-next-smaller : goal.loop-next-smaller
 loop-next-smaller g c =
@@ -86,7 +86,7 @@ loop-next-smaller g c =
     c.next_with-next.ensures.next ∙ behind_it core.cookie c.args.source table.tasks c.in-Some.task left.0 in
     subst (λ (one : Option Task). to_go goes_before all one < to_go goes_before all c.loop-next.next) (sym next)
     (subst (λ (one : Option Task). to_go goes_before all (first_of (behind c.in-Some.task all)) < to_go goes_before all one) (sym c.in-Some.is)
-    (to_go_falls goes_before goes_before_is_order all (no_two_tie core.next_stamp core.cookie c.args.source table.tasks c.requires.agree.table.rising c.requires.agree.stamped) may c.in-Some.task))
+    (to_go_falls goes_before goes_before_is_order all (no_two_tie core.next_stamp core.cookie c.args.source table.tasks c.requires.source.at.agree.table.rising c.requires.source.at.agree.stamped) may c.in-Some.task))
 
 pub loop-next-preserved : goal.loop-next-preserved
 loop-next-preserved g c =
@@ -98,7 +98,7 @@ loop-next-preserved g c =
     let next : c.next_with-next.result ≡ first_of (behind c.in-Some.task all) =
     c.next_with-next.ensures.next ∙ behind_it core.cookie c.args.source table.tasks c.in-Some.task left.0 in
     subst (IsLeft goes_before all may) (sym next)
-    (left_next goes_before goes_before_is_order all (no_two_tie core.next_stamp core.cookie c.args.source table.tasks c.requires.agree.table.rising c.requires.agree.stamped) may
+    (left_next goes_before goes_before_is_order all (no_two_tie core.next_stamp core.cookie c.args.source table.tasks c.requires.source.at.agree.table.rising c.requires.source.at.agree.stamped) may
     c.in-Some.task left (sym c.may_steal.ensures ∙ c.if-may_steal.false))
 
 pub returns : goal.returns
@@ -108,6 +108,6 @@ returns g c beside =
     let all = candidates core.cookie c.args.source table.tasks in
     let may = may_steal (lane_state c.index-idle.result.now) (lane_state c.index-from.result.now) in
     let left = subst (IsLeft goes_before all may) c.in_default.is c.loop-next.invariant in
-    sym (left_none goes_before goes_before_is_order all (no_two_tie core.next_stamp core.cookie c.args.source table.tasks c.requires.agree.table.rising c.requires.agree.stamped) may left)
-    ∙ from_room _ _ _ _ all (lane_at core.lanes.items c.args.thief c.index-idle.result.now c.requires.thief c.index-idle.ensures)
-    (lane_at core.lanes.items c.args.source c.index-from.result.now c.requires.source c.index-from.ensures)
+    sym (left_none goes_before goes_before_is_order all (no_two_tie core.next_stamp core.cookie c.args.source table.tasks c.requires.source.at.agree.table.rising c.requires.source.at.agree.stamped) may left)
+    ∙ from_room _ _ _ _ all (lane_at core.lanes.items c.args.thief c.index-idle.result.now c.requires.source.at.cpu c.index-idle.ensures)
+    (lane_at core.lanes.items c.args.source c.index-from.result.now c.requires.source.within c.index-from.ensures)

@@ -13,25 +13,25 @@ use Rattle.cookie_steal.proofs.steal.steal.Goals as goal
 
 pub moved_to-moved-requires-clause-home : goal.moved_to-moved-requires-clause-home
 moved_to-moved-requires-clause-home g c =
-    (found_in (IsFit (length c.args.core.now.lanes.items)) c.args.task.spec.pid c.args.table.now.tasks c.args.task c.requires.agree.tasks c.requires.there).home
+    (found_in (IsFit (length c.args.core.now.lanes.items)) c.args.task.spec.pid c.args.table.now.tasks c.args.task c.requires.may.at.agree.tasks c.requires.there).home
 
 pub moved_to-moved-requires-clause-vtime : goal.moved_to-moved-requires-clause-vtime
 moved_to-moved-requires-clause-vtime g c =
-    found_in (λ (task : Task). task.vtime < 2 ^ 100) c.args.task.spec.pid c.args.table.now.tasks c.args.task c.requires.low.vtimes c.requires.there
+    found_in (λ (task : Task). task.vtime < 2 ^ 100) c.args.task.spec.pid c.args.table.now.tasks c.args.task c.requires.may.low.vtimes c.requires.there
 
 pub moved_to-moved-requires-clause-leasts : goal.moved_to-moved-requires-clause-leasts
-moved_to-moved-requires-clause-leasts g c = c.requires.low.leasts
+moved_to-moved-requires-clause-leasts g c = c.requires.may.low.leasts
 
 pub enqueue-requires-clause-knows : goal.enqueue-requires-clause-knows
 enqueue-requires-clause-knows g c =
     let core = c.args.core.now in
     let table = c.args.table.now in
     let task = c.args.task in
-    let fit = found_in (IsFit (length core.lanes.items)) task.spec.pid table.tasks task c.requires.agree.tasks c.requires.there in
+    let fit = found_in (IsFit (length core.lanes.items)) task.spec.pid table.tasks task c.requires.may.at.agree.tasks c.requires.there in
     let many : length c.touch.new.self.lanes.items ≡ length core.lanes.items = ap (λ (kept : Kept). kept.siblings) (c.touch.ensures table).stays.kept in
     let knows : KnowsApart (c.touch.new.self, table) (moved_to (room_of some_beside (core, table)) c.args.thief task) =
     record {
-      apart = record { old = task; there = c.requires.there; fits = record { home = subst (λ n. c.args.thief < n) (sym many) c.requires.thief; policy = fit.policy } };
+      apart = record { old = task; there = c.requires.there; fits = record { home = subst (λ n. c.args.thief < n) (sym many) c.requires.may.at.cpu; policy = fit.policy } };
       cookie = refl;
     } in
     subst (KnowsApart (c.touch.new.self, table)) (sym (c.moved_to-moved.ensures some_beside table)) knows
@@ -39,35 +39,35 @@ enqueue-requires-clause-knows g c =
 pub enqueue-requires-clause-stamp : goal.enqueue-requires-clause-stamp
 enqueue-requires-clause-stamp g c =
     let same : c.touch.new.self.next_stamp ≡ c.args.core.now.next_stamp = ap (λ (room : RoomState). room.next_stamp) ((c.touch.ensures c.args.table.now).room some_beside) in
-    omega (arith, same, c.requires.stamp)
+    omega (arith, same, c.requires.may.stamp)
 
 pub enqueue-requires-clause-agree : goal.enqueue-requires-clause-agree
-enqueue-requires-clause-agree g c = (c.touch.ensures c.args.table.now).stays.agree c.requires.agree
+enqueue-requires-clause-agree g c = (c.touch.ensures c.args.table.now).stays.agree c.requires.may.at.agree
 
 pub enqueue-requires-clause-touches : goal.enqueue-requires-clause-touches
-enqueue-requires-clause-touches g c = omega (arith, ap (λ (numbers : Numbers). numbers.task) (c.touch.ensures c.args.table.now).numbers, c.requires.touches)
+enqueue-requires-clause-touches g c = omega (arith, ap (λ (numbers : Numbers). numbers.task) (c.touch.ensures c.args.table.now).numbers, c.requires.may.touches)
 
 pub set_place-requires : goal.set_place-requires
 set_place-requires g c =
     let stays = both_stay (c.touch.ensures c.args.table.now).stays c.enqueue.ensures.stays in
-    omega (arith, c.requires.thief, ap (λ (kept : Kept). kept.siblings) stays.kept)
+    omega (arith, c.requires.may.at.cpu, ap (λ (kept : Kept). kept.siblings) stays.kept)
 
 pub flag-requires : goal.flag-requires
 flag-requires g c =
     let stays = both_stay (c.touch.ensures c.args.table.now).stays (both_stay c.enqueue.ensures.stays (c.set_place.ensures c.enqueue.new.table).stays) in
-    omega (arith, c.requires.thief, ap (λ (kept : Kept). kept.siblings) stays.kept)
+    omega (arith, c.requires.may.at.cpu, ap (λ (kept : Kept). kept.siblings) stays.kept)
 
 pub is_left_idle-idles-requires : goal.is_left_idle-idles-requires
 is_left_idle-idles-requires g c =
     let table = c.enqueue.new.table in
     let stays = both_stay (c.touch.ensures c.args.table.now).stays (both_stay c.enqueue.ensures.stays (both_stay (c.set_place.ensures table).stays (c.flag.ensures table).stays)) in
-    record { cpu = omega (arith, c.requires.within, ap (λ (kept : Kept). kept.siblings) stays.kept); agree = stays.agree c.requires.agree }
+    record { cpu = omega (arith, c.requires.source.within, ap (λ (kept : Kept). kept.siblings) stays.kept); agree = stays.agree c.requires.may.at.agree }
 
 pub flag-requires-2 : goal.flag-requires-2
 flag-requires-2 g c =
     let table = c.enqueue.new.table in
     let stays = both_stay (c.touch.ensures c.args.table.now).stays (both_stay c.enqueue.ensures.stays (both_stay (c.set_place.ensures table).stays (c.flag.ensures table).stays)) in
-    omega (arith, c.requires.within, ap (λ (kept : Kept). kept.siblings) stays.kept)
+    omega (arith, c.requires.source.within, ap (λ (kept : Kept). kept.siblings) stays.kept)
 
 pub returns : goal.returns
 returns g c =
@@ -91,7 +91,7 @@ returns g c =
           last.room beside
           ∙ ap (flag (room_of beside (c.flag.new.self, c.enqueue.new.table)) c.args.source) (c.is_left_idle-idles.ensures beside)
           ∙ ap (λ (now : RoomState). flag now c.args.source (is_left now c.args.source)) mid
-          ∙ ap (λ (source : ℕ). flag after source (is_left after source)) (c.requires.source beside);
+          ∙ ap (λ (source : ℕ). flag after source (is_left after source)) (c.requires.source.is beside);
       numbers =
           last.numbers ∙ raised.numbers ∙ place.numbers ∙ c.enqueue.ensures.numbers ∙ ap (touched 1) touch.numbers
           ∙ ap (λ (n : ℕ). let numbers : Numbers = record (numbers_of (c.args.core.now, c.args.table.now)) { task = n } in numbers) (omega arith);

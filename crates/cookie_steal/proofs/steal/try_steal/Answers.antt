@@ -19,18 +19,23 @@ it_tries room cpu state at some =
     let so : ((sibling_of room cpu).place == 0) ≡ false = ap (λ (s : SiblingState). s.place == 0) at ∙ ne_eqb state.place 0 some in
     sym (cond-false ((sibling_of room cpu).place == 0) (record { reply = Nothing; room = room }) (try_steal room cpu (stolen room cpu)) so)
 
-pub stolen-requires-clause-source : goal.stolen-requires-clause-source
-stolen-requires-clause-source g c beside = c.source_of-source.ensures.source beside c.args.table.now
+pub stolen-requires : goal.stolen-requires
+stolen-requires g c = record {
+  at = c.requires.at;
+  within = c.source_of-source.ensures.within;
+  is = λ beside. c.source_of-source.ensures.source beside c.args.table.now;
+}
 
 pub steal-requires-clause-source : goal.steal-requires-clause-source
-steal-requires-clause-source g c beside = c.source_of-source.ensures.source beside c.args.table.now
+steal-requires-clause-source g c = record {
+  at = c.requires.at;
+  within = c.source_of-source.ensures.within;
+  is = λ beside. c.source_of-source.ensures.source beside c.args.table.now;
+}
 
 pub steal-requires-clause-there : goal.steal-requires-clause-there
 steal-requires-clause-there g c =
     stolen_there (room_of some_beside (c.args.core.now, c.args.table.now)) c.args.cpu c.in-Some.task c.requires.at.agree.table.rising (sym (c.in-Some.ensures.stolen some_beside))
-
-pub steal-requires-clause-low : goal.steal-requires-clause-low
-steal-requires-clause-low g c = c.requires.low
 
 pub next_place-place-requires-clause-places : goal.next_place-place-requires-clause-places
 next_place-place-requires-clause-places g c = c.requires.places
