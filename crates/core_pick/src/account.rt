@@ -1,15 +1,13 @@
 //! What is charged for forced idle, and to whom. It is a file of its own since a tick, a block, an exit, a
 //! sibling that leaves and a schedule all charge.
 
-ghost use Rattle.std.specs.Prelude.{◌≡◌, ℕ, ◌+◌, ◌^◌, ◌<◌, ◌==◌, ◌&&◌, not, false, if◌then◌else◌, length, find, All, IsSome, IfSome};
-ghost use Rattle.std.specs.List.{list_any};
+ghost use Rattle.std.specs.Prelude.{◌≡◌, ◌<◌, length, find, All, IsSome, IfSome};
 ghost use Rattle.std.specs.Option.{option_and_then};
 ghost use Rattle.cs_types.specs.Room.{has_pid, task_of, sibling_of, to_run};
 ghost use Rattle.cs_types.specs.Accounting.{with_cookie, charged, charge};
-ghost use Rattle.task_table.specs.Table.{total_in, IsSound as IsTable};
 ghost use Rattle.core_lanes.specs.Queued.{IsOf};
 ghost use Rattle.core_lanes.specs.Lanes.{Beside, room_of, queues_of, bare, Agree};
-ghost use Rattle.core_pick.specs.Account.{charged_at};
+ghost use Rattle.core_pick.specs.Account.{charged_at, MayOwe, Owes};
 ghost use Rattle.core_pick.specs.Schedules.{IsPaid, Charges};
 
 use crate::choice::MOST_SIBLINGS;
@@ -53,13 +51,8 @@ fn charged<Q: SiblingQueue>(core: &Core<Q>, table: &TaskTable) -> Charged
 
 /// Each of these tasks has this share more, in ns, however often it stands among them.
 fn charge_each(table: &mut TaskTable, charged: &[Pid], share: u64)
-    requires there { All (λ pid. IsSome (find (has_pid pid) table.old.tasks)) charged.now }
-    requires low { (pid : ℕ) → total_in table.old pid + share < 2 ^ 64 }
-    requires sound { IsTable table.old }
-    ensures rest { table.new ≡ record table.old { totals = table.new.totals } }
-    ensures totals { (pid : ℕ) → total_in table.new pid ≡ total_in table.old pid
-        + (if list_any (λ one. one == pid) charged.now then share else 0) }
-    ensures sound { IsTable table.new }
+    requires { MayOwe charged.now share table.old }
+    ensures { Owes charged.now share table.old table.new }
 {
     for index in 0..charged.len() {
         let pid = charged[index];

@@ -1,9 +1,9 @@
 use Rattle.std.proofs.Common.{◌≡◌, ℕ, ◌+◌, ◌∙◌, [], ◌∷◌, ◌++◌, cond, ap, sym, subst, arith, refl, length, Option, Some, None}
-use Rattle.std.specs.Prelude.{unwrap_or, List, ◌==◌, IsNone, IfNone}
+use Rattle.std.specs.Prelude.{unwrap_or, List, ◌==◌, IsNone, IfNone, IsSome, All, find}
 use Rattle.std.specs.List.{list_any}
 use Rattle.std.specs.Option.{option_map, option_to_list}
 use Rattle.std.proofs.lemmas.List.{length-append}
-use Rattle.cs_types.specs.Room.{RoomState, Interval}
+use Rattle.cs_types.specs.Room.{RoomState, Interval, has_pid}
 use Rattle.cs_types.specs.Accounting.{share, total_of, charged, open_interval, charge}
 use Rattle.cs_types.proofs.Accounts.{owed, total_of-more, open_share-le, charge-again}
 use Rattle.task_table.specs.Table.{Table, total_among, total_in}
@@ -14,12 +14,16 @@ use Rattle.core_pick.proofs.Accounts.{charged_in}
 use Rattle.core_pick.proofs.account.charge.Given.{Over}
 use Rattle.core_pick.proofs.account.charge.Goals as goal
 
-pub charge_each-requires-clause-low : goal.charge_each-requires-clause-low
-charge_each-requires-clause-low g c pid =
-    let room = room_of (at c.args.now some_beside) (c.args.core.now, c.args.table.now) in
-    let is : Some c.in-Some.share ≡ option_map share (open_interval room) = c.in-Some.ensures.share room (record { count = refl; occupation = refl; started = refl }) refl in
-    let low = open_share-le 255 c.in-Some.share room (omega arith) c.requires.paid.few is in
-    omega (arith, low, c.requires.paid.totals pid, c.requires.paid.started, c.requires.paid.clock)
+pub charge_each-requires : goal.charge_each-requires
+charge_each-requires g c = record {
+  there = subst (λ (charged : List ℕ). All (λ pid. IsSome (find (has_pid pid) c.args.table.now.tasks)) charged) (sym c.as_slice.ensures.value) c.charged-charged.ensures.there;
+  low = λ pid.
+      let room = room_of (at c.args.now some_beside) (c.args.core.now, c.args.table.now) in
+      let is : Some c.in-Some.share ≡ option_map share (open_interval room) = c.in-Some.ensures.share room (record { count = refl; occupation = refl; started = refl }) refl in
+      let low = open_share-le 255 c.in-Some.share room (omega arith) c.requires.paid.few is in
+      omega (arith, low, c.requires.paid.totals pid, c.requires.paid.started, c.requires.paid.clock);
+  sound = c.requires.agree.table;
+}
 
 -- the share of the open interval, which is charged to each task that it charges
 owed_is : (room : RoomState) (n pid : ℕ) (one : Option Interval) → open_interval room ≡ one → Some n ≡ option_map share one →
