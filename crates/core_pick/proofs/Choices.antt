@@ -17,7 +17,7 @@ use Rattle.sibling_priority.specs.Offers.{class_of_first}
 use Rattle.core_lanes.specs.declared.lane.Lane.{Lane}
 use Rattle.core_pick.specs.declared.choice.Choice.{Choice}
 use Rattle.core_pick.specs.declared.lead.First.{First}
-use Rattle.core_pick.specs.Choice.{own_of, kept_of, run_of, first_at, firsts_of, searched, choice_at, choices_of, task_after_choices}
+use Rattle.core_pick.specs.Choice.{own_of, online_between, kept_of, run_of, first_at, firsts_of, searched, choice_at, choices_of, task_after_choices}
 use Rattle.core_lanes.proofs.Lists.{count_at, any_at, range_more, All-find}
 
 is_some-pid_of : (task : Option Task) → is_some (pid_of task) ≡ is_some task
@@ -140,10 +140,6 @@ pub choice_in : (room : RoomState) (core cpu : ℕ) (d : Choice) → cpu < lengt
 choice_in room core cpu d lt = get_or-map-range_with_len (choice_at room core) 0 (length room.siblings) cpu cpu d lt (omega arith)
 
 -- ---- the firsts
-
--- the online siblings from one to another
-abbrev pub online_between : RoomState → ℕ → ℕ → List ℕ
-online_between room from to = filter (is_online room) (range_with_len from (to - from))
 
 -- those so far, after one more sibling
 pub online_step : (room : RoomState) (from cpu : ℕ) → from ≤ cpu → (initial before now : List ℕ) → before ≡ initial ++ online_between room from cpu →

@@ -22,8 +22,8 @@ use Rattle.sibling_priority.specs.Offers.{IsFirst, IsInRange, class_of_first, ra
 use Rattle.sibling_priority.proofs.Ranks.{is_higher_offer_is_order}
 use Rattle.sibling_priority.proofs.Firsts.{outranks-offer_of}
 use Rattle.core_pick.specs.declared.lead.First.{First}
-use Rattle.core_pick.specs.Choice.{kept_of, first_at, firsts_of, no_first, offer_of_kept, offer_in, is_ahead, AreInRange}
-use Rattle.core_pick.proofs.Choices.{kept_is, online_between, online_step, online_within, All-firsts, first_home}
+use Rattle.core_pick.specs.Choice.{kept_of, first_at, firsts_of, no_first, offer_of_kept, offer_in, is_ahead, online_between, AreInRange}
+use Rattle.core_pick.proofs.Choices.{kept_is, online_step, online_within, All-firsts, first_home}
 
 -- ---- one sibling more
 

@@ -1,5 +1,5 @@
 -- Choice: what the lead and the choices of a selection are made of, and what the choices make of tasks.
-use Rattle.std.specs.Prelude.{◌≡◌, ℕ, ◌+◌, ◌-◌, ◌^◌, ◌<◌, Bool, false, ◌==◌, ◌&&◌, if◌then◌else◌, List, length, map, Option, Some, None, is_none, is_some, count_by, slice_index_or, unwrap_or}
+use Rattle.std.specs.Prelude.{◌≡◌, ℕ, ◌+◌, ◌-◌, ◌^◌, ◌<◌, Bool, false, ◌==◌, ◌&&◌, if◌then◌else◌, List, length, map, filter, Option, Some, None, is_none, is_some, count_by, slice_index_or, unwrap_or}
 use Rattle.std.specs.List.{list_any, range_with_len}
 use Rattle.cs_types.specs.Room.{RoomState, is_online}
 use Rattle.cs_types.specs.Order.{fair_class, idle_class}
@@ -52,6 +52,15 @@ is_ahead firsts cpu other = is_higher_offer (offer_in firsts cpu) (offer_in firs
 -- what each sibling offers is in the range of the order
 abbrev pub AreInRange : List First → Type 0
 AreInRange firsts = (cpu : ℕ) → cpu < length firsts → IsInRange (offer_in firsts cpu)
+
+-- what is kept of the firsts of so many siblings may be compared
+pub record AreFirsts (siblings : ℕ) (firsts : List First) : Type 0 where
+  pub each : length firsts ≡ siblings
+  pub ranges : AreInRange firsts
+
+-- the online siblings from one on up to another
+abbrev pub online_between : RoomState → ℕ → ℕ → List ℕ
+online_between room from to = filter (is_online room) (range_with_len from (to - from))
 
 -- what a sibling gets for a core cookie
 abbrev pub choice_at : RoomState → ℕ → ℕ → Choice

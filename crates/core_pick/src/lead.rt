@@ -1,13 +1,11 @@
 //! The lead of first tasks. It is a file of its own since it alone knows what a task offers.
 
-ghost use Rattle.std.specs.Prelude.{◌≡◌, ℕ, ◌-◌, ◌<◌, ◌≤◌, ◌==◌, ◌++◌, length, filter, true, Some, IfSome, List, option_copied};
-ghost use Rattle.std.specs.List.{range_with_len};
+ghost use Rattle.std.specs.Prelude.{◌≡◌, ℕ, ◌<◌, ◌≤◌, ◌==◌, ◌++◌, length, true, Some, IfSome, List, option_copied};
 ghost use Rattle.std.specs.Option.{option_map_or};
-ghost use Rattle.cs_types.specs.Room.{is_online};
 ghost use Rattle.cs_types.specs.Order.{fair_class, foremost};
 ghost use Rattle.task_table.specs.Table.{Table};
 ghost use Rattle.core_lanes.specs.Lanes.{Beside, room_of};
-ghost use Rattle.core_pick.specs.Choice.{place_of, kept_of, run_of, offer_of_kept, is_ahead, AreInRange};
+ghost use Rattle.core_pick.specs.Choice.{place_of, kept_of, run_of, offer_of_kept, is_ahead, online_between, AreInRange, AreFirsts};
 ghost use Rattle.core_pick.specs.Schedules.{MayKeep};
 
 use crate::choice::MOST_SIBLINGS;
@@ -136,12 +134,10 @@ pub fn lead_among<Q: SiblingQueue>(
 ) -> Option<Cpu>
     requires ordered { from ≤ to }
     requires to { to ≤ length core.now.lanes.items }
-    requires each { length firsts.now ≡ length core.now.lanes.items }
-    requires ranges { AreInRange firsts.now }
+    requires firsts { AreFirsts (length core.now.lanes.items) firsts.now }
     requires before { IfSome before (λ lead. lead < length firsts.now) }
-    ensures lead { (beside : Beside) (table : Table) (order : List ℕ) → let room = room_of beside (core.now, table) in
-        before ≡ foremost (is_ahead firsts.now) order →
-        result ≡ foremost (is_ahead firsts.now) (order ++ filter (is_online room) (range_with_len from (to - from))) }
+    ensures lead { (beside : Beside) (table : Table) (order : List ℕ) → before ≡ foremost (is_ahead firsts.now) order →
+        result ≡ foremost (is_ahead firsts.now) (order ++ online_between (room_of beside (core.now, table)) from to) }
     ensures within { IfSome result (λ lead. lead < length firsts.now) }
 {
     let mut lead = before;

@@ -19,7 +19,7 @@ loop-cpu-preserved g c =
     let within = λ (is : now ≡ lead). still_within lead now (length firsts) is c.loop-cpu.invariant.within in
     elim c.if-is_online.branch [
       | then-is_online+then-leads w ↦ record {
-        within = still_within (Some cpu) now (length firsts) w.lead-is (omega (arith, c.loop-cpu-test.true, c.requires.to, c.requires.each));
+        within = still_within (Some cpu) now (length firsts) w.lead-is (omega (arith, c.loop-cpu-test.true, c.requires.to, c.requires.firsts.each));
         leads = λ beside table order is.
             lead_more (room_of beside (c.args.core.now, table)) firsts order c.args.from cpu c.loop-cpu.auto.cpu lead now (c.loop-cpu.invariant.leads beside table order is)
             (sym (c.is_online.ensures beside table) ∙ w.if-is_online.true) (sym w.leads.ensures ∙ w.if-leads.true) w.lead-is;

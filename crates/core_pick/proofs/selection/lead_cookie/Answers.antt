@@ -5,8 +5,8 @@ use Rattle.cs_types.specs.Room.{absent, online_from}
 use Rattle.cs_types.specs.Order.{foremost}
 use Rattle.core_lanes.specs.Lanes.{Beside, lane_state, room_of}
 use Rattle.core_lanes.proofs.Stays.{some_beside, policies_of}
-use Rattle.core_pick.specs.Choice.{is_ahead, AreInRange}
-use Rattle.core_pick.proofs.Choices.{online_between, online_pushed}
+use Rattle.core_pick.specs.Choice.{is_ahead, online_between, AreInRange}
+use Rattle.core_pick.proofs.Choices.{online_pushed}
 use Rattle.core_pick.proofs.Leads.{cookie_of_lead, in_range, many}
 use Rattle.core_pick.proofs.Ranges.{low_snapshots}
 use Rattle.core_pick.proofs.selection.lead_cookie.Given.{Over}
@@ -33,17 +33,13 @@ module _ (g : Over) (c : After-len g) where
   low : (cpu : ℕ) → (slice_index_or (map lane_state c.args.core.now.lanes.items) cpu absent).snapshot < 2 ^ 100
   low = low_snapshots (map lane_state c.args.core.now.lanes.items) c.requires.may.low.snapshots
 
-pub lead_among-later-requires-clause-each : goal.lead_among-later-requires-clause-each
-lead_among-later-requires-clause-each g c = each g c
+pub lead_among-later-requires-clause-firsts : goal.lead_among-later-requires-clause-firsts
+lead_among-later-requires-clause-firsts g c = record { each = each g c; ranges = ranges g c }
 
-pub lead_among-later-requires-clause-ranges : goal.lead_among-later-requires-clause-ranges
-lead_among-later-requires-clause-ranges g c = ranges g c
-
-pub lead_among-requires-clause-each : goal.lead_among-requires-clause-each
-lead_among-requires-clause-each g c = each g (goal.at.lead_among-requires-clause-each g c).After-len
-
-pub lead_among-requires-clause-ranges : goal.lead_among-requires-clause-ranges
-lead_among-requires-clause-ranges g c = ranges g (goal.at.lead_among-requires-clause-ranges g c).After-len
+pub lead_among-requires-clause-firsts : goal.lead_among-requires-clause-firsts
+lead_among-requires-clause-firsts g c =
+    let before = (goal.at.lead_among-requires-clause-firsts g c).After-len in
+    record { each = each g before; ranges = ranges g before }
 
 -- ---- the lead
 
