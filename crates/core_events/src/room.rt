@@ -154,6 +154,7 @@ impl<Q: SiblingQueue, G: Guard> Room for CoreRoom<Q, G> {
 
     ghost spare = { λ room. room.spare };
 
+    #[inline(always)]
     fn apply(&mut self, actor: Actor, event: Event) -> Reply {
         let reply = counted::<Q, G, Brand>(&mut self.state, event, Blank::new(1));
         self.entries.push_reserved(Entry {
