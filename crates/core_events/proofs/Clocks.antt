@@ -1,5 +1,5 @@
 -- Clocks: what a new slice and renewed leasts make of a room.
-use Rattle.std.proofs.Common.{◌≡◌, ℕ, ◌+◌, ◌<◌, Bool, true, false, cond, List, ◌++◌, map, take, drop, length, get_or, refl, sym, ap, ◌∙◌, Option, Some}
+use Rattle.std.proofs.Common.{◌≡◌, ℕ, zero, suc, ◌+◌, ◌<◌, Bool, true, false, cond, List, [], ◌∷◌, ◌++◌, map, take, drop, length, get_or, refl, sym, ap, ◌∙◌, Option, Some}
 use Rattle.std.specs.Prelude.{find, max, nat_lt}
 use Rattle.std.specs.Option.{option_map_or}
 use Rattle.cs_types.specs.Order.{foremost}
@@ -13,7 +13,7 @@ use Rattle.core_lanes.specs.Queued.{smallest_vtime}
 use Rattle.task_table.specs.Table.{Rises}
 use Rattle.task_table.proofs.Tables.{changed_each}
 use Rattle.core_lanes.proofs.Lists.{placed_more, placed_at}
-use Rattle.core_events.specs.Time.{with_least}
+use Rattle.core_events.specs.Time.{with_ages}
 
 -- ---- a new slice
 
@@ -44,40 +44,66 @@ pub sliced_not : (room : RoomState) (cpu : ℕ) (task : Task) → Rises room.tas
 sliced_not room cpu task rises found used behind =
     sym (with_task-same room task rises found) ∙ sliced_is room cpu task false false used behind
 
--- ---- the leasts
+-- ---- the siblings
 
--- what the smallest of its fair tasks makes of a sibling's least
-pub least_is : (room : RoomState) (cpu : ℕ) (sibling : SiblingState) (found : Option ℕ) → sibling_of room cpu ≡ sibling → found ≡ smallest_vtime (queued_on room cpu) →
-    with_sibling room cpu (record sibling { least = option_map_or (λ smallest. max sibling.least smallest) found sibling.least }) ≡ with_least room cpu
-least_is room cpu sibling found there is =
-    sym (λ i. with_sibling room cpu (record (there i) { least = option_map_or (λ smallest. max (there i).least smallest) (sym is i) (there i).least }))
+module _ (delta : ℕ) where
+  -- the sibling at a place, which has run delta ns longer, with its least renewed
+  abbrev pub renewed : RoomState → ℕ × SiblingState → SiblingState
+  renewed room place = record place.1 { ran = place.1.ran + delta; least = least_of room place.0 }
 
--- the sibling at a place with its least renewed
-abbrev pub renewed : RoomState → ℕ × SiblingState → SiblingState
-renewed room place = record place.1 { least = least_of room place.0 }
+  -- the room with one so
+  abbrev pub with_renewed : RoomState → ℕ → RoomState
+  with_renewed room cpu = with_sibling room cpu (renewed room (cpu, sibling_of room cpu))
 
--- the room whose first siblings have theirs renewed
-abbrev pub renewed_first : ℕ → RoomState → RoomState
-renewed_first count room =
-    record room { siblings = map (renewed room) (enumerate_from 0 (take count room.siblings)) ++ drop count room.siblings }
+  -- that is what the smallest of its fair tasks makes of its least
+  pub renewed_is : (room : RoomState) (cpu : ℕ) (sibling : SiblingState) (found : Option ℕ) → sibling_of room cpu ≡ sibling → found ≡ smallest_vtime (queued_on room cpu) →
+      with_sibling room cpu (record sibling { ran = sibling.ran + delta; least = option_map_or (λ smallest. max sibling.least smallest) found sibling.least }) ≡ with_renewed room cpu
+  renewed_is room cpu sibling found there is =
+      sym (λ i. with_sibling room cpu (record (there i) { ran = (there i).ran + delta; least = option_map_or (λ smallest. max (there i).least smallest) (sym is i) (there i).least }))
 
--- the least of a sibling that had this one
-abbrev least_from : RoomState → ℕ → ℕ → ℕ
-least_from room cpu least = option_map_or (λ smallest. max least smallest) (foremost nat_lt (fair_times room cpu)) least
+  -- the room whose first siblings are so
+  abbrev pub renewed_first : ℕ → RoomState → RoomState
+  renewed_first count room =
+      record room { siblings = map (renewed room) (enumerate_from 0 (take count room.siblings)) ++ drop count room.siblings }
 
--- one sibling more
-pub renewed_more : (cpu : ℕ) (room : RoomState) → cpu < length room.siblings → with_least (renewed_first cpu room) cpu ≡ renewed_first (cpu + 1) room
-renewed_more cpu room below =
-    let now = renewed_first cpu room in
-    let before = get_or now.siblings cpu absent in
-    let here : before ≡ get_or room.siblings cpu absent = placed_at (renewed room) 0 room.siblings cpu absent below in
-    ap (λ (siblings : List SiblingState). let after : RoomState = record room { siblings = siblings } in after)
-    (placed_more (renewed room) room.siblings now.siblings cpu (record before { least = least_of now cpu }) absent below refl
-    (ap (λ (sibling : SiblingState). let after : SiblingState = record before { least = least_from room cpu sibling.least } in after) here))
+  -- the next one is what it was
+  pub renewed_next : (cpu : ℕ) (room : RoomState) → cpu < length room.siblings → sibling_of (renewed_first cpu room) cpu ≡ sibling_of room cpu
+  renewed_next cpu room below = placed_at (renewed room) 0 room.siblings cpu absent below
 
--- and all
-pub renewed_all : (count : ℕ) (room : RoomState) → count ≡ length room.siblings → renewed_first count room ≡ with_leasts room
-renewed_all count room all =
-    ap (λ (siblings : List SiblingState). let now : RoomState = record room { siblings = siblings } in now)
-    ((λ i. map (renewed room) (enumerate_from 0 ((ap (λ n. take n room.siblings) all ∙ take-length room.siblings) i)) ++ (ap (λ n. drop n room.siblings) all ∙ drop-length room.siblings) i)
-    ∙ append-nil (map (renewed room) (enumerate_from 0 room.siblings)))
+  -- the least of a sibling that had this one
+  abbrev least_from : RoomState → ℕ → ℕ → ℕ
+  least_from room cpu least = option_map_or (λ smallest. max least smallest) (foremost nat_lt (fair_times room cpu)) least
+
+  -- one sibling more
+  pub renewed_more : (cpu : ℕ) (room : RoomState) → cpu < length room.siblings → with_renewed (renewed_first cpu room) cpu ≡ renewed_first (cpu + 1) room
+  renewed_more cpu room below =
+      let now = renewed_first cpu room in
+      let before = get_or now.siblings cpu absent in
+      ap (λ (siblings : List SiblingState). let after : RoomState = record room { siblings = siblings } in after)
+      (placed_more (renewed room) room.siblings now.siblings cpu (record before { ran = before.ran + delta; least = least_of now cpu }) absent below refl
+      (ap (λ (sibling : SiblingState). let after : SiblingState = record before { ran = before.ran + delta; least = least_from room cpu sibling.least } in after)
+      (renewed_next cpu room below)))
+
+  -- a least is the same among siblings that have run longer
+  same_least : (siblings : List SiblingState) (cpu : ℕ) →
+      (get_or (map (λ (sibling : SiblingState). record sibling { ran = sibling.ran + delta }) siblings) cpu absent).least ≡ (get_or siblings cpu absent).least
+  same_least [] cpu = refl
+  same_least (sibling ∷ siblings) zero = refl
+  same_least (sibling ∷ siblings) (suc cpu) = same_least siblings cpu
+
+  -- each has run longer before its least is renewed, or with that
+  at_once : (room : RoomState) (n : ℕ) (siblings : List SiblingState) →
+      map (renewed room) (enumerate_from n siblings)
+      ≡ map (λ (numbered : ℕ × SiblingState). record numbered.1 { least = least_of (with_ages delta room) numbered.0 })
+      (enumerate_from n (map (λ (sibling : SiblingState). record sibling { ran = sibling.ran + delta }) siblings))
+  at_once room n [] = refl
+  at_once room n (sibling ∷ siblings) =
+      λ i. (record sibling { ran = sibling.ran + delta; least = least_from room n (sym (same_least room.siblings n) i) }) ∷ at_once room (n + 1) siblings i
+
+  -- and all
+  pub renewed_all : (count : ℕ) (room : RoomState) → count ≡ length room.siblings → renewed_first count room ≡ with_leasts (with_ages delta room)
+  renewed_all count room all =
+      ap (λ (siblings : List SiblingState). let now : RoomState = record room { siblings = siblings } in now)
+      ((λ i. map (renewed room) (enumerate_from 0 ((ap (λ n. take n room.siblings) all ∙ take-length room.siblings) i)) ++ (ap (λ n. drop n room.siblings) all ∙ drop-length room.siblings) i)
+      ∙ append-nil (map (renewed room) (enumerate_from 0 room.siblings))
+      ∙ at_once room 0 room.siblings)

@@ -1,7 +1,7 @@
 -- Growth: the running tasks grow sibling by sibling.
-use Rattle.std.proofs.Common.{◌≡◌, ℕ, ◌+◌, ◌*◌, ◌<◌, ◌≤◌, Bool, true, false, cond, not, List, [], ◌∷◌, map, take, length, refl, sym, ap, ◌∙◌, arith, Option, Some, None, eqb-true}
-use Rattle.std.specs.Prelude.{◌&&◌, ◌||◌, ◌==◌, find, All}
-use Rattle.std.specs.List.{AllByRecursion}
+use Rattle.std.proofs.Common.{◌≡◌, ℕ, zero, suc, ◌+◌, ◌*◌, ◌<◌, ◌≤◌, Bool, true, false, cond, not, List, [], ◌∷◌, map, take, length, refl, sym, subst, ap, ◌∙◌, arith, Option, Some, None, eqb-true, add-one}
+use Rattle.std.specs.Prelude.{◌&&◌, ◌||◌, ◌==◌, find, All, IfSome, IsSomeAnd}
+use Rattle.std.specs.List.{AllByRecursion, list_any}
 use Rattle.std.specs.Option.{option_and_then}
 use Rattle.std.proofs.lemmas.Bool.{cond-false, cond_both}
 use Rattle.std.proofs.lemmas.Bool.Decides.{nat_tests}
@@ -20,8 +20,26 @@ use Rattle.cs_types.proofs.Homes.{running_is_found}
 use Rattle.cs_types.proofs.Times.{growth-le}
 use Rattle.task_table.specs.Table.{Rises}
 use Rattle.task_table.proofs.Tables.{changed_each, none_found}
-use Rattle.core_events.specs.Time.{is_run_by, grown_among, grown_on, with_growth_on}
 use Rattle.core_events.proofs.Changes.{KeepsTask}
+
+-- ---- who grows
+
+-- whether one of these siblings runs the task with the pid
+abbrev pub is_run_by : List SiblingState → ℕ → Bool
+is_run_by siblings pid = list_any (λ (sibling : SiblingState). is_run sibling.run (Some pid)) siblings
+
+-- a task grows where one of these siblings runs it
+abbrev pub grown_among : List SiblingState → ℕ → Task → Task
+grown_among siblings delta task = cond (is_run_by siblings task.spec.pid) (grown_by delta task.spec.policy task) task
+
+-- a task grows where the sibling runs it and no lower one does
+abbrev pub grown_on : RoomState → ℕ → ℕ → Task → Task
+grown_on room cpu delta task =
+    cond (is_run (sibling_of room cpu).run (Some task.spec.pid) && not (is_run_by (take cpu room.siblings) task.spec.pid))
+    (grown_by delta task.spec.policy task) task
+
+abbrev pub with_growth_on : RoomState → ℕ → ℕ → RoomState
+with_growth_on room cpu delta = record room { tasks = map (grown_on room cpu delta) room.tasks }
 
 -- ---- one task
 
@@ -121,12 +139,7 @@ module _ (room : RoomState) (cpu delta : ℕ) where
     by_run (Some pid) is = growth_is pid is ∙ by_lower pid (not (lower pid)) (sym (ap (option_and_then (task_of room)) is) ∙ nothing)
 
   module _ (task : Task) (runs : running_on room cpu ≡ Some task) where
-    -- and where a lower sibling runs it too
-    pub grown_lower : lower task.spec.pid ≡ true → with_growth_on room cpu delta ≡ room
-    grown_lower is =
-        growth_is task.spec.pid (running_is_found room cpu task runs).0 ∙ ap (λ b. grown_where task.spec.pid (not b)) is ∙ ap (with_tasks room) (map-id room.tasks)
-
-    -- Else the task grows.
+    -- and the task grows where no lower one runs it too
     pub grown_here : Rises room.tasks → lower task.spec.pid ≡ false → with_task room (grow delta task) ≡ with_growth_on room cpu delta
     grown_here rises none =
         let found = running_is_found room cpu task runs in
@@ -135,6 +148,37 @@ module _ (room : RoomState) (cpu delta : ℕ) where
         ∙ ap (with_tasks room) (changed_each (grow delta) room.tasks task rises found.1)
         ∙ ap (λ b. grown_where task.spec.pid (not b)) (sym none)
         ∙ sym (growth_is task.spec.pid found.0)
+
+-- ---- no task is run by two
+
+-- where each sibling runs a task that is at home there, no lower one runs the task of this one
+pub runs_alone : (room : RoomState) (cpu pid : ℕ) →
+    ((cpu : ℕ) → IfSome (sibling_of room cpu).run (λ pid. IsSomeAnd (task_of room pid) (λ task. task.home ≡ cpu))) →
+    cpu < length room.siblings → (sibling_of room cpu).run ≡ Some pid → is_run_by (take cpu room.siblings) pid ≡ false
+runs_alone room cpu pid own below runs = go cpu (omega arith) where
+  IsHome : ℕ → ℕ → Type 0
+  IsHome n p = IsSomeAnd (task_of room p) (λ task. task.home ≡ n)
+
+  here : IsHome cpu pid
+  here = subst (λ (run : Option ℕ). IfSome run (IsHome cpu)) runs (own cpu)
+
+  one_home : (found : Option Task) (a b : ℕ) → IsSomeAnd found (λ task. task.home ≡ a) → IsSomeAnd found (λ task. task.home ≡ b) → a ≡ b
+  one_home None a b is too = absurd is
+  one_home (Some task) a b is too = sym is ∙ too
+
+  other : (n : ℕ) → n < cpu → (run : Option ℕ) → IfSome run (IsHome n) → is_run run (Some pid) ≡ false
+  other n under None home = refl
+  other n under (Some p) home = by_test (p == pid) refl where
+    by_test : (test : Bool) → (p == pid) ≡ test → (p == pid) ≡ false
+    by_test true same = absurd (omega (arith, under, one_home (task_of room pid) n cpu (subst (IsHome n) (eqb-true p pid same) home) here))
+    by_test false differs = differs
+
+  go : (n : ℕ) → n ≤ cpu → is_run_by (take n room.siblings) pid ≡ false
+  go zero le = refl
+  go (suc n) le =
+      ap (λ k. is_run_by (take k room.siblings) pid) (sym (add-one n))
+      ∙ list_any_more (λ (sibling : SiblingState). is_run sibling.run (Some pid)) room.siblings n absent (omega (arith, le, below))
+      ∙ (λ i. go n (omega (arith, le)) i || other n (omega (arith, le)) (sibling_of room n).run (own n) i)
 
 -- ---- sibling by sibling
 

@@ -1,6 +1,6 @@
 -- Views: what the machine shows of its state is what the fold of its entries shows.
 use Rattle.std.proofs.Common.{◌+◌, zero, suc, [], ◌∷◌, map, ◌≡◌, ℕ, ◌<◌, true, false, List, refl, length, get_or, ltb, sym, ap, ◌∙◌, subst, arith, Option, Some, None, Bor, is_some}
-use Rattle.std.specs.Prelude.{All, find, IfSome, unwrap_or, option_copied, slice_get}
+use Rattle.std.specs.Prelude.{All, find, IfSome, IsSomeAnd, unwrap_or, option_copied, slice_get}
 use Rattle.std.specs.Option.{option_map}
 use Rattle.std.proofs.lemmas.List.Elements.{All-head, All-tail, All-weaker}
 use Rattle.cs_types.specs.declared.view.EndView.{EndView}
@@ -12,10 +12,12 @@ use Rattle.std.proofs.lemmas.Option.{slice_get_past, slice_get_read}
 use Rattle.std.proofs.lemmas.Bool.{cond-true, cond-false, ltb-true, ltb-false}
 use Rattle.cs_types.specs.declared.view.CpuView.{CpuView}
 use Rattle.cs_types.specs.Scenario.{IsPlayable}
-use Rattle.cs_types.specs.Room.{Opening, RoomState, SiblingState, Waiting, has_pid, sibling_of}
+use Rattle.cs_types.specs.Room.{Opening, RoomState, SiblingState, Waiting, has_pid, task_of, sibling_of}
 use Rattle.cs_types.specs.Touches.{own_number, pick_number}
 use Rattle.cs_types.specs.View.{cpu_view, end_view, task_after, task_view, forced_of}
 use Rattle.cs_types.specs.History.{History, AreEvents, IsLegal, moment_of, fold_of, ledger_of}
+use Rattle.cs_types.proofs.Spots.{spot_of, spot_at}
+use Rattle.cs_types.proofs.Fits.{IsAt}
 use Rattle.cs_types.proofs.Trust.{holds-moment_of}
 use Rattle.core_lanes.specs.declared.queue.SiblingQueue.{Ghosts}
 use Rattle.core_lanes.specs.declared.lane.Lane.{Lane}
@@ -23,7 +25,8 @@ use Rattle.core_lanes.specs.Lanes.{lane_state, lane_view}
 use Rattle.core_lanes.specs.Numbers.{Numbers}
 use Rattle.core_pick.specs.Schedules.{own_of}
 use Rattle.core_lanes.proofs.Stays.{lane_at}
-use Rattle.core_events.specs.State.{room_with, state_numbers, IsSound, IsGone}
+use Rattle.core_events.specs.State.{both, room_with, state_numbers, IsSound, IsGone}
+use Rattle.core_events.specs.Time.{RunTheirOwn}
 use Rattle.core_events.specs.declared.state.State.{State}
 use Rattle.cs_types.specs.declared.task.Task.{Task}
 use Rattle.core_events.proofs.Machines.{Folds}
@@ -121,6 +124,23 @@ behind_of opening state entries folds as_many playable events legal cpu below =
       below_by : (waiting : Waiting) (own other pick last : ℕ) → own ≡ other → pick ≡ last → IfSome waiting (λ run. other < last) → IfSome waiting (λ run. own < pick)
       below_by None own other pick last same too low = tt
       below_by (Some run) own other pick last same too low = omega (arith, same, too, low)
+
+-- each sibling runs idle or a living task that is at home there
+pub own_run : {Q G : Type 0} {g : Ghosts Q} (opening : Opening) (state : State Q G g) (entries : History) → Folds opening state entries →
+    IsPlayable opening.scenario → AreEvents opening entries → IsLegal opening entries → RunTheirOwn (both state)
+own_run opening state entries folds playable events legal beside cpu =
+    subst (λ (room : RoomState). IfSome (sibling_of room cpu).run (λ pid. IsSomeAnd (task_of room pid) (λ task. task.home ≡ cpu))) (sym folds.fold)
+    (by_run (sibling_of room cpu).run ((holds-moment_of opening entries playable events legal).fits cpu).runs) where
+      room : RoomState
+      room = fold_of opening entries
+
+      by_task : (found : Option Task) → IsAt cpu (option_map spot_of found) → IsSomeAnd found (λ task. task.home ≡ cpu)
+      by_task None here = absurd here
+      by_task (Some task) here = here.1
+
+      by_run : (run : Option ℕ) → IfSome run (λ pid. IsAt cpu (spot_at room pid)) → IfSome run (λ pid. IsSomeAnd (task_of room pid) (λ task. task.home ≡ cpu))
+      by_run None here = tt
+      by_run (Some pid) here = by_task (task_of room pid) here
 
 some_shown : {Q G : Type 0} {g : Ghosts Q} (opening : Opening) (state : State Q G g) (entries : History) (cpu : ℕ) (x : Lane Q) → Folds opening state entries →
     length state.core.lanes.items ≡ opening.scenario.siblings → ltb cpu (length state.core.lanes.items) ≡ true → x ≡ get_or state.core.lanes.items cpu x →

@@ -11,6 +11,7 @@ use Rattle.core_lanes.specs.declared.lanes.Core.{Core}
 use Rattle.core_lanes.specs.Lanes.{Beside, room_of, Agree}
 use Rattle.core_lanes.specs.Numbers.{Numbers, numbers_of, with_ended}
 use Rattle.core_pick.specs.Schedules.{own_of, IsPaid}
+use Rattle.core_events.specs.Time.{RunTheirOwn}
 use Rattle.core_events.specs.declared.state.State.{State}
 
 -- ---- the room
@@ -103,6 +104,7 @@ pub record IsReady {Q G : Type 0} {g : Ghosts Q} (state : State Q G g) : Type 0 
   pub sound : IsSound state
   pub time : IsOnTime state
   pub paid : IsPaid state.clock (both state)
+  pub own : RunTheirOwn (both state)
   pub behind : (cpu : ℕ) → cpu < length state.core.lanes.items →
       IfSome (sibling_of (room_with [] state) cpu).waiting (λ run. own_of cpu (state_numbers state) < (state_numbers state).pick)
   pub spares : HasSpares state

@@ -1,7 +1,7 @@
 //! What an advance of the clock and a tick of a sibling's timer do. It is a file of its own since these
 //! alone move time.
 
-ghost use Rattle.std.specs.Prelude.{◌≡◌, ℕ, ◌+◌, ◌*◌, ◌^◌, ◌<◌, ◌≤◌, ◌||◌, length, map, All};
+ghost use Rattle.std.specs.Prelude.{◌≡◌, ℕ, ◌+◌, ◌*◌, ◌^◌, ◌<◌, ◌≤◌, ◌||◌, map, All};
 ghost use Rattle.cs_types.specs.declared.reply.Reply.TheVariants.{Ticked};
 ghost use Rattle.cs_types.specs.Scenario.{IsPolicy};
 ghost use Rattle.cs_types.specs.Room.{running_on};
@@ -13,11 +13,11 @@ ghost use Rattle.core_lanes.specs.Lanes.{Beside, at, lane_state, room_of, Agree,
 ghost use Rattle.core_lanes.specs.Changes.{Changes};
 ghost use Rattle.core_pick.specs.Schedules.{IsPaid, Charges};
 ghost use Rattle.core_events.specs.Moments.{Advances};
-ghost use Rattle.core_events.specs.Time.{MayAdvance, is_run_by, with_growth_on, aged, with_least};
+ghost use Rattle.core_events.specs.Time.{RunTheirOwn, MayAdvance, with_ages};
 
-use core_lanes::{Core, Lane, SiblingQueue, is_fair};
+use core_lanes::{Core, SiblingQueue, is_fair};
 use core_pick::charge;
-use cs_types::{Cpu, Pid, Policy, Steps, Task};
+use cs_types::{Cpu, Policy, Steps, Task};
 use fair_queue::grow;
 use std::sync::ledger::Ledger;
 use task_table::TaskTable;
@@ -29,54 +29,21 @@ const SLICE: u64 = 100_000_000;
 const PATIENCE: u64 = 6_000_000;
 
 /// A running task as it is `delta` ns later.
-fn grown(task: Task, delta: u64) -> Task
+fn grown(mut task: Task, delta: u64) -> Task
     requires policy { IsPolicy task.spec.policy }
     requires used { task.used + delta < 2 ^ 64 }
     requires vtime { task.vtime + 69 * delta < 2 ^ 128 }
     ensures { result ≡ grown_by delta task.spec.policy task }
 {
     match task.spec.policy {
-        Policy::Rr(_) => Task {
-            used: task.used + delta,
-            ..task
-        },
-        Policy::Fair(nice) => Task {
-            vtime: task.vtime + grow(delta, nice),
-            ..task
-        },
-        _ => task,
+        Policy::Rr(_) => task.used += delta,
+        Policy::Fair(nice) => task.vtime += grow(delta, nice),
+        _ => {}
     }
+    task
 }
 
-/// Whether one of the siblings runs the task with the pid.
-fn is_run_by<Q: Drop>(lanes: &[Lane<Q>], pid: Pid) -> bool
-    ensures { result ≡ is_run_by (map lane_state lanes.now) pid }
-{
-    lanes.iter().any(|lane| lane.runs(pid))
-}
-
-/// The task that the sibling runs grows by `delta` ns, unless a lower one runs it too.
-fn grow_on<Q: SiblingQueue, L: Ledger>(
-    core: &mut Core<Q>,
-    table: &mut TaskTable,
-    cpu: Cpu,
-    delta: u64,
-    steps: &mut Steps<L>,
-)
-    requires at { AgreesAt cpu (core.old, table.old) }
-    requires used { All (λ task. task.used + delta < 2 ^ 64) table.old.tasks }
-    requires vtimes { All (λ task. task.vtime + 69 * delta < 2 ^ 128) table.old.tasks }
-    ensures { Changes (core.old, table.old) (core.new, table.new) (λ room. with_growth_on room cpu delta) }
-{
-    let Some(task) = core.running_on(table, cpu) else {
-        return;
-    };
-    if !is_run_by(&core.lanes[..cpu as usize], task.spec.pid) {
-        core.change(table, grown(task, delta), steps);
-    }
-}
-
-/// The running tasks grow by `delta` ns.
+/// The running tasks grow by `delta` ns. No two siblings run one task.
 fn grow_tasks<Q: SiblingQueue, L: Ledger>(
     core: &mut Core<Q>,
     table: &mut TaskTable,
@@ -84,56 +51,37 @@ fn grow_tasks<Q: SiblingQueue, L: Ledger>(
     steps: &mut Steps<L>,
 )
     requires agree { Agree (core.old, table.old) }
+    requires own { RunTheirOwn (core.old, table.old) }
     requires delta { delta ≤ 1000000000 }
     requires used { All (λ task. task.used < 2 ^ 56) table.old.tasks }
     requires vtimes { All (λ task. task.vtime < 2 ^ 100) table.old.tasks }
     ensures { Changes (core.old, table.old) (core.new, table.new) (λ room. record room { tasks = map (grown room delta) room.tasks }) }
 {
     for cpu in 0..core.lanes.len() {
-        grow_on(core, table, cpu as u8, delta, steps);
+        if let Some(task) = core.running_on(table, cpu as u8) {
+            core.change(table, grown(task, delta), steps);
+        }
     }
 }
 
-/// The siblings have run `delta` ns longer.
-fn age<Q: Drop>(lanes: &mut [Lane<Q>], delta: u64)
-    requires { All (λ sibling. sibling.ran + delta < 2 ^ 64) (map lane_state lanes.old) }
-    ensures states { map lane_state lanes.new ≡ map (aged delta) (map lane_state lanes.old) }
-    ensures numbers { map (λ lane. lane.number) lanes.new ≡ map (λ lane. lane.number) lanes.old }
-    ensures queues { map (λ lane. lane.queue) lanes.new ≡ map (λ lane. lane.queue) lanes.old }
-{
-    for lane in lanes.iter_mut() {
-        lane.ran += delta;
-    }
-}
-
-/// The least virtual time of the sibling becomes the greater of itself and the smallest of the fair tasks
-/// that are queued there.
-fn renew_least<Q: SiblingQueue, L: Ledger>(
+/// The siblings have run `delta` ns longer, and the least virtual time of each becomes the greater of itself
+/// and the smallest of the fair tasks that are queued there.
+fn renew_siblings<Q: SiblingQueue, L: Ledger>(
     core: &mut Core<Q>,
     table: &TaskTable,
-    cpu: Cpu,
-    steps: &mut Steps<L>,
-)
-    requires { AgreesAt cpu (core.old, table.now) }
-    ensures { Changes (core.old, table.now) (core.new, table.now) (λ room. with_least room cpu) }
-{
-    let lane = &mut core.lanes[cpu as usize];
-    if let Some(smallest) = lane.queue.smallest_vtime(table, cpu, steps) {
-        lane.least = lane.least.max(smallest);
-    }
-}
-
-/// The least virtual times of the siblings are renewed.
-fn renew_leasts<Q: SiblingQueue, L: Ledger>(
-    core: &mut Core<Q>,
-    table: &TaskTable,
+    delta: u64,
     steps: &mut Steps<L>,
 )
     requires agree { Agree (core.old, table.now) }
-    ensures { Changes (core.old, table.now) (core.new, table.now) with_leasts }
+    requires ran { All (λ sibling. sibling.ran + delta < 2 ^ 64) (map lane_state core.old.lanes.items) }
+    ensures { Changes (core.old, table.now) (core.new, table.now) (λ room. with_leasts (with_ages delta room)) }
 {
     for cpu in 0..core.lanes.len() {
-        renew_least(core, table, cpu as u8, steps);
+        let lane = &mut core.lanes[cpu];
+        lane.ran += delta;
+        if let Some(smallest) = lane.queue.smallest_vtime(table, cpu as u8, steps) {
+            lane.least = lane.least.max(smallest);
+        }
     }
 }
 
@@ -151,8 +99,7 @@ pub fn advance<Q: SiblingQueue, L: Ledger>(
     ensures advances { Advances now delta (core.old, table.old) (core.new, table.new) }
 {
     grow_tasks(core, table, delta, steps);
-    age(&mut core.lanes, delta);
-    renew_leasts(core, table, steps);
+    renew_siblings(core, table, delta, steps);
     now + delta
 }
 

@@ -18,7 +18,7 @@ use Rattle.cs_types.proofs.Refusals.{refused_leaves}
 use Rattle.cs_types.proofs.BalancePlaces.{places-fold_of}
 use Rattle.cs_types.proofs.Times.{timely-fold_of, clock-step}
 use Rattle.cs_types.proofs.Accounts.{IsAccounted, account_of, charged_up_to, accounted-fold_of}
-use Rattle.core_events.proofs.Views.{total_kept, behind_of}
+use Rattle.core_events.proofs.Views.{total_kept, behind_of, own_run}
 use Rattle.cs_types.proofs.Timely.{IsTimely}
 use Rattle.core_lanes.specs.declared.lane.Lane.{Lane}
 use Rattle.core_lanes.specs.Numbers.{Numbers, is_fresh_by}
@@ -66,6 +66,8 @@ counted-reply-requires-clause-ready g c =
         totals = λ pid. subst (λ (r : RoomState). total_in a.state.tasks pid ≤ 255 * charged_up_to (account_of r)) (sym fold)
             (omega (arith, total_kept (opening_of a) a.state a.entries.items pid folds, accounted.totals pid));
       };
+      own = own_run (opening_of a) a.state a.entries.items folds c.self.invariant.playable c.self.invariant.events
+          (subst (IsLegal (opening_of a)) (sym c.self.invariant.history) (IsLegal-history_of (opening_of a) _));
       behind = behind_of (opening_of a) a.state a.entries.items folds c.self.invariant.siblings c.self.invariant.playable c.self.invariant.events
           (subst (IsLegal (opening_of a)) (sym c.self.invariant.history) (IsLegal-history_of (opening_of a) _));
       spares = record {

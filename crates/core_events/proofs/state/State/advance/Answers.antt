@@ -19,6 +19,7 @@ advance-self-requires-clause-may g c =
     let timely = time.timely [] in
     record {
       agree = c.requires.ready.sound.agree;
+      own = c.requires.ready.own;
       low = low_times old time;
       clock = time.clock;
       used = All-weaker (IsTimelyTask room) (λ (task : Task). task.used ≤ old.clock) (λ task is. is.used) old.tasks.tasks timely.tasks;
