@@ -6,7 +6,7 @@ use Rattle.std.specs.declared.cmp.Ordering.{Ordering}
 use Rattle.std.specs.declared.cmp.Ordering.TheVariants.{Less, Equal, Greater}
 use Rattle.order_tree.specs.Order.{Entry, key_cmp}
 use Rattle.order_tree.specs.Branch.{Branch}
-use Rattle.order_tree.specs.Balance.{entry_in, split, AreNear, Leans, HoldsSides, IsFork, IsEven}
+use Rattle.order_tree.specs.Balance.{entry_in, over, split, AreNear, Leans, HoldsSides, HasMany, IsFork, IsEven, IsLeaning}
 use Rattle.order_tree.specs.declared.tree.Node.{Node}
 use Rattle.order_tree.proofs.Entries.{is_sorted-front, is_sorted-back}
 use Rattle.order_tree.proofs.Heights.{fewest-fork}
@@ -50,19 +50,39 @@ leans-high Less l r h is most = omega arith
 leans-high Equal l r h is most = omega arith
 leans-high Greater l r h is most = omega arith
 
+pub IsEven-leaning : (node : Node) → IsLeaning node.left (entry_in node) node.right node.lean → IsEven node
+IsEven-leaning node is = IsEven-from node is.sides is.leans
+
+-- the same where the node's parts are known by other names
+pub IsEven-by : {left : Branch} {entry : Entry} {right : Branch} {lean : Ordering} → IsLeaning left entry right lean → (node : Node) → node.left ≡ left → entry_in node ≡ entry →
+    node.right ≡ right → node.lean ≡ lean → IsEven node
+IsEven-by {left} {entry} {right} {lean} is node left_is entry_is right_is lean_is =
+    IsEven-leaning node
+    (subst (λ l. IsLeaning l (entry_in node) node.right node.lean) (sym left_is)
+    (subst (λ e. IsLeaning left e node.right node.lean) (sym entry_is)
+    (subst (λ r. IsLeaning left entry r node.lean) (sym right_is) (subst (λ n. IsLeaning left entry right n) (sym lean_is) is))))
+
+pub many-leaning : {left : Branch} {entry : Entry} {right : Branch} {lean : Ordering} → IsLeaning left entry right lean → HasMany (over left entry right)
+many-leaning {left} {entry} {right} {lean} is = (IsFork-from left entry right lean is.sides is.leans).many
+
 -- ---- the parts of entries that rise
 
-abbrev Rising : List Entry → Type 0
+abbrev pub Rising : List Entry → Type 0
 Rising es = is_sorted key_cmp es ≡ true
+
+-- three parts with entries between them, told the one way and the other
+pub turned-right : (whole x : List Entry) (j : Entry) (y : List Entry) (k : Entry) (z : List Entry) → whole ≡ x ++ j ∷ y → whole ++ k ∷ z ≡ x ++ j ∷ (y ++ k ∷ z)
+turned-right whole x j y k z is = ap (λ l. l ++ k ∷ z) is ∙ append_assoc x (j ∷ y) (k ∷ z)
+
+pub turned-left : (whole x : List Entry) (j : Entry) (y : List Entry) (k : Entry) (z : List Entry) → whole ≡ y ++ k ∷ z → x ++ j ∷ whole ≡ (x ++ j ∷ y) ++ k ∷ z
+turned-left whole x j y k z is = ap (λ l. x ++ j ∷ l) is ∙ sym (append_assoc x (j ∷ y) (k ∷ z))
 
 -- beside an entry of the left side, what stands to the right of it
 pub rising-right : (whole x : List Entry) (j : Entry) (y : List Entry) (k : Entry) (z : List Entry) → whole ≡ x ++ j ∷ y → Rising (whole ++ k ∷ z) → Rising (y ++ k ∷ z)
 rising-right whole x j y k z is rising =
-    let parted : Rising (x ++ j ∷ (y ++ k ∷ z)) = subst Rising (ap (λ l. l ++ k ∷ z) is ∙ append_assoc x (j ∷ y) (k ∷ z)) rising in
-    (and_parts _ _ (is_sorted-back key_total x (j ∷ (y ++ k ∷ z)) parted)).1
+    (and_parts _ _ (is_sorted-back key_total x (j ∷ (y ++ k ∷ z)) (subst Rising (turned-right whole x j y k z is) rising))).1
 
 -- beside an entry of the right side, what stands to the left of it
 pub rising-left : (whole x : List Entry) (j : Entry) (y : List Entry) (k : Entry) (z : List Entry) → whole ≡ y ++ k ∷ z → Rising (x ++ j ∷ whole) → Rising (x ++ j ∷ y)
 rising-left whole x j y k z is rising =
-    let parted : Rising ((x ++ j ∷ y) ++ k ∷ z) = subst Rising (ap (λ l. x ++ j ∷ l) is ∙ sym (append_assoc x (j ∷ y) (k ∷ z))) rising in
-    is_sorted-front key_total (x ++ j ∷ y) (k ∷ z) parted
+    is_sorted-front key_total (x ++ j ∷ y) (k ∷ z) (subst Rising (turned-left whole x j y k z is) rising)

@@ -1,10 +1,8 @@
 -- The order of the keys: it is total, and only equal keys tie.
-use Rattle.std.proofs.Common.{◌≡◌, ◌≢◌, ℕ, ltb, refl}
-use Rattle.std.specs.Ordering.{ordering_then, nat_cmp, is_lt}
+use Rattle.std.proofs.Common.{◌≡◌, refl}
+use Rattle.std.specs.Ordering.{ordering_then, nat_cmp}
 use Rattle.std.specs.declared.cmp.Ordering.{Ordering}
 use Rattle.std.specs.declared.cmp.Ordering.TheVariants.{Less, Equal, Greater}
-use Rattle.std.proofs.Common.{arith}
-use Rattle.std.proofs.lemmas.Bool.Decides.{nat_tests}
 use Rattle.std.specs.Cmp.{IsTotalOrder, then_total, on_total, nat_cmp_total}
 use Rattle.std.specs.FinMap.{IsAntisymmetric, nat_cmp-IsAntisymmetric}
 use Rattle.order_tree.specs.Order.{key_cmp}
@@ -33,10 +31,3 @@ key_cmp-IsAntisymmetric x y e =
       rank = nat_cmp-IsAntisymmetric x.rank y.rank rank.0 i;
       stamp = nat_cmp-IsAntisymmetric x.stamp y.stamp rank.1 i;
     }
-
--- where two numbers differ, nothing after them decides
-pub is_lt-apart : (a b : ℕ) (rest : Ordering) → a ≢ b → is_lt (ordering_then (nat_cmp a b) rest) ≡ ltb a b
-is_lt-apart a b rest apart = grind (arith, nat_tests)
-
-pub is_lt-same : (a b : ℕ) (rest : Ordering) → a ≡ b → is_lt (ordering_then (nat_cmp a b) rest) ≡ is_lt rest
-is_lt-same a b rest same = grind (arith, nat_tests)

@@ -3,6 +3,8 @@ pub mod Keys
 pub mod Heights
 pub mod Forks
 pub mod Placed
+pub mod Turns
+pub mod Firsts
 pub mod Members
 pub mod Renamed
 pub mod Ranks

@@ -1,5 +1,5 @@
 -- A tree that was taken apart: where a key goes, and what a change of a side makes of the whole.
-use Rattle.std.proofs.Common.{◌≡◌, ℕ, ◌+◌, ◌*◌, ◌<◌, ◌≤◌, Bool, true, false, cond, List, ◌∷◌, ◌++◌, Box, Option, None, Some, length, refl, sym, ap, ◌∙◌, subst, arith, length-append}
+use Rattle.std.proofs.Common.{◌≡◌, ℕ, ◌+◌, ◌*◌, ◌<◌, ◌≤◌, Bool, true, false, cond, List, ◌∷◌, ◌++◌, Box, Option, None, Some, length, refl, sym, ap, ◌∙◌, subst, arith, length-append, MatchOption}
 use Rattle.std.specs.Prelude.{[], IsTrue, is_some, slice_get}
 use Rattle.std.specs.FinMap.{find, put, is_sorted}
 use Rattle.std.specs.Ordering.{is_lt}
@@ -13,7 +13,7 @@ use Rattle.std.specs.List as list
 use Rattle.std.specs.Option.{option_map, option_or}
 use Rattle.std.specs.declared.alloc.Global.{Global}
 use Rattle.order_tree.specs.Branch.{Branch, without, reaches}
-use Rattle.order_tree.specs.Balance.{entry_in, joined, branch_of, fewest, HasMany, Leans, HoldsSides, IsFork, IsEven, IsBalanced, IsRoot, IsTaken, IsTakenIf, IsUprooted}
+use Rattle.order_tree.specs.Balance.{entry_in, joined, branch_of, fewest, HasMany, Leans, HoldsSides, IsFork, IsEven, IsBalanced, IsRoot, IsTaken, IsTakenIf, IsUprooted, IsNode}
 use Rattle.order_tree.specs.declared.key.Key.{Key}
 use Rattle.order_tree.specs.declared.tree.Node.{Node}
 use Rattle.order_tree.proofs.Entries.{less_by, find-left, find-right, find-middle, put-left, put-right, is_sorted-put_of, where_key-left, where_key-right, where_key-middle, is_sorted-without, find_passes-left, find_passes-right}
@@ -29,9 +29,6 @@ sought key at es = list.find (λ (e : Entry). reaches at (key_cmp e.0 key)) es
 -- how the keys of two nodes compare, where it was asked of a copy whether one is below the other
 pub below : {a node : Node} (other : Node) {b : Bool} → a ≡ node → b ≡ is_lt (key_cmp a.key other.key) → b ≡ true → key_cmp node.key other.key ≡ Less
 below other a_is is holds = (λ i. key_cmp (sym a_is i).key other.key) ∙ less_by _ (sym is ∙ holds)
-
-pub compared_key : (key : Key) {b other : Node} {r : Ordering} → b ≡ other → r ≡ key_cmp key b.key → key_cmp key other.key ≡ r
-compared_key key b_is is = (λ i. key_cmp key (sym b_is i).key) ∙ sym is
 
 -- whether a node's key is above another, where a copy of it was compared
 pub reached : (key : Key) (at : Bool) {a node : Node} {r : Ordering} {b : Bool} → a ≡ node → r ≡ key_cmp a.key key → b ≡ reaches at r →
@@ -84,21 +81,17 @@ pub many-balanced : (root : Option (Box Node Global)) → IsBalanced root → Ha
 many-balanced None balanced = omega arith
 many-balanced (Some node) balanced = balanced.fork.many
 
--- a tree with no entry has no root
-pub no_root : (root : Option (Box Node Global)) → (branch_of root).entries ≡ [] → root ≡ None
-no_root None none = refl
-no_root (Some node) none = let count = ap length none ∙ refl in let more = length-append node.value.left.entries (entry_in node.value ∷ node.value.right.entries) in absurd (omega arith)
-
--- a node that is the root of a tree
-pub record IsNode (whole : Branch) (node : Node) : Type 0 where
-  pub root : IsRoot whole node.left (entry_in node) node.right
-  pub lean : Leans node.lean node.left.height node.right.height
-
 pub IsNode-from : {root : Option (Box Node Global)} {whole : Branch} {box : Box Node Global} {node : Node} → branch_of root ≡ whole → IsBalanced root →
     root ≡ Some box → node ≡ box.value → IsNode whole node
 IsNode-from {root} {whole} {box} {node} view_is balanced is same =
     let even : IsEven box.value = subst IsBalanced is balanced in
     subst (IsNode whole) (sym same) (record { root = IsRoot-from view_is balanced is; lean = even.lean })
+
+-- what a tree's root says of it, where there is one
+pub root-taken : (root : Option (Box Node Global)) {whole : Branch} → branch_of root ≡ whole → IsBalanced root →
+    MatchOption root (whole.height ≡ 0) (λ (node : Box Node Global). IsNode whole node.value)
+root-taken None view_is balanced = ap (λ (b : Branch). b.height) (sym view_is)
+root-taken (Some node) view_is balanced = IsNode-from {box = node} view_is balanced refl refl
 
 -- a node of which a side is exchanged
 module _ {whole : Branch} {node : Node} (at : IsNode whole node) (side : Branch) where
@@ -154,6 +147,22 @@ module _ {whole left : Branch} {entry : Entry} {right : Branch} (root : IsRoot w
     pub find-at_root : key_cmp key entry.0 ≡ Equal → find key_cmp key whole.entries ≡ Some entry.1
     find-at_root same = ap (find key_cmp key) root.entries ∙ find-middle key_total key left.entries entry right.entries root.fork.sides.rising same
 
+    -- what was found in a side, or is at the root, is what is found in the tree
+    pub left-found : {found : Option ℕ} → Less ≡ key_cmp key entry.0 → found ≡ find key_cmp key left.entries → found ≡ find key_cmp key whole.entries
+    left-found less is = is ∙ sym (find-left_of (sym less))
+
+    pub right-found : {found : Option ℕ} → Greater ≡ key_cmp key entry.0 → found ≡ find key_cmp key right.entries → found ≡ find key_cmp key whole.entries
+    right-found more is = is ∙ sym (find-right_of (sym more))
+
+    pub root-found : {found : Option ℕ} → Equal ≡ key_cmp key entry.0 → found ≡ Some entry.1 → found ≡ find key_cmp key whole.entries
+    root-found same is = is ∙ sym (find-at_root (sym same))
+
+    pub left-free : key_cmp key entry.0 ≡ Less → find key_cmp key whole.entries ≡ None → find key_cmp key left.entries ≡ None
+    left-free less free = sym (find-left_of less) ∙ free
+
+    pub right-free : key_cmp key entry.0 ≡ Greater → find key_cmp key whole.entries ≡ None → find key_cmp key right.entries ≡ None
+    right-free more free = sym (find-right_of more) ∙ free
+
     module _ (pid : ℕ) (free : find key_cmp key whole.entries ≡ None) (side : Branch) where
       pub IsPut-left : key_cmp key entry.0 ≡ Less → side.entries ≡ put key_cmp key pid left.entries → IsPut whole.entries key pid (joined side entry right)
       IsPut-left less is =
@@ -170,24 +179,24 @@ module _ {whole left : Branch} {entry : Entry} {right : Branch} (root : IsRoot w
           ∙ ap (put key_cmp key pid) (sym root.entries))
 
     module _ (side : Branch) where
-      pub IsCut-left : key_cmp key entry.0 ≡ Less → side.entries ≡ without key left.entries → IsCut whole.entries key (joined side entry right)
+      pub IsCut-left : Less ≡ key_cmp key entry.0 → side.entries ≡ without key left.entries → IsCut whole.entries key (joined side entry right)
       IsCut-left less is =
           IsCut-from _ _ _ rising_of
           (ap (λ l. l ++ entry ∷ right.entries) is
-          ∙ sym (where_key-left key_total key left.entries entry right.entries root.fork.sides.rising less)
+          ∙ sym (where_key-left key_total key left.entries entry right.entries root.fork.sides.rising (sym less))
           ∙ ap (without key) (sym root.entries))
 
-      pub IsCut-right : key_cmp key entry.0 ≡ Greater → side.entries ≡ without key right.entries → IsCut whole.entries key (joined left entry side)
+      pub IsCut-right : Greater ≡ key_cmp key entry.0 → side.entries ≡ without key right.entries → IsCut whole.entries key (joined left entry side)
       IsCut-right more is =
           IsCut-from _ _ _ rising_of
           (ap (λ r. left.entries ++ entry ∷ r) is
-          ∙ sym (where_key-right key_total key left.entries entry right.entries root.fork.sides.rising more)
+          ∙ sym (where_key-right key_total key left.entries entry right.entries root.fork.sides.rising (sym more))
           ∙ ap (without key) (sym root.entries))
 
-    pub IsCut-root : key_cmp key entry.0 ≡ Equal → IsCut whole.entries key (left.entries ++ right.entries)
+    pub IsCut-root : Equal ≡ key_cmp key entry.0 → IsCut whole.entries key (left.entries ++ right.entries)
     IsCut-root same =
         IsCut-from _ _ _ rising_of
-        (sym (where_key-middle key_total key left.entries entry right.entries root.fork.sides.rising same) ∙ ap (without key) (sym root.entries))
+        (sym (where_key-middle key_total key left.entries entry right.entries root.fork.sides.rising (sym same)) ∙ ap (without key) (sym root.entries))
 
     -- ---- a search for the first key above a given one, or at it
 
@@ -235,7 +244,7 @@ pub sides-raised : {whole : Branch} {node : Node} → IsNode whole node → (ent
 sides-raised {node = node} at entry others is many = record {
   rising =
       ap (λ r. is_sorted key_cmp (node.left.entries ++ r)) (sym is)
-      ∙ (IsCut-root at.root node.key (tied_itself key_total node.key)).rising;
+      ∙ (IsCut-root at.root node.key (sym (tied_itself key_total node.key))).rising;
   many_left = at.root.fork.sides.many_left;
   many_right = many;
 }

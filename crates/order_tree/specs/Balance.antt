@@ -23,11 +23,14 @@ entry_at node = option_map (λ node. entry_in node.now) node
 abbrev pub joined : Branch → Entry → Branch → List Entry
 joined left entry right = left.entries ++ entry ∷ right.entries
 
+-- what a tree with this entry at its root over these sides stands for
+abbrev pub over : Branch → Entry → Branch → Branch
+over left entry right = record { entries = joined left entry right; height = max left.height right.height + 1 }
+
 -- what a tree with this root stands for
 abbrev pub branch_of : Option (Box Node Global) → Branch
 branch_of None = record { entries = []; height = 0 }
-branch_of (Some node) =
-    record { entries = joined node.value.left (entry_in node.value) node.value.right; height = max node.value.left.height node.value.right.height + 1 }
+branch_of (Some node) = over node.value.left (entry_in node.value) node.value.right
 
 -- the fewest entries that a balanced tree of this height has
 abbrev pub fewest : ℕ → ℕ
@@ -89,6 +92,11 @@ pub record IsRoot (whole left : Branch) (entry : Entry) (right : Branch) : Type 
   pub entries : whole.entries ≡ joined left entry right
   pub fork : IsFork left entry whole.height right
 
+-- a node that is the root of a tree
+pub record IsNode (whole : Branch) (node : Node) : Type 0 where
+  pub root : IsRoot whole node.left (entry_in node) node.right
+  pub lean : Leans node.lean node.left.height node.right.height
+
 -- a tree as its first entry and the tree of the others, which is a level lower or as high
 pub record IsFirst (whole : Branch) (entry : Entry) (others : Branch) (lower : Bool) : Type 0 where
   pub entries : whole.entries ≡ entry ∷ others.entries
@@ -122,6 +130,22 @@ IsHighLeft (Some node) = IsHigh node.value node.value.left.height node.value.rig
 abbrev pub IsHighRight : Option (Box Node Global) → Type 0
 IsHighRight None = ⊥
 IsHighRight (Some node) = IsHigh node.value node.value.right.height node.value.left.height
+
+-- ---- nodes that come over others
+
+-- two sides that lean so, below an entry
+pub record IsLeaning (left : Branch) (entry : Entry) (right : Branch) (lean : Ordering) : Type 0 where
+  pub sides : HoldsSides left entry right
+  pub leans : Leans lean left.height right.height
+
+-- Of three nodes the outer ones can take the sides of the middle one: the keys rise then, and their other sides are as high as the higher of these.
+pub record CanSpread (low middle high : Node) : Type 0 where
+  pub rising : IsTrue (is_sorted key_cmp (joined (over low.left (entry_in low) middle.left) (entry_in middle) (over middle.right (entry_in high) high.right)))
+  pub below : HoldsSides low.left (entry_in low) middle.left
+  pub above : HoldsSides middle.right (entry_in high) high.right
+  pub lean : Leans middle.lean middle.left.height middle.right.height
+  pub left_levels : low.left.height ≡ max middle.left.height middle.right.height
+  pub right_levels : high.right.height ≡ max middle.left.height middle.right.height
 
 -- the height that a root comes to where its sides are then as high as each other
 abbrev pub left_levels : Option (Box Node Global) → ℕ

@@ -85,6 +85,7 @@ impl OrderTree {
     }
 
     /// Puts a pid at a key where none is.
+    #[inline(always)]
     pub fn insert<L: Ledger>(&mut self, key: Key, pid: Pid, steps: &mut Steps<L>)
         requires spare { 0 < self.old.spare }
         requires free { map.get self.old.members key ≡ None }
@@ -125,8 +126,7 @@ impl OrderTree {
     {
         mem::replace(&mut self.tree, Tree::empty()).give(&mut self.nodes);
         self.first = None;
-        self.spare += self.count;
-        self.count = 0;
+        free_all(&mut self.count, &mut self.spare);
     }
 
     /// Takes out all pids, and tells them by rising key, each with the stamp of its key. It compares no key.
@@ -136,8 +136,9 @@ impl OrderTree {
         ensures members { self.new.members ≡ map.empty }
         ensures spare { self.new.spare ≡ self.old.spare + map.len self.old.members }
     {
-        self.tree.tell(movers);
-        self.clear();
+        mem::replace(&mut self.tree, Tree::empty()).give_told(&mut self.nodes, movers);
+        self.first = None;
+        free_all(&mut self.count, &mut self.spare);
     }
 
     /// The least key, and the pid there. `None` exactly where there is no key.
@@ -174,6 +175,17 @@ impl OrderTree {
     {
         self.count
     }
+}
+
+/// As many more are spare as there were, and there is none.
+#[inline(always)]
+fn free_all(count: &mut u32, spare: &mut u32)
+    requires few { count.old + spare.old < 2 ^ 32 }
+    ensures count { count.new ≡ 0 }
+    ensures spare { spare.new ≡ spare.old + count.old }
+{
+    *spare += *count;
+    *count = 0;
 }
 
 /// The entry with the lesser key. Where one is not there it is the other.

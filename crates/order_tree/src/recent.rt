@@ -14,9 +14,7 @@ use crate::order::{OrderTree, lesser};
 use crate::tree::reaches;
 use cs_types::{OutOfMemory, Pid, Steps};
 use std::alloc::Global;
-use std::cmp::Ordering;
 use std::marker::Model;
-use std::mem;
 use std::sync::ledger::Ledger;
 
 /// Pids at keys, in rising order of the keys. To put a pid and then to take it out again changes no tree, so
@@ -78,9 +76,12 @@ impl RecentTree {
         ensures spare { self.new.spare + 1 ≡ self.old.spare }
         ensures counted { steps.new ≤ steps.old + most_comparisons (map.len self.old.members) }
     {
-        if let Some((last, other)) = mem::replace(&mut self.recent, Some((key, pid))) {
-            self.tree.insert(last, other, steps);
-        }
+        let Some((last, other)) = self.recent else {
+            self.recent = Some((key, pid));
+            return;
+        };
+        self.tree.insert(last, other, steps);
+        self.recent = Some((key, pid));
     }
 
     /// Takes out the pid at a key. `false` comes exactly where none is there, and then nothing changes.
@@ -91,7 +92,7 @@ impl RecentTree {
         ensures spare { self.new.spare ≡ self.old.spare + (if result then 1 else 0) }
         ensures counted { steps.new ≤ steps.old + most_comparisons (map.len self.old.members) }
     {
-        if is_at(self.recent, key, steps) {
+        if is_at(&self.recent, key, steps) {
             self.recent = None;
             return true;
         }
@@ -158,15 +159,15 @@ impl RecentTree {
 }
 
 /// Whether the entry, if there is one, is at this key.
-fn is_at<L: Ledger>(entry: Option<(Key, Pid)>, key: &Key, steps: &mut Steps<L>) -> bool
-    ensures at { result ≡ is_at entry key.now }
+fn is_at<L: Ledger>(entry: &Option<(Key, Pid)>, key: &Key, steps: &mut Steps<L>) -> bool
+    ensures at { result ≡ is_at entry.now key.now }
     ensures counted { steps.new ≤ steps.old + 1 }
 {
     let Some((other, _)) = entry else {
         return false;
     };
     steps.tick();
-    matches!(key.cmp(&other), Ordering::Equal)
+    key.cmp(other).is_eq()
 }
 
 /// The entry, where its key is above this one, or also at it where `at` is true.
@@ -179,10 +180,12 @@ fn reaching<L: Ledger>(
     ensures reaching { result ≡ reaching at key.now entry }
     ensures counted { steps.new ≤ steps.old + 1 }
 {
-    let (other, pid) = entry?;
+    let Some((other, _)) = &entry else {
+        return None;
+    };
     steps.tick();
     if reaches(other.cmp(key), at) {
-        Some((other, pid))
+        entry
     } else {
         None
     }

@@ -1,13 +1,13 @@
 //! The tree: its nodes, and how they keep in balance.
 
-ghost use Rattle.std.specs.Prelude.{◌≡◌, ◌≢◌, ◌+◌, ◌*◌, ◌≤◌, [], ◌∷◌, ◌++◌, true, length, max, ◌↔◌, IsTrue, None, IfSome, MatchOption, if◌then◌else◌, slice_get, vec_capacity, map};
+ghost use Rattle.std.specs.Prelude.{◌≡◌, ◌≢◌, ◌+◌, ◌*◌, ◌≤◌, [], ◌∷◌, ◌++◌, true, length, max, ◌↔◌, IsTrue, None, Some, MatchOption, if◌then◌else◌, slice_get, vec_capacity, map};
 ghost use Rattle.std.specs.List as list;
 ghost use Rattle.std.specs.Option.{option_map, option_or};
 ghost use Rattle.std.specs.FinMap.{find, put, is_sorted};
 ghost use Rattle.cs_types.specs.Comparisons.{digits};
 ghost use Rattle.order_tree.specs.Order.{key_cmp, stamped};
 ghost use Rattle.order_tree.specs.Branch.{without, reaches};
-ghost use Rattle.order_tree.specs.Balance.{entry_in, entry_at, joined, branch_of, split, HasMany, IsBare, Leans, HoldsSides, IsBalanced, IsRoot, IsFirst, TiltsLeft, TiltsRight, IsHighLeft, IsHighRight, left_levels, right_levels, IsUprooted};
+ghost use Rattle.order_tree.specs.Balance.{entry_in, entry_at, joined, branch_of, over, split, HasMany, IsBare, IsLeaning, CanSpread, IsEven, IsBalanced, IsRoot, IsNode, IsFirst, TiltsLeft, TiltsRight, IsHighLeft, IsHighRight, left_levels, right_levels, IsUprooted};
 
 use crate::key::Key;
 use crate::movers::Movers;
@@ -96,7 +96,10 @@ impl Node {
     pub fn hold(&mut self, key: Key, pid: Pid)
         ensures { entry_in self.new ≡ (key, pid) }
     {
-        self.key = key;
+        self.key.group = key.group;
+        self.key.class = key.class;
+        self.key.rank = key.rank;
+        self.key.stamp = key.stamp;
         self.pid = pid;
     }
 }
@@ -116,7 +119,6 @@ impl Tree {
         ensures none { result ≡ None → self.height ≡ 0 }
         ensures shallow { self.height ≤ 2 * digits (length self.entries) }
         ensures parts { MatchOption result (self.entries ≡ []) (λ parts. IsRoot self parts.left (entry_in parts.node.value) parts.right) }
-        ensures node { IfSome result (λ parts. IsBare parts.node.value × Leans parts.node.value.lean parts.left.height parts.right.height) }
     {
         let mut node = self.root?;
         let left = mem::replace(&mut node.left, Tree::empty());
@@ -203,36 +205,25 @@ impl Tree {
 
     /// Takes out the node of the first entry. It compares no key. The result tells also whether the tree is a
     /// level lower then.
-    fn take_first(&mut self) -> Option<(Box<Node>, bool)>
-        ensures none { result ≡ None → self.new ≡ self.old }
-        ensures first { MatchOption result (self.old.entries ≡ []) (λ taken. IsFirst self.old (entry_in taken.0.value) self.new taken.1) }
+    fn take_first(&mut self) -> (Option<Box<Node>>, bool)
+        ensures none { result.0 ≡ None → self.new ≡ self.old }
+        ensures first { MatchOption result.0 (self.old.entries ≡ []) (λ node. IsFirst self.old (entry_in node.value) self.new result.1) }
         ensures many_before { HasMany self.old }
         ensures many { HasMany self.new }
     {
-        let root = self.root.as_mut()?;
+        let Some(root) = &mut self.root else {
+            return (None, false);
+        };
         let Node { left, right, .. } = &mut **root;
-        let Some((first, lower)) = left.take_first() else {
+        let (taken, lower) = left.take_first();
+        let Some(first) = taken else {
             let right = mem::replace(right, Tree::empty());
-            let first = mem::replace(&mut self.root, right.root)?;
-            return Some((first, true));
+            return (mem::replace(&mut self.root, right.root), true);
         };
         if !lower {
-            return Some((first, false));
+            return (Some(first), false);
         }
-        Some((first, !lean_right(&mut self.root)))
-    }
-
-    /// Tells its pids by rising key, each with the stamp of its key. It compares no key.
-    pub fn tell(&self, movers: &mut Movers)
-        requires room { length movers.old.items + length self.now.entries ≤ 256 }
-        ensures told { movers.new.items ≡ movers.old.items ++ map stamped self.now.entries }
-    {
-        let Some(node) = &self.root else {
-            return;
-        };
-        node.left.tell(movers);
-        movers.push((node.key.stamp, node.pid));
-        node.right.tell(movers);
+        (Some(first), !lean_right(&mut self.root))
     }
 
     /// Gives its nodes to the list, which has places for them. It compares no key.
@@ -247,6 +238,23 @@ impl Tree {
         parts.left.give(nodes);
         nodes.push_reserved(parts.node);
         parts.right.give(nodes);
+    }
+
+    /// The same, and each pid is told on the way, by rising key, with the stamp of its key.
+    pub fn give_told(self, nodes: &mut Vec<Box<Node>>, movers: &mut Movers)
+        requires places { length nodes.old.items + length self.entries ≤ vec_capacity nodes.old }
+        requires room { length movers.old.items + length self.entries ≤ 256 }
+        ensures nodes { length nodes.new.items ≡ length nodes.old.items + length self.entries }
+        ensures places { vec_capacity nodes.old ≤ vec_capacity nodes.new }
+        ensures told { movers.new.items ≡ movers.old.items ++ map stamped self.entries }
+    {
+        let Some(parts) = self.open() else {
+            return;
+        };
+        parts.left.give_told(nodes, movers);
+        movers.push((parts.node.key.stamp, parts.node.pid));
+        nodes.push_reserved(parts.node);
+        parts.right.give_told(nodes, movers);
     }
 
     /// Takes out the entry at the key, and gives the node that is spare then. `None` comes exactly where no
@@ -316,9 +324,7 @@ fn plant(root: &mut Option<Box<Node>>, mut node: Box<Node>) -> bool
     let leaf = &mut *node;
     strip(leaf);
     leaf.lean = Ordering::Equal;
-    let None = mem::replace(root, Some(node)) else {
-        unreachable!()
-    };
+    set_root(root, node);
     true
 }
 
@@ -343,43 +349,100 @@ fn prune(node: &mut Node)
     node.right = Tree::empty();
 }
 
-/// Puts a tree where none is. Nothing is let go, so a caller saves no registers for that.
+/// Takes out the root of a tree, with its sides, and leaves an empty tree.
 #[inline(always)]
-fn set_root(root: &mut Option<Box<Node>>, tree: Tree)
+fn take_root(place: &mut Tree) -> Option<Box<Node>>
+    ensures node { MatchOption result (place.old.height ≡ 0) (λ node. IsNode place.old node.value) }
+    ensures empty { place.new.entries ≡ [] }
+{
+    let old = mem::replace(place, Tree::empty());
+    old.root
+}
+
+/// Puts a node where none is. So nothing is let go, and a caller saves no registers for that.
+#[inline(always)]
+fn set_root(root: &mut Option<Box<Node>>, node: Box<Node>)
     requires none { root.old ≡ None }
-    ensures balanced { IsBalanced root.new }
-    ensures tree { branch_of root.new ≡ tree }
+    ensures { root.new ≡ Some node }
 {
-    let None = mem::replace(root, tree.root) else {
-        unreachable!()
-    };
+    mem::forget(mem::replace(root, Some(node)));
 }
 
-/// Puts a tree where an empty one is.
+/// Puts the tree of a node where an empty one is.
 #[inline(always)]
-fn hang(place: &mut Tree, tree: Tree)
+fn hang(place: &mut Tree, node: Box<Node>)
     requires empty { place.old.entries ≡ [] }
-    ensures { place.new ≡ tree }
+    requires even { IsEven node.value }
+    ensures { place.new ≡ branch_of (Some node) }
 {
-    let old = mem::replace(place, tree);
-    let None = old.root else { unreachable!() };
+    mem::forget(mem::replace(place, Tree { root: Some(node) }));
 }
 
-/// The tree of a node that has no sides, over two trees of nearly the same height.
+/// The middle one of three nodes over the other two, which get its sides for those that they lack.
 #[inline(always)]
-fn fork(left: Tree, mut node: Box<Node>, lean: Ordering, right: Tree) -> Tree
-    requires bare { IsBare node.value }
-    requires sides { HoldsSides left (entry_in node.value) right }
-    requires lean { Leans lean left.height right.height }
-    ensures entries { result.entries ≡ joined left (entry_in node.value) right }
-    ensures height { result.height ≡ max left.height right.height + 1 }
-    ensures many { HasMany result }
+fn spread(mut low: Box<Node>, mut middle: Box<Node>, mut high: Box<Node>) -> Box<Node>
+    requires lacking { (low.value.right.entries ≡ []) × (high.value.left.entries ≡ []) }
+    requires sides { CanSpread low.value middle.value high.value }
+    ensures even { IsEven result.value }
+    ensures tree { branch_of (Some result) ≡ over (over low.value.left (entry_in low.value) middle.value.left) (entry_in middle.value) (over middle.value.right (entry_in high.value) high.value.right) }
 {
-    let root = &mut *node;
-    hang(&mut root.left, left);
-    root.lean = lean;
-    hang(&mut root.right, right);
-    Tree { root: Some(node) }
+    let top = &mut *middle;
+    let below = &mut *low;
+    let above = &mut *high;
+    (below.lean, above.lean) = split(top.lean);
+    top.lean = Ordering::Equal;
+    mem::swap(&mut below.right, &mut top.left);
+    mem::swap(&mut above.left, &mut top.right);
+    hang(&mut top.left, low);
+    hang(&mut top.right, high);
+    middle
+}
+
+/// The upper one of two nodes over the lower, which gets the right side of the upper for the left one that it
+/// lacks. Then they lean so.
+#[inline(always)]
+fn raise_right(
+    mut upper: Box<Node>,
+    mut lower: Box<Node>,
+    upper_lean: Ordering,
+    lower_lean: Ordering,
+) -> Box<Node>
+    requires lacking { lower.value.left.entries ≡ [] }
+    requires below { IsLeaning upper.value.right (entry_in lower.value) lower.value.right lower_lean }
+    requires above { IsLeaning upper.value.left (entry_in upper.value) (over upper.value.right (entry_in lower.value) lower.value.right) upper_lean }
+    ensures even { IsEven result.value }
+    ensures tree { branch_of (Some result) ≡ over upper.value.left (entry_in upper.value) (over upper.value.right (entry_in lower.value) lower.value.right) }
+{
+    let top = &mut *upper;
+    let below = &mut *lower;
+    mem::swap(&mut below.left, &mut top.right);
+    below.lean = lower_lean;
+    hang(&mut top.right, lower);
+    top.lean = upper_lean;
+    upper
+}
+
+/// The same where the lower gets the left side of the upper for the right one that it lacks.
+#[inline(always)]
+fn raise_left(
+    mut upper: Box<Node>,
+    mut lower: Box<Node>,
+    upper_lean: Ordering,
+    lower_lean: Ordering,
+) -> Box<Node>
+    requires lacking { lower.value.right.entries ≡ [] }
+    requires below { IsLeaning lower.value.left (entry_in lower.value) upper.value.left lower_lean }
+    requires above { IsLeaning (over lower.value.left (entry_in lower.value) upper.value.left) (entry_in upper.value) upper.value.right upper_lean }
+    ensures even { IsEven result.value }
+    ensures tree { branch_of (Some result) ≡ over (over lower.value.left (entry_in lower.value) upper.value.left) (entry_in upper.value) upper.value.right }
+{
+    let top = &mut *upper;
+    let below = &mut *lower;
+    mem::swap(&mut below.right, &mut top.left);
+    below.lean = lower_lean;
+    hang(&mut top.left, lower);
+    top.lean = upper_lean;
+    upper
 }
 
 /// Brings a root into balance whose left side is a level higher than the root says. The result tells whether
@@ -439,33 +502,23 @@ fn turn_right(root: &mut Option<Box<Node>>) -> bool
     let Some(mut node) = mem::replace(root, None) else {
         unreachable!()
     };
-    let left = mem::replace(&mut node.left, Tree::empty());
-    let right = mem::replace(&mut node.right, Tree::empty());
-    let Some(outer) = left.open() else {
+    let Some(mut upper) = take_root(&mut node.left) else {
         unreachable!()
     };
-    match outer.node.lean {
-        Ordering::Greater => {
-            let inner = fork(outer.right, node, Ordering::Equal, right);
-            let tree = fork(outer.left, outer.node, Ordering::Equal, inner);
-            set_root(root, tree);
+    match upper.lean {
+        Ordering::Less => {
+            let Some(middle) = take_root(&mut upper.right) else {
+                unreachable!()
+            };
+            set_root(root, spread(upper, middle, node));
             false
         }
         Ordering::Equal => {
-            let inner = fork(outer.right, node, Ordering::Greater, right);
-            let tree = fork(outer.left, outer.node, Ordering::Less, inner);
-            set_root(root, tree);
+            set_root(root, raise_right(upper, node, Ordering::Less, Ordering::Greater));
             true
         }
-        Ordering::Less => {
-            let Some(middle) = outer.right.open() else {
-                unreachable!()
-            };
-            let (low_lean, high_lean) = split(middle.node.lean);
-            let low = fork(outer.left, outer.node, low_lean, middle.left);
-            let high = fork(middle.right, node, high_lean, right);
-            let tree = fork(low, middle.node, Ordering::Equal, high);
-            set_root(root, tree);
+        Ordering::Greater => {
+            set_root(root, raise_right(upper, node, Ordering::Equal, Ordering::Equal));
             false
         }
     }
@@ -483,33 +536,23 @@ fn turn_left(root: &mut Option<Box<Node>>) -> bool
     let Some(mut node) = mem::replace(root, None) else {
         unreachable!()
     };
-    let left = mem::replace(&mut node.left, Tree::empty());
-    let right = mem::replace(&mut node.right, Tree::empty());
-    let Some(outer) = right.open() else {
+    let Some(mut upper) = take_root(&mut node.right) else {
         unreachable!()
     };
-    match outer.node.lean {
+    match upper.lean {
         Ordering::Less => {
-            let inner = fork(left, node, Ordering::Equal, outer.left);
-            let tree = fork(inner, outer.node, Ordering::Equal, outer.right);
-            set_root(root, tree);
+            set_root(root, raise_left(upper, node, Ordering::Equal, Ordering::Equal));
             false
         }
         Ordering::Equal => {
-            let inner = fork(left, node, Ordering::Less, outer.left);
-            let tree = fork(inner, outer.node, Ordering::Greater, outer.right);
-            set_root(root, tree);
+            set_root(root, raise_left(upper, node, Ordering::Greater, Ordering::Less));
             true
         }
         Ordering::Greater => {
-            let Some(middle) = outer.left.open() else {
+            let Some(middle) = take_root(&mut upper.left) else {
                 unreachable!()
             };
-            let (low_lean, high_lean) = split(middle.node.lean);
-            let low = fork(left, node, low_lean, middle.left);
-            let high = fork(middle.right, outer.node, high_lean, outer.right);
-            let tree = fork(low, middle.node, Ordering::Equal, high);
-            set_root(root, tree);
+            set_root(root, spread(node, middle, upper));
             false
         }
     }
@@ -542,7 +585,8 @@ fn uproot(root: &mut Option<Box<Node>>) -> (Option<Box<Node>>, bool)
         right,
         ..
     } = &mut **node;
-    let Some((mut first, lower)) = right.take_first() else {
+    let (taken, lower) = right.take_first();
+    let Some(mut first) = taken else {
         let left = mem::replace(left, Tree::empty());
         return (mem::replace(root, left.root), true);
     };

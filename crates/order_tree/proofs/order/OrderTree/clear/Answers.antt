@@ -12,4 +12,5 @@ returns-clause-members c =
 pub returns-clause-spare : goal.returns-clause-spare
 returns-clause-spare c =
     rw (← c.self.view_is)
-    (ap (λ n. c.self.inside.spare + n) (sym (len-from_sorted key_cmp c.self.inside.tree.entries c.self.invariant.rising ∙ c.self.invariant.counted)))
+    (c.free_all.ensures.spare
+    ∙ ap (λ n. c.self.inside.spare + n) (sym (len-from_sorted key_cmp c.self.inside.tree.entries c.self.invariant.rising ∙ c.self.invariant.counted)))

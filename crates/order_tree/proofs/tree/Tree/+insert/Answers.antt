@@ -1,7 +1,7 @@
-use Rattle.std.proofs.Common.{rules, ◌≡◌, None, sym, ◌∙◌, arith}
+use Rattle.std.proofs.Common.{rules, ◌≡◌, None, ◌∙◌, arith}
 use Rattle.std.specs.FinMap.{find}
 use Rattle.order_tree.specs.Order.{key_cmp}
-use Rattle.order_tree.proofs.Placed.{below, not_below_root, sides_shorter, find-left_of, find-right_of, IsNode-from, IsPut-left, IsPut-right, sides-left, sides-right, leans-left, leans-right, tilts-left, tilts-right}
+use Rattle.order_tree.proofs.Placed.{below, not_below_root, sides_shorter, left-free, right-free, IsNode-from, IsPut-left, IsPut-right, sides-left, sides-right, leans-left, leans-right, tilts-left, tilts-right}
 use Rattle.order_tree.proofs.Forks.{IsEven-from}
 use Rattle.order_tree.proofs.tree.Tree.+insert.Goals as goal
 
@@ -12,7 +12,7 @@ insert-requires g t c κs within =
     let at = IsNode-from c.self.view_is c.self.invariant c.in-Some.is c.deref_mut.ensures.value in
     let less = below c.deref_mut.result.now c.deref.ensures c.is_below.ensures c.if-is_below.true in
     let free : find key_cmp c.args.node.value.key c.deref_mut.result.now.left.entries ≡ None =
-    sym (find-left_of at.root c.args.node.value.key less) ∙ c.requires.free in
+    left-free at.root c.args.node.value.key less c.requires.free in
     let short = sides_shorter at.root in
     search rules
 
@@ -57,7 +57,7 @@ insert-requires-2 g t c κs within =
     let at = IsNode-from c.self.view_is c.self.invariant c.in-Some.is c.deref_mut.ensures.value in
     let more = not_below_root at c.deref.ensures c.is_below.ensures c.if-is_below.false c.requires.free in
     let free : find key_cmp c.args.node.value.key c.deref_mut.result.now.right.entries ≡ None =
-    sym (find-right_of at.root c.args.node.value.key more) ∙ c.requires.free in
+    right-free at.root c.args.node.value.key more c.requires.free in
     let short = sides_shorter at.root in
     search rules
 
