@@ -1,9 +1,10 @@
 -- The order of the keys: it is total, and only equal keys tie.
-use Rattle.std.proofs.Common.{◌≡◌, refl}
-use Rattle.std.specs.Ordering.{ordering_then, nat_cmp}
+use Rattle.std.proofs.Common.{◌≡◌, ◌≢◌, ℕ, ltb, inl, inr, refl, sym, ap, ◌∙◌, arith}
+use Rattle.std.specs.Ordering.{ordering_then, nat_cmp, is_lt}
 use Rattle.std.specs.declared.cmp.Ordering.{Ordering}
 use Rattle.std.specs.declared.cmp.Ordering.TheVariants.{Less, Equal, Greater}
-use Rattle.std.specs.Cmp.{IsTotalOrder, then_total, on_total, nat_cmp_total}
+use Rattle.std.proofs.lemmas.Bool.{cases_order, lt-ltb, le-ltb}
+use Rattle.std.specs.Cmp.{IsTotalOrder, nat_cmp_is, then_total, on_total, nat_cmp_total}
 use Rattle.std.specs.FinMap.{IsAntisymmetric, nat_cmp-IsAntisymmetric}
 use Rattle.order_tree.specs.Order.{key_cmp}
 use Rattle.order_tree.specs.declared.key.Key.{Key}
@@ -31,3 +32,23 @@ key_cmp-IsAntisymmetric x y e =
       rank = nat_cmp-IsAntisymmetric x.rank y.rank rank.0 i;
       stamp = nat_cmp-IsAntisymmetric x.stamp y.stamp rank.1 i;
     }
+
+-- where two numbers differ, nothing after them decides
+pub is_lt-apart : (a b : ℕ) (rest : Ordering) → a ≢ b → is_lt (ordering_then (nat_cmp a b) rest) ≡ ltb a b
+is_lt-apart a b rest apart =
+    elim (cases_order a b) [
+      | inl same ↦ absurd (apart same)
+      | inr (inl less) ↦ ap (λ r. is_lt (ordering_then r rest)) (sym (nat_cmp_is a b Less less)) ∙ sym (lt-ltb a b less)
+      | inr (inr more) ↦ ap (λ r. is_lt (ordering_then r rest)) (sym (nat_cmp_is a b Greater more)) ∙ sym (le-ltb a b (omega arith))
+    ]
+
+pub is_lt-same : (a b : ℕ) (rest : Ordering) → a ≡ b → is_lt (ordering_then (nat_cmp a b) rest) ≡ is_lt rest
+is_lt-same a b rest same = ap (λ r. is_lt (ordering_then r rest)) (sym (nat_cmp_is a b Equal same))
+
+pub is_lt-last : (a b : ℕ) → is_lt (nat_cmp a b) ≡ ltb a b
+is_lt-last a b =
+    elim (cases_order a b) [
+      | inl same ↦ ap is_lt (sym (nat_cmp_is a b Equal same)) ∙ sym (le-ltb a b (omega arith))
+      | inr (inl less) ↦ ap is_lt (sym (nat_cmp_is a b Less less)) ∙ sym (lt-ltb a b less)
+      | inr (inr more) ↦ ap is_lt (sym (nat_cmp_is a b Greater more)) ∙ sym (le-ltb a b (omega arith))
+    ]

@@ -1,10 +1,51 @@
 -- A node of which one side is two levels higher than the other, and the upper one of that side: what comes over what.
 use Rattle.std.proofs.Common.{◌≡◌, ℕ, ◌+◌, ◌∷◌, ◌++◌, max, Option, Some, Box, Global, sym, ap, ◌∙◌, subst, arith}
 use Rattle.order_tree.specs.Branch.{Branch}
+use Rattle.std.specs.declared.cmp.Ordering.{Ordering}
 use Rattle.std.specs.declared.cmp.Ordering.TheVariants.{Less, Equal, Greater}
-use Rattle.order_tree.specs.Balance.{entry_in, over, split, Leans, IsLeaning, CanSpread, IsNode, IsHigh, branch_of, left_levels, right_levels}
+use Rattle.order_tree.specs.Balance.{entry_in, over, split, Leans, IsLeaning, CanSpread, IsNode, IsTilted, IsHigh, branch_of, left_levels, right_levels}
 use Rattle.order_tree.specs.declared.tree.Node.{Node}
 use Rattle.order_tree.proofs.Forks.{Rising, turned-left, turned-right, rising-left, rising-right, many-leaning, leans-low, leans-high}
+
+-- ---- a root of which a side is a level higher than it says
+
+module _ {node : Node} (tilt : IsTilted node node.left.height (node.right.height + 1)) where
+  as_left : {lean : Ordering} → node.lean ≡ lean → Leans lean node.left.height (node.right.height + 1)
+  as_left is = subst (λ lean. Leans lean node.left.height (node.right.height + 1)) is tilt.lean
+
+  pub even-left : node.lean ≡ Less → Leans Equal node.left.height node.right.height
+  even-left is = omega (arith, as_left is)
+
+  pub even-left-height : node.lean ≡ Less → max node.left.height node.right.height + 1 ≡ max node.left.height (node.right.height + 1) + 0
+  even-left-height is = omega (arith, as_left is)
+
+  pub more-left : node.lean ≡ Equal → Leans Greater node.left.height node.right.height
+  more-left is = omega (arith, as_left is)
+
+  pub more-left-height : node.lean ≡ Equal → max node.left.height node.right.height + 1 ≡ max node.left.height (node.right.height + 1) + 1
+  more-left-height is = omega (arith, as_left is)
+
+  pub high-left : node.lean ≡ Greater → IsHigh node node.left.height node.right.height
+  high-left is = record { sides = tilt.sides; two_higher = omega (arith, as_left is) }
+
+module _ {node : Node} (tilt : IsTilted node (node.left.height + 1) node.right.height) where
+  as_right : {lean : Ordering} → node.lean ≡ lean → Leans lean (node.left.height + 1) node.right.height
+  as_right is = subst (λ lean. Leans lean (node.left.height + 1) node.right.height) is tilt.lean
+
+  pub even-right : node.lean ≡ Greater → Leans Equal node.left.height node.right.height
+  even-right is = omega (arith, as_right is)
+
+  pub even-right-height : node.lean ≡ Greater → max node.left.height node.right.height + 1 ≡ max (node.left.height + 1) node.right.height + 0
+  even-right-height is = omega (arith, as_right is)
+
+  pub more-right : node.lean ≡ Equal → Leans Less node.left.height node.right.height
+  more-right is = omega (arith, as_right is)
+
+  pub more-right-height : node.lean ≡ Equal → max node.left.height node.right.height + 1 ≡ max (node.left.height + 1) node.right.height + 1
+  more-right-height is = omega (arith, as_right is)
+
+  pub high-right : node.lean ≡ Less → IsHigh node node.right.height node.left.height
+  high-right is = record { sides = tilt.sides; two_higher = omega (arith, as_right is) }
 
 -- ---- a root that another took the place of
 
@@ -95,20 +136,20 @@ module _ {node upper : Node} (high : IsHigh node node.left.height node.right.hei
 
   -- where its left side is the higher
   module _ (is : upper.lean ≡ Greater) where
-    more-right : upper.left.height ≡ upper.right.height + 1
-    more-right = subst (λ lean. Leans lean upper.left.height upper.right.height) is at.lean
+    outer-right : upper.left.height ≡ upper.right.height + 1
+    outer-right = subst (λ lean. Leans lean upper.left.height upper.right.height) is at.lean
 
     under-right : Leans Equal upper.right.height node.right.height
-    under-right = omega (arith, more-right, at.root.fork.one_more, high.two_higher)
+    under-right = omega (arith, outer-right, at.root.fork.one_more, high.two_higher)
 
     pub below-right-once : IsLeaning upper.right (entry_in node) node.right Equal
     below-right-once = below-right Equal under-right
 
     pub above-right-once : IsLeaning upper.left (entry_in upper) (over upper.right (entry_in node) node.right) Equal
-    above-right-once = above-right Equal Equal under-right (omega (arith, more-right, at.root.fork.one_more, high.two_higher))
+    above-right-once = above-right Equal Equal under-right (omega (arith, outer-right, at.root.fork.one_more, high.two_higher))
 
     pub levels-right-once : max upper.left.height (max upper.right.height node.right.height + 1) + 1 ≡ max node.left.height (node.right.height + 1) + 0
-    levels-right-once = omega (arith, more-right, at.root.fork.one_more, high.two_higher)
+    levels-right-once = omega (arith, outer-right, at.root.fork.one_more, high.two_higher)
 
   -- where its right side is
   module _ {middle : Node} (is : upper.lean ≡ Less) (in_middle : IsNode upper.right middle) where
@@ -190,20 +231,20 @@ module _ {node upper : Node} (high : IsHigh node node.right.height node.left.hei
 
   -- where its right side is the higher
   module _ (is : upper.lean ≡ Less) where
-    more-left : upper.left.height + 1 ≡ upper.right.height
-    more-left = subst (λ lean. Leans lean upper.left.height upper.right.height) is at.lean
+    outer-left : upper.left.height + 1 ≡ upper.right.height
+    outer-left = subst (λ lean. Leans lean upper.left.height upper.right.height) is at.lean
 
     under-left : Leans Equal node.left.height upper.left.height
-    under-left = omega (arith, more-left, at.root.fork.one_more, high.two_higher)
+    under-left = omega (arith, outer-left, at.root.fork.one_more, high.two_higher)
 
     pub below-left-once : IsLeaning node.left (entry_in node) upper.left Equal
     below-left-once = below-left Equal under-left
 
     pub above-left-once : IsLeaning (over node.left (entry_in node) upper.left) (entry_in upper) upper.right Equal
-    above-left-once = above-left Equal Equal under-left (omega (arith, more-left, at.root.fork.one_more, high.two_higher))
+    above-left-once = above-left Equal Equal under-left (omega (arith, outer-left, at.root.fork.one_more, high.two_higher))
 
     pub levels-left-once : max (max node.left.height upper.left.height + 1) upper.right.height + 1 ≡ max (node.left.height + 1) node.right.height + 0
-    levels-left-once = omega (arith, more-left, at.root.fork.one_more, high.two_higher)
+    levels-left-once = omega (arith, outer-left, at.root.fork.one_more, high.two_higher)
 
   -- where its left side is
   module _ {middle : Node} (is : upper.lean ≡ Greater) (in_middle : IsNode upper.left middle) where
