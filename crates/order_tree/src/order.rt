@@ -177,7 +177,7 @@ impl OrderTree {
     }
 }
 
-/// As many more are spare as there were, and there is none.
+/// Those that were counted are spare then, and none is counted.
 #[inline(always)]
 fn free_all(count: &mut u32, spare: &mut u32)
     requires few { count.old + spare.old < 2 ^ 32 }

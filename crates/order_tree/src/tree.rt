@@ -514,11 +514,17 @@ fn turn_right(root: &mut Option<Box<Node>>) -> bool
             false
         }
         Ordering::Equal => {
-            set_root(root, raise_right(upper, node, Ordering::Less, Ordering::Greater));
+            set_root(
+                root,
+                raise_right(upper, node, Ordering::Less, Ordering::Greater),
+            );
             true
         }
         Ordering::Greater => {
-            set_root(root, raise_right(upper, node, Ordering::Equal, Ordering::Equal));
+            set_root(
+                root,
+                raise_right(upper, node, Ordering::Equal, Ordering::Equal),
+            );
             false
         }
     }
@@ -541,11 +547,17 @@ fn turn_left(root: &mut Option<Box<Node>>) -> bool
     };
     match upper.lean {
         Ordering::Less => {
-            set_root(root, raise_left(upper, node, Ordering::Equal, Ordering::Equal));
+            set_root(
+                root,
+                raise_left(upper, node, Ordering::Equal, Ordering::Equal),
+            );
             false
         }
         Ordering::Equal => {
-            set_root(root, raise_left(upper, node, Ordering::Greater, Ordering::Less));
+            set_root(
+                root,
+                raise_left(upper, node, Ordering::Greater, Ordering::Less),
+            );
             true
         }
         Ordering::Greater => {
