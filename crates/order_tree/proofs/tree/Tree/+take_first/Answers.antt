@@ -1,13 +1,22 @@
-use Rattle.std.proofs.Common.{◌≡◌, sym, ap, ◌∙◌, subst}
+use Rattle.std.proofs.Common.{◌≡◌, sym, ap, ◌∙◌, subst, arith}
 use Rattle.order_tree.specs.Branch.{Branch}
 use Rattle.order_tree.specs.Balance.{branch_of, HasMany, IsBalanced}
-use Rattle.order_tree.proofs.Placed.{IsNode-from, many-balanced, sides-left, leans-left, sinks-left}
+use Rattle.order_tree.proofs.Placed.{IsNode-from, sides_shorter, many-balanced, sides-left, leans-left, sinks-left}
 use Rattle.order_tree.proofs.Forks.{IsEven-from}
 use Rattle.order_tree.proofs.Heights.{level_kept, level_lost}
 use Rattle.order_tree.proofs.Firsts.{first-none, first-some, first-said, rising-others, IsFirst-kept, IsFirst-leaned, IsFirst-root}
 use Rattle.order_tree.proofs.tree.Tree.+take_first.Goals as goal
 
+pub take_first-taken-requires : goal.take_first-taken-requires
+take_first-taken-requires t c =
+    let at = IsNode-from c.self.view_is c.self.invariant c.in-Some.is c.deref_mut.ensures.value in
+    let short = (sides_shorter at.root).0 in
+    (omega (arith, short, c.decreases), tt)
+
 -- ---- where there is no root
+
+pub invariant_of-self : goal.invariant_of-self
+invariant_of-self t c = c.self.invariant
 
 pub returns-in_default-clause-none : goal.returns-in_default-clause-none
 returns-in_default-clause-none t c = λ e. c.self.view_is
@@ -76,6 +85,9 @@ lean_right-requires t c =
         lean = sinks-left at c.take_first-taken.new.self (level_lost _ _ first.height c.if-not-lower.false);
       };
     }
+
+pub invariant_of-self-2 : goal.invariant_of-self-2
+invariant_of-self-2 t c = c.lean_right.ensures.balanced
 
 pub returns-clause-none : goal.returns-clause-none
 returns-clause-none t c = λ e. absurd cc
