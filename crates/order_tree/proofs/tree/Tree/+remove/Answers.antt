@@ -1,11 +1,17 @@
-use Rattle.std.proofs.Common.{◌∙◌}
+use Rattle.std.proofs.Common.{rules, ◌∙◌}
 use Rattle.order_tree.specs.Balance.{branch_of}
-use Rattle.order_tree.proofs.Placed.{left-found, right-found, root-found, IsNode-from, IsCut-left, IsCut-right, IsCut-root, sides-left, sides-right, leans-left, leans-right, sinks-left, sinks-right, left_of}
+use Rattle.order_tree.proofs.Placed.{left-found, right-found, root-found, sides_shorter, IsNode-from, IsCut-left, IsCut-right, IsCut-root, sides-left, sides-right, leans-left, leans-right, sinks-left, sinks-right, left_of}
 use Rattle.order_tree.proofs.Forks.{IsEven-from}
 use Rattle.order_tree.proofs.Heights.{level_kept, level_lost}
 use Rattle.order_tree.proofs.tree.Tree.+remove.Goals as goal
 
 -- ---- the left side
+
+pub remove-taken-requires : goal.remove-taken-requires
+remove-taken-requires g t c κs within =
+    let at = IsNode-from c.self.view_is c.self.invariant c.in-Some.is c.deref_mut.ensures.value in
+    let short = sides_shorter at.root in
+    search rules
 
 pub invariant_of-self-then-not-lower : goal.invariant_of-self-then-not-lower
 invariant_of-self-then-not-lower g t c =
@@ -63,6 +69,12 @@ returns-in-Equal-clause-taken g t c =
     (left_of c.deref_mut.result.now c.uproot.result.0 (branch_of c.uproot.new.root) c.uproot.result.1 c.uproot.ensures.uprooted).1
 
 -- ---- the right side
+
+pub remove-taken-requires-in-Greater : goal.remove-taken-requires-in-Greater
+remove-taken-requires-in-Greater g t c κs within =
+    let at = IsNode-from c.self.view_is c.self.invariant c.in-Some.is c.deref_mut.ensures.value in
+    let short = sides_shorter at.root in
+    search rules
 
 pub invariant_of-self-then-not-lower-2 : goal.invariant_of-self-then-not-lower-2
 invariant_of-self-then-not-lower-2 g t c =
