@@ -1,11 +1,12 @@
 -- TaskLines: a task line with a word that is not right is refused, whichever word it is.
-use Rattle.std.proofs.Common.{◌≡◌, ◌∙◌, ℕ, zero, suc, ◌+◌, ◌≤◌, ◌<◌, Bool, true, false, ltb, [], ◌∷◌, length, get_or, Err, refl, sym, ap, arith}
-use Rattle.std.specs.Prelude.{◌&&◌, codes}
+use Rattle.std.proofs.Common.{◌≡◌, ◌∙◌, ℕ, zero, suc, ◌+◌, ◌≤◌, ◌<◌, Bool, true, false, ltb, [], ◌∷◌, length, get_or, Ok, Err, refl, sym, ap, arith}
+use Rattle.std.specs.Prelude.{◌&&◌, codes, MatchResult}
 use Rattle.std.proofs.lemmas.Bool.{and_from, eq-eqb, ltb-true, cond-true, cond-false}
 use Rattle.std.proofs.Math.Bool.{and-false}
+use Rattle.scenario_text.specs.declared.fault.BadKind.{BadKind}
 use Rattle.scenario_text.specs.declared.fault.BadKind.TheVariants.{Number}
 use Rattle.scenario_text.specs.Grammar.{is_word, Form, number, policy, task_form}
-use Rattle.scenario_text.specs.Reading.{Parts, righted, has, read_in, task_value}
+use Rattle.scenario_text.specs.Reading.{Parts, Read, righted, has, read_in, task_value}
 
 -- a word that is not right in its field
 pub wrong_field : (form : Form) (k j place : ℕ) (words : Parts) → place ≡ k + j → j < length form → (get_or form j (number 0 0)).is_right (words.at place) ≡ false → righted k form words ≡ false
@@ -19,6 +20,11 @@ wrong_field (field ∷ fields) k (suc j) place words at inside wrong =
 -- a pattern of so many words
 pub exactly : (k n : ℕ) → k ≤ n → n < suc k → n ≡ k
 exactly k n low high = omega arith
+
+-- a word that was refused is not right in its field
+pub refused : {A : Type 0} (result : Read A) (right : Bool) (said : A → Type 0) (kind : BadKind) → MatchResult result (λ x. (right ≡ true) × said x) (λ kind. (right ≡ false) × (kind ≡ Number)) → result ≡ Err kind → right ≡ false
+refused (Ok x) right said kind spelled is = absurd cc
+refused (Err found) right said kind spelled is = spelled.0
 
 -- the shape of a task line
 pub task_shape : (siblings : ℕ) (words : Parts) → words.count ≡ 15 → is_word (words.at 0) (codes "task") ≡ true → policy.has_shape (words.at 5) ≡ true → has (task_form siblings) words ≡ true

@@ -72,20 +72,30 @@ fn parse_caller_event(words: &[&[u8]], siblings: u8) -> Result<Event, BadKind>
                 thread: is_word(child, "thread"),
             })
         }
-        [name, caller, cmd, target, scope, addr] if is_word(name, "prctl") => Ok(Event::Prctl {
-            caller: parse_named_pid(caller)?,
-            ask: Ask {
-                cmd: parse_number(cmd, 0, u32::MAX as u64)? as u32,
-                pid: parse_target(target)?,
-                scope: parse_number(scope, 0, u32::MAX as u64)? as u32,
-                addr: parse_number(addr, 0, u64::MAX)?,
-            },
-        }),
+        [name, caller, cmd, target, scope, addr] if is_word(name, "prctl") => {
+            let (Ok(caller), Ok(pid)) = (parse_named_pid(caller), parse_target(target)) else {
+                return Err(BadKind::Number);
+            };
+            let (Ok(cmd), Ok(scope), Ok(addr)) = (
+                parse_number(cmd, 0, u32::MAX as u64),
+                parse_number(scope, 0, u32::MAX as u64),
+                parse_number(addr, 0, u64::MAX),
+            ) else {
+                return Err(BadKind::Number);
+            };
+            let ask = Ask {
+                cmd: cmd as u32,
+                pid,
+                scope: scope as u32,
+                addr,
+            };
+            Ok(Event::Prctl { caller, ask })
+        }
         [name, pid, policy] if is_word(name, "setsched") && has_policy_shape(policy) => {
-            Ok(Event::SetSched {
-                pid: parse_named_pid(pid)?,
-                policy: parse_policy(policy)?,
-            })
+            let (Ok(pid), Ok(policy)) = (parse_named_pid(pid), parse_policy(policy)) else {
+                return Err(BadKind::Number);
+            };
+            Ok(Event::SetSched { pid, policy })
         }
         [name, cpu] if is_word(name, "offline") => Ok(Event::Offline(parse_cpu(cpu, siblings)?)),
         [name, cpu] if is_word(name, "online") => Ok(Event::Online(parse_cpu(cpu, siblings)?)),

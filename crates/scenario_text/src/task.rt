@@ -120,22 +120,38 @@ pub(crate) fn parse_task(words: &[&[u8]], siblings: u8) -> Result<TaskSpec, BadK
     if !has_policy_shape(policy) {
         return Err(BadKind::Shape);
     }
+    let (Ok(pid), Ok(tgid), Ok(pgid)) = (parse_pid(pid), parse_pid(tgid), parse_pid(pgid)) else {
+        return Err(BadKind::Number);
+    };
+    let (Ok(cpu), Ok(policy)) = (parse_cpu(cpu, siblings), parse_policy(policy)) else {
+        return Err(BadKind::Number);
+    };
+    let (Ok(ruid), Ok(euid), Ok(suid)) = (parse_id(ruid), parse_id(euid), parse_id(suid)) else {
+        return Err(BadKind::Number);
+    };
+    let (Ok(rgid), Ok(egid), Ok(sgid)) = (parse_id(rgid), parse_id(egid), parse_id(sgid)) else {
+        return Err(BadKind::Number);
+    };
+    let (Ok(cap), Ok(mm), Ok(dumpable)) = (parse_flag(cap), parse_flag(mm), parse_flag(dumpable))
+    else {
+        return Err(BadKind::Number);
+    };
     Ok(TaskSpec {
-        pid: parse_pid(pid)?,
-        tgid: parse_pid(tgid)?,
-        pgid: parse_pid(pgid)?,
-        cpu: parse_cpu(cpu, siblings)?,
-        policy: parse_policy(policy)?,
+        pid,
+        tgid,
+        pgid,
+        cpu,
+        policy,
         creds: Creds {
-            ruid: parse_id(ruid)?,
-            euid: parse_id(euid)?,
-            suid: parse_id(suid)?,
-            rgid: parse_id(rgid)?,
-            egid: parse_id(egid)?,
-            sgid: parse_id(sgid)?,
-            cap: parse_flag(cap)?,
-            mm: parse_flag(mm)?,
-            dumpable: parse_flag(dumpable)?,
+            ruid,
+            euid,
+            suid,
+            rgid,
+            egid,
+            sgid,
+            cap,
+            mm,
+            dumpable,
         },
     })
 }

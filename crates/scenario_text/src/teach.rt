@@ -29,10 +29,13 @@ pub(crate) fn parse_teach(words: &[&[u8]], line: u32) -> Result<Teach, BadKind>
     let [_, guard, from, to] = *words else {
         return Err(BadKind::Shape);
     };
+    let (Ok(guard), Ok(from), Ok(to)) = (parse_guard(guard), parse_id(from), parse_id(to)) else {
+        return Err(BadKind::Number);
+    };
     Ok(Teach {
         line,
-        guard: parse_guard(guard)?,
-        from: parse_id(from)?,
-        to: parse_id(to)?,
+        guard,
+        from,
+        to,
     })
 }
