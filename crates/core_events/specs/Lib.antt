@@ -1,6 +1,7 @@
 pub mod State
 pub mod Steps
 pub mod Moments
+pub mod Start
 pub mod Time
 pub mod Life
 pub mod Cookies

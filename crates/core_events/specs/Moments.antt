@@ -1,13 +1,28 @@
--- Moments: what is made of a core and its table where the clock is read or goes on.
-use Rattle.std.specs.Prelude.{◌≡◌, ℕ, ◌+◌}
+-- Moments: what is asked of a core and its table, and made of them, where the clock is read or goes on.
+use Rattle.std.specs.Prelude.{◌≡◌, ℕ, ◌+◌, ◌^◌, ◌<◌}
+use Rattle.cs_types.specs.declared.task.Task.{Task}
 use Rattle.cs_types.specs.Room.{RoomState}
 use Rattle.cs_types.specs.Time.{advanced}
 use Rattle.task_table.specs.Table.{Table}
 use Rattle.core_lanes.specs.declared.queue.SiblingQueue.{Ghosts}
 use Rattle.core_lanes.specs.declared.lanes.Core.{Core}
-use Rattle.core_lanes.specs.Lanes.{Beside, at, room_of}
+use Rattle.core_lanes.specs.Queued.{IsOf}
+use Rattle.core_lanes.specs.Lanes.{Beside, at, room_of, Agree, AgreesAt, KnowsApart}
 use Rattle.core_lanes.specs.Numbers.{numbers_of, touched}
 use Rattle.core_lanes.specs.Changes.{Stays}
+
+-- the task is known to the core, and may be queued at its home at this moment, where the queues are touched this number of times
+pub record MayQueue {Q : Type 0} {g : Ghosts Q} (now count : ℕ) (both : Core Q g × Table) (task : Task) : Type 0 where
+  pub knows : KnowsApart both task
+  pub agree : Agree both
+  pub clock : now + 1000000000 < 2 ^ 56
+  pub stamp : both.0.next_stamp + 1 < 2 ^ 64
+  pub touches : both.0.task_number + count < 2 ^ 64
+
+-- the sibling is one of the core, and the task one of the table, that agree
+pub record MayAsk {Q : Type 0} {g : Ghosts Q} (cpu : ℕ) (both : Core Q g × Table) (task : Task) : Type 0 where
+  pub at : AgreesAt cpu both
+  pub there : IsOf both.1.tasks task
 
 -- the new room is the old one after this change at this moment, where the queues were touched this number of times
 pub record TouchesAt {Q : Type 0} {g : Ghosts Q} (now count : ℕ) (old new : Core Q g × Table) (change : RoomState → RoomState) : Type 0 where

@@ -1,6 +1,7 @@
 -- State: the room that a state stands for, what always holds of it, and what an event asks of it.
 use Rattle.std.specs.Prelude.{◌≡◌, ◌≢◌, ℕ, ◌+◌, ◌*◌, ◌^◌, ◌<◌, List, [], length, All, IfSome, vec_len, vec_capacity}
-use Rattle.cs_types.specs.Scenario.{IsWithin}
+use Rattle.cs_types.specs.Scenario.{IsWithin, IsEvent}
+use Rattle.cs_types.specs.declared.event.Event.{Event}
 use Rattle.cs_types.specs.declared.task.Task.{Task}
 use Rattle.cs_types.specs.Room.{RoomState, Interval, sibling_of}
 use Rattle.cs_types.proofs.Timely.{IsTimely}
@@ -99,7 +100,7 @@ pub record HasSpares {Q G : Type 0} {g : Ghosts Q} (state : State Q G g) : Type 
   pub places : All (λ lane. lane.place + 1 < 2 ^ 32) state.core.lanes.items
   pub asked : All (λ guard. guard.asked < 2 ^ 62) state.guards.guards.all
 
--- the state may take an event; while something waits for a sibling, its own number is below the pick number
+-- a state may take an event; while something waits for a sibling, its own number is below the pick number
 pub record IsReady {Q G : Type 0} {g : Ghosts Q} (state : State Q G g) : Type 0 where
   pub sound : IsSound state
   pub time : IsOnTime state
@@ -108,3 +109,13 @@ pub record IsReady {Q G : Type 0} {g : Ghosts Q} (state : State Q G g) : Type 0 
   pub behind : (cpu : ℕ) → cpu < length state.core.lanes.items →
       IfSome (sibling_of (room_with [] state) cpu).waiting (λ run. own_of cpu (state_numbers state) < (state_numbers state).pick)
   pub spares : HasSpares state
+
+-- it may take an event of this sibling
+pub record IsReadyAt {Q G : Type 0} {g : Ghosts Q} (here : ℕ) (state : State Q G g) : Type 0 where
+  pub cpu : here < length state.core.lanes.items
+  pub ready : IsReady state
+
+-- it may take this event
+pub record IsReadyFor {Q G : Type 0} {g : Ghosts Q} (made : Event) (state : State Q G g) : Type 0 where
+  pub event : IsEvent (length state.core.lanes.items) made
+  pub ready : IsReady state

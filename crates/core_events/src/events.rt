@@ -1,11 +1,11 @@
 //! What each event does to the state.
 
-ghost use Rattle.std.specs.Prelude.{◌≡◌, ◌+◌, ◌^◌, ◌<◌, ◌≤◌, length};
-ghost use Rattle.cs_types.specs.Scenario.{IsPolicy, IsEvent};
+ghost use Rattle.std.specs.Prelude.{◌≡◌, ◌<◌, ◌≤◌, length};
+ghost use Rattle.cs_types.specs.Scenario.{IsPolicy};
 ghost use Rattle.cs_types.specs.Step.{child_at_home, requeue, with_policy};
 ghost use Rattle.task_table.specs.Table.{Table};
-ghost use Rattle.core_lanes.specs.Lanes.{Beside, at, room_of, Agree, KnowsApart};
-ghost use Rattle.core_events.specs.Moments.{TouchesAt};
+ghost use Rattle.core_lanes.specs.Lanes.{Beside, at, room_of};
+ghost use Rattle.core_events.specs.Moments.{MayQueue, TouchesAt};
 ghost use Rattle.cookie_steal.specs.Tries.{reply_of as steal_reply};
 ghost use Rattle.cpu_hotplug.specs.Hotplugs.{reply_of as hotplug_reply};
 
@@ -82,11 +82,7 @@ fn requeue<Q: SiblingQueue, L: Ledger>(
     now: u64,
     steps: &mut Steps<L>,
 )
-    requires knows { KnowsApart (core.old, table.old) task }
-    requires agree { Agree (core.old, table.old) }
-    requires clock { now + 1000000000 < 2 ^ 56 }
-    requires stamp { core.old.next_stamp + 1 < 2 ^ 64 }
-    requires touches { core.old.task_number + 2 < 2 ^ 64 }
+    requires { MayQueue now 2 (core.old, table.old) task }
     ensures { TouchesAt now 2 (core.old, table.old) (core.new, table.new) (λ room. requeue room task) }
 {
     let runs = core.lanes[task.home as usize].runs(task.spec.pid);
@@ -96,13 +92,12 @@ fn requeue<Q: SiblingQueue, L: Ledger>(
 }
 
 impl<Q: SiblingQueue, G: Guard> State<Q, G> {
-    ghost use Rattle.core_events.specs.State.{IsReady};
+    ghost use Rattle.core_events.specs.State.{IsReady, IsReadyAt, IsReadyFor};
     ghost use Rattle.core_events.specs.Steps.{Makes};
 
     /// The sibling schedules.
     fn resched<L: Ledger>(&mut self, cpu: Cpu, steps: &mut Steps<L>) -> Reply
-        requires cpu { cpu < length self.old.core.lanes.items }
-        requires ready { IsReady self.old }
+        requires { IsReadyAt cpu self.old }
         ensures { Makes self.old self.new (Event.Resched cpu) result }
     {
         match schedule(&mut self.core, &mut self.tasks, cpu, self.clock, steps) {
@@ -113,8 +108,7 @@ impl<Q: SiblingQueue, G: Guard> State<Q, G> {
 
     /// A pending reschedule is taken. Else the sibling tries to steal, where it is to.
     fn turn<L: Ledger>(&mut self, cpu: Cpu, steps: &mut Steps<L>) -> Reply
-        requires cpu { cpu < length self.old.core.lanes.items }
-        requires ready { IsReady self.old }
+        requires { IsReadyAt cpu self.old }
         ensures { Makes self.old self.new (Event.Turn cpu) result }
     {
         if !self.core.is_online(cpu) {
@@ -130,8 +124,7 @@ impl<Q: SiblingQueue, G: Guard> State<Q, G> {
     /// task still runs. The charge of a schedule, at the same moment, would record nothing, so the sibling only
     /// picks anew.
     fn block<L: Ledger>(&mut self, cpu: Cpu, steps: &mut Steps<L>) -> Reply
-        requires cpu { cpu < length self.old.core.lanes.items }
-        requires ready { IsReady self.old }
+        requires { IsReadyAt cpu self.old }
         ensures { Makes self.old self.new (Event.Block cpu) result }
     {
         if !self.core.is_online(cpu) {
@@ -152,8 +145,7 @@ impl<Q: SiblingQueue, G: Guard> State<Q, G> {
     /// The running task ends, unless it leads others, and its sibling takes the next. The open interval is
     /// charged as at a block.
     fn exit<L: Ledger>(&mut self, cpu: Cpu, steps: &mut Steps<L>) -> Reply
-        requires cpu { cpu < length self.old.core.lanes.items }
-        requires ready { IsReady self.old }
+        requires { IsReadyAt cpu self.old }
         ensures { Makes self.old self.new (Event.Exit cpu) result }
     {
         if !self.core.is_online(cpu) {
@@ -176,8 +168,7 @@ impl<Q: SiblingQueue, G: Guard> State<Q, G> {
 
     /// The sibling's timer ticks. The open interval is charged first.
     fn tick<L: Ledger>(&mut self, cpu: Cpu, steps: &mut Steps<L>) -> Reply
-        requires cpu { cpu < length self.old.core.lanes.items }
-        requires ready { IsReady self.old }
+        requires { IsReadyAt cpu self.old }
         ensures { Makes self.old self.new (Event.Tick cpu) result }
     {
         if !self.core.is_online(cpu) {
@@ -248,8 +239,7 @@ impl<Q: SiblingQueue, G: Guard> State<Q, G> {
 
     /// The sibling leaves the core, unless it is offline already or the last.
     fn take_offline<L: Ledger>(&mut self, cpu: Cpu, steps: &mut Steps<L>) -> Reply
-        requires cpu { cpu < length self.old.core.lanes.items }
-        requires ready { IsReady self.old }
+        requires { IsReadyAt cpu self.old }
         ensures { Makes self.old self.new (Event.Offline cpu) result }
     {
         hotplug_reply(offline(&mut self.core, &mut self.tasks, cpu, self.clock, steps))
@@ -285,8 +275,7 @@ impl<Q: SiblingQueue, G: Guard> State<Q, G> {
 
     /// Makes the step of an event, and answers what the rules answer.
     pub fn apply<L: Ledger>(&mut self, event: Event, steps: &mut Steps<L>) -> Reply
-        requires event { IsEvent (length self.old.core.lanes.items) event }
-        requires ready { IsReady self.old }
+        requires { IsReadyFor event self.old }
         ensures { Makes self.old self.new event result }
     {
         match event {

@@ -6,8 +6,8 @@ ghost use Rattle.cs_types.specs.Scenario.{IsPolicy};
 ghost use Rattle.cs_types.specs.Room.{lowest_online};
 ghost use Rattle.cs_types.specs.Queueing.{online_home, rehomed, preempts, refreshed, queue_at_home};
 ghost use Rattle.task_table.specs.Table.{Table};
-ghost use Rattle.core_lanes.specs.Lanes.{Beside, at, lane_state, room_of, Agree, KnowsApart};
-ghost use Rattle.core_events.specs.Moments.{TouchesAt};
+ghost use Rattle.core_lanes.specs.Lanes.{Beside, at, lane_state, room_of};
+ghost use Rattle.core_events.specs.Moments.{MayQueue, TouchesAt};
 
 use core_lanes::{Core, SiblingQueue, is_higher};
 use cs_types::{Cpu, Policy, Steps, Task};
@@ -73,10 +73,7 @@ fn refreshed<Q: SiblingQueue>(core: &Core<Q>, task: Task, now: u64) -> Task
     requires home { task.home < length core.now.lanes.items }
     requires policy { IsPolicy task.spec.policy }
     requires clock { now + 1000000000 < 2 ^ 56 }
-    ensures refreshed { (beside : Beside) (table : Table) → result ≡ refreshed (room_of (at now beside) (core.now, table)) task }
-    ensures spec { result.spec ≡ task.spec }
-    ensures cookie { result.cookie ≡ task.cookie }
-    ensures home { result.home ≡ task.home }
+    ensures { (beside : Beside) (table : Table) → result ≡ refreshed (room_of (at now beside) (core.now, table)) task }
 {
     match task.spec.policy {
         Policy::Deadline(relative) => Task {
@@ -99,11 +96,7 @@ pub fn queue_at_home<Q: SiblingQueue, L: Ledger>(
     now: u64,
     steps: &mut Steps<L>,
 )
-    requires knows { KnowsApart (core.old, table.old) task }
-    requires agree { Agree (core.old, table.old) }
-    requires clock { now + 1000000000 < 2 ^ 56 }
-    requires stamp { core.old.next_stamp + 1 < 2 ^ 64 }
-    requires touches { core.old.task_number + 1 < 2 ^ 64 }
+    requires { MayQueue now 1 (core.old, table.old) task }
     ensures { TouchesAt now 1 (core.old, table.old) (core.new, table.new) (λ room. queue_at_home room task) }
 {
     let fresh = refreshed(core, task, now);

@@ -2,10 +2,10 @@
 //! its own so that nothing else reads how a machine keeps these.
 
 ghost use Rattle.std.specs.Prelude.{◌≡◌, ◌+◌, ◌*◌, ◌<◌, [], length, IfOk};
-ghost use Rattle.cs_types.specs.Scenario.{IsPlayable, IsEvent};
+ghost use Rattle.cs_types.specs.Scenario.{IsPlayable};
 ghost use Rattle.cs_types.specs.Room.{RoomState, Interval};
 ghost use Rattle.cs_types.specs.View.{task_after, task_view, forced_of};
-ghost use Rattle.core_events.specs.State.{room_with, IsReady};
+ghost use Rattle.core_events.specs.State.{room_with, IsReadyFor};
 ghost use Rattle.core_events.specs.Steps.{Makes};
 ghost use Rattle.core_events.specs.Machine.{opened};
 ghost use Rattle.cs_types.specs.Guards.{guards_on_bench};
@@ -104,8 +104,7 @@ fn counted<Q: SiblingQueue, G: Guard, L: Ledger>(
     requires name { blank.name ≡ L.name }
     requires parts { blank.parts ≡ L.parts }
     requires some { 0 < blank.parts }
-    requires event { IsEvent (length state.old.core.lanes.items) event }
-    requires ready { IsReady state.old }
+    requires may { IsReadyFor event state.old }
     ensures { Makes state.old state.new event result }
 {
     let mut steps = Steps::<L>::start(blank);

@@ -1,10 +1,8 @@
 //! The state of the core, and how it starts. It is a file of its own so that each event has its whole contract,
 //! whatever the machine keeps beside.
 
-ghost use Rattle.std.specs.Prelude.{◌≡◌, ◌+◌, ◌^◌, ◌<◌, ◌≤◌, [], length, IfOk, All, vec_capacity};
+ghost use Rattle.std.specs.Prelude.{◌≡◌, length, IfOk};
 ghost use Rattle.cs_types.specs.Scenario.{IsPlayable};
-ghost use Rattle.cs_types.specs.Room.{start};
-ghost use Rattle.cs_types.specs.History.{beginning};
 ghost use Rattle.cs_types.specs.Guards.{guards_on_bench};
 ghost use Rattle.core_events.specs.Machine.{opened};
 
@@ -37,8 +35,7 @@ pub struct State<Q: SiblingQueue, G: Guard> {
 }
 
 impl<Q: SiblingQueue, G: Guard> State<Q, G> {
-    ghost use Rattle.core_events.specs.State.{room_with, state_numbers, IsSound};
-    ghost use Rattle.core_events.specs.Steps.{numbers_at};
+    ghost use Rattle.core_events.specs.Start.{IsFirstState};
 
     /// The start of a scenario: all tasks asleep at home, all siblings idle. It can take `most` entries.
     pub fn start(
@@ -49,11 +46,7 @@ impl<Q: SiblingQueue, G: Guard> State<Q, G> {
     ) -> Result<State<Q, G>, OutOfMemory>
         requires playable { IsPlayable scenario.now }
         requires guards { guards.guards ≡ guards_on_bench scenario.now.teaches (length guards.guards.all) }
-        ensures room { IfOk result (λ state. room_with [] state ≡ start (opened scenario.now guards)) }
-        ensures sound { IfOk result IsSound }
-        ensures siblings { IfOk result (λ state. length state.core.lanes.items ≡ scenario.now.siblings) }
-        ensures numbers { IfOk result (λ state. state_numbers state ≡ numbers_at (opened scenario.now guards) (beginning (opened scenario.now guards))) }
-        ensures ends { IfOk result (λ state. vec_capacity state.ended ≡ most) }
+        ensures { IfOk result (IsFirstState (opened scenario.now guards) most) }
     {
         let ended = Vec::with_capacity(alloc, most)?;
         let refs = CookieRefs::with_limit(alloc, scenario.cookie_limit)?;

@@ -12,7 +12,7 @@ ghost use Rattle.core_lanes.specs.Queued.{IsOf};
 ghost use Rattle.core_lanes.specs.Lanes.{Beside, at, lane_state, room_of, Agree, AgreesAt};
 ghost use Rattle.core_lanes.specs.Changes.{Changes};
 ghost use Rattle.core_pick.specs.Schedules.{IsPaid, Charges};
-ghost use Rattle.core_events.specs.Moments.{Advances};
+ghost use Rattle.core_events.specs.Moments.{MayAsk, Advances};
 ghost use Rattle.core_events.specs.Time.{RunTheirOwn, MayAdvance, with_ages};
 
 use core_lanes::{Core, SiblingQueue, is_fair};
@@ -121,8 +121,7 @@ fn rotates<Q: SiblingQueue, L: Ledger>(
     task: &Task,
     steps: &mut Steps<L>,
 ) -> bool
-    requires at { AgreesAt cpu (core.now, table.now) }
-    requires there { IsOf table.now.tasks task.now }
+    requires { MayAsk cpu (core.now, table.now) task.now }
     ensures { (beside : Beside) → result ≡ rotates (room_of beside (core.now, table.now)) cpu task.now }
 {
     has_used_slice(task)
@@ -139,8 +138,7 @@ fn is_overtaken<Q: SiblingQueue, L: Ledger>(
     task: &Task,
     steps: &mut Steps<L>,
 ) -> bool
-    requires at { AgreesAt cpu (core.now, table.now) }
-    requires there { IsOf table.now.tasks task.now }
+    requires { MayAsk cpu (core.now, table.now) task.now }
     ensures { (beside : Beside) → result ≡ is_overtaken (room_of beside (core.now, table.now)) cpu task.now }
 {
     if !is_fair(task) {
@@ -164,8 +162,7 @@ fn is_to_yield<Q: SiblingQueue, L: Ledger>(
     task: &Task,
     steps: &mut Steps<L>,
 ) -> bool
-    requires at { AgreesAt cpu (core.now, table.now) }
-    requires there { IsOf table.now.tasks task.now }
+    requires { MayAsk cpu (core.now, table.now) task.now }
     ensures { (beside : Beside) → result ≡ is_to_yield (room_of beside (core.now, table.now)) cpu task.now }
 {
     let lane = &core.lanes[cpu as usize];
@@ -183,8 +180,7 @@ fn is_asked<Q: SiblingQueue, L: Ledger>(
     task: &Task,
     steps: &mut Steps<L>,
 ) -> bool
-    requires at { AgreesAt cpu (core.now, table.now) }
-    requires there { IsOf table.now.tasks task.now }
+    requires { MayAsk cpu (core.now, table.now) task.now }
     ensures { (beside : Beside) → let room = room_of beside (core.now, table.now) in
         result ≡ (is_overtaken room cpu task.now || is_to_yield room cpu task.now) }
 {
@@ -201,8 +197,7 @@ fn asks_at_tick<Q: SiblingQueue, L: Ledger>(
     rotates: bool,
     steps: &mut Steps<L>,
 ) -> bool
-    requires at { AgreesAt cpu (core.now, table.now) }
-    requires there { IsOf table.now.tasks task.now }
+    requires may { MayAsk cpu (core.now, table.now) task.now }
     requires rotates { (beside : Beside) → rotates ≡ time.rotates (room_of beside (core.now, table.now)) cpu task.now }
     ensures { (beside : Beside) → result ≡ asks_at_tick (room_of beside (core.now, table.now)) cpu task.now }
 {

@@ -12,24 +12,21 @@ use Rattle.core_events.proofs.Readies.{knows_as}
 use Rattle.core_events.proofs.Changes.{still_below}
 use Rattle.core_events.proofs.events.requeue.Goals as goal
 
-pub queue_at_home-requires-clause-knows : goal.queue_at_home-requires-clause-knows
-queue_at_home-requires-clause-knows g c =
+pub queue_at_home-requires : goal.queue_at_home-requires
+queue_at_home-requires g c =
     let task = c.args.task in
     let apart = c.requires.knows.apart in
     let asleep : Task = record task { queued = false } in
     let there = is_of asleep apart.old c.args.table.now.tasks apart.there in
-    knows_as (c.dequeue.new.self, c.dequeue.new.table) task asleep refl refl
-    (subst (λ (room : RoomState). IsOf room.tasks asleep) (sym (c.dequeue.ensures.room some_beside)) there)
-    (record { home = still_below c.dequeue.ensures.stays apart.fits.home; policy = apart.fits.policy })
-
-pub queue_at_home-requires-clause-agree : goal.queue_at_home-requires-clause-agree
-queue_at_home-requires-clause-agree g c = c.dequeue.ensures.stays.agree c.requires.agree
-
-pub queue_at_home-requires-clause-stamp : goal.queue_at_home-requires-clause-stamp
-queue_at_home-requires-clause-stamp g c = omega (arith, ap (λ (room : RoomState). room.next_stamp) (c.dequeue.ensures.room some_beside), c.requires.stamp)
-
-pub queue_at_home-requires-clause-touches : goal.queue_at_home-requires-clause-touches
-queue_at_home-requires-clause-touches g c = omega (arith, ap (λ (numbers : Numbers). numbers.task) c.dequeue.ensures.numbers, c.requires.touches)
+    record {
+      knows = knows_as (c.dequeue.new.self, c.dequeue.new.table) task asleep refl refl
+          (subst (λ (room : RoomState). IsOf room.tasks asleep) (sym (c.dequeue.ensures.room some_beside)) there)
+          (record { home = still_below c.dequeue.ensures.stays apart.fits.home; policy = apart.fits.policy });
+      agree = c.dequeue.ensures.stays.agree c.requires.agree;
+      clock = c.requires.clock;
+      stamp = omega (arith, ap (λ (room : RoomState). room.next_stamp) (c.dequeue.ensures.room some_beside), c.requires.stamp);
+      touches = omega (arith, ap (λ (numbers : Numbers). numbers.task) c.dequeue.ensures.numbers, c.requires.touches);
+    }
 
 pub flag-requires : goal.flag-requires
 flag-requires g c = still_below (both_stay c.dequeue.ensures.stays c.queue_at_home.ensures.stays) c.requires.knows.apart.fits.home

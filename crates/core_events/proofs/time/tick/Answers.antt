@@ -26,8 +26,10 @@ rotates-rotates-requires g c = record {
 
 pub asks_at_tick-asks-requires : goal.asks_at_tick-asks-requires
 asks_at_tick-asks-requires g c = record {
-  at = record { cpu = still_below c.charge.ensures.charges.stays c.requires.at.cpu; agree = c.charge.ensures.charges.stays.agree c.requires.at.agree };
-  there = c.in-Some.ensures.there;
+  may = record {
+    at = record { cpu = still_below c.charge.ensures.charges.stays c.requires.at.cpu; agree = c.charge.ensures.charges.stays.agree c.requires.at.agree };
+    there = c.in-Some.ensures.there;
+  };
   rotates = c.rotates-rotates.ensures;
 }
 

@@ -29,12 +29,8 @@ use Rattle.core_events.proofs.Machines.{folds_of, timely_with, of_states, histor
 use Rattle.core_events.proofs.room.CoreRoomRoom.apply.Goals as goal
 use Rattle.task_table.specs.Table.{total_in}
 
-pub counted-reply-requires-clause-event : goal.counted-reply-requires-clause-event
-counted-reply-requires-clause-event g c =
-    subst (λ count. IsEvent count c.args.event) (sym c.self.invariant.siblings) (subst (λ (m : Machine). IsEvent m.opening.scenario.siblings c.args.event) (sym c.self.view_is) c.requires.event)
-
-pub counted-reply-requires-clause-ready : goal.counted-reply-requires-clause-ready
-counted-reply-requires-clause-ready g c =
+pub counted-reply-requires-clause-may : goal.counted-reply-requires-clause-may
+counted-reply-requires-clause-may g c =
     let a = c.self.inside in
     let last = fold_of (opening_of a) a.entries.items in
     let accounted : IsAccounted 255 (length a.entries.items) (account_of last) =
@@ -42,79 +38,82 @@ counted-reply-requires-clause-ready g c =
     let fold = c.self.invariant.fold in
     let folds = folds_of a c.self.invariant in
     record {
-      sound = c.self.invariant.sound;
-      time = record {
-        entries = length a.entries.items;
-        few = omega (arith, a.entries.ok.0, c.self.invariant.few_entries, most_entries-le a.scenario c.self.invariant.playable);
-        timely = λ intervals. subst (λ (room : RoomState). IsTimely (length a.entries.items) room)
-            (sym (ap (λ (room : RoomState). let other : RoomState = record room { intervals = intervals } in other) c.self.invariant.fold))
-            (timely_with intervals (length a.entries.items) (fold_of (opening_of a) a.entries.items) (timely-fold_of (opening_of a) a.entries.items));
-        clock = omega (arith, c.self.invariant.slow, a.entries.ok.0, c.self.invariant.few_entries, most_entries-le a.scenario c.self.invariant.playable);
-      };
-      paid = record {
-        clock = omega (arith, c.self.invariant.slow, a.entries.ok.0, c.self.invariant.few_entries, most_entries-le a.scenario c.self.invariant.playable);
-        started = subst (λ (r : RoomState). charged_up_to (account_of r) ≤ r.clock) (sym fold) accounted.started;
-        few = subst (λ (r : RoomState). r.forced ≤ 255) (sym fold) accounted.few;
-        intervals = omega (
-          arith,
-          accounted.intervals,
-          ap (λ (numbers : Numbers). numbers.intervals) c.self.invariant.numbers,
-          a.entries.ok.0,
-          c.self.invariant.few_entries,
-          most_entries-le a.scenario c.self.invariant.playable,
-        );
-        totals = λ pid. subst (λ (r : RoomState). total_in a.state.tasks pid ≤ 255 * charged_up_to (account_of r)) (sym fold)
-            (omega (arith, total_kept (opening_of a) a.state a.entries.items pid folds, accounted.totals pid));
-      };
-      own = own_run (opening_of a) a.state a.entries.items folds c.self.invariant.playable c.self.invariant.events
-          (subst (IsLegal (opening_of a)) (sym c.self.invariant.history) (IsLegal-history_of (opening_of a) _));
-      behind = behind_of (opening_of a) a.state a.entries.items folds c.self.invariant.siblings c.self.invariant.playable c.self.invariant.events
-          (subst (IsLegal (opening_of a)) (sym c.self.invariant.history) (IsLegal-history_of (opening_of a) _));
-      spares = record {
-        touches = omega (
-          arith,
-          task_number-ledger_of (opening_of a) a.entries.items c.self.invariant.playable.few_tasks c.self.invariant.playable.task_limit.1,
-          ap (λ (numbers : Numbers). numbers.task) c.self.invariant.numbers,
-          a.entries.ok.0,
-          c.self.invariant.few_entries,
-          most_entries-le a.scenario c.self.invariant.playable,
-          ap (λ (room : RoomState). length room.tasks) c.self.invariant.fold,
-          few-fold_of (opening_of a) a.entries.items c.self.invariant.playable.few_tasks,
-          c.self.invariant.playable.task_limit.1,
-        );
-        stamps = omega (
-          arith,
-          next_stamp-fold_of (opening_of a) a.entries.items c.self.invariant.playable.few_tasks c.self.invariant.playable.task_limit.1,
-          ap (λ (room : RoomState). room.next_stamp) c.self.invariant.fold,
-          a.entries.ok.0,
-          c.self.invariant.few_entries,
-          most_entries-le a.scenario c.self.invariant.playable,
-          ap (λ (room : RoomState). length room.tasks) c.self.invariant.fold,
-          few-fold_of (opening_of a) a.entries.items c.self.invariant.playable.few_tasks,
-          c.self.invariant.playable.task_limit.1,
-        );
-        serial = omega (arith, next_cookie-fold_of (opening_of a) a.entries.items c.self.invariant.playable.few_tasks c.self.invariant.playable.task_limit.1, ap (λ (room : RoomState). room.next_cookie) c.self.invariant.fold, a.entries.ok.0);
-        pid = omega (arith, next_pid-fold_of (opening_of a) a.entries.items c.self.invariant.playable.few_tasks c.self.invariant.playable.task_limit.1, ap (λ (room : RoomState). room.next_pid) c.self.invariant.fold, a.entries.ok.0, first_pid-low a.scenario c.self.invariant.playable, c.self.invariant.few_entries, most_entries-le a.scenario c.self.invariant.playable);
-        ended = omega (
-          arith,
-          ended-fold_of (opening_of a) a.entries.items c.self.invariant.playable.few_tasks c.self.invariant.playable.task_limit.1,
-          ap (λ (room : RoomState). length room.ended) c.self.invariant.fold,
-          length-map a.state.ended.items (λ (one : ℕ × ℕ). one.0),
-          a.entries.ok.0,
-          c.requires.spare,
-          ap (λ (m : Machine). m.spare) c.self.view_is,
-          c.self.invariant.ends,
-          c.self.invariant.few_entries,
-          a.state.ended.ok.0,
-        );
-        places = All-weaker (λ (lane : Lane g.row.Q.Denot). lane.place ≤ length a.entries.items) (λ (lane : Lane g.row.Q.Denot). lane.place + 1 < 2 ^ 32)
-            (λ lane few. omega (arith, few, a.entries.ok.0, c.self.invariant.few_entries, most_entries-le a.scenario c.self.invariant.playable)) a.state.core.lanes.items
-            (of_states (λ (sibling : SiblingState). sibling.place ≤ length a.entries.items) a.state.core.lanes.items
-            (subst (λ (room : RoomState). All (λ (sibling : SiblingState). sibling.place ≤ length a.entries.items) room.siblings) (sym c.self.invariant.fold) (places-fold_of (opening_of a) a.entries.items)));
-        asked = All-weaker (λ (guard : GuardState). guard.asked < 2 ^ 43) (λ (guard : GuardState). guard.asked < 2 ^ 62) (λ guard is. omega (arith, is)) a.state.guards.guards.all
-            (subst (λ (room : RoomState). All (λ (guard : GuardState). guard.asked < 2 ^ 43) room.guards.all) (sym c.self.invariant.fold)
-            (asked-fold_of (opening_of a) a.entries.items c.self.invariant.playable.few_tasks c.self.invariant.playable.task_limit.1
-            (omega (arith, a.entries.ok.0, c.self.invariant.few_entries, most_entries-le a.scenario c.self.invariant.playable))));
+      event = subst (λ count. IsEvent count c.args.event) (sym c.self.invariant.siblings) (subst (λ (m : Machine). IsEvent m.opening.scenario.siblings c.args.event) (sym c.self.view_is) c.requires.event);
+      ready = record {
+        sound = c.self.invariant.sound;
+        time = record {
+          entries = length a.entries.items;
+          few = omega (arith, a.entries.ok.0, c.self.invariant.few_entries, most_entries-le a.scenario c.self.invariant.playable);
+          timely = λ intervals. subst (λ (room : RoomState). IsTimely (length a.entries.items) room)
+              (sym (ap (λ (room : RoomState). let other : RoomState = record room { intervals = intervals } in other) c.self.invariant.fold))
+              (timely_with intervals (length a.entries.items) (fold_of (opening_of a) a.entries.items) (timely-fold_of (opening_of a) a.entries.items));
+          clock = omega (arith, c.self.invariant.slow, a.entries.ok.0, c.self.invariant.few_entries, most_entries-le a.scenario c.self.invariant.playable);
+        };
+        paid = record {
+          clock = omega (arith, c.self.invariant.slow, a.entries.ok.0, c.self.invariant.few_entries, most_entries-le a.scenario c.self.invariant.playable);
+          started = subst (λ (r : RoomState). charged_up_to (account_of r) ≤ r.clock) (sym fold) accounted.started;
+          few = subst (λ (r : RoomState). r.forced ≤ 255) (sym fold) accounted.few;
+          intervals = omega (
+            arith,
+            accounted.intervals,
+            ap (λ (numbers : Numbers). numbers.intervals) c.self.invariant.numbers,
+            a.entries.ok.0,
+            c.self.invariant.few_entries,
+            most_entries-le a.scenario c.self.invariant.playable,
+          );
+          totals = λ pid. subst (λ (r : RoomState). total_in a.state.tasks pid ≤ 255 * charged_up_to (account_of r)) (sym fold)
+              (omega (arith, total_kept (opening_of a) a.state a.entries.items pid folds, accounted.totals pid));
+        };
+        own = own_run (opening_of a) a.state a.entries.items folds c.self.invariant.playable c.self.invariant.events
+            (subst (IsLegal (opening_of a)) (sym c.self.invariant.history) (IsLegal-history_of (opening_of a) _));
+        behind = behind_of (opening_of a) a.state a.entries.items folds c.self.invariant.siblings c.self.invariant.playable c.self.invariant.events
+            (subst (IsLegal (opening_of a)) (sym c.self.invariant.history) (IsLegal-history_of (opening_of a) _));
+        spares = record {
+          touches = omega (
+            arith,
+            task_number-ledger_of (opening_of a) a.entries.items c.self.invariant.playable.few_tasks c.self.invariant.playable.task_limit.1,
+            ap (λ (numbers : Numbers). numbers.task) c.self.invariant.numbers,
+            a.entries.ok.0,
+            c.self.invariant.few_entries,
+            most_entries-le a.scenario c.self.invariant.playable,
+            ap (λ (room : RoomState). length room.tasks) c.self.invariant.fold,
+            few-fold_of (opening_of a) a.entries.items c.self.invariant.playable.few_tasks,
+            c.self.invariant.playable.task_limit.1,
+          );
+          stamps = omega (
+            arith,
+            next_stamp-fold_of (opening_of a) a.entries.items c.self.invariant.playable.few_tasks c.self.invariant.playable.task_limit.1,
+            ap (λ (room : RoomState). room.next_stamp) c.self.invariant.fold,
+            a.entries.ok.0,
+            c.self.invariant.few_entries,
+            most_entries-le a.scenario c.self.invariant.playable,
+            ap (λ (room : RoomState). length room.tasks) c.self.invariant.fold,
+            few-fold_of (opening_of a) a.entries.items c.self.invariant.playable.few_tasks,
+            c.self.invariant.playable.task_limit.1,
+          );
+          serial = omega (arith, next_cookie-fold_of (opening_of a) a.entries.items c.self.invariant.playable.few_tasks c.self.invariant.playable.task_limit.1, ap (λ (room : RoomState). room.next_cookie) c.self.invariant.fold, a.entries.ok.0);
+          pid = omega (arith, next_pid-fold_of (opening_of a) a.entries.items c.self.invariant.playable.few_tasks c.self.invariant.playable.task_limit.1, ap (λ (room : RoomState). room.next_pid) c.self.invariant.fold, a.entries.ok.0, first_pid-low a.scenario c.self.invariant.playable, c.self.invariant.few_entries, most_entries-le a.scenario c.self.invariant.playable);
+          ended = omega (
+            arith,
+            ended-fold_of (opening_of a) a.entries.items c.self.invariant.playable.few_tasks c.self.invariant.playable.task_limit.1,
+            ap (λ (room : RoomState). length room.ended) c.self.invariant.fold,
+            length-map a.state.ended.items (λ (one : ℕ × ℕ). one.0),
+            a.entries.ok.0,
+            c.requires.spare,
+            ap (λ (m : Machine). m.spare) c.self.view_is,
+            c.self.invariant.ends,
+            c.self.invariant.few_entries,
+            a.state.ended.ok.0,
+          );
+          places = All-weaker (λ (lane : Lane g.row.Q.Denot). lane.place ≤ length a.entries.items) (λ (lane : Lane g.row.Q.Denot). lane.place + 1 < 2 ^ 32)
+              (λ lane few. omega (arith, few, a.entries.ok.0, c.self.invariant.few_entries, most_entries-le a.scenario c.self.invariant.playable)) a.state.core.lanes.items
+              (of_states (λ (sibling : SiblingState). sibling.place ≤ length a.entries.items) a.state.core.lanes.items
+              (subst (λ (room : RoomState). All (λ (sibling : SiblingState). sibling.place ≤ length a.entries.items) room.siblings) (sym c.self.invariant.fold) (places-fold_of (opening_of a) a.entries.items)));
+          asked = All-weaker (λ (guard : GuardState). guard.asked < 2 ^ 43) (λ (guard : GuardState). guard.asked < 2 ^ 62) (λ guard is. omega (arith, is)) a.state.guards.guards.all
+              (subst (λ (room : RoomState). All (λ (guard : GuardState). guard.asked < 2 ^ 43) room.guards.all) (sym c.self.invariant.fold)
+              (asked-fold_of (opening_of a) a.entries.items c.self.invariant.playable.few_tasks c.self.invariant.playable.task_limit.1
+              (omega (arith, a.entries.ok.0, c.self.invariant.few_entries, most_entries-le a.scenario c.self.invariant.playable))));
+        };
       };
     }
 

@@ -29,31 +29,25 @@ child_at_home-task-requires g c =
     (subst (λ count. makes.0.home < count) (sym born.stays.siblings) fit.home)
 
 -- the child at home is the child but for its home and its virtual time
-pub queue_at_home-requires-clause-knows : goal.queue_at_home-requires-clause-knows
-queue_at_home-requires-clause-knows g c =
+pub queue_at_home-requires : goal.queue_at_home-requires
+queue_at_home-requires g c =
     let makes = c.in-Ok.ensures in
     let born = makes.2 in
     let after = c.make_child.new.self in
     let fit = fits_found (both c.args.self.now) c.args.caller makes.0 c.requires.ready.sound.agree makes.1 in
     let is = c.child_at_home-task.ensures.child_at_home some_beside after.tasks in
-    knows_as (both after) c.child_at_home-task.result c.in-Ok.child
-    (ap (λ (task : Task). task.spec.pid) is) (ap (λ (task : Task). task.cookie) is) born.there
-    (record {
-      home = c.child_at_home-task.ensures.within;
-      policy = subst (λ (task : Task). IsPolicy task.spec.policy) (sym is) (subst (λ (task : Task). IsPolicy task.spec.policy) (sym born.is) fit.policy);
-    })
-
-pub queue_at_home-requires-clause-agree : goal.queue_at_home-requires-clause-agree
-queue_at_home-requires-clause-agree g c = (c.in-Ok.ensures.2.stays.sound c.requires.ready.sound).agree
-
-pub queue_at_home-requires-clause-clock : goal.queue_at_home-requires-clause-clock
-queue_at_home-requires-clause-clock g c = omega (arith, ap (λ (room : RoomState). room.clock) (c.in-Ok.ensures.2.room []), c.requires.ready.time.clock)
-
-pub queue_at_home-requires-clause-stamp : goal.queue_at_home-requires-clause-stamp
-queue_at_home-requires-clause-stamp g c = omega (arith, ap (λ (room : RoomState). room.next_stamp) (c.in-Ok.ensures.2.room []), c.requires.ready.spares.stamps)
-
-pub queue_at_home-requires-clause-touches : goal.queue_at_home-requires-clause-touches
-queue_at_home-requires-clause-touches g c = omega (arith, ap (λ (numbers : Numbers). numbers.task) c.in-Ok.ensures.2.numbers, c.requires.ready.spares.touches)
+    record {
+      knows = knows_as (both after) c.child_at_home-task.result c.in-Ok.child
+          (ap (λ (task : Task). task.spec.pid) is) (ap (λ (task : Task). task.cookie) is) born.there
+          (record {
+            home = c.child_at_home-task.ensures.within;
+            policy = subst (λ (task : Task). IsPolicy task.spec.policy) (sym is) (subst (λ (task : Task). IsPolicy task.spec.policy) (sym born.is) fit.policy);
+          });
+      agree = (born.stays.sound c.requires.ready.sound).agree;
+      clock = omega (arith, ap (λ (room : RoomState). room.clock) (born.room []), c.requires.ready.time.clock);
+      stamp = omega (arith, ap (λ (room : RoomState). room.next_stamp) (born.room []), c.requires.ready.spares.stamps);
+      touches = omega (arith, ap (λ (numbers : Numbers). numbers.task) born.numbers, c.requires.ready.spares.touches);
+    }
 
 pub returns-in-Ok : goal.returns-in-Ok
 returns-in-Ok g c =

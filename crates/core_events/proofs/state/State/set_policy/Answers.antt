@@ -1,4 +1,4 @@
-use Rattle.std.proofs.Common.{◌≡◌, ◌+◌, ◌∙◌, ap, sym, cond, Bool, true, false, refl, subst}
+use Rattle.std.proofs.Common.{◌≡◌, ◌+◌, ◌∙◌, ap, sym, cond, Bool, true, false, refl, subst, arith}
 use Rattle.std.specs.Prelude.{Option, Some}
 use Rattle.cs_types.specs.declared.task.Task.{Task}
 use Rattle.cs_types.specs.Room.{with_task}
@@ -21,13 +21,19 @@ found_numbers numbers task found queued is so =
     ap (λ b. let after : Numbers = record numbers { task = numbers.task + cond b 2 0 } in after) (sym so)
     ∙ ap (λ one. let after : Numbers = record numbers { task = numbers.task + policy_touches one } in after) is
 
-pub requeue-requires-clause-knows : goal.requeue-requires-clause-knows
-requeue-requires-clause-knows g c =
+pub requeue-requires : goal.requeue-requires
+requeue-requires g c =
     let old = c.args.self.now in
     let task = c.in-Some.task in
     let fit = fits_found (both old) c.args.pid task c.requires.ready.sound.agree (sym c.in-Some.ensures.task) in
-    subst (KnowsApart (both old)) (sym c.with_policy-changed.ensures)
-    (knows_as (both old) (with_policy c.args.policy task) task refl refl c.in-Some.ensures.there (record { home = fit.home; policy = c.requires.policy }))
+    record {
+      knows = subst (KnowsApart (both old)) (sym c.with_policy-changed.ensures)
+          (knows_as (both old) (with_policy c.args.policy task) task refl refl c.in-Some.ensures.there (record { home = fit.home; policy = c.requires.policy }));
+      agree = c.requires.ready.sound.agree;
+      clock = c.requires.ready.time.clock;
+      stamp = omega (arith, c.requires.ready.spares.stamps);
+      touches = omega (arith, c.requires.ready.spares.touches);
+    }
 
 pub change-requires-clause-knows : goal.change-requires-clause-knows
 change-requires-clause-knows g c =

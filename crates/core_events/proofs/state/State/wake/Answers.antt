@@ -1,4 +1,4 @@
-use Rattle.std.proofs.Common.{◌≡◌, ◌<◌, ◌^◌, ◌∙◌, ap, sym, subst, refl}
+use Rattle.std.proofs.Common.{◌≡◌, ◌<◌, ◌^◌, ◌∙◌, ap, sym, subst, refl, arith}
 use Rattle.std.proofs.lemmas.Bool.{cond-false, cond_both, cond-true}
 use Rattle.std.specs.Prelude.{Some}
 use Rattle.cs_types.specs.declared.task.Task.{Task}
@@ -35,16 +35,22 @@ kept room task =
     let moved = moved_to room (lowest_online room) task in
     cond_both (is_online room task.home) task moved (λ (t : Task). (t.spec ≡ task.spec) × (t.cookie ≡ task.cookie)) (λ _. (refl, refl)) (λ _. (refl, refl))
 
-pub queue_at_home-requires-clause-knows : goal.queue_at_home-requires-clause-knows
-queue_at_home-requires-clause-knows g c =
+pub queue_at_home-requires : goal.queue_at_home-requires
+queue_at_home-requires g c =
     let state = c.args.self.now in
     let task = c.in-Some.task in
     let is = c.rehomed-task.ensures.rehomed some_beside state.tasks in
     let same = kept (room_of some_beside (both state)) task in
     let spec = ap (λ (t : Task). t.spec) is ∙ same.0 in
     let fit = fits_found (both state) c.args.pid task c.requires.ready.sound.agree (sym c.in-Some.ensures.task) in
-    knows_as (both state) c.rehomed-task.result task (ap (λ (s : TaskSpec). s.pid) spec) (ap (λ (t : Task). t.cookie) is ∙ same.1) c.in-Some.ensures.there
-    (record { home = c.rehomed-task.ensures.within; policy = subst (λ (s : TaskSpec). IsPolicy s.policy) (sym spec) fit.policy })
+    record {
+      knows = knows_as (both state) c.rehomed-task.result task (ap (λ (s : TaskSpec). s.pid) spec) (ap (λ (t : Task). t.cookie) is ∙ same.1) c.in-Some.ensures.there
+          (record { home = c.rehomed-task.ensures.within; policy = subst (λ (s : TaskSpec). IsPolicy s.policy) (sym spec) fit.policy });
+      agree = c.requires.ready.sound.agree;
+      clock = c.requires.ready.time.clock;
+      stamp = omega (arith, c.requires.ready.spares.stamps);
+      touches = omega (arith, c.requires.ready.spares.touches);
+    }
 
 pub returns : goal.returns
 returns g c =
