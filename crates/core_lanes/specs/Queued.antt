@@ -7,6 +7,7 @@ use Rattle.cs_types.specs.Order.{class_of, priority_of, foremost, is_fair, goes_
 use Rattle.cs_types.specs.Queue.{queued_of}
 use Rattle.cs_types.specs.Scenario.{IsPolicy}
 use Rattle.cs_types.specs.Room.{has_pid}
+use Rattle.task_table.specs.Table.{Table, IsSound as IsTable}
 
 -- ---- the tasks of a queue
 
@@ -43,6 +44,23 @@ HasOwnStamp tasks task =
 pub record AreStamped (next : ℕ) (tasks : List Task) : Type 0 where
   pub below : All (λ task. IsTrue task.queued → task.stamp < next) tasks
   pub distinct : (task : Task) → IsOf tasks task → IsTrue task.queued → HasOwnStamp tasks task
+
+-- A queue may be asked about a task: the table has it queued on the sibling, whose queue holds what it is to hold.
+pub record IsQueuedOn (Held : Type 0) (cpu : ℕ) (all : Table) (task : Task) : Type 0 where
+  pub table : IsTable all
+  pub there : IsOf all.tasks task
+  pub queued : IsTrue task.queued
+  pub home : task.home ≡ cpu
+  pub holds : Held
+
+-- A task may enter a queue: the same where no other queued task has its stamp.
+pub record MayBePut (Held : Type 0) (cpu : ℕ) (all : Table) (task : Task) : Type 0 where
+  pub table : IsTable all
+  pub there : IsOf all.tasks task
+  pub queued : IsTrue task.queued
+  pub home : task.home ≡ cpu
+  pub stamp : HasOwnStamp all.tasks task
+  pub holds : Held
 
 -- the policies of the tasks keep their limits
 abbrev pub HavePolicies : List Task → Type 0

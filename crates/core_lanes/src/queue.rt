@@ -1,10 +1,10 @@
 //! What a sibling's queue is asked. It is a trait, so that one text of the events serves every kind of queue.
 
-ghost use Rattle.std.specs.Prelude.{◌≡◌, ◌≢◌, ◌==◌, ◌&&◌, ℕ, ◌+◌, ◌≤◌, List, [], ◌++◌, length, map, IfOk, IsPermutation, IsTrue};
+ghost use Rattle.std.specs.Prelude.{◌≡◌, ◌≢◌, ◌==◌, ◌&&◌, ℕ, ◌+◌, ◌≤◌, List, [], ◌++◌, length, map, IfOk, IsPermutation};
 ghost use Rattle.cs_types.specs.declared.queue.Queued.{Queued};
 ghost use Rattle.cs_types.specs.Order.{first_of};
 ghost use Rattle.cs_types.specs.Scenario.{IsPolicy};
-ghost use Rattle.core_lanes.specs.Queued.{queued_among, queued_at, mover_of, others, given_cookie, IsOf, HasOwnStamp, with_cookie, behind, smallest_vtime, has_peer, HavePolicies};
+ghost use Rattle.core_lanes.specs.Queued.{queued_among, queued_at, mover_of, others, given_cookie, IsOf, IsQueuedOn, MayBePut, with_cookie, behind, smallest_vtime, has_peer, HavePolicies};
 ghost use Rattle.task_table.specs.Table.{IsSound as IsTable};
 
 use arrayvec::ArrayVec;
@@ -36,22 +36,13 @@ pub trait SiblingQueue: Drop {
 
     /// The task, which the table has queued on the sibling, enters.
     fn put<L: Ledger>(&mut self, table: &TaskTable, cpu: Cpu, task: &Task, steps: &mut Steps<L>)
-        requires table { IsTable table.now }
-        requires there { IsOf table.now.tasks task.now }
-        requires queued { IsTrue task.now.queued }
-        requires home { task.now.home ≡ cpu }
-        requires stamp { HasOwnStamp table.now.tasks task.now }
-        requires holds { holds self.old table.now.limit (others task.now.spec.pid (queued_at table.now.tasks cpu)) }
+        requires { MayBePut (holds self.old table.now.limit (others task.now.spec.pid (queued_at table.now.tasks cpu))) cpu table.now task.now }
         ensures holds { holds self.new table.now.limit (queued_at table.now.tasks cpu) }
         ensures counted { steps.new ≤ steps.old + most_compared (length (queued_among table.now.tasks cpu)) };
 
     /// The task, which the table has queued on the sibling, leaves.
     fn take<L: Ledger>(&mut self, table: &TaskTable, cpu: Cpu, task: &Task, steps: &mut Steps<L>)
-        requires table { IsTable table.now }
-        requires there { IsOf table.now.tasks task.now }
-        requires queued { IsTrue task.now.queued }
-        requires home { task.now.home ≡ cpu }
-        requires holds { holds self.old table.now.limit (queued_at table.now.tasks cpu) }
+        requires { IsQueuedOn (holds self.old table.now.limit (queued_at table.now.tasks cpu)) cpu table.now task.now }
         ensures holds { holds self.new table.now.limit (others task.now.spec.pid (queued_at table.now.tasks cpu)) }
         ensures counted { steps.new ≤ steps.old + most_compared (length (queued_among table.now.tasks cpu)) };
 
@@ -65,11 +56,7 @@ pub trait SiblingQueue: Drop {
         cookie: Cookie,
         steps: &mut Steps<L>,
     )
-        requires table { IsTable table.now }
-        requires there { IsOf table.now.tasks task.now }
-        requires queued { IsTrue task.now.queued }
-        requires home { task.now.home ≡ cpu }
-        requires holds { holds self.old table.now.limit (queued_at table.now.tasks cpu) }
+        requires { IsQueuedOn (holds self.old table.now.limit (queued_at table.now.tasks cpu)) cpu table.now task.now }
         ensures holds { holds self.new table.now.limit (queued_at (given_cookie task.now cookie table.now.tasks) cpu) }
         ensures counted { steps.new ≤ steps.old + most_compared (length (queued_among table.now.tasks cpu)) };
 

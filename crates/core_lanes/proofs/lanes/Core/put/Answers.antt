@@ -7,11 +7,18 @@ use Rattle.core_lanes.proofs.Stays.{number_of, queue_of, queue_at}
 use Rattle.core_lanes.proofs.Queues.{held-set, others-absent, off_elsewhere, off_asleep}
 use Rattle.core_lanes.proofs.lanes.Core.put.Goals as goal
 
-pub put-requires-clause-holds : goal.put-requires-clause-holds
-put-requires-clause-holds g c =
+pub put-requires : goal.put-requires
+put-requires g c =
     let home = c.args.task.now.home in
     let lane = c.index_mut.result.now in
-    c.requires.held home lane.queue (queue_at c.args.self.now.lanes.items home lane c.requires.home.home c.index_mut.ensures.value)
+    record {
+      table = c.requires.home.table;
+      there = c.requires.home.there;
+      queued = c.if-task.true;
+      home = refl;
+      stamp = c.requires.stamp c.if-task.true;
+      holds = c.requires.held home lane.queue (queue_at c.args.self.now.lanes.items home lane c.requires.home.home c.index_mut.ensures.value);
+    }
 
 pub returns-then-task-clause-bare : goal.returns-then-task-clause-bare
 returns-then-task-clause-bare g c =

@@ -9,11 +9,17 @@ use Rattle.core_lanes.proofs.Queues.{held-set, off_elsewhere, off_asleep}
 use Rattle.core_lanes.proofs.Replaced.{queued_at-replaced}
 use Rattle.core_lanes.proofs.lanes.Core.set_cookie_in_queue.Goals as goal
 
-pub set_cookie-requires-clause-holds : goal.set_cookie-requires-clause-holds
-set_cookie-requires-clause-holds g c =
+pub set_cookie-requires : goal.set_cookie-requires
+set_cookie-requires g c =
     let home = c.args.task.now.home in
     let lane = c.index_mut.result.now in
-    c.requires.held home lane.queue (queue_at c.args.self.now.lanes.items home lane c.requires.home.home c.index_mut.ensures.value)
+    record {
+      table = c.requires.home.table;
+      there = c.requires.home.there;
+      queued = c.if-task.true;
+      home = refl;
+      holds = c.requires.held home lane.queue (queue_at c.args.self.now.lanes.items home lane c.requires.home.home c.index_mut.ensures.value);
+    }
 
 pub returns-then-task-clause-bare : goal.returns-then-task-clause-bare
 returns-then-task-clause-bare g c =

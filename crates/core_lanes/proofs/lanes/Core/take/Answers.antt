@@ -7,11 +7,17 @@ use Rattle.core_lanes.proofs.Stays.{number_of, queue_of, queue_at}
 use Rattle.core_lanes.proofs.Queues.{held-set, others-absent, off_elsewhere, off_asleep}
 use Rattle.core_lanes.proofs.lanes.Core.take.Goals as goal
 
-pub take-requires-clause-holds : goal.take-requires-clause-holds
-take-requires-clause-holds g c =
+pub take-requires : goal.take-requires
+take-requires g c =
     let home = c.args.task.now.home in
     let lane = c.index_mut.result.now in
-    c.requires.held home lane.queue (queue_at c.args.self.now.lanes.items home lane c.requires.home.home c.index_mut.ensures.value)
+    record {
+      table = c.requires.home.table;
+      there = c.requires.home.there;
+      queued = c.if-task.true;
+      home = refl;
+      holds = c.requires.held home lane.queue (queue_at c.args.self.now.lanes.items home lane c.requires.home.home c.index_mut.ensures.value);
+    }
 
 pub returns-then-task-clause-bare : goal.returns-then-task-clause-bare
 returns-then-task-clause-bare g c =
