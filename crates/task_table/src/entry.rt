@@ -92,8 +92,8 @@ fn first_among(entries: &[Entry], group: Group) -> Option<usize>
     entries.iter().position(|entry| entry.is_in(group))
 }
 
-/// The position of the first entry of the group. `None` exactly where there is none.
-pub(crate) fn first_in(entries: &[Entry], group: Group) -> Option<usize>
+/// The position of the first entry of the group, by blocks where none is near.
+fn search(entries: &[Entry], group: Group) -> Option<usize>
     ensures { result ≡ position (tells_group group) entries.now }
 {
     let near = entries.len().min(NEAR);
@@ -103,6 +103,18 @@ pub(crate) fn first_in(entries: &[Entry], group: Group) -> Option<usize>
     let clear = clear_to(entries, near, group);
     let position = first_among(&entries[clear..], group)?;
     Some(clear + position)
+}
+
+/// The position of the first entry of the group. `None` exactly where there is none. In a walk over all tasks it is the
+/// first of all.
+pub(crate) fn first_in(entries: &[Entry], group: Group) -> Option<usize>
+    ensures { result ≡ position (tells_group group) entries.now }
+{
+    if entries.first()?.is_in(group) {
+        Some(0)
+    } else {
+        search(entries, group)
+    }
 }
 
 /// Whether the pid is above those of all entries, which rise by pid. A child's is.

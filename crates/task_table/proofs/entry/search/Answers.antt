@@ -3,7 +3,7 @@ use Rattle.std.specs.List.{position}
 use Rattle.std.proofs.lemmas.List.{take_rest}
 use Rattle.task_table.specs.Inside.{tells_group}
 use Rattle.task_table.proofs.Blocks.{first_behind}
-use Rattle.task_table.proofs.entry.first_in.Goals as goal
+use Rattle.task_table.proofs.entry.search.Goals as goal
 
 pub returns-in_err-position : goal.returns-in_err-position
 returns-in_err-position c =
