@@ -3,7 +3,7 @@
 
 ghost use Rattle.std.specs.Prelude.{◌≡◌, ◌<◌};
 
-use crate::scenarios::text_of_steps;
+use crate::scenarios::{STEP, text_of_lines};
 use command_words::{Command, command_of, drill_seed, is_replay};
 use cs_outside::{MemSink, MemSource, NoGate, PairGuard};
 use scenario_runner::{Status, drill, replay, run};
@@ -98,95 +98,97 @@ pub fn sink_of<R: AllocGlobal + Abort>(rt: &R, most: usize, fails: Vec<u64>) -> 
     MemSink::of(rt.alloc(), 4096, most, fails).expect(rt, "room")
 }
 
-/// Expects that `run` without guards ends so over these devices, and has written these bytes.
+/// Expects that `run` without guards ends so over this text, and writes these bytes. The source gives so many bytes
+/// at once, and the sink takes so many. They fail at these calls, where they come to them. It returns how often each
+/// of them was called.
 fn expect_run<R: Threads + Wait + AllocGlobal + Sync + Abort>(
     rt: &R,
     texts: &[&str],
-    source: &mut MemSource,
-    sink: &mut MemSink,
+    text: &[u8],
+    most: (usize, usize),
+    fails: (u64, u64),
     wanted: Status,
     output: &[u8],
-)
-    requires source { source.old.faults ≡ 0 }
-    requires sink { sink.old.faults ≡ 0 }
+) -> (u64, u64)
+    requires gives { 0 < most.0 }
+    requires takes { 0 < most.1 }
 {
     let words = words_of(rt.alloc(), texts).expect(rt, "room");
+    let mut source = source_of(rt, text, most.0, only(rt, fails.0));
+    let mut sink = sink_of(rt, most.1, only(rt, fails.1));
     let guards = Vec::<PairGuard>::new(rt.alloc());
-    assert!(rt; run(rt, &words, source, sink, &NoGate, guards) == wanted);
+    assert!(rt; run(rt, &words, &mut source, &mut sink, &NoGate, guards) == wanted);
     assert!(rt; sink.bytes() == output);
+    (source.calls(), sink.calls())
 }
 
 /// The same of `replay`.
 fn expect_replay<R: AllocGlobal + Abort>(
     rt: &R,
     texts: &[&str],
-    source: &mut MemSource,
-    sink: &mut MemSink,
+    text: &[u8],
+    most: (usize, usize),
+    fails: (u64, u64),
     wanted: Status,
     output: &[u8],
-)
-    requires source { source.old.faults ≡ 0 }
-    requires sink { sink.old.faults ≡ 0 }
+) -> (u64, u64)
+    requires gives { 0 < most.0 }
+    requires takes { 0 < most.1 }
 {
     let words = words_of(rt.alloc(), texts).expect(rt, "room");
+    let mut source = source_of(rt, text, most.0, only(rt, fails.0));
+    let mut sink = sink_of(rt, most.1, only(rt, fails.1));
     let guards = Vec::<PairGuard>::new(rt.alloc());
-    assert!(rt; replay(rt.alloc(), &words, source, sink, guards) == wanted);
+    assert!(rt; replay(rt.alloc(), &words, &mut source, &mut sink, guards) == wanted);
     assert!(rt; sink.bytes() == output);
+    (source.calls(), sink.calls())
 }
 
-/// Expects that `run` and `replay` write the stored run whole, in this many calls that take at most `most`
-/// bytes.
-fn expect_played<R: Threads + Wait + AllocGlobal + Sync + Abort>(rt: &R, most: usize, calls: u64)
-    requires { 0 < most }
+/// Expects that `run` and `replay` end so over the stored input, and write these bytes, by as many calls.
+fn expect_stored<R: Threads + Wait + AllocGlobal + Sync + Abort>(
+    rt: &R,
+    texts: &[&str],
+    most: (usize, usize),
+    fails: (u64, u64),
+    wanted: Status,
+    output: &[u8],
+) -> (u64, u64)
+    requires gives { 0 < most.0 }
+    requires takes { 0 < most.1 }
 {
-    let output = joined(rt.alloc(), &LINES).expect(rt, "room");
-    let mut source = source_of(rt, INPUT.as_bytes(), 4096, Vec::new(rt.alloc()));
-    let mut sink = sink_of(rt, most, Vec::new(rt.alloc()));
-    expect_run(
-        rt,
-        &["replay"],
-        &mut source,
-        &mut sink,
-        Status::Done,
-        &output,
-    );
-    assert!(rt; sink.calls() == calls);
-    let mut source = source_of(rt, INPUT.as_bytes(), 4096, Vec::new(rt.alloc()));
-    let mut sink = sink_of(rt, most, Vec::new(rt.alloc()));
-    expect_replay(
-        rt,
-        &["replay"],
-        &mut source,
-        &mut sink,
-        Status::Done,
-        &output,
-    );
-    assert!(rt; sink.calls() == calls);
+    let text = INPUT.as_bytes();
+    let calls = expect_run(rt, texts, text, most, fails, wanted, output);
+    assert!(rt; expect_replay(rt, texts, text, most, fails, wanted, output) == calls);
+    calls
 }
 
 // Each line in one piece, and again with the rest where only a byte was taken.
 #[test]
 fn stored_scenario_is_played(rt: HostRuntime) {
-    expect_played(&rt, 4096, 17);
-    expect_played(&rt, 1, OUTPUT_BYTES);
+    let output = joined(rt.alloc(), &LINES).expect(&rt, "room");
+    let whole = expect_stored(
+        &rt,
+        &["replay"],
+        (4096, 4096),
+        (0, 0),
+        Status::Done,
+        &output,
+    );
+    assert!(rt; whole.1 == 17);
+    let bytes = expect_stored(&rt, &["replay"], (4096, 1), (0, 0), Status::Done, &output);
+    assert!(rt; bytes.1 == OUTPUT_BYTES);
 }
 
 /// Expects that `run` and `replay` end so over the stored input, and write these lines. The source gives a
 /// byte at a time. It fails at the one call, and the sink at the other, where they come to it.
 fn expect_faults<R: Threads + Wait + AllocGlobal + Sync + Abort>(
     rt: &R,
-    read: u64,
-    write: u64,
+    fails: (u64, u64),
     wanted: Status,
     lines: &[&str],
 ) {
     let output = joined(rt.alloc(), lines).expect(rt, "room");
-    let mut source = source_of(rt, INPUT.as_bytes(), 1, only(rt, read));
-    let mut sink = sink_of(rt, 4096, only(rt, write));
-    expect_run(rt, &["replay"], &mut source, &mut sink, wanted, &output);
-    let mut source = source_of(rt, INPUT.as_bytes(), 1, only(rt, read));
-    let mut sink = sink_of(rt, 4096, only(rt, write));
-    expect_replay(rt, &["replay"], &mut source, &mut sink, wanted, &output);
+    expect_stored(rt, &["replay"], (1, 4096), fails, wanted, &output);
 }
 
 // A source gives a byte at a call, and then tells its end. What is set for a later call never comes.
@@ -194,24 +196,19 @@ fn expect_faults<R: Threads + Wait + AllocGlobal + Sync + Abort>(
 fn source_that_fails_at_each_call(rt: HostRuntime) {
     let bytes = INPUT.len() as u64;
     for call in 1..bytes + 2 {
-        expect_faults(&rt, call, 0, Status::ReadFault, &[]);
+        expect_faults(&rt, (call, 0), Status::ReadFault, &[]);
     }
-    expect_faults(&rt, bytes + 2, 0, Status::Done, &LINES);
+    expect_faults(&rt, (bytes + 2, 0), Status::Done, &LINES);
 }
 
 // A sink takes a line at a call.
 #[test]
 fn sink_that_fails_at_each_call(rt: HostRuntime) {
     for call in 1..18 {
-        expect_faults(
-            &rt,
-            0,
-            call,
-            Status::WriteFault,
-            &LINES[..call as usize - 1],
-        );
+        let lines = &LINES[..call as usize - 1];
+        expect_faults(&rt, (0, call), Status::WriteFault, lines);
     }
-    expect_faults(&rt, 0, 18, Status::Done, &LINES);
+    expect_faults(&rt, (0, 18), Status::Done, &LINES);
 }
 
 /// Lists of words that are no command's: other words, words too many and too few, an option, and seeds that are no
@@ -234,27 +231,11 @@ const OTHER_WORDS: [&'static [&'static str]; 15] = [
     &["drill", "1", "2"],
 ];
 
-/// Expects that the words are none of `run`, `replay` or `drill`, and that nothing is read for them.
-fn expect_bad_words<R: Threads + Wait + AllocGlobal + Sync + Abort>(rt: &R, texts: &[&str]) {
-    let mut source = source_of(rt, INPUT.as_bytes(), 4096, Vec::new(rt.alloc()));
-    let mut sink = sink_of(rt, 4096, Vec::new(rt.alloc()));
-    expect_run(rt, texts, &mut source, &mut sink, Status::BadWords, b"");
-    assert!(rt; source.calls() == 0);
-    let mut source = source_of(rt, INPUT.as_bytes(), 4096, Vec::new(rt.alloc()));
-    let mut sink = sink_of(rt, 4096, Vec::new(rt.alloc()));
-    expect_replay(rt, texts, &mut source, &mut sink, Status::BadWords, b"");
-    assert!(rt; source.calls() == 0);
+/// Expects that the words are not those of `drill` alone, and that nothing is written for them.
+fn expect_no_drill<R: AllocGlobal + Abort>(rt: &R, texts: &[&str]) {
     let words = words_of(rt.alloc(), texts).expect(rt, "room");
     let mut sink = sink_of(rt, 4096, Vec::new(rt.alloc()));
-    assert!(rt; drill(rt.alloc(), &words, &mut sink) == Status::BadWords);
-    assert!(rt; sink.calls() == 0);
-}
-
-#[test]
-fn other_words(rt: HostRuntime) {
-    for texts in &OTHER_WORDS {
-        expect_bad_words(&rt, texts);
-    }
+    assert!(rt; drill(rt.alloc(), &words, &mut sink) == Status::BadWords && sink.calls() == 0);
 }
 
 /// Expects that the words ask for this command.
@@ -270,33 +251,52 @@ fn expect_command<R: AllocGlobal + Abort>(rt: &R, texts: &[&str], wanted: Option
     assert!(rt; drill_seed(alloc, &words) == seed);
 }
 
+// They are none of `run`, `replay` or `drill`, and nothing is read for them.
 #[test]
-fn words_of_the_commands(rt: HostRuntime) {
-    expect_command(&rt, &["replay"], Some(Command::Replay));
-    expect_command(&rt, &["race"], Some(Command::Race));
-    for seed in [0, 7, 4_294_967_295] {
-        let text = format!(in rt.alloc(); "{seed}").expect(&rt, "room");
-        expect_command(&rt, &["drill", &text], Some(Command::Drill { seed }));
-    }
+fn other_words(rt: HostRuntime) {
     for texts in &OTHER_WORDS {
         expect_command(&rt, texts, None);
+        let calls = expect_stored(&rt, texts, (4096, 4096), (0, 0), Status::BadWords, b"");
+        assert!(rt; calls == (0, 0));
+        expect_no_drill(&rt, texts);
     }
+}
+
+/// Words, each with the command that they ask for.
+const COMMANDS: [(&'static [&'static str], Command); 5] = [
+    (&["replay"], Command::Replay),
+    (&["race"], Command::Race),
+    (&["drill", "0"], Command::Drill { seed: 0 }),
+    (&["drill", "7"], Command::Drill { seed: 7 }),
+    (
+        &["drill", "4294967295"],
+        Command::Drill {
+            seed: 4_294_967_295,
+        },
+    ),
+];
+
+#[test]
+fn words_of_the_commands(rt: HostRuntime) {
+    for (texts, wanted) in &COMMANDS {
+        expect_command(&rt, texts, Some(*wanted));
+    }
+}
+
+/// Expects that the words are not those of `replay` alone, and that nothing is read for them.
+fn expect_no_replay<R: AllocGlobal + Abort>(rt: &R, texts: &[&str]) {
+    let text = INPUT.as_bytes();
+    let calls = expect_replay(rt, texts, text, (4096, 4096), (0, 0), Status::BadWords, b"");
+    assert!(rt; calls == (0, 0));
 }
 
 // The words of one call are not those of the other.
 #[test]
 fn words_of_another_call(rt: HostRuntime) {
-    for texts in [["replay"].as_slice(), ["race"].as_slice()] {
-        let words = words_of(rt.alloc(), texts).expect(&rt, "room");
-        let mut sink = sink_of(&rt, 4096, Vec::new(rt.alloc()));
-        assert!(rt; drill(rt.alloc(), &words, &mut sink) == Status::BadWords);
-    }
-    for texts in [["drill", "1"].as_slice(), ["race"].as_slice()] {
-        let mut source = source_of(&rt, INPUT.as_bytes(), 4096, Vec::new(rt.alloc()));
-        let mut sink = sink_of(&rt, 4096, Vec::new(rt.alloc()));
-        expect_replay(&rt, texts, &mut source, &mut sink, Status::BadWords, b"");
-        assert!(rt; source.calls() == 0);
-    }
+    expect_no_drill(&rt, &["replay"]);
+    expect_no_drill(&rt, &["race"]);
+    expect_no_replay(&rt, &["drill", "1"]);
+    expect_no_replay(&rt, &["race"]);
 }
 
 /// Expects that the command ends so over this text, and writes this output.
@@ -306,9 +306,15 @@ pub fn expect_text<R: Threads + Wait + AllocGlobal + Sync + Abort>(
     wanted: Status,
     output: &[u8],
 ) {
-    let mut source = source_of(rt, text, 65_536, Vec::new(rt.alloc()));
-    let mut sink = sink_of(rt, 4096, Vec::new(rt.alloc()));
-    expect_run(rt, &["replay"], &mut source, &mut sink, wanted, output);
+    expect_run(
+        rt,
+        &["replay"],
+        text,
+        (65_536, 4096),
+        (0, 0),
+        wanted,
+        output,
+    );
 }
 
 /// Texts that are no scenario's, each with its first bad line and what is wrong with it: an empty one, and others
@@ -375,7 +381,7 @@ fn other_texts(rt: HostRuntime) {
         };
         expect_text(&rt, text.as_bytes(), wanted, b"");
     }
-    let text = text_of_steps(rt.alloc(), 100_001).expect(&rt, "room");
+    let text = text_of_lines(&rt, STEP, 100_001);
     let wanted = Status::BadScenario {
         line: 100_005,
         kind: BadKind::Full,
