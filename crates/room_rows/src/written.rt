@@ -4,7 +4,6 @@
 use crate::commands::{joined, only, sink_of};
 use cs_types::{Actor, Ask, Creds, Event, List, Policy, Scenario, Step, TaskSpec, Teach};
 use scenario_text::{read, scenario_text};
-use std::alloc::{AllocError, Global};
 use std::process::Abort;
 
 /// The lines of a scenario without tasks and steps.
@@ -271,85 +270,72 @@ const GREAT_STEP: Step = step!(
     )
 );
 
-fn nothing(alloc: Global) -> Scenario {
+/// The scenario of this many siblings, of these limits of tasks and of cookies, of this end of the callers'
+/// addresses, and of these lists.
+fn scenario_of<R: AllocGlobal + Abort>(
+    rt: &R,
+    (siblings, task_limit, cookie_limit, user_top): (u8, u16, u16, u64),
+    tasks: &[TaskSpec],
+    teaches: &[Teach],
+    steps: &[Step],
+) -> Scenario {
+    let alloc = rt.alloc();
     Scenario {
-        siblings: 2,
-        task_limit: 4,
-        cookie_limit: 4,
-        user_top: 65536,
-        tasks: List::of(Vec::new(alloc)),
-        teaches: List::of(Vec::new(alloc)),
-        steps: List::of(Vec::new(alloc)),
+        siblings,
+        task_limit,
+        cookie_limit,
+        user_top,
+        tasks: List::of(Vec::from_slice(alloc, tasks).expect(rt, "room")),
+        teaches: List::of(Vec::from_slice(alloc, teaches).expect(rt, "room")),
+        steps: List::of(Vec::from_slice(alloc, steps).expect(rt, "room")),
     }
 }
 
-fn every_form(alloc: Global) -> Result<Scenario, AllocError> {
-    Ok(Scenario {
-        siblings: 8,
-        task_limit: 256,
-        cookie_limit: 1,
-        user_top: 9_223_372_036_854_775_807,
-        tasks: List::of(Vec::from_slice(alloc, &TASKS)?),
-        teaches: List::of(Vec::from_slice(alloc, &TEACHES)?),
-        steps: List::of(Vec::from_slice(alloc, &STEPS)?),
-    })
+/// The scenario with every form.
+fn every_form<R: AllocGlobal + Abort>(rt: &R) -> Scenario {
+    let limits = (8, 256, 1, 9_223_372_036_854_775_807);
+    scenario_of(rt, limits, &TASKS, &TEACHES, &STEPS)
 }
 
-fn greatest(alloc: Global) -> Result<Scenario, AllocError> {
-    Ok(Scenario {
-        siblings: 255,
-        task_limit: 65535,
-        cookie_limit: 65535,
-        user_top: 18_446_744_073_709_551_615,
-        tasks: List::of(vec![in alloc; GREAT_TASK]?),
-        teaches: List::of(vec![in alloc; GREAT_TEACH]?),
-        steps: List::of(vec![in alloc; GREAT_STEP]?),
-    })
-}
-
-/// Expects that the scenario is written as these lines, each in one piece.
-fn expect_written<R: AllocGlobal + Abort>(rt: &R, scenario: &Scenario, lines: &[&str]) {
-    let mut sink = sink_of(rt, 4096, Vec::new(rt.alloc()));
-    scenario_text(scenario, &mut sink).expect(rt, "no fault");
+/// Expects that the scenario is written as these lines, each in one piece, whole or up to the call at which
+/// the sink fails.
+fn expect_written<R: AllocGlobal + Abort>(
+    rt: &R,
+    scenario: &Scenario,
+    fails: u64,
+    is_whole: bool,
+    lines: &[&str],
+) {
+    let mut sink = sink_of(rt, 4096, only(rt, fails));
+    assert!(rt; scenario_text(scenario, &mut sink).is_ok() == is_whole);
     assert!(rt; sink.bytes() == joined(rt.alloc(), lines).expect(rt, "room").as_slice());
-    assert!(rt; sink.calls() == lines.len() as u64);
+    assert!(rt; !is_whole || sink.calls() == lines.len() as u64);
 }
 
 #[test]
 fn scenarios_are_written(rt: HostRuntime) {
-    expect_written(&rt, &nothing(rt.alloc()), &NOTHING);
-    expect_written(
-        &rt,
-        &every_form(rt.alloc()).expect(&rt, "room"),
-        &EVERY_FORM,
-    );
-    expect_written(&rt, &greatest(rt.alloc()).expect(&rt, "room"), &GREATEST);
-}
-
-/// Expects that what is read from these lines is written as them.
-fn expect_read_back<R: AllocGlobal + Abort>(rt: &R, lines: &[&str]) {
-    let text = joined(rt.alloc(), lines).expect(rt, "room");
-    let scenario = read(rt.alloc(), &text).expect(rt, "a scenario");
-    expect_written(rt, &scenario, lines);
+    let nothing = scenario_of(&rt, (2, 4, 4, 65_536), &[], &[], &[]);
+    expect_written(&rt, &nothing, 0, true, &NOTHING);
+    expect_written(&rt, &every_form(&rt), 0, true, &EVERY_FORM);
+    let limits = (255, 65_535, 65_535, 18_446_744_073_709_551_615);
+    let greatest = scenario_of(&rt, limits, &[GREAT_TASK], &[GREAT_TEACH], &[GREAT_STEP]);
+    expect_written(&rt, &greatest, 0, true, &GREATEST);
 }
 
 #[test]
 fn scenarios_are_read_back(rt: HostRuntime) {
-    expect_read_back(&rt, &NOTHING);
-    expect_read_back(&rt, &EVERY_FORM);
-}
-
-/// Expects that a sink that fails at this call then has these lines.
-fn expect_part<R: AllocGlobal + Abort>(rt: &R, scenario: &Scenario, call: u64, lines: &[&str]) {
-    let mut sink = sink_of(rt, 4096, only(rt, call));
-    assert!(rt; scenario_text(scenario, &mut sink).is_err());
-    assert!(rt; sink.bytes() == joined(rt.alloc(), lines).expect(rt, "room").as_slice());
+    for lines in [NOTHING.as_slice(), &EVERY_FORM] {
+        let text = joined(rt.alloc(), lines).expect(&rt, "room");
+        let scenario = read(rt.alloc(), &text).expect(&rt, "a scenario");
+        expect_written(&rt, &scenario, 0, true, lines);
+    }
 }
 
 #[test]
 fn writer_that_meets_a_fault(rt: HostRuntime) {
-    let scenario = every_form(rt.alloc()).expect(&rt, "room");
+    let scenario = every_form(&rt);
     for call in 1..34 {
-        expect_part(&rt, &scenario, call, &EVERY_FORM[..call as usize - 1]);
+        let lines = &EVERY_FORM[..call as usize - 1];
+        expect_written(&rt, &scenario, call, false, lines);
     }
 }
