@@ -14,7 +14,7 @@ use std::sync::Wait;
 use std::thread::Threads;
 
 /// The lines of seed 1328 up to its 18th step, by which each event has come.
-const EVERY_EVENT: [&str; 45] = [
+const EVERY_EVENT: &str = concat!(
     "coresched 1\n",
     "siblings 4\n",
     "limits 64 16 1048576\n",
@@ -60,16 +60,15 @@ const EVERY_EVENT: [&str; 45] = [
     "step s2 resched\n",
     "step c0 fork 14 process\n",
     "step c0 prctl 2 2 22 0 0\n",
-];
+);
 
 /// What is expected of the scenario of a seed.
-#[derive(Clone, Copy)]
 struct Drawn {
     seed: u32,
     /// The first lines of its text.
-    first: &'static [&'static str],
+    first: &'static str,
     /// The last lines of its text.
-    last: &'static [&'static str],
+    last: &'static str,
     /// How many bytes its text has.
     bytes: usize,
 }
@@ -78,127 +77,118 @@ struct Drawn {
 const DRAWN: [Drawn; 4] = [
     Drawn {
         seed: 0,
-        first: &[
+        first: concat!(
             "coresched 1\n",
             "siblings 4\n",
             "limits 64 16 1048576\n",
             "task 1 1 1 0 fair:4 1000 1000 1000 1000 1000 1000 0 1 1\n",
             "task 2 2 2 1 rr:20 1000 1000 1000 1000 1000 1000 0 1 1\n",
-        ],
-        last: &["step c0 wake 20\n", "step c0 wake 20\n", "end\n"],
+        ),
+        last: concat!("step c0 wake 20\n", "step c0 wake 20\n", "end\n"),
         bytes: 342_529,
     },
     Drawn {
         seed: 1,
-        first: &[
+        first: concat!(
             "coresched 1\n",
             "siblings 4\n",
             "limits 64 16 1048576\n",
             "task 1 1 1 0 dl:4000000 1000 1000 1000 1000 1000 1000 0 1 1\n",
             "task 2 2 2 1 fifo:49 1000 1000 1000 1000 1000 1000 0 1 1\n",
-        ],
-        last: &["step s2 tick\n", "step s0 resched\n", "end\n"],
+        ),
+        last: concat!("step s2 tick\n", "step s0 resched\n", "end\n"),
         bytes: 342_989,
     },
     Drawn {
         seed: 1_328,
-        first: &EVERY_EVENT,
-        last: &["step c0 prctl 5 1 17 0 0\n", "step c0 wake 10\n", "end\n"],
+        first: EVERY_EVENT,
+        last: concat!("step c0 prctl 5 1 17 0 0\n", "step c0 wake 10\n", "end\n"),
         bytes: 344_347,
     },
     Drawn {
         seed: 4_294_967_295,
-        first: &[
+        first: concat!(
             "coresched 1\n",
             "siblings 4\n",
             "limits 64 16 1048576\n",
             "task 1 1 1 0 fair:16 1000 1000 1000 1000 1000 1000 0 1 1\n",
             "task 2 2 2 1 fifo:96 1000 1000 1000 1000 1000 1000 0 1 1\n",
-        ],
-        last: &["step s1 turn\n", "step s0 tick\n", "end\n"],
+        ),
+        last: concat!("step s1 turn\n", "step s0 tick\n", "end\n"),
         bytes: 343_010,
     },
 ];
 
 /// Expects this scenario of its seed.
-fn expect_drawn<R: AllocGlobal + Abort>(rt: &R, wanted: Drawn) {
+fn expect_drawn<R: AllocGlobal + Abort>(rt: &R, wanted: &Drawn) {
     let scenario = generate(rt.alloc(), wanted.seed).expect(rt, "room");
     assert!(rt; scenario.tasks.items().len() == 24 && scenario.steps.items().len() == 20_000);
     let mut sink = MemSink::of(rt.alloc(), wanted.bytes, 4096, Vec::new(rt.alloc())).expect(
         rt, "room",
     );
     scenario_text(&scenario, &mut sink).expect(rt, "no fault");
-    assert!(rt; sink.bytes().len() == wanted.bytes);
+    let text = sink.bytes();
+    assert!(rt; text.len() == wanted.bytes);
     assert!(rt;
-        sink.bytes().starts_with(
-            joined(rt.alloc(), wanted.first)
-                .expect(rt, "room")
-                .as_slice()
-        )
-    );
-    assert!(rt;
-        sink.bytes().ends_with(
-            joined(rt.alloc(), wanted.last)
-                .expect(rt, "room")
-                .as_slice()
-        )
+        text.starts_with(wanted.first.as_bytes()) && text.ends_with(wanted.last.as_bytes())
     );
 }
 
 #[test]
 fn scenarios_are_drawn(rt: HostRuntime) {
     for wanted in &DRAWN {
-        expect_drawn(&rt, *wanted);
+        expect_drawn(&rt, wanted);
     }
 }
 
-/// Expects that the summary of an example tells these lines, after the entries of the end, and then the report.
-fn expect_summary<R: AllocGlobal + Abort>(rt: &R, script: Script, lines: &'static str) {
-    let mut room = played(rt, script);
+/// Expects that the summary of the machine tells these lines, after the entries of the end, and then the report.
+fn expect_summary<R: AllocGlobal + Abort, M: Room>(rt: &R, mut room: M, lines: &str, report: &str) {
     let siblings = u64::from(room.siblings());
     assert!(rt; siblings * siblings <= room.spare());
     room.drain();
     let mut sink = sink_of(rt, 7, Vec::new(rt.alloc()));
     summary(7, &room, &mut sink).expect(rt, "a sink that takes all");
-    assert!(rt;
-        sink.bytes()
-            == joined(rt.alloc(), &[lines, script.report])
-                .expect(rt, "room")
-                .as_slice()
-    );
+    let wanted = joined(rt.alloc(), &[lines, report]).expect(rt, "room");
+    assert!(rt; sink.bytes() == wanted.as_slice());
 }
 
-/// Expects a part of the summary of an example: the sink fails at its second line.
-fn expect_cut_summary<R: AllocGlobal + Abort>(rt: &R, script: Script) {
-    let room = played(rt, script);
+/// Examples, each with the lines before its report.
+const SUMMARIES: [(Script, &str); 4] = [
+    (
+        FORCED_IDLE,
+        "drill 7 steps 20000 entries 10\npicks 2 0 0\nsteals 0 1\n",
+    ),
+    (
+        STEAL,
+        "drill 7 steps 20000 entries 23\npicks 4 4 0\nsteals 1 0\n",
+    ),
+    (
+        LAST_TASK_STOLEN,
+        "drill 7 steps 20000 entries 12\npicks 4 1 0\nsteals 1 0\n",
+    ),
+    (
+        FORK_AND_EXIT,
+        "drill 7 steps 20000 entries 12\npicks 4 0 1\nsteals 0 0\n",
+    ),
+];
+
+#[test]
+fn summaries_of_a_machine(rt: HostRuntime) {
+    for (script, lines) in &SUMMARIES {
+        expect_summary(&rt, played(&rt, *script), lines, script.report);
+    }
+}
+
+/// Expects a part of the summary of the machine: the sink fails at its second line.
+fn expect_cut_summary<R: AllocGlobal + Abort, M: Room>(rt: &R, room: M) {
     let mut sink = sink_of(rt, 4096, only(rt, 2));
     assert!(rt; summary(4_294_967_295, &room, &mut sink).is_err());
     assert!(rt; sink.bytes() == b"drill 4294967295 steps 20000 entries 10\n".as_slice());
 }
 
 #[test]
-fn summaries_of_a_machine(rt: HostRuntime) {
-    expect_summary(
-        &rt,
-        FORCED_IDLE,
-        "drill 7 steps 20000 entries 10\npicks 2 0 0\nsteals 0 1\n",
-    );
-    expect_summary(
-        &rt,
-        STEAL,
-        "drill 7 steps 20000 entries 23\npicks 4 4 0\nsteals 1 0\n",
-    );
-    expect_summary(
-        &rt,
-        LAST_TASK_STOLEN,
-        "drill 7 steps 20000 entries 12\npicks 4 1 0\nsteals 1 0\n",
-    );
-    expect_summary(
-        &rt,
-        FORK_AND_EXIT,
-        "drill 7 steps 20000 entries 12\npicks 4 0 1\nsteals 0 0\n",
-    );
-    expect_cut_summary(&rt, FORCED_IDLE);
+fn summary_that_is_cut(rt: HostRuntime) {
+    expect_cut_summary(&rt, played(&rt, FORCED_IDLE));
 }
 
 /// The first lines that the drill of seed 1 prints.

@@ -20,8 +20,6 @@ use scenario_input::taught;
 use scenario_runner::{Status, play};
 use scenario_text::read;
 use std::process::Abort;
-use std::sync::Wait;
-use std::thread::Threads;
 
 /// The earlier deadline goes first, a deadline task forks none, and a sibling that runs idle has no task
 /// that could sleep or end. The running task becomes a fair one, and makes way.
@@ -209,53 +207,43 @@ pub const LAST_REFERENCE: Script = script!(
     ],
 );
 
+/// The worked examples: of selections, of accounts, of tasks and of moves.
+pub const EXAMPLES: [Script; 22] = [
+    NOTHING,
+    FORCED_IDLE,
+    LOWER_MATCH,
+    CORE_COOKIE_0,
+    TIE_OF_LEADS,
+    STALE_PICK,
+    FORCED_IDLE_TICK,
+    TWO_SHARES,
+    THREE_SHARES,
+    CHARGED_AT_EXIT,
+    DEADLINES,
+    ROUND_ROBIN,
+    GROWTH,
+    FORK_AND_EXIT,
+    REFUSALS,
+    LAST_REFERENCE,
+    STEAL,
+    LAST_TASK_STOLEN,
+    HOTPLUG,
+    LEAVES_WITH_QUEUE,
+    REFUSED_MOVES,
+    SAME_POLICY,
+];
+
 /// What the program writes for the script: its entries and its report.
-fn output_of<R: AllocGlobal + Abort>(rt: &R, script: Script) -> Vec<u8> {
+fn output_of<R: AllocGlobal + Abort>(rt: &R, script: &Script) -> Vec<u8> {
     joined(rt.alloc(), &[script.entries, script.report]).expect(rt, "room")
 }
 
-/// Expects that the text of the script is played to its output.
-fn expect_script<R: Threads + Wait + AllocGlobal + Sync + Abort>(rt: &R, script: Script) {
-    let output = output_of(rt, script);
-    expect_text(rt, script.text.as_bytes(), Status::Done, &output);
-}
-
 #[test]
-fn scripts_of_selections(rt: HostRuntime) {
-    expect_script(&rt, NOTHING);
-    expect_script(&rt, FORCED_IDLE);
-    expect_script(&rt, LOWER_MATCH);
-    expect_script(&rt, CORE_COOKIE_0);
-    expect_script(&rt, TIE_OF_LEADS);
-    expect_script(&rt, STALE_PICK);
-}
-
-#[test]
-fn scripts_of_accounts(rt: HostRuntime) {
-    expect_script(&rt, FORCED_IDLE_TICK);
-    expect_script(&rt, TWO_SHARES);
-    expect_script(&rt, THREE_SHARES);
-    expect_script(&rt, CHARGED_AT_EXIT);
-}
-
-#[test]
-fn scripts_of_tasks(rt: HostRuntime) {
-    expect_script(&rt, DEADLINES);
-    expect_script(&rt, ROUND_ROBIN);
-    expect_script(&rt, GROWTH);
-    expect_script(&rt, FORK_AND_EXIT);
-    expect_script(&rt, REFUSALS);
-    expect_script(&rt, LAST_REFERENCE);
-}
-
-#[test]
-fn scripts_of_moves(rt: HostRuntime) {
-    expect_script(&rt, STEAL);
-    expect_script(&rt, LAST_TASK_STOLEN);
-    expect_script(&rt, HOTPLUG);
-    expect_script(&rt, LEAVES_WITH_QUEUE);
-    expect_script(&rt, REFUSED_MOVES);
-    expect_script(&rt, SAME_POLICY);
+fn examples_are_played(rt: HostRuntime) {
+    for script in &EXAMPLES {
+        let output = output_of(&rt, script);
+        expect_text(&rt, script.text.as_bytes(), Status::Done, &output);
+    }
 }
 
 /// The scenario of this text, and the machine of it before its first step. It has no guards.
@@ -283,49 +271,33 @@ pub fn played<R: AllocGlobal + Abort>(rt: &R, script: Script) -> PlainRoom<PairG
     room
 }
 
-/// Expects the output of the first example, in pieces of 7 bytes at most.
-fn expect_output<R: AllocGlobal + Abort>(rt: &R, room: &PlainRoom<PairGuard>) {
+/// Expects the output of the first example, in pieces of 7 bytes at most, and a part of its report. The second
+/// line of the report needs two pieces, and the other sink fails at the second of these.
+fn expect_texts<R: AllocGlobal + Abort, M: Room>(rt: &R, room: M) {
     let mut sink = sink_of(rt, 7, Vec::new(rt.alloc()));
-    output(room, &mut sink).expect(rt, "a sink that takes all");
-    assert!(rt; sink.bytes() == output_of(rt, FORCED_IDLE).as_slice());
-}
-
-/// Expects a part of the report of the first example. Its second line needs two pieces, and the sink
-/// fails at the second of these.
-fn expect_cut_report<R: AllocGlobal + Abort>(rt: &R, room: &PlainRoom<PairGuard>) {
+    output(&room, &mut sink).expect(rt, "a sink that takes all");
+    assert!(rt; sink.bytes() == output_of(rt, &FORCED_IDLE).as_slice());
     let mut sink = sink_of(rt, 7, only(rt, 3));
-    assert!(rt; report(room, &mut sink).is_err());
+    assert!(rt; report(&room, &mut sink).is_err());
     assert!(rt; sink.bytes() == b"report\nclock 1".as_slice());
-}
-
-/// Expects the output of the first example, and a part of its report.
-fn expect_texts<R: AllocGlobal + Abort>(rt: &R) {
-    let room = played(rt, FORCED_IDLE);
-    expect_output(rt, &room);
-    expect_cut_report(rt, &room);
 }
 
 #[test]
 fn texts_of_a_machine(rt: HostRuntime) {
-    expect_texts(&rt);
-}
-
-/// Expects what is common to the siblings.
-fn expect_common(rt: &impl Abort, room: &PlainRoom<PairGuard>) {
-    assert!(rt; room.clock() == 6_000_000 && room.numbers() == (7, 7));
-    let core = room.core();
-    assert!(rt; (core.cookie, core.forced, core.occupation, core.intervals) == (0, 1, 1, 1));
+    expect_texts(&rt, played(&rt, FORCED_IDLE));
 }
 
 /// Expects a sibling that is online: what it runs, its own number, and whether it is pending.
-fn expect_cpu(rt: &impl Abort, room: &PlainRoom<PairGuard>, place: Cpu, wanted: (Pid, u64, bool)) {
+fn expect_cpu<R: Abort, M: Room>(rt: &R, room: &M, place: Cpu, wanted: (Pid, u64, bool)) {
     let cpu = room.cpu(place).expect(rt, "a sibling");
     assert!(rt; cpu.online && (cpu.run, cpu.number, cpu.pending) == wanted);
 }
 
 /// Expects what is common to the siblings, and each of them.
-fn expect_core(rt: &impl Abort, room: &PlainRoom<PairGuard>) {
-    expect_common(rt, room);
+fn expect_core<R: Abort, M: Room>(rt: &R, room: &M) {
+    assert!(rt; room.clock() == 6_000_000 && room.numbers() == (7, 7));
+    let core = room.core();
+    assert!(rt; (core.cookie, core.forced, core.occupation, core.intervals) == (0, 1, 1, 1));
     expect_cpu(rt, room, 0, (0, 7, false));
     expect_cpu(rt, room, 1, (0, 6, true));
     assert!(rt; room.cpu(2).is_none());
@@ -339,22 +311,22 @@ fn is_adoption_at_end(entry: &Entry, cpu: Cpu, run: Pid) -> bool {
 }
 
 /// Expects that sibling 1 alone is pending, and has adopted its task at the end.
-fn expect_end(rt: &impl Abort, room: &mut PlainRoom<PairGuard>)
-    requires { IsPlayable room.old.opening.scenario }
+fn expect_end<R: Abort, M: Room>(rt: &R, room: &mut M)
+    requires { IsPlayable (M.opening room.old).scenario }
 {
     assert!(rt; room.siblings() == 2 && 4 <= room.spare());
     assert!(rt; room.drain() == 1);
     assert!(rt; room.length() == 11);
     let entry = room.entry(10).expect(rt, "an entry");
     assert!(rt; is_adoption_at_end(&entry, 1, 2));
-    assert!(rt; !room.cpu(1).expect(rt, "a sibling").pending);
+    expect_cpu(rt, room, 1, (2, 7, false));
 }
 
 /// Expects this task behind the pid: its pid, its sibling, its cookie, its total of forced idle and its
 /// virtual time, both in ns. It is queued or asleep.
-fn expect_task(
-    rt: &impl Abort,
-    room: &PlainRoom<PairGuard>,
+fn expect_task<R: Abort, M: Room>(
+    rt: &R,
+    room: &M,
     after: Pid,
     is_queued: bool,
     wanted: (Pid, Cpu, Cookie, u64, u128),
@@ -364,77 +336,49 @@ fn expect_task(
     assert!(rt; (task.pid, task.cpu, task.cookie, task.forced, task.vtime) == wanted);
 }
 
-/// Expects the tasks, in the order of their pids, and none after the last.
-fn expect_tasks(rt: &impl Abort, room: &PlainRoom<PairGuard>) {
-    expect_task(rt, room, 0, true, (1, 0, 1, 6_000_000, 6_000_000));
-    expect_task(rt, room, 1, true, (2, 1, 0, 0, 0));
-    assert!(rt; room.task_after(2).is_none());
-}
-
-/// Expects the siblings, the tasks and the end of an example.
-fn expect_views<R: AllocGlobal + Abort>(rt: &R) {
-    let mut room = played(rt, FORCED_IDLE_TICK);
+/// Expects the siblings, the tasks in the order of their pids, and the end of an example.
+fn expect_views<R: Abort, M: Room>(rt: &R, mut room: M)
+    requires { IsPlayable (M.opening room).scenario }
+{
     expect_core(rt, &room);
-    expect_tasks(rt, &room);
+    expect_task(rt, &room, 0, true, (1, 0, 1, 6_000_000, 6_000_000));
+    expect_task(rt, &room, 1, true, (2, 1, 0, 0, 0));
+    assert!(rt; room.task_after(2).is_none());
     expect_end(rt, &mut room);
 }
 
 #[test]
 fn views_of_a_machine(rt: HostRuntime) {
-    expect_views(&rt);
+    expect_views(&rt, played(&rt, FORCED_IDLE_TICK));
 }
 
-/// Expects this task at the place of its end: its pid, and its total of forced idle in ns.
-fn expect_ended(rt: &impl Abort, room: &PlainRoom<PairGuard>, place: u64, wanted: (Pid, u64)) {
-    let ended = room.ended(place).expect(rt, "an end");
-    assert!(rt; (ended.pid, ended.forced) == wanted);
-}
-
-/// Expects that the tasks with these pids and totals have ended, in this order, and no more.
-fn expect_ends(rt: &impl Abort, room: &PlainRoom<PairGuard>, wanted: &[(Pid, u64)]) {
-    for (place, ended) in wanted.iter().enumerate() {
-        expect_ended(rt, room, place as u64, *ended);
-    }
-    assert!(rt; room.ended(wanted.len() as u64).is_none());
-}
-
-/// Expects this task, as `expect_task` does, and no other.
-fn expect_one_task(
-    rt: &impl Abort,
-    room: &PlainRoom<PairGuard>,
-    is_queued: bool,
-    wanted: (Pid, Cpu, Cookie, u64, u128),
-) {
-    expect_task(rt, room, 0, is_queued, wanted);
-    assert!(rt; room.task_after(wanted.0).is_none());
-}
-
-/// Expects that these tasks of a script have ended, and are no tasks any more, and that this one lives.
-fn expect_one_alive<R: AllocGlobal + Abort>(
+/// Expects that the tasks with these pids and totals of forced idle in ns have ended, in this order, and are no
+/// tasks any more, and that this one lives, as `expect_task` does, and no other.
+fn expect_one_alive<R: Abort, M: Room>(
     rt: &R,
-    script: Script,
+    room: M,
     ended: &[(Pid, u64)],
     is_queued: bool,
     task: (Pid, Cpu, Cookie, u64, u128),
 ) {
-    let room = played(rt, script);
-    expect_ends(rt, &room, ended);
-    expect_one_task(rt, &room, is_queued, task);
+    for (place, wanted) in ended.iter().enumerate() {
+        let end = room.ended(place as u64).expect(rt, "an end");
+        assert!(rt; (end.pid, end.forced) == *wanted);
+    }
+    assert!(rt; room.ended(ended.len() as u64).is_none());
+    expect_task(rt, &room, 0, is_queued, task);
+    assert!(rt; room.task_after(task.0).is_none());
 }
 
 // The one that lives has its cookie still.
 #[test]
 fn children_that_ended(rt: HostRuntime) {
-    expect_one_alive(
-        &rt,
-        FORK_AND_EXIT,
-        &[(2, 0), (3, 0)],
-        false,
-        (1, 0, 1, 0, 0),
-    );
+    let room = played(&rt, FORK_AND_EXIT);
+    expect_one_alive(&rt, room, &[(2, 0), (3, 0)], false, (1, 0, 1, 0, 0));
 }
 
 #[test]
 fn task_that_ended(rt: HostRuntime) {
-    expect_one_alive(&rt, CHARGED_AT_EXIT, &[(1, 10)], true, (2, 1, 2, 0, 0));
+    let room = played(&rt, CHARGED_AT_EXIT);
+    expect_one_alive(&rt, room, &[(1, 10)], true, (2, 1, 2, 0, 0));
 }
