@@ -20,24 +20,26 @@ use std::sync::{Mutex, Wait};
 use std::thread::Threads;
 use std::{str, thread};
 
-/// A step.
-fn step(actor: Actor, event: Event) -> Step
-    ensures { result ≡ record { actor = actor; event = event } }
-{
-    Step { actor, event }
-}
-
 /// What the caller does in `INPUT`.
 fn wakes<R: AllocGlobal + Abort>(rt: &R) -> List<Step>
     ensures list { IsList 2 result }
     ensures actor { actor_of result ≡ Caller 0 }
     ensures count { length result ≡ 3 }
 {
-    let caller = Actor::Caller(0);
+    let actor = Actor::Caller(0);
     let steps = [
-        step(caller, Event::Wake(1)),
-        step(caller, Event::Wake(2)),
-        step(caller, Event::Wake(3)),
+        Step {
+            actor,
+            event: Event::Wake(1),
+        },
+        Step {
+            actor,
+            event: Event::Wake(2),
+        },
+        Step {
+            actor,
+            event: Event::Wake(3),
+        },
     ];
     List::of(Vec::from_array(rt.alloc(), steps).expect(rt, "room"))
 }
@@ -48,11 +50,20 @@ fn turns<R: AllocGlobal + Abort>(rt: &R) -> List<Step>
     ensures actor { actor_of result ≡ Sibling 0 }
     ensures count { length result ≡ 3 }
 {
-    let sibling = Actor::Sibling(0);
+    let actor = Actor::Sibling(0);
     let steps = [
-        step(sibling, Event::Turn(0)),
-        step(sibling, Event::Turn(0)),
-        step(sibling, Event::Block(0)),
+        Step {
+            actor,
+            event: Event::Turn(0),
+        },
+        Step {
+            actor,
+            event: Event::Turn(0),
+        },
+        Step {
+            actor,
+            event: Event::Block(0),
+        },
     ];
     List::of(Vec::from_array(rt.alloc(), steps).expect(rt, "room"))
 }
@@ -92,13 +103,20 @@ fn started<R: AllocGlobal + Abort, M: Room>(
     (shared, passes.into_vec())
 }
 
-/// The reply to the next step of the pass, which has one.
-fn reply_of<R: Wait + Abort, M: Room>(rt: &R, shared: &Shared<M>, pass: &mut Pass<M>) -> Reply
+/// The replies to the next three steps of the pass, which has as many.
+fn three_replies<R: Wait + Abort, M: Room>(
+    rt: &R,
+    shared: &Shared<M>,
+    pass: &mut Pass<M>,
+) -> (Reply, Reply, Reply)
     requires lock { pass.old.lock ≡ shared.now }
     ensures lock { pass.new.lock ≡ pass.old.lock }
     ensures number { pass.new.progress.number ≡ pass.old.progress.number }
 {
-    shared.call(rt, pass).expect(rt, "a step")
+    let first = shared.call(rt, pass).expect(rt, "a step");
+    let second = shared.call(rt, pass).expect(rt, "a step");
+    let third = shared.call(rt, pass).expect(rt, "a step");
+    (first, second, third)
 }
 
 /// Expects that no step of the pass is left.
@@ -107,8 +125,7 @@ fn expect_spent<R: Wait + Abort, M: Room>(rt: &R, shared: &Shared<M>, pass: &mut
     ensures lock { pass.new.lock ≡ pass.old.lock }
     ensures number { pass.new.progress.number ≡ pass.old.progress.number }
 {
-    assert!(rt; pass.next_step().is_none());
-    assert!(rt; shared.call(rt, pass).is_err());
+    assert!(rt; pass.next_step().is_none() && shared.call(rt, pass).is_err());
 }
 
 /// Makes the caller's steps, and expects that each wakes its task on sibling 0.
@@ -117,9 +134,9 @@ fn expect_wakes<R: Wait + Abort, M: Room>(rt: &R, shared: &Shared<M>, pass: &mut
     ensures lock { pass.new.lock ≡ pass.old.lock }
     ensures number { pass.new.progress.number ≡ pass.old.progress.number }
 {
-    assert!(rt; matches!(reply_of(rt, shared, pass), Reply::Woken(0)));
-    assert!(rt; matches!(reply_of(rt, shared, pass), Reply::Woken(0)));
-    assert!(rt; matches!(reply_of(rt, shared, pass), Reply::Woken(0)));
+    let (first, second, third) = three_replies(rt, shared, pass);
+    assert!(rt; matches!(first, Reply::Woken(0)));
+    assert!(rt; matches!(second, Reply::Woken(0)) && matches!(third, Reply::Woken(0)));
 }
 
 /// Whether the sibling chose this task for itself alone, while the core had no cookie and nobody was forced idle.
@@ -133,11 +150,9 @@ fn expect_turns<R: Wait + Abort, M: Room>(rt: &R, shared: &Shared<M>, pass: &mut
     ensures lock { pass.new.lock ≡ pass.old.lock }
     ensures number { pass.new.progress.number ≡ pass.old.progress.number }
 {
-    let first = reply_of(rt, shared, pass);
+    let (first, second, third) = three_replies(rt, shared, pass);
     assert!(rt; matches!(first, Reply::Picked(pick) if is_plain(pick, 3)));
-    let second = reply_of(rt, shared, pass);
     assert!(rt; matches!(second, Reply::Nothing));
-    let third = reply_of(rt, shared, pass);
     assert!(rt; matches!(third, Reply::Slept { pid: 3, pick } if is_plain(pick, 1)));
 }
 
@@ -237,26 +252,38 @@ fn make_all<R: Wait, M: Room>(rt: &R, shared: &Shared<M>, mut pass: Pass<M>) -> 
     }
 }
 
+/// Expects that the first lines of the actor begin so, in their order. Answers the next one.
+pub fn expect_lines<'a>(
+    rt: &impl Abort,
+    text: &'a str,
+    actor: &str,
+    starts: &[&str],
+) -> Option<&'a str> {
+    let mut lines = text
+        .split_inclusive('\n')
+        .filter(|line| line.starts_with(actor));
+    for start in starts {
+        assert!(rt; lines.next().unwrap_or("").starts_with(*start));
+    }
+    lines.next()
+}
+
+/// The caller's lines in what the machine writes, and how the sibling's begin.
+const WAKES: [&str; 3] = [
+    "c0 wake 1: Woken 0\n",
+    "c0 wake 2: Woken 0\n",
+    "c0 wake 3: Woken 0\n",
+];
+
+const TURNS: [&str; 3] = ["s0 turn: ", "s0 turn: ", "s0 block: "];
+
 /// Expects the caller's steps in their order in what the machine writes, and the sibling's in theirs.
 fn expect_orders<R: AllocGlobal + Abort, M: Room>(rt: &R, room: &M) {
     let mut sink = sink_of(rt, 4096, Vec::new(rt.alloc()));
     output(room, &mut sink).expect(rt, "a sink that takes all");
     let text = str::from_utf8(sink.bytes()).expect(rt, "a text");
-    let mut wakes = text.lines().filter(|line| line.starts_with("c0"));
-    for wake in [
-        "c0 wake 1: Woken 0",
-        "c0 wake 2: Woken 0",
-        "c0 wake 3: Woken 0",
-    ] {
-        assert!(rt; wakes.next() == Some(wake));
-    }
-    assert!(rt; wakes.next().is_none());
-    let mut turns = text.lines().filter(|line| line.starts_with("s0"));
-    for words in ["s0 turn: ", "s0 turn: ", "s0 block: "] {
-        let line = turns.next().unwrap_or("");
-        assert!(rt; line.starts_with(words));
-    }
-    assert!(rt; turns.next().is_none());
+    assert!(rt; expect_lines(rt, text, "c0", &WAKES).is_none());
+    assert!(rt; expect_lines(rt, text, "s0", &TURNS).is_none());
 }
 
 /// Expects that two threads make the steps of a pass each.
