@@ -206,17 +206,15 @@ fn null_guard_is_taught_nothing(rt: HostRuntime) {
 fn pair_guard(rt: HostRuntime) {
     let mut guard = PairGuard::empty();
     assert!(rt; guard.teach(1, 2).is_ok());
-    assert!(rt; !guard.allows(1, 2));
-    assert!(rt; guard.allows(2, 1));
-    assert!(rt; guard.asked() == 2);
+    let are_allowed = (guard.allows(1, 2), guard.allows(2, 1));
+    assert!(rt; are_allowed == (false, true) && guard.asked() == 2);
 }
 
 #[test]
 fn null_guard(rt: HostRuntime) {
     let mut guard = NullGuard::new();
     assert!(rt; matches!(guard.teach(1, 2), Err(TeachFault::Full { cap: 0 })));
-    assert!(rt; guard.allows(1, 2));
-    assert!(rt; guard.asked() == 1);
+    assert!(rt; guard.allows(1, 2) && guard.asked() == 1);
 }
 
 /// One guard that takes memory for its pairs, and can be taught one.
@@ -259,32 +257,31 @@ fn list_guard(rt: HostRuntime) {
     let mut guard = ListGuard::with_cap(rt.alloc(), 1);
     assert!(rt; guard.teach(1, 2).is_ok());
     assert!(rt; matches!(guard.teach(3, 4), Err(TeachFault::Full { cap: 1 })));
-    assert!(rt; !guard.allows(1, 2));
-    assert!(rt; guard.allows(3, 4));
-    assert!(rt; guard.asked() == 2);
+    let are_allowed = (guard.allows(1, 2), guard.allows(3, 4));
+    assert!(rt; are_allowed == (false, true) && guard.asked() == 2);
 }
 
 /// Expects that the first guard is taught, and none that is not there.
 fn expect_teach(rt: &impl Abort, guards: &mut Guards<PairGuard>) {
-    assert!(rt; matches!(guards.teach(0, 1, 2), TeachAnswer::Taught));
-    assert!(rt; matches!(guards.teach(4, 1, 2), TeachAnswer::NoGuard));
+    let answers = (guards.teach(0, 1, 2), guards.teach(4, 1, 2));
+    assert!(rt; matches!(answers, (TeachAnswer::Taught, TeachAnswer::NoGuard)));
 }
 
 /// Expects that the first guard is loaded once and dropped once.
 fn expect_moves(rt: &impl Abort, guards: &mut Guards<PairGuard>) {
-    assert!(rt; matches!(guards.load(0), LoadAnswer::Loaded));
-    assert!(rt; matches!(guards.load(0), LoadAnswer::NoGuard));
+    let loads = (guards.load(0), guards.load(0));
+    assert!(rt; matches!(loads, (LoadAnswer::Loaded, LoadAnswer::NoGuard)));
     assert!(rt; guards.active_count() == 1);
-    assert!(rt; matches!(guards.unload(0), UnloadAnswer::Dropped));
-    assert!(rt; matches!(guards.unload(0), UnloadAnswer::NoGuard));
+    let unloads = (guards.unload(0), guards.unload(0));
+    assert!(rt; matches!(unloads, (UnloadAnswer::Dropped, UnloadAnswer::NoGuard)));
 }
 
 /// Expects four guards, of which the first was dropped and never asked.
 fn expect_dropped(rt: &impl Abort, guards: &Guards<PairGuard>) {
     assert!(rt; guards.len() == 4 && guards.active_count() == 0);
     let first = guards.view(0).expect(rt, "a guard");
-    assert!(rt; matches!(first.place, GuardPlace::Dropped) && first.asked == 0);
-    assert!(rt; guards.view(4).is_none());
+    let is_dropped = matches!(first.place, GuardPlace::Dropped) && first.asked == 0;
+    assert!(rt; is_dropped && guards.view(4).is_none());
 }
 
 #[test]
