@@ -20,7 +20,7 @@ fn second<R: AllocGlobal + Abort>(rt: &R) -> Vec<u64> {
 fn expect_read(rt: &impl Abort, source: &mut MemSource, bytes: &[u8]) {
     let mut buf = [0; 3];
     let count = source.read(&mut buf).expect(rt, "bytes");
-    assert!(rt; &buf[..count] == bytes, "not {bytes:?}");
+    assert!(rt; &buf[..count] == bytes);
 }
 
 /// Expects that the source fails.
@@ -43,10 +43,7 @@ fn source_fails_where_it_is_told(rt: HostRuntime) {
 /// Expects that the piece is written as a whole or not, and that the sink then has these bytes.
 fn expect_write(rt: &impl Abort, sink: &mut MemSink, piece: &[u8], is_written: bool, bytes: &[u8]) {
     let is_whole = write_all(sink, piece).is_ok();
-    assert!(rt;
-        is_whole == is_written && sink.bytes() == bytes,
-        "at {piece:?}"
-    );
+    assert!(rt; is_whole == is_written && sink.bytes() == bytes);
 }
 
 #[test]
@@ -115,21 +112,15 @@ impl Read for Halting {
     }
 }
 
-/// Expects that a part of the piece is written or not.
-fn expect_write_some(rt: &impl Abort, device: &mut Halting, piece: &[u8], is_written: bool) {
-    assert!(rt;
-        write_some(device, piece).is_ok() == is_written,
-        "at {piece:?}"
-    );
-}
-
 #[test]
 fn interrupted_write_is_made_again(rt: HostRuntime) {
     let mut device = Halting::with_room(rt.alloc(), 2);
-    expect_write_some(&rt, &mut device, b"ab", true);
-    expect_write_some(&rt, &mut device, b"b", true);
-    expect_write_some(&rt, &mut device, b"c", false);
-    assert!(rt; device.moved.as_slice() == b"ab".as_slice());
+    let are_written = [
+        write_some(&mut device, b"ab").is_ok(),
+        write_some(&mut device, b"b").is_ok(),
+        write_some(&mut device, b"c").is_ok(),
+    ];
+    assert!(rt; are_written == [true, true, false] && device.moved.as_slice() == b"ab".as_slice());
 }
 
 #[test]
@@ -144,8 +135,7 @@ fn interrupted_read_is_made_again(rt: HostRuntime) {
 #[test]
 fn standard_output_answers(rt: HostRuntime) {
     let mut sink = StdSink::over(rt.stdout());
-    assert!(rt; write_all(&mut sink, b"a line\n").is_ok());
-    assert!(rt; sink.flush().is_ok());
+    assert!(rt; write_all(&mut sink, b"a line\n").is_ok() && sink.flush().is_ok());
 }
 
 // What a test has for its standard input is not known, so either answer is right.
