@@ -14,7 +14,7 @@ use prctl_core::{Decision, Planned, Target, plan};
 use ptrace_check::{Guards, may_access};
 use std::fmt::Display;
 use std::process::Abort;
-use task_table::{AddFault, Group, TaskTable};
+use task_table::{AddFault, Group, TaskTable, Tasks};
 
 /// A user's task, which may be dumped.
 const USER: Creds = Creds {
@@ -69,40 +69,57 @@ fn three_tasks<R: AllocGlobal + Abort>(rt: &R) -> TaskTable
     table
 }
 
-/// Expects the pids of the three tasks, in their order.
+/// The pid of a task, where there is one.
+fn pid_of(task: Option<&Task>) -> Option<Pid> {
+    match task {
+        Some(task) => Some(task.spec.pid),
+        None => None,
+    }
+}
+
+/// The pids of the next four tasks, as far as there are so many.
+fn pids_of(mut tasks: Tasks<'_>) -> [Option<Pid>; 4] {
+    [
+        pid_of(tasks.next()),
+        pid_of(tasks.next()),
+        pid_of(tasks.next()),
+        pid_of(tasks.next()),
+    ]
+}
+
+/// Expects the pids of the three tasks, in their order, and of the two in the group of task 1.
 fn expect_pids(rt: &impl Abort, table: &TaskTable) {
-    assert!(rt; table.len() == 3);
-    assert!(rt; table.iter().map(|task| task.spec.pid).eq([1, 2, 3]));
+    let all = pids_of(table.iter());
+    assert!(rt; all == [Some(1), Some(2), Some(3), None] && table.len() == 3);
+    let threads = pids_of(table.members(Group::Threads(1)));
+    assert!(rt; threads == [Some(1), Some(2), None, None]);
 }
 
 /// Expects task 2 as it was added.
 fn expect_added(rt: &impl Abort, table: &TaskTable) {
     let task = table.find(2).expect(rt, "a task");
-    assert!(rt; (task.spec.tgid, task.home, task.queued) == (1, 1, false));
-    assert!(rt; (task.cookie, task.stamp, task.occupation) == (0, 0, 0));
+    let parts = (task.spec.tgid, task.home, task.queued);
+    assert!(rt;
+        parts == (1, 1, false) && task.cookie == 0 && task.stamp == 0 && task.occupation == 0
+    );
 }
 
 /// Expects that the last place is the third.
 fn expect_last(rt: &impl Abort, table: &TaskTable) {
-    assert!(rt; table.at(2).expect(rt, "the last").spec.pid == 3);
-    assert!(rt; table.at(3).is_none());
+    assert!(rt; pid_of(table.at(2)) == Some(3) && table.at(3).is_none());
 }
 
 /// Expects the next task of each group.
 fn expect_groups(rt: &impl Abort, table: &TaskTable) {
-    for (group, after, next) in [
-        (Group::All, 0, Some(1)),
-        (Group::All, 2, Some(3)),
-        (Group::All, 3, None),
-        (Group::Threads(1), 1, Some(2)),
-        (Group::Threads(1), 2, None),
-        (Group::Process(3), 0, Some(3)),
-    ] {
-        let pid = table.next_in(group, after).map(|task| task.spec.pid);
-        assert!(rt; pid == next, "after {after}");
-    }
-    let threads = table.members(Group::Threads(1));
-    assert!(rt; threads.map(|task| task.spec.pid).eq([1, 2]));
+    let found = [
+        pid_of(table.next_in(Group::All, 0)),
+        pid_of(table.next_in(Group::All, 2)),
+        pid_of(table.next_in(Group::All, 3)),
+        pid_of(table.next_in(Group::Threads(1), 1)),
+        pid_of(table.next_in(Group::Threads(1), 2)),
+        pid_of(table.next_in(Group::Process(3), 0)),
+    ];
+    assert!(rt; found == [Some(1), Some(3), None, Some(2), None, Some(3)]);
 }
 
 #[test]
@@ -117,10 +134,10 @@ fn tasks_of_a_table(rt: HostRuntime) {
 /// Expects that no second task 2 is added, and none beyond the limit.
 fn expect_not_added(rt: &impl Abort, table: &mut TaskTable) {
     let twice = table.add(spec(2, 2, 2));
-    assert!(rt; matches!(twice, Err(AddFault::Twice(2))));
     let full = table.add(spec(4, 4, 4));
-    assert!(rt; matches!(full, Err(AddFault::Full(3))));
-    assert!(rt; table.len() == 3);
+    let are_refused = matches!(twice, Err(AddFault::Twice(2)))
+        && matches!(full, Err(AddFault::Full(3)));
+    assert!(rt; are_refused && table.len() == 3);
 }
 
 /// Expects that task 2 changes, and remembers an occupation.
@@ -137,9 +154,7 @@ fn expect_changed(rt: &impl Abort, table: &mut TaskTable) {
 fn expect_removed(rt: &impl Abort, table: &mut TaskTable) {
     let removed = table.remove(2);
     assert!(rt; matches!(removed, Some((Task { cookie: 7, .. }, 0))));
-    assert!(rt; table.find(2).is_none());
-    assert!(rt; table.remove(2).is_none());
-    assert!(rt; table.len() == 2);
+    assert!(rt; table.find(2).is_none() && table.remove(2).is_none() && table.len() == 2);
 }
 
 #[test]
@@ -154,8 +169,7 @@ fn tasks_that_change(rt: HostRuntime) {
 fn charge_third(rt: &impl Abort, table: &mut TaskTable, share: u64, before: u64)
     requires { before + share < 2 ^ 64 }
 {
-    assert!(rt; table.find(3).is_some());
-    assert!(rt; table.forced(3) == before);
+    assert!(rt; table.find(3).is_some() && table.forced(3) == before);
     table.raise(3, share);
 }
 
