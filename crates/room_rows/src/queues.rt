@@ -18,28 +18,32 @@ use std::sync::ledger::{Blank, Ledger};
 // The outermost nice values, the middle, and one between.
 #[test]
 fn weights(rt: HostRuntime) {
-    assert!(rt; weight(-20) == 88761);
-    assert!(rt; weight(0) == 1024);
-    assert!(rt; weight(5) == 335);
-    assert!(rt; weight(19) == 15);
+    let found = [weight(-20), weight(0), weight(5), weight(19)];
+    assert!(rt; found == [88761, 1024, 335, 15]);
 }
 
 // Rounded down, and at the greatest growth of all.
 #[test]
 fn growths(rt: HostRuntime) {
-    assert!(rt; grow(1000, 5) == 3056);
-    assert!(rt; grow(1000, 0) == 1000);
-    assert!(rt; grow(1, -20) == 0);
-    assert!(rt; grow(u64::MAX, 19) == 1_259_297_728_765_238_723_584);
+    let found = [
+        grow(1000, 5),
+        grow(1000, 0),
+        grow(1, -20),
+        grow(u64::MAX, 19),
+    ];
+    assert!(rt; found == [3056, 1000, 0, 1_259_297_728_765_238_723_584]);
 }
 
 // The greater priority, the earlier deadline and the smaller virtual time go first.
 #[test]
 fn ranks(rt: HostRuntime) {
-    assert!(rt; rt_queue::rank(99) == 0);
-    assert!(rt; rt_queue::rank(1) == 98);
-    assert!(rt; deadline_queue::rank(50) == 50);
-    assert!(rt; fair_queue::rank(3056) == 3056);
+    let found = [
+        rt_queue::rank(99),
+        rt_queue::rank(1),
+        deadline_queue::rank(50),
+        fair_queue::rank(3056),
+    ];
+    assert!(rt; found == [0, 98, 50, 3056]);
 }
 
 /// Puts two tasks in a queue without tasks, the one of the greater rank first.
@@ -59,9 +63,8 @@ fn expect_top<L: Ledger, R: Abort, Q: ClassQueue>(
     pid: Pid,
     steps: &mut Steps<L>,
 ) {
-    assert!(rt; queue.top(steps) == Some(pid));
-    assert!(rt; queue.take(rank, stamp, steps));
-    assert!(rt; !queue.take(rank, stamp, steps));
+    let is_top = queue.top(steps) == Some(pid);
+    assert!(rt; is_top && queue.take(rank, stamp, steps) && !queue.take(rank, stamp, steps));
 }
 
 /// Expects the two tasks of a queue, the one of the smaller rank before the earlier one, and takes both
@@ -144,6 +147,36 @@ fn expect_classes<L: Ledger, R: Abort>(rt: &R, queue: &mut RunQueue, steps: &mut
 fn expect_each_class<L: Ledger, R: AllocGlobal + Abort>(rt: &R, steps: &mut Steps<L>) {
     let mut queue = queue_of_each_class(rt, steps);
     expect_classes(rt, &mut queue, steps);
+    drop(queue);
+}
+
+/// The pid of a task, where there is one.
+fn pid_of(task: Option<Queued>) -> Option<Pid> {
+    match task {
+        Some(task) => Some(task.pid),
+        None => None,
+    }
+}
+
+/// Expects that a queue of two tasks, which have cookie 7, tells the higher first, and none of another cookie.
+fn expect_told<L: Ledger, R: Abort>(
+    rt: &R,
+    queue: &RunQueue,
+    low: &Queued,
+    high: &Queued,
+    steps: &mut Steps<L>,
+)
+    requires low { IsRanked low.now }
+    requires high { IsRanked high.now }
+{
+    let found = [
+        pid_of(queue.first_of(7, steps)),
+        pid_of(queue.next_of(high, steps)),
+        pid_of(queue.next_of(low, steps)),
+        pid_of(queue.first_of(6, steps)),
+        pid_of(queue.first_of(8, steps)),
+    ];
+    assert!(rt; found == [Some(2), Some(1), None, None, None]);
 }
 
 /// Expects of a run queue that it tells the tasks of a cookie, the higher first, until they are taken out.
@@ -154,16 +187,28 @@ fn expect_cookies<L: Ledger, R: AllocGlobal + Abort>(rt: &R, steps: &mut Steps<L
     let high = queued(2, Queued::REAL_TIME, 7);
     queue.enqueue(low, steps);
     queue.enqueue(high, steps);
-    assert!(rt; queue.first_of(7, steps).is_some_and(|task| task.pid == 2));
-    assert!(rt;
-        queue
-            .next_of(&high, steps)
-            .is_some_and(|task| task.pid == 1)
-    );
-    assert!(rt; queue.next_of(&low, steps).is_none());
-    assert!(rt; queue.first_of(6, steps).is_none() && queue.first_of(8, steps).is_none());
-    assert!(rt; queue.dequeue(&high, steps));
-    assert!(rt; queue.first_of(7, steps).is_some_and(|task| task.pid == 1));
+    expect_told(rt, &queue, &low, &high, steps);
+    assert!(rt; queue.dequeue(&high, steps) && pid_of(queue.first_of(7, steps)) == Some(1));
+    drop(queue);
+}
+
+/// Expects that a tree of two keys tells them in order.
+fn expect_found<L: Ledger, R: Abort>(
+    rt: &R,
+    tree: &OrderTree,
+    low: &Key,
+    high: &Key,
+    steps: &mut Steps<L>,
+) {
+    let found = [
+        tree.first(steps),
+        tree.first_from(&key(4), steps),
+        tree.first_from(high, steps),
+        tree.next(low, steps),
+        tree.next(high, steps),
+    ];
+    let above = Some((*high, 50));
+    assert!(rt; found == [Some((*low, 30)), above, above, above, None] && tree.len() == 2);
 }
 
 /// Expects of a tree that it tells its keys in order, and gives them back.
@@ -174,12 +219,7 @@ fn expect_keys<L: Ledger, R: AllocGlobal + Abort>(rt: &R, steps: &mut Steps<L>) 
     let high = key(5);
     tree.insert(high, 50, steps);
     tree.insert(low, 30, steps);
-    assert!(rt; tree.len() == 2);
-    assert!(rt; tree.first(steps) == Some((low, 30)));
-    assert!(rt; tree.first_from(&key(4), steps) == Some((high, 50)));
-    assert!(rt; tree.first_from(&high, steps) == Some((high, 50)));
-    assert!(rt; tree.next(&low, steps) == Some((high, 50)));
-    assert!(rt; tree.next(&high, steps).is_none());
+    expect_found(rt, &tree, &low, &high, steps);
     assert!(rt; tree.remove(&low, steps) && !tree.remove(&low, steps));
     assert!(rt; tree.first(steps) == Some((high, 50)) && tree.len() == 1);
 }
