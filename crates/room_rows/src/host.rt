@@ -4,11 +4,12 @@
 ghost use Rattle.std.specs.Prelude.{◌≡◌};
 
 use crate::commands::{source_of, words_of};
+use crate::passes::expect_lines;
+use crate::races::parts_of;
 use cs_outside::{MemSink, MemSource, NoGate, PairGuard};
 use scenario_runner::{Status, run};
 use std::alloc::{AllocError, Global};
 use std::process::Abort;
-use std::str;
 use std::sync::Wait;
 use std::thread::Threads;
 
@@ -57,18 +58,18 @@ fn text_of_host(alloc: Global) -> Result<Vec<u8>, AllocError> {
 }
 
 /// Expects the first lines of an output, and the first of its report.
-fn expect_host(rt: &impl Abort, output: &str) {
-    assert!(rt; output.starts_with(FIRST_LINES));
-    let (_, report) = output.split_once("report\n").expect(rt, "a report");
-    assert!(rt; report.starts_with("clock 220000000\n"));
+fn expect_host(rt: &impl Abort, sink: &MemSink) {
+    let (entries, report) = parts_of(rt, sink);
+    assert!(rt; entries.starts_with(FIRST_LINES) && report.starts_with("clock 220000000\n"));
 }
 
+/// The first caller's first lines.
+const PRCTLS: [&str; 2] = ["c0 prctl 10 1 0 1 0: 0\n", "c0 prctl 20 1 0 1 0: 0\n"];
+
 /// Expects the first two lines of the first caller, and the first of the report.
-fn expect_race(rt: &impl Abort, output: &str) {
-    let (entries, report) = output.split_once("report\n").expect(rt, "a report");
-    let mut lines = entries.lines().filter(|line| line.starts_with("c0 "));
-    assert!(rt; lines.next() == Some("c0 prctl 10 1 0 1 0: 0"));
-    assert!(rt; lines.next() == Some("c0 prctl 20 1 0 1 0: 0"));
+fn expect_race(rt: &impl Abort, sink: &MemSink) {
+    let (entries, report) = parts_of(rt, sink);
+    expect_lines(rt, entries, "c0 ", &PRCTLS);
     assert!(rt; report.starts_with("clock 220000000\n"));
 }
 
@@ -101,7 +102,7 @@ fn sink_after<R: Threads + Wait + AllocGlobal + Sync + Abort>(rt: &R, word: &str
 #[test]
 fn host_of_two_guests(rt: HostRuntime) {
     let sink = sink_after(&rt, "replay");
-    expect_host(&rt, str::from_utf8(sink.bytes()).expect(&rt, "a text"));
+    expect_host(&rt, &sink);
 }
 
 // Again and again, since two races may differ.
@@ -109,6 +110,6 @@ fn host_of_two_guests(rt: HostRuntime) {
 fn race_of_two_guests(rt: HostRuntime) {
     for _ in 0..2 {
         let sink = sink_after(&rt, "race");
-        expect_race(&rt, str::from_utf8(sink.bytes()).expect(&rt, "a text"));
+        expect_race(&rt, &sink);
     }
 }

@@ -91,22 +91,22 @@ fn expect_same<R: AllocGlobal + Abort, A: Room, B: Room>(rt: &R, one: &A, other:
 fn expect_same_runs<R: AllocGlobal + Abort, A: Room, B: Room>(
     rt: &R,
     scenario: &Scenario,
-    one: &mut A,
-    other: &mut B,
+    mut one: A,
+    mut other: B,
 )
     requires playable { IsPlayable scenario.now }
-    requires scenario_of_one { (A.opening one.old).scenario ≡ scenario.now }
-    requires scenario_of_other { (B.opening other.old).scenario ≡ scenario.now }
-    requires first_of_one { A.history one.old ≡ [] }
-    requires first_of_other { B.history other.old ≡ [] }
-    requires spare_of_one { A.spare one.old ≡ length scenario.now.steps + scenario.now.siblings * scenario.now.siblings }
-    requires spare_of_other { B.spare other.old ≡ length scenario.now.steps + scenario.now.siblings * scenario.now.siblings }
+    requires scenario_of_one { (A.opening one).scenario ≡ scenario.now }
+    requires scenario_of_other { (B.opening other).scenario ≡ scenario.now }
+    requires first_of_one { A.history one ≡ [] }
+    requires first_of_other { B.history other ≡ [] }
+    requires spare_of_one { A.spare one ≡ length scenario.now.steps + scenario.now.siblings * scenario.now.siblings }
+    requires spare_of_other { B.spare other ≡ length scenario.now.steps + scenario.now.siblings * scenario.now.siblings }
 {
-    play(one, scenario.steps.items());
-    play(other, scenario.steps.items());
-    expect_same(rt, one, other);
+    play(&mut one, scenario.steps.items());
+    play(&mut other, scenario.steps.items());
+    expect_same(rt, &one, &other);
     assert!(rt; one.drain() == other.drain());
-    expect_same(rt, one, other);
+    expect_same(rt, &one, &other);
 }
 
 /// Expects that both machines, each with four guards, play the scenario in the same way.
@@ -117,12 +117,12 @@ fn expect_agreement<R: AllocGlobal + Abort>(rt: &R, scenario: &Scenario)
     let guards = taught(alloc, four(rt), scenario.teaches.items())
         .ok()
         .expect(rt, "room");
-    let mut plain = PlainRoom::<PairGuard>::start(alloc, scenario, guards).expect(rt, "room");
+    let plain = PlainRoom::<PairGuard>::start(alloc, scenario, guards).expect(rt, "room");
     let guards = taught(alloc, four(rt), scenario.teaches.items())
         .ok()
         .expect(rt, "room");
-    let mut fast = CoreState::<PairGuard>::start(alloc, scenario, guards).expect(rt, "room");
-    expect_same_runs(rt, scenario, &mut plain, &mut fast);
+    let fast = CoreState::<PairGuard>::start(alloc, scenario, guards).expect(rt, "room");
+    expect_same_runs(rt, scenario, plain, fast);
 }
 
 /// Expects it of the scenario that the text spells.

@@ -66,23 +66,24 @@ fn raced<R: Threads + Wait + AllocGlobal + Sync + Abort, G: Gate + Sync>(
     sink
 }
 
+/// The lines of the entries and of the report that the sink has.
+pub fn parts_of<'a>(rt: &impl Abort, sink: &'a MemSink) -> (&'a str, &'a str) {
+    let output = str::from_utf8(sink.bytes()).expect(rt, "a text");
+    output.split_once("report\n").expect(rt, "a report")
+}
+
 #[test]
 fn race_of_one_caller(rt: HostRuntime) {
     let sink = raced(&rt, ONE_CALLER, &NoGate);
-    let output = str::from_utf8(sink.bytes()).expect(&rt, "a text");
-    let (entries, report) = output.split_once("report\n").expect(&rt, "a report");
-    assert!(rt; entries == ENTRIES);
-    assert!(rt; report == REPORT);
+    assert!(rt; parts_of(&rt, &sink) == (ENTRIES, REPORT));
 }
 
 // Two callers make as many bytes of entries as one that makes the same steps.
 #[test]
 fn race_of_two_callers(rt: HostRuntime) {
     let sink = raced(&rt, TWO_CALLERS, &NoGate);
-    let output = str::from_utf8(sink.bytes()).expect(&rt, "a text");
-    let (entries, report) = output.split_once("report\n").expect(&rt, "a report");
-    assert!(rt; entries.len() == ENTRIES.len());
-    assert!(rt; report == REPORT);
+    let (entries, report) = parts_of(&rt, &sink);
+    assert!(rt; entries.len() == ENTRIES.len() && report == REPORT);
 }
 
 /// Two siblings with nothing to run, and the steps of the first before those of the second.
@@ -165,9 +166,9 @@ fn expect_race<R: Threads + Wait + AllocGlobal + Sync + Abort>(rt: &R) {
     let gate = Meeting::of_nobody();
     let room = race(rt, room, &scenario, &gate).expect(rt, "room");
     expect_met(rt, gate);
-    assert!(rt; room.length() == 6);
-    assert!(rt; is_turn(&room.entry(0).expect(rt, "an entry"), 1));
-    assert!(rt; is_turn(&room.entry(1).expect(rt, "an entry"), 0));
+    let first = room.entry(0).expect(rt, "an entry");
+    let second = room.entry(1).expect(rt, "an entry");
+    assert!(rt; room.length() == 6 && is_turn(&first, 1) && is_turn(&second, 0));
 }
 
 #[test]
