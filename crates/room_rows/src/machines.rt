@@ -4,15 +4,8 @@
 ghost use Rattle.std.specs.Prelude.{◌≡◌, ◌+◌, ◌*◌, [], length};
 ghost use Rattle.cs_types.specs.Scenario.{IsPlayable};
 
-use crate::examples::{DEADLINES, FORK_AND_EXIT, GROWTH, LAST_REFERENCE, REFUSALS, ROUND_ROBIN};
+use crate::examples::EXAMPLES;
 use crate::guards::{GROUP, WORKED, four};
-use crate::moves::{
-    HOTPLUG, LAST_TASK_STOLEN, LEAVES_WITH_QUEUE, REFUSED_MOVES, SAME_POLICY, STEAL,
-};
-use crate::scripts::{
-    CHARGED_AT_EXIT, CORE_COOKIE_0, FORCED_IDLE, FORCED_IDLE_TICK, LOWER_MATCH, NOTHING,
-    STALE_PICK, Script, THREE_SHARES, TIE_OF_LEADS, TWO_SHARES,
-};
 use core_state::CoreState;
 use cs_outside::{MemSink, PairGuard};
 use cs_types::{CpuView, Pid, Room, Scenario};
@@ -23,32 +16,6 @@ use scenario_input::taught;
 use scenario_runner::play;
 use scenario_text::read;
 use std::process::Abort;
-
-/// The worked examples.
-const EXAMPLES: [Script; 22] = [
-    NOTHING,
-    FORCED_IDLE,
-    LOWER_MATCH,
-    CORE_COOKIE_0,
-    TIE_OF_LEADS,
-    STALE_PICK,
-    FORCED_IDLE_TICK,
-    TWO_SHARES,
-    THREE_SHARES,
-    CHARGED_AT_EXIT,
-    DEADLINES,
-    ROUND_ROBIN,
-    GROWTH,
-    FORK_AND_EXIT,
-    REFUSALS,
-    LAST_REFERENCE,
-    STEAL,
-    LAST_TASK_STOLEN,
-    HOTPLUG,
-    LEAVES_WITH_QUEUE,
-    REFUSED_MOVES,
-    SAME_POLICY,
-];
 
 /// More bytes than a machine writes here.
 const MOST_BYTES: usize = 2_097_152;
