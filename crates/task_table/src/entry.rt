@@ -93,6 +93,7 @@ fn first_among(entries: &[Entry], group: Group) -> Option<usize>
 }
 
 /// The position of the first entry of the group, by blocks where none is near.
+#[inline(never)]
 fn search(entries: &[Entry], group: Group) -> Option<usize>
     ensures { result ≡ position (tells_group group) entries.now }
 {
@@ -107,6 +108,7 @@ fn search(entries: &[Entry], group: Group) -> Option<usize>
 
 /// The position of the first entry of the group. `None` exactly where there is none. In a walk over all tasks it is the
 /// first of all.
+#[inline(always)]
 pub(crate) fn first_in(entries: &[Entry], group: Group) -> Option<usize>
     ensures { result ≡ position (tells_group group) entries.now }
 {

@@ -36,6 +36,7 @@ impl<'a> Iterator for Tasks<'a> {
 
     ghost remaining = { item_count (λ left. left) };
 
+    #[inline(always)]
     fn next(&mut self) -> Option<&'a Task> {
         let position = first_in(self.entries, self.group)?;
         let key = self.entries[position].key;
