@@ -15,3 +15,4 @@ pub mod Clocks
 pub mod Peers
 pub mod Settings
 pub mod Lives
+pub mod Runners

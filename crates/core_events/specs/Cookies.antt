@@ -1,7 +1,7 @@
 -- Cookies: what a setting makes of the state.
-use Rattle.std.specs.Prelude.{◌≡◌, ℕ, ◌||◌, List, Some}
+use Rattle.std.specs.Prelude.{◌≡◌, ◌≢◌, ℕ, ◌||◌, List, Some, false, slice_index_or}
 use Rattle.cs_types.specs.declared.task.Task.{Task}
-use Rattle.cs_types.specs.Room.{SiblingState}
+use Rattle.cs_types.specs.Room.{SiblingState, absent}
 use Rattle.cs_types.specs.Selection.{is_run}
 use Rattle.cs_types.specs.Prctl.{Setting, set_cookies}
 use Rattle.cs_types.specs.Touches.{setting_touches}
@@ -18,6 +18,10 @@ setting tasks cookie = record { tasks = tasks; cookie = cookie }
 -- a sibling that runs the task with the pid becomes pending
 abbrev pub flagged_for : ℕ → SiblingState → SiblingState
 flagged_for pid sibling = record sibling { pending = sibling.pending || is_run sibling.run (Some pid) }
+
+-- no other of these siblings runs the task with the pid
+abbrev pub RunsAtMostAt : ℕ → ℕ → List SiblingState → Type 0
+RunsAtMostAt home pid siblings = (cpu : ℕ) → cpu ≢ home → is_run (slice_index_or siblings cpu absent).run (Some pid) ≡ false
 
 -- the new state is the old one once these tasks got the cookie
 pub record SetsCookies {Q G : Type 0} {g : Ghosts Q} (old new : State Q G g) (tasks : List Task) (cookie : ℕ) : Type 0 where

@@ -7,28 +7,30 @@ ghost use Rattle.task_table.specs.Group.{group_above};
 ghost use Rattle.prctl_core.specs.Plan.{named};
 ghost use Rattle.core_lanes.specs.Queued.{IsOf};
 ghost use Rattle.core_lanes.specs.Lanes.{lane_state};
-ghost use Rattle.core_events.specs.State.{IsSoundBut, IsReady};
+ghost use Rattle.core_events.specs.State.{both, IsSoundBut, IsReady};
+ghost use Rattle.core_events.specs.Time.{RunTheirOwn};
 ghost use Rattle.core_events.specs.Steps.{Makes};
-ghost use Rattle.core_events.specs.Cookies.{flagged_for, SetsCookies};
+ghost use Rattle.core_events.specs.Cookies.{flagged_for, RunsAtMostAt, SetsCookies};
 
 use crate::state::State;
 use core_lanes::{Lane, SiblingQueue, task_of};
 use cpu_hotplug::online_count;
 use cs_outside::Guard;
-use cs_types::{Ask, Cookie, Pid, Reply, Steps, Task};
+use cs_types::{Ask, Cookie, Cpu, Pid, Reply, Steps, Task};
 use prctl_core::{Planned, Target, plan};
 use std::sync::ledger::Ledger;
 use task_table::Group;
 
-/// Each sibling that runs the task with the pid becomes pending.
-fn flag_runners<Q: Drop>(lanes: &mut [Lane<Q>], pid: Pid)
+/// The home of the task with the pid becomes pending where it runs it. No other sibling does.
+fn flag_home<Q: Drop>(lanes: &mut [Lane<Q>], home: Cpu, pid: Pid)
+    requires home { home < length lanes.old }
+    requires alone { RunsAtMostAt home pid (map lane_state lanes.old) }
     ensures states { map lane_state lanes.new ≡ map (flagged_for pid) (map lane_state lanes.old) }
     ensures numbers { map (λ lane. lane.number) lanes.new ≡ map (λ lane. lane.number) lanes.old }
     ensures queues { map (λ lane. lane.queue) lanes.new ≡ map (λ lane. lane.queue) lanes.old }
 {
-    for lane in lanes.iter_mut() {
-        lane.pending |= lane.runs(pid);
-    }
+    let lane = &mut lanes[home as usize];
+    lane.pending |= lane.runs(pid);
 }
 
 /// How often the queues are touched where the task gets the cookie.
@@ -47,6 +49,7 @@ impl<Q: SiblingQueue, G: Guard> State<Q, G> {
     /// pending.
     fn set_cookie<L: Ledger>(&mut self, task: &Task, cookie: Cookie, steps: &mut Steps<L>)
         requires sound { IsSoundBut self.old cookie }
+        requires own { RunTheirOwn (both self.old) }
         requires there { IsOf self.old.tasks.tasks task.now }
         requires touches { self.old.core.task_number + 2 < 2 ^ 64 }
         ensures { SetsCookies self.old self.new (task.now ∷ []) cookie }
@@ -55,12 +58,13 @@ impl<Q: SiblingQueue, G: Guard> State<Q, G> {
         self.refs.put(task.cookie);
         self.core.set_cookie(&mut self.tasks, task, cookie, steps);
         self.core.task_number += touches(task, cookie);
-        flag_runners(&mut self.core.lanes, task.spec.pid);
+        flag_home(&mut self.core.lanes, task.home, task.spec.pid);
     }
 
     /// The members of the group have the cookie, by rising pid.
     fn set_group<L: Ledger>(&mut self, group: Group, cookie: Cookie, steps: &mut Steps<L>)
         requires sound { IsSoundBut self.old cookie }
+        requires own { RunTheirOwn (both self.old) }
         requires touches { self.old.core.task_number + 2 * length self.old.tasks.tasks + 2 < 2 ^ 64 }
         ensures { SetsCookies self.old self.new (group_above group 0 self.old.tasks.tasks) cookie }
     {
@@ -77,6 +81,7 @@ impl<Q: SiblingQueue, G: Guard> State<Q, G> {
     /// The tasks that the target names have the cookie.
     fn set_cookies<L: Ledger>(&mut self, to: Target, cookie: Cookie, steps: &mut Steps<L>)
         requires sound { IsSoundBut self.old cookie }
+        requires own { RunTheirOwn (both self.old) }
         requires touches { self.old.core.task_number + 2 * length self.old.tasks.tasks + 2 < 2 ^ 64 }
         ensures { SetsCookies self.old self.new (named to self.old.tasks.tasks) cookie }
     {

@@ -12,8 +12,10 @@ use Rattle.core_lanes.specs.Numbers.{numbers_by, touched, with_ended}
 use Rattle.core_lanes.specs.Changes.{Kept}
 use Rattle.core_lanes.proofs.Replaced.{All-replaced}
 use Rattle.core_lanes.proofs.Stays.{alike_stays, as_many_bare, found_in, number_of, queue_of}
-use Rattle.core_events.specs.State.{beside_of, IsGiven, state_numbers, IsGone}
-use Rattle.core_events.specs.Cookies.{flagged_for}
+use Rattle.core_events.specs.State.{both, beside_of, IsGiven, state_numbers, IsGone}
+use Rattle.core_events.specs.Cookies.{flagged_for, RunsAtMostAt}
+use Rattle.core_events.proofs.Readies.{fits_found}
+use Rattle.core_events.proofs.Runners.{runs_at_home}
 use Rattle.core_events.proofs.Settings.{flagged_core, sets_one, touches_alone}
 use Rattle.core_events.proofs.state.State.set_cookie.Goals as goal
 use Rattle.cs_types.proofs.Spots.{replaced_by}
@@ -41,16 +43,16 @@ returns g c =
     let mid = c.set_cookie.new.self in
     let same : bare mid ≡ bare old.core = c.set_cookie.ensures.bare in
     let table = c.set_cookie.ensures.table in
-    let raised = c.flag_runners.new.lanes in
-    let as_many = c.flag_runners.auto.lanes ∙ ap length c.deref_mut.ensures.value in
+    let raised = c.flag_home.new.lanes in
+    let as_many = c.flag_home.auto.lanes ∙ ap length c.deref_mut.ensures.value in
     let after = (with_items mid.lanes raised).items in
     let kept : after ≡ raised = with_items_is mid.lanes raised (as_many ∙ sym mid.lanes.ok.0) in
     let flags : map lane_state after ≡ map (flagged_for pid) (map lane_state mid.lanes.items) =
-    ap (map lane_state) kept ∙ c.flag_runners.ensures.states ∙ ap (λ lanes. map (flagged_for pid) (map lane_state lanes)) c.deref_mut.ensures.value in
+    ap (map lane_state) kept ∙ c.flag_home.ensures.states ∙ ap (λ lanes. map (flagged_for pid) (map lane_state lanes)) c.deref_mut.ensures.value in
     let own : map number_of after ≡ map number_of mid.lanes.items =
-    ap (map number_of) kept ∙ c.flag_runners.ensures.numbers ∙ ap (map number_of) c.deref_mut.ensures.value in
+    ap (map number_of) kept ∙ c.flag_home.ensures.numbers ∙ ap (map number_of) c.deref_mut.ensures.value in
     let queues : map queue_of after ≡ map queue_of mid.lanes.items =
-    ap (map queue_of) kept ∙ c.flag_runners.ensures.queues ∙ ap (map queue_of) c.deref_mut.ensures.value in
+    ap (map queue_of) kept ∙ c.flag_home.ensures.queues ∙ ap (map queue_of) c.deref_mut.ensures.value in
     let touches = c.touches.result in
     let core : BareCore = record (bare mid) { task_number = mid.task_number + touches; siblings = map lane_state after; own = map number_of after } in
     let is : core ≡ flagged_core touches pid (bare old.core) =
@@ -98,3 +100,19 @@ overflow_add-self g c = omega (arith, ap (λ (b : BareCore). b.task_number) c.se
 
 pub invariant_of-self : goal.invariant_of-self
 invariant_of-self g c = record { few = c.set_cookie.new.self.few }
+
+pub flag_home-requires-clause-home : goal.flag_home-requires-clause-home
+flag_home-requires-clause-home g c =
+    let old = c.args.self.now in
+    omega (
+      arith,
+      (fits_found (both old) c.args.task.now.spec.pid c.args.task.now c.requires.sound.agree c.requires.there).home,
+      as_many_bare old.core c.set_cookie.new.self c.set_cookie.ensures.bare,
+      ap length c.deref_mut.ensures.value,
+    )
+
+pub flag_home-requires-clause-alone : goal.flag_home-requires-clause-alone
+flag_home-requires-clause-alone g c =
+    let same = ap (map lane_state) c.deref_mut.ensures.value ∙ ap (λ (core : BareCore). core.siblings) c.set_cookie.ensures.bare in
+    subst (RunsAtMostAt c.args.task.now.home c.args.task.now.spec.pid) (sym same)
+    (runs_at_home (both c.args.self.now) c.args.task.now c.requires.own c.requires.there)

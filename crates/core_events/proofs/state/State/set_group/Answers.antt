@@ -5,7 +5,9 @@ use Rattle.cs_types.specs.declared.task.Task.{Task}
 use Rattle.cs_types.specs.Room.{RoomState}
 use Rattle.task_table.specs.Group.{is_in_group, group_above}
 use Rattle.task_table.proofs.Tables.{above_kept}
+use Rattle.core_events.specs.Cookies.{setting}
 use Rattle.core_events.proofs.States.{both_stay, same_stays}
+use Rattle.core_events.proofs.Runners.{own_kept}
 use Rattle.core_events.proofs.Settings.{member_next, member_none, member_there, group_done, group_room, group_numbers, group_touches}
 use Rattle.core_events.proofs.state.State.set_group.Goals as goal
 
@@ -20,6 +22,7 @@ none_left (task ∷ tasks) few = absurd (omega arith)
 pub loop-init : goal.loop-init
 loop-init g c = record {
   stays = same_stays;
+  own = c.requires.own;
   room = λ intervals. refl;
   numbers = refl;
   left = omega (arith, few_members c.args.group c.args.self.now.tasks.tasks, c.len-end.ensures.len);
@@ -56,6 +59,7 @@ loop-preserved g c =
     ∙ ap (λ (ts : List Task). task ∷ ts) (sym kept) in
     record {
       stays = both_stay c.loop.invariant.stays c.set_cookie.ensures.stays;
+      own = own_kept c.loop.self c.set_cookie.new.self (setting (task ∷ []) c.args.cookie) (c.set_cookie.ensures.room []) c.loop.invariant.own;
       room = group_room c.args.self.now c.loop.self c.args.cookie left all c.loop.invariant.room c.loop.invariant.numbers c.set_cookie.new.self task rest is c.set_cookie.ensures;
       numbers = group_numbers c.args.self.now c.loop.self c.args.cookie left all c.loop.invariant.room c.loop.invariant.numbers c.set_cookie.new.self task rest is c.set_cookie.ensures;
       left = omega (arith, ap length is, c.loop.invariant.left);
@@ -73,3 +77,6 @@ set_cookie-requires-clause-sound g c = c.loop.invariant.stays.sound c.requires.s
 pub set_cookie-requires-clause-there : goal.set_cookie-requires-clause-there
 set_cookie-requires-clause-there g c =
     member_there c.args.group c.loop.after c.loop.self.tasks.tasks c.next_in.ensures.sound.rising (Some c.in-Some.task) (c.in-Some.ensures ∙ c.next_in.ensures.next)
+
+pub set_cookie-requires-clause-own : goal.set_cookie-requires-clause-own
+set_cookie-requires-clause-own g c = c.loop.invariant.own

@@ -4,7 +4,8 @@ use Rattle.cs_types.specs.Prctl.{set_cookies}
 use Rattle.cs_types.specs.Touches.{setting_touches}
 use Rattle.task_table.specs.Group.{group_above}
 use Rattle.core_lanes.specs.Numbers.{touched}
-use Rattle.core_events.specs.State.{room_with, StaysBut, state_numbers}
+use Rattle.core_events.specs.State.{both, room_with, StaysBut, state_numbers}
+use Rattle.core_events.specs.Time.{RunTheirOwn}
 use Rattle.core_events.specs.Cookies.{setting}
 use Rattle.core_events.proofs.state.State.set_group.Given as goal
 
@@ -14,6 +15,7 @@ invariant-loop g l =
     let all = group_above l.group 0 l.initial.self.tasks.tasks in
     record {
       stays : StaysBut l.cookie l.initial.self l.self;
+      own : RunTheirOwn (both l.self);
       room : (intervals : List Interval) → set_cookies (room_with intervals l.self) (setting left l.cookie) ≡ set_cookies (room_with intervals l.initial.self) (setting all l.cookie);
       numbers : touched (setting_touches (setting left l.cookie)) (state_numbers l.self) ≡ touched (setting_touches (setting all l.cookie)) (state_numbers l.initial.self);
       left : length left + l.counter ≤ l.end;
