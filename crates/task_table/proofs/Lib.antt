@@ -5,3 +5,4 @@ pub mod Tables
 pub mod Totals
 pub mod Blocks
 pub mod Walks
+pub mod Noted

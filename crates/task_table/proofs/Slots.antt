@@ -113,7 +113,7 @@ empty_elsewhere slots key empty (entry ∷ entries) (task ∷ tasks) holds =
     (λ same. let found = sym (ap (get slots) same) ∙ head in absurd cc, empty_elsewhere slots key empty entries tasks cc)
 
 -- a slot with a pid below them all is none of theirs
-above_elsewhere : (slots : Slab Task) (key : ℕ) (at : Task) → get slots key ≡ Some at → (low : ℕ) → at.spec.pid < low →
+pub above_elsewhere : (slots : Slab Task) (key : ℕ) (at : Task) → get slots key ≡ Some at → (low : ℕ) → at.spec.pid < low →
     (entries : List Entry) (tasks : List Task) → Holds slots entries tasks → RisesFrom low tasks → Elsewhere key entries
 above_elsewhere slots key at here low lt [] tasks holds rises = tt
 above_elsewhere slots key at here low lt (entry ∷ entries) [] holds rises = absurd cc

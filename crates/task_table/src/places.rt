@@ -1,5 +1,5 @@
-//! Where to look for a pid first. It is apart since nothing that is promised rests on it: a wrong place costs a
-//! search, and no more.
+//! Where to look for a pid first: in which slot, and at which position. It is apart since nothing that is promised
+//! rests on it: a wrong place costs a search, and no more.
 
 ghost use Rattle.std.specs.Prelude.{◌≡◌, length};
 
@@ -11,18 +11,34 @@ use std::alloc::Global;
 /// number of tasks that live at once.
 const PLACES: usize = 8192;
 
-/// The positions of entries by their pids, as they were last noted.
+/// The positions of entries by their pids, as they were last noted, and the slots of their tasks.
 #[derive(Drop)]
 pub(crate) struct Places {
     noted: Vec<u16>,
+    /// A task keeps its slot for life.
+    slots: Vec<u16>,
     ghost all: { length noted.items ≡ 8192 },
+    ghost each: { length slots.items ≡ 8192 },
 }
 
 impl Places {
-    /// No position but 0. This call alone takes memory.
+    /// No position and no slot but 0. This call alone takes memory.
     pub fn none(alloc: Global) -> Result<Places, OutOfMemory> {
         let noted = vec![in alloc; 0; PLACES]?;
-        Ok(Places { noted })
+        let slots = vec![in alloc; 0; PLACES]?;
+        Ok(Places { noted, slots })
+    }
+
+    /// The slot in which to look for the task with the pid.
+    pub fn slot_of(&self, pid: Pid) -> usize {
+        self.slots[pid as usize % PLACES] as usize
+    }
+
+    /// Notes the slot of the task with the pid.
+    pub fn note_slot(&mut self, pid: Pid, key: usize) {
+        if let Ok(key) = u16::try_from(key) {
+            self.slots[pid as usize % PLACES] = key;
+        }
     }
 
     /// The position at which to look for the pid.

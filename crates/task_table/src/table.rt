@@ -138,6 +138,7 @@ impl TaskTable {
             .insert(position, Entry::of(&spec, key))
             .unwrap();
         self.places.note(&self.entries, position);
+        self.places.note_slot(spec.pid, key);
         Ok(())
     }
 
@@ -146,6 +147,32 @@ impl TaskTable {
     pub fn find(&self, pid: Pid) -> Option<&Task>
         ensures task { option_copied result ≡ find (has_pid pid) self.now.tasks }
         ensures sound { IsSound self.now }
+    {
+        match self.in_noted_slot(pid) {
+            Some(task) => Some(task),
+            None => self.by_position(pid),
+        }
+    }
+
+    /// The task with the pid, where it is in the slot that was noted.
+    #[inline(always)]
+    fn in_noted_slot(&self, pid: Pid) -> Option<&Task>
+        ensures task { IfSome result (λ task. find (has_pid pid) self.now.tasks ≡ Some task.now) }
+        ensures sound { IsSound self.now }
+    {
+        let task = self.slots.get(self.places.slot_of(pid))?;
+        if task.spec.pid == pid {
+            Some(task)
+        } else {
+            None
+        }
+    }
+
+    /// The task with the pid, by its position. It is seldom called, since most slots are noted.
+    #[cold]
+    #[inline(never)]
+    fn by_position(&self, pid: Pid) -> Option<&Task>
+        ensures { option_copied result ≡ find (has_pid pid) self.now.tasks }
     {
         match self.position_of(pid) {
             Ok(position) => self.slots.get(self.entries[position].key),

@@ -18,7 +18,7 @@ pub insert-requires : goal.insert-requires
 insert-requires c =
     omega (arith, c.self.inside.entries.ok.0, gap_in_entries (kept_of _ _ _ _ _ c.self.view_is c.self.invariant) c.args.spec.pid c.args.position c.requires)
 
-after : (c : goal.After-note) → IsKept c.insert_reserved-key.new.self c.insert.new.self.items
+after : (c : goal.After-note_slot) → IsKept c.insert_reserved-key.new.self c.insert.new.self.items
     (vec_capacity c.insert.new.self) c.self.inside.limit (inserted (asleep c.args.spec) c.args.self.now.tasks)
 after c =
     kept_insert (kept_of _ _ _ _ _ c.self.view_is c.self.invariant) c.insert_reserved-key.new.self c.insert.new.self.items _ c.insert_reserved-key.result
