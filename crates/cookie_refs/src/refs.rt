@@ -1,8 +1,9 @@
 //! How many references each live cookie has, in one vector by rising serial.
 
-ghost use Rattle.std.specs.Prelude.{◌≡◌, ◌≢◌, ℕ, ◌+◌, ◌^◌, ◌<◌, ◌↔◌, ◌==◌, if◌then◌else◌, IsErr, IfOk, IfErr, OnOk, OnErr, IfSome, IfNone, ◌≤◌, length, IsTrue};
+ghost use Rattle.std.specs.Prelude.{◌≡◌, ◌≢◌, ℕ, ◌+◌, ◌^◌, ◌<◌, ◌↔◌, ◌==◌, if◌then◌else◌, IsErr, IfOk, IfErr, OnOk, OnErr, IfSome, IfNone, ◌≤◌, length, remove, IsTrue, vec_len, vec_capacity};
 ghost use Rattle.cs_types.specs.Prctl.{live_cookies};
 ghost use Rattle.cookie_refs.specs.Refs.{count_of, live_count, references, Agree};
+ghost use Rattle.std.specs.List.{SameBelow, ShiftedDown};
 ghost use Rattle.cookie_refs.specs.Inside.{IsRising, AreCookies, IsAt, count_in};
 
 use crate::places::Places;
@@ -95,6 +96,7 @@ impl CookieRefs {
             return Err(CookieFull { limit: self.limit });
         }
         let cookie = self.next;
+        self.places.note(cookie, self.live.len());
         self.live.push_reserved(LiveCookie { cookie, count: 1 });
         self.next += 1;
         Ok(cookie)
@@ -129,7 +131,7 @@ impl CookieRefs {
     {
         if let Some(index) = find(&self.live, &mut self.places, cookie) {
             if self.live[index].count == 1 {
-                self.live.remove(index);
+                take_out(&mut self.live, index);
             } else {
                 self.live[index].count -= 1;
             }
@@ -159,7 +161,23 @@ impl CookieRefs {
     }
 }
 
-/// The index of a live cookie. It halves what is left with each comparison.
+/// Takes a cookie out of the live ones. It is seldom called: most cookies have a reference left.
+#[cold]
+#[inline(never)]
+fn take_out(live: &mut Vec<LiveCookie>, index: usize)
+    requires { index < vec_len live.old }
+    ensures items { live.new.items ≡ remove live.old.items index }
+    ensures by_index { SameBelow live.old.items live.new.items index × ShiftedDown live.old.items live.new.items index }
+    ensures len { vec_len live.new + 1 ≡ vec_len live.old }
+    ensures capacity { vec_capacity live.new ≡ vec_capacity live.old }
+{
+    live.remove(index);
+}
+
+/// The index of a live cookie. It halves what is left with each comparison. It is seldom called, since most indices
+/// are noted.
+#[cold]
+#[inline(never)]
 fn index_of(live: &[LiveCookie], cookie: Cookie) -> Option<usize>
     requires { IsRising live.now }
     ensures found { IfSome result (IsAt live.now cookie) }

@@ -112,6 +112,14 @@ gap_at_end entries tasks pid index rises last some above =
       last_alike : (d : Entry) → (get_or entries (length entries - 1) d).pid < pid
       last_alike d = omega (arith, above, ap (λ (e : Entry). e.pid) (get_or_default entries (length entries - 1) d last (omega arith)))
 
+-- a pid below the first one has all above it
+pub all_above : (entries : List Entry) (tasks : List Task) (pid : ℕ) → IsIndexOf entries tasks → Rises tasks → (first : Entry) →
+    pid < (get_or entries 0 first).pid → RisesFrom (pid + 1) tasks
+all_above entries [] pid index rises first below = tt
+all_above [] (task ∷ tasks) pid index rises first below = absurd cc
+all_above (entry ∷ entries) (task ∷ tasks) pid index rises first below =
+    let head : entry.pid ≡ task.spec.pid = cc in (omega (arith, head, below), rises.1)
+
 -- a binary search by pid ends at the position of the pid, or at the gap for it
 pub searched : (entries : List Entry) (tasks : List Task) (pid : ℕ) → IsIndexOf entries tasks → Rises tasks → (r : Result ℕ ℕ) →
     IsSearchInRange r (length entries) → IsBinarySearchResult (λ entry. nat_cmp entry.pid pid) entries r →

@@ -144,9 +144,22 @@ pub(crate) fn position_of(entries: &[Entry], pid: Pid) -> Result<usize, usize>
     entries.binary_search_by_key(&pid, |entry| entry.pid)
 }
 
+/// Whether the pid is below those of all entries, which rise by pid. It is where a walk begins.
+fn is_below_all(entries: &[Entry], pid: Pid) -> bool
+    ensures { IsTrue result → (tasks : List SomeTask) → IsIndexOf entries.now tasks → Rises tasks → IsAbove pid 0 tasks }
+{
+    match entries.first() {
+        Some(first) => pid < first.pid,
+        None => true,
+    }
+}
+
 /// The position of the first entry with a greater pid, or their number. The entries rise by pid.
 pub(crate) fn position_above(entries: &[Entry], pid: Pid) -> usize
     ensures { (tasks : List SomeTask) → IsIndexOf entries.now tasks → Rises tasks → IsAbove pid result tasks }
 {
+    if is_below_all(entries, pid) {
+        return 0;
+    }
     entries.partition_point(|entry| entry.pid <= pid)
 }

@@ -282,6 +282,7 @@ impl TaskTable {
 
     /// Takes the task with the pid out, and gives it and what it was charged for forced idle, in ns. `None`
     /// exactly where there is none, and then nothing changes.
+    #[inline(always)]
     pub fn remove(&mut self, pid: Pid) -> Option<(Task, u64)>
         ensures task { result ≡ option_map (λ task. (task, total_in self.old pid)) (find (has_pid pid) self.old.tasks) }
         ensures removed { self.new ≡

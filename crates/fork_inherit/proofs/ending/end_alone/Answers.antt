@@ -1,6 +1,5 @@
-use Rattle.std.proofs.Common.{◌≡◌, ◌∙◌, Some, sym, subst, ap}
+use Rattle.std.proofs.Common.{◌≡◌, ◌∙◌, Some, sym, subst}
 use Rattle.std.specs.Prelude.{find}
-use Rattle.std.specs.Option.{IsSome, option_map}
 use Rattle.cs_types.specs.Room.{has_pid}
 use Rattle.cookie_refs.specs.Refs.{Agree}
 use Rattle.cookie_refs.proofs.Agreements.{own_cookie_is_live, AgreeBut-without}

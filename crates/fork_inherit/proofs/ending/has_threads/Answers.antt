@@ -4,8 +4,6 @@ use Rattle.std.specs.List.{list_any}
 use Rattle.std.proofs.lemmas.Iterator.Consumers.{YieldsList-from_first}
 use Rattle.std.proofs.lemmas.Iterator.Search.{any_from_yields_List}
 use Rattle.cs_types.specs.declared.task.Task.{Task}
-use Rattle.task_table.specs.declared.group.Group.TheVariants.{Threads}
-use Rattle.task_table.specs.Group.{is_in_group}
 use Rattle.fork_inherit.proofs.Ends.{any_of_kept}
 use Rattle.fork_inherit.proofs.ending.has_threads.Goals as goal
 

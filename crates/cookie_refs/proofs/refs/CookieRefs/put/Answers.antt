@@ -19,7 +19,7 @@ returns-then-index-eq1-clause-counts c other =
     let above = c.self.invariant.above_0 c.in-Some.index one at.in_range in
     let new = count-entries _ (rising-remove live rising c.args.cookie c.in-Some.index at) other in
     let counts = count-remove live rising c.args.cookie c.in-Some.index at other in
-    rw (c.remove.ensures.items, ← c.self.view_is)
+    rw (c.take_out.ensures.items, ← c.self.view_is)
     (grind (arith, nat_tests, new, counts, own, at.cookie_there one, count-entries live rising other))
 
 pub returns-then-index-eq1-clause-live : goal.returns-then-index-eq1-clause-live
@@ -29,7 +29,7 @@ returns-then-index-eq1-clause-live c =
     let at : IsAt live c.args.cookie c.in-Some.index = rw (← c.deref.ensures.value) c.in-Some.ensures.found in
     let own = ap (λ (one : LiveCookie). one.count) c.index.ensures ∙ at.count_there c.index.result.now in
     let new = len-entries _ (rising-remove live rising c.args.cookie c.in-Some.index at) in
-    rw (c.remove.ensures.items, ← c.self.view_is)
+    rw (c.take_out.ensures.items, ← c.self.view_is)
     (grind (arith, nat_tests, new, own, length-remove live c.in-Some.index at.in_range, len-entries live rising, count-entries live rising c.args.cookie))
 
 pub returns-else-index-eq1-clause-counts : goal.returns-else-index-eq1-clause-counts
