@@ -26,6 +26,6 @@ pub fn entry_text<K: Sink>(entry: &Entry, line: &mut Line, sink: &mut K) -> Resu
     ensures counted { K.faults sink.old ≤ K.faults sink.new }
 {
     line.clear();
-    line.entry(*entry);
+    line.entry(entry);
     write_all(sink, line.as_bytes())
 }

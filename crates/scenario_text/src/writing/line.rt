@@ -52,20 +52,20 @@ impl Line {
     }
 
     /// Puts the whole entry on the line, on which there is nothing yet, with its line feed.
-    pub fn entry(&mut self, entry: Entry)
+    pub fn entry(&mut self, entry: &Entry)
         requires { self.old ≡ [] }
-        ensures { self.new ≡ entry_text entry }
+        ensures { self.new ≡ entry_text entry.now }
     {
-        self.made(entry.actor, entry.event);
+        self.made(entry.actor, &entry.event);
         self.text(": ");
-        self.reply(entry.reply);
+        self.reply(&entry.reply);
         self.text("\n");
     }
 
     /// Who makes a step, and what is done.
-    pub(crate) fn made(&mut self, actor: Actor, event: Event)
+    pub(crate) fn made(&mut self, actor: Actor, event: &Event)
         requires { length self.old + 76 ≤ line_room }
-        ensures text { self.new ≡ self.old ++ spaced (made_words actor event) }
+        ensures text { self.new ≡ self.old ++ spaced (made_words actor event.now) }
         ensures longest { length self.new ≤ length self.old + 76 }
     {
         self.actor(actor);
@@ -92,23 +92,23 @@ impl Line {
     }
 
     /// What the actor does. The end names the sibling that schedules.
-    fn deed(&mut self, actor: Actor, event: Event)
+    fn deed(&mut self, actor: Actor, event: &Event)
         requires { length self.old + 71 ≤ line_room }
-        ensures text { self.new ≡ self.old ++ spaced (deed_words actor event) }
+        ensures text { self.new ≡ self.old ++ spaced (deed_words actor event.now) }
         ensures longest { length self.new ≤ length self.old + 71 }
     {
         match (actor, event) {
-            (Actor::End, Event::Resched(cpu)) => self.indexed("resched", cpu),
+            (Actor::End, Event::Resched(cpu)) => self.indexed("resched", *cpu),
             _ => self.event(event),
         }
     }
 
-    fn event(&mut self, event: Event)
+    fn event(&mut self, event: &Event)
         requires { length self.old + 71 ≤ line_room }
-        ensures text { self.new ≡ self.old ++ spaced (event_words event) }
+        ensures text { self.new ≡ self.old ++ spaced (event_words event.now) }
         ensures longest { length self.new ≤ length self.old + 71 }
     {
-        match event {
+        match *event {
             Event::Turn(_) => self.text("turn"),
             Event::Resched(_) => self.text("resched"),
             Event::Block(_) => self.text("block"),
@@ -122,7 +122,7 @@ impl Line {
                 self.text(" ");
                 self.child(thread);
             }
-            Event::Prctl { caller, ask } => {
+            Event::Prctl { caller, ref ask } => {
                 self.text("prctl ");
                 self.number(caller);
                 self.text(" ");
@@ -205,9 +205,9 @@ impl Line {
         }
     }
 
-    fn ask(&mut self, ask: Ask)
+    fn ask(&mut self, ask: &Ask)
         requires { length self.old + 54 ≤ line_room }
-        ensures text { self.new ≡ self.old ++ spaced (ask_words ask) }
+        ensures text { self.new ≡ self.old ++ spaced (ask_words ask.now) }
         ensures longest { length self.new ≤ length self.old + 54 }
     {
         self.number(ask.cmd);
@@ -219,22 +219,22 @@ impl Line {
         self.number(ask.addr);
     }
 
-    fn reply(&mut self, reply: Reply)
+    fn reply(&mut self, reply: &Reply)
         requires { length self.old + 73 ≤ line_room }
-        ensures text { self.new ≡ self.old ++ spaced (reply_words reply) }
+        ensures text { self.new ≡ self.old ++ spaced (reply_words reply.now) }
         ensures longest { length self.new ≤ length self.old + 73 }
     {
-        match reply {
-            Reply::Picked(pick) => self.pick(pick),
+        match *reply {
+            Reply::Picked(ref pick) => self.pick(pick),
             Reply::Nothing => self.text("Nothing"),
             Reply::Stole { pid, from } => self.stolen(pid, from),
             Reply::Missed(cpu) => self.indexed("Missed", cpu),
             Reply::Offline => self.text("Offline"),
-            Reply::Slept { pid, pick } => {
+            Reply::Slept { pid, ref pick } => {
                 self.text("Slept ");
                 self.task_and_pick(pid, pick);
             }
-            Reply::Ended { pid, pick } => {
+            Reply::Ended { pid, ref pick } => {
                 self.text("Ended ");
                 self.task_and_pick(pid, pick);
             }
@@ -275,9 +275,9 @@ impl Line {
     }
 
     /// The task that left its sibling, and the pick that the sibling took.
-    fn task_and_pick(&mut self, pid: Pid, pick: Pick)
+    fn task_and_pick(&mut self, pid: Pid, pick: &Pick)
         requires { length self.old + 67 ≤ line_room }
-        ensures text { self.new ≡ self.old ++ spaced (decimal pid ∷ pick_words pick) }
+        ensures text { self.new ≡ self.old ++ spaced (decimal pid ∷ pick_words pick.now) }
         ensures longest { length self.new ≤ length self.old + 67 }
     {
         self.number(pid);
@@ -285,9 +285,9 @@ impl Line {
         self.pick(pick);
     }
 
-    fn pick(&mut self, pick: Pick)
+    fn pick(&mut self, pick: &Pick)
         requires { length self.old + 56 ≤ line_room }
-        ensures text { self.new ≡ self.old ++ spaced (pick_words pick) }
+        ensures text { self.new ≡ self.old ++ spaced (pick_words pick.now) }
         ensures longest { length self.new ≤ length self.old + 56 }
     {
         self.kind(pick.kind);

@@ -61,7 +61,7 @@ impl Lined for Step {
     fn line(&self) -> Line {
         let mut line = Line::new();
         line.text("step ");
-        line.made(self.actor, self.event);
+        line.made(self.actor, &self.event);
         line.text("\n");
         line
     }
