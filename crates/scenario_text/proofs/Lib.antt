@@ -19,7 +19,7 @@ pub mod Firsts
 pub mod Beginnings
 pub mod Building
 pub mod Plain
-pub mod SiblingLines
+pub mod UsualLines
 pub mod Again
 pub mod Scenarios
 pub mod Replies

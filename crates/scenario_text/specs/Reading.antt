@@ -5,6 +5,7 @@ use Rattle.std.specs.Borrow.{Bor}
 use Rattle.cs_types.specs.declared.task.Policy.{Policy}
 use Rattle.cs_types.specs.declared.task.Policy.TheVariants.{Stop, Deadline, Fifo, Rr, Fair}
 use Rattle.cs_types.specs.declared.task.TaskSpec.{TaskSpec}
+use Rattle.cs_types.specs.declared.event.Actor.{Actor}
 use Rattle.cs_types.specs.declared.event.Actor.TheVariants.{Sibling, Caller}
 use Rattle.cs_types.specs.declared.event.Ask.{Ask}
 use Rattle.cs_types.specs.declared.event.Event.{Event}
@@ -21,8 +22,8 @@ use Rattle.scenario_text.specs.declared.line.ScenarioLine.{ScenarioLine}
 use Rattle.scenario_text.specs.declared.line.ScenarioLine.TheVariants as forms
 use Rattle.scenario_text.specs.declared.plan.Plan.{Plan}
 use Rattle.scenario_text.specs.declared.fault.ReadFault.{ReadFault}
-use Rattle.scenario_text.specs.Words.{Word, task_words, teach_words}
-use Rattle.scenario_text.specs.Text.{version_words, step_words, end_words, scenario_lines}
+use Rattle.scenario_text.specs.Words.{Word, task_words, teach_words, event_words}
+use Rattle.scenario_text.specs.Text.{line, version_words, step_words, end_words, scenario_lines}
 use Rattle.scenario_text.specs.Faults.{kind_of}
 use Rattle.scenario_text.specs.Reader.{Tells}
 use Rattle.scenario_text.specs.Grammar.{is_word, begins, behind, has_minus, value, is_number, keyword, number, signed, sibling, named_pid, guard, child, policy, Form, version_form, siblings_form, limits_form, task_form, teach_form}
@@ -352,6 +353,23 @@ pub record IsPlan (siblings limit : ℕ) (plan : Contents) : Type 0 where
   pub few_teaches : length plan.teaches ≤ 64
   pub steps : All (IsStep siblings) plan.steps
   pub few_steps : length plan.steps ≤ 100000
+
+-- ---- lines that are read from the front of a text
+
+-- the text begins with the line of a step that may stand in a core of so many siblings, and the rest stands behind the line
+pub record BeginsStep (siblings : ℕ) (text : List ℕ) (step : Step) (rest : List ℕ) : Type 0 where
+  pub is : IsStep siblings step
+  pub spelled : text ≡ line (step_words step) ++ rest
+
+-- the same of what an actor does
+pub record BeginsEvent (siblings : ℕ) (actor : Actor) (text : List ℕ) (event : Event) (rest : List ℕ) : Type 0 where
+  pub is : IsStep siblings (record { actor = actor; event = event })
+  pub spelled : text ≡ line (event_words event) ++ rest
+
+-- and of a number
+pub record BeginsNumber (low high : ℕ) (text : List ℕ) (number : ℕ) (rest : List ℕ) : Type 0 where
+  pub within : IsWithin low high number
+  pub spelled : text ≡ line (decimal number ∷ []) ++ rest
 
 -- the words of a plan's lines
 abbrev pub plan_lines : Contents → List (List Word)

@@ -12,6 +12,7 @@ mod reading;
 mod step;
 mod task;
 mod teach;
+mod usual;
 mod words;
 mod writing;
 

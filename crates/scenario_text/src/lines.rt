@@ -8,8 +8,8 @@ ghost use Rattle.scenario_text.specs.Faults.{lines_in, is_nothing};
 ghost use Rattle.scenario_text.specs.Reading.{texts, Takes, line_at};
 
 use crate::fault::BadKind;
-use crate::pieces::{cut, cut_near};
-use crate::step::parse_sibling_step;
+use crate::pieces::cut;
+use crate::usual::usual_step;
 use crate::words::{Slots, words_of};
 use cs_types::Step;
 use std::marker::Model;
@@ -51,18 +51,15 @@ impl<'a> Lines<'a> {
         words_of(line, slots)
     }
 
-    /// Takes the next line where it is a right step line of a sibling, as most are, with no search for the line's
-    /// end. Else nothing is taken.
+    /// Takes the next line where it is one of the step lines that most lines are, with no search for the line's end.
+    /// Else nothing is taken.
     #[inline(always)]
-    pub fn next_sibling_step(&mut self, siblings: u8) -> Option<Step>
-        requires { IsWithin 1 255 siblings }
+    pub fn next_usual_step(&mut self, siblings: u8) -> Option<Step>
+        requires { IsWithin 1 8 siblings }
         ensures { MatchOption result (self.new ≡ self.old)
             (λ step. IsStep siblings step × (line_at self.old ≡ Ok (step_words step, self.new))) }
     {
-        // The number is one digit, since a scenario has at most 8 siblings.
-        let (digit, behind) = self.rest.strip_prefix(b"step s")?.split_at_checked(1)?;
-        let (name, rest) = cut_near(behind.strip_prefix(b" ")?, b'\n')?;
-        let step = parse_sibling_step(digit, name, siblings).ok()?;
+        let (step, rest) = usual_step(self.rest, siblings)?;
         self.rest = rest;
         Some(step)
     }

@@ -28,7 +28,7 @@ fn next_line<'a>(
     requires few { HasFewLines (contents plan.now) }
     ensures { Takes (λ line. line) result lines.new (next_of head (contents plan.now) lines.old) }
 {
-    if let Some(step) = lines.next_sibling_step(head.siblings) {
+    if let Some(step) = lines.next_usual_step(head.siblings) {
         let line = ScenarioLine::Step(step);
         plan.check(&line, head.task_limit)?;
         return Ok(line);

@@ -14,10 +14,10 @@ use crate::words::is_word;
 use cs_types::{Actor, Ask, Event, Pid, Step};
 
 /// The greatest number of a caller. The least is 0.
-const MOST_CALLER: u64 = 7;
+pub(crate) const MOST_CALLER: u64 = 7;
 
 /// The greatest pid that a caller may name, of a task or of none. The least is 1.
-const MOST_NAMED_PID: u64 = 999_999;
+pub(crate) const MOST_NAMED_PID: u64 = 999_999;
 
 /// How far below 0 the target of a `prctl` may be, a number of 32 bits with a sign.
 const MOST_TARGET_BELOW: u32 = 2_147_483_648;
@@ -26,7 +26,7 @@ const MOST_TARGET_BELOW: u32 = 2_147_483_648;
 const MOST_TARGET_ABOVE: u32 = 2_147_483_647;
 
 /// The greatest advance of the clock, in ns. The least is 1.
-const MOST_ADVANCE: u64 = 1_000_000_000;
+pub(crate) const MOST_ADVANCE: u64 = 1_000_000_000;
 
 /// The target of `prctl`.
 fn parse_target(word: &[u8]) -> Result<i32, BadKind>

@@ -1,0 +1,139 @@
+-- UsualLines: a text that begins with the line of a step, put together from what was found at its front.
+use Rattle.std.proofs.Common.{◌≡◌, ℕ, ◌≤◌, ◌<◌, ◌+◌, ◌-◌, ◌^◌, true, eqb, List, [], ◌∷◌, ◌++◌, length, take, drop, get_or, Some, Ok, Err, false, refl, sym, ap, subst, ◌∙◌, append_assoc, take_all, arith}
+use Rattle.std.specs.Prelude.{codes, decimal, MatchResult}
+use Rattle.std.specs.List.{AllByRecursion, join_with_byte}
+use Rattle.std.specs.Result.{result_ok}
+use Rattle.std.proofs.lemmas.Fmt.{decimal_digit}
+use Rattle.std.proofs.lemmas.List.{length-drop}
+use Rattle.std.proofs.lemmas.List.Splits.{slice_split_at, join_with_byte-slice_split}
+use Rattle.cs_types.specs.declared.event.Actor.TheVariants.{Sibling, Caller}
+use Rattle.cs_types.specs.declared.event.Event.{Event}
+use Rattle.cs_types.specs.declared.event.Event.TheVariants.{Turn, Resched, Block, Exit, Tick, Wake, Advance, Fork, Prctl, SetSched, Offline, Online, Load, Unload}
+use Rattle.cs_types.specs.declared.event.Step.{Step}
+use Rattle.cs_types.specs.Scenario.{IsWithin, IsStep}
+use Rattle.scenario_text.specs.declared.fault.BadKind.TheVariants.{Number}
+use Rattle.scenario_text.specs.declared.head.Head.{Head}
+use Rattle.scenario_text.specs.declared.line.ScenarioLine.TheVariants as forms
+use Rattle.scenario_text.specs.Words.{Word, made_words, event_words}
+use Rattle.scenario_text.specs.Text.{spaced, line, step_words}
+use Rattle.scenario_text.specs.Grammar.{begins, value, is_number}
+use Rattle.scenario_text.specs.Faults.{pieces, lines_in}
+use Rattle.scenario_text.specs.Reading.{◌>>=◌, Contents, place_after, Read, line_at, line_check, next_of, usable, IsHead, BeginsStep, BeginsEvent, BeginsNumber}
+use Rattle.scenario_text.proofs.Numbers.{number_is}
+use Rattle.scenario_text.proofs.Fields.{mark_is}
+use Rattle.scenario_text.proofs.Cuts.{has_piece, line_at-lines_in}
+use Rattle.scenario_text.proofs.Texts.{IsPlain, words_in-spaced, spaced_lacks, all_lack}
+use Rattle.scenario_text.proofs.Forms.{line_again}
+use Rattle.scenario_text.proofs.Steps.{by}
+use Rattle.scenario_text.proofs.Usable.{usable_step}
+use Rattle.scenario_text.proofs.Plain.{plain_step}
+
+-- ---- a line that was found
+
+-- the first line of a text
+first_line : (text : List ℕ) (word : Word) (words : List Word) (rest : List ℕ) → text ≡ spaced (word ∷ words) ++ 10 ∷ rest → AllByRecursion IsPlain (word ∷ words) → usable (word ∷ words) ≡ true →
+    line_at (lines_in text) ≡ Ok (word ∷ words, lines_in rest)
+unfolding pieces
+first_line text word words rest is plain can =
+    let line = spaced (word ∷ words) in
+    let cut : pieces 10 text ≡ line ∷ pieces 10 rest = ap (pieces 10) is ∙ slice_split_at (λ b. eqb b 10) line 10 rest (all_lack 10 line (spaced_lacks word words plain)) refl in
+    line_at-lines_in text line rest cut ∙ rw (words_in-spaced word words plain, can) refl
+
+-- which a step spells
+pub step_line_is : (siblings : ℕ) (text rest : List ℕ) (step : Step) → siblings < 256 → BeginsStep siblings text step rest → line_at (lines_in text) ≡ Ok (step_words step, lines_in rest)
+step_line_is siblings text rest step few found =
+    let words = made_words step.actor step.event in
+    let whole : text ≡ spaced (codes "step" ∷ words) ++ 10 ∷ rest = found.spelled ∙ append_assoc (spaced (codes "step" ∷ words)) (10 ∷ []) rest in
+    first_line text (codes "step") words rest whole (plain_step siblings step few found.is) (usable_step siblings few step.actor step.event found.is)
+
+-- is checked like any line
+pub next_checked : (head : Head) → IsHead head → (plan : Contents) (lines rest : List (List Word)) (step : Step) → IsStep head.siblings step → line_at lines ≡ Ok (step_words step, rest) →
+    (checked : Read (Unit {0})) → checked ≡ line_check head.task_limit (forms.Step step) plan → next_of head plan lines ≡ (checked >>= λ follows. Ok (forms.Step step, rest))
+unfolding next_of
+next_checked head is plan lines rest step fits taken checked by =
+    rw (taken, line_again head.siblings (place_after plan) (forms.Step step) (let most = is.siblings in omega arith) fits, by) refl
+
+-- ---- as the code finds it
+
+-- bytes that are cut at a separator
+cut_is : (separator : ℕ) (bytes first rest : List ℕ) → pieces separator bytes ≡ first ∷ pieces separator rest → bytes ≡ first ++ separator ∷ rest
+unfolding pieces
+cut_is separator bytes first rest cut =
+    let some = has_piece separator rest in
+    let there : join_with_byte separator (some.first ∷ some.more) ≡ rest = ap (join_with_byte separator) (sym some.is) ∙ join_with_byte-slice_split separator rest in
+    sym (join_with_byte-slice_split separator bytes)
+    ∙ ap (join_with_byte separator) (cut ∙ ap (λ (ps : List (List ℕ)). first ∷ ps) some.is)
+    ∙ ap (λ (bytes : List ℕ). first ++ separator ∷ bytes) there
+
+-- a number at the end of the line
+pub last_number_is : (low high : ℕ) (text word rest : List ℕ) (r : Read ℕ) (n : ℕ) → high < 2 ^ 64 → pieces 10 text ≡ word ∷ pieces 10 rest →
+    MatchResult r (λ n. (is_number low high word ≡ true) × (n ≡ value word)) (λ kind. (is_number low high word ≡ false) × (kind ≡ Number)) → result_ok r ≡ Some n → BeginsNumber low high text n rest
+last_number_is low high text word rest (Err kind) n small cut spelled is = absurd cc
+last_number_is low high text word rest (Ok m) n small cut spelled is =
+    let says = number_is low high word small spelled.0 in
+    let same : value word ≡ n = cc in
+    record {
+      within = subst (IsWithin low high) same says.1;
+      spelled = cut_is 10 text word rest cut ∙ ap (λ (w : List ℕ). w ++ 10 ∷ rest) (says.0 ∙ ap decimal same) ∙ sym (append_assoc (decimal n) (10 ∷ []) rest);
+    }
+
+-- behind a mark
+pub marked_number : (low high : ℕ) (text mark behind rest : List ℕ) (n : ℕ) → begins text mark ≡ true → behind ≡ drop (length mark) text → BeginsNumber low high behind n rest → text ≡ (mark ++ decimal n ++ 10 ∷ []) ++ rest
+marked_number low high text mark behind rest n front is found =
+    mark_is text mark front
+    ∙ ap (λ (bytes : List ℕ). mark ++ bytes) (sym is ∙ found.spelled)
+    ∙ simp append_assoc
+
+-- the first eight bytes of a text
+pub eight_is : (text : List ℕ) (letter digit : ℕ) → 8 ≤ length text → get_or text 0 0 ≡ 115 → get_or text 1 0 ≡ 116 → get_or text 2 0 ≡ 101 → get_or text 3 0 ≡ 112 → get_or text 4 0 ≡ 32 →
+    get_or text 5 0 ≡ letter → get_or text 6 0 ≡ digit → get_or text 7 0 ≡ 32 → text ≡ codes "step " ++ letter ∷ digit ∷ 32 ∷ drop 8 text
+eight_is (a ∷ b ∷ c ∷ d ∷ e ∷ f ∷ g ∷ h ∷ rest) letter digit long e0 e1 e2 e3 e4 e5 e6 e7 = cc
+eight_is text letter digit long e0 e1 e2 e3 e4 e5 e6 e7 = absurd (omega arith)
+
+-- an event has a word at least
+event_some : (event : Event) → (first : Word) × (more : List Word) × (event_words event ≡ first ∷ more)
+event_some (Turn cpu) = (_, _, refl)
+event_some (Resched cpu) = (_, _, refl)
+event_some (Block cpu) = (_, _, refl)
+event_some (Exit cpu) = (_, _, refl)
+event_some (Tick cpu) = (_, _, refl)
+event_some (Wake pid) = (_, _, refl)
+event_some (Advance delta) = (_, _, refl)
+event_some (Fork caller thread) = (_, _, refl)
+event_some (Prctl caller ask) = (_, _, refl)
+event_some (SetSched pid policy) = (_, _, refl)
+event_some (Offline cpu) = (_, _, refl)
+event_some (Online cpu) = (_, _, refl)
+event_some (Load index) = (_, _, refl)
+event_some (Unload index) = (_, _, refl)
+
+-- the line of an actor, whose word is a letter and a digit
+step_text : (letter digit : ℕ) (words : List Word) (first : Word) (more : List Word) (text behind rest : List ℕ) → words ≡ first ∷ more → text ≡ codes "step " ++ letter ∷ digit ∷ 32 ∷ behind → behind ≡ line words ++ rest →
+    text ≡ line (codes "step" ∷ (letter ∷ digit ∷ []) ∷ words) ++ rest
+step_text letter digit words first more text behind rest some front is =
+    front ∙ ap (λ (bytes : List ℕ). codes "step " ++ letter ∷ digit ∷ 32 ∷ bytes) is ∙ rw some refl
+
+-- what stands behind the first eight bytes, as a pattern lends it
+abbrev pub behind_eight : List ℕ → List ℕ
+behind_eight text = take (length text - 8) (drop 8 text)
+
+whole : (text : List ℕ) → drop 8 text ≡ behind_eight text
+whole text = sym (take_all (length text - 8) (drop 8 text) (omega (arith, length-drop 8 text)))
+
+pub sibling_is : (siblings n : ℕ) (text rest : List ℕ) (event : Event) → n < 10 → text ≡ codes "step " ++ 115 ∷ (48 + n) ∷ 32 ∷ drop 8 text → BeginsEvent siblings (Sibling n) (behind_eight text) event rest → BeginsStep siblings text (by (Sibling n) event) rest
+sibling_is siblings n text rest event small front found =
+    let some = event_some event in
+    record {
+      is = found.is;
+      spelled = step_text 115 (48 + n) (event_words event) some.0 some.1 text (drop 8 text) rest some.2 front (whole text ∙ found.spelled)
+          ∙ ap (λ (w : Word). line (codes "step" ∷ (codes "s" ++ w) ∷ event_words event) ++ rest) (sym (decimal_digit n small));
+    }
+
+pub caller_is : (siblings n : ℕ) (text rest : List ℕ) (event : Event) → n < 10 → text ≡ codes "step " ++ 99 ∷ (48 + n) ∷ 32 ∷ drop 8 text → BeginsEvent siblings (Caller n) (behind_eight text) event rest → BeginsStep siblings text (by (Caller n) event) rest
+caller_is siblings n text rest event small front found =
+    let some = event_some event in
+    record {
+      is = found.is;
+      spelled = step_text 99 (48 + n) (event_words event) some.0 some.1 text (drop 8 text) rest some.2 front (whole text ∙ found.spelled)
+          ∙ ap (λ (w : Word). line (codes "step" ∷ (codes "c" ++ w) ∷ event_words event) ++ rest) (sym (decimal_digit n small));
+    }

@@ -1,0 +1,94 @@
+//! The step lines that most lines of a text are, read from its bytes with no search for words: those of siblings, and
+//! `wake` and `advance`. It is separate from the forms of lines, which say the same of these and have all others.
+
+ghost use Rattle.std.specs.Prelude.{ℕ, ◌<◌, ◌≤◌, ◌++◌, ◌≡◌, decimal, IfSome};
+ghost use Rattle.cs_types.specs.declared.event.Actor.TheVariants.{Sibling, Caller};
+ghost use Rattle.cs_types.specs.Scenario.{IsWithin};
+ghost use Rattle.scenario_text.specs.Reading.{BeginsStep, BeginsEvent, BeginsNumber};
+
+use crate::number::parse_number;
+use crate::pieces::cut_near;
+use crate::step::{MOST_ADVANCE, MOST_CALLER, MOST_NAMED_PID};
+use cs_types::{Actor, Cpu, Event, Step};
+
+/// What the sibling does, to itself, where the text begins with that, and what stands behind its line.
+#[inline(always)]
+fn sibling_event(text: &[u8], cpu: Cpu) -> Option<(Event, &[u8])>
+    ensures { IfSome result (λ read. (siblings : ℕ) → cpu < siblings →
+        BeginsEvent siblings (Sibling cpu) text.now read.0 read.1.now) }
+{
+    if let Some(rest) = text.strip_prefix(b"turn\n") {
+        Some((Event::Turn(cpu), rest))
+    } else if let Some(rest) = text.strip_prefix(b"block\n") {
+        Some((Event::Block(cpu), rest))
+    } else if let Some(rest) = text.strip_prefix(b"tick\n") {
+        Some((Event::Tick(cpu), rest))
+    } else if let Some(rest) = text.strip_prefix(b"resched\n") {
+        Some((Event::Resched(cpu), rest))
+    } else if let Some(rest) = text.strip_prefix(b"exit\n") {
+        Some((Event::Exit(cpu), rest))
+    } else {
+        None
+    }
+}
+
+/// The number from `low` to `high` that ends the first line, and what stands behind the line.
+#[inline(always)]
+fn last_number(text: &[u8], low: u64, high: u64) -> Option<(u64, &[u8])>
+    ensures { IfSome result (λ read. BeginsNumber low high text.now read.0 read.1.now) }
+{
+    let (word, rest) = cut_near(text, b'\n')?;
+    let number = parse_number(word, low, high).ok()?;
+    Some((number, rest))
+}
+
+/// What a caller does, where the text begins with that, and what stands behind its line.
+#[inline(always)]
+fn caller_event(text: &[u8]) -> Option<(Event, &[u8])>
+    ensures { IfSome result (λ read. (siblings j : ℕ) → j < 8 →
+        BeginsEvent siblings (Caller j) text.now read.0 read.1.now) }
+{
+    if let Some(number) = text.strip_prefix(b"wake ") {
+        let (pid, rest) = last_number(number, 1, MOST_NAMED_PID)?;
+        Some((Event::Wake(pid as u32), rest))
+    } else {
+        let number = text.strip_prefix(b"advance ")?;
+        let (delta, rest) = last_number(number, 1, MOST_ADVANCE)?;
+        Some((Event::Advance(delta), rest))
+    }
+}
+
+/// The step of the first line, where it is one of these, and what stands behind the line.
+#[inline(always)]
+pub(crate) fn usual_step(text: &[u8], siblings: u8) -> Option<(Step, &[u8])>
+    requires { IsWithin 1 8 siblings }
+    ensures { IfSome result (λ read. BeginsStep siblings text.now read.0 read.1.now) }
+{
+    let [
+        b's',
+        b't',
+        b'e',
+        b'p',
+        b' ',
+        letter,
+        digit,
+        b' ',
+        ref behind @ ..,
+    ] = *text
+    else {
+        return None;
+    };
+    // The number is one digit, since a scenario has at most 8 siblings and 8 callers.
+    let number = digit.wrapping_sub(b'0');
+    if letter == b's' && number < siblings {
+        let (event, rest) = sibling_event(behind, number)?;
+        let actor = Actor::Sibling(number);
+        Some((Step { actor, event }, rest))
+    } else if letter == b'c' && number as u64 <= MOST_CALLER {
+        let (event, rest) = caller_event(behind)?;
+        let actor = Actor::Caller(number);
+        Some((Step { actor, event }, rest))
+    } else {
+        None
+    }
+}
