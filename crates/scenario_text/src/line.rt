@@ -40,7 +40,7 @@ fn parse_task_line(words: &[&[u8]], siblings: u8, place: Place) -> Result<Scenar
     if place.is_after_teach || place.is_after_step {
         return Err(BadKind::Shape);
     }
-    Ok(ScenarioLine::Task(parse_task(words, siblings)?))
+    parse_task(words, siblings).map(ScenarioLine::Task)
 }
 
 /// A teach line. After a step line it may not stand.
@@ -51,7 +51,7 @@ fn parse_teach_line(words: &[&[u8]], place: Place) -> Result<ScenarioLine, BadKi
     if place.is_after_step {
         return Err(BadKind::Shape);
     }
-    Ok(ScenarioLine::Teach(parse_teach(words, place.number)?))
+    parse_teach(words, place.number).map(ScenarioLine::Teach)
 }
 
 /// The line that the words spell at this place, in a core with this number of siblings.
@@ -67,7 +67,7 @@ pub(crate) fn parse_line(
         return Err(BadKind::Shape);
     };
     if is_word(name, "step") {
-        Ok(ScenarioLine::Step(parse_step(words, siblings)?))
+        parse_step(words, siblings).map(ScenarioLine::Step)
     } else if is_word(name, "task") {
         parse_task_line(words, siblings, place)
     } else if is_word(name, "teach") {

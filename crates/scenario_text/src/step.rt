@@ -64,8 +64,8 @@ fn parse_caller_event(words: &[&[u8]], siblings: u8) -> Result<Event, BadKind>
     ensures { result ≡ read_in (caller_readings siblings) (lent words.now) }
 {
     match *words {
-        [name, pid] if is_word(name, "wake") => Ok(Event::Wake(parse_named_pid(pid)?)),
-        [name, delta] if is_word(name, "advance") => Ok(Event::Advance(parse_advance(delta)?)),
+        [name, pid] if is_word(name, "wake") => parse_named_pid(pid).map(Event::Wake),
+        [name, delta] if is_word(name, "advance") => parse_advance(delta).map(Event::Advance),
         [name, caller, child] if is_word(name, "fork") && has_child_shape(child) => {
             Ok(Event::Fork {
                 caller: parse_named_pid(caller)?,
@@ -97,10 +97,10 @@ fn parse_caller_event(words: &[&[u8]], siblings: u8) -> Result<Event, BadKind>
             };
             Ok(Event::SetSched { pid, policy })
         }
-        [name, cpu] if is_word(name, "offline") => Ok(Event::Offline(parse_cpu(cpu, siblings)?)),
-        [name, cpu] if is_word(name, "online") => Ok(Event::Online(parse_cpu(cpu, siblings)?)),
-        [name, index] if is_word(name, "load") => Ok(Event::Load(parse_guard(index)?)),
-        [name, index] if is_word(name, "unload") => Ok(Event::Unload(parse_guard(index)?)),
+        [name, cpu] if is_word(name, "offline") => parse_cpu(cpu, siblings).map(Event::Offline),
+        [name, cpu] if is_word(name, "online") => parse_cpu(cpu, siblings).map(Event::Online),
+        [name, index] if is_word(name, "load") => parse_guard(index).map(Event::Load),
+        [name, index] if is_word(name, "unload") => parse_guard(index).map(Event::Unload),
         _ => Err(BadKind::Shape),
     }
 }

@@ -64,13 +64,13 @@ pub(crate) fn parse_policy(word: &[u8]) -> Result<Policy, BadKind>
     if is_word(word, "stop") {
         Ok(Policy::Stop)
     } else if let Some(relative) = word.strip_prefix(b"dl:") {
-        Ok(Policy::Deadline(parse_number(relative, 1, MOST_DEADLINE)?))
+        parse_number(relative, 1, MOST_DEADLINE).map(Policy::Deadline)
     } else if let Some(priority) = word.strip_prefix(b"fifo:") {
-        Ok(Policy::Fifo(parse_priority(priority)?))
+        parse_priority(priority).map(Policy::Fifo)
     } else if let Some(priority) = word.strip_prefix(b"rr:") {
-        Ok(Policy::Rr(parse_priority(priority)?))
+        parse_priority(priority).map(Policy::Rr)
     } else if let Some(nice) = word.strip_prefix(b"fair:") {
-        Ok(Policy::Fair(parse_nice(nice)?))
+        parse_nice(nice).map(Policy::Fair)
     } else {
         Err(BadKind::Number)
     }

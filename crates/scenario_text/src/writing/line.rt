@@ -57,7 +57,9 @@ impl Line {
         ensures { self.new ≡ entry_text entry.now }
     {
         self.made(entry.actor, &entry.event);
-        self.text(": ");
+        // Byte by byte, since a copy of both is tested for overlap.
+        self.text(":");
+        self.text(" ");
         self.reply(&entry.reply);
         self.text("\n");
     }

@@ -4,16 +4,6 @@ use Rattle.std.proofs.lemmas.Result.{err_from_is_err_and}
 use Rattle.scenario_text.specs.Reading.{line_of}
 use Rattle.scenario_text.proofs.line.parse_line.Goals as goal
 
-pub returns-in_err-parse_step : goal.returns-in_err-parse_step
-unfolding line_of
-returns-in_err-parse_step c =
-    let fault = err_from_is_err_and c.from_residual.result c.from_residual.ensures.1 in
-    rw (fault.1, fault.2, sym c.if-is_word.ensures, sym c.in_err-parse_step.ensures) refl
-
-pub returns-in_ok-parse_step : goal.returns-in_ok-parse_step
-unfolding line_of
-returns-in_ok-parse_step c = rw (sym c.if-is_word.ensures, sym c.in_ok-parse_step.ensures) refl
-
 pub returns-then-is_word-2 : goal.returns-then-is_word-2
 unfolding line_of
 returns-then-is_word-2 c =

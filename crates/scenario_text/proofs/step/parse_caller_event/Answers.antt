@@ -9,61 +9,13 @@ use Rattle.scenario_text.proofs.TaskLines.{exactly, refused}
 use Rattle.scenario_text.proofs.StepLines.{wrong_event, right_event}
 use Rattle.scenario_text.proofs.step.parse_caller_event.Goals as goal
 
-pub returns-in_err-parse_named_pid-in-len2 : goal.returns-in_err-parse_named_pid-in-len2
-returns-in_err-parse_named_pid-in-len2 c =
-    let words = lent c.args.words.now in
-    let fault = err_from_is_err_and c.from_residual.result c.from_residual.ensures.1 in
-    let name = sym c.if-is_word.ensures in
-    let shape = and_from _ _ (eq-eqb words.count 2 (exactly 2 _ c.in-len2.len_at_least c.in-len2.len_below)) (and_from _ _ name refl) in
-    rw (fault.1, fault.2) (ap Err c.in_err-parse_named_pid-in-len2.ensures.1 ∙ wrong_event c.args.siblings 0 (codes "wake") words 1 name refl shape refl c.in_err-parse_named_pid-in-len2.ensures.0)
-
-pub returns-in_err-parse_advance-in-len2-2 : goal.returns-in_err-parse_advance-in-len2-2
-returns-in_err-parse_advance-in-len2-2 c =
-    let words = lent c.args.words.now in
-    let fault = err_from_is_err_and c.from_residual-in_err-parse_advance-in-len2-2.result c.from_residual-in_err-parse_advance-in-len2-2.ensures.1 in
-    let name = sym c.if-is_word-2.ensures in
-    let shape = and_from _ _ (eq-eqb words.count 2 (exactly 2 _ c.in-len2.len_at_least c.in-len2.len_below)) (and_from _ _ name refl) in
-    rw (fault.1, fault.2) (ap Err c.in_err-parse_advance-in-len2-2.ensures.1 ∙ wrong_event c.args.siblings 1 (codes "advance") words 1 name refl shape refl c.in_err-parse_advance-in-len2-2.ensures.0)
-
 pub returns-in_err-parse_named_pid-in-len3 : goal.returns-in_err-parse_named_pid-in-len3
 returns-in_err-parse_named_pid-in-len3 c =
     let words = lent c.args.words.now in
-    let fault = err_from_is_err_and c.from_residual-in_err-parse_named_pid-in-len3.result c.from_residual-in_err-parse_named_pid-in-len3.ensures.1 in
+    let fault = err_from_is_err_and c.from_residual.result c.from_residual.ensures.1 in
     let name = sym c.if-is_word-7.ensures in
     let shape = and_from _ _ (eq-eqb words.count 3 (exactly 3 _ c.in-len3.len_at_least c.in-len3.len_below)) (and_from _ _ name (and_from _ _ (sym c.if-has_child_shape.ensures) refl)) in
     rw (fault.1, fault.2) (ap Err c.in_err-parse_named_pid-in-len3.ensures.1 ∙ wrong_event c.args.siblings 2 (codes "fork") words 1 name refl shape refl c.in_err-parse_named_pid-in-len3.ensures.0)
-
-pub returns-in_err-parse_cpu-in-len2-3 : goal.returns-in_err-parse_cpu-in-len2-3
-returns-in_err-parse_cpu-in-len2-3 c =
-    let words = lent c.args.words.now in
-    let fault = err_from_is_err_and c.from_residual-in_err-parse_cpu-in-len2-3.result c.from_residual-in_err-parse_cpu-in-len2-3.ensures.1 in
-    let name = sym c.if-is_word-3.ensures in
-    let shape = and_from _ _ (eq-eqb words.count 2 (exactly 2 _ c.in-len2.len_at_least c.in-len2.len_below)) (and_from _ _ name refl) in
-    rw (fault.1, fault.2) (ap Err c.in_err-parse_cpu-in-len2-3.ensures.1 ∙ wrong_event c.args.siblings 5 (codes "offline") words 1 name refl shape refl c.in_err-parse_cpu-in-len2-3.ensures.0)
-
-pub returns-in_err-parse_cpu-in-len2-4 : goal.returns-in_err-parse_cpu-in-len2-4
-returns-in_err-parse_cpu-in-len2-4 c =
-    let words = lent c.args.words.now in
-    let fault = err_from_is_err_and c.from_residual-in_err-parse_cpu-in-len2-4.result c.from_residual-in_err-parse_cpu-in-len2-4.ensures.1 in
-    let name = sym c.if-is_word-4.ensures in
-    let shape = and_from _ _ (eq-eqb words.count 2 (exactly 2 _ c.in-len2.len_at_least c.in-len2.len_below)) (and_from _ _ name refl) in
-    rw (fault.1, fault.2) (ap Err c.in_err-parse_cpu-in-len2-4.ensures.1 ∙ wrong_event c.args.siblings 6 (codes "online") words 1 name refl shape refl c.in_err-parse_cpu-in-len2-4.ensures.0)
-
-pub returns-in_err-parse_guard-in-len2-5 : goal.returns-in_err-parse_guard-in-len2-5
-returns-in_err-parse_guard-in-len2-5 c =
-    let words = lent c.args.words.now in
-    let fault = err_from_is_err_and c.from_residual-in_err-parse_guard-in-len2-5.result c.from_residual-in_err-parse_guard-in-len2-5.ensures.1 in
-    let name = sym c.if-is_word-5.ensures in
-    let shape = and_from _ _ (eq-eqb words.count 2 (exactly 2 _ c.in-len2.len_at_least c.in-len2.len_below)) (and_from _ _ name refl) in
-    rw (fault.1, fault.2) (ap Err c.in_err-parse_guard-in-len2-5.ensures.1 ∙ wrong_event c.args.siblings 7 (codes "load") words 1 name refl shape refl c.in_err-parse_guard-in-len2-5.ensures.0)
-
-pub returns-in_err-parse_guard-in-len2-6 : goal.returns-in_err-parse_guard-in-len2-6
-returns-in_err-parse_guard-in-len2-6 c =
-    let words = lent c.args.words.now in
-    let fault = err_from_is_err_and c.from_residual-in_err-parse_guard-in-len2-6.result c.from_residual-in_err-parse_guard-in-len2-6.ensures.1 in
-    let name = sym c.if-is_word-6.ensures in
-    let shape = and_from _ _ (eq-eqb words.count 2 (exactly 2 _ c.in-len2.len_at_least c.in-len2.len_below)) (and_from _ _ name refl) in
-    rw (fault.1, fault.2) (ap Err c.in_err-parse_guard-in-len2-6.ensures.1 ∙ wrong_event c.args.siblings 8 (codes "unload") words 1 name refl shape refl c.in_err-parse_guard-in-len2-6.ensures.0)
 
 pub returns-in_default-3-2 : goal.returns-in_default-3-2
 returns-in_default-3-2 c =
@@ -116,51 +68,3 @@ returns-in_default-2 c =
 
 abbrev said : Event → Read Event
 said event = Ok event
-
-pub returns-in_ok-parse_named_pid-in-len2 : goal.returns-in_ok-parse_named_pid-in-len2
-returns-in_ok-parse_named_pid-in-len2 c =
-    let words = lent c.args.words.now in
-    let name = sym c.if-is_word.ensures in
-    let shape = and_from _ _ (eq-eqb words.count 2 (exactly 2 _ c.in-len2.len_at_least c.in-len2.len_below)) (and_from _ _ name refl) in
-    ap (λ (n : ℕ). said (Wake n)) c.in_ok-parse_named_pid-in-len2.ensures.1
-    ∙ right_event c.args.siblings 0 (codes "wake") words name refl shape (and_from _ _ name (and_from _ _ c.in_ok-parse_named_pid-in-len2.ensures.0 refl))
-
-pub returns-in_ok-parse_advance-in-len2-2 : goal.returns-in_ok-parse_advance-in-len2-2
-returns-in_ok-parse_advance-in-len2-2 c =
-    let words = lent c.args.words.now in
-    let name = sym c.if-is_word-2.ensures in
-    let shape = and_from _ _ (eq-eqb words.count 2 (exactly 2 _ c.in-len2.len_at_least c.in-len2.len_below)) (and_from _ _ name refl) in
-    ap (λ (n : ℕ). said (Advance n)) c.in_ok-parse_advance-in-len2-2.ensures.1
-    ∙ right_event c.args.siblings 1 (codes "advance") words name refl shape (and_from _ _ name (and_from _ _ c.in_ok-parse_advance-in-len2-2.ensures.0 refl))
-
-pub returns-in_ok-parse_cpu-in-len2-3 : goal.returns-in_ok-parse_cpu-in-len2-3
-returns-in_ok-parse_cpu-in-len2-3 c =
-    let words = lent c.args.words.now in
-    let name = sym c.if-is_word-3.ensures in
-    let shape = and_from _ _ (eq-eqb words.count 2 (exactly 2 _ c.in-len2.len_at_least c.in-len2.len_below)) (and_from _ _ name refl) in
-    ap (λ (n : ℕ). said (Offline n)) c.in_ok-parse_cpu-in-len2-3.ensures.1
-    ∙ right_event c.args.siblings 5 (codes "offline") words name refl shape (and_from _ _ name (and_from _ _ c.in_ok-parse_cpu-in-len2-3.ensures.0 refl))
-
-pub returns-in_ok-parse_cpu-in-len2-4 : goal.returns-in_ok-parse_cpu-in-len2-4
-returns-in_ok-parse_cpu-in-len2-4 c =
-    let words = lent c.args.words.now in
-    let name = sym c.if-is_word-4.ensures in
-    let shape = and_from _ _ (eq-eqb words.count 2 (exactly 2 _ c.in-len2.len_at_least c.in-len2.len_below)) (and_from _ _ name refl) in
-    ap (λ (n : ℕ). said (Online n)) c.in_ok-parse_cpu-in-len2-4.ensures.1
-    ∙ right_event c.args.siblings 6 (codes "online") words name refl shape (and_from _ _ name (and_from _ _ c.in_ok-parse_cpu-in-len2-4.ensures.0 refl))
-
-pub returns-in_ok-parse_guard-in-len2-5 : goal.returns-in_ok-parse_guard-in-len2-5
-returns-in_ok-parse_guard-in-len2-5 c =
-    let words = lent c.args.words.now in
-    let name = sym c.if-is_word-5.ensures in
-    let shape = and_from _ _ (eq-eqb words.count 2 (exactly 2 _ c.in-len2.len_at_least c.in-len2.len_below)) (and_from _ _ name refl) in
-    ap (λ (n : ℕ). said (Load n)) c.in_ok-parse_guard-in-len2-5.ensures.1
-    ∙ right_event c.args.siblings 7 (codes "load") words name refl shape (and_from _ _ name (and_from _ _ c.in_ok-parse_guard-in-len2-5.ensures.0 refl))
-
-pub returns-in_ok-parse_guard-in-len2-6 : goal.returns-in_ok-parse_guard-in-len2-6
-returns-in_ok-parse_guard-in-len2-6 c =
-    let words = lent c.args.words.now in
-    let name = sym c.if-is_word-6.ensures in
-    let shape = and_from _ _ (eq-eqb words.count 2 (exactly 2 _ c.in-len2.len_at_least c.in-len2.len_below)) (and_from _ _ name refl) in
-    ap (λ (n : ℕ). said (Unload n)) c.in_ok-parse_guard-in-len2-6.ensures.1
-    ∙ right_event c.args.siblings 8 (codes "unload") words name refl shape (and_from _ _ name (and_from _ _ c.in_ok-parse_guard-in-len2-6.ensures.0 refl))
