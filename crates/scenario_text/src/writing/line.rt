@@ -401,7 +401,8 @@ impl Line {
     /// A text as it is.
     pub fn text(&mut self, text: &str)
         requires { length self.old + length text.now ≤ line_room }
-        ensures { self.new ≡ self.old ++ text.now }
+        ensures text { self.new ≡ self.old ++ text.now }
+        ensures len { length self.new ≡ length self.old + length text.now }
     {
         self.text.push_str(text);
     }

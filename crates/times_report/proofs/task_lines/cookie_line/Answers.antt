@@ -5,5 +5,5 @@ use Rattle.times_report.proofs.task_lines.cookie_line.Goals as goal
 
 pub returns : goal.returns
 returns c =
-    put _ _ _ _ (put _ _ _ _ (put _ _ _ _ (put _ _ _ _ (put _ _ _ _ (put _ _ _ _ (put _ _ _ _ (put _ _ _ _ (put _ _ _ _ (put _ _ _ _ (put _ _ _ _ c.new-line.ensures c.text.ensures) c.number.ensures.text) c.text-2.ensures) c.number-2.ensures.text) c.text-3.ensures) c.number-3.ensures.text) c.text-4.ensures) c.number-4.ensures.text) c.text-5.ensures) c.number-5.ensures.text) c.text-6.ensures
+    put _ _ _ _ (put _ _ _ _ (put _ _ _ _ (put _ _ _ _ (put _ _ _ _ (put _ _ _ _ (put _ _ _ _ (put _ _ _ _ (put _ _ _ _ (put _ _ _ _ (put _ _ _ _ c.new-line.ensures c.text.ensures.text) c.number.ensures.text) c.text-2.ensures.text) c.number-2.ensures.text) c.text-3.ensures.text) c.number-3.ensures.text) c.text-4.ensures.text) c.number-4.ensures.text) c.text-5.ensures.text) c.number-5.ensures.text) c.text-6.ensures.text
     ∙ cookie_line_text _ _ _ _ _

@@ -5,4 +5,4 @@ use Rattle.scenario_text.proofs.writing.line.Line.stolen.Goals as goal
 
 pub returns-clause-text : goal.returns-clause-text
 returns-clause-text c =
-    put _ _ _ _ (put _ _ _ _ c.named.ensures.text c.text.ensures) c.named-2.ensures.text ∙ stolen_text c.args.self.now (codes "Stole") (decimal c.args.pid) (codes "from") (decimal c.args.from)
+    put _ _ _ _ (put _ _ _ _ c.named.ensures.text c.text.ensures.text) c.named-2.ensures.text ∙ stolen_text c.args.self.now (codes "Stole") (decimal c.args.pid) (codes "from") (decimal c.args.from)

@@ -6,5 +6,5 @@ use Rattle.scenario_text.proofs.writing.scenario.TaskSpecLined.line.Goals as goa
 
 pub returns : goal.returns
 returns c =
-    put _ _ _ _ (put _ _ _ _ (put _ _ _ _ (put _ _ _ _ (put _ _ _ _ (put _ _ _ _ (put _ _ _ _ (put _ _ _ _ (put _ _ _ _ c.new-line.ensures c.named.ensures.text) c.further.ensures.text) c.further-2.ensures.text) c.further-3.ensures.text) c.text.ensures) c.policy.ensures.text) c.text-2.ensures) c.creds.ensures.text) c.text-3.ensures
+    put _ _ _ _ (put _ _ _ _ (put _ _ _ _ (put _ _ _ _ (put _ _ _ _ (put _ _ _ _ (put _ _ _ _ (put _ _ _ _ (put _ _ _ _ c.new-line.ensures c.named.ensures.text) c.further.ensures.text) c.further-2.ensures.text) c.further-3.ensures.text) c.text.ensures.text) c.policy.ensures.text) c.text-2.ensures.text) c.creds.ensures.text) c.text-3.ensures.text
     ∙ task_text _ _ _ _ _ (decimal c.args.self.now.creds.ruid) (drop 1 (creds_words c.args.self.now.creds))

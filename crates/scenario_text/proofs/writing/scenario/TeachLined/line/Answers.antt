@@ -5,5 +5,5 @@ use Rattle.scenario_text.proofs.writing.scenario.TeachLined.line.Goals as goal
 
 pub returns : goal.returns
 returns c =
-    put _ _ _ _ (put _ _ _ _ (put _ _ _ _ (put _ _ _ _ c.new-line.ensures c.named.ensures.text) c.further.ensures.text) c.further-2.ensures.text) c.text.ensures
+    put _ _ _ _ (put _ _ _ _ (put _ _ _ _ (put _ _ _ _ c.new-line.ensures c.named.ensures.text) c.further.ensures.text) c.further-2.ensures.text) c.text.ensures.text
     ∙ three_text (codes "teach") (decimal c.args.self.now.guard) (decimal c.args.self.now.from) (decimal c.args.self.now.to)
