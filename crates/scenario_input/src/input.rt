@@ -15,7 +15,7 @@ use std::alloc::Global;
 const INPUT_BYTES: usize = 16_777_216;
 
 /// How many bytes are asked for at once.
-const BUFFER_BYTES: usize = 65_536;
+const BUFFER_BYTES: usize = 8192;
 
 /// The bytes of a source, read to their end. One more than an input may have ends the reading. It always
 /// returns, since each read takes a byte, is the end, or fails.
