@@ -30,41 +30,6 @@ pub changes_as : {Q : Type 0} {g : Ghosts Q} {old new : Core Q g × Table} {chan
     ((beside : Beside) → change (room_of beside old) ≡ other (room_of beside old)) → Changes old new change → Changes old new other
 changes_as same changes = record { room = λ beside. changes.room beside ∙ same beside; numbers = changes.numbers; stays = changes.stays }
 
--- a task is the same but for its times
-pub record KeepsTask (old new : Task) : Type 0 where
-  pub spec : new.spec ≡ old.spec
-  pub cookie : new.cookie ≡ old.cookie
-  pub home : new.home ≡ old.home
-  pub queued : new.queued ≡ old.queued
-  pub stamp : new.stamp ≡ old.stamp
-
--- so the core knows it in place of the one that it was
-pub knows-alike : {Q : Type 0} {g : Ghosts Q} (both : Core Q g × Table) (task old : Task) → Agree both → IsOf both.1.tasks old → KeepsTask old task → Knows both task
-knows-alike both task old agree there keeps =
-    let count = length both.0.lanes.items in
-    let fit = found_in (IsFit count) old.spec.pid both.1.tasks old agree.tasks there in
-    record {
-      known = record {
-        apart = record {
-          old = old;
-          there = subst (λ (spec : TaskSpec). find (has_pid spec.pid) both.1.tasks ≡ Some old) (sym keeps.spec) there;
-          fits = record {
-            home = subst (λ (n : ℕ). n < count) (sym keeps.home) fit.home;
-            policy = subst (λ (spec : TaskSpec). IsPolicy spec.policy) (sym keeps.spec) fit.policy;
-          };
-        };
-        cookie = keeps.cookie;
-      };
-      stamp = λ queued.
-          let was : IsTrue old.queued = sym keeps.queued ∙ queued in
-          record {
-            below = subst (λ (n : ℕ). n < both.0.next_stamp) (sym keeps.stamp)
-                (found_in (λ (t : Task). IsTrue t.queued → t.stamp < both.0.next_stamp) old.spec.pid both.1.tasks old agree.stamped.below there was);
-            own = λ other is on same.
-                agree.stamped.distinct old there was other is on (same ∙ keeps.stamp) ∙ ap (λ (spec : TaskSpec). spec.pid) (sym keeps.spec);
-          };
-    }
-
 -- a sibling is one of the core still
 pub still_below : {Q : Type 0} {g : Ghosts Q} {old new : Core Q g × Table} {cpu : ℕ} → Stays old new → cpu < length old.0.lanes.items → cpu < length new.0.lanes.items
 still_below {cpu = cpu} stays below = subst (λ n. cpu < n) (sym (ap (λ (kept : Kept). kept.siblings) stays.kept)) below

@@ -18,7 +18,7 @@ use Rattle.core_events.specs.Time.{with_ages}
 -- ---- a new slice
 
 -- a task in its own place changes nothing
-with_task-same : (room : RoomState) (task : Task) → Rises room.tasks → find (has_pid task.spec.pid) room.tasks ≡ Some task → with_task room task ≡ room
+pub with_task-same : (room : RoomState) (task : Task) → Rises room.tasks → find (has_pid task.spec.pid) room.tasks ≡ Some task → with_task room task ≡ room
 with_task-same room task rises found =
     ap (λ (tasks : List Task). let now : RoomState = record room { tasks = tasks } in now)
     (changed_each (λ t. t) room.tasks task rises found ∙ (λ i. map (λ (other : Task). same (has_pid task.spec.pid other) other i) room.tasks) ∙ map-id room.tasks) where

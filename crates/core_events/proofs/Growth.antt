@@ -1,8 +1,8 @@
 -- Growth: the running tasks grow sibling by sibling.
-use Rattle.std.proofs.Common.{◌≡◌, ℕ, zero, suc, ◌+◌, ◌*◌, ◌<◌, ◌≤◌, Bool, true, false, cond, not, List, [], ◌∷◌, map, take, length, refl, sym, subst, ap, ◌∙◌, arith, Option, Some, None, eqb-true, add-one}
+use Rattle.std.proofs.Common.{◌≡◌, ◌≢◌, ℕ, ℤ, zero, suc, ◌+◌, ◌*◌, ◌<◌, ◌≤◌, Bool, true, false, cond, not, List, [], ◌∷◌, map, take, length, refl, sym, subst, ap, ◌∙◌, arith, Option, Some, None, eqb-true, add-one}
 use Rattle.std.specs.Prelude.{◌&&◌, ◌||◌, ◌==◌, find, All, IfSome, IsSomeAnd}
 use Rattle.std.specs.List.{AllByRecursion, list_any}
-use Rattle.std.specs.Option.{option_and_then}
+use Rattle.std.specs.Option.{option_and_then, option_map_or}
 use Rattle.std.proofs.lemmas.Bool.{cond-false, cond_both}
 use Rattle.std.proofs.lemmas.Bool.Decides.{nat_tests}
 use Rattle.std.proofs.lemmas.List.{map-id}
@@ -20,7 +20,8 @@ use Rattle.cs_types.proofs.Homes.{running_is_found}
 use Rattle.cs_types.proofs.Times.{growth-le}
 use Rattle.task_table.specs.Table.{Rises}
 use Rattle.task_table.proofs.Tables.{changed_each, none_found}
-use Rattle.core_events.proofs.Changes.{KeepsTask}
+use Rattle.core_events.specs.Time.{with_grown}
+use Rattle.core_lanes.proofs.Timed.{KeepsTask}
 
 -- ---- who grows
 
@@ -46,6 +47,15 @@ with_growth_on room cpu delta = record room { tasks = map (grown_on room cpu del
 -- a task as it is once it has grown
 abbrev grow : ℕ → Task → Task
 grow delta task = grown_by delta task.spec.policy task
+
+-- one that is neither RR nor fair does not
+pub grown_by-neither : (delta : ℕ) (policy : Policy) (task : Task) → ((priority : ℕ) → policy ≢ Rr priority) → ((nice : ℤ) → policy ≢ Fair nice) →
+    grown_by delta policy task ≡ task
+grown_by-neither delta Stop task rr fair = refl
+grown_by-neither delta (Deadline relative) task rr fair = refl
+grown_by-neither delta (Fifo priority) task rr fair = refl
+grown_by-neither delta (Rr priority) task rr fair = absurd (rr priority refl)
+grown_by-neither delta (Fair nice) task rr fair = absurd (fair nice refl)
 
 -- a task that grows keeps all but its times
 kept-grown_by : (delta : ℕ) (policy : Policy) (task : Task) → KeepsTask task (grown_by delta policy task)
@@ -148,6 +158,16 @@ module _ (room : RoomState) (cpu delta : ℕ) where
         ∙ ap (with_tasks room) (changed_each (grow delta) room.tasks task rises found.1)
         ∙ ap (λ b. grown_where task.spec.pid (not b)) (sym none)
         ∙ sym (growth_is task.spec.pid found.0)
+
+  -- so the growth of what it runs is that of the tasks that it alone of these runs
+  pub grown_alone : Rises room.tasks → ((task : Task) → running_on room cpu ≡ Some task → lower task.spec.pid ≡ false) → with_grown cpu delta room ≡ with_growth_on room cpu delta
+  grown_alone rises alone = by_run (running_on room cpu) refl where
+    with_run : Option Task → RoomState
+    with_run found = option_map_or (λ task. with_task room (grow delta task)) found room
+
+    by_run : (found : Option Task) → running_on room cpu ≡ found → with_grown cpu delta room ≡ with_growth_on room cpu delta
+    by_run None is = ap with_run is ∙ sym (grown_nothing is)
+    by_run (Some task) is = ap with_run is ∙ grown_here task is rises (alone task is)
 
 -- ---- no task is run by two
 

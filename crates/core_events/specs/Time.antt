@@ -1,6 +1,8 @@
 -- Time: what an advance asks of a core and its table, and how it ages the siblings.
 use Rattle.std.specs.Prelude.{◌≡◌, ℕ, ◌+◌, ◌^◌, ◌<◌, ◌≤◌, All, IfSome, IsSomeAnd, map}
-use Rattle.cs_types.specs.Room.{RoomState, SiblingState, task_of, sibling_of}
+use Rattle.std.specs.Option.{option_map_or}
+use Rattle.cs_types.specs.Room.{RoomState, SiblingState, task_of, sibling_of, running_on, with_task}
+use Rattle.cs_types.specs.Time.{grown_by}
 use Rattle.task_table.specs.Table.{Table}
 use Rattle.core_lanes.specs.declared.queue.SiblingQueue.{Ghosts}
 use Rattle.core_lanes.specs.declared.lanes.Core.{Core}
@@ -24,6 +26,10 @@ pub record MayAdvance {Q : Type 0} {g : Ghosts Q} (now : ℕ) (both : Core Q g �
   pub ran : All (λ sibling. sibling.ran ≤ now) (map lane_state both.0.lanes.items)
 
 -- ---- what is made of them
+
+-- the task that a sibling runs, if one, is delta ns later
+abbrev pub with_grown : ℕ → ℕ → RoomState → RoomState
+with_grown cpu delta room = option_map_or (λ task. with_task room (grown_by delta task.spec.policy task)) (running_on room cpu) room
 
 -- each sibling has run delta ns longer
 abbrev pub with_ages : ℕ → RoomState → RoomState

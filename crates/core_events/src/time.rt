@@ -1,23 +1,22 @@
 //! What an advance of the clock and a tick of a sibling's timer do. It is a file of its own since these
 //! alone move time.
 
-ghost use Rattle.std.specs.Prelude.{◌≡◌, ℕ, ◌+◌, ◌*◌, ◌^◌, ◌<◌, ◌≤◌, ◌||◌, map, All};
+ghost use Rattle.std.specs.Prelude.{◌≡◌, ℕ, ◌+◌, ◌*◌, ◌^◌, ◌<◌, ◌≤◌, ◌||◌, map, All, find, Some, IsSome};
 ghost use Rattle.cs_types.specs.declared.reply.Reply.TheVariants.{Ticked};
-ghost use Rattle.cs_types.specs.Scenario.{IsPolicy};
-ghost use Rattle.cs_types.specs.Room.{running_on};
+ghost use Rattle.cs_types.specs.declared.task.Task.{Task as SomeTask};
+ghost use Rattle.cs_types.specs.Room.{has_pid, running_on};
 ghost use Rattle.cs_types.specs.Step.{tick};
 ghost use Rattle.cs_types.specs.Time as time;
-ghost use Rattle.cs_types.specs.Time.{grown_by, grown, with_leasts, has_used_slice, rotates, is_overtaken, is_to_yield, asks_at_tick, begin_slice};
-ghost use Rattle.core_lanes.specs.Queued.{IsOf};
+ghost use Rattle.cs_types.specs.Time.{grown, with_leasts, has_used_slice, rotates, is_overtaken, is_to_yield, asks_at_tick, begin_slice};
 ghost use Rattle.core_lanes.specs.Lanes.{Beside, at, lane_state, room_of, Agree, AgreesAt};
 ghost use Rattle.core_lanes.specs.Changes.{Changes};
 ghost use Rattle.core_pick.specs.Schedules.{IsPaid, Charges};
 ghost use Rattle.core_events.specs.Moments.{MayAsk, Advances};
-ghost use Rattle.core_events.specs.Time.{RunTheirOwn, MayAdvance, with_ages};
+ghost use Rattle.core_events.specs.Time.{RunTheirOwn, MayAdvance, with_grown, with_ages};
 
-use core_lanes::{Core, SiblingQueue, is_fair};
+use core_lanes::{Core, SiblingQueue, is_fair, task_of};
 use core_pick::charge;
-use cs_types::{Cpu, Policy, Steps, Task};
+use cs_types::{Cpu, Pid, Policy, Steps, Task};
 use fair_queue::grow;
 use std::sync::ledger::Ledger;
 use task_table::TaskTable;
@@ -28,19 +27,36 @@ const SLICE: u64 = 100_000_000;
 /// How long a fair task that is alone may run while a sibling is forced idle, in ns.
 const PATIENCE: u64 = 6_000_000;
 
-/// A running task as it is `delta` ns later.
-fn grown(mut task: Task, delta: u64) -> Task
-    requires policy { IsPolicy task.spec.policy }
-    requires used { task.used + delta < 2 ^ 64 }
-    requires vtime { task.vtime + 69 * delta < 2 ^ 128 }
-    ensures { result ≡ grown_by delta task.spec.policy task }
+/// The task that the sibling runs, if one, is `delta` ns later: an RR task used its slice, and the virtual time of a
+/// fair one grew (`update_curr`).
+#[inline(always)]
+fn grow_on<Q: SiblingQueue, L: Ledger>(
+    core: &mut Core<Q>,
+    table: &mut TaskTable,
+    cpu: Cpu,
+    delta: u64,
+    steps: &mut Steps<L>,
+)
+    requires at { AgreesAt cpu (core.old, table.old) }
+    requires used { All (λ task. task.used + delta < 2 ^ 64) table.old.tasks }
+    requires vtimes { All (λ task. task.vtime + 69 * delta < 2 ^ 128) table.old.tasks }
+    ensures { Changes (core.old, table.old) (core.new, table.new) (with_grown cpu delta) }
 {
+    let Some(task) = core.runner(table, cpu) else {
+        return;
+    };
+    let pid = task.spec.pid;
     match task.spec.policy {
-        Policy::Rr(_) => task.used += delta,
-        Policy::Fair(nice) => task.vtime += grow(delta, nice),
+        Policy::Rr(_) => {
+            let used = task.used + delta;
+            core.set_used(table, pid, used);
+        }
+        Policy::Fair(nice) => {
+            let vtime = task.vtime + grow(delta, nice);
+            core.set_vtime(table, pid, vtime, steps);
+        }
         _ => {}
     }
-    task
 }
 
 /// The running tasks grow by `delta` ns. No two siblings run one task.
@@ -58,9 +74,7 @@ fn grow_tasks<Q: SiblingQueue, L: Ledger>(
     ensures { Changes (core.old, table.old) (core.new, table.new) (λ room. record room { tasks = map (grown room delta) room.tasks }) }
 {
     for cpu in 0..core.lanes.len() {
-        if let Some(task) = core.running_on(table, cpu as u8) {
-            core.change(table, grown(task, delta), steps);
-        }
+        grow_on(core, table, cpu as u8, delta, steps);
     }
 }
 
@@ -204,22 +218,25 @@ fn asks_at_tick<Q: SiblingQueue, L: Ledger>(
     rotates || is_asked(core, table, cpu, task, steps)
 }
 
-/// An RR task that has used its slice begins a new one, with the next stamp where it goes behind the others
-/// of its priority.
+/// The task with the pid, where it is an RR one that has used its slice, begins a new one, with the next stamp where it
+/// goes behind the others of its priority.
 fn begin_slice<Q: SiblingQueue, L: Ledger>(
     core: &mut Core<Q>,
     table: &mut TaskTable,
-    task: Task,
+    pid: Pid,
+    used: bool,
     rotates: bool,
     steps: &mut Steps<L>,
 )
-    requires there { IsOf table.old.tasks task }
+    requires there { IsSome (find (has_pid pid) table.old.tasks) }
     requires agree { Agree (core.old, table.old) }
     requires stamp { core.old.next_stamp + 1 < 2 ^ 64 }
-    ensures { (cpu : ℕ) → ((beside : Beside) → rotates ≡ time.rotates (room_of beside (core.old, table.old)) cpu task) →
+    ensures { (cpu : ℕ) (task : SomeTask) → find (has_pid pid) table.old.tasks ≡ Some task → used ≡ time.has_used_slice task →
+        ((beside : Beside) → rotates ≡ time.rotates (room_of beside (core.old, table.old)) cpu task) →
         Changes (core.old, table.old) (core.new, table.new) (λ room. begin_slice room cpu task) }
 {
     if rotates {
+        let task = task_of(table, pid).unwrap();
         let stamp = core.next_stamp;
         core.next_stamp += 1;
         let last = Task {
@@ -228,8 +245,8 @@ fn begin_slice<Q: SiblingQueue, L: Ledger>(
             ..task
         };
         core.change(table, last, steps);
-    } else if has_used_slice(&task) {
-        core.change(table, Task { used: 0, ..task }, steps);
+    } else if used {
+        core.set_used(table, pid, 0);
     }
 }
 
@@ -250,12 +267,14 @@ pub fn tick<Q: SiblingQueue, L: Ledger>(
     ensures charges { Charges now (core.old, table.old) (core.new, table.new) (λ room. (tick room cpu (running_on room cpu)).room) }
 {
     charge(core, table, now);
-    let Some(task) = core.running_on(table, cpu) else {
+    let Some(task) = core.runner(table, cpu) else {
         return false;
     };
-    let rotates = rotates(core, table, cpu, &task, steps);
-    let asks = asks_at_tick(core, table, cpu, &task, rotates, steps);
-    begin_slice(core, table, task, rotates, steps);
+    let pid = task.spec.pid;
+    let used = has_used_slice(task);
+    let rotates = rotates(core, table, cpu, task, steps);
+    let asks = asks_at_tick(core, table, cpu, task, rotates, steps);
+    begin_slice(core, table, pid, used, rotates, steps);
     core.flag(cpu, asks);
     asks
 }

@@ -75,7 +75,7 @@ are_alike old task alike =
     }
 
 -- a task before others, as a queue has them
-held_head : (task : Task) (on : Bool) (tasks : List Task) → map queued_of (cond on (task ∷ tasks) tasks) ≡ cond on (queued_of task ∷ map queued_of tasks) (map queued_of tasks)
+pub held_head : (task : Task) (on : Bool) (tasks : List Task) → map queued_of (cond on (task ∷ tasks) tasks) ≡ cond on (queued_of task ∷ map queued_of tasks) (map queued_of tasks)
 held_head task true tasks = refl
 held_head task false tasks = refl
 

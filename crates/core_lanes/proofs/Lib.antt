@@ -4,3 +4,4 @@ pub mod Replaced
 pub mod Starts
 pub mod Lists
 pub mod Alike
+pub mod Timed

@@ -31,6 +31,10 @@ others pid queued = filter (λ task. not (task.pid == pid)) queued
 abbrev pub given_cookie : Task → ℕ → List Task → List Task
 given_cookie task cookie tasks = map (λ other. if has_pid task.spec.pid other then record task { cookie = cookie } else other) tasks
 
+-- and once it has this virtual time
+abbrev pub given_vtime : Task → ℕ → List Task → List Task
+given_vtime task vtime tasks = map (λ other. if has_pid task.spec.pid other then record task { vtime = vtime } else other) tasks
+
 -- the task is one of the list
 abbrev pub IsOf : List Task → Task → Type 0
 IsOf tasks task = find (has_pid task.spec.pid) tasks ≡ Some task
@@ -52,6 +56,11 @@ pub record IsQueuedOn (Held : Type 0) (cpu : ℕ) (all : Table) (task : Task) : 
   pub queued : IsTrue task.queued
   pub home : task.home ≡ cpu
   pub holds : Held
+
+-- the same of a fair task
+pub record IsFairOn (Held : Type 0) (cpu : ℕ) (all : Table) (task : Task) : Type 0 where
+  pub there : IsQueuedOn Held cpu all task
+  pub fair : IsTrue (is_fair task)
 
 -- A task may enter a queue: the same where no other queued task has its stamp.
 pub record MayBePut (Held : Type 0) (cpu : ℕ) (all : Table) (task : Task) : Type 0 where

@@ -1,16 +1,17 @@
 //! The core.
 
-ghost use Rattle.std.specs.Prelude.{◌≡◌, ◌≢◌, ℕ, [], ◌+◌, ◌^◌, ◌<◌, ◌≤◌, length, map, find, is_some, All, Some, IfOk, IfSome, slice_get, IsPermutation, IsTrue, if◌then◌else◌};
+ghost use Rattle.std.specs.Prelude.{◌≡◌, ◌≢◌, ℕ, [], ◌+◌, ◌^◌, ◌<◌, ◌≤◌, length, map, find, is_some, All, Some, IfOk, IfSome, IsSomeAnd, option_copied, slice_get, IsPermutation, IsTrue, if◌then◌else◌};
 ghost use Rattle.std.specs.Ordering.{nat_cmp};
 ghost use Rattle.std.specs.List.Sorted.{IsSortedByKey};
 ghost use Rattle.cs_types.specs.declared.task.Task.{Task as SomeTask};
 ghost use Rattle.cs_types.specs.Room.{has_pid, is_online, running_on, with_task, flag};
+ghost use Rattle.cs_types.specs.Order.{is_fair};
 ghost use Rattle.cs_types.specs.Selection.{first_on};
 ghost use Rattle.cs_types.specs.Step.{run_idle};
 ghost use Rattle.cs_types.specs.Steal.{set_place};
 ghost use Rattle.cs_types.specs.Queueing.{enqueue, dequeue, moved_to};
 ghost use Rattle.task_table.specs.Table.{Table, IsSound as IsTable};
-ghost use Rattle.core_lanes.specs.Queued.{IsOf, queued_among, queued_at, mover_of, others, given_cookie, is_alike};
+ghost use Rattle.core_lanes.specs.Queued.{IsOf, queued_among, queued_at, mover_of, others, given_cookie, given_vtime, is_alike};
 
 use crate::lane::Lane;
 use crate::order::is_alike;
@@ -84,6 +85,16 @@ impl<Q: SiblingQueue> Core<Q> {
         ensures { (beside : Beside) (table : Table) → result ≡ is_online (room_of beside (self.now, table)) cpu }
     {
         self.lanes[cpu as usize].online
+    }
+
+    /// The task that a sibling runs, where it stands in the table. None where the sibling runs idle.
+    #[inline(always)]
+    pub fn runner<'table>(&self, table: &'table TaskTable, cpu: Cpu) -> Option<&'table Task>
+        requires { cpu < length self.now.lanes.items }
+        ensures task { (beside : Beside) → option_copied result ≡ running_on (room_of beside (self.now, table.now)) cpu }
+        ensures there { IfSome result (λ task. IsOf table.now.tasks task.now) }
+    {
+        table.find(self.lanes[cpu as usize].run?)
     }
 
     /// The task that a sibling runs, none where it runs idle.
@@ -273,6 +284,58 @@ impl<Q: SiblingQueue> Core<Q> {
         }
         self.set_cookie_in_queue(table, task, cookie, steps);
         table.give_cookie(task.spec.pid, cookie);
+    }
+
+    /// The queue that the fair task stands in, if one, has it as it is with this virtual time.
+    #[inline(always)]
+    fn set_vtime_in_queue<L: Ledger>(
+        &mut self,
+        table: &TaskTable,
+        task: &Task,
+        vtime: u128,
+        steps: &mut Steps<L>,
+    )
+        requires fair { IsTrue (is_fair task.now) }
+        requires home { IsAtHome (self.old, table.now) task.now }
+        requires held { AreHeld (self.old, table.now) }
+        ensures bare { bare self.new ≡ bare self.old }
+        ensures held { AreHeld (self.new, record table.now { tasks = given_vtime task.now vtime table.now.tasks }) }
+    {
+        if task.queued {
+            self.lanes[task.home as usize]
+                .queue
+                .set_vtime(table, task.home, task, vtime, steps);
+        }
+    }
+
+    /// The fair task with the pid has this virtual time, in ns, in the table and in the queue that it stands in, if
+    /// one (`update_curr`).
+    #[inline(always)]
+    pub fn set_vtime<L: Ledger>(
+        &mut self,
+        table: &mut TaskTable,
+        pid: Pid,
+        vtime: u128,
+        steps: &mut Steps<L>,
+    )
+        requires fair { IsSomeAnd (find (has_pid pid) table.old.tasks) (λ task. IsTrue (is_fair task)) }
+        requires agree { Agree (self.old, table.old) }
+        ensures { (task : SomeTask) → find (has_pid pid) table.old.tasks ≡ Some task →
+            Changes (self.old, table.old) (self.new, table.new) (λ room. with_task room (record task { vtime = vtime })) }
+    {
+        let task = table.find(pid).unwrap();
+        self.set_vtime_in_queue(table, task, vtime, steps);
+        table.set_vtime(pid, vtime);
+    }
+
+    /// The task with the pid has used this much of its slice, in ns. No queue knows of it.
+    #[inline(always)]
+    pub fn set_used(&self, table: &mut TaskTable, pid: Pid, used: u64)
+        requires { Agree (self.now, table.old) }
+        ensures { (task : SomeTask) → find (has_pid pid) table.old.tasks ≡ Some task →
+            Changes (self.now, table.old) (self.now, table.new) (λ room. with_task room (record task { used = used })) }
+    {
+        table.set_used(pid, used);
     }
 
     /// The queue of a sibling, whose tasks are about to leave, is empty. The list, which has none yet, tells them

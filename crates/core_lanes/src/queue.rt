@@ -4,7 +4,7 @@ ghost use Rattle.std.specs.Prelude.{◌≡◌, ◌≢◌, ◌==◌, ◌&&◌, �
 ghost use Rattle.cs_types.specs.declared.queue.Queued.{Queued};
 ghost use Rattle.cs_types.specs.Order.{first_of};
 ghost use Rattle.cs_types.specs.Scenario.{IsPolicy};
-ghost use Rattle.core_lanes.specs.Queued.{queued_among, queued_at, mover_of, others, given_cookie, IsOf, IsQueuedOn, MayBePut, with_cookie, behind, smallest_vtime, has_peer, HavePolicies};
+ghost use Rattle.core_lanes.specs.Queued.{queued_among, queued_at, mover_of, others, given_cookie, given_vtime, IsOf, IsQueuedOn, IsFairOn, MayBePut, with_cookie, behind, smallest_vtime, has_peer, HavePolicies};
 ghost use Rattle.task_table.specs.Table.{IsSound as IsTable};
 
 use arrayvec::ArrayVec;
@@ -58,6 +58,20 @@ pub trait SiblingQueue: Drop {
     )
         requires { IsQueuedOn (holds self.old table.now.limit (queued_at table.now.tasks cpu)) cpu table.now task.now }
         ensures holds { holds self.new table.now.limit (queued_at (given_cookie task.now cookie table.now.tasks) cpu) }
+        ensures counted { steps.new ≤ steps.old + most_compared (length (queued_among table.now.tasks cpu)) };
+
+    /// The task, a fair one that the table has queued on the sibling, is about to have this virtual time there, in
+    /// ns (`update_curr`).
+    fn set_vtime<L: Ledger>(
+        &mut self,
+        table: &TaskTable,
+        cpu: Cpu,
+        task: &Task,
+        vtime: u128,
+        steps: &mut Steps<L>,
+    )
+        requires { IsFairOn (holds self.old table.now.limit (queued_at table.now.tasks cpu)) cpu table.now task.now }
+        ensures holds { holds self.new table.now.limit (queued_at (given_vtime task.now vtime table.now.tasks) cpu) }
         ensures counted { steps.new ≤ steps.old + most_compared (length (queued_among table.now.tasks cpu)) };
 
     /// Every task leaves, and each is told by its stamp and its pid, in any order. It can take as many in all as

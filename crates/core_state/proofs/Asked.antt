@@ -70,21 +70,26 @@ spots_alike cookie a b of_a of_b low_a low_b =
     ∙ goes_before-seats a b low_a low_b
 
 module _ (tasks : List Task) (low : AllByRecursion IsLow tasks) where
-  -- the first of the tasks whose seats pass
-  pub first_seat : (p : Seat → Bool) (q : Task → Bool) → ((task : Task) → IsLow task → p (seat_of (queued_of task)) ≡ q task) →
-      option_map (λ (entry : Seat × ℕ). entry.1) (find (λ entry. p entry.0) (entries (seated (map queued_of tasks)))) ≡ option_map pid_at (first_of (filter q tasks))
-  first_seat p q alike =
+  -- the first of the tasks whose seats pass, as it is told
+  pub first_told : {X : Type 0} (told : Seat × ℕ → X) (p : Seat → Bool) (q : Task → Bool) → ((task : Task) → IsLow task → p (seat_of (queued_of task)) ≡ q task) →
+      option_map told (find (λ entry. p entry.0) (entries (seated (map queued_of tasks)))) ≡ option_map (λ (t : Task). told (at_seat t)) (first_of (filter q tasks))
+  first_told {X} told p q alike =
       let list : map (λ (t : Queued). (seat_of t, t.pid)) (map queued_of tasks) ≡ map at_seat tasks = map_twice (λ (t : Queued). (seat_of t, t.pid)) queued_of tasks in
-      ap (option_map (λ (entry : Seat × ℕ). entry.1))
+      ap (option_map told)
       (found-from_entries seat_total seat_cmp-IsAntisymmetric p (map (λ (t : Queued). (seat_of t, t.pid)) (map queued_of tasks))
       ∙ ap (λ (es : List (Seat × ℕ)). foremost (precedes seat_total) (filter (λ entry. p entry.0) es)) list
       ∙ ap (foremost (precedes seat_total)) (filter-map at_seat (λ entry. p entry.0) tasks ∙ ap (map at_seat) (filter_alike IsLow (λ t. p (seat_of (queued_of t))) q alike tasks low))
       ∙ foremost-map (precedes seat_total) at_seat (filter q tasks))
-      ∙ pids (foremost (λ a b. precedes seat_total (at_seat a) (at_seat b)) (filter q tasks))
-      ∙ ap (option_map pid_at) (foremost_alike (λ t. IsLow t × (q t ≡ true)) _ goes_before (λ a b of_a of_b. goes_before-seats a b of_a.0 of_b.0) (filter q tasks) (kept_by IsLow q tasks low)) where
-        pids : (first : Option Task) → option_map (λ (entry : Seat × ℕ). entry.1) (option_map at_seat first) ≡ option_map pid_at first
-        pids None = refl
-        pids (Some task) = refl
+      ∙ twice (foremost (λ a b. precedes seat_total (at_seat a) (at_seat b)) (filter q tasks))
+      ∙ ap (option_map (λ (t : Task). told (at_seat t))) (foremost_alike (λ t. IsLow t × (q t ≡ true)) _ goes_before (λ a b of_a of_b. goes_before-seats a b of_a.0 of_b.0) (filter q tasks) (kept_by IsLow q tasks low)) where
+        twice : (first : Option Task) → option_map told (option_map at_seat first) ≡ option_map (λ (t : Task). told (at_seat t)) first
+        twice None = refl
+        twice (Some task) = refl
+
+  -- by its pid
+  pub first_seat : (p : Seat → Bool) (q : Task → Bool) → ((task : Task) → IsLow task → p (seat_of (queued_of task)) ≡ q task) →
+      option_map (λ (entry : Seat × ℕ). entry.1) (find (λ entry. p entry.0) (entries (seated (map queued_of tasks)))) ≡ option_map pid_at (first_of (filter q tasks))
+  first_seat p q alike = first_told (λ (entry : Seat × ℕ). entry.1) p q alike
 
   -- and the first of those with one cookie whose spots pass
   pub first_spot : (cookie : ℕ) (p : Spot → Bool) (q : Task → Bool) → ((task : Task) → IsLow task → (has_cookie (queued_of task) && p (spot_of (queued_of task))) ≡ q task) →

@@ -1,4 +1,4 @@
--- Vtimes: the first fair task has the smallest virtual time.
+-- Vtimes: the first fair task has the smallest virtual time, which is its rank.
 use Rattle.std.proofs.Common.{◌≡◌, ℕ, ◌+◌, Bool, true, false, cond, not, ltb, eqb, List, [], ◌∷◌, map, Option, None, Some, refl, sym, ap, ◌∙◌}
 use Rattle.std.specs.Prelude.{◌==◌, ◌&&◌, ◌||◌, filter, IfSome}
 use Rattle.std.specs.List.{AllByRecursion}
@@ -7,7 +7,10 @@ use Rattle.std.proofs.lemmas.Bool.{eqb-true}
 use Rattle.std.proofs.lemmas.Bool.Decides.{nat_tests}
 use Rattle.std.proofs.Common.{arith}
 use Rattle.cs_types.specs.declared.task.Task.{Task}
-use Rattle.cs_types.specs.Order.{class_of, priority_of, is_fair, foremost, goes_before, first_of}
+use Rattle.cs_types.specs.declared.task.Policy.{Policy}
+use Rattle.cs_types.specs.declared.task.Policy.TheVariants.{Stop, Deadline, Fifo, Rr, Fair}
+use Rattle.cs_types.specs.Queue.{rank_by}
+use Rattle.cs_types.specs.Order.{fair_class, class_of, priority_of, is_fair, foremost, goes_before, first_of}
 use Rattle.cs_types.proofs.First.{goes_before_is_order}
 use Rattle.cs_types.proofs.Queues.{foremost-cons}
 use Rattle.core_lanes.specs.Queued.{smallest_vtime}
@@ -55,3 +58,20 @@ each_passes {X} p (x ∷ xs) =
 
 pub smallest-first : (tasks : List Task) → smallest_vtime tasks ≡ option_map (λ (t : Task). t.vtime) (first_of (filter is_fair tasks))
 smallest-first tasks = first_vtime (filter is_fair tasks) (each_passes is_fair tasks)
+
+-- a fair task's rank is its virtual time
+pub rank-fair : (policy : Policy) (deadline vtime : ℕ) → (class_of policy == fair_class) ≡ true → rank_by policy deadline vtime ≡ vtime
+rank-fair Stop deadline vtime fair = absurd cc
+rank-fair (Deadline relative) deadline vtime fair = absurd cc
+rank-fair (Fifo priority) deadline vtime fair = absurd cc
+rank-fair (Rr priority) deadline vtime fair = absurd cc
+rank-fair (Fair nice) deadline vtime fair = refl
+
+-- so the rank of the first fair one is the smallest virtual time
+pub smallest-rank : (tasks : List Task) → smallest_vtime tasks ≡ option_map (λ (t : Task). rank_by t.spec.policy t.deadline t.vtime) (first_of (filter is_fair tasks))
+smallest-rank tasks =
+    smallest-first tasks ∙ go (first_of (filter is_fair tasks)) (found_has (λ t. is_fair t ≡ true) _ (filter is_fair tasks) (each_passes is_fair tasks)) where
+      go : (first : Option Task) → IfSome first (λ t. is_fair t ≡ true) →
+          option_map (λ (t : Task). t.vtime) first ≡ option_map (λ (t : Task). rank_by t.spec.policy t.deadline t.vtime) first
+      go None fair = refl
+      go (Some t) fair = ap Some (sym (rank-fair t.spec.policy t.deadline t.vtime fair))

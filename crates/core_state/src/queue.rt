@@ -3,7 +3,7 @@
 
 use crate::task::{KINDS, LOTS, kind_of, lot_of, queued_of};
 use core_lanes::{Movers, SiblingQueue, is_on, task_of};
-use cs_types::{Cookie, Cpu, OutOfMemory, Steps, Task};
+use cs_types::{Cookie, Cpu, OutOfMemory, Queued, Steps, Task};
 use run_queue::RunQueue;
 use std::alloc::Global;
 use std::sync::ledger::Ledger;
@@ -69,6 +69,24 @@ impl SiblingQueue for TreeQueue {
         self.lots[lot_of(cookie)] += 1;
     }
 
+    #[inline(always)]
+    fn set_vtime<L: Ledger>(
+        &mut self,
+        _table: &TaskTable,
+        _cpu: Cpu,
+        task: &Task,
+        vtime: u128,
+        steps: &mut Steps<L>,
+    ) {
+        let queued = queued_of(task);
+        self.run.dequeue(&queued, steps);
+        let later = Queued {
+            rank: fair_queue::rank(vtime),
+            ..queued
+        };
+        self.run.enqueue(later, steps);
+    }
+
     fn clear_into(&mut self, _table: &TaskTable, _cpu: Cpu, movers: &mut Movers) {
         self.run.clear_into(movers);
         self.kinds = [0; KINDS];
@@ -107,12 +125,11 @@ impl SiblingQueue for TreeQueue {
     #[inline(always)]
     fn smallest_vtime<L: Ledger>(
         &self,
-        table: &TaskTable,
+        _table: &TaskTable,
         _cpu: Cpu,
         steps: &mut Steps<L>,
     ) -> Option<u128> {
-        let first = task_of(table, self.run.first_fair(steps)?)?;
-        Some(first.vtime)
+        self.run.least_fair(steps)
     }
 
     fn has_peer<L: Ledger>(

@@ -13,7 +13,7 @@ use Rattle.cs_types.specs.Queue as queue
 use Rattle.cs_types.proofs.Queues as queues
 use Rattle.order_tree.specs.Order.{Entry, Members, key_cmp, stamped, first_of}
 use Rattle.order_tree.specs.Renamed.{renamed, map_renamed}
-use Rattle.order_tree.specs.Rank.{rank_at, key_at, stamped as ranked_stamp, IsRankKey, IsOfClass}
+use Rattle.order_tree.specs.Rank.{rank_at, key_at, least_rank, stamped as ranked_stamp, IsRankKey, IsOfClass}
 use Rattle.order_tree.proofs.Entries.{equal_by}
 use Rattle.order_tree.proofs.Keys.{key_total, key_cmp-IsAntisymmetric}
 use Rattle.order_tree.proofs.Renamed.{IsRenaming, all_of_found, entries-map_renamed, get-map_renamed, len-map_renamed, map_renamed-insert, map_renamed-remove}
@@ -63,6 +63,14 @@ module _ (members : Members) (of_class : IsOfClass members) where
   top_of-ranked =
       ap (λ (es : List (queue.Key × ℕ)). slice_get (map (λ (e : queue.Key × ℕ). e.1) es) 0) (entries-map_renamed ranks members each) ∙ first (entries members) where
         first : (es : List Entry) → slice_get (map (λ (e : queue.Key × ℕ). e.1) (renamed rank_at es)) 0 ≡ option_map (λ (e : Entry). e.1) (slice_get es 0)
+        first [] = refl
+        first (e ∷ es) = refl
+
+  -- and the least rank is that of the first key
+  pub least_rank-ranked : least_rank ranked ≡ option_map (λ (e : Entry). e.0.rank) (first_of members)
+  least_rank-ranked =
+      ap (λ (es : List (queue.Key × ℕ)). option_map (λ (e : queue.Key × ℕ). e.0.0) (slice_get es 0)) (entries-map_renamed ranks members each) ∙ first (entries members) where
+        first : (es : List Entry) → option_map (λ (e : queue.Key × ℕ). e.0.0) (slice_get (renamed rank_at es) 0) ≡ option_map (λ (e : Entry). e.0.rank) (slice_get es 0)
         first [] = refl
         first (e ∷ es) = refl
 

@@ -1,6 +1,7 @@
 -- Rank: how the tasks of a scheduling class stand in an ordered tree.
-use Rattle.std.specs.Prelude.{◌≡◌, ℕ, IsTrue}
-use Rattle.std.specs.FinMap.{contains_key}
+use Rattle.std.specs.Prelude.{◌≡◌, ℕ, IsTrue, Option, slice_get}
+use Rattle.std.specs.Option.{option_map}
+use Rattle.std.specs.FinMap.{contains_key, entries}
 use Rattle.cs_types.specs.Queue as queue
 use Rattle.cs_types.specs.Queue.{Ranked}
 use Rattle.order_tree.specs.Order.{Members, Ordered}
@@ -17,6 +18,10 @@ key_at place = record { group = 0; class = 0; rank = place.0; stamp = place.1 }
 -- a task as it is told where all leave: the stamp of its key, and its pid
 abbrev pub stamped : queue.Key × ℕ → ℕ × ℕ
 stamped entry = (entry.0.1, entry.1)
+
+-- the rank of the first task, none where there is no task
+abbrev pub least_rank : queue.Members → Option ℕ
+least_rank members = option_map (λ entry. entry.0.0) (slice_get (entries members) 0)
 
 -- a key of the one group and the one class
 abbrev pub IsRankKey : Key → Type 0

@@ -3,7 +3,7 @@
 
 ghost use Rattle.std.specs.Prelude.{◌≡◌, ◌+◌, ◌≤◌, ◌++◌, length, map, IsPermutation};
 ghost use Rattle.std.specs.FinMap.{empty, entries, len};
-ghost use Rattle.order_tree.specs.Rank.{key_at, stamped};
+ghost use Rattle.order_tree.specs.Rank.{key_at, least_rank, stamped};
 
 use crate::key::Key;
 use crate::movers::Movers;
@@ -53,6 +53,16 @@ impl RankTree {
         ensures spare { self.new.spare ≡ self.old.spare + len self.old.members }
     {
         self.tree.clear_into(movers);
+    }
+
+    /// The least rank. `None` exactly where there is no task.
+    #[inline(always)]
+    pub fn least_rank<L: Ledger>(&self, steps: &mut Steps<L>) -> Option<u128>
+        ensures least { result ≡ least_rank self.now.members }
+        ensures counted { steps.new ≤ steps.old + 1 }
+    {
+        let first = self.tree.first(steps)?;
+        Some(first.0.rank)
     }
 }
 

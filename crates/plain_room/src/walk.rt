@@ -59,6 +59,15 @@ impl SiblingQueue for Walk {
         _steps: &mut Steps<L>,
     ) {}
 
+    fn set_vtime<L: Ledger>(
+        &mut self,
+        _table: &TaskTable,
+        _cpu: Cpu,
+        _task: &Task,
+        _vtime: u128,
+        _steps: &mut Steps<L>,
+    ) {}
+
     fn clear_into(&mut self, table: &TaskTable, cpu: Cpu, movers: &mut Movers) {
         for task in table.iter() {
             if is_on(task, cpu) {

@@ -9,7 +9,7 @@ ghost use Rattle.cs_types.specs.declared.task.Task.{Task};
 ghost use Rattle.cs_types.specs.Comparisons.{most_comparisons};
 ghost use Rattle.cs_types.specs.Order.{fair_class, priority_of, first_of};
 ghost use Rattle.cs_types.specs.Queue.{seat_of, queue_of, top_of};
-ghost use Rattle.run_queue.specs.Fair.{first_in};
+ghost use Rattle.run_queue.specs.Fair.{first_in, least_rank_in};
 ghost use Rattle.run_queue.specs.Classes.{stamped};
 
 use cs_types::{ClassQueue, OutOfMemory, Pid, Queued, Steps};
@@ -156,6 +156,15 @@ impl Classes {
         ensures counted { steps.new ≤ steps.old + most_comparisons (map.len self.now.tasks) }
     {
         self.fair.top(steps)
+    }
+
+    /// The rank of the first fair task. `None` exactly where there is none.
+    #[inline(always)]
+    pub fn least_fair<L: Ledger>(&self, steps: &mut Steps<L>) -> Option<u128>
+        ensures least { result ≡ least_rank_in fair_class self.now.tasks }
+        ensures counted { steps.new ≤ steps.old + 1 }
+    {
+        self.fair.least_rank(steps)
     }
 
     /// How many tasks there are.

@@ -8,7 +8,7 @@ ghost use Rattle.cs_types.specs.declared.task.Task.{Task};
 ghost use Rattle.cs_types.specs.Comparisons.{most_comparisons};
 ghost use Rattle.cs_types.specs.Order.{fair_class, priority_of, first_of};
 ghost use Rattle.cs_types.specs.Queue.{IsRanked, seat_of, spot_of, queue_of, top_of, first_with, next_with};
-ghost use Rattle.run_queue.specs.Fair.{first_in};
+ghost use Rattle.run_queue.specs.Fair.{least_rank_in};
 ghost use Rattle.run_queue.specs.Run.{without, including};
 ghost use Rattle.run_queue.specs.Classes.{stamped};
 
@@ -205,12 +205,13 @@ impl RunQueue {
         self.cookies.next_of(task, steps)
     }
 
-    /// The pid of the first fair task. `None` exactly where there is none.
-    pub fn first_fair<L: Ledger>(&self, steps: &mut Steps<L>) -> Option<Pid>
-        ensures first { result ≡ first_in fair_class self.now.tasks }
-        ensures counted { steps.new ≤ steps.old + most_comparisons (map.len self.now.tasks) }
+    /// The rank of the first fair task. `None` exactly where there is none.
+    #[inline(always)]
+    pub fn least_fair<L: Ledger>(&self, steps: &mut Steps<L>) -> Option<u128>
+        ensures least { result ≡ least_rank_in fair_class self.now.tasks }
+        ensures counted { steps.new ≤ steps.old + 1 }
     {
-        self.classes.first_fair(steps)
+        self.classes.least_fair(steps)
     }
 
     /// How many tasks there are.

@@ -280,6 +280,32 @@ impl TaskTable {
         }
     }
 
+    /// The task with the pid, if there is one, has this virtual time, in ns. Nothing else changes.
+    #[inline(always)]
+    pub fn set_vtime(&mut self, pid: Pid, vtime: u128)
+        ensures given { self.new ≡ record self.old {
+          tasks = map (λ (task : SomeTask). if has_pid pid task then record task { vtime = vtime } else task) self.old.tasks;
+        } }
+        ensures sound { IsSound self.new }
+    {
+        if let Ok(position) = self.position_of(pid) {
+            self.slots[self.entries[position].key].vtime = vtime;
+        }
+    }
+
+    /// The task with the pid, if there is one, has used this much of its slice, in ns. Nothing else changes.
+    #[inline(always)]
+    pub fn set_used(&mut self, pid: Pid, used: u64)
+        ensures given { self.new ≡ record self.old {
+          tasks = map (λ (task : SomeTask). if has_pid pid task then record task { used = used } else task) self.old.tasks;
+        } }
+        ensures sound { IsSound self.new }
+    {
+        if let Ok(position) = self.position_of(pid) {
+            self.slots[self.entries[position].key].used = used;
+        }
+    }
+
     /// Takes the task with the pid out, and gives it and what it was charged for forced idle, in ns. `None`
     /// exactly where there is none, and then nothing changes.
     #[inline(always)]

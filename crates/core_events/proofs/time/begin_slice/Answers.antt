@@ -1,9 +1,15 @@
-use Rattle.std.proofs.Common.{◌+◌, ◌≤◌, ◌≡◌, ◌∙◌, sym, refl, true, false, arith}
+use Rattle.std.proofs.Common.{◌+◌, ◌≤◌, ◌≡◌, ◌∙◌, Some, sym, subst, refl, true, false, arith}
+use Rattle.std.specs.Prelude.{find}
 use Rattle.std.proofs.lemmas.Bool.{and_parts}
-use Rattle.cs_types.specs.Time.{has_used_slice}
-use Rattle.core_lanes.specs.Lanes.{room_of}
+use Rattle.cs_types.specs.declared.task.Task.{Task}
+use Rattle.cs_types.specs.Room.{has_pid}
+use Rattle.cs_types.specs.Time.{has_used_slice, rotates, begin_slice}
+use Rattle.cs_types.proofs.Tasks.{found_again}
+use Rattle.core_lanes.specs.Lanes.{Beside, room_of}
+use Rattle.core_lanes.specs.Changes.{Changes}
 use Rattle.core_lanes.proofs.Stays.{both_stay, same_stays, stamp_next, stamped_later}
-use Rattle.core_events.proofs.Changes.{knows-alike}
+use Rattle.core_lanes.proofs.Timed.{KeepsTask, knows-alike}
+use Rattle.core_events.proofs.Changes.{changes_as}
 use Rattle.core_events.proofs.Clocks.{sliced_is, sliced_not}
 use Rattle.core_events.proofs.time.begin_slice.Goals as goal
 
@@ -11,13 +17,15 @@ pub change-requires-clause-knows : goal.change-requires-clause-knows
 change-requires-clause-knows g c =
     let next = c.args.core.now.next_stamp in
     let tasks = c.args.table.now.tasks in
-    let known = knows-alike (c.args.core.now, c.args.table.now) c.args.task c.args.task c.requires.agree c.requires.there
-    (record { spec = refl; cookie = refl; home = refl; queued = refl; stamp = refl }) in
+    let task = c.unwrap-task.result in
+    let there = found_again c.args.pid tasks task (sym c.task_of.ensures.task ∙ c.unwrap-task.ensures) in
+    let keeps : KeepsTask task task = record { spec = refl; cookie = refl; home = refl; queued = refl; stamp = refl } in
+    let known = knows-alike (c.args.core.now, c.args.table.now) task task c.requires.agree there keeps in
     record {
       known = record {
         apart = record {
-          old = c.args.task;
-          there = c.requires.there;
+          old = task;
+          there = there;
           fits = record { home = known.known.apart.fits.home; policy = known.known.apart.fits.policy };
         };
         cookie = refl;
@@ -31,40 +39,37 @@ change-requires-clause-agree g c =
     let later : next ≤ next + 1 = omega arith in
     (stamped_later c.args.core.now _ c.args.table.now refl later).agree c.requires.agree
 
-pub change-requires-then-has_used_slice-clause-knows : goal.change-requires-then-has_used_slice-clause-knows
-change-requires-then-has_used_slice-clause-knows g c =
-    knows-alike (c.args.core.now, c.args.table.now) (record c.args.task { used = 0 }) c.args.task c.requires.agree c.requires.there
-    (record { spec = refl; cookie = refl; home = refl; queued = refl; stamp = refl })
-
 pub returns-then-rotates : goal.returns-then-rotates
-returns-then-rotates g c cpu is =
+returns-then-rotates g c cpu task found is_used is =
     let next = c.args.core.now.next_stamp in
     let later : next ≤ next + 1 = omega arith in
-    record {
+    let both : Some c.unwrap-task.result ≡ Some task = sym c.unwrap-task.ensures ∙ c.task_of.ensures.task ∙ found in
+    let same : c.unwrap-task.result ≡ task = cc in
+    let one = c.unwrap-task.result in
+    let turns : (beside : Beside) → c.args.rotates ≡ rotates (room_of beside (c.args.core.now, c.args.table.now)) cpu one =
+    subst (λ (one : Task). (beside : Beside) → c.args.rotates ≡ rotates (room_of beside (c.args.core.now, c.args.table.now)) cpu one) (sym same) is in
+    let begins : Changes (c.args.core.now, c.args.table.now) (c.change.new.self, c.change.new.table) (λ room. begin_slice room cpu one) = record {
       room = λ beside.
           let room = room_of beside (c.args.core.now, c.args.table.now) in
-          let behind = sym (is beside) ∙ c.if-rotates.true in
-          let used : has_used_slice c.args.task ≡ true = (and_parts (has_used_slice c.args.task) _ behind).0 in
-          c.change.ensures.room beside ∙ sliced_is room cpu c.args.task true true used behind;
+          let behind = sym (turns beside) ∙ c.if-rotates.true in
+          let used : has_used_slice one ≡ true = (and_parts (has_used_slice one) _ behind).0 in
+          c.change.ensures.room beside ∙ sliced_is room cpu one true true used behind;
       numbers = c.change.ensures.numbers;
       stays = both_stay (stamped_later c.args.core.now _ c.args.table.now refl later) c.change.ensures.stays;
-    }
+    } in
+    subst (λ (one : Task). Changes (c.args.core.now, c.args.table.now) (c.change.new.self, c.change.new.table) (λ room. begin_slice room cpu one)) same begins
 
-pub returns-then-has_used_slice : goal.returns-then-has_used_slice
-returns-then-has_used_slice g c cpu is = record {
-  room = λ beside.
-      c.change-then-has_used_slice.ensures.room beside
-      ∙ sliced_is (room_of beside (c.args.core.now, c.args.table.now)) cpu c.args.task true false (sym c.has_used_slice.ensures ∙ c.if-has_used_slice.true)
-      (sym (is beside) ∙ c.if-rotates.false);
-  numbers = c.change-then-has_used_slice.ensures.numbers;
-  stays = c.change-then-has_used_slice.ensures.stays;
-}
+pub returns-then-used : goal.returns-then-used
+returns-then-used g c cpu task found is_used is =
+    changes_as (λ beside.
+    sliced_is (room_of beside (c.args.core.now, c.args.table.now)) cpu task true false (sym is_used ∙ c.if-used.true) (sym (is beside) ∙ c.if-rotates.false))
+    (c.set_used.ensures task found)
 
-pub returns-else-has_used_slice : goal.returns-else-has_used_slice
-returns-else-has_used_slice g c cpu is = record {
+pub returns-else-used : goal.returns-else-used
+returns-else-used g c cpu task found is_used is = record {
   room = λ beside.
-      sliced_not (room_of beside (c.args.core.now, c.args.table.now)) cpu c.args.task c.requires.agree.table.rising c.requires.there
-      (sym c.has_used_slice.ensures ∙ c.if-has_used_slice.false) (sym (is beside) ∙ c.if-rotates.false);
+      sliced_not (room_of beside (c.args.core.now, c.args.table.now)) cpu task c.requires.agree.table.rising (found_again c.args.pid c.args.table.now.tasks task found)
+      (sym is_used ∙ c.if-used.false) (sym (is beside) ∙ c.if-rotates.false);
   numbers = refl;
   stays = same_stays;
 }

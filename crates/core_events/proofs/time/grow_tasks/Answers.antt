@@ -2,18 +2,17 @@ use Rattle.std.proofs.Common.{◌≡◌, ℕ, ◌<◌, ◌+◌, ◌*◌, ◌^◌
 use Rattle.std.specs.Prelude.{List, All}
 use Rattle.std.proofs.lemmas.List.{length-map}
 use Rattle.cs_types.specs.declared.task.Task.{Task}
-use Rattle.cs_types.specs.Room.{RoomState, SiblingState, absent, running_on, with_task}
+use Rattle.cs_types.specs.Room.{RoomState, SiblingState, absent, running_on}
 use Rattle.cs_types.proofs.Homes.{running_is_found}
 use Rattle.core_lanes.specs.declared.queue.SiblingQueue.{Ghosts}
-use Rattle.core_lanes.specs.Lanes.{Beside, lane_state, room_of, IsFit}
+use Rattle.core_lanes.specs.Lanes.{Beside, lane_state, room_of}
 use Rattle.core_lanes.specs.declared.lanes.Core.{Core}
 use Rattle.core_lanes.specs.Changes.{Changes}
 use Rattle.task_table.specs.Table.{Table}
-use Rattle.core_lanes.proofs.Stays.{some_beside, found_in, same_stays}
+use Rattle.core_lanes.proofs.Stays.{some_beside, same_stays}
 use Rattle.core_events.specs.Time.{RunTheirOwn}
-use Rattle.core_events.proofs.Changes.{KeepsTask, knows-alike, both_change, changes_as}
-use Rattle.core_events.proofs.Growth.{is_run_by, with_growth_on, kept-grown, grown_nothing, grown_here, runs_alone, grown_with_first, grown_with_none, grown_with_more, grown_with_all, all_grown}
-use Rattle.core_events.proofs.time.grow_tasks.Goals.{in-Some, in_default}
+use Rattle.core_events.proofs.Changes.{both_change, changes_as, still_below}
+use Rattle.core_events.proofs.Growth.{is_run_by, with_growth_on, grown_alone, runs_alone, grown_with_first, grown_with_none, grown_with_more, grown_with_all, all_grown}
 use Rattle.core_events.proofs.time.grow_tasks.Goals as goal
 
 pub loop-cpu-init : goal.loop-cpu-init
@@ -25,30 +24,25 @@ loop-cpu-init g c = record {
   };
 }
 
-pub grown-requires-clause-policy : goal.grown-requires-clause-policy
-grown-requires-clause-policy g c =
-    (found_in (IsFit (length c.loop-cpu.core.lanes.items)) _ c.loop-cpu.table.tasks _ (c.loop-cpu.invariant.changes.stays.agree c.requires.agree).tasks c.in-Some.ensures.there).policy
+pub grow_on-requires-clause-at : goal.grow_on-requires-clause-at
+grow_on-requires-clause-at g c = record {
+  cpu = still_below c.loop-cpu.invariant.changes.stays (omega (arith, c.loop-cpu-test.true, c.len-cpu-end.ensures, c.args.core.now.lanes.ok.0));
+  agree = c.loop-cpu.invariant.changes.stays.agree c.requires.agree;
+}
 
-pub grown-requires-clause-used : goal.grown-requires-clause-used
-grown-requires-clause-used g c =
+pub grow_on-requires-clause-used : goal.grow_on-requires-clause-used
+grow_on-requires-clause-used g c =
     let after : Task → Type 0 = λ task. task.used + c.args.delta < 2 ^ 64 in
-    found_in after _ c.loop-cpu.table.tasks _
-    (subst (All after) (sym (ap (λ (room : RoomState). room.tasks) (c.loop-cpu.invariant.changes.room some_beside)))
+    subst (All after) (sym (ap (λ (room : RoomState). room.tasks) (c.loop-cpu.invariant.changes.room some_beside)))
     (all_grown (λ task. task.used < 2 ^ 56) after (take c.loop-cpu.cpu (map lane_state c.args.core.now.lanes.items)) c.args.delta c.args.table.now.tasks
-    (λ old new grows low. omega (arith, grows.used, low, c.requires.delta)) c.requires.used)) c.in-Some.ensures.there
+    (λ old new grows low. omega (arith, grows.used, low, c.requires.delta)) c.requires.used)
 
-pub grown-requires-clause-vtime : goal.grown-requires-clause-vtime
-grown-requires-clause-vtime g c =
+pub grow_on-requires-clause-vtimes : goal.grow_on-requires-clause-vtimes
+grow_on-requires-clause-vtimes g c =
     let after : Task → Type 0 = λ task. task.vtime + 69 * c.args.delta < 2 ^ 128 in
-    found_in after _ c.loop-cpu.table.tasks _
-    (subst (All after) (sym (ap (λ (room : RoomState). room.tasks) (c.loop-cpu.invariant.changes.room some_beside)))
+    subst (All after) (sym (ap (λ (room : RoomState). room.tasks) (c.loop-cpu.invariant.changes.room some_beside)))
     (all_grown (λ task. task.vtime < 2 ^ 100) after (take c.loop-cpu.cpu (map lane_state c.args.core.now.lanes.items)) c.args.delta c.args.table.now.tasks
-    (λ old new grows low. omega (arith, grows.vtime, low, c.requires.delta)) c.requires.vtimes)) c.in-Some.ensures.there
-
-pub change-requires-clause-knows : goal.change-requires-clause-knows
-change-requires-clause-knows g c =
-    knows-alike (c.loop-cpu.core, c.loop-cpu.table) c.grown.result c.in-Some.task (c.loop-cpu.invariant.changes.stays.agree c.requires.agree) c.in-Some.ensures.there
-    (subst (KeepsTask c.in-Some.task) (sym c.grown.ensures) (kept-grown c.args.delta c.in-Some.task))
+    (λ old new grows low. omega (arith, grows.vtime, low, c.requires.delta)) c.requires.vtimes)
 
 -- the growth of the task that a sibling runs, once those of the lower ones have grown, is the growth with one sibling more
 more_grown : {Q : Type 0} {g : Ghosts Q} (old mid new : Core Q g × Table) (delta cpu : ℕ) → cpu < length old.0.lanes.items →
@@ -75,28 +69,13 @@ loop-cpu-preserved g c =
     let cpu = c.loop-cpu.cpu in
     let below : cpu < length c.args.core.now.lanes.items = omega (arith, c.loop-cpu-test.true, c.len-cpu-end.ensures, c.args.core.now.lanes.ok.0) in
     let changes = c.loop-cpu.invariant.changes in
-    elim c.match-running_on.branch [
-      | in-Some w ↦
-          let task = w.in-Some.task in
-          record {
-            changes = subst (λ (new : both). Changes old new (grown_with_first c.args.delta (cpu + 1))) (λ i. (sym w.core-is i, sym w.table-is i))
-                (more_grown old mid _ c.args.delta cpu below changes (changes_as (λ beside.
-                let room = room_of beside mid in
-                let runs = sym (w.in-Some.ensures.task beside) in
-                ap (with_task room) w.grown.ensures
-                ∙ grown_here room cpu c.args.delta task runs (changes.stays.agree c.requires.agree).table.rising
-                (alone old mid c.args.delta cpu task beside below c.requires.own changes runs)) w.change.ensures));
-          }
-      | in_default w ↦
-          record {
-            changes = subst (λ (new : both). Changes old new (grown_with_first c.args.delta (cpu + 1))) (λ i. (sym w.core-is i, sym w.table-is i))
-                (more_grown old mid mid c.args.delta cpu below changes (record {
-                  room = λ beside. sym (grown_nothing (room_of beside mid) cpu c.args.delta (sym (w.in_default.ensures.task beside)));
-                  numbers = refl;
-                  stays = same_stays;
-                }));
-          }
-    ]
+    record {
+      changes = more_grown old mid _ c.args.delta cpu below changes
+          (changes_as (λ beside.
+          let room = room_of beside mid in
+          grown_alone room cpu c.args.delta (changes.stays.agree c.requires.agree).table.rising
+          (λ task runs. alone old mid c.args.delta cpu task beside below c.requires.own changes runs)) c.grow_on.ensures);
+    }
 
 pub returns : goal.returns
 returns g c =

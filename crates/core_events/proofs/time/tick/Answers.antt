@@ -1,4 +1,5 @@
 use Rattle.std.proofs.Common.{◌≡◌, ◌∙◌, ap, subst, refl, Option, Some, None, ◌+◌, ◌<◌, ◌^◌, sym}
+use Rattle.std.specs.Option.{IsSome}
 use Rattle.cs_types.specs.declared.task.Task.{Task}
 use Rattle.cs_types.specs.declared.reply.Reply.TheVariants.{Ticked}
 use Rattle.cs_types.specs.Room.{RoomState, flag, running_on}
@@ -15,8 +16,8 @@ use Rattle.core_events.proofs.Changes.{still_below}
 use Rattle.core_events.proofs.time.tick.Goals as goal
 use Rattle.core_events.specs.State.{both}
 
-pub running_on-requires : goal.running_on-requires
-running_on-requires g c = still_below c.charge.ensures.charges.stays c.requires.at.cpu
+pub runner-requires : goal.runner-requires
+runner-requires g c = still_below c.charge.ensures.charges.stays c.requires.at.cpu
 
 pub rotates-rotates-requires : goal.rotates-rotates-requires
 rotates-rotates-requires g c = record {
@@ -35,13 +36,13 @@ asks_at_tick-asks-requires g c = record {
 
 pub begin_slice-requires : goal.begin_slice-requires
 begin_slice-requires g c = record {
-  there = c.in-Some.ensures.there;
+  there = subst IsSome (sym c.in-Some.ensures.there) refl;
   agree = c.charge.ensures.charges.stays.agree c.requires.at.agree;
   stamp = subst (λ n. n + 1 < 2 ^ 64) (sym (ap (λ (core : BareCore). core.next_stamp) c.charge.ensures.core)) c.requires.stamp;
 }
 
 pub flag-requires : goal.flag-requires
-flag-requires g c = still_below (both_stay c.charge.ensures.charges.stays (c.begin_slice.ensures c.args.cpu c.rotates-rotates.ensures).stays) c.requires.at.cpu
+flag-requires g c = still_below (both_stay c.charge.ensures.charges.stays (c.begin_slice.ensures c.args.cpu c.in-Some.task.now c.in-Some.ensures.there c.has_used_slice-used.ensures c.rotates-rotates.ensures).stays) c.requires.at.cpu
 
 -- a core and its table stand for a room of which they have all but what is beside them
 stands : {Q : Type 0} {g : Ghosts Q} (beside : Beside) (both : Core Q g × Table) (room : RoomState) → room_of beside both ≡ room → room_of (beside_after beside room) both ≡ room
@@ -76,7 +77,7 @@ pub returns-clause-asks : goal.returns-clause-asks
 returns-clause-asks g c beside =
     let room = room_of (at c.args.now beside) (c.args.core.now, c.args.table.now) in
     let cpu = c.args.cpu in
-    let task = c.in-Some.task in
+    let task = c.in-Some.task.now in
     let paid = beside_after (at c.args.now beside) (charge room) in
     let charged = c.charge.ensures.charges.room beside in
     let found : Some task ≡ running_on room cpu = c.in-Some.ensures.task paid ∙ ap (λ (now : RoomState). running_on now cpu) charged in
@@ -87,9 +88,9 @@ returns-clause-asks g c beside =
 pub returns-clause-charges : goal.returns-clause-charges
 returns-clause-charges g c =
     let cpu = c.args.cpu in
-    let task = c.in-Some.task in
+    let task = c.in-Some.task.now in
     let table = c.begin_slice.new.table in
-    let slice = c.begin_slice.ensures cpu c.rotates-rotates.ensures in
+    let slice = c.begin_slice.ensures cpu task c.in-Some.ensures.there c.has_used_slice-used.ensures c.rotates-rotates.ensures in
     let raised = c.flag.ensures table in
     record {
       room = λ beside.
