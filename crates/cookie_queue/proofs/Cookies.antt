@@ -206,7 +206,7 @@ find-spots q (e ∷ es) =
 
 module _ (members : Members) where
   -- the tasks that the members stand for
-  abbrev tasks_of : Spots
+  abbrev pub tasks_of : Spots
   tasks_of = map_renamed spot_cmp spot_at members
 
   rising : is_sorted key_cmp (entries members) ≡ true

@@ -1,6 +1,6 @@
 //! The queue: an ordered tree, whose keys are grouped by cookie.
 
-ghost use Rattle.std.specs.Prelude.{◌≡◌, ◌≢◌, ◌+◌, ◌<◌, ◌≤◌, max, None, OnOk, OnErr, IfSome, if◌then◌else◌};
+ghost use Rattle.std.specs.Prelude.{◌≡◌, ◌≢◌, ◌+◌, ◌<◌, ◌≤◌, max, None, OnOk, OnErr, IfSome, IsTrue, if◌then◌else◌};
 ghost use Rattle.std.specs.FinMap as map;
 ghost use Rattle.cs_types.specs.Comparisons.{most_comparisons};
 ghost use Rattle.cs_types.specs.Queue.{IsRanked, spot_of, first_with, next_with};
@@ -78,6 +78,25 @@ impl CookieQueue {
         ensures counted { steps.new ≤ steps.old + most_comparisons (map.len self.old.tasks) }
     {
         self.tree.remove(&key_of(task), steps)
+    }
+
+    /// The task, which is there, has another rank, at which none has its cookie, class and stamp.
+    #[inline(always)]
+    pub fn set_rank<L: Ledger>(&mut self, task: &Queued, rank: u128, steps: &mut Steps<L>)
+        requires there { IsTrue (map.contains_key self.old.tasks (spot_of task.now)) }
+        requires free { map.get (map.remove self.old.tasks (spot_of task.now)) (spot_of (record task.now { rank = rank })) ≡ None }
+        ensures tasks { self.new.tasks
+            ≡ map.insert (map.remove self.old.tasks (spot_of task.now)) (spot_of (record task.now { rank = rank })) task.now.pid }
+        ensures spare { self.new.spare ≡ self.old.spare }
+        ensures counted { steps.new ≤ steps.old + most_comparisons (map.len self.old.tasks)
+            + most_comparisons (map.len (map.remove self.old.tasks (spot_of task.now))) }
+    {
+        self.tree.remove(&key_of(task), steps);
+        let later = Key {
+            rank,
+            ..key_of(task)
+        };
+        self.tree.insert(later, task.pid, steps);
     }
 
     /// Every task leaves.

@@ -113,6 +113,11 @@ module _ (task : Queued) (all rest : List Queued) (split : IsSplit task all rest
             subst (λ (o : Option ℕ). IfSome o (λ pid. pid ≡ task.pid)) (sym found) tt
       ]
 
+  pub own_entry : has_cookie task ≡ true → IsTrue (fin.contains_key (spotted all) (spot_of task))
+  own_entry some =
+      subst (λ (m : Spots). IsTrue (fin.contains_key m (spot_of task))) (sym (spotted-put some))
+      (has-insert spot_total spot_cmp-IsAntisymmetric (spotted rest) (spot_of task) task.pid)
+
   pub own_cookie : (cookie : ℕ) → IsTrue (fin.contains_key (spotted all) (cookie, seat_of task)) → cookie ≡ task.cookie
   own_cookie cookie there =
       elim (cases_Bool (has_cookie task)) [

@@ -3,7 +3,7 @@
 
 use crate::task::{KINDS, LOTS, kind_of, lot_of, queued_of};
 use core_lanes::{Movers, SiblingQueue, is_on, task_of};
-use cs_types::{Cookie, Cpu, OutOfMemory, Queued, Steps, Task};
+use cs_types::{Cookie, Cpu, OutOfMemory, Steps, Task};
 use run_queue::RunQueue;
 use std::alloc::Global;
 use std::sync::ledger::Ledger;
@@ -78,13 +78,8 @@ impl SiblingQueue for TreeQueue {
         vtime: u128,
         steps: &mut Steps<L>,
     ) {
-        let queued = queued_of(task);
-        self.run.dequeue(&queued, steps);
-        let later = Queued {
-            rank: fair_queue::rank(vtime),
-            ..queued
-        };
-        self.run.enqueue(later, steps);
+        self.run
+            .set_fair_rank(&queued_of(task), fair_queue::rank(vtime), steps);
     }
 
     fn clear_into(&mut self, _table: &TaskTable, _cpu: Cpu, movers: &mut Movers) {

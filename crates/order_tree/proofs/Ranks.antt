@@ -43,7 +43,7 @@ module _ (members : Members) (of_class : IsOfClass members) where
   each = all_of_found key_total IsRankKey (entries members) (λ key there. of_class key (ap is_some (get-entries members key) ∙ there))
 
   -- the queue's tasks
-  abbrev ranked : queue.Members
+  abbrev pub ranked : queue.Members
   ranked = map_renamed queue.key_cmp rank_at members
 
   pub get-ranked : (place : queue.Key) → get ranked place ≡ get members (key_at place)

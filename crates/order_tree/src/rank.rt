@@ -1,8 +1,9 @@
 //! The queue of a scheduling class: an ordered tree in which all keys are of one group and one class. It is
 //! apart since the classes keep their tasks alike.
 
-ghost use Rattle.std.specs.Prelude.{◌≡◌, ◌+◌, ◌≤◌, ◌++◌, length, map, IsPermutation};
-ghost use Rattle.std.specs.FinMap.{empty, entries, len};
+ghost use Rattle.std.specs.Prelude.{◌≡◌, ◌+◌, ◌≤◌, ◌++◌, length, map, None, IsTrue, IsPermutation};
+ghost use Rattle.std.specs.FinMap.{empty, entries, len, get, contains_key, insert, remove};
+ghost use Rattle.cs_types.specs.Comparisons.{most_comparisons};
 ghost use Rattle.order_tree.specs.Rank.{key_at, least_rank, stamped};
 
 use crate::key::Key;
@@ -53,6 +54,27 @@ impl RankTree {
         ensures spare { self.new.spare ≡ self.old.spare + len self.old.members }
     {
         self.tree.clear_into(movers);
+    }
+
+    /// The task at a rank, which is there, has another rank, at which none has its stamp.
+    #[inline(always)]
+    pub fn set_rank<L: Ledger>(
+        &mut self,
+        rank: u128,
+        later: u128,
+        stamp: u64,
+        pid: Pid,
+        steps: &mut Steps<L>,
+    )
+        requires there { IsTrue (contains_key self.old.members (rank, stamp)) }
+        requires free { get (remove self.old.members (rank, stamp)) (later, stamp) ≡ None }
+        ensures members { self.new.members ≡ insert (remove self.old.members (rank, stamp)) (later, stamp) pid }
+        ensures spare { self.new.spare ≡ self.old.spare }
+        ensures counted { steps.new ≤ steps.old + most_comparisons (len self.old.members)
+            + most_comparisons (len (remove self.old.members (rank, stamp))) }
+    {
+        self.tree.remove(&key(rank, stamp), steps);
+        self.tree.insert(key(later, stamp), pid, steps);
     }
 
     /// The least rank. `None` exactly where there is no task.

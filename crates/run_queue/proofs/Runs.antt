@@ -1,9 +1,9 @@
 -- A run queue in which the queue of one class has changed: by a task more, or by one less.
-use Rattle.std.proofs.Common.{◌≡◌, ℕ, zero, suc, ◌+◌, ◌-◌, ◌<◌, ◌≤◌, Bool, true, false, cond, List, [], ◌∷◌, length, sym, ap, ◌∙◌, Option, Some, None, arith}
+use Rattle.std.proofs.Common.{◌≡◌, ℕ, zero, suc, ◌+◌, ◌-◌, ◌<◌, ◌≤◌, Bool, true, false, cond, List, [], ◌∷◌, length, refl, sym, ap, ◌∙◌, Option, Some, None, arith}
 use Rattle.std.specs.Prelude.{is_some}
 use Rattle.std.specs.FinMap as fin
 use Rattle.std.specs.FinMap.{get, entries, find, get-entries, get-insert, get-remove, contains_key, len, len-entries, len-insert, len-remove}
-use Rattle.cs_types.specs.Queue.{Key, key_cmp, Members, Ranked, Seat}
+use Rattle.cs_types.specs.Queue.{Key, key_cmp, Members, Ranked, Seat, Seats}
 use Rattle.cs_types.specs.Comparisons.{most_comparisons}
 use Rattle.cs_types.proofs.Comparisons.{most_comparisons-le}
 use Rattle.cs_types.proofs.Queues.{key_total}
@@ -158,3 +158,45 @@ left run sound class low key found after says is spare =
       tasks = remove-SetsTo _ _ (class, key) edits.sets;
       spare = (let kept = edits.spare in omega arith);
     }
+
+-- ---- a fair task that has another rank
+
+-- a run queue in which what was at a seat is at another
+pub record Moves (before after : Inside) (seat place : Seat) (pid : ℕ) : Type 0 where
+  pub sound : IsSound after
+  pub tasks : (seated_of after).tasks ≡ fin.insert (fin.remove (seated_of before).tasks seat) place pid
+  pub spare : (seated_of after).spare ≡ (seated_of before).spare
+
+module _ (run : Inside) (sound : IsSound run) (key place : Key) (there : contains_key (seated_of run).tasks (3, key) ≡ true) where
+  -- while it is out
+  abbrev mid : Ranked
+  mid = record { members = fin.remove run.fair.members key; spare = run.fair.spare + 1 }
+
+  pub fair_there : contains_key run.fair.members key ≡ true
+  fair_there = ap is_some (sym (get-ranked_in run 3 (omega arith) key)) ∙ there
+
+  out : Leaves run (with_ranked run 3 mid) (3, key) true
+  out = left run sound 3 (omega arith) key true mid (sym fair_there) refl refl
+
+  module _ (free : get (fin.remove (seated_of run).tasks (3, key)) (3, place) ≡ None) where
+    free_mid : get (seated_of (with_ranked run 3 mid)).tasks (3, place) ≡ None
+    free_mid = ap (λ (tasks : Seats). get tasks (3, place)) out.tasks ∙ free
+
+    pub fair_free : get (fin.remove run.fair.members key) place ≡ None
+    fair_free = sym (get-ranked_in (with_ranked run 3 mid) 3 (omega arith) place) ∙ free_mid
+
+    pub moved : (after : Ranked) (pid : ℕ) → after.members ≡ fin.insert (fin.remove run.fair.members key) place pid → after.spare ≡ run.fair.spare →
+        Moves run (with_ranked run 3 after) (3, key) (3, place) pid
+    moved after pid is spare =
+        let enters = entered (with_ranked run 3 mid) out.sound 3 (omega arith) place pid (omega (arith, out.spare)) free_mid after is (ap (λ n. n + 1) spare) in
+        record {
+          sound = enters.sound;
+          tasks = enters.tasks ∙ ap (λ (tasks : Seats). fin.insert tasks (3, place) pid) out.tasks;
+          spare = omega (arith, enters.spare, out.spare);
+        }
+
+  -- a search in it then
+  pub most_comparisons-out : most_comparisons (len (fin.remove run.fair.members key)) ≤ most_comparisons (len (fin.remove (seated_of run).tasks (3, key)))
+  most_comparisons-out =
+      let same = ap (λ (tasks : Seats). most_comparisons (len tasks)) out.tasks in
+      omega (arith, same, most_comparisons-ranked_in (with_ranked run 3 mid) 3)

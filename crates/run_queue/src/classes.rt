@@ -2,7 +2,7 @@
 //! stand in them alike.
 
 ghost use Rattle.std.specs.Prelude as list;
-ghost use Rattle.std.specs.Prelude.{◌≡◌, ◌+◌, ◌*◌, ◌<◌, ◌≤◌, ◌++◌, length, max, if◌then◌else◌, OnOk, OnErr, List, All, IsPermutation};
+ghost use Rattle.std.specs.Prelude.{◌≡◌, ◌+◌, ◌*◌, ◌<◌, ◌≤◌, ◌++◌, length, max, if◌then◌else◌, None, OnOk, OnErr, IsTrue, List, All, IsPermutation};
 ghost use Rattle.std.specs.FinMap as map;
 ghost use Rattle.std.specs.Option.{option_map};
 ghost use Rattle.cs_types.specs.declared.task.Task.{Task};
@@ -112,6 +112,27 @@ impl Classes {
             Queued::REAL_TIME => self.real_time.take(task.rank, task.stamp, steps),
             _ => self.fair.take(task.rank, task.stamp, steps),
         }
+    }
+
+    /// The fair task at a rank, which is there, has another rank, at which none has its stamp.
+    #[inline(always)]
+    pub fn set_fair_rank<L: Ledger>(
+        &mut self,
+        rank: u128,
+        later: u128,
+        stamp: u64,
+        pid: Pid,
+        steps: &mut Steps<L>,
+    )
+        requires there { IsTrue (map.contains_key self.old.tasks (fair_class, (rank, stamp))) }
+        requires free { map.get (map.remove self.old.tasks (fair_class, (rank, stamp))) (fair_class, (later, stamp)) ≡ None }
+        ensures tasks { self.new.tasks
+            ≡ map.insert (map.remove self.old.tasks (fair_class, (rank, stamp))) (fair_class, (later, stamp)) pid }
+        ensures spare { self.new.spare ≡ self.old.spare }
+        ensures counted { steps.new ≤ steps.old + most_comparisons (map.len self.old.tasks)
+            + most_comparisons (map.len (map.remove self.old.tasks (fair_class, (rank, stamp)))) }
+    {
+        self.fair.set_rank(rank, later, stamp, pid, steps);
     }
 
     /// Every task leaves, and each is told by its stamp and its pid, in any order.

@@ -1,7 +1,7 @@
 //! The run queue: the queues of the classes, and beside them the tasks with cookies.
 
 ghost use Rattle.std.specs.Prelude as list;
-ghost use Rattle.std.specs.Prelude.{◌≡◌, ℕ, ◌+◌, ◌*◌, ◌<◌, ◌≤◌, ◌++◌, length, max, if◌then◌else◌, None, OnOk, OnErr, IfSome, IsTrue, List, All, IsPermutation};
+ghost use Rattle.std.specs.Prelude.{◌≡◌, ◌≢◌, ℕ, ◌+◌, ◌*◌, ◌<◌, ◌≤◌, ◌++◌, length, max, if◌then◌else◌, None, OnOk, OnErr, IfSome, IsTrue, List, All, IsPermutation};
 ghost use Rattle.std.specs.FinMap as map;
 ghost use Rattle.std.specs.Option.{option_map};
 ghost use Rattle.cs_types.specs.declared.task.Task.{Task};
@@ -158,6 +158,30 @@ impl RunQueue {
     {
         self.leave_cookies(task, steps);
         self.enter_cookies(Queued { cookie, ..*task }, steps);
+    }
+
+    /// The fair task, which is there with its pid and its cookie, has another rank, at which none has its stamp: it
+    /// stands by that in its class, and in the cookie order, where it has a cookie.
+    #[inline(always)]
+    pub fn set_fair_rank<L: Ledger>(&mut self, task: &Queued, rank: u128, steps: &mut Steps<L>)
+        requires fair { task.now.class ≡ fair_class }
+        requires there { IsTrue (map.contains_key self.old.tasks (seat_of task.now)) }
+        requires entered { task.now.cookie ≢ 0 → IsTrue (map.contains_key self.old.cookies (spot_of task.now)) }
+        requires cookie { (cookie : ℕ) → IsTrue (map.contains_key self.old.cookies (cookie, seat_of task.now)) →
+            cookie ≡ task.now.cookie }
+        requires free { map.get (map.remove self.old.tasks (seat_of task.now)) (seat_of (record task.now { rank = rank })) ≡ None }
+        ensures tasks { self.new.tasks
+            ≡ map.insert (map.remove self.old.tasks (seat_of task.now)) (seat_of (record task.now { rank = rank })) task.now.pid }
+        ensures cookies { self.new.cookies ≡ including (record task.now { rank = rank }) (without task.now self.old.cookies) }
+        ensures spare { self.new.spare ≡ self.old.spare }
+        ensures counted { steps.new ≤ steps.old + 2 * most_comparisons (map.len self.old.tasks)
+            + 2 * most_comparisons (map.len (map.remove self.old.tasks (seat_of task.now))) }
+    {
+        self.classes
+            .set_fair_rank(task.rank, rank, task.stamp, task.pid, steps);
+        if task.cookie != 0 {
+            self.cookies.set_rank(task, rank, steps);
+        }
     }
 
     /// Every task leaves, and each is told by its stamp and its pid, in any order.

@@ -1,4 +1,4 @@
-use Rattle.std.proofs.Common.{◌≡◌, ℕ, ◌+◌, ◌≤◌, ◌<◌, Bool, cond, true, pos, List, None, refl, ap, sym, ◌∙◌, subst, eqb-true, arith}
+use Rattle.std.proofs.Common.{◌≡◌, ℕ, ◌+◌, ◌≤◌, ◌<◌, Bool, cond, not, true, pos, ◌≢◌, List, None, refl, ap, sym, ◌∙◌, subst, eqb-true, arith}
 use Rattle.std.specs.Prelude.{◌==◌, IfSome, IsTrue}
 use Rattle.std.specs.FinMap as fin
 use Rattle.cs_types.specs.declared.queue.Queued.{Queued}
@@ -15,7 +15,9 @@ use Rattle.core_state.specs.Held.{AreApart, Holds, Keeps}
 use Rattle.core_state.proofs.Tasks.{is_ranked}
 use Rattle.core_state.proofs.Splits.{IsSplit, split_at}
 use Rattle.core_state.proofs.Counts.{counted-stay}
-use Rattle.core_state.proofs.Held.{apart_others, free_seat, own_seat, own_spot, own_cookie, Holds-put, Holds-take}
+use Rattle.std.proofs.lemmas.Bool.{ne_eqb}
+use Rattle.run_queue.specs.Run.{without, including}
+use Rattle.core_state.proofs.Held.{apart_others, free_seat, own_seat, own_entry, own_cookie, Holds-put, Holds-take}
 use Rattle.core_state.proofs.Vtimes.{rank-fair}
 use Rattle.core_state.proofs.Compared.{few_of_all, few_of_others}
 use Rattle.core_state.proofs.queue.TreeQueueSiblingQueue.set_vtime.Goals as goal
@@ -55,14 +57,21 @@ module _ (run : RunQueued) (kinds lots : List ℕ) (table : Table) (cpu vtime : 
       ∙ sym (ap (λ n. cond (n == real_time_class) (4 + rank_by task.spec.policy task.deadline task.vtime) n) class)
 
   module _ (queued : Queued) (same : queued ≡ queued_of task) where
-    ranked : IsRanked queued
-    ranked = subst IsRanked (sym same) (is_ranked task)
+    ranked_class : queued.class ≡ fair_class
+    ranked_class = ap (λ (queued : Queued). queued.class) same ∙ class
 
-    own : IfSome (fin.get run.cookies (spot_of queued)) (λ pid. pid ≡ queued.pid)
-    own =
-        subst (λ (queued : Queued). IfSome (fin.get run.cookies (spot_of queued)) (λ pid. pid ≡ queued.pid)) (sym same)
-        (subst (λ (spots : Spots). IfSome (fin.get spots (spot_of (queued_of task))) (λ pid. pid ≡ task.spec.pid)) (sym asks.there.holds.trees.spots)
-        (own_spot (queued_of task) all rest split apart))
+    there : IsTrue (fin.contains_key run.tasks (seat_of queued))
+    there =
+        ap (λ (queued : Queued). fin.contains_key run.tasks (seat_of queued)) same
+        ∙ ap (λ (seats : Seats). fin.contains_key seats (seat_of (queued_of task))) asks.there.holds.trees.seats
+        ∙ own_seat (queued_of task) all rest split apart
+
+    entered : queued.cookie ≢ 0 → IsTrue (fin.contains_key run.cookies (spot_of queued))
+    entered =
+        subst (λ (queued : Queued). queued.cookie ≢ 0 → IsTrue (fin.contains_key run.cookies (spot_of queued))) (sym same)
+        (λ some.
+        subst (λ (spots : Spots). IsTrue (fin.contains_key spots (spot_of (queued_of task)))) (sym asks.there.holds.trees.spots)
+        (own_entry (queued_of task) all rest split apart (ap not (ne_eqb task.cookie 0 some))))
 
     cookie_is : (cookie : ℕ) → IsTrue (fin.contains_key run.cookies (cookie, seat_of queued)) → cookie ≡ queued.cookie
     cookie_is =
@@ -77,92 +86,71 @@ module _ (run : RunQueued) (kinds lots : List ℕ) (table : Table) (cpu vtime : 
         λ i. let one : Queued = record (same i) { rank = fair i } in one
 
     -- what is left while it is out
-    module _ (mid : RunQueued) (found : Bool) (has : found ≡ fin.contains_key run.tasks (seat_of queued)) (tasks : mid.tasks ≡ fin.remove run.tasks (seat_of queued))
-        (cookies : mid.cookies ≡ cond (queued.cookie == 0) run.cookies (fin.remove run.cookies (spot_of queued))) (spare : mid.spare ≡ run.spare + cond found 1 0) where
-      one_more : mid.spare ≡ run.spare + 1
-      one_more =
-          spare
-          ∙ ap (λ b. run.spare + cond b 1 0)
-          (has
-          ∙ ap (λ (queued : Queued). fin.contains_key run.tasks (seat_of queued)) same
-          ∙ ap (λ (seats : Seats). fin.contains_key seats (seat_of (queued_of task))) asks.there.holds.trees.seats
-          ∙ own_seat (queued_of task) all rest split apart)
+    abbrev mid : RunQueued
+    mid = record { tasks = fin.remove run.tasks (seat_of queued); cookies = without queued run.cookies; spare = run.spare + 1 }
 
-      left : Holds mid table.limit rest
-      left =
-          Holds-take (queued_of task) all rest split apart run mid table.limit asks.there.holds.trees
-          (tasks ∙ ap (λ (queued : Queued). fin.remove run.tasks (seat_of queued)) same)
-          (cookies ∙ ap (λ (queued : Queued). cond (queued.cookie == 0) run.cookies (fin.remove run.cookies (spot_of queued))) same)
-          one_more
+    left : Holds mid table.limit rest
+    left =
+        Holds-take (queued_of task) all rest split apart run mid table.limit asks.there.holds.trees
+        (ap (λ (queued : Queued). fin.remove run.tasks (seat_of queued)) same)
+        (ap (λ (queued : Queued). without queued run.cookies) same)
+        refl
 
-      free : (later : Queued) → later ≡ queued_of now → fin.get mid.tasks (seat_of later) ≡ None
-      free later is =
-          ap (λ (queued : Queued). fin.get mid.tasks (seat_of queued)) is
-          ∙ ap (λ (seats : Seats). fin.get seats (seat_of (queued_of now))) left.seats
-          ∙ free_seat (queued_of now) then rest split_now apart
+    free : (later : Queued) → later ≡ queued_of now → fin.get mid.tasks (seat_of later) ≡ None
+    free later is =
+        ap (λ (queued : Queued). fin.get mid.tasks (seat_of queued)) is
+        ∙ ap (λ (seats : Seats). fin.get seats (seat_of (queued_of now))) left.seats
+        ∙ free_seat (queued_of now) then rest split_now apart
 
-      again : (later : Queued) (new : RunQueued) → later ≡ queued_of now → new.tasks ≡ fin.insert mid.tasks (seat_of later) later.pid →
-          new.cookies ≡ cond (later.cookie == 0) mid.cookies (fin.insert mid.cookies (spot_of later) later.pid) → new.spare + 1 ≡ mid.spare →
-          Keeps new kinds lots table.limit then
-      again later new is put put_cookies less = record {
-        trees = Holds-put (queued_of now) then rest split_now apart mid new table.limit left
-            (put ∙ ap (λ (queued : Queued). fin.insert mid.tasks (seat_of queued) queued.pid) is)
-            (put_cookies ∙ ap (λ (queued : Queued). cond (queued.cookie == 0) mid.cookies (fin.insert mid.cookies (spot_of queued) queued.pid)) is)
-            less;
-        by_kind = counted-stay kind_of (queued_of task) (queued_of now) all then rest split split_now kind 104 kinds asks.there.holds.by_kind;
-        by_lot = counted-stay lot_of (queued_of task) (queued_of now) all then rest split split_now refl 256 lots asks.there.holds.by_lot;
-      }
+    again : (later : Queued) (new : RunQueued) → later ≡ queued_of now → new.tasks ≡ fin.insert mid.tasks (seat_of later) later.pid →
+        new.cookies ≡ including later mid.cookies → new.spare ≡ run.spare → Keeps new kinds lots table.limit then
+    again later new is put put_cookies spare = record {
+      trees = Holds-put (queued_of now) then rest split_now apart mid new table.limit left
+          (put ∙ ap (λ (queued : Queued). fin.insert mid.tasks (seat_of queued) queued.pid) is)
+          (put_cookies ∙ ap (λ (queued : Queued). including queued mid.cookies) is)
+          (ap (λ n. n + 1) spare);
+      by_kind = counted-stay kind_of (queued_of task) (queued_of now) all then rest split split_now kind 104 kinds asks.there.holds.by_kind;
+      by_lot = counted-stay lot_of (queued_of task) (queued_of now) all then rest split split_now refl 256 lots asks.there.holds.by_lot;
+    }
 
-pub dequeue-requires-clause-ranked : goal.dequeue-requires-clause-ranked
-dequeue-requires-clause-ranked g c =
+pub set_fair_rank-requires-clause-fair : goal.set_fair_rank-requires-clause-fair
+set_fair_rank-requires-clause-fair g c =
     let old = c.args.self.now in
-    ranked old.run old.kinds old.lots c.args._table.now c.args._cpu c.args.vtime c.args.task.now c.requires c.queued_of-queued.result c.queued_of-queued.ensures
+    ranked_class old.run old.kinds old.lots c.args._table.now c.args._cpu c.args.vtime c.args.task.now c.requires c.queued_of.result c.queued_of.ensures
 
-pub dequeue-requires-clause-same : goal.dequeue-requires-clause-same
-dequeue-requires-clause-same g c =
+pub set_fair_rank-requires-clause-there : goal.set_fair_rank-requires-clause-there
+set_fair_rank-requires-clause-there g c =
     let old = c.args.self.now in
-    own old.run old.kinds old.lots c.args._table.now c.args._cpu c.args.vtime c.args.task.now c.requires c.queued_of-queued.result c.queued_of-queued.ensures
+    there old.run old.kinds old.lots c.args._table.now c.args._cpu c.args.vtime c.args.task.now c.requires c.queued_of.result c.queued_of.ensures
 
-pub dequeue-requires-clause-cookie : goal.dequeue-requires-clause-cookie
-dequeue-requires-clause-cookie g c =
+pub set_fair_rank-requires-clause-entered : goal.set_fair_rank-requires-clause-entered
+set_fair_rank-requires-clause-entered g c =
     let old = c.args.self.now in
-    cookie_is old.run old.kinds old.lots c.args._table.now c.args._cpu c.args.vtime c.args.task.now c.requires c.queued_of-queued.result c.queued_of-queued.ensures
+    entered old.run old.kinds old.lots c.args._table.now c.args._cpu c.args.vtime c.args.task.now c.requires c.queued_of.result c.queued_of.ensures
 
-pub enqueue-requires-clause-ranked : goal.enqueue-requires-clause-ranked
-enqueue-requires-clause-ranked g c =
+pub set_fair_rank-requires-clause-cookie : goal.set_fair_rank-requires-clause-cookie
+set_fair_rank-requires-clause-cookie g c =
     let old = c.args.self.now in
-    let is = later_is old.run old.kinds old.lots c.args._table.now c.args._cpu c.args.vtime c.args.task.now c.requires c.queued_of-queued.result c.queued_of-queued.ensures
-    c.rank.result (c.rank.ensures (pos 0) 0) in
-    let later : Task = record c.args.task.now { vtime = c.args.vtime } in
-    subst IsRanked (sym is) (is_ranked later)
+    cookie_is old.run old.kinds old.lots c.args._table.now c.args._cpu c.args.vtime c.args.task.now c.requires c.queued_of.result c.queued_of.ensures
 
-pub enqueue-requires-clause-spare : goal.enqueue-requires-clause-spare
-enqueue-requires-clause-spare g c =
-    let old = c.args.self.now in
-    let more = one_more old.run old.kinds old.lots c.args._table.now c.args._cpu c.args.vtime c.args.task.now c.requires c.queued_of-queued.result c.queued_of-queued.ensures
-    c.dequeue.new.self c.dequeue.result c.dequeue.ensures.found c.dequeue.ensures.tasks c.dequeue.ensures.cookies c.dequeue.ensures.spare in
-    omega (arith, more)
-
-pub enqueue-requires-clause-free : goal.enqueue-requires-clause-free
-enqueue-requires-clause-free g c =
+pub set_fair_rank-requires-clause-free : goal.set_fair_rank-requires-clause-free
+set_fair_rank-requires-clause-free g c =
     let old = c.args.self.now in
     let table = c.args._table.now in
-    let queued = c.queued_of-queued.result in
-    let same = c.queued_of-queued.ensures in
+    let queued = c.queued_of.result in
+    let same = c.queued_of.ensures in
     let is = later_is old.run old.kinds old.lots table c.args._cpu c.args.vtime c.args.task.now c.requires queued same c.rank.result (c.rank.ensures (pos 0) 0) in
-    free old.run old.kinds old.lots table c.args._cpu c.args.vtime c.args.task.now c.requires queued same
-    c.dequeue.new.self c.dequeue.result c.dequeue.ensures.found c.dequeue.ensures.tasks c.dequeue.ensures.cookies c.dequeue.ensures.spare _ is
+    free old.run old.kinds old.lots table c.args._cpu c.args.vtime c.args.task.now c.requires queued same _ is
 
 pub returns-clause-holds : goal.returns-clause-holds
 returns-clause-holds g c =
     let old = c.args.self.now in
     let table = c.args._table.now in
-    let queued = c.queued_of-queued.result in
-    let same = c.queued_of-queued.ensures in
+    let queued = c.queued_of.result in
+    let same = c.queued_of.ensures in
     let is = later_is old.run old.kinds old.lots table c.args._cpu c.args.vtime c.args.task.now c.requires queued same c.rank.result (c.rank.ensures (pos 0) 0) in
     again old.run old.kinds old.lots table c.args._cpu c.args.vtime c.args.task.now c.requires queued same
-    c.dequeue.new.self c.dequeue.result c.dequeue.ensures.found c.dequeue.ensures.tasks c.dequeue.ensures.cookies c.dequeue.ensures.spare
-    _ c.enqueue.new.self is c.enqueue.ensures.tasks c.enqueue.ensures.cookies c.enqueue.ensures.spare
+    _ c.set_fair_rank.new.self is c.set_fair_rank.ensures.tasks c.set_fair_rank.ensures.cookies c.set_fair_rank.ensures.spare
 
 pub returns-clause-counted : goal.returns-clause-counted
 returns-clause-counted g c =
@@ -171,12 +159,13 @@ returns-clause-counted g c =
     let cpu = c.args._cpu in
     let vtime = c.args.vtime in
     let task = c.args.task.now in
-    let gone = left old.run old.kinds old.lots table cpu vtime task c.requires c.queued_of-queued.result c.queued_of-queued.ensures
-    c.dequeue.new.self c.dequeue.result c.dequeue.ensures.found c.dequeue.ensures.tasks c.dequeue.ensures.cookies c.dequeue.ensures.spare in
+    let queued = c.queued_of.result in
+    let same = c.queued_of.ensures in
+    let out = mid old.run old.kinds old.lots table cpu vtime task c.requires queued same in
+    let gone = left old.run old.kinds old.lots table cpu vtime task c.requires queued same in
     omega (
       arith,
-      c.dequeue.ensures.counted,
-      c.enqueue.ensures.counted,
+      c.set_fair_rank.ensures.counted,
       few_of_all old.run table.limit table.tasks cpu c.requires.there.holds.trees,
-      few_of_others c.dequeue.new.self table.limit table.tasks cpu (queued_of task) _ (split old.run old.kinds old.lots table cpu vtime task c.requires) gone,
+      few_of_others out table.limit table.tasks cpu (queued_of task) _ (split old.run old.kinds old.lots table cpu vtime task c.requires) gone,
     )
