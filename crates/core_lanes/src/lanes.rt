@@ -3,9 +3,11 @@
 ghost use Rattle.std.specs.Prelude.{◌≡◌, ◌≢◌, ℕ, [], ◌+◌, ◌^◌, ◌<◌, ◌≤◌, length, map, find, is_some, All, Some, IfOk, IfSome, IsSomeAnd, option_copied, slice_get, IsPermutation, IsTrue, if◌then◌else◌};
 ghost use Rattle.std.specs.Ordering.{nat_cmp};
 ghost use Rattle.std.specs.List.Sorted.{IsSortedByKey};
+ghost use Rattle.std.specs.Option.{option_map};
 ghost use Rattle.cs_types.specs.declared.task.Task.{Task as SomeTask};
 ghost use Rattle.cs_types.specs.Room.{has_pid, is_online, running_on, with_task, flag};
 ghost use Rattle.cs_types.specs.Order.{is_fair};
+ghost use Rattle.cs_types.specs.Queue.{queued_of};
 ghost use Rattle.cs_types.specs.Selection.{first_on};
 ghost use Rattle.cs_types.specs.Step.{run_idle};
 ghost use Rattle.cs_types.specs.Steal.{set_place};
@@ -16,7 +18,7 @@ ghost use Rattle.core_lanes.specs.Queued.{IsOf, queued_among, queued_at, mover_o
 use crate::lane::Lane;
 use crate::order::is_alike;
 use crate::queue::{Movers, SiblingQueue};
-use cs_types::{Cookie, Cpu, OutOfMemory, Pid, Steps, Task};
+use cs_types::{Cookie, Cpu, OutOfMemory, Pid, Queued, Steps, Task};
 use forceidle_account::ForceIdle;
 use std::alloc::Global;
 use std::sync::ledger::Ledger;
@@ -107,16 +109,16 @@ impl<Q: SiblingQueue> Core<Q> {
         task_of(table, self.lanes[cpu as usize].run?)
     }
 
-    /// The first task queued on a sibling, none for idle (`pick_task`).
+    /// The first task queued on a sibling, as its queue has it, none for idle (`pick_task`).
     #[inline(always)]
     pub fn first_on<L: Ledger>(
         &self,
         table: &TaskTable,
         cpu: Cpu,
         steps: &mut Steps<L>,
-    ) -> Option<Task>
+    ) -> Option<Queued>
         requires { AgreesAt cpu (self.now, table.now) }
-        ensures first { (beside : Beside) → result ≡ first_on (room_of beside (self.now, table.now)) cpu }
+        ensures first { (beside : Beside) → result ≡ option_map queued_of (first_on (room_of beside (self.now, table.now)) cpu) }
         ensures counted { steps.new ≤ steps.old + Q.most_compared (length (queued_among table.now.tasks cpu)) }
     {
         self.lanes[cpu as usize].queue.first(table, cpu, steps)

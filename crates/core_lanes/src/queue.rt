@@ -1,14 +1,16 @@
 //! What a sibling's queue is asked. It is a trait, so that one text of the events serves every kind of queue.
 
 ghost use Rattle.std.specs.Prelude.{◌≡◌, ◌≢◌, ◌==◌, ◌&&◌, ℕ, ◌+◌, ◌≤◌, List, [], ◌++◌, length, map, IfOk, IsPermutation};
-ghost use Rattle.cs_types.specs.declared.queue.Queued.{Queued};
+ghost use Rattle.std.specs.Option.{option_map};
+ghost use Rattle.cs_types.specs.declared.queue.Queued.{Queued as SomeQueued};
 ghost use Rattle.cs_types.specs.Order.{first_of};
+ghost use Rattle.cs_types.specs.Queue.{queued_of};
 ghost use Rattle.cs_types.specs.Scenario.{IsPolicy};
 ghost use Rattle.core_lanes.specs.Queued.{queued_among, queued_at, mover_of, others, given_cookie, given_vtime, IsOf, IsQueuedOn, IsFairOn, MayBePut, with_cookie, behind, smallest_vtime, has_peer, HavePolicies};
 ghost use Rattle.task_table.specs.Table.{IsSound as IsTable};
 
 use arrayvec::ArrayVec;
-use cs_types::{Cookie, Cpu, OutOfMemory, Pid, Steps, Task};
+use cs_types::{Cookie, Cpu, OutOfMemory, Pid, Queued, Steps, Task};
 use std::alloc::Global;
 use std::sync::ledger::Ledger;
 use task_table::TaskTable;
@@ -25,7 +27,7 @@ pub type Movers = ArrayVec<(u64, Pid), MOST_TASKS>;
 /// most so many as the queue says of its number of tasks.
 pub trait SiblingQueue: Drop {
     /// That it holds these tasks, and can take this number in all.
-    ghost holds: { Self → ℕ → List Queued → Type 0 };
+    ghost holds: { Self → ℕ → List SomeQueued → Type 0 };
 
     /// The most comparisons of one call where so many tasks are queued.
     ghost most_compared: { ℕ → ℕ };
@@ -83,10 +85,10 @@ pub trait SiblingQueue: Drop {
         ensures told { IsPermutation (movers.old.items ++ map mover_of (queued_among table.now.tasks cpu)) movers.new.items };
 
     /// The first task, `None` where there is none (`pick_task`).
-    fn first<L: Ledger>(&self, table: &TaskTable, cpu: Cpu, steps: &mut Steps<L>) -> Option<Task>
+    fn first<L: Ledger>(&self, table: &TaskTable, cpu: Cpu, steps: &mut Steps<L>) -> Option<Queued>
         requires policies { HavePolicies table.now.tasks }
         requires holds { holds self.now table.now.limit (queued_at table.now.tasks cpu) }
-        ensures first { result ≡ first_of (queued_among table.now.tasks cpu) }
+        ensures first { result ≡ option_map queued_of (first_of (queued_among table.now.tasks cpu)) }
         ensures counted { steps.new ≤ steps.old + most_compared (length (queued_among table.now.tasks cpu)) };
 
     /// The first task with the cookie, which is not 0 (`sched_core_find`).

@@ -12,15 +12,16 @@ use Rattle.core_pick.specs.declared.choice.Counts.{Counts}
 use Rattle.core_pick.specs.declared.lead.First.{First}
 use Rattle.cs_types.specs.declared.task.Task.{Task}
 
--- The place of a sibling's first task among those of its class, the smaller the higher: its rank. Of a fair one the
--- snapshot of the sibling is taken off, and a number that no snapshot comes to is added before, so that nothing is below 0.
-abbrev pub place_of : ℕ → Option Task → ℕ
-place_of snapshot first = if class_of_first first == fair_class then rank_of_first first + 2 ^ 100 - snapshot else rank_of_first first
+-- The place of a sibling's first task among those of its class, by that and its rank, the smaller the higher: its rank. Of a
+-- fair one the snapshot of the sibling is taken off, and a number that no snapshot comes to is added before, so that nothing
+-- is below 0.
+abbrev pub place_of : ℕ → ℕ → ℕ → ℕ
+place_of snapshot class rank = if class == fair_class then rank + 2 ^ 100 - snapshot else rank
 
 -- what a selection keeps of the first task of a sibling with this snapshot
 abbrev pub kept_of : ℕ → Option Task → First
 kept_of snapshot first =
-    record { place = place_of snapshot first; cookie = cookie_of first; pid = unwrap_or (pid_of first) 0; class = class_of_first first }
+    record { place = place_of snapshot (class_of_first first) (rank_of_first first); cookie = cookie_of first; pid = unwrap_or (pid_of first) 0; class = class_of_first first }
 
 -- the task of which this is kept, none for idle
 abbrev pub run_of : First → Option ℕ

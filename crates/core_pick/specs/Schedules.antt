@@ -1,10 +1,10 @@
 -- Schedules: what a charge and a schedule ask of a core and its table, and what they make of them.
 use Rattle.std.specs.Prelude.{◌≡◌, ℕ, ◌+◌, ◌*◌, ◌^◌, ◌≤◌, ◌<◌, ◌==◌, ◌&&◌, not, Bool, List, length, Option, IfSome, unwrap_or, slice_index_or}
 use Rattle.cs_types.specs.declared.reply.Pick.{Pick}
-use Rattle.cs_types.specs.declared.task.Task.{Task}
+use Rattle.cs_types.specs.declared.queue.Queued.{Queued}
 use Rattle.cs_types.specs.Room.{RoomState}
 use Rattle.cs_types.specs.Selection.{Scheduled, cookie_of, lead_from, pid_of, choice, forced_count, select_for}
-use Rattle.sibling_priority.specs.Offers.{IsFirst}
+use Rattle.cs_types.specs.Order.{fair_class}
 use Rattle.task_table.specs.Table.{Table, total_in}
 use Rattle.core_lanes.specs.declared.queue.SiblingQueue.{Ghosts}
 use Rattle.core_lanes.specs.declared.lanes.Core.{Core}
@@ -42,9 +42,8 @@ pub record MayAsk {Q : Type 0} {g : Ghosts Q} (sibling : ℕ) (both : Core Q g �
   pub low : HasLowTimes both
 
 -- what is kept of this first task may be compared, under the snapshot of its sibling
-pub record MayKeep (snapshot : ℕ) (first : Option Task) : Type 0 where
-  pub policy : IsFirst first
-  pub vtime : IfSome first (λ task. task.vtime < 2 ^ 100)
+pub record MayKeep (snapshot : ℕ) (first : Option Queued) : Type 0 where
+  pub vtime : IfSome first (λ queued. queued.class ≡ fair_class → queued.rank < 2 ^ 100)
   pub snapshot_low : snapshot < 2 ^ 100
 
 -- the sibling may pick anew

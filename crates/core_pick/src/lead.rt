@@ -1,8 +1,10 @@
 //! The lead of first tasks. It is a file of its own since it alone knows what a task offers.
 
-ghost use Rattle.std.specs.Prelude.{◌≡◌, ℕ, ◌<◌, ◌≤◌, ◌==◌, ◌++◌, length, true, Some, IfSome, List, option_copied};
-ghost use Rattle.std.specs.Option.{option_map_or};
+ghost use Rattle.std.specs.Prelude.{◌≡◌, ℕ, ◌<◌, ◌≤◌, ◌==◌, ◌++◌, length, true, Option, Some, IfSome, List, option_copied};
+ghost use Rattle.std.specs.Option.{option_map, option_map_or};
+ghost use Rattle.cs_types.specs.declared.task.Task.{Task};
 ghost use Rattle.cs_types.specs.Order.{fair_class, foremost};
+ghost use Rattle.cs_types.specs.Queue.{queued_of};
 ghost use Rattle.task_table.specs.Table.{Table};
 ghost use Rattle.core_lanes.specs.Lanes.{Beside, room_of};
 ghost use Rattle.core_pick.specs.Choice.{place_of, kept_of, run_of, offer_of_kept, is_ahead, online_between, AreInRange, AreFirsts};
@@ -11,7 +13,7 @@ ghost use Rattle.core_pick.specs.Schedules.{MayKeep};
 use crate::choice::MOST_SIBLINGS;
 use arrayvec::ArrayVec;
 use core_lanes::{Core, SiblingQueue};
-use cs_types::{Cookie, Cpu, Pid, Policy, Task};
+use cs_types::{Cookie, Cpu, Pid, Queued};
 use sibling_priority::{FAIR, IDLE, Offer, higher};
 
 /// Above each snapshot, in ns: it is added before one is taken off.
@@ -71,24 +73,22 @@ pub type Firsts = ArrayVec<First, MOST_SIBLINGS>;
 
 /// The place of a first task within its class, under the snapshot of its sibling.
 #[inline(always)]
-fn place_of(task: &Task, snapshot: u128) -> u128
-    requires { MayKeep snapshot (Some task.now) }
-    ensures { result ≡ place_of snapshot (Some task.now) }
+fn place_of(first: &Queued, snapshot: u128) -> u128
+    requires { MayKeep snapshot (Some first.now) }
+    ensures { result ≡ place_of snapshot first.now.class first.now.rank }
 {
-    match task.spec.policy {
-        Policy::Stop => 0,
-        Policy::Deadline(_) => u128::from(task.deadline),
-        Policy::Fifo(priority) => u128::from(99 - priority),
-        Policy::Rr(priority) => u128::from(99 - priority),
-        Policy::Fair(_) => task.vtime + ABOVE_SNAPSHOTS - snapshot,
+    if first.class == FAIR {
+        first.rank + ABOVE_SNAPSHOTS - snapshot
+    } else {
+        first.rank
     }
 }
 
 /// What is kept of this first task, under the snapshot of its sibling.
 #[inline(always)]
-pub fn kept_of(first: Option<&Task>, snapshot: u128) -> First
+pub fn kept_of(first: Option<&Queued>, snapshot: u128) -> First
     requires { MayKeep snapshot (option_copied first) }
-    ensures { result ≡ kept_of snapshot (option_copied first.entry) }
+    ensures { (task : Option Task) → option_copied first.entry ≡ option_map queued_of task → result ≡ kept_of snapshot task }
 {
     match first {
         None => First {
@@ -97,11 +97,11 @@ pub fn kept_of(first: Option<&Task>, snapshot: u128) -> First
             pid: 0,
             class: IDLE,
         },
-        Some(task) => First {
-            place: place_of(task, snapshot),
-            cookie: task.cookie,
-            pid: task.spec.pid,
-            class: task.spec.policy.class().number(),
+        Some(queued) => First {
+            place: place_of(queued, snapshot),
+            cookie: queued.cookie,
+            pid: queued.pid,
+            class: queued.class,
         },
     }
 }

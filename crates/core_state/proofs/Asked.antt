@@ -6,13 +6,13 @@ use Rattle.std.specs.Option.{option_map}
 use Rattle.std.specs.Cmp.{tied_itself, nat_cmp_total}
 use Rattle.std.specs.Ordering.{ordering_then, nat_cmp, is_lt}
 use Rattle.std.specs.declared.cmp.Ordering.{Ordering}
-use Rattle.std.specs.FinMap.{entries, from_entries}
+use Rattle.std.specs.FinMap.{entries}
 use Rattle.std.proofs.lemmas.Bool.{cases_Bool, cond-true, cond-false, ne_eqb, eqb-true, and_parts}
 use Rattle.std.proofs.lemmas.List.Elements.{All-filter, All-weaker, recursion_from_All}
 use Rattle.cs_types.specs.declared.task.Task.{Task}
 use Rattle.cs_types.specs.declared.queue.Queued.{Queued}
 use Rattle.cs_types.specs.Order.{priority_of, goes_before, first_of, foremost}
-use Rattle.cs_types.specs.Queue.{Seat, seat_cmp, Spot, spot_cmp, seat_of, spot_of, queued_in, queued_of, queue_of, first_with, next_with}
+use Rattle.cs_types.specs.Queue.{Seat, seat_cmp, Spot, spot_cmp, seat_of, spot_of, queued_in, queued_of, first_with, next_with}
 use Rattle.cs_types.specs.Room.{has_pid}
 use Rattle.cs_types.specs.Scenario.{IsPolicy}
 use Rattle.cs_types.proofs.Queues.{seat_total, seat_cmp-IsAntisymmetric, spot_total, spot_cmp-IsAntisymmetric, precedes, foremost-map, foremost_alike, goes_before-seats}
@@ -156,20 +156,12 @@ pub found_first : (tasks : List Task) (cpu : ℕ) (q : Task → Bool) → Rises 
 found_first tasks cpu q rises =
     All-find (IsOf tasks) _ (filter q (queued_among tasks cpu)) (All-filter q (IsOf tasks) (queued_among tasks cpu) (All-filter (is_on cpu) (IsOf tasks) tasks (each_is_of tasks rises)))
 
--- and so is the first of all there
-pub found_any : (tasks : List Task) (cpu : ℕ) → Rises tasks → IfSome (first_of (queued_among tasks cpu)) (IsOf tasks)
-found_any tasks cpu rises = All-find (IsOf tasks) _ (queued_among tasks cpu) (All-filter (is_on cpu) (IsOf tasks) tasks (each_is_of tasks rises))
-
 -- and of those behind a task
 pub found_behind : (tasks : List Task) (cpu : ℕ) (task : Task) → Rises tasks → IfSome (first_of (behind task (with_cookie task.cookie (queued_among tasks cpu)))) (IsOf tasks)
 found_behind tasks cpu task rises =
     All-find (IsOf tasks) _ (behind task (with_cookie task.cookie (queued_among tasks cpu)))
     (All-filter (goes_before task) (IsOf tasks) (with_cookie task.cookie (queued_among tasks cpu))
     (All-filter (λ t. t.cookie == task.cookie) (IsOf tasks) (queued_among tasks cpu) (All-filter (is_on cpu) (IsOf tasks) tasks (each_is_of tasks rises))))
-
--- the seats of tasks are their queue
-pub seated_tasks : (tasks : List Task) → seated (map queued_of tasks) ≡ queue_of tasks
-seated_tasks tasks = ap (λ (es : List (Seat × ℕ)). from_entries es) (map_twice (λ (t : Queued). (seat_of t, t.pid)) queued_of tasks)
 
 -- what has no place in a queue is none
 pub none_of : (first : Option Task) → None ≡ option_map queued_of first → None ≡ first

@@ -8,3 +8,4 @@ pub mod Vtimes
 pub mod Counts
 pub mod Crosses
 pub mod Compared
+pub mod Firsts

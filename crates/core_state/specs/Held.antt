@@ -1,9 +1,14 @@
 -- Held: when a run queue holds some tasks.
-use Rattle.std.specs.Prelude.{◌≡◌, ◌≢◌, ℕ, ◌+◌, ◌≤◌, ◌==◌, Bool, not, List, [], ◌∷◌, length, map, filter}
+use Rattle.std.specs.Prelude.{◌≡◌, ◌≢◌, ℕ, ◌+◌, ◌≤◌, ◌==◌, Bool, false, not, if◌then◌else◌, Option, Some, List, [], ◌∷◌, length, map, filter, find}
 use Rattle.std.specs.List.{AllByRecursion}
 use Rattle.std.specs.FinMap.{from_entries}
+use Rattle.std.specs.Option.{option_map, option_map_or}
+use Rattle.std.specs.Ordering.{is_lt}
 use Rattle.cs_types.specs.declared.queue.Queued.{Queued}
-use Rattle.cs_types.specs.Queue.{Seats, Spots, RunQueued, seat_of, spot_of}
+use Rattle.cs_types.specs.declared.task.Task.{Task}
+use Rattle.cs_types.specs.Order.{foremost}
+use Rattle.cs_types.specs.Queue.{Seats, Spots, RunQueued, seat_cmp, seat_of, spot_of, queued_of}
+use Rattle.cs_types.specs.Room.{has_pid}
 use Rattle.core_state.specs.Kinds.{kind_of, lot_of, AreCounted}
 
 -- the tasks by their seats
@@ -34,8 +39,33 @@ pub record Holds (run : RunQueued) (most : ℕ) (tasks : List Queued) : Type 0 w
   pub distinct : AreDistinct tasks
   pub room : most ≤ run.spare + length tasks
 
--- a run queue holds the tasks, and these are their counts by kind and by lot
-pub record Keeps (run : RunQueued) (kinds lots : List ℕ) (most : ℕ) (tasks : List Queued) : Type 0 where
+-- whether a task stands before another, by their seats
+abbrev pub is_before : Queued → Queued → Bool
+is_before task other = is_lt (seat_cmp (seat_of task) (seat_of other))
+
+-- the earlier of a task and another, if there is one
+abbrev pub earlier : Queued → Option Queued → Queued
+earlier task other = option_map_or (λ kept. if is_before kept task then kept else task) other task
+
+-- the first task of a list
+abbrev pub first_among : List Queued → Option Queued
+first_among tasks = foremost is_before tasks
+
+-- whether the task, if there is one, has this pid
+abbrev pub is_of : ℕ → Option Queued → Bool
+is_of pid first = option_map_or (λ task. task.pid == pid) first false
+
+-- the task with this cookie, where it has this pid
+abbrev pub given_cookie : ℕ → ℕ → Queued → Queued
+given_cookie pid cookie task = if task.pid == pid then record task { cookie = cookie } else task
+
+-- a table has this as a queued task
+abbrev pub IsIn : List Task → Queued → Type 0
+IsIn tasks queued = option_map queued_of (find (has_pid queued.pid) tasks) ≡ Some queued
+
+-- a run queue holds the tasks, this is the first of them, and these are their counts by kind and by lot
+pub record Keeps (run : RunQueued) (first : Option Queued) (kinds lots : List ℕ) (most : ℕ) (tasks : List Queued) : Type 0 where
   pub trees : Holds run most tasks
+  pub first_is : first ≡ first_among tasks
   pub by_kind : AreCounted kind_of 104 kinds tasks
   pub by_lot : AreCounted lot_of 256 lots tasks

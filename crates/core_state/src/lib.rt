@@ -1,6 +1,7 @@
 //! The fast machine: the queues of its siblings are ordered trees.
 #![tactic(auto)]
 
+mod first;
 mod queue;
 mod room;
 mod task;

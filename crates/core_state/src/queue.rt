@@ -1,19 +1,22 @@
 //! The queue with trees: each question is answered from the ordered trees of a run queue, and the table tells the
 //! task of a pid.
 
-use crate::task::{KINDS, LOTS, kind_of, lot_of, queued_of};
-use core_lanes::{Movers, SiblingQueue, is_on, task_of};
-use cs_types::{Cookie, Cpu, OutOfMemory, Steps, Task};
+use crate::first::{enter, find_first, give_cookie, is_of};
+use crate::task::{KINDS, LOTS, kind_of, lot_of};
+use core_lanes::{Movers, SiblingQueue, is_on, queued_of, task_of};
+use cs_types::{Cookie, Cpu, OutOfMemory, Queued, Steps, Task};
 use run_queue::RunQueue;
 use std::alloc::Global;
 use std::sync::ledger::Ledger;
 use task_table::TaskTable;
 
-/// The queued tasks of a sibling in ordered trees, and how many there are of each kind and with cookies of each lot.
-/// A cookie of which no task has the lot is not looked for.
+/// The queued tasks of a sibling in ordered trees, the first of them, and how many there are of each kind and with
+/// cookies of each lot. A cookie of which no task has the lot is not looked for.
 #[derive(Drop)]
 pub struct TreeQueue {
     run: RunQueue,
+    /// The first task, none where there is no task.
+    first: Option<Queued>,
     kinds: [u16; KINDS],
     lots: [u16; LOTS],
 }
@@ -24,7 +27,7 @@ impl SiblingQueue for TreeQueue {
     ghost use Rattle.cs_types.proofs.Comparisons.{most_comparisons-le};
     ghost use Rattle.std.proofs.Math.Nat.{mul-le-mul_left};
 
-    ghost holds = { λ queue most tasks. Keeps queue.run queue.kinds queue.lots most tasks };
+    ghost holds = { λ queue most tasks. Keeps queue.run queue.first queue.kinds queue.lots most tasks };
 
     ghost most_compared = { most_of_call };
 
@@ -33,27 +36,27 @@ impl SiblingQueue for TreeQueue {
         run.reserve(u32::from(most))?;
         Ok(TreeQueue {
             run,
+            first: None,
             kinds: [0; KINDS],
             lots: [0; LOTS],
         })
     }
 
     fn put<L: Ledger>(&mut self, _table: &TaskTable, _cpu: Cpu, task: &Task, steps: &mut Steps<L>) {
-        self.run.enqueue(queued_of(task), steps);
+        let queued = queued_of(task);
+        enter(&mut self.first, queued, steps);
+        self.run.enqueue(queued, steps);
         self.kinds[kind_of(task)] += 1;
         self.lots[lot_of(task.cookie)] += 1;
     }
 
-    fn take<L: Ledger>(
-        &mut self,
-        _table: &TaskTable,
-        _cpu: Cpu,
-        task: &Task,
-        steps: &mut Steps<L>,
-    ) {
+    fn take<L: Ledger>(&mut self, table: &TaskTable, _cpu: Cpu, task: &Task, steps: &mut Steps<L>) {
         self.run.dequeue(&queued_of(task), steps);
         self.kinds[kind_of(task)] -= 1;
         self.lots[lot_of(task.cookie)] -= 1;
+        if is_of(&self.first, task.spec.pid) {
+            self.first = find_first(&self.run, table, steps);
+        }
     }
 
     fn set_cookie<L: Ledger>(
@@ -65,6 +68,7 @@ impl SiblingQueue for TreeQueue {
         steps: &mut Steps<L>,
     ) {
         self.run.set_cookie(&queued_of(task), cookie, steps);
+        give_cookie(&mut self.first, task.spec.pid, cookie);
         self.lots[lot_of(task.cookie)] -= 1;
         self.lots[lot_of(cookie)] += 1;
     }
@@ -84,13 +88,19 @@ impl SiblingQueue for TreeQueue {
 
     fn clear_into(&mut self, _table: &TaskTable, _cpu: Cpu, movers: &mut Movers) {
         self.run.clear_into(movers);
+        self.first = None;
         self.kinds = [0; KINDS];
         self.lots = [0; LOTS];
     }
 
     #[inline(always)]
-    fn first<L: Ledger>(&self, table: &TaskTable, _cpu: Cpu, steps: &mut Steps<L>) -> Option<Task> {
-        task_of(table, self.run.first(steps)?)
+    fn first<L: Ledger>(
+        &self,
+        _table: &TaskTable,
+        _cpu: Cpu,
+        _steps: &mut Steps<L>,
+    ) -> Option<Queued> {
+        self.first
     }
 
     #[inline(always)]

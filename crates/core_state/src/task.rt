@@ -1,10 +1,10 @@
-//! A task as a queue takes it. It is apart, since it alone knows the ranks of the classes.
+//! What a queue counts its tasks by: the kind of a task, and the lot of its cookie.
 
 ghost use Rattle.std.specs.Prelude.{◌≡◌, ◌%◌, ◌<◌};
-ghost use Rattle.cs_types.specs.Queue.{rank_by, queued_of};
+ghost use Rattle.cs_types.specs.Queue.{queued_of};
 ghost use Rattle.core_state.specs.Kinds.{kind_of};
 
-use cs_types::{Cookie, Policy, Queued, Task};
+use cs_types::{Cookie, Policy, Task};
 
 /// The number of kinds: 4 classes, and 100 ranks of real-time tasks.
 pub const KINDS: usize = 104;
@@ -34,29 +34,4 @@ pub fn lot_of(cookie: Cookie) -> usize
     ensures few { result < 256 }
 {
     (cookie % 256) as usize
-}
-
-/// The rank of the task in its class.
-fn rank_of(task: &Task) -> u128
-    ensures { result ≡ rank_by task.now.spec.policy task.now.deadline task.now.vtime }
-{
-    match task.spec.policy {
-        Policy::Stop => 0,
-        Policy::Deadline(_) => deadline_queue::rank(task.deadline),
-        Policy::Fifo(priority) | Policy::Rr(priority) => rt_queue::rank(priority),
-        Policy::Fair(_) => fair_queue::rank(task.vtime),
-    }
-}
-
-/// The task as a run queue takes it.
-pub fn queued_of(task: &Task) -> Queued
-    ensures { result ≡ queued_of task.now }
-{
-    Queued {
-        pid: task.spec.pid,
-        class: task.spec.policy.class().number(),
-        rank: rank_of(task),
-        stamp: task.stamp,
-        cookie: task.cookie,
-    }
 }

@@ -3,8 +3,8 @@
 ghost use Rattle.std.specs.Prelude.{◌≡◌, ◌==◌, ◌&&◌};
 ghost use Rattle.core_lanes.specs.Queued.{is_peer_of};
 
-use core_lanes::{Movers, SiblingQueue, goes_before, is_fair, is_on, priority_of};
-use cs_types::{Cookie, Cpu, OutOfMemory, Steps, Task};
+use core_lanes::{Movers, SiblingQueue, goes_before, is_fair, is_on, priority_of, queued_of};
+use cs_types::{Cookie, Cpu, OutOfMemory, Queued, Steps, Task};
 use std::alloc::Global;
 use std::sync::ledger::Ledger;
 use task_table::TaskTable;
@@ -76,8 +76,13 @@ impl SiblingQueue for Walk {
         }
     }
 
-    fn first<L: Ledger>(&self, table: &TaskTable, cpu: Cpu, _steps: &mut Steps<L>) -> Option<Task> {
-        table
+    fn first<L: Ledger>(
+        &self,
+        table: &TaskTable,
+        cpu: Cpu,
+        _steps: &mut Steps<L>,
+    ) -> Option<Queued> {
+        let first = table
             .iter()
             .copied()
             .filter(|task| task.queued && task.home == cpu)
@@ -85,7 +90,8 @@ impl SiblingQueue for Walk {
                 task
             } else {
                 first
-            })
+            })?;
+        Some(queued_of(&first))
     }
 
     fn first_with<L: Ledger>(

@@ -2,3 +2,4 @@ mod Seats
 mod Runs
 mod Fair
 pub mod Ties
+pub mod Tops

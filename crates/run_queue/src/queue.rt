@@ -205,7 +205,9 @@ impl RunQueue {
         ensures model { (tasks : List Task) → self.now.tasks ≡ queue_of tasks →
             All (λ task. priority_of task.spec.policy ≤ 99) tasks →
             result ≡ option_map (λ task. task.spec.pid) (first_of tasks) }
-        ensures counted { steps.new ≤ steps.old + 4 * most_comparisons (map.len self.now.tasks) }
+
+        // Of the classes only that of the first task has one. In each other at most two comparisons tell so.
+        ensures counted { steps.new ≤ steps.old + most_comparisons (map.len self.now.tasks) + 6 }
     {
         self.classes.first(steps)
     }

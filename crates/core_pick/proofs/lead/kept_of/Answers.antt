@@ -1,15 +1,34 @@
-use Rattle.std.proofs.Common.{◌∙◌, ap, sym}
+use Rattle.std.proofs.Common.{◌≡◌, ℕ, None, Some, Option, refl, ap, sym, ◌∙◌}
 use Rattle.std.specs.Prelude.{option_copied}
+use Rattle.std.specs.Option.{option_map}
+use Rattle.cs_types.specs.declared.queue.Queued.{Queued}
+use Rattle.cs_types.specs.declared.task.Task.{Task}
+use Rattle.cs_types.specs.Queue.{queued_of}
 use Rattle.core_pick.specs.declared.lead.First.{First}
-use Rattle.core_pick.specs.Choice.{kept_of}
+use Rattle.core_pick.specs.Choice.{place_of, kept_of}
 use Rattle.core_pick.proofs.lead.kept_of.Goals as goal
+
+-- what is kept of idle
+kept_none : (snapshot : ℕ) (task : Option Task) → None ≡ option_map queued_of task → kept_of snapshot None ≡ kept_of snapshot task
+kept_none snapshot None is = refl
+kept_none snapshot (Some task) is = absurd cc
+
+-- and of a task, by what its queue has of it
+abbrev kept_by : ℕ → Queued → First
+kept_by snapshot queued = record { place = place_of snapshot queued.class queued.rank; cookie = queued.cookie; pid = queued.pid; class = queued.class }
+
+kept_some : (snapshot : ℕ) (queued : Queued) (task : Option Task) → Some queued ≡ option_map queued_of task → kept_by snapshot queued ≡ kept_of snapshot task
+kept_some snapshot queued None is = absurd cc
+kept_some snapshot queued (Some task) is = let same : queued ≡ queued_of task = cc in ap (kept_by snapshot) same
 
 pub place_of-requires : goal.place_of-requires
 place_of-requires c = rw c.in-Some.is at c.requires
 
+pub returns-in-None : goal.returns-in-None
+returns-in-None c task is = kept_none c.args.snapshot task (ap option_copied (sym c.in-None.is) ∙ is)
+
 pub returns-in-Some : goal.returns-in-Some
-returns-in-Some c =
-    let task = c.in-Some.task.now in
-    let class = c.number.ensures ∙ c.class.ensures in
-    (λ i. let kept : First = record { place = c.place_of.ensures i; cookie = task.cookie; pid = task.spec.pid; class = class i } in kept)
-    ∙ ap (λ first. kept_of c.args.snapshot (option_copied first)) (sym c.in-Some.is)
+returns-in-Some c task is =
+    let queued = c.in-Some.queued.now in
+    (λ i. record (kept_by c.args.snapshot queued) { place = c.place_of.ensures i })
+    ∙ kept_some c.args.snapshot queued task (ap option_copied (sym c.in-Some.is) ∙ is)

@@ -37,6 +37,7 @@ returns-clause-holds c =
         distinct = tt;
         room = omega (arith, trees.room, c.clear_into.ensures.spare, many);
       };
+      first_is = refl;
       by_kind = counted-none kind_of 104;
       by_lot = counted-none lot_of 256;
     }

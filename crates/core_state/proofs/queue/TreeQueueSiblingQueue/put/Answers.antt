@@ -1,10 +1,12 @@
-use Rattle.std.proofs.Common.{cond, ap, sym, ◌∙◌, subst, arith}
+use Rattle.std.proofs.Common.{Some, cond, ap, sym, ◌∙◌, subst, arith}
 use Rattle.std.specs.Prelude.{◌==◌}
 use Rattle.std.specs.FinMap as fin
 use Rattle.cs_types.specs.declared.queue.Queued.{Queued}
 use Rattle.cs_types.specs.Queue.{Seats, IsRanked, seat_of, spot_of, queued_of}
 use Rattle.core_lanes.specs.Queued.{queued_at, others}
 use Rattle.core_state.specs.Kinds.{kind_of, lot_of}
+use Rattle.core_state.specs.Held.{earlier}
+use Rattle.core_state.proofs.Firsts.{first-split}
 use Rattle.core_state.proofs.Tasks.{is_ranked}
 use Rattle.core_state.proofs.Splits.{length-split, split_at, few_queued, others_apart}
 use Rattle.core_state.proofs.Counts.{counted-put, few-put}
@@ -13,7 +15,7 @@ use Rattle.core_state.proofs.Compared.{few_of_others}
 use Rattle.core_state.proofs.queue.TreeQueueSiblingQueue.put.Goals as goal
 
 pub enqueue-requires-clause-ranked : goal.enqueue-requires-clause-ranked
-enqueue-requires-clause-ranked g c = subst IsRanked (sym c.queued_of.ensures) (is_ranked c.args.task.now)
+enqueue-requires-clause-ranked g c = subst IsRanked (sym c.queued_of-queued.ensures) (is_ranked c.args.task.now)
 
 pub enqueue-requires-clause-spare : goal.enqueue-requires-clause-spare
 enqueue-requires-clause-spare g c =
@@ -30,7 +32,7 @@ enqueue-requires-clause-free g c =
     let tasks = c.args._table.now.tasks in
     let all = queued_at tasks c.args._cpu in
     let rest = others task.spec.pid all in
-    ap (λ (queued : Queued). fin.get c.args.self.now.run.tasks (seat_of queued)) c.queued_of.ensures
+    ap (λ (queued : Queued). fin.get c.args.self.now.run.tasks (seat_of queued)) c.queued_of-queued.ensures
     ∙ ap (λ (seats : Seats). fin.get seats (seat_of (queued_of task))) c.requires.holds.trees.seats
     ∙ free_seat (queued_of task) all rest (split_at tasks task c.args._cpu c.requires.table.rising c.requires.there c.requires.queued c.requires.home)
     (others_apart tasks task c.args._cpu c.requires.table.rising c.requires.stamp)
@@ -47,10 +49,15 @@ returns-clause-holds g c =
           (split_at tasks task c.args._cpu c.requires.table.rising c.requires.there c.requires.queued c.requires.home)
           (others_apart tasks task c.args._cpu c.requires.table.rising c.requires.stamp)
           old c.enqueue.new.self c.args._table.now.limit c.requires.holds.trees
-          (c.enqueue.ensures.tasks ∙ ap (λ (queued : Queued). fin.insert old.tasks (seat_of queued) queued.pid) c.queued_of.ensures)
+          (c.enqueue.ensures.tasks ∙ ap (λ (queued : Queued). fin.insert old.tasks (seat_of queued) queued.pid) c.queued_of-queued.ensures)
           (c.enqueue.ensures.cookies
-          ∙ ap (λ (queued : Queued). cond (queued.cookie == 0) old.cookies (fin.insert old.cookies (spot_of queued) queued.pid)) c.queued_of.ensures)
+          ∙ ap (λ (queued : Queued). cond (queued.cookie == 0) old.cookies (fin.insert old.cookies (spot_of queued) queued.pid)) c.queued_of-queued.ensures)
           c.enqueue.ensures.spare;
+      first_is = c.enter.ensures.first
+          ∙ (λ i. Some (earlier (c.queued_of-queued.ensures i) (c.requires.holds.first_is i)))
+          ∙ sym (first-split (queued_of task) all rest
+          (split_at tasks task c.args._cpu c.requires.table.rising c.requires.there c.requires.queued c.requires.home)
+          (others_apart tasks task c.args._cpu c.requires.table.rising c.requires.stamp));
       by_kind = counted-put kind_of (queued_of task) all rest
           (split_at tasks task c.args._cpu c.requires.table.rising c.requires.there c.requires.queued c.requires.home)
           104 c.args.self.now.kinds c.kind_of.result c.kind_of.ensures.kind c.kind_of.ensures.few c.requires.holds.by_kind;
@@ -86,4 +93,4 @@ returns-clause-counted g c =
     let all = queued_at tasks c.args._cpu in
     let rest = others task.spec.pid all in
     let split = split_at tasks task c.args._cpu c.requires.table.rising c.requires.there c.requires.queued c.requires.home in
-    omega (arith, c.enqueue.ensures.counted, few_of_others c.args.self.now.run c.args._table.now.limit tasks c.args._cpu (queued_of task) rest split c.requires.holds.trees)
+    omega (arith, c.enter.ensures.counted, c.enqueue.ensures.counted, few_of_others c.args.self.now.run c.args._table.now.limit tasks c.args._cpu (queued_of task) rest split c.requires.holds.trees)

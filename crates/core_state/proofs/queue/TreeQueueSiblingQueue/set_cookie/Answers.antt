@@ -1,6 +1,8 @@
 use Rattle.std.proofs.Common.{◌≡◌, ℕ, ◌-◌, length, set, get_or, refl, ap, sym, ◌∙◌, subst, arith}
 use Rattle.std.specs.Prelude.{IfSome, IsTrue}
 use Rattle.std.specs.FinMap as fin
+use Rattle.std.specs.List.{AllByRecursion}
+use Rattle.std.specs.Option.{option_map}
 use Rattle.std.proofs.lemmas.List.{length-map}
 use Rattle.cs_types.specs.declared.queue.Queued.{Queued}
 use Rattle.cs_types.specs.declared.task.Task.{Task}
@@ -9,6 +11,9 @@ use Rattle.run_queue.specs.Run.{without, including}
 use Rattle.core_lanes.specs.Queued.{queued_at, given_cookie, others}
 use Rattle.core_lanes.proofs.Queues.{others-replaced}
 use Rattle.core_lanes.proofs.Replaced.{is_of, rises-replaced}
+use Rattle.core_state.specs.Held.{AreApart, first_among}
+use Rattle.core_state.specs.Held.{given_cookie as given_to}
+use Rattle.core_state.proofs.Firsts.{first-split, first_apart, first_given}
 use Rattle.core_state.specs.Kinds.{kind_of, lot_of}
 use Rattle.core_state.proofs.Tasks.{is_ranked}
 use Rattle.core_state.proofs.Splits.{IsSplit, split_at, few_queued}
@@ -68,12 +73,17 @@ returns-clause-holds g c =
     let split = split_at tasks task c.args._cpu c.requires.table.rising c.requires.there c.requires.queued c.requires.home in
     let split_now = subst (IsSplit (queued_of now) then) (others-replaced now tasks c.args._cpu)
     (split_at after now c.args._cpu (rises-replaced now tasks c.requires.table.rising) (is_of now task tasks c.requires.there) c.requires.queued c.requires.home) in
+    let apart = apart_others old c.args._table.now.limit (queued_of task) all rest split c.requires.holds.trees in
+    let apart_now : AllByRecursion (AreApart (queued_of now)) rest = apart in
     record {
-      trees = Holds-set_cookie (queued_of task) cookie all then rest split split_now
-          (apart_others old c.args._table.now.limit (queued_of task) all rest split c.requires.holds.trees)
+      trees = Holds-set_cookie (queued_of task) cookie all then rest split split_now apart
           old c.set_cookie.new.self c.args._table.now.limit c.requires.holds.trees c.set_cookie.ensures.tasks
           (c.set_cookie.ensures.cookies ∙ ap (λ (queued : Queued). including (record queued { cookie = cookie }) (without queued old.cookies)) c.queued_of.ensures)
           c.set_cookie.ensures.spare;
+      first_is = c.give_cookie.ensures
+          ∙ ap (option_map (given_to task.spec.pid cookie)) (c.requires.holds.first_is ∙ first-split (queued_of task) all rest split apart)
+          ∙ first_given (queued_of task) cookie (first_among rest) (first_apart (queued_of task) rest apart)
+          ∙ sym (first-split (queued_of now) then rest split_now apart_now);
       by_kind = counted-stay kind_of (queued_of task) (queued_of now) all then rest split split_now refl 104 c.args.self.now.kinds c.requires.holds.by_kind;
       by_lot = counted-put lot_of (queued_of now) then rest split_now 256 (set c.args.self.now.lots c.lot_of.result (get_or c.args.self.now.lots c.lot_of.result 0 - 1))
           c.lot_of-2.result c.lot_of-2.ensures.lot c.lot_of-2.ensures.few

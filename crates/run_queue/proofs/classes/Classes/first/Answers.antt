@@ -7,6 +7,7 @@ use Rattle.cs_types.specs.Queue.{top_of, Seats, queue_of}
 use Rattle.cs_types.proofs.Queues.{top_of-queue_of}
 use Rattle.run_queue.proofs.Runs.{most_comparisons-ranked_in}
 use Rattle.run_queue.proofs.Fair.{first_in-joined}
+use Rattle.run_queue.proofs.Tops.{none_compared}
 use Rattle.run_queue.proofs.Seats.{top_of-stop, top_of-deadline, top_of-real_time, top_of-fair}
 use Rattle.run_queue.proofs.classes.Classes.first.Goals as goal
 
@@ -54,21 +55,21 @@ returns-in-Some-clause-counted g c =
 
 pub returns-in-Some-top-clause-counted : goal.returns-in-Some-top-clause-counted
 returns-in-Some-top-clause-counted g c =
-    let most_0 = most_comparisons-ranked_in c.self.inside 0 in
+    let none_0 = none_compared c.self.inside.stop.members (sym c.in_default.ensures.top) in
     let most_1 = most_comparisons-ranked_in c.self.inside 1 in
-    rw (← c.self.view_is) (omega (arith, c.top.ensures.counted, c.top-2.ensures.counted))
+    rw (← c.self.view_is) (omega (arith, none_0, c.top.ensures.counted, c.top-2.ensures.counted))
 
 pub returns-in-Some-top-2-clause-counted : goal.returns-in-Some-top-2-clause-counted
 returns-in-Some-top-2-clause-counted g c =
-    let most_0 = most_comparisons-ranked_in c.self.inside 0 in
-    let most_1 = most_comparisons-ranked_in c.self.inside 1 in
+    let none_0 = none_compared c.self.inside.stop.members (sym c.in_default.ensures.top) in
+    let none_1 = none_compared c.self.inside.deadline.members (sym c.in_default-top.ensures.top) in
     let most_2 = most_comparisons-ranked_in c.self.inside 2 in
-    rw (← c.self.view_is) (omega (arith, c.top.ensures.counted, c.top-2.ensures.counted, c.top-3.ensures.counted))
+    rw (← c.self.view_is) (omega (arith, none_0, none_1, c.top.ensures.counted, c.top-2.ensures.counted, c.top-3.ensures.counted))
 
 pub returns-clause-counted : goal.returns-clause-counted
 returns-clause-counted g c =
-    let most_0 = most_comparisons-ranked_in c.self.inside 0 in
-    let most_1 = most_comparisons-ranked_in c.self.inside 1 in
-    let most_2 = most_comparisons-ranked_in c.self.inside 2 in
+    let none_0 = none_compared c.self.inside.stop.members (sym c.in_default.ensures.top) in
+    let none_1 = none_compared c.self.inside.deadline.members (sym c.in_default-top.ensures.top) in
+    let none_2 = none_compared c.self.inside.real_time.members (sym c.in_default-top-2.ensures.top) in
     let last = rw (← c.self.view_is) at c.first_fair.ensures.counted in
-    rw (← c.self.view_is) (omega (arith, c.top.ensures.counted, c.top-2.ensures.counted, c.top-3.ensures.counted, last))
+    rw (← c.self.view_is) (omega (arith, none_0, none_1, none_2, c.top.ensures.counted, c.top-2.ensures.counted, c.top-3.ensures.counted, last))

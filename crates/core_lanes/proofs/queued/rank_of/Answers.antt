@@ -1,6 +1,6 @@
 use Rattle.std.proofs.Common.{inl, inr, sym, ap, ◌∙◌}
 use Rattle.cs_types.specs.Queue.{rank_by}
-use Rattle.core_state.proofs.task.rank_of.Goals as goal
+use Rattle.core_lanes.proofs.queued.rank_of.Goals as goal
 
 pub returns-in-Deadline : goal.returns-in-Deadline
 returns-in-Deadline c =
