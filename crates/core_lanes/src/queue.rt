@@ -1,6 +1,6 @@
 //! What a sibling's queue is asked. It is a trait, so that one text of the events serves every kind of queue.
 
-ghost use Rattle.std.specs.Prelude.{◌≡◌, ◌≢◌, ◌==◌, ◌&&◌, ℕ, ◌+◌, ◌≤◌, List, [], ◌++◌, length, map, IfOk, IsPermutation};
+ghost use Rattle.std.specs.Prelude.{◌≡◌, ◌≢◌, ◌==◌, ◌&&◌, ℕ, ◌+◌, ◌*◌, ◌≤◌, List, [], ◌++◌, length, map, IfOk, IsPermutation};
 ghost use Rattle.std.specs.Option.{option_map};
 ghost use Rattle.cs_types.specs.declared.queue.Queued.{Queued as SomeQueued};
 ghost use Rattle.cs_types.specs.Order.{first_of};
@@ -74,7 +74,9 @@ pub trait SiblingQueue: Drop {
     )
         requires { IsFairOn (holds self.old table.now.limit (queued_at table.now.tasks cpu)) cpu table.now task.now }
         ensures holds { holds self.new table.now.limit (queued_at (given_vtime task.now vtime table.now.tasks) cpu) }
-        ensures counted { steps.new ≤ steps.old + most_compared (length (queued_among table.now.tasks cpu)) };
+
+        // It may leave and enter.
+        ensures counted { steps.new ≤ steps.old + 2 * most_compared (length (queued_among table.now.tasks cpu)) };
 
     /// Every task leaves, and each is told by its stamp and its pid, in any order. It can take as many in all as
     /// before. There is a place for each task in the list.

@@ -56,6 +56,20 @@ few_taken old new most tasks cpu task rest split held left =
     let after : fin.len new.tasks ≡ length rest = long_trees new most rest left in
     rw (before, after, many) (few_again (length rest))
 
+-- To take one out and to put one in its place takes no more than two calls may.
+pub few_changed : (old mid new : RunQueued) (most : ℕ) (tasks : List Task) (cpu : ℕ) (task now : Queued) (rest then : List Queued) → IsSplit task (queued_at tasks cpu) rest →
+    IsSplit now then rest → Holds old most (queued_at tasks cpu) → Holds mid most rest → Holds new most then →
+    2 * most_comparisons (fin.len old.tasks) + 2 * most_comparisons (fin.len mid.tasks) + (most_comparisons (fin.len new.tasks) + 6)
+    ≤ 8 * most_comparisons (length (queued_among tasks cpu))
+few_changed old mid new most tasks cpu task now rest then split split_now held left held_now =
+    let many : length (queued_among tasks cpu) ≡ length rest + 1 =
+    sym (length-map (queued_among tasks cpu) queued_of) ∙ length-split task (queued_at tasks cpu) rest split in
+    let before : fin.len old.tasks ≡ length rest + 1 = long_trees old most (queued_at tasks cpu) held ∙ length-split task (queued_at tasks cpu) rest split in
+    let between : fin.len mid.tasks ≡ length rest = long_trees mid most rest left in
+    let after : fin.len new.tasks ≡ length rest + 1 = long_trees new most then held_now ∙ length-split now then rest split_now in
+    let fewer = most_comparisons-le (length rest) (length rest + 1) (omega arith) in
+    rw (before, between, after, many) (omega (arith, fewer))
+
 -- a schedule over trees takes no more than its number
 pub most_of_schedule-trees : (siblings longest : ℕ) → most_of_schedule siblings (most_of_call longest) ≡ most_over_trees siblings longest
 most_of_schedule-trees siblings longest = omega (arith, mul_left_comm siblings 4 (most_comparisons longest))

@@ -1,5 +1,5 @@
 -- Firsts: the first of some tasks by their seats, once one more is among them, or one has another cookie.
-use Rattle.std.proofs.Common.{◌≡◌, ℕ, Bool, true, false, cond, not, List, [], ◌∷◌, ◌++◌, map, Option, None, Some, inl, inr, refl, sym, ap, ◌∙◌, subst}
+use Rattle.std.proofs.Common.{◌≡◌, ◌≢◌, ℕ, Bool, true, false, cond, not, List, [], ◌∷◌, ◌++◌, map, Option, None, Some, inl, inr, refl, sym, ap, ◌∙◌, subst}
 use Rattle.std.specs.Prelude.{◌==◌, find, All, IfSome}
 use Rattle.std.specs.List.{AllByRecursion}
 use Rattle.std.specs.Option.{option_map}
@@ -13,13 +13,15 @@ use Rattle.std.proofs.lemmas.List.Sorted.{ranks_by}
 use Rattle.cs_types.specs.declared.queue.Queued.{Queued}
 use Rattle.cs_types.specs.declared.task.Task.{Task}
 use Rattle.cs_types.specs.Order.{goes_before, first_of}
-use Rattle.cs_types.specs.Queue.{Seat, seat_cmp, seat_of, queued_of, top_of}
+use Rattle.cs_types.specs.Queue.{Seat, Seats, seat_cmp, seat_of, queued_of, top_of}
 use Rattle.cs_types.specs.Room.{has_pid}
 use Rattle.cs_types.proofs.Queues.{seat_total, seat_cmp-IsAntisymmetric, precedes, top_of-from_entries, foremost-cons, foremost-map, foremost_alike, goes_before-seats}
 use Rattle.task_table.specs.Table.{Rises}
-use Rattle.core_lanes.specs.Queued.{queued_among, queued_at, others, IsOf}
+use Rattle.cs_types.proofs.Spots.{find-replaced}
+use Rattle.core_lanes.specs.Queued.{queued_among, queued_at, others, given_vtime, IsOf}
 use Rattle.core_lanes.proofs.Queues.{is_on}
-use Rattle.core_state.specs.Held.{AreApart, is_before, earlier, first_among, is_of, given_cookie, seated, IsIn}
+use Rattle.core_lanes.proofs.Replaced.{is_of as is_of_after, rises-replaced}
+use Rattle.core_state.specs.Held.{AreApart, is_before, earlier, first_among, is_of, given_cookie, seated, IsIn, IsInBut}
 use Rattle.core_state.proofs.Asked.{IsLow}
 use Rattle.core_state.proofs.Found.{found_has}
 use Rattle.core_state.proofs.Splits.{IsSplit, each_is_of}
@@ -149,6 +151,11 @@ top-first tasks =
       pids None = refl
       pids (Some task) = refl
 
+-- so that is what the trees tell
+pub told_first : (seats : Seats) (first : Option ℕ) (tasks : List Queued) → first ≡ top_of seats → seats ≡ seated tasks →
+    first ≡ option_map (λ (task : Queued). task.pid) (first_among tasks)
+told_first seats first tasks is same = is ∙ ap top_of same ∙ top-first tasks
+
 -- what has no pid is none, and what has this one is what the table has by it
 pub none_first : (first : Option Queued) → None ≡ option_map (λ (task : Queued). task.pid) first → None ≡ first
 none_first None is = refl
@@ -161,12 +168,50 @@ found_first_by tasks pid (Some task) there is =
     let same : pid ≡ task.pid = cc in ap (λ n. option_map queued_of (find (has_pid n) tasks)) same ∙ there
 
 -- the table has each task of a queue
-pub each_in : (tasks : List Task) (cpu pid : ℕ) → Rises tasks → All (IsIn tasks) (others pid (queued_at tasks cpu))
-each_in tasks cpu pid rises =
-    All-filter (λ (task : Queued). not (task.pid == pid)) (IsIn tasks) (queued_at tasks cpu)
-    (All-map (IsIn tasks) queued_of (queued_among tasks cpu)
+pub each_queued : (tasks : List Task) (cpu : ℕ) → Rises tasks → All (IsIn tasks) (queued_at tasks cpu)
+each_queued tasks cpu rises =
+    All-map (IsIn tasks) queued_of (queued_among tasks cpu)
     (All-weaker (IsOf tasks) (λ (task : Task). IsIn tasks (queued_of task)) (λ task there. ap (option_map queued_of) there) (queued_among tasks cpu)
-    (All-filter (is_on cpu) (IsOf tasks) tasks (each_is_of tasks rises))))
+    (All-filter (is_on cpu) (IsOf tasks) tasks (each_is_of tasks rises)))
+
+-- and so each of the others
+pub each_in : (tasks : List Task) (cpu pid : ℕ) → Rises tasks → All (IsIn tasks) (others pid (queued_at tasks cpu))
+each_in tasks cpu pid rises = All-filter (λ (task : Queued). not (task.pid == pid)) (IsIn tasks) (queued_at tasks cpu) (each_queued tasks cpu rises)
+
+-- and where one has another virtual time, each but this
+pub each_in_but : (old : Task) (vtime : ℕ) (tasks : List Task) (cpu : ℕ) → Rises tasks → IsOf tasks old →
+    All (IsInBut tasks (queued_of (record old { vtime = vtime }))) (queued_at (given_vtime old vtime tasks) cpu)
+each_in_but old vtime tasks cpu rises there =
+    All-map (IsInBut tasks (queued_of task)) queued_of (queued_among after cpu)
+    (All-weaker (IsOf after) (λ (t : Task). IsInBut tasks (queued_of task) (queued_of t)) known (queued_among after cpu)
+    (All-filter (is_on cpu) (IsOf after) after (each_is_of after (rises-replaced task tasks rises)))) where
+      task : Task
+      task = record old { vtime = vtime }
+
+      after : List Task
+      after = given_vtime old vtime tasks
+
+      known : (t : Task) → IsOf after t → IsInBut tasks (queued_of task) (queued_of t)
+      known t now = (
+        λ same.
+            let both : Some t ≡ Some task = sym now ∙ ap (λ pid. find (has_pid pid) after) same ∙ is_of_after task old tasks there in
+            let is : t ≡ task = cc in
+            ap queued_of is,
+        λ differs.
+            ap (option_map queued_of)
+            (sym (find-replaced task old tasks there t.spec.pid ∙ cond-false _ (Some task) (find (has_pid t.spec.pid) tasks) (ne_eqb t.spec.pid task.spec.pid differs)) ∙ now),
+      )
+
+-- so the one that has this pid is this, or what the table has by it
+pub first_known : (tasks : List Task) (task : Queued) (pid : ℕ) (first : Option Queued) → IfSome first (IsInBut tasks task) →
+    Some pid ≡ option_map (λ (task : Queued). task.pid) first → pid ≡ task.pid → Some task ≡ first
+first_known tasks task pid None known is same = absurd cc
+first_known tasks task pid (Some first) known is same = let at : pid ≡ first.pid = cc in ap Some (sym (known.0 (sym at ∙ same)))
+
+pub first_in : (tasks : List Task) (task : Queued) (pid : ℕ) (first : Option Queued) → IfSome first (IsInBut tasks task) →
+    Some pid ≡ option_map (λ (task : Queued). task.pid) first → pid ≢ task.pid → IfSome first (IsIn tasks)
+first_in tasks task pid None known is differs = tt
+first_in tasks task pid (Some first) known is differs = let at : pid ≡ first.pid = cc in known.1 (λ same. differs (at ∙ same))
 
 -- the first of the tasks of a sibling goes before each
 pub first_at-first_of : (tasks : List Task) → AllByRecursion IsLow tasks → first_among (map queued_of tasks) ≡ option_map queued_of (first_of tasks)

@@ -63,6 +63,10 @@ given_cookie pid cookie task = if task.pid == pid then record task { cookie = co
 abbrev pub IsIn : List Task → Queued → Type 0
 IsIn tasks queued = option_map queued_of (find (has_pid queued.pid) tasks) ≡ Some queued
 
+-- the same of each task but this one
+abbrev pub IsInBut : List Task → Queued → Queued → Type 0
+IsInBut tasks task queued = (queued.pid ≡ task.pid → queued ≡ task) × (queued.pid ≢ task.pid → IsIn tasks queued)
+
 -- a run queue holds the tasks, this is the first of them, and these are their counts by kind and by lot
 pub record Keeps (run : RunQueued) (first : Option Queued) (kinds lots : List ℕ) (most : ℕ) (tasks : List Queued) : Type 0 where
   pub trees : Holds run most tasks

@@ -6,7 +6,7 @@ ghost use Rattle.std.specs.FinMap as map;
 ghost use Rattle.std.specs.Option.{option_map};
 ghost use Rattle.cs_types.specs.Comparisons.{most_comparisons};
 ghost use Rattle.cs_types.specs.declared.queue.Queued.{Queued as SomeQueued};
-ghost use Rattle.core_state.specs.Held.{seated, is_before, earlier, first_among, is_of, given_cookie, IsIn};
+ghost use Rattle.core_state.specs.Held.{seated, is_before, earlier, first_among, is_of, given_cookie, IsIn, IsInBut};
 
 use core_lanes::queued_of;
 use cs_types::{Cookie, Pid, Queued, Steps};
@@ -78,4 +78,22 @@ pub fn find_first<L: Ledger>(
 {
     let task = table.find(run.first(steps)?)?;
     Some(queued_of(task))
+}
+
+/// The same where this is one of the tasks, which the table does not have so yet. It is not looked up.
+pub fn find_first_with<L: Ledger>(
+    run: &RunQueue,
+    task: Queued,
+    table: &TaskTable,
+    steps: &mut Steps<L>,
+) -> Option<Queued>
+    ensures first { (tasks : List SomeQueued) → run.now.tasks ≡ seated tasks → All (IsInBut table.now.tasks task) tasks → result ≡ first_among tasks }
+    ensures counted { steps.new ≤ steps.old + most_comparisons (map.len run.now.tasks) + 6 }
+{
+    let pid = run.first(steps)?;
+    if pid == task.pid {
+        return Some(task);
+    }
+    let other = table.find(pid)?;
+    Some(queued_of(other))
 }

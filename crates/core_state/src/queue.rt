@@ -1,7 +1,7 @@
 //! The queue with trees: each question is answered from the ordered trees of a run queue, and the table tells the
 //! task of a pid.
 
-use crate::first::{enter, find_first, give_cookie, is_of};
+use crate::first::{enter, find_first, find_first_with, give_cookie, is_of};
 use crate::task::{KINDS, LOTS, kind_of, lot_of};
 use core_lanes::{Movers, SiblingQueue, is_on, queued_of, task_of};
 use cs_types::{Cookie, Cpu, OutOfMemory, Queued, Steps, Task};
@@ -76,14 +76,21 @@ impl SiblingQueue for TreeQueue {
     #[inline(always)]
     fn set_vtime<L: Ledger>(
         &mut self,
-        _table: &TaskTable,
+        table: &TaskTable,
         _cpu: Cpu,
         task: &Task,
         vtime: u128,
         steps: &mut Steps<L>,
     ) {
-        self.run
-            .set_fair_rank(&queued_of(task), fair_queue::rank(vtime), steps);
+        let queued = queued_of(task);
+        let rank = fair_queue::rank(vtime);
+        self.run.set_fair_rank(&queued, rank, steps);
+        let later = Queued { rank, ..queued };
+        if is_of(&self.first, task.spec.pid) {
+            self.first = find_first_with(&self.run, later, table, steps);
+        } else {
+            enter(&mut self.first, later, steps);
+        }
     }
 
     fn clear_into(&mut self, _table: &TaskTable, _cpu: Cpu, movers: &mut Movers) {

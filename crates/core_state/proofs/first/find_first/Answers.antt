@@ -5,28 +5,23 @@ use Rattle.cs_types.specs.declared.queue.Queued.{Queued}
 use Rattle.cs_types.specs.Queue.{Seats, top_of, queued_of}
 use Rattle.core_lanes.proofs.Lists.{All-find}
 use Rattle.core_state.specs.Held.{seated, first_among, IsIn}
-use Rattle.core_state.proofs.Firsts.{top-first, none_first, found_first_by}
+use Rattle.core_state.proofs.Firsts.{told_first, none_first, found_first_by}
 use Rattle.core_state.proofs.first.find_first.Goals as goal
-
--- what the trees tell of the first
-told : (seats : Seats) (first : Option ℕ) (tasks : List Queued) → first ≡ top_of seats → seats ≡ seated tasks →
-    first ≡ option_map (λ (task : Queued). task.pid) (first_among tasks)
-told seats first tasks is same = is ∙ ap top_of same ∙ top-first tasks
 
 pub returns-in_err-first-clause-first : goal.returns-in_err-first-clause-first
 returns-in_err-first-clause-first g c tasks same each =
-    c.from_residual.ensures ∙ none_first (first_among tasks) (sym c.in_err-first.was ∙ told _ _ tasks c.first.ensures.first same)
+    c.from_residual.ensures ∙ none_first (first_among tasks) (sym c.in_err-first.was ∙ told_first _ _ tasks c.first.ensures.first same)
 
 pub returns-in_err-task-clause-first : goal.returns-in_err-task-clause-first
 returns-in_err-task-clause-first g c tasks same each =
     c.from_residual-in_err-task.ensures
     ∙ ap (option_map queued_of) (ap option_copied (sym c.in_err-task.was) ∙ c.find.ensures.task)
     ∙ found_first_by c.args.table.now.tasks c.in_ok-first.field-0 (first_among tasks) (All-find (IsIn c.args.table.now.tasks) _ tasks each)
-    (sym c.in_ok-first.was ∙ told _ _ tasks c.first.ensures.first same)
+    (sym c.in_ok-first.was ∙ told_first _ _ tasks c.first.ensures.first same)
 
 pub returns-clause-first : goal.returns-clause-first
 returns-clause-first g c tasks same each =
     ap Some c.queued_of.ensures
     ∙ ap (option_map queued_of) (ap option_copied (sym c.in_ok-task.was) ∙ c.find.ensures.task)
     ∙ found_first_by c.args.table.now.tasks c.in_ok-first.field-0 (first_among tasks) (All-find (IsIn c.args.table.now.tasks) _ tasks each)
-    (sym c.in_ok-first.was ∙ told _ _ tasks c.first.ensures.first same)
+    (sym c.in_ok-first.was ∙ told_first _ _ tasks c.first.ensures.first same)
