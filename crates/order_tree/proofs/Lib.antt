@@ -9,3 +9,4 @@ pub mod Members
 pub mod Renamed
 pub mod Ranks
 pub mod Recents
+pub mod Anew

@@ -7,7 +7,7 @@ use Rattle.std.specs.Ordering.{ordering_then, eq_by_cmp}
 use Rattle.std.specs.Cmp.{nat_cmp_is}
 use Rattle.std.specs.declared.cmp.Ordering.TheVariants.{Equal}
 use Rattle.std.specs.FinMap as fin
-use Rattle.std.specs.FinMap.{entries, get, len, empty, empty_of_len, len-empty, get-empty, get-entries, get-insert, get-remove}
+use Rattle.std.specs.FinMap.{entries, get, len, empty, empty_of_len, len-empty, get-empty, get-entries, get-insert, get-remove, is_sorted, find}
 use Rattle.std.proofs.lemmas.Bool.{cases_Bool, cond-true, cond-false}
 use Rattle.cs_types.specs.Queue as queue
 use Rattle.cs_types.proofs.Queues as queues
@@ -16,7 +16,8 @@ use Rattle.order_tree.specs.Renamed.{renamed, map_renamed}
 use Rattle.order_tree.specs.Rank.{rank_at, key_at, least_rank, stamped as ranked_stamp, IsRankKey, IsOfClass}
 use Rattle.order_tree.proofs.Entries.{equal_by}
 use Rattle.order_tree.proofs.Keys.{key_total, key_cmp-IsAntisymmetric}
-use Rattle.order_tree.proofs.Renamed.{IsRenaming, all_of_found, entries-map_renamed, get-map_renamed, len-map_renamed, map_renamed-insert, map_renamed-remove}
+use Rattle.order_tree.specs.Anew.{rekeyed, reranked}
+use Rattle.order_tree.proofs.Renamed.{IsRenaming, all_of_found, is_sorted-renamed, entries-map_renamed, get-map_renamed, len-map_renamed, map_renamed-insert, map_renamed-remove}
 
 -- among such keys the ranks and the stamps decide
 pub ranks : IsRenaming key_cmp queue.key_cmp IsRankKey rank_at key_at
@@ -58,6 +59,45 @@ module _ (members : Members) (of_class : IsOfClass members) where
     told : (es : List Entry) → map ranked_stamp (renamed rank_at es) ≡ map stamped es
     told [] = refl
     told (e ∷ es) = ap (λ (rest : List (ℕ × ℕ)). stamped e ∷ rest) (told es)
+
+  pub entries-ranked : entries ranked ≡ renamed rank_at (entries members)
+  entries-ranked = entries-map_renamed ranks members each
+
+  -- the keys with other ranks and stamps
+  module _ (at : ℕ → ℕ × ℕ) where
+    each-anew : (es : List Entry) → Each es → Each (map (rekeyed at) es)
+    each-anew [] all = tt
+    each-anew (e ∷ es) all = (all.0, each-anew es all.1)
+
+    -- they are told alike
+    renamed-anew : (es : List Entry) → renamed rank_at (map (rekeyed at) es) ≡ map (reranked at) (renamed rank_at es)
+    renamed-anew [] = refl
+    renamed-anew (e ∷ es) = ap (λ (rest : List (queue.Key × ℕ)). reranked at (rank_at e.0, e.1) ∷ rest) (renamed-anew es)
+
+    pub rising-anew : is_sorted queue.key_cmp (map (reranked at) (entries ranked)) ≡ true → is_sorted key_cmp (map (rekeyed at) (entries members)) ≡ true
+    rising-anew still =
+        sym (is_sorted-renamed ranks (map (rekeyed at) (entries members)) (each-anew (entries members) each))
+        ∙ ap (is_sorted queue.key_cmp) (renamed-anew (entries members) ∙ ap (map (reranked at)) (sym entries-ranked)) ∙ still
+
+    module _ (after : Members) (is : entries after ≡ map (rekeyed at) (entries members)) where
+      of_each : (es : List Entry) → Each es → (key : _) → is_some (find key_cmp key es) ≡ true → IsRankKey key
+      of_each [] all key there = absurd cc
+      of_each (e ∷ es) all key there =
+          elim (cases_Bool (eq_by_cmp key_cmp key e.0)) [
+            | inl tie ↦ subst IsRankKey (sym (key_cmp-IsAntisymmetric key e.0 (equal_by _ tie))) all.0
+            | inr apart ↦ of_each es all.1 key (ap is_some (sym (cond-false _ (Some e.1) (find key_cmp key es) apart)) ∙ there)
+          ]
+
+      still_each : Each (entries after)
+      still_each = subst Each (sym is) (each-anew (entries members) each)
+
+      pub IsOfClass-anew : IsOfClass after
+      IsOfClass-anew key there = of_each (entries after) still_each key (ap is_some (sym (get-entries after key)) ∙ there)
+
+      pub ranked-anew : entries (map_renamed queue.key_cmp rank_at after) ≡ map (reranked at) (entries ranked)
+      ranked-anew =
+          entries-map_renamed ranks after still_each ∙ ap (renamed rank_at) is ∙ renamed-anew (entries members)
+          ∙ ap (map (reranked at)) (sym entries-ranked)
 
   pub top_of-ranked : queue.top_of ranked ≡ option_map (λ (e : Entry). e.1) (first_of members)
   top_of-ranked =

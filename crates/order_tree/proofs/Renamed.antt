@@ -43,7 +43,7 @@ module _ {K J X : Type 0} {R : K → K → Ordering} {S : J → J → Ordering} 
   below_all-renamed key p [] all = refl
   below_all-renamed key p (e ∷ es) all = λ i. is_lt (names.same key e.0 p all.0 i) && below_all-renamed key p es all.1 i
 
-  is_sorted-renamed : (es : List (K × X)) → AllByRecursion (λ (e : K × X). P e.0) es → is_sorted S (renamed f es) ≡ is_sorted R es
+  pub is_sorted-renamed : (es : List (K × X)) → AllByRecursion (λ (e : K × X). P e.0) es → is_sorted S (renamed f es) ≡ is_sorted R es
   is_sorted-renamed [] all = refl
   is_sorted-renamed (e ∷ es) all = λ i. below_all-renamed e.0 all.0 es all.1 i && is_sorted-renamed es all.1 i
 

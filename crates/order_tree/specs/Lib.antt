@@ -5,3 +5,4 @@ pub mod Inside
 pub mod Renamed
 pub mod Rank
 pub mod Recent
+pub mod Anew

@@ -7,6 +7,7 @@ mod movers;
 mod order;
 mod rank;
 mod recent;
+mod renewal;
 mod tree;
 
 pub use key::Key;
@@ -14,3 +15,4 @@ pub use movers::{MOST_MOVERS, Movers};
 pub use order::OrderTree;
 pub use rank::RankTree;
 pub use recent::RecentTree;
+pub use renewal::Renewal;

@@ -1,15 +1,17 @@
 //! The tree with the nodes that are spare. It is apart since here alone memory is taken.
 
 ghost use Rattle.std.specs.Prelude as list;
-ghost use Rattle.std.specs.Prelude.{◌≡◌, ◌+◌, ◌*◌, ◌^◌, ◌<◌, ◌≤◌, max, None, OnOk, OnErr, if◌then◌else◌, length, slice_get, vec_capacity, ◌++◌};
+ghost use Rattle.std.specs.Prelude.{◌≡◌, ◌+◌, ◌*◌, ◌^◌, ◌<◌, ◌≤◌, max, None, OnOk, OnErr, if◌then◌else◌, length, slice_get, vec_capacity, ◌++◌, IsTrue};
 ghost use Rattle.std.specs.FinMap as map;
 ghost use Rattle.cs_types.specs.Comparisons.{digits};
-ghost use Rattle.order_tree.specs.Order.{stamped, first_of, first_from, next_of};
+ghost use Rattle.order_tree.specs.Anew.{rekeyed};
+ghost use Rattle.order_tree.specs.Order.{key_cmp, stamped, first_of, first_from, next_of};
 ghost use Rattle.order_tree.specs.Balance.{entry_at};
 ghost use Rattle.order_tree.specs.Recent.{lesser, renewed};
 
 use crate::key::Key;
 use crate::movers::Movers;
+use crate::renewal::Renewal;
 use crate::tree::{Node, Tree};
 use cs_types::{OutOfMemory, Pid, Steps};
 use std::alloc::Global;
@@ -139,6 +141,25 @@ impl OrderTree {
         mem::replace(&mut self.tree, Tree::empty()).give_told(&mut self.nodes, movers);
         self.first = None;
         free_all(&mut self.count, &mut self.spare);
+    }
+
+    /// Tells all pids by rising key, each with the stamp of its key. It compares no key.
+    pub fn tell_into(&self, movers: &mut Movers)
+        requires room { length movers.old.items + map.len self.now.members ≤ 256 }
+        ensures told { movers.new.items ≡ movers.old.items ++ list.map stamped (map.entries self.now.members) }
+    {
+        self.tree.tell(movers);
+    }
+
+    /// Each key gets the rank and the stamp that its pid has now, with which the keys rise still. It compares no
+    /// key.
+    pub fn renew<R: Renewal>(&mut self, renewal: &R)
+        requires rising { IsTrue (map.is_sorted key_cmp (list.map (rekeyed (R.at renewal.now)) (map.entries self.old.members))) }
+        ensures entries { map.entries self.new.members ≡ list.map (rekeyed (R.at renewal.now)) (map.entries self.old.members) }
+        ensures spare { self.new.spare ≡ self.old.spare }
+    {
+        self.tree.renew(renewal);
+        self.first = entry_of(self.tree.first());
     }
 
     /// The least key, and the pid there. `None` exactly where there is no key.

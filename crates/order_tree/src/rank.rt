@@ -2,13 +2,16 @@
 //! apart since the classes keep their tasks alike.
 
 ghost use Rattle.std.specs.Prelude.{◌≡◌, ◌+◌, ◌≤◌, ◌++◌, length, map, None, IsTrue, IsPermutation};
-ghost use Rattle.std.specs.FinMap.{empty, entries, len, get, contains_key, insert, remove};
+ghost use Rattle.std.specs.FinMap.{empty, entries, len, get, contains_key, insert, remove, is_sorted};
 ghost use Rattle.cs_types.specs.Comparisons.{most_comparisons};
 ghost use Rattle.order_tree.specs.Rank.{key_at, least_rank, stamped};
+ghost use Rattle.cs_types.specs.Queue.{key_cmp};
+ghost use Rattle.order_tree.specs.Anew.{reranked};
 
 use crate::key::Key;
 use crate::movers::Movers;
 use crate::recent::RecentTree;
+use crate::renewal::Renewal;
 use cs_types::{ClassQueue, OutOfMemory, Pid, Steps};
 use std::alloc::Global;
 use std::marker::Model;
@@ -85,6 +88,24 @@ impl RankTree {
     {
         let first = self.tree.first(steps)?;
         Some(first.0.rank)
+    }
+
+    /// Each task is told by its stamp and its pid, in any order.
+    pub fn tell_into(&self, movers: &mut Movers)
+        requires room { length movers.old.items + len self.now.members ≤ 256 }
+        ensures told { IsPermutation (movers.old.items ++ map stamped (entries self.now.members)) movers.new.items }
+    {
+        self.tree.tell_into(movers);
+    }
+
+    /// Each task gets the rank and the stamp that it has now, with which they stand in the same order.
+    pub fn renew<R: Renewal, L: Ledger>(&mut self, renewal: &R, steps: &mut Steps<L>)
+        requires rising { IsTrue (is_sorted key_cmp (map (reranked (R.at renewal.now)) (entries self.old.members))) }
+        ensures entries { entries self.new.members ≡ map (reranked (R.at renewal.now)) (entries self.old.members) }
+        ensures spare { self.new.spare ≡ self.old.spare }
+        ensures counted { steps.new ≤ steps.old + most_comparisons (len self.old.members) }
+    {
+        self.tree.renew(renewal, steps);
     }
 }
 

@@ -2,15 +2,17 @@
 //! alone.
 
 ghost use Rattle.std.specs.Prelude as list;
-ghost use Rattle.std.specs.Prelude.{◌≡◌, ◌+◌, ◌<◌, ◌≤◌, ◌++◌, length, max, None, OnOk, OnErr, if◌then◌else◌, IsPermutation};
+ghost use Rattle.std.specs.Prelude.{◌≡◌, ◌+◌, ◌<◌, ◌≤◌, ◌++◌, length, max, None, OnOk, OnErr, if◌then◌else◌, IsPermutation, IsTrue};
 ghost use Rattle.std.specs.FinMap as map;
 ghost use Rattle.cs_types.specs.Comparisons.{most_comparisons};
-ghost use Rattle.order_tree.specs.Order.{stamped, first_of, first_from, next_of};
+ghost use Rattle.order_tree.specs.Anew.{rekeyed};
+ghost use Rattle.order_tree.specs.Order.{key_cmp, stamped, first_of, first_from, next_of};
 ghost use Rattle.order_tree.specs.Recent.{lesser, reaching, is_at};
 
 use crate::key::Key;
 use crate::movers::Movers;
 use crate::order::{OrderTree, lesser};
+use crate::renewal::Renewal;
 use crate::tree::reaches;
 use cs_types::{OutOfMemory, Pid, Steps};
 use std::alloc::Global;
@@ -119,6 +121,30 @@ impl RecentTree {
             movers.push((key.stamp, pid));
         }
         self.tree.clear_into(movers);
+    }
+
+    /// Tells all pids, each with the stamp of its key, in any order. It compares no key.
+    pub fn tell_into(&self, movers: &mut Movers)
+        requires room { length movers.old.items + map.len self.now.members ≤ 256 }
+        ensures told { IsPermutation (movers.old.items ++ list.map stamped (map.entries self.now.members)) movers.new.items }
+    {
+        if let Some((key, pid)) = self.recent {
+            movers.push((key.stamp, pid));
+        }
+        self.tree.tell_into(movers);
+    }
+
+    /// Each key gets the rank and the stamp that its pid has now, with which the keys rise still.
+    pub fn renew<R: Renewal, L: Ledger>(&mut self, renewal: &R, steps: &mut Steps<L>)
+        requires rising { IsTrue (map.is_sorted key_cmp (list.map (rekeyed (R.at renewal.now)) (map.entries self.old.members))) }
+        ensures entries { map.entries self.new.members ≡ list.map (rekeyed (R.at renewal.now)) (map.entries self.old.members) }
+        ensures spare { self.new.spare ≡ self.old.spare }
+        ensures counted { steps.new ≤ steps.old + most_comparisons (map.len self.old.members) }
+    {
+        if let Some((key, pid)) = self.recent.take() {
+            self.tree.insert(key, pid, steps);
+        }
+        self.tree.renew(renewal);
     }
 
     /// The least key, and the pid there. `None` exactly where there is no key.

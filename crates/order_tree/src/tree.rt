@@ -6,11 +6,13 @@ ghost use Rattle.std.specs.Option.{option_map, option_or};
 ghost use Rattle.std.specs.FinMap.{find, put, is_sorted};
 ghost use Rattle.cs_types.specs.Comparisons.{digits};
 ghost use Rattle.order_tree.specs.Order.{key_cmp, stamped};
+ghost use Rattle.order_tree.specs.Anew.{rekeyed};
 ghost use Rattle.order_tree.specs.Branch.{without, reaches};
 ghost use Rattle.order_tree.specs.Balance.{entry_in, entry_at, joined, branch_of, over, split, HasMany, IsBare, IsLeaning, CanSpread, IsEven, IsBalanced, IsRoot, IsNode, IsFirst, TiltsLeft, TiltsRight, IsHighLeft, IsHighRight, left_levels, right_levels, IsUprooted};
 
 use crate::key::Key;
 use crate::movers::Movers;
+use crate::renewal::Renewal;
 use cs_types::{Pid, Steps};
 use std::cmp::Ordering;
 use std::marker::Model;
@@ -255,6 +257,41 @@ impl Tree {
         movers.push((parts.node.key.stamp, parts.node.pid));
         nodes.push_reserved(parts.node);
         parts.right.give_told(nodes, movers);
+    }
+
+    /// Tells its pids by rising key, each with the stamp of its key. It compares no key.
+    pub fn tell(&self, movers: &mut Movers)
+        requires room { length movers.old.items + length self.now.entries ≤ 256 }
+        ensures told { movers.new.items ≡ movers.old.items ++ map stamped self.now.entries }
+    {
+        let Some(node) = &self.root else {
+            return;
+        };
+        node.left.tell(movers);
+        movers.push((node.key.stamp, node.pid));
+        node.right.tell(movers);
+    }
+
+    /// Each key gets the rank and the stamp that its pid has now, with which the keys rise still. It compares no
+    /// key, and moves no node.
+    pub fn renew<R: Renewal>(&mut self, renewal: &R)
+        requires rising { IsTrue (is_sorted key_cmp (map (rekeyed (R.at renewal.now)) self.old.entries)) }
+        ensures entries { self.new.entries ≡ map (rekeyed (R.at renewal.now)) self.old.entries }
+        ensures height { self.new.height ≡ self.old.height }
+    {
+        let Some(root) = &mut self.root else {
+            return;
+        };
+        let Node {
+            left,
+            key,
+            pid,
+            right,
+            ..
+        } = &mut **root;
+        left.renew(renewal);
+        (key.rank, key.stamp) = renewal.of(*pid);
+        right.renew(renewal);
     }
 
     /// Takes out the entry at the key, and gives the node that is spare then. `None` comes exactly where no

@@ -1,0 +1,67 @@
+use Rattle.std.proofs.Common.{◌≡◌, ◌+◌, ◌<◌, ◌++◌, ℕ, List, [], ◌∷◌, Option, Some, None, length, length-append, map, sym, ap, ◌∙◌, subst, arith}
+use Rattle.std.specs.FinMap.{entries, len}
+use Rattle.std.specs.List.Sorted.{IsPermutation}
+use Rattle.std.specs.Option.{option_len}
+use Rattle.std.proofs.lemmas.List.Sorted.{IsPermutation-refl}
+use Rattle.order_tree.specs.Order.{Entry, Ordered, stamped}
+use Rattle.order_tree.specs.Recent.{with_recent, StandsBeside}
+use Rattle.order_tree.proofs.Recents.{len-recent, told-recent}
+use Rattle.order_tree.proofs.recent.RecentTree.tell_into.Goals as goal
+use Rattle.order_tree.proofs.recent.RecentTree.tell_into.Goals.{in-Some, in_default}
+
+-- what is told once the entry beside the tree is, where there is one
+abbrev with_told : Option Entry → List (ℕ × ℕ) → List (ℕ × ℕ)
+with_told None old = old
+with_told (Some entry) old = old ++ stamped entry ∷ []
+
+length-with_told : (recent : Option Entry) (old : List (ℕ × ℕ)) → length (with_told recent old) ≡ length old + option_len recent
+length-with_told None old = omega arith
+length-with_told (Some entry) old = omega (arith, length-append old (stamped entry ∷ []))
+
+all_told : (recent : Option Entry) (tree : Ordered) → StandsBeside recent tree → (old new : List (ℕ × ℕ)) →
+    new ≡ with_told recent old ++ map stamped (entries tree.members) → IsPermutation (old ++ map stamped (entries (with_recent recent tree.members))) new
+all_told None tree beside old new is = subst (IsPermutation (old ++ map stamped (entries tree.members))) (sym is) (IsPermutation-refl (old ++ map stamped (entries tree.members)))
+all_told (Some entry) tree beside old new is =
+    subst (IsPermutation (old ++ map stamped (entries (with_recent (Some entry) tree.members)))) (sym is) (told-recent entry tree beside old)
+
+pub push-requires : goal.push-requires
+push-requires c =
+    let recent = c.self.inside.recent in
+    let tree = c.self.inside.tree in
+    let is : recent ≡ Some (c.in-Some.key, c.in-Some.pid) = c.in-Some.is in
+    let seen = ap (λ (order : Ordered). len order.members) c.self.view_is in
+    let within : length c.args.movers.now.items < 256 = omega (arith, c.requires.room, seen, len-recent recent tree c.self.invariant, ap (λ (o : Option Entry). option_len o) is) in
+    (omega arith, within)
+
+pub tell_into-requires : goal.tell_into-requires
+tell_into-requires c =
+    let recent = c.self.inside.recent in
+    let tree = c.self.inside.tree in
+    let seen = ap (λ (order : Ordered). len order.members) c.self.view_is in
+    let told : c.match-self.movers.items ≡ with_told recent c.args.movers.now.items = elim c.match-self.branch [
+      | in-Some w ↦
+          ap (λ movers. movers.items) w.movers-is ∙ w.push.ensures.items
+          ∙ ap (λ (o : Option Entry). with_told o c.args.movers.now.items) (sym w.in-Some.is)
+      | in_default w ↦
+          ap (λ movers. movers.items) w.movers-is
+          ∙ ap (λ (o : Option Entry). with_told o c.args.movers.now.items) (sym w.in_default.is)
+    ] in
+    record { room = omega (arith, c.requires.room, seen, len-recent recent tree c.self.invariant, ap length told, length-with_told recent c.args.movers.now.items) }
+
+pub returns : goal.returns
+returns c =
+    let recent = c.self.inside.recent in
+    let tree = c.self.inside.tree in
+    let told : c.match-self.movers.items ≡ with_told recent c.args.movers.now.items = elim c.match-self.branch [
+      | in-Some w ↦
+          ap (λ movers. movers.items) w.movers-is ∙ w.push.ensures.items
+          ∙ ap (λ (o : Option Entry). with_told o c.args.movers.now.items) (sym w.in-Some.is)
+      | in_default w ↦
+          ap (λ movers. movers.items) w.movers-is
+          ∙ ap (λ (o : Option Entry). with_told o c.args.movers.now.items) (sym w.in_default.is)
+    ] in
+    record {
+      told = rw (← c.self.view_is)
+          (all_told recent tree c.self.invariant c.args.movers.now.items c.tell_into.new.movers.items
+          (c.tell_into.ensures.told ∙ ap (λ (movers : List (ℕ × ℕ)). movers ++ map stamped (entries tree.members)) told));
+    }
