@@ -1,5 +1,5 @@
 -- Entries that rise by cookie first: those of a cookie stand together.
-use Rattle.std.proofs.Common.{◌≡◌, ◌≢◌, ℕ, ◌<◌, ◌≤◌, Bool, true, false, not, cond, List, [], ◌∷◌, Option, None, Some, inl, inr, refl, sym, ap, ◌∙◌, arith}
+use Rattle.std.proofs.Common.{◌≡◌, ◌≢◌, ℕ, ◌<◌, ◌≤◌, map, Bool, true, false, not, cond, List, [], ◌∷◌, Option, None, Some, inl, inr, refl, sym, ap, ◌∙◌, arith}
 use Rattle.std.specs.Prelude.{◌&&◌, ◌==◌, find}
 use Rattle.std.specs.List.{AllByRecursion}
 use Rattle.std.specs.Option.{option_map}
@@ -18,8 +18,10 @@ use Rattle.order_tree.specs.Order.{Entry, Members, key_cmp, first_from, next_of}
 use Rattle.order_tree.specs.Renamed.{renamed, map_renamed}
 use Rattle.order_tree.specs.declared.key.Key.{Key}
 use Rattle.order_tree.proofs.Entries.{less_by, true_by}
-use Rattle.order_tree.proofs.Renamed.{IsRenaming, entries-map_renamed, get-map_renamed, len-map_renamed, map_renamed-insert, map_renamed-remove}
+use Rattle.order_tree.specs.Anew.{rekeyed}
+use Rattle.order_tree.proofs.Renamed.{IsRenaming, is_sorted-renamed, entries-map_renamed, get-map_renamed, len-map_renamed, map_renamed-insert, map_renamed-remove}
 use Rattle.order_tree.proofs.Keys.{key_total}
+use Rattle.cookie_queue.specs.Anew.{respotted}
 use Rattle.cookie_queue.specs.Inside.{spot_at, key_at, with_cookie}
 
 -- ---- the names of the keys
@@ -240,6 +242,23 @@ module _ (members : Members) where
 
   pub len-tasks_of : len tasks_of ≡ len members
   len-tasks_of = len-map_renamed spots members (all_any (entries members))
+
+  -- the tasks with other ranks and stamps
+  module _ (at : ℕ → ℕ × ℕ) where
+    renamed-anew : (es : List Entry) → renamed spot_at (map (rekeyed at) es) ≡ map (respotted at) (renamed spot_at es)
+    renamed-anew [] = refl
+    renamed-anew (e ∷ es) = ap (λ (rest : List (Spot × ℕ)). respotted at (spot_at e.0, e.1) ∷ rest) (renamed-anew es)
+
+    pub rising-anew : is_sorted spot_cmp (map (respotted at) (entries tasks_of)) ≡ true → is_sorted key_cmp (map (rekeyed at) (entries members)) ≡ true
+    rising-anew still =
+        sym (is_sorted-renamed spots (map (rekeyed at) (entries members)) (all_any (map (rekeyed at) (entries members))))
+        ∙ ap (is_sorted spot_cmp) (renamed-anew (entries members) ∙ ap (map (respotted at)) (sym spots_are)) ∙ still
+
+    pub tasks_of-anew : (after : Members) → entries after ≡ map (rekeyed at) (entries members) →
+        entries (map_renamed spot_cmp spot_at after) ≡ map (respotted at) (entries tasks_of)
+    tasks_of-anew after is =
+        entries-map_renamed spots after (all_any (entries after)) ∙ ap (renamed spot_at) is ∙ renamed-anew (entries members)
+        ∙ ap (map (respotted at)) (sym spots_are)
 
   pub tasks_of-insert : (after : Members) (spot : Spot) (pid : ℕ) → after ≡ fin.insert members (key_at spot) pid →
       map_renamed spot_cmp spot_at after ≡ fin.insert tasks_of spot pid

@@ -1,13 +1,15 @@
 //! The queue: an ordered tree, whose keys are grouped by cookie.
 
 ghost use Rattle.std.specs.Prelude.{◌≡◌, ◌≢◌, ◌+◌, ◌<◌, ◌≤◌, max, None, OnOk, OnErr, IfSome, IsTrue, if◌then◌else◌};
+ghost use Rattle.std.specs.Prelude as list;
 ghost use Rattle.std.specs.FinMap as map;
 ghost use Rattle.cs_types.specs.Comparisons.{most_comparisons};
-ghost use Rattle.cs_types.specs.Queue.{IsRanked, spot_of, first_with, next_with};
+ghost use Rattle.cs_types.specs.Queue.{IsRanked, spot_cmp, spot_of, first_with, next_with};
+ghost use Rattle.cookie_queue.specs.Anew.{respotted};
 ghost use Rattle.cookie_queue.specs.Inside.{key_at, with_cookie};
 
 use cs_types::{Cookie, OutOfMemory, Pid, Queued, Steps};
-use order_tree::{Key, RecentTree};
+use order_tree::{Key, RecentTree, Renewal};
 use std::alloc::Global;
 use std::marker::Model;
 use std::sync::ledger::Ledger;
@@ -105,6 +107,16 @@ impl CookieQueue {
         ensures spare { self.new.spare ≡ self.old.spare + map.len self.old.tasks }
     {
         self.tree.clear();
+    }
+
+    /// Each task gets the rank and the stamp that it has now, with which they stand in the same order.
+    pub fn renew<R: Renewal, L: Ledger>(&mut self, renewal: &R, steps: &mut Steps<L>)
+        requires rising { IsTrue (map.is_sorted spot_cmp (list.map (respotted (R.at renewal.now)) (map.entries self.old.tasks))) }
+        ensures entries { map.entries self.new.tasks ≡ list.map (respotted (R.at renewal.now)) (map.entries self.old.tasks) }
+        ensures spare { self.new.spare ≡ self.old.spare }
+        ensures counted { steps.new ≤ steps.old + most_comparisons (map.len self.old.tasks) }
+    {
+        self.tree.renew(renewal, steps);
     }
 
     /// The highest task with the cookie (`sched_core_find`, kernel/sched/core.c). `None` exactly where no
