@@ -3,3 +3,4 @@ mod Runs
 mod Fair
 pub mod Ties
 pub mod Tops
+pub mod Anew

@@ -24,7 +24,7 @@ use Rattle.run_queue.specs.Classes.{stamped, seats_in, joined}
 -- ---- comparisons of seats
 
 -- two seats of one class compare as their keys
-seat_cmp-same : (class : ℕ) (a b : Key) → seat_cmp (class, a) (class, b) ≡ key_cmp a b
+pub seat_cmp-same : (class : ℕ) (a b : Key) → seat_cmp (class, a) (class, b) ≡ key_cmp a b
 seat_cmp-same class a b = ap (λ r. ordering_then r (key_cmp a b)) (tied_itself nat_cmp_total class)
 
 -- a seat of a higher class is less
@@ -43,7 +43,7 @@ is_eq-seat_cmp a b = is_eq-then (nat_cmp a.0 b.0) (key_cmp a.1 b.1) ∙ ap (λ t
 -- ---- one more class in front
 
 -- these tasks, each at its seat in the class
-abbrev seated : ℕ → List (Key × ℕ) → List (Seat × ℕ)
+abbrev pub seated : ℕ → List (Key × ℕ) → List (Seat × ℕ)
 seated class es = map (λ entry. ((class, entry.0), entry.1)) es
 
 -- all of these are in lower classes

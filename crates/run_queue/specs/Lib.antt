@@ -1,3 +1,4 @@
 pub mod Classes
 pub mod Run
 pub mod Fair
+pub mod Anew

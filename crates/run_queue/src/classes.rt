@@ -8,14 +8,15 @@ ghost use Rattle.std.specs.Option.{option_map};
 ghost use Rattle.cs_types.specs.declared.task.Task.{Task};
 ghost use Rattle.cs_types.specs.Comparisons.{most_comparisons};
 ghost use Rattle.cs_types.specs.Order.{fair_class, priority_of, first_of};
-ghost use Rattle.cs_types.specs.Queue.{seat_of, queue_of, top_of};
+ghost use Rattle.cs_types.specs.Queue.{seat_of, queue_of, top_of, seat_cmp};
 ghost use Rattle.run_queue.specs.Fair.{first_in, least_rank_in};
+ghost use Rattle.run_queue.specs.Anew.{reseated};
 ghost use Rattle.run_queue.specs.Classes.{stamped};
 
 use cs_types::{ClassQueue, OutOfMemory, Pid, Queued, Steps};
 use deadline_queue::DeadlineQueue;
 use fair_queue::FairQueue;
-use order_tree::{Movers, RankTree};
+use order_tree::{Movers, RankTree, Renewal};
 use rt_queue::RtQueue;
 use std::alloc::Global;
 use std::marker::Model;
@@ -146,6 +147,30 @@ impl Classes {
         self.deadline.clear_into(movers);
         self.real_time.clear_into(movers);
         self.fair.clear_into(movers);
+    }
+
+    /// Each task is told by its stamp and its pid, in any order.
+    pub fn tell_into(&self, movers: &mut Movers)
+        requires room { length movers.old.items + map.len self.now.tasks ≤ 256 }
+        ensures told { IsPermutation (movers.old.items ++ list.map stamped (map.entries self.now.tasks)) movers.new.items }
+    {
+        self.stop.tell_into(movers);
+        self.deadline.tell_into(movers);
+        self.real_time.tell_into(movers);
+        self.fair.tell_into(movers);
+    }
+
+    /// Each task gets the rank and the stamp that it has now, with which they stand in the same order.
+    pub fn renew<R: Renewal, L: Ledger>(&mut self, renewal: &R, steps: &mut Steps<L>)
+        requires rising { IsTrue (map.is_sorted seat_cmp (list.map (reseated (R.at renewal.now)) (map.entries self.old.tasks))) }
+        ensures entries { map.entries self.new.tasks ≡ list.map (reseated (R.at renewal.now)) (map.entries self.old.tasks) }
+        ensures spare { self.new.spare ≡ self.old.spare }
+        ensures counted { steps.new ≤ steps.old + 4 * most_comparisons (map.len self.old.tasks) }
+    {
+        self.stop.renew(renewal, steps);
+        self.deadline.renew(renewal, steps);
+        self.real_time.renew(renewal, steps);
+        self.fair.renew(renewal, steps);
     }
 
     /// The pid of the first task: the one of the highest class, in that of the least rank, and among

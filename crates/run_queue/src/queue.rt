@@ -7,15 +7,17 @@ ghost use Rattle.std.specs.Option.{option_map};
 ghost use Rattle.cs_types.specs.declared.task.Task.{Task};
 ghost use Rattle.cs_types.specs.Comparisons.{most_comparisons};
 ghost use Rattle.cs_types.specs.Order.{fair_class, priority_of, first_of};
-ghost use Rattle.cs_types.specs.Queue.{IsRanked, seat_of, spot_of, queue_of, top_of, first_with, next_with};
-ghost use Rattle.run_queue.specs.Fair.{least_rank_in};
-ghost use Rattle.run_queue.specs.Run.{without, including};
+ghost use Rattle.cs_types.specs.Queue.{IsRanked, seat_of, spot_of, queue_of, top_of, first_with, next_with, Seats, Spots, seat_cmp, spot_cmp};
+ghost use Rattle.run_queue.specs.Fair.{least_rank_in, first_in};
+ghost use Rattle.run_queue.specs.Run.{without, including, IsTied};
+ghost use Rattle.cookie_queue.specs.Anew.{respotted};
+ghost use Rattle.run_queue.specs.Anew.{reseated};
 ghost use Rattle.run_queue.specs.Classes.{stamped};
 
 use crate::classes::Classes;
 use cookie_queue::CookieQueue;
 use cs_types::{Cookie, OutOfMemory, Pid, Queued, Steps};
-use order_tree::Movers;
+use order_tree::{Movers, Renewal};
 use std::alloc::Global;
 use std::marker::Model;
 use std::sync::ledger::Ledger;
@@ -194,6 +196,30 @@ impl RunQueue {
     {
         self.classes.clear_into(movers);
         self.cookies.clear();
+    }
+
+    /// Each task is told by its stamp and its pid, in any order.
+    pub fn tell_into(&self, movers: &mut Movers)
+        requires room { length movers.old.items + map.len self.now.tasks ≤ 256 }
+        ensures told { IsPermutation (movers.old.items ++ list.map stamped (map.entries self.now.tasks)) movers.new.items }
+    {
+        self.classes.tell_into(movers);
+    }
+
+    /// Each task gets the rank and the stamp that it has now, with which they stand in the same order, and those with
+    /// cookies among them are still theirs.
+    pub fn renew<R: Renewal, L: Ledger>(&mut self, renewal: &R, steps: &mut Steps<L>)
+        requires rising { IsTrue (map.is_sorted seat_cmp (list.map (reseated (R.at renewal.now)) (map.entries self.old.tasks))) }
+        requires rising_with_cookies { IsTrue (map.is_sorted spot_cmp (list.map (respotted (R.at renewal.now)) (map.entries self.old.cookies))) }
+        requires tied { (tasks : Seats) (cookies : Spots) → map.entries tasks ≡ list.map (reseated (R.at renewal.now)) (map.entries self.old.tasks) →
+            map.entries cookies ≡ list.map (respotted (R.at renewal.now)) (map.entries self.old.cookies) → IsTied tasks cookies }
+        ensures tasks { map.entries self.new.tasks ≡ list.map (reseated (R.at renewal.now)) (map.entries self.old.tasks) }
+        ensures cookies { map.entries self.new.cookies ≡ list.map (respotted (R.at renewal.now)) (map.entries self.old.cookies) }
+        ensures spare { self.new.spare ≡ self.old.spare }
+        ensures counted { steps.new ≤ steps.old + 5 * most_comparisons (map.len self.old.tasks) }
+    {
+        self.classes.renew(renewal, steps);
+        self.cookies.renew(renewal, steps);
     }
 
     /// The pid of the first task: the one of the highest class, in that of the least rank, and among

@@ -1,0 +1,68 @@
+use Rattle.std.proofs.Common.{◌≡◌, ℕ, List, ◌++◌, map, sym, ap, ◌∙◌, subst, arith}
+use Rattle.std.specs.List.Sorted.{IsPermutation}
+use Rattle.std.specs.FinMap.{empty, entries, len, len-empty}
+use Rattle.cs_types.specs.Queue.{Members, Seated, key_cmp}
+use Rattle.order_tree.specs.Rank.{stamped as ranked_stamp}
+use Rattle.run_queue.proofs.Seats.{len-joined, length-told, told-joined, told-next}
+use Rattle.run_queue.proofs.classes.Classes.tell_into.Goals as goal
+
+none : (members : Members) → members ≡ empty → len members ≡ 0
+none members is = ap len is ∙ len-empty key_cmp ℕ
+
+-- ---- the calls, which tell no more than all
+
+pub tell_into-requires : goal.tell_into-requires
+tell_into-requires c =
+    let was = c.self.inside in
+    let all = len-joined was.stop.members was.deadline.members was.real_time.members was.fair.members in
+    let seen = ap (λ (classes : Seated). len classes.tasks) c.self.view_is in
+    record { room = omega (arith, all, seen, c.requires.room) }
+
+pub tell_into-requires-2 : goal.tell_into-requires-2
+tell_into-requires-2 c =
+    let was = c.self.inside in
+    let all = len-joined was.stop.members was.deadline.members was.real_time.members was.fair.members in
+    let seen = ap (λ (classes : Seated). len classes.tasks) c.self.view_is in
+    let one = length-told was.stop.members c.args.movers.now.items c.tell_into.new.movers.items c.tell_into.ensures.told in
+    record { room = omega (arith, all, seen, one, c.requires.room) }
+
+pub tell_into-requires-3 : goal.tell_into-requires-3
+tell_into-requires-3 c =
+    let was = c.self.inside in
+    let all = len-joined was.stop.members was.deadline.members was.real_time.members was.fair.members in
+    let seen = ap (λ (classes : Seated). len classes.tasks) c.self.view_is in
+    let one = length-told was.stop.members c.args.movers.now.items c.tell_into.new.movers.items c.tell_into.ensures.told in
+    let two = length-told was.deadline.members c.tell_into.new.movers.items c.tell_into-2.new.movers.items c.tell_into-2.ensures.told in
+    record { room = omega (arith, all, seen, one, two, c.requires.room) }
+
+pub tell_into-requires-4 : goal.tell_into-requires-4
+tell_into-requires-4 c =
+    let was = c.self.inside in
+    let all = len-joined was.stop.members was.deadline.members was.real_time.members was.fair.members in
+    let seen = ap (λ (classes : Seated). len classes.tasks) c.self.view_is in
+    let one = length-told was.stop.members c.args.movers.now.items c.tell_into.new.movers.items c.tell_into.ensures.told in
+    let two = length-told was.deadline.members c.tell_into.new.movers.items c.tell_into-2.new.movers.items c.tell_into-2.ensures.told in
+    let three = length-told was.real_time.members c.tell_into-2.new.movers.items c.tell_into-3.new.movers.items c.tell_into-3.ensures.told in
+    record { room = omega (arith, all, seen, one, two, three, c.requires.room) }
+
+-- ---- what is left
+
+pub returns : goal.returns
+returns c =
+    let was = c.self.inside in
+    let old = c.args.movers.now.items in
+    let stop = map ranked_stamp (entries was.stop.members) in
+    let deadline = map ranked_stamp (entries was.deadline.members) in
+    let real_time = map ranked_stamp (entries was.real_time.members) in
+    let fair = map ranked_stamp (entries was.fair.members) in
+    let one = c.tell_into.new.movers.items in
+    let two = c.tell_into-2.new.movers.items in
+    let three = c.tell_into-3.new.movers.items in
+    let all = c.tell_into-4.new.movers.items in
+    record {
+      told = rw (← c.self.view_is)
+          (subst (λ (told : List (ℕ × ℕ)). IsPermutation (old ++ told) all) (sym (told-joined was.stop.members was.deadline.members was.real_time.members was.fair.members))
+          (told-next old one all stop (deadline ++ (real_time ++ fair)) c.tell_into.ensures.told
+          (told-next one two all deadline (real_time ++ fair) c.tell_into-2.ensures.told
+          (told-next two three all real_time fair c.tell_into-3.ensures.told c.tell_into-4.ensures.told))));
+    }
