@@ -5,3 +5,4 @@ pub mod Starts
 pub mod Lists
 pub mod Alike
 pub mod Timed
+pub mod Exchanged

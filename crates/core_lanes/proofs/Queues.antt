@@ -113,7 +113,7 @@ others-absent tasks task cpu rises there off = absent_from task.spec.pid cpu 0 t
 
 -- ---- the queues
 
-slice_get-set : {X : Type 0} (xs : List X) (i k : ℕ) (x y : X) → slice_get (set xs i x) k ≡ Some y →
+pub slice_get-set : {X : Type 0} (xs : List X) (i k : ℕ) (x y : X) → slice_get (set xs i x) k ≡ Some y →
     ((k ≡ i) × (y ≡ x)) ⊎ ((k ≢ i) × (slice_get xs k ≡ Some y))
 slice_get-set [] i k x y at = absurd cc
 slice_get-set (first ∷ xs) zero zero x y at = inl (refl, cc)

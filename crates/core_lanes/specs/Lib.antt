@@ -1,4 +1,6 @@
 pub mod Queued
+pub mod Moved
 pub mod Lanes
+pub mod Exchanges
 pub mod Numbers
 pub mod Changes

@@ -419,6 +419,7 @@ impl<Q: SiblingQueue> Core<Q> {
 
     /// The task as it is once it has moved to the sibling: it keeps what it is ahead of the least virtual
     /// time of its queue.
+    #[inline(always)]
     pub fn moved_to(&self, cpu: Cpu, task: Task) -> Task
         requires cpu { cpu < length self.now.lanes.items }
         requires home { task.home < length self.now.lanes.items }

@@ -4,6 +4,7 @@
 
 mod lane;
 mod lanes;
+mod moving;
 mod order;
 mod queue;
 mod queued;

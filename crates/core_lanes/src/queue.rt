@@ -2,11 +2,12 @@
 
 ghost use Rattle.std.specs.Prelude.{◌≡◌, ◌≢◌, ◌==◌, ◌&&◌, ℕ, ◌+◌, ◌*◌, ◌≤◌, List, [], ◌++◌, length, map, IfOk, IsPermutation};
 ghost use Rattle.std.specs.Option.{option_map};
-ghost use Rattle.cs_types.specs.declared.queue.Queued.{Queued as SomeQueued};
+ghost use Rattle.cs_types.specs.declared.queue.Queued.{Queued as SomeQueued, Queued};
 ghost use Rattle.cs_types.specs.Order.{first_of};
 ghost use Rattle.cs_types.specs.Queue.{queued_of};
 ghost use Rattle.cs_types.specs.Scenario.{IsPolicy};
 ghost use Rattle.core_lanes.specs.Queued.{queued_among, queued_at, mover_of, others, given_cookie, given_vtime, IsOf, IsQueuedOn, IsFairOn, MayBePut, with_cookie, behind, smallest_vtime, has_peer, HavePolicies};
+ghost use Rattle.core_lanes.specs.Moved.{MayRenew};
 ghost use Rattle.task_table.specs.Table.{IsSound as IsTable};
 
 use arrayvec::ArrayVec;
@@ -85,6 +86,19 @@ pub trait SiblingQueue: Drop {
         requires holds { holds self.old table.now.limit (queued_at table.now.tasks cpu) }
         ensures holds { holds self.new table.now.limit [] }
         ensures told { IsPermutation (movers.old.items ++ map mover_of (queued_among table.now.tasks cpu)) movers.new.items };
+
+    /// Each task is told, in any order. There is a place for each task in the list.
+    fn tell_into(&self, table: &TaskTable, cpu: Cpu, movers: &mut Movers)
+        requires places { length movers.old.items + length (queued_among table.now.tasks cpu) ≤ 256 }
+        requires holds { holds self.now table.now.limit (queued_at table.now.tasks cpu) }
+        ensures told { IsPermutation (movers.old.items ++ map mover_of (queued_among table.now.tasks cpu)) movers.new.items };
+
+    /// All tasks that it holds have moved to the sibling in the table, in the order in which they stand. It holds them
+    /// as they are now. It makes at most twice as many comparisons as another call.
+    fn renew<L: Ledger>(&mut self, table: &TaskTable, cpu: Cpu, steps: &mut Steps<L>)
+        requires { MayRenew (holds self.old table.now.limit) cpu table.now }
+        ensures holds { holds self.new table.now.limit (queued_at table.now.tasks cpu) }
+        ensures counted { steps.new ≤ steps.old + 2 * most_compared (length (queued_among table.now.tasks cpu)) };
 
     /// The first task, `None` where there is none (`pick_task`).
     fn first<L: Ledger>(&self, table: &TaskTable, cpu: Cpu, steps: &mut Steps<L>) -> Option<Queued>

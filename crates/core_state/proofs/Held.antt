@@ -22,10 +22,10 @@ use Rattle.core_state.proofs.Made.{free_at, made-put, made-take}
 use Rattle.core_state.proofs.Splits.{IsSplit, length-split, all_filter, distinct_in, distinct_out, split-pass, split-fail}
 
 -- a seat and a spot have the stamp of their task
-seat_stamp : (a b : Queued) → seat_of a ≡ seat_of b → a.stamp ≡ b.stamp
+pub seat_stamp : (a b : Queued) → seat_of a ≡ seat_of b → a.stamp ≡ b.stamp
 seat_stamp a b same = ap (λ (seat : Seat). seat.1.1) same
 
-spot_stamp : (a b : Queued) → spot_of a ≡ spot_of b → a.stamp ≡ b.stamp
+pub spot_stamp : (a b : Queued) → spot_of a ≡ spot_of b → a.stamp ≡ b.stamp
 spot_stamp a b same = ap (λ (spot : Spot). spot.1.1.1) same
 
 module _ (task : Queued) (all rest : List Queued) (split : IsSplit task all rest) (apart : AllByRecursion (AreApart task) rest) where

@@ -9,3 +9,4 @@ pub mod Counts
 pub mod Crosses
 pub mod Compared
 pub mod Firsts
+pub mod Moved

@@ -3,6 +3,7 @@
 
 mod first;
 mod queue;
+mod renewed;
 mod room;
 mod task;
 

@@ -1,7 +1,7 @@
 //! The queue that is none: each question is answered by a walk over the table.
 
-ghost use Rattle.std.specs.Prelude.{◌≡◌, ◌==◌, ◌&&◌};
-ghost use Rattle.core_lanes.specs.Queued.{is_peer_of};
+ghost use Rattle.std.specs.Prelude.{◌≡◌, ◌+◌, ◌≤◌, ◌++◌, length, map};
+ghost use Rattle.core_lanes.specs.Queued.{is_peer_of, queued_among, mover_of};
 
 use core_lanes::{Movers, SiblingQueue, goes_before, is_fair, is_on, priority_of, queued_of};
 use cs_types::{Cookie, Cpu, OutOfMemory, Queued, Steps, Task};
@@ -20,6 +20,18 @@ fn is_peer_of(task: &Task, other: &Task) -> bool
 {
     task.spec.policy.class().number() == other.spec.policy.class().number()
         && priority_of(task.spec.policy) == priority_of(other.spec.policy)
+}
+
+/// Tells the tasks of the table that are queued on the sibling.
+fn tell(table: &TaskTable, cpu: Cpu, movers: &mut Movers)
+    requires places { length movers.old.items + length (queued_among table.now.tasks cpu) ≤ 256 }
+    ensures told { movers.new.items ≡ movers.old.items ++ map mover_of (queued_among table.now.tasks cpu) }
+{
+    for task in table.iter() {
+        if is_on(task, cpu) {
+            movers.push((task.stamp, task.spec.pid));
+        }
+    }
 }
 
 impl SiblingQueue for Walk {
@@ -69,11 +81,7 @@ impl SiblingQueue for Walk {
     ) {}
 
     fn clear_into(&mut self, table: &TaskTable, cpu: Cpu, movers: &mut Movers) {
-        for task in table.iter() {
-            if is_on(task, cpu) {
-                movers.push((task.stamp, task.spec.pid));
-            }
-        }
+        tell(table, cpu, movers);
     }
 
     fn first<L: Ledger>(
@@ -83,6 +91,16 @@ impl SiblingQueue for Walk {
         _steps: &mut Steps<L>,
     ) -> Option<Queued> {
         let first = table
+    }
+
+    fn tell_into(&self, table: &TaskTable, cpu: Cpu, movers: &mut Movers) {
+        tell(table, cpu, movers);
+    }
+
+    fn renew<L: Ledger>(&mut self, _table: &TaskTable, _cpu: Cpu, _steps: &mut Steps<L>) {}
+
+    fn first<L: Ledger>(&self, table: &TaskTable, cpu: Cpu, _steps: &mut Steps<L>) -> Option<Task> {
+        table
             .iter()
             .copied()
             .filter(|task| task.queued && task.home == cpu)

@@ -6,7 +6,7 @@ use Rattle.std.proofs.lemmas.List.Sorted.{IsPermutation-refl}
 use Rattle.cs_types.specs.declared.task.Task.{Task}
 use Rattle.core_lanes.specs.Queued.{queued_among, mover_of}
 use Rattle.core_lanes.proofs.Queues.{is_on}
-use Rattle.plain_room.proofs.walk.WalkSiblingQueue.clear_into.Goals as goal
+use Rattle.plain_room.proofs.walk.tell.Goals as goal
 
 -- one more is told where it is queued there
 goes : (task : Task) (rest : List Task) (cpu : ℕ) (told : List (ℕ × ℕ)) → is_on cpu task ≡ true →
@@ -56,8 +56,8 @@ loop-task-preserved c =
           ∙ c.loop-task.invariant.told;
     }
 
-pub returns-clause-told : goal.returns-clause-told
-returns-clause-told c =
+pub returns : goal.returns
+returns c =
     let told = c.loop-task.movers.items in
     let none : c.loop-task.task-iterator ≡ [] = c.in-None.ensures.steps.0 in
     let all = c.args.movers.now.items ++ map mover_of (queued_among c.args.table.now.tasks c.args.cpu) in
@@ -65,4 +65,4 @@ returns-clause-told c =
     sym c.loop-task.invariant.told
     ∙ ap (λ (tasks : List Task). told ++ map mover_of (queued_among tasks c.args.cpu)) none
     ∙ append-nil told in
-    subst (IsPermutation all) is (IsPermutation-refl all)
+    record { told = sym is }

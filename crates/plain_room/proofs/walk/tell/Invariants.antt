@@ -1,6 +1,6 @@
 use Rattle.std.proofs.Common.{◌≡◌, ◌++◌, map}
 use Rattle.core_lanes.specs.Queued.{queued_among, mover_of}
-use Rattle.plain_room.proofs.walk.WalkSiblingQueue.clear_into.Given as goal
+use Rattle.plain_room.proofs.walk.tell.Given as goal
 
 abbrev pub invariant-loop-task : goal.invariant-loop-task
 invariant-loop-task l = record {

@@ -1,0 +1,83 @@
+use Rattle.std.proofs.Common.{◌≡◌, ◌≢◌, map, List, inl, inr, sym, subst, ap, ◌∙◌, length, arith}
+use Rattle.std.specs.Prelude.{slice_get, ◌==◌}
+use Rattle.std.specs.Global.{Vec}
+use Rattle.std.specs.Vec.{with_items}
+use Rattle.std.proofs.lemmas.Bool.{cases_Bool, eqb-true, eqb-false}
+use Rattle.std.proofs.lemmas.List.{map-set, length-map}
+use Rattle.std.proofs.Math.Seq.{map-set_same}
+use Rattle.core_lanes.specs.Queued.{queued_at}
+use Rattle.core_lanes.specs.Lanes.{lane_state}
+use Rattle.core_lanes.specs.declared.lane.Lane.{Lane}
+use Rattle.core_lanes.proofs.Lists.{items-as_many}
+use Rattle.core_lanes.proofs.Stays.{number_of, queue_of, queue_at}
+use Rattle.core_lanes.proofs.Queues.{held-set}
+use Rattle.core_lanes.proofs.lanes.Core.exchange.Goals as goal
+
+-- what was written over all siblings is what is there, where it says the same of each
+written : {Q : Type 0} (lanes : Vec (Lane Q)) (was now : List (Lane Q)) → was ≡ lanes.items → map lane_state now ≡ map lane_state was → (with_items lanes now).items ≡ now
+written lanes was now are states =
+    items-as_many lanes now (sym (length-map now lane_state) ∙ ap length states ∙ length-map was lane_state ∙ ap length are)
+
+pub renew-requires : goal.renew-requires
+renew-requires g c =
+    let swap = c.swap_queues.ensures in
+    let was = c.deref_mut.ensures.value in
+    let is = written c.args.self.now.lanes c.deref_mut.result.now c.swap_queues.new.lanes was swap.states in
+    let lanes = (with_items c.args.self.now.lanes c.swap_queues.new.lanes).items in
+    let many : length lanes ≡ length c.args.self.now.lanes.items =
+    ap length is ∙ sym (length-map c.swap_queues.new.lanes lane_state) ∙ ap length swap.states ∙ length-map c.deref_mut.result.now lane_state ∙ ap length was in
+    let lane = c.index_mut.result.now in
+    c.requires.full lane.queue
+    (ap (λ ls. slice_get (map queue_of ls) c.args.from) (sym was)
+    ∙ sym swap.other ∙ ap (λ ls. slice_get (map queue_of ls) c.args.to) (sym is)
+    ∙ queue_at lanes c.args.to lane (omega (arith, many, c.requires.other)) c.index_mut.ensures.value)
+
+pub returns-clause-bare : goal.returns-clause-bare
+returns-clause-bare g c =
+    let swap = c.swap_queues.ensures in
+    let was = c.deref_mut.ensures.value in
+    let is = written c.args.self.now.lanes c.deref_mut.result.now c.swap_queues.new.lanes was swap.states in
+    let lanes = (with_items c.args.self.now.lanes c.swap_queues.new.lanes).items in
+    let lane = c.index_mut.result.now in
+    let after = record lane { queue = c.renew.new.self } in
+    let states = map-set_same lane_state lanes c.args.to after lane (ap lane_state c.index_mut.ensures.value)
+    ∙ ap (map lane_state) is ∙ swap.states ∙ ap (map lane_state) was in
+    let numbers = map-set_same number_of lanes c.args.to after lane (ap number_of c.index_mut.ensures.value)
+    ∙ ap (map number_of) is ∙ swap.numbers ∙ ap (map number_of) was in
+    λ i. record {
+      cookie = c.args.self.now.cookie;
+      task_number = c.args.self.now.task_number;
+      pick_number = c.args.self.now.pick_number;
+      next_stamp = c.args.self.now.next_stamp;
+      account = c.args.self.now.account;
+      siblings = states i;
+      own = numbers i;
+    }
+
+pub returns-clause-held : goal.returns-clause-held
+returns-clause-held g c =
+    let table = c.args.table.now in
+    let swap = c.swap_queues.ensures in
+    let was = c.deref_mut.ensures.value in
+    let is = written c.args.self.now.lanes c.deref_mut.result.now c.swap_queues.new.lanes was swap.states in
+    let lanes = (with_items c.args.self.now.lanes c.swap_queues.new.lanes).items in
+    let lane = c.index_mut.result.now in
+    let after = record lane { queue = c.renew.new.self } in
+    rw (map-set queue_of lanes c.args.to after)
+    (held-set (λ cpu x. cpu ≢ c.args.to → g.Q.SiblingQueue.holds x table.limit (queued_at table.tasks cpu))
+    (λ cpu x. g.Q.SiblingQueue.holds x table.limit (queued_at table.tasks cpu)) (map queue_of lanes) c.args.to c.renew.new.self
+    (λ cpu x other held. held other)
+    (λ cpu x at other. elim (cases_Bool (cpu == c.args.from)) [
+      | inl here ↦
+          let home = eqb-true cpu c.args.from here in
+          subst (λ n. g.Q.SiblingQueue.holds x table.limit (queued_at table.tasks n)) (sym home)
+          (c.requires.empty x
+          (ap (λ ls. slice_get (map queue_of ls) c.args.to) (sym was)
+          ∙ sym swap.one ∙ ap (λ ls. slice_get (map queue_of ls) c.args.from) (sym is) ∙ ap (slice_get (map queue_of lanes)) (sym home) ∙ at))
+      | inr apart ↦
+          let not_from = eqb-false cpu c.args.from apart in
+          c.requires.rest cpu x not_from other
+          (ap (λ ls. slice_get (map queue_of ls) cpu) (sym was)
+          ∙ sym (swap.rest cpu not_from other) ∙ ap (λ ls. slice_get (map queue_of ls) cpu) (sym is) ∙ at)
+    ])
+    c.renew.ensures.holds)
