@@ -2,3 +2,4 @@ pub mod Onlines
 mod Ranks
 mod Leaving
 mod Steps
+mod Moving

@@ -1,5 +1,7 @@
 -- Leaves: what the leaving of a sibling makes of the siblings and of the tasks, each by itself.
-use Rattle.std.specs.Prelude.{◌≡◌, ℕ, ◌+◌, ◌==◌, ◌||◌, if◌then◌else◌, map, length}
+use Rattle.std.specs.Prelude.{◌≡◌, ℕ, ◌+◌, ◌≤◌, ◌==◌, ◌||◌, if◌then◌else◌, List, map, length, All, IsTrue}
+use Rattle.cs_types.specs.declared.task.Task.{Task}
+use Rattle.cs_types.specs.Order.{is_fair}
 use Rattle.cs_types.specs.Room.{RoomState, SiblingState, queued_on}
 use Rattle.cs_types.specs.Hotplug.{away, moved_off}
 use Rattle.core_lanes.specs.declared.lane.Lane.{Lane}
@@ -26,3 +28,7 @@ move_off room cpu =
       tasks = map (moved_off room cpu) room.tasks;
       next_stamp = room.next_stamp + length (queued_on room cpu);
     }
+
+-- no fair task of the list is behind this virtual time
+abbrev pub NoneBehind : ℕ → List Task → Type 0
+NoneBehind least tasks = All (λ task. IsTrue (is_fair task) → least ≤ task.vtime) tasks

@@ -1,17 +1,22 @@
 //! How the tasks of a sibling that leaves come to another. It is apart, since it alone gives them new stamps.
 
-ghost use Rattle.std.specs.Prelude.{◌≡◌, ◌≢◌, ◌+◌, ◌*◌, ◌^◌, ◌<◌, ◌≤◌, length};
+ghost use Rattle.std.specs.Prelude.{◌≡◌, ◌≢◌, ◌+◌, ◌*◌, ◌^◌, ◌<◌, ◌≤◌, [], length, IsTrue};
 ghost use Rattle.core_lanes.specs.Queued.{queued_among};
+ghost use Rattle.cs_types.specs.Room.{sibling_of};
 ghost use Rattle.cs_types.specs.Hotplug.{lowest_other};
+ghost use Rattle.task_table.specs.Table.{Table};
 ghost use Rattle.core_lanes.specs.Lanes.{Beside, room_of, Agree, HasLowTimes};
 ghost use Rattle.core_lanes.specs.Changes.{Touches};
-ghost use Rattle.cpu_hotplug.specs.Leaves.{move_off};
+ghost use Rattle.cpu_hotplug.specs.Leaves.{move_off, NoneBehind};
 
 use crate::away::lowest_other;
 use core_lanes::{Core, Movers, SiblingQueue, task_of};
 use cs_types::{Cpu, Steps};
 use std::sync::ledger::Ledger;
 use task_table::TaskTable;
+
+/// How many tasks are many, a count. So many change siblings with their queue, where they can.
+const MANY: u32 = 16;
 
 /// The tasks queued on the sibling move to the lowest other online one, in the order of their stamps.
 pub fn move_off<Q: SiblingQueue, L: Ledger>(
@@ -28,10 +33,91 @@ pub fn move_off<Q: SiblingQueue, L: Ledger>(
     requires touches { core.old.task_number + 2 * length table.old.tasks < 2 ^ 64 }
     ensures { Touches (2 * length (queued_among table.old.tasks cpu)) (core.old, table.old) (core.new, table.new) (λ room. move_off room cpu) }
 {
-    if core.lanes[cpu as usize].queue.count(table, cpu) == 0 {
+    let count = core.lanes[cpu as usize].queue.count(table, cpu);
+    if count == 0 {
         return;
     }
     let to = lowest_other(core, cpu);
+    if count >= MANY && may_exchange(core, table, cpu, to, steps) {
+        move_queue(core, table, cpu, to, steps);
+    } else {
+        move_each(core, table, cpu, to, steps);
+    }
+}
+
+/// Whether the queue may move as it is: the other sibling has none queued, and no fair task is behind the least
+/// virtual time of its own.
+fn may_exchange<Q: SiblingQueue, L: Ledger>(
+    core: &Core<Q>,
+    table: &TaskTable,
+    cpu: Cpu,
+    to: Cpu,
+    steps: &mut Steps<L>,
+) -> bool
+    requires cpu { cpu < length core.now.lanes.items }
+    requires other { to < length core.now.lanes.items }
+    requires agree { Agree (core.now, table.now) }
+    ensures empty { IsTrue result → queued_among table.now.tasks to ≡ [] }
+    ensures ahead { (beside : Beside) → IsTrue result → NoneBehind (sibling_of (room_of beside (core.now, table.now)) cpu).least (queued_among table.now.tasks cpu) }
+{
+    if core.lanes[to as usize].queue.count(table, to) > 0 {
+        return false;
+    }
+    let lane = &core.lanes[cpu as usize];
+    match lane.queue.smallest_vtime(table, cpu, steps) {
+        Some(smallest) => lane.least <= smallest,
+        None => true,
+    }
+}
+
+/// The tasks move with their queue, which changes places with that of the other sibling.
+fn move_queue<Q: SiblingQueue, L: Ledger>(
+    core: &mut Core<Q>,
+    table: &mut TaskTable,
+    cpu: Cpu,
+    to: Cpu,
+    steps: &mut Steps<L>,
+)
+    requires cpu { cpu < length core.old.lanes.items }
+    requires another { (beside : Beside) → lowest_other (room_of beside (core.old, table.old)) cpu ≢ cpu }
+    requires lowest { (beside : Beside) (tasks : Table) → to ≡ lowest_other (room_of beside (core.old, tasks)) cpu }
+    requires within { to < length core.old.lanes.items }
+    requires empty { queued_among table.old.tasks to ≡ [] }
+    requires ahead { (beside : Beside) → NoneBehind (sibling_of (room_of beside (core.old, table.old)) cpu).least (queued_among table.old.tasks cpu) }
+    requires agree { Agree (core.old, table.old) }
+    requires low { HasLowTimes (core.old, table.old) }
+    requires stamp { core.old.next_stamp + length table.old.tasks < 2 ^ 64 }
+    requires touches { core.old.task_number + 2 * length table.old.tasks < 2 ^ 64 }
+    ensures { Touches (2 * length (queued_among table.old.tasks cpu)) (core.old, table.old) (core.new, table.new) (λ room. move_off room cpu) }
+{
+    let mut movers = Movers::new();
+    core.tell_queued(table, cpu, &mut movers);
+    for mover in movers.iter() {
+        let task = task_of(table, mover.1).unwrap();
+        let moved = core.moved_to(to, task);
+        core.place(table, &moved);
+    }
+    core.exchange(table, cpu, to, steps);
+}
+
+/// The tasks move one by one.
+fn move_each<Q: SiblingQueue, L: Ledger>(
+    core: &mut Core<Q>,
+    table: &mut TaskTable,
+    cpu: Cpu,
+    to: Cpu,
+    steps: &mut Steps<L>,
+)
+    requires cpu { cpu < length core.old.lanes.items }
+    requires another { (beside : Beside) → lowest_other (room_of beside (core.old, table.old)) cpu ≢ cpu }
+    requires lowest { (beside : Beside) (tasks : Table) → to ≡ lowest_other (room_of beside (core.old, tasks)) cpu }
+    requires within { to < length core.old.lanes.items }
+    requires agree { Agree (core.old, table.old) }
+    requires low { HasLowTimes (core.old, table.old) }
+    requires stamp { core.old.next_stamp + length table.old.tasks < 2 ^ 64 }
+    requires touches { core.old.task_number + 2 * length table.old.tasks < 2 ^ 64 }
+    ensures { Touches (2 * length (queued_among table.old.tasks cpu)) (core.old, table.old) (core.new, table.new) (λ room. move_off room cpu) }
+{
     let mut movers = Movers::new();
     core.empty_queue(table, cpu, &mut movers);
     for mover in movers.iter() {
