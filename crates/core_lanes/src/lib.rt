@@ -13,4 +13,4 @@ pub use lane::Lane;
 pub use lanes::{Core, task_of};
 pub use order::{goes_before, is_fair, is_higher, priority_of};
 pub use queue::{MOST_TASKS, Movers, SiblingQueue, is_on};
-pub use queued::queued_of;
+pub use queued::{queued_of, rank_of};

@@ -94,11 +94,11 @@ pub trait SiblingQueue: Drop {
         ensures told { IsPermutation (movers.old.items ++ map mover_of (queued_among table.now.tasks cpu)) movers.new.items };
 
     /// All tasks that it holds have moved to the sibling in the table, in the order in which they stand. It holds them
-    /// as they are now. It makes at most twice as many comparisons as another call.
+    /// as they are now. It makes at most three times as many comparisons as another call.
     fn renew<L: Ledger>(&mut self, table: &TaskTable, cpu: Cpu, steps: &mut Steps<L>)
         requires { MayRenew (holds self.old table.now.limit) cpu table.now }
         ensures holds { holds self.new table.now.limit (queued_at table.now.tasks cpu) }
-        ensures counted { steps.new ≤ steps.old + 2 * most_compared (length (queued_among table.now.tasks cpu)) };
+        ensures counted { steps.new ≤ steps.old + 3 * most_compared (length (queued_among table.now.tasks cpu)) };
 
     /// The first task, `None` where there is none (`pick_task`).
     fn first<L: Ledger>(&self, table: &TaskTable, cpu: Cpu, steps: &mut Steps<L>) -> Option<Queued>

@@ -5,8 +5,8 @@ ghost use Rattle.cs_types.specs.Queue.{rank_by, queued_of};
 
 use cs_types::{Policy, Queued, Task};
 
-/// The rank of the task in its class.
-fn rank_of(task: &Task) -> u128
+/// The rank of the task in its class, the smaller the higher.
+pub fn rank_of(task: &Task) -> u128
     ensures { result ≡ rank_by task.now.spec.policy task.now.deadline task.now.vtime }
 {
     match task.spec.policy {

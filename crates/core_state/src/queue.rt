@@ -2,10 +2,10 @@
 //! task of a pid.
 
 use crate::first::{enter, find_first, find_first_with, give_cookie, is_of};
-use crate::task::{KINDS, LOTS, kind_of, lot_of, queued_of};
+use crate::renewed::Renewed;
+use crate::task::{KINDS, LOTS, kind_of, lot_of};
 use core_lanes::{Movers, SiblingQueue, is_on, queued_of, task_of};
 use cs_types::{Cookie, Cpu, OutOfMemory, Queued, Steps, Task};
-use crate::renewed::Renewed;
 use run_queue::RunQueue;
 use std::alloc::Global;
 use std::sync::ledger::Ledger;
@@ -107,6 +107,7 @@ impl SiblingQueue for TreeQueue {
 
     fn renew<L: Ledger>(&mut self, table: &TaskTable, _cpu: Cpu, steps: &mut Steps<L>) {
         self.run.renew(&Renewed { table }, steps);
+        self.first = find_first(&self.run, table, steps);
     }
 
     #[inline(always)]

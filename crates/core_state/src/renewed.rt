@@ -2,7 +2,7 @@
 
 ghost use Rattle.core_state.specs.Renewed.{key_in};
 
-use crate::task::rank_of;
+use core_lanes::rank_of;
 use cs_types::Pid;
 use order_tree::Renewal;
 use task_table::TaskTable;

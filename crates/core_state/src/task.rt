@@ -35,28 +35,3 @@ pub fn lot_of(cookie: Cookie) -> usize
 {
     (cookie % 256) as usize
 }
-
-/// The rank of the task in its class.
-pub fn rank_of(task: &Task) -> u128
-    ensures { result ≡ rank_by task.now.spec.policy task.now.deadline task.now.vtime }
-{
-    match task.spec.policy {
-        Policy::Stop => 0,
-        Policy::Deadline(_) => deadline_queue::rank(task.deadline),
-        Policy::Fifo(priority) | Policy::Rr(priority) => rt_queue::rank(priority),
-        Policy::Fair(_) => fair_queue::rank(task.vtime),
-    }
-}
-
-/// The task as a run queue takes it.
-pub fn queued_of(task: &Task) -> Queued
-    ensures { result ≡ queued_of task.now }
-{
-    Queued {
-        pid: task.spec.pid,
-        class: task.spec.policy.class().number(),
-        rank: rank_of(task),
-        stamp: task.stamp,
-        cookie: task.cookie,
-    }
-}

@@ -84,6 +84,12 @@ impl SiblingQueue for Walk {
         tell(table, cpu, movers);
     }
 
+    fn tell_into(&self, table: &TaskTable, cpu: Cpu, movers: &mut Movers) {
+        tell(table, cpu, movers);
+    }
+
+    fn renew<L: Ledger>(&mut self, _table: &TaskTable, _cpu: Cpu, _steps: &mut Steps<L>) {}
+
     fn first<L: Ledger>(
         &self,
         table: &TaskTable,
@@ -91,16 +97,6 @@ impl SiblingQueue for Walk {
         _steps: &mut Steps<L>,
     ) -> Option<Queued> {
         let first = table
-    }
-
-    fn tell_into(&self, table: &TaskTable, cpu: Cpu, movers: &mut Movers) {
-        tell(table, cpu, movers);
-    }
-
-    fn renew<L: Ledger>(&mut self, _table: &TaskTable, _cpu: Cpu, _steps: &mut Steps<L>) {}
-
-    fn first<L: Ledger>(&self, table: &TaskTable, cpu: Cpu, _steps: &mut Steps<L>) -> Option<Task> {
-        table
             .iter()
             .copied()
             .filter(|task| task.queued && task.home == cpu)

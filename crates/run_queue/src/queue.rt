@@ -8,7 +8,7 @@ ghost use Rattle.cs_types.specs.declared.task.Task.{Task};
 ghost use Rattle.cs_types.specs.Comparisons.{most_comparisons};
 ghost use Rattle.cs_types.specs.Order.{fair_class, priority_of, first_of};
 ghost use Rattle.cs_types.specs.Queue.{IsRanked, seat_of, spot_of, queue_of, top_of, first_with, next_with, Seats, Spots, seat_cmp, spot_cmp};
-ghost use Rattle.run_queue.specs.Fair.{least_rank_in, first_in};
+ghost use Rattle.run_queue.specs.Fair.{least_rank_in};
 ghost use Rattle.run_queue.specs.Run.{without, including, IsTied};
 ghost use Rattle.cookie_queue.specs.Anew.{respotted};
 ghost use Rattle.run_queue.specs.Anew.{reseated};

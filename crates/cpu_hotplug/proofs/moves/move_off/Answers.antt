@@ -24,7 +24,6 @@ returns-then-count-eq0 g c =
       stays = same_stays;
     }
 
-
 -- ---- where they move with their queue
 
 pub move_queue-requires-clause-ahead : goal.move_queue-requires-clause-ahead

@@ -1,4 +1,4 @@
-use Rattle.std.proofs.Common.{◌≡◌, ℕ, ◌+◌, ◌≤◌, true, List, map, length, sym, ap, ◌∙◌, subst, arith}
+use Rattle.std.proofs.Common.{◌≡◌, ℕ, ◌+◌, ◌≤◌, true, List, Option, map, length, sym, ap, ◌∙◌, subst, arith}
 use Rattle.std.specs.Prelude.{Contains}
 use Rattle.std.specs.List.{AllByRecursion}
 use Rattle.std.specs.FinMap.{entries, entries_sorted, is_sorted, len, same_entries_map}
@@ -15,14 +15,15 @@ use Rattle.run_queue.specs.Run.{IsTied}
 use Rattle.order_tree.proofs.Entries.{true_by}
 use Rattle.core_lanes.specs.Queued.{queued_among, queued_at}
 use Rattle.core_lanes.specs.Moved.{MayRenew, again}
-use Rattle.core_state.specs.Held.{AreDistinct, Keeps, Holds, seated, spotted}
+use Rattle.core_state.specs.Held.{AreDistinct, Keeps, Holds, first_among, seated, spotted}
 use Rattle.core_state.specs.Kinds.{kind_of, lot_of, AreCounted}
 use Rattle.core_state.specs.Renewed.{key_in}
+use Rattle.core_state.proofs.Firsts.{each_queued}
 use Rattle.core_state.proofs.Held.{len-seated}
 use Rattle.core_state.proofs.Moved.{distinct_again, seated_again, spotted_again, kinds_again, lots_again, tied_held, told_at, told_was, here_each}
 use Rattle.core_state.proofs.queue.TreeQueueSiblingQueue.renew.Goals as goal
 
-module _ (run : RunQueued) (kinds lots : List ℕ) (limit cpu : ℕ) (table : Table) (may : MayRenew (Keeps run kinds lots limit) cpu table) where
+module _ (run : RunQueued) (first : Option Queued) (kinds lots : List ℕ) (limit cpu : ℕ) (table : Table) (may : MayRenew (Keeps run first kinds lots limit) cpu table) where
   abbrev was : List Queued
   was = may.moved.was
 
@@ -70,15 +71,20 @@ module _ (run : RunQueued) (kinds lots : List ℕ) (limit cpu : ℕ) (table : Ta
   many : length (queued_at table.tasks cpu) ≡ length was
   many = ap length may.moved.are ∙ length-map was new
 
-  keeps : (after : RunQueued) → entries after.tasks ≡ map (reseated at) (entries run.tasks) → entries after.cookies ≡ map (respotted at) (entries run.cookies) → after.spare ≡ run.spare →
-      Keeps after kinds lots limit (queued_at table.tasks cpu)
-  keeps after seated_is spotted_is spare = record {
-    trees = record {
-      seats = seats_are after.tasks seated_is ∙ ap seated (sym may.moved.are);
-      spots = spots_are after.cookies spotted_is ∙ ap spotted (sym may.moved.are);
-      distinct = subst AreDistinct (sym may.moved.are) distinct;
-      room = omega (arith, trees.room, spare, many);
-    };
+  held : (after : RunQueued) → entries after.tasks ≡ map (reseated at) (entries run.tasks) → entries after.cookies ≡ map (respotted at) (entries run.cookies) → after.spare ≡ run.spare →
+      Holds after limit (queued_at table.tasks cpu)
+  held after seated_is spotted_is spare = record {
+    seats = seats_are after.tasks seated_is ∙ ap seated (sym may.moved.are);
+    spots = spots_are after.cookies spotted_is ∙ ap spotted (sym may.moved.are);
+    distinct = subst AreDistinct (sym may.moved.are) distinct;
+    room = omega (arith, trees.room, spare, many);
+  }
+
+  keeps : (after : RunQueued) (now : Option Queued) → Holds after limit (queued_at table.tasks cpu) → now ≡ first_among (queued_at table.tasks cpu) →
+      Keeps after now kinds lots limit (queued_at table.tasks cpu)
+  keeps after now holds is = record {
+    trees = holds;
+    first_is = is;
     by_kind = subst (AreCounted kind_of 104 kinds) (sym may.moved.are) (kinds_again may.moved.from may.moved.to may.moved.next was kinds was may.moved.holds.by_kind);
     by_lot = subst (AreCounted lot_of 256 lots) (sym may.moved.are) (lots_again may.moved.from may.moved.to may.moved.next was lots was may.moved.holds.by_lot);
   }
@@ -86,24 +92,39 @@ module _ (run : RunQueued) (kinds lots : List ℕ) (limit cpu : ℕ) (table : Ta
   counted : len run.tasks ≡ length (queued_among table.tasks cpu)
   counted = ap len trees.seats ∙ len-seated was trees.distinct ∙ sym many ∙ length-map (queued_among table.tasks cpu) queued_of
 
+  counted_now : (after : RunQueued) → Holds after limit (queued_at table.tasks cpu) → len after.tasks ≡ length (queued_among table.tasks cpu)
+  counted_now after holds =
+      ap len holds.seats ∙ len-seated (queued_at table.tasks cpu) holds.distinct ∙ length-map (queued_among table.tasks cpu) queued_of
+
 pub renew-requires : goal.renew-requires
 renew-requires g c =
     let self = c.args.self.now in
     let table = c.args.table.now in
     record {
-      rising = rising self.run self.kinds self.lots table.limit c.args._cpu table c.requires;
-      rising_with_cookies = rising_with_cookies self.run self.kinds self.lots table.limit c.args._cpu table c.requires;
-      tied = tied self.run self.kinds self.lots table.limit c.args._cpu table c.requires;
+      rising = rising self.run self.first self.kinds self.lots table.limit c.args._cpu table c.requires;
+      rising_with_cookies = rising_with_cookies self.run self.first self.kinds self.lots table.limit c.args._cpu table c.requires;
+      tied = tied self.run self.first self.kinds self.lots table.limit c.args._cpu table c.requires;
     }
 
 pub returns-clause-holds : goal.returns-clause-holds
 returns-clause-holds g c =
     let self = c.args.self.now in
     let table = c.args.table.now in
-    keeps self.run self.kinds self.lots table.limit c.args._cpu table c.requires c.renew.new.self c.renew.ensures.tasks c.renew.ensures.cookies c.renew.ensures.spare
+    let cpu = c.args._cpu in
+    let holds = held self.run self.first self.kinds self.lots table.limit cpu table c.requires c.renew.new.self c.renew.ensures.tasks c.renew.ensures.cookies c.renew.ensures.spare in
+    keeps self.run self.first self.kinds self.lots table.limit cpu table c.requires c.renew.new.self c.find_first-self.result holds
+    (c.find_first-self.ensures.first (queued_at table.tasks cpu) holds.seats (each_queued table.tasks cpu c.requires.table.rising))
 
 pub returns-clause-counted : goal.returns-clause-counted
 returns-clause-counted g c =
     let self = c.args.self.now in
     let table = c.args.table.now in
-    omega (arith, c.renew.ensures.counted, ap most_comparisons (counted self.run self.kinds self.lots table.limit c.args._cpu table c.requires))
+    let cpu = c.args._cpu in
+    let holds = held self.run self.first self.kinds self.lots table.limit cpu table c.requires c.renew.new.self c.renew.ensures.tasks c.renew.ensures.cookies c.renew.ensures.spare in
+    omega (
+      arith,
+      c.renew.ensures.counted,
+      c.find_first-self.ensures.counted,
+      ap most_comparisons (counted self.run self.first self.kinds self.lots table.limit cpu table c.requires),
+      ap most_comparisons (counted_now self.run self.first self.kinds self.lots table.limit cpu table c.requires c.renew.new.self holds),
+    )

@@ -36,5 +36,5 @@ returns c =
     let told = subst (λ (movers : List (ℕ × ℕ)). IsPermutation movers (map stamped (entries held))) (told_is tasks) (IsPermutation-map stamped seats (entries held) same) in
     record {
       told = IsPermutation-trans (old ++ map mover_of tasks) (old ++ map stamped (entries held)) c.tell_into.new.movers.items
-    (IsPermutation-append_right old (map mover_of tasks) (map stamped (entries held)) told) c.tell_into.ensures.told;
+          (IsPermutation-append_right old (map mover_of tasks) (map stamped (entries held)) told) c.tell_into.ensures.told;
     }
