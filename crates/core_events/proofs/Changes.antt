@@ -1,20 +1,16 @@
 -- Changes: changes of a core and its table in turn, and a task that a core knows in place of one of its table.
 use Rattle.std.proofs.Common.{◌≡◌, ℕ, ◌<◌, sym, ap, subst, ◌∙◌, length, map, get_or}
-use Rattle.std.specs.Prelude.{find, Some, IsTrue}
 use Rattle.std.proofs.lemmas.List.{length-map, get_or-map}
 use Rattle.std.proofs.lemmas.Option.{slice_get_read}
-use Rattle.cs_types.specs.declared.task.Task.{Task}
-use Rattle.cs_types.specs.declared.task.TaskSpec.{TaskSpec}
-use Rattle.cs_types.specs.Scenario.{IsPolicy}
-use Rattle.cs_types.specs.Room.{RoomState, has_pid}
+use Rattle.cs_types.specs.Room.{RoomState}
 use Rattle.task_table.specs.Table.{Table}
 use Rattle.core_lanes.specs.declared.queue.SiblingQueue.{Ghosts}
 use Rattle.core_lanes.specs.declared.lane.Lane.{Lane}
 use Rattle.core_lanes.specs.declared.lanes.Core.{Core}
-use Rattle.core_lanes.specs.Queued.{IsOf, queued_at}
-use Rattle.core_lanes.specs.Lanes.{Beside, room_of, IsFit, Agree, Knows}
+use Rattle.core_lanes.specs.Queued.{queued_at}
+use Rattle.core_lanes.specs.Lanes.{Beside, room_of, Agree}
 use Rattle.core_lanes.specs.Changes.{Kept, Stays, Changes}
-use Rattle.core_lanes.proofs.Stays.{found_in, both_stay, queue_of}
+use Rattle.core_lanes.proofs.Stays.{both_stay, queue_of}
 
 -- two changes in turn
 pub both_change : {Q : Type 0} {g : Ghosts Q} {old mid new : Core Q g × Table} {first second : RoomState → RoomState} →

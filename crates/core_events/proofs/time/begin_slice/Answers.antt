@@ -1,8 +1,6 @@
 use Rattle.std.proofs.Common.{◌+◌, ◌≤◌, ◌≡◌, ◌∙◌, Some, sym, subst, refl, true, false, arith}
-use Rattle.std.specs.Prelude.{find}
 use Rattle.std.proofs.lemmas.Bool.{and_parts}
 use Rattle.cs_types.specs.declared.task.Task.{Task}
-use Rattle.cs_types.specs.Room.{has_pid}
 use Rattle.cs_types.specs.Time.{has_used_slice, rotates, begin_slice}
 use Rattle.cs_types.proofs.Tasks.{found_again}
 use Rattle.core_lanes.specs.Lanes.{Beside, room_of}

@@ -1,12 +1,12 @@
-use Rattle.std.proofs.Common.{◌≡◌, ◌≤◌, ◌<◌, ◌+◌, ◌*◌, ◌^◌, ◌∙◌, ℕ, ℤ, pos, negsuc, to_z, of_z, w8, FitsSigned, ap, sym, subst, refl, length, arith, Some, None, true}
-use Rattle.std.specs.Prelude.{find, All, IsSomeAnd, IsTrue, Option, ◌==◌}
+use Rattle.std.proofs.Common.{◌≡◌, ◌≤◌, ◌<◌, ◌+◌, ◌*◌, ◌^◌, ◌∙◌, ℕ, ℤ, pos, negsuc, w8, FitsSigned, ap, sym, subst, refl, length, arith, true}
+use Rattle.std.specs.Prelude.{IsSomeAnd, IsTrue, Option, ◌==◌}
 use Rattle.std.specs.Option.{option_map_or}
 use Rattle.std.proofs.Math.Facts.{Fits-of_lt}
 use Rattle.std.proofs.lemmas.Int.{to_z-of_z}
 use Rattle.cs_types.specs.declared.task.Task.{Task}
 use Rattle.cs_types.specs.declared.task.Policy.{Policy}
 use Rattle.cs_types.specs.Order.{is_fair, class_of, fair_class}
-use Rattle.cs_types.specs.Room.{RoomState, has_pid, with_task}
+use Rattle.cs_types.specs.Room.{RoomState, with_task}
 use Rattle.cs_types.specs.Scenario.{IsNice, IsPolicy}
 use Rattle.cs_types.specs.Time.{growth, grown_by}
 use Rattle.cs_types.proofs.Times.{growth-le}

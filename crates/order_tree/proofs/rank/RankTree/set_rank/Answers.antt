@@ -1,8 +1,7 @@
-use Rattle.std.proofs.Common.{◌≡◌, ◌+◌, ◌≤◌, true, cond, ap, sym, ◌∙◌, arith}
+use Rattle.std.proofs.Common.{◌≡◌, ◌+◌, true, cond, ap, sym, ◌∙◌, arith}
 use Rattle.std.specs.Prelude.{is_some}
 use Rattle.std.specs.FinMap as fin
 use Rattle.cs_types.specs.Queue as queue
-use Rattle.order_tree.specs.Order.{Members}
 use Rattle.order_tree.specs.Rank.{key_at, IsOfClass}
 use Rattle.order_tree.proofs.Ranks.{ranked, get-ranked, len-ranked, IsOfClass-insert, IsOfClass-remove, ranked-insert, ranked-remove}
 use Rattle.order_tree.proofs.rank.RankTree.set_rank.Given as given

@@ -1,9 +1,9 @@
-use Rattle.std.proofs.Common.{◌≡◌, ◌≢◌, ◌+◌, ◌≤◌, ℕ, None, cond, true, ap, sym, ◌∙◌, subst, refl, arith}
+use Rattle.std.proofs.Common.{◌≡◌, ◌≢◌, ◌+◌, ◌≤◌, ℕ, None, cond, true, ap, sym, ◌∙◌, arith}
 use Rattle.std.specs.Prelude.{IsTrue}
 use Rattle.std.specs.FinMap as fin
 use Rattle.cs_types.specs.declared.queue.Queued.{Queued}
 use Rattle.cs_types.specs.Comparisons.{most_comparisons}
-use Rattle.cs_types.specs.Queue.{Seat, Seats, Spots, RunQueued, seat_of, spot_of}
+use Rattle.cs_types.specs.Queue.{Seat, Seats, Spots, seat_of, spot_of}
 use Rattle.cs_types.proofs.Queues.{seat_total, seat_cmp-IsAntisymmetric, spot_total, spot_cmp-IsAntisymmetric}
 use Rattle.run_queue.specs.Run.{IsTied}
 use Rattle.run_queue.proofs.Ties.{most_comparisons-cookies, free_spot, shorter-remove, longer-insert, IsTied-plain, IsTied-cookie, IsTied-remove_plain, IsTied-remove_cookie}
