@@ -1,12 +1,12 @@
 -- StepLines: a caller's event is read where each of its words is right, and refused where one is not, whichever event it is.
-use Rattle.std.proofs.Common.{◌≡◌, ◌∙◌, ℕ, zero, suc, ◌<◌, Bool, true, false, cond, eqb, ltb, [], ◌∷◌, length, get_or, Ok, Err, refl, sym, ap, arith}
+use Rattle.std.proofs.Common.{◌≡◌, ◌∙◌, ℕ, zero, suc, ◌<◌, Bool, true, false, cond, eqb, ltb, [], ◌∷◌, length, get_or, Err, refl, sym, ap, arith}
 use Rattle.std.specs.Prelude.{◌&&◌}
 use Rattle.std.proofs.lemmas.Bool.{and_parts, ltb-true, cond-true, cond-false}
 use Rattle.std.proofs.Math.Bool.{and-false}
-use Rattle.scenario_text.specs.declared.fault.BadKind.TheVariants.{Shape, Number}
+use Rattle.scenario_text.specs.declared.fault.BadKind.TheVariants.{Number}
 use Rattle.scenario_text.specs.Words.{Word}
 use Rattle.scenario_text.specs.Grammar.{is_word, Form, number}
-use Rattle.scenario_text.specs.Reading.{Parts, Read, Readings, shaped, righted, has, read_in, caller_readings}
+use Rattle.scenario_text.specs.Reading.{Parts, Readings, shaped, has, read_in, caller_readings}
 use Rattle.scenario_text.proofs.Fields.{word_is}
 use Rattle.scenario_text.proofs.TaskLines.{wrong_field}
 
@@ -55,27 +55,3 @@ pub wrong_event : (siblings k : ℕ) (name : Word) (words : Parts) (place : ℕ)
     (get_or (form_at k (caller_readings siblings)) place (number 0 0)).is_right (words.at place) ≡ false → Err Number ≡ read_in (caller_readings siblings) words
 wrong_event siblings k name words place named differ shape inside wrong =
     wrong_in k (caller_readings siblings) name words place (word_is (words.at 0) name named) differ shape (ltb-true place _ inside) wrong
-
--- what the k-th form says of a line
-abbrev pub said_at : {A : Type 0} → ℕ → Readings A → Parts → Read A
-said_at k [] words = Err Shape
-said_at zero (reading ∷ readings) words = Ok (reading.1 words)
-said_at (suc k) (reading ∷ readings) words = said_at k readings words
-
--- a line of the k-th form, each word of which is right
-right_in : {A : Type 0} (k : ℕ) (readings : Readings A) (name : Word) (words : Parts) → words.at 0 ≡ name → all_differ k readings name ≡ true →
-    has (form_at k readings) words ≡ true → righted 0 (form_at k readings) words ≡ true → said_at k readings words ≡ read_in readings words
-right_in k [] name words is differ shape right = refl
-right_in zero (reading ∷ readings) name words is differ shape right =
-    sym (cond-true _ _ _ shape ∙ cond-true _ _ _ right)
-right_in (suc k) (reading ∷ readings) name words is differ shape right =
-    let parts = and_parts (differs reading.0 name) (all_differ k readings name) differ in
-    right_in k readings name words is parts.1 shape right
-    ∙ sym (cond-false _ _ _ (has_not reading.0 name words is parts.0))
-
--- of the k-th form of a caller's event
-pub right_event : (siblings k : ℕ) (name : Word) (words : Parts) → is_word (words.at 0) name ≡ true → all_differ k (caller_readings siblings) name ≡ true →
-    has (form_at k (caller_readings siblings)) words ≡ true → righted 0 (form_at k (caller_readings siblings)) words ≡ true →
-    said_at k (caller_readings siblings) words ≡ read_in (caller_readings siblings) words
-right_event siblings k name words named differ shape right =
-    right_in k (caller_readings siblings) name words (word_is (words.at 0) name named) differ shape right

@@ -1,7 +1,7 @@
 //! The step lines that most lines of a text are, read from its bytes with no search for words: those of siblings, and
 //! `wake` and `advance`. It is separate from the forms of lines, which say the same of these and have all others.
 
-ghost use Rattle.std.specs.Prelude.{ℕ, ◌<◌, ◌≤◌, ◌++◌, ◌≡◌, decimal, IfSome};
+ghost use Rattle.std.specs.Prelude.{ℕ, ◌<◌, IfSome};
 ghost use Rattle.cs_types.specs.declared.event.Actor.TheVariants.{Sibling, Caller};
 ghost use Rattle.cs_types.specs.Scenario.{IsWithin};
 ghost use Rattle.scenario_text.specs.Reading.{BeginsStep, BeginsEvent, BeginsNumber};

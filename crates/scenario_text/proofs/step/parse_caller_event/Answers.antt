@@ -1,12 +1,11 @@
-use Rattle.std.proofs.Common.{◌∙◌, ℕ, Ok, Err, refl, sym, ap}
+use Rattle.std.proofs.Common.{◌∙◌, Ok, Err, refl, sym, ap}
 use Rattle.std.specs.Prelude.{codes}
 use Rattle.std.proofs.lemmas.Bool.{and_from, eq-eqb}
 use Rattle.std.proofs.lemmas.Result.{err_from_is_err_and}
 use Rattle.cs_types.specs.declared.event.Event.{Event}
-use Rattle.cs_types.specs.declared.event.Event.TheVariants.{Wake, Advance, Offline, Online, Load, Unload}
 use Rattle.scenario_text.specs.Reading.{Read, lent}
 use Rattle.scenario_text.proofs.TaskLines.{exactly, refused}
-use Rattle.scenario_text.proofs.StepLines.{wrong_event, right_event}
+use Rattle.scenario_text.proofs.StepLines.{wrong_event}
 use Rattle.scenario_text.proofs.step.parse_caller_event.Goals as goal
 
 pub returns-in_err-parse_named_pid-in-len3 : goal.returns-in_err-parse_named_pid-in-len3
