@@ -1,5 +1,5 @@
-use Rattle.std.proofs.Common.{ap, sym, refl, ◌∙◌, arith}
-use Rattle.std.specs.Prelude.{◌==◌, ◌≤◌}
+use Rattle.std.proofs.Common.{ap, sym, refl, ◌∙◌}
+use Rattle.std.specs.Prelude.{◌==◌}
 use Rattle.std.proofs.lemmas.List.Elements.{recursion_from_All}
 use Rattle.cs_types.specs.Order.{fair_class, is_fair}
 use Rattle.cs_types.specs.Queue.{Seat, Seats}
