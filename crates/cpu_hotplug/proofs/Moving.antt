@@ -1,9 +1,9 @@
 -- Moving: the tasks of a sibling that leaves, as its queue has them once all of them moved to one that had none.
-use Rattle.std.proofs.Common.{◌≡◌, ◌≢◌, ℕ, ◌+◌, ◌-◌, ◌<◌, ◌≤◌, Bool, true, false, cond, ltb, List, [], ◌∷◌, map, Option, None, Some, inl, inr, refl, sym, ap, ◌∙◌, subst, length, arith, ne_eqb}
+use Rattle.std.proofs.Common.{◌≡◌, ◌≢◌, ℕ, ◌+◌, ◌-◌, ◌≤◌, true, false, cond, ltb, List, [], ◌∷◌, map, None, Some, inl, inr, refl, sym, ap, ◌∙◌, subst, length, arith, ne_eqb}
 use Rattle.std.specs.Prelude.{filter, count_by, ◌&&◌, ◌==◌, All, IsTrue}
 use Rattle.std.specs.List.{AllByRecursion}
 use Rattle.std.proofs.Math.Bool.{and-false}
-use Rattle.std.proofs.lemmas.Bool.{cases_Bool, cond-true, cond-false, eqb-true, eqb-false, eq-eqb, and_parts}
+use Rattle.std.proofs.lemmas.Bool.{cases_Bool, cond-true, cond-false, eqb-true, eq-eqb, and_parts}
 use Rattle.std.proofs.lemmas.Bool.Decides.{nat_tests}
 use Rattle.std.proofs.lemmas.List.Sums.{sum_by-cons}
 use Rattle.std.proofs.lemmas.List.Elements.{All-map, All-weaker, All-from_recursion}
@@ -11,10 +11,9 @@ use Rattle.cs_types.specs.declared.task.Task.{Task}
 use Rattle.cs_types.specs.declared.task.Policy.{Policy}
 use Rattle.cs_types.specs.declared.task.Policy.TheVariants.{Stop, Deadline, Fifo, Rr, Fair}
 use Rattle.cs_types.specs.declared.queue.Queued.{Queued}
-use Rattle.cs_types.specs.Order.{fair_class, class_of, is_fair, foremost}
+use Rattle.cs_types.specs.Order.{fair_class, class_of, is_fair}
 use Rattle.cs_types.specs.Queue.{queued_of, rank_by}
-use Rattle.cs_types.specs.Room.{RoomState, SiblingState, sibling_of, queued_on}
-use Rattle.cs_types.specs.Queueing.{moved_to}
+use Rattle.cs_types.specs.Room.{RoomState, sibling_of, queued_on}
 use Rattle.cs_types.specs.Hotplug.{lowest_other, moved_off}
 use Rattle.cs_types.proofs.Foremost.{foremost_none}
 use Rattle.cs_types.proofs.Filtered.{foremost_least}

@@ -1,4 +1,4 @@
-use Rattle.std.proofs.Common.{◌≡◌, ℕ, ◌≤◌, ap, sym, ◌∙◌, subst}
+use Rattle.std.proofs.Common.{ap, sym, subst}
 use Rattle.std.proofs.lemmas.Bool.{leb-true}
 use Rattle.cs_types.specs.Room.{SiblingState, sibling_of}
 use Rattle.core_lanes.specs.Queued.{queued_among}

@@ -1,4 +1,4 @@
-use Rattle.std.proofs.Common.{◌≡◌, ◌+◌, ◌*◌, sym, ap, arith, length}
+use Rattle.std.proofs.Common.{◌≡◌, ◌+◌, sym, ap, arith, length}
 use Rattle.cs_types.specs.Room.{RoomState}
 use Rattle.core_lanes.specs.Queued.{queued_among}
 use Rattle.core_lanes.specs.Lanes.{room_of}

@@ -3,18 +3,17 @@ use Rattle.std.specs.Prelude.{◌==◌, ◌&&◌, All, find}
 use Rattle.std.specs.Ordering.{nat_cmp}
 use Rattle.std.specs.Option.{IsSome}
 use Rattle.std.specs.List.Sorted.{IsPermutation, IsSortedByKey}
-use Rattle.std.proofs.lemmas.Bool.{and_parts, eqb-true}
-use Rattle.std.proofs.lemmas.List.{length-map}
+use Rattle.std.proofs.lemmas.Bool.{and_parts}
 use Rattle.std.proofs.lemmas.List.Sums.{length-filter, count_by-le-length}
 use Rattle.cs_types.specs.declared.task.Task.{Task}
 use Rattle.cs_types.specs.Room.{RoomState, SiblingState, has_pid}
 use Rattle.cs_types.specs.Queue.{queued_of}
 use Rattle.cs_types.proofs.Spots.{replaced_by}
 use Rattle.core_lanes.specs.Queued.{queued_among, queued_at, mover_of}
-use Rattle.core_lanes.specs.Lanes.{BareCore, lane_state, room_by, room_of, AgreeAway, IsFit}
+use Rattle.core_lanes.specs.Lanes.{BareCore, room_by, room_of, IsFit}
 use Rattle.core_lanes.specs.Numbers.{Numbers, numbers_by, numbers_of, touched}
-use Rattle.core_lanes.specs.Changes.{Kept, identity_of}
-use Rattle.core_lanes.proofs.Stays.{some_beside, agree_again, found_in}
+use Rattle.core_lanes.specs.Changes.{Kept}
+use Rattle.core_lanes.proofs.Stays.{some_beside, found_in}
 use Rattle.cpu_hotplug.proofs.Ranks.{each_of, length-movers}
 use Rattle.cpu_hotplug.proofs.Leaving.{moved_is, so_far, none_moved, all_moved, one_more, next_found, next_is, none_left}
 use Rattle.std.proofs.Common.{[], ◌≢◌}

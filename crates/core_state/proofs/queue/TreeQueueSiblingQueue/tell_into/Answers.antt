@@ -8,9 +8,7 @@ use Rattle.cs_types.specs.declared.queue.Queued.{Queued}
 use Rattle.cs_types.specs.Queue.{Seats, queued_of, seat_of}
 use Rattle.core_lanes.specs.Queued.{queued_among, mover_of}
 use Rattle.run_queue.specs.Classes.{stamped}
-use Rattle.core_state.specs.Kinds.{kind_of, lot_of}
 use Rattle.core_state.proofs.Held.{len-seated, entries-seated}
-use Rattle.core_state.proofs.Counts.{counted-none}
 use Rattle.core_state.proofs.queue.TreeQueueSiblingQueue.tell_into.Goals as goal
 
 -- tasks are told alike by their seats
