@@ -7,12 +7,12 @@ use Rattle.std.specs.Cmp.{tied_itself, nat_cmp_total}
 use Rattle.std.specs.Ordering.{ordering_then, nat_cmp, is_lt}
 use Rattle.std.specs.declared.cmp.Ordering.{Ordering}
 use Rattle.std.specs.FinMap.{entries}
-use Rattle.std.proofs.lemmas.Bool.{cases_Bool, cond-true, cond-false, ne_eqb, eqb-true, and_parts}
-use Rattle.std.proofs.lemmas.List.Elements.{All-filter, All-weaker, recursion_from_All}
+use Rattle.std.proofs.lemmas.Bool.{cases_Bool, ne_eqb, eqb-true, and_parts}
+use Rattle.std.proofs.lemmas.List.Elements.{All-filter, All-weaker}
 use Rattle.cs_types.specs.declared.task.Task.{Task}
 use Rattle.cs_types.specs.declared.queue.Queued.{Queued}
 use Rattle.cs_types.specs.Order.{priority_of, goes_before, first_of, foremost}
-use Rattle.cs_types.specs.Queue.{Seat, seat_cmp, Spot, spot_cmp, seat_of, spot_of, queued_in, queued_of, first_with, next_with}
+use Rattle.cs_types.specs.Queue.{Seat, seat_cmp, Spot, seat_of, spot_of, queued_in, queued_of, first_with, next_with}
 use Rattle.cs_types.specs.Room.{has_pid}
 use Rattle.cs_types.specs.Scenario.{IsPolicy}
 use Rattle.cs_types.proofs.Queues.{seat_total, seat_cmp-IsAntisymmetric, spot_total, spot_cmp-IsAntisymmetric, precedes, foremost-map, foremost_alike, goes_before-seats}

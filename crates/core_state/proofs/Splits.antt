@@ -1,8 +1,8 @@
 -- Splits: a list of tasks and the same without one of them.
-use Rattle.std.proofs.Common.{◌≡◌, ℕ, ◌+◌, ◌≤◌, Bool, true, false, cond, not, List, [], ◌∷◌, ◌++◌, map, length, length-append, refl, sym, ap, ◌∙◌, subst, Some, inl, inr, ◌⊎◌, arith}
-use Rattle.std.specs.Prelude.{◌≢◌, ◌==◌, ◌&&◌, find, filter, All, Contains}
+use Rattle.std.proofs.Common.{◌≡◌, ℕ, ◌+◌, ◌≤◌, Bool, true, false, cond, not, List, [], ◌∷◌, ◌++◌, map, length, length-append, sym, ap, ◌∙◌, subst, Some, inl, inr, arith}
+use Rattle.std.specs.Prelude.{◌==◌, ◌&&◌, find, filter, All, Contains}
 use Rattle.std.specs.List.{AllByRecursion}
-use Rattle.std.proofs.lemmas.Bool.{cases_Bool, cond-true, cond-false, eqb-true, eqb-false, eq-eqb, ne_eqb, not-true, and_parts}
+use Rattle.std.proofs.lemmas.Bool.{cases_Bool, cond-true, cond-false, eqb-true, eqb-false, eq-eqb, and_parts}
 use Rattle.std.proofs.lemmas.List.Elements.{filter-append, recursion_from_All, All-weaker, All-contains_itself}
 use Rattle.std.proofs.lemmas.List.{length-map}
 use Rattle.std.proofs.lemmas.List.Sums.{length-filter, count_by-le-length}
@@ -13,7 +13,7 @@ use Rattle.cs_types.specs.Room.{has_pid}
 use Rattle.task_table.specs.Table.{Rises, RisesFrom}
 use Rattle.core_lanes.specs.Queued.{queued_among, queued_at, others, IsOf, HasOwnStamp}
 use Rattle.core_lanes.proofs.Queues.{is_on, is_of, others_none}
-use Rattle.core_state.specs.Held.{AreApart, AreDistinct, has_cookie}
+use Rattle.core_state.specs.Held.{AreApart, AreDistinct}
 
 -- the first list is the second with this one among it
 pub record IsSplit (task : Queued) (all rest : List Queued) : Type 0 where

@@ -10,7 +10,7 @@ use Rattle.cs_types.specs.declared.task.Task.{Task}
 use Rattle.cs_types.specs.declared.task.Policy.{Policy}
 use Rattle.cs_types.specs.declared.task.Policy.TheVariants.{Stop, Deadline, Fifo, Rr, Fair}
 use Rattle.cs_types.specs.Queue.{rank_by}
-use Rattle.cs_types.specs.Order.{fair_class, class_of, priority_of, is_fair, foremost, goes_before, first_of}
+use Rattle.cs_types.specs.Order.{fair_class, class_of, is_fair, foremost, goes_before, first_of}
 use Rattle.cs_types.proofs.First.{goes_before_is_order}
 use Rattle.cs_types.proofs.Queues.{foremost-cons}
 use Rattle.core_lanes.specs.Queued.{smallest_vtime}

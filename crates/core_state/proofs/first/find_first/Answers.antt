@@ -1,10 +1,9 @@
-use Rattle.std.proofs.Common.{◌≡◌, ℕ, List, Option, Some, ap, sym, ◌∙◌}
+use Rattle.std.proofs.Common.{Some, ap, sym, ◌∙◌}
 use Rattle.std.specs.Prelude.{option_copied}
 use Rattle.std.specs.Option.{option_map}
-use Rattle.cs_types.specs.declared.queue.Queued.{Queued}
-use Rattle.cs_types.specs.Queue.{Seats, top_of, queued_of}
+use Rattle.cs_types.specs.Queue.{queued_of}
 use Rattle.core_lanes.proofs.Lists.{All-find}
-use Rattle.core_state.specs.Held.{seated, first_among, IsIn}
+use Rattle.core_state.specs.Held.{first_among, IsIn}
 use Rattle.core_state.proofs.Firsts.{told_first, none_first, found_first_by}
 use Rattle.core_state.proofs.first.find_first.Goals as goal
 

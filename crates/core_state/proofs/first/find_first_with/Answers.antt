@@ -1,11 +1,11 @@
-use Rattle.std.proofs.Common.{◌≡◌, ℕ, List, Option, Some, ap, sym, ◌∙◌}
+use Rattle.std.proofs.Common.{List, Some, ap, sym, ◌∙◌}
 use Rattle.std.specs.Prelude.{All, IfSome, option_copied}
 use Rattle.std.specs.Option.{option_map}
 use Rattle.cs_types.specs.declared.queue.Queued.{Queued}
 use Rattle.cs_types.specs.declared.task.Task.{Task}
 use Rattle.cs_types.specs.Queue.{queued_of}
 use Rattle.core_lanes.proofs.Lists.{All-find}
-use Rattle.core_state.specs.Held.{first_among, IsIn, IsInBut}
+use Rattle.core_state.specs.Held.{first_among, IsInBut}
 use Rattle.core_state.proofs.Firsts.{told_first, none_first, found_first_by, first_known, first_in}
 use Rattle.core_state.proofs.first.find_first_with.Goals as goal
 

@@ -1,13 +1,8 @@
-use Rattle.std.proofs.Common.{◌≡◌, Option, List, None, ap, sym, ◌∙◌, subst, arith}
-use Rattle.std.specs.Prelude.{◌==◌, ◌&&◌}
-use Rattle.std.specs.Option.{option_map}
+use Rattle.std.proofs.Common.{sym, ◌∙◌, subst, arith}
 use Rattle.std.proofs.lemmas.List.Elements.{recursion_from_All}
-use Rattle.cs_types.specs.declared.queue.Queued.{Queued}
-use Rattle.cs_types.specs.declared.task.Task.{Task}
-use Rattle.cs_types.specs.Order.{goes_before, first_of}
-use Rattle.cs_types.specs.Queue.{Spots, IsRanked, queued_of, next_with}
+use Rattle.cs_types.specs.Order.{first_of}
+use Rattle.cs_types.specs.Queue.{IsRanked, next_with}
 use Rattle.core_lanes.specs.Queued.{queued_among, with_cookie, behind}
-use Rattle.core_lanes.proofs.Lists.{filter-filter}
 use Rattle.core_state.proofs.Tasks.{is_ranked, low_priority}
 use Rattle.core_state.proofs.Asked.{IsLow, low_among, next_with-spotted, found_behind, none_of, pid_of_some, some_by}
 use Rattle.core_state.proofs.Compared.{few_of_all}

@@ -1,11 +1,11 @@
-use Rattle.std.proofs.Common.{◌≡◌, ℕ, ◌+◌, ◌*◌, ◌≤◌, ◌<◌, Bool, cond, not, true, false, pos, ◌≢◌, List, Option, Some, None, length, refl, ap, sym, ◌∙◌, subst, eqb-true, arith}
+use Rattle.std.proofs.Common.{◌≡◌, ℕ, ◌+◌, ◌*◌, ◌≤◌, cond, not, false, pos, ◌≢◌, List, Option, Some, None, length, refl, ap, sym, ◌∙◌, subst, eqb-true, arith}
 use Rattle.std.specs.Prelude.{◌==◌, All, IsTrue}
 use Rattle.std.specs.FinMap as fin
 use Rattle.cs_types.specs.Comparisons.{most_comparisons}
 use Rattle.cs_types.specs.declared.queue.Queued.{Queued}
 use Rattle.cs_types.specs.declared.task.Task.{Task}
 use Rattle.cs_types.specs.Order.{real_time_class, fair_class, class_of}
-use Rattle.cs_types.specs.Queue.{RunQueued, Seats, Spots, IsRanked, seat_of, spot_of, rank_by, queued_of}
+use Rattle.cs_types.specs.Queue.{RunQueued, Seats, Spots, seat_of, spot_of, rank_by, queued_of}
 use Rattle.core_lanes.specs.Queued.{queued_among, queued_at, given_vtime, others, IsFairOn}
 use Rattle.core_lanes.proofs.Queues.{others-replaced}
 use Rattle.core_lanes.proofs.Replaced.{is_of, rises-replaced}
@@ -14,7 +14,6 @@ use Rattle.core_state.specs.Kinds.{kind_of, lot_of}
 use Rattle.std.specs.List.{AllByRecursion}
 use Rattle.core_state.specs.Held.{AreApart, Holds, Keeps, earlier, first_among, IsInBut}
 use Rattle.core_state.specs.Held.{is_of as is_first}
-use Rattle.core_state.proofs.Tasks.{is_ranked}
 use Rattle.core_state.proofs.Splits.{IsSplit, split_at}
 use Rattle.core_state.proofs.Counts.{counted-stay}
 use Rattle.core_state.proofs.Firsts.{first-split, first_stays, each_in_but}
@@ -165,15 +164,15 @@ set_fair_rank-requires-clause-free g c =
     let table = c.args.table.now in
     let queued = c.queued_of-queued.result in
     let same = c.queued_of-queued.ensures in
-    let is = later_is old.run old.first old.kinds old.lots table c.args._cpu c.args.vtime c.args.task.now c.requires queued same c.rank.result (c.rank.ensures (pos 0) 0) in
+    let is = later_is old.run old.first old.kinds old.lots table c.args._cpu c.args.vtime c.args.task.now c.requires queued same c.rank-rank.result (c.rank-rank.ensures (pos 0) 0) in
     free old.run old.first old.kinds old.lots table c.args._cpu c.args.vtime c.args.task.now c.requires queued same _ is
 
 module _ (g : Over) (c : After-is_of g) where
-  is : (record c.queued_of-queued.result { rank = c.rank.result }) ≡ queued_of (record c.args.task.now { vtime = c.args.vtime })
+  is : (record c.queued_of-queued.result { rank = c.rank-rank.result }) ≡ queued_of (record c.args.task.now { vtime = c.args.vtime })
   is =
       let old = c.args.self.now in
       later_is old.run old.first old.kinds old.lots c.args.table.now c.args._cpu c.args.vtime c.args.task.now c.requires c.queued_of-queued.result c.queued_of-queued.ensures
-      c.rank.result (c.rank.ensures (pos 0) 0)
+      c.rank-rank.result (c.rank-rank.ensures (pos 0) 0)
 
   trees : Holds c.set_fair_rank.new.self c.args.table.now.limit (queued_at (given_vtime c.args.task.now c.args.vtime c.args.table.now.tasks) c.args._cpu)
   trees =
