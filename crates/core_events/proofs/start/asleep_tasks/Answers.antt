@@ -1,4 +1,5 @@
-use Rattle.std.proofs.Common.{◌∙◌, ap}
+use Rattle.std.proofs.Common.{◌∙◌, ap, arith, rules}
+use Rattle.std.proofs.lemmas.Grind.{common_steps}
 use Rattle.std.proofs.lemmas.List.{take_all}
 use Rattle.cs_types.specs.Room.{asleep_tasks}
 use Rattle.task_table.specs.Table.{Table, total_in}
@@ -18,6 +19,15 @@ loop-spec-init c =
       tasks = ap (λ (table : Table). table.tasks) empty;
       limit = ap (λ (table : Table). table.limit) empty;
       totals = λ pid. ap (λ (table : Table). total_in table pid) empty;
+    }
+
+pub loop-spec-preserved : goal.loop-spec-preserved
+loop-spec-preserved c =
+    record {
+      sound = c.add.ensures.sound;
+      tasks = grind (arith, common_steps);
+      limit = search rules;
+      totals = λ pid. c.add.ensures.totals pid ∙ c.loop-spec.invariant.totals pid;
     }
 
 pub returns : goal.returns
