@@ -1,19 +1,21 @@
-//! A task as a queue has it. It is apart, since it alone knows the ranks of the classes.
+//! A task as a queue has it. It is apart, since it alone reads a rank off a task.
 
 ghost use Rattle.std.specs.Prelude.{◌≡◌};
 ghost use Rattle.cs_types.specs.Queue.{rank_by, queued_of};
 
 use cs_types::{Policy, Queued, Task};
 
-/// The rank of the task in its class, the smaller the higher.
+/// The rank of the task in its class, the smaller the higher: 0 for a stop task, its absolute deadline in ns, 99 less
+/// its priority, its virtual time in ns.
 pub fn rank_of(task: &Task) -> u128
     ensures { result ≡ rank_by task.now.spec.policy task.now.deadline task.now.vtime }
 {
     match task.spec.policy {
         Policy::Stop => 0,
-        Policy::Deadline(_) => deadline_queue::rank(task.deadline),
-        Policy::Fifo(priority) | Policy::Rr(priority) => rt_queue::rank(priority),
-        Policy::Fair(_) => fair_queue::rank(task.vtime),
+        Policy::Deadline(_) => u128::from(task.deadline),
+        Policy::Fifo(priority) => u128::from(99u8.saturating_sub(priority)),
+        Policy::Rr(priority) => u128::from(99u8.saturating_sub(priority)),
+        Policy::Fair(_) => task.vtime,
     }
 }
 
