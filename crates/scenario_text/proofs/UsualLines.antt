@@ -1,5 +1,5 @@
 -- UsualLines: a text that begins with the line of a step, put together from what was found at its front.
-use Rattle.std.proofs.Common.{◌≡◌, ℕ, ◌≤◌, ◌<◌, ◌+◌, ◌-◌, ◌^◌, true, eqb, List, [], ◌∷◌, ◌++◌, length, take, drop, get_or, Some, Ok, Err, false, refl, sym, ap, subst, ◌∙◌, append_assoc, take_all, arith}
+use Rattle.std.proofs.Common.{◌≡◌, ℕ, ◌≤◌, ◌<◌, ◌+◌, ◌-◌, ◌^◌, true, eqb, List, [], ◌∷◌, ◌++◌, length, take, drop, get_or, Some, Ok, Err, false, refl, sym, ap, subst, ◌∙◌, append_assoc, take_all, zero-le, arith}
 use Rattle.std.specs.Prelude.{codes, decimal, MatchResult}
 use Rattle.std.specs.List.{AllByRecursion, join_with_byte}
 use Rattle.std.specs.Result.{result_ok}
@@ -16,11 +16,10 @@ use Rattle.scenario_text.specs.declared.head.Head.{Head}
 use Rattle.scenario_text.specs.declared.line.ScenarioLine.TheVariants as forms
 use Rattle.scenario_text.specs.Words.{Word, made_words, event_words}
 use Rattle.scenario_text.specs.Text.{spaced, line, step_words}
-use Rattle.scenario_text.specs.Grammar.{begins, value, is_number}
+use Rattle.scenario_text.specs.Grammar.{value, is_number}
 use Rattle.scenario_text.specs.Faults.{pieces, lines_in}
 use Rattle.scenario_text.specs.Reading.{◌>>=◌, Contents, place_after, Read, line_at, line_check, next_of, usable, IsHead, BeginsStep, BeginsEvent, BeginsNumber}
 use Rattle.scenario_text.proofs.Numbers.{number_is}
-use Rattle.scenario_text.proofs.Fields.{mark_is}
 use Rattle.scenario_text.proofs.Cuts.{has_piece, line_at-lines_in}
 use Rattle.scenario_text.proofs.Texts.{IsPlain, words_in-spaced, spaced_lacks, all_lack}
 use Rattle.scenario_text.proofs.Forms.{line_again}
@@ -65,24 +64,37 @@ cut_is separator bytes first rest cut =
     ∙ ap (join_with_byte separator) (cut ∙ ap (λ (ps : List (List ℕ)). first ∷ ps) some.is)
     ∙ ap (λ (bytes : List ℕ). first ++ separator ∷ bytes) there
 
--- a number at the end of the line
-pub last_number_is : (low high : ℕ) (text word rest : List ℕ) (r : Read ℕ) (n : ℕ) → high < 2 ^ 64 → pieces 10 text ≡ word ∷ pieces 10 rest →
-    MatchResult r (λ n. (is_number low high word ≡ true) × (n ≡ value word)) (λ kind. (is_number low high word ≡ false) × (kind ≡ Number)) → result_ok r ≡ Some n → BeginsNumber low high text n rest
-last_number_is low high text word rest (Err kind) n small cut spelled is = absurd cc
-last_number_is low high text word rest (Ok m) n small cut spelled is =
+-- a number before a separator
+pub number_before_is : (low high : ℕ) (text word : List ℕ) (end : ℕ) (rest : List ℕ) (r : Read ℕ) (n : ℕ) → high < 2 ^ 64 → pieces end text ≡ word ∷ pieces end rest →
+    MatchResult r (λ n. (is_number low high word ≡ true) × (n ≡ value word)) (λ kind. (is_number low high word ≡ false) × (kind ≡ Number)) → result_ok r ≡ Some n → BeginsNumber low high text n end rest
+number_before_is low high text word end rest (Err kind) n small cut spelled is = absurd cc
+number_before_is low high text word end rest (Ok m) n small cut spelled is =
     let says = number_is low high word small spelled.0 in
     let same : value word ≡ n = cc in
     record {
       within = subst (IsWithin low high) same says.1;
-      spelled = cut_is 10 text word rest cut ∙ ap (λ (w : List ℕ). w ++ 10 ∷ rest) (says.0 ∙ ap decimal same) ∙ sym (append_assoc (decimal n) (10 ∷ []) rest);
+      spelled = cut_is end text word rest cut ∙ ap (λ (w : List ℕ). w ++ end ∷ rest) (says.0 ∙ ap decimal same);
     }
 
--- behind a mark
-pub marked_number : (low high : ℕ) (text mark behind rest : List ℕ) (n : ℕ) → begins text mark ≡ true → behind ≡ drop (length mark) text → BeginsNumber low high behind n rest → text ≡ (mark ++ decimal n ++ 10 ∷ []) ++ rest
-marked_number low high text mark behind rest n front is found =
-    mark_is text mark front
-    ∙ ap (λ (bytes : List ℕ). mark ++ bytes) (sym is ∙ found.spelled)
-    ∙ simp append_assoc
+-- a digit before a line feed
+pub last_digit_is : (high n : ℕ) (text rest : List ℕ) → n < 10 → n ≤ high → text ≡ (48 + n) ∷ 10 ∷ rest → BeginsNumber 0 high text n 10 rest
+last_digit_is high n text rest small most is =
+    record { within = (zero-le, most); spelled = is ∙ ap (λ (w : List ℕ). w ++ 10 ∷ rest) (sym (decimal_digit n small)) }
+
+-- what stands behind the first bytes of a text, as a pattern lends it
+abbrev pub behind_first : ℕ → List ℕ → List ℕ
+behind_first n text = take (length text - n) (drop n text)
+
+whole : (n : ℕ) (text : List ℕ) → drop n text ≡ behind_first n text
+whole n text = sym (take_all (length text - n) (drop n text) (omega (arith, length-drop n text)))
+
+-- the first two bytes of a text
+two_are : (text : List ℕ) (a b : ℕ) → 2 ≤ length text → get_or text 0 0 ≡ a → get_or text 1 0 ≡ b → text ≡ a ∷ b ∷ drop 2 text
+two_are (first ∷ second ∷ rest) a b long e0 e1 = cc
+two_are text a b long e0 e1 = absurd (omega arith)
+
+pub two_is : (text : List ℕ) (a b : ℕ) → 2 ≤ length text → get_or text 0 0 ≡ a → get_or text 1 0 ≡ b → text ≡ a ∷ b ∷ behind_first 2 text
+two_is text a b long e0 e1 = two_are text a b long e0 e1 ∙ ap (λ (bytes : List ℕ). a ∷ b ∷ bytes) (whole 2 text)
 
 -- the first eight bytes of a text
 pub eight_is : (text : List ℕ) (letter digit : ℕ) → 8 ≤ length text → get_or text 0 0 ≡ 115 → get_or text 1 0 ≡ 116 → get_or text 2 0 ≡ 101 → get_or text 3 0 ≡ 112 → get_or text 4 0 ≡ 32 →
@@ -113,27 +125,20 @@ step_text : (letter digit : ℕ) (words : List Word) (first : Word) (more : List
 step_text letter digit words first more text behind rest some front is =
     front ∙ ap (λ (bytes : List ℕ). codes "step " ++ letter ∷ digit ∷ 32 ∷ bytes) is ∙ rw some refl
 
--- what stands behind the first eight bytes, as a pattern lends it
-abbrev pub behind_eight : List ℕ → List ℕ
-behind_eight text = take (length text - 8) (drop 8 text)
-
-whole : (text : List ℕ) → drop 8 text ≡ behind_eight text
-whole text = sym (take_all (length text - 8) (drop 8 text) (omega (arith, length-drop 8 text)))
-
-pub sibling_is : (siblings n : ℕ) (text rest : List ℕ) (event : Event) → n < 10 → text ≡ codes "step " ++ 115 ∷ (48 + n) ∷ 32 ∷ drop 8 text → BeginsEvent siblings (Sibling n) (behind_eight text) event rest → BeginsStep siblings text (by (Sibling n) event) rest
+pub sibling_is : (siblings n : ℕ) (text rest : List ℕ) (event : Event) → n < 10 → text ≡ codes "step " ++ 115 ∷ (48 + n) ∷ 32 ∷ drop 8 text → BeginsEvent siblings (Sibling n) (behind_first 8 text) event rest → BeginsStep siblings text (by (Sibling n) event) rest
 sibling_is siblings n text rest event small front found =
     let some = event_some event in
     record {
       is = found.is;
-      spelled = step_text 115 (48 + n) (event_words event) some.0 some.1 text (drop 8 text) rest some.2 front (whole text ∙ found.spelled)
+      spelled = step_text 115 (48 + n) (event_words event) some.0 some.1 text (drop 8 text) rest some.2 front (whole 8 text ∙ found.spelled)
           ∙ ap (λ (w : Word). line (codes "step" ∷ (codes "s" ++ w) ∷ event_words event) ++ rest) (sym (decimal_digit n small));
     }
 
-pub caller_is : (siblings n : ℕ) (text rest : List ℕ) (event : Event) → n < 10 → text ≡ codes "step " ++ 99 ∷ (48 + n) ∷ 32 ∷ drop 8 text → BeginsEvent siblings (Caller n) (behind_eight text) event rest → BeginsStep siblings text (by (Caller n) event) rest
+pub caller_is : (siblings n : ℕ) (text rest : List ℕ) (event : Event) → n < 10 → text ≡ codes "step " ++ 99 ∷ (48 + n) ∷ 32 ∷ drop 8 text → BeginsEvent siblings (Caller n) (behind_first 8 text) event rest → BeginsStep siblings text (by (Caller n) event) rest
 caller_is siblings n text rest event small front found =
     let some = event_some event in
     record {
       is = found.is;
-      spelled = step_text 99 (48 + n) (event_words event) some.0 some.1 text (drop 8 text) rest some.2 front (whole text ∙ found.spelled)
+      spelled = step_text 99 (48 + n) (event_words event) some.0 some.1 text (drop 8 text) rest some.2 front (whole 8 text ∙ found.spelled)
           ∙ ap (λ (w : Word). line (codes "step" ∷ (codes "c" ++ w) ∷ event_words event) ++ rest) (sym (decimal_digit n small));
     }

@@ -366,10 +366,14 @@ pub record BeginsEvent (siblings : ℕ) (actor : Actor) (text : List ℕ) (event
   pub is : IsStep siblings (record { actor = actor; event = event })
   pub spelled : text ≡ line (event_words event) ++ rest
 
--- and of a number
-pub record BeginsNumber (low high : ℕ) (text : List ℕ) (number : ℕ) (rest : List ℕ) : Type 0 where
+-- and of what each caller may do
+abbrev pub BeginsCall : ℕ → List ℕ → Event → List ℕ → Type 0
+BeginsCall siblings text event rest = (j : ℕ) → j < 8 → BeginsEvent siblings (Caller j) text event rest
+
+-- the text begins with a number, which ends at this byte, and the rest stands behind the byte
+pub record BeginsNumber (low high : ℕ) (text : List ℕ) (number end : ℕ) (rest : List ℕ) : Type 0 where
   pub within : IsWithin low high number
-  pub spelled : text ≡ line (decimal number ∷ []) ++ rest
+  pub spelled : text ≡ decimal number ++ end ∷ rest
 
 -- the words of a plan's lines
 abbrev pub plan_lines : Contents → List (List Word)

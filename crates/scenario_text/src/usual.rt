@@ -1,10 +1,11 @@
 //! The step lines that most lines of a text are, read from its bytes with no search for words: those of siblings, and
-//! `wake` and `advance`. It is separate from the forms of lines, which say the same of these and have all others.
+//! `wake`, `advance`, `offline` and `online`. It is separate from the forms of lines, which say the same of these and
+//! have all others.
 
-ghost use Rattle.std.specs.Prelude.{ℕ, ◌<◌, IfSome};
-ghost use Rattle.cs_types.specs.declared.event.Actor.TheVariants.{Sibling, Caller};
+ghost use Rattle.std.specs.Prelude.{ℕ, ◌<◌, ◌-◌, IfSome};
+ghost use Rattle.cs_types.specs.declared.event.Actor.TheVariants.{Sibling};
 ghost use Rattle.cs_types.specs.Scenario.{IsWithin};
-ghost use Rattle.scenario_text.specs.Reading.{BeginsStep, BeginsEvent, BeginsNumber};
+ghost use Rattle.scenario_text.specs.Reading.{BeginsStep, BeginsEvent, BeginsCall, BeginsNumber};
 
 use crate::number::parse_number;
 use crate::pieces::cut_near;
@@ -32,29 +33,82 @@ fn sibling_event(text: &[u8], cpu: Cpu) -> Option<(Event, &[u8])>
     }
 }
 
-/// The number from `low` to `high` that ends the first line, and what stands behind the line.
+/// The number from `low` to `high` that stands before the first byte `end`, and what stands behind that byte.
 #[inline(always)]
-fn last_number(text: &[u8], low: u64, high: u64) -> Option<(u64, &[u8])>
-    ensures { IfSome result (λ read. BeginsNumber low high text.now read.0 read.1.now) }
+fn number_before(text: &[u8], end: u8, low: u64, high: u64) -> Option<(u64, &[u8])>
+    ensures { IfSome result (λ read. BeginsNumber low high text.now read.0 end read.1.now) }
 {
-    let (word, rest) = cut_near(text, b'\n')?;
+    let (word, rest) = cut_near(text, end)?;
     let number = parse_number(word, low, high).ok()?;
     Some((number, rest))
 }
 
-/// What a caller does, where the text begins with that, and what stands behind its line.
+/// The sibling, of this number of them, that ends the first line, and what stands behind the line.
 #[inline(always)]
-fn caller_event(text: &[u8]) -> Option<(Event, &[u8])>
-    ensures { IfSome result (λ read. (siblings j : ℕ) → j < 8 →
-        BeginsEvent siblings (Caller j) text.now read.0 read.1.now) }
+fn last_cpu(text: &[u8], siblings: u8) -> Option<(Cpu, &[u8])>
+    requires { IsWithin 1 8 siblings }
+    ensures { IfSome result (λ read. BeginsNumber 0 (siblings - 1) text.now read.0 10 read.1.now) }
 {
-    if let Some(number) = text.strip_prefix(b"wake ") {
-        let (pid, rest) = last_number(number, 1, MOST_NAMED_PID)?;
-        Some((Event::Wake(pid as u32), rest))
+    let [digit, b'\n', ref rest @ ..] = *text else {
+        return None;
+    };
+    let cpu = digit.wrapping_sub(b'0');
+    if cpu < siblings {
+        Some((cpu, rest))
     } else {
-        let number = text.strip_prefix(b"advance ")?;
-        let (delta, rest) = last_number(number, 1, MOST_ADVANCE)?;
-        Some((Event::Advance(delta), rest))
+        None
+    }
+}
+
+/// The `wake` that the text begins with, and what stands behind its line.
+#[inline(always)]
+fn wake_event(text: &[u8]) -> Option<(Event, &[u8])>
+    ensures { IfSome result (λ read. (siblings : ℕ) → BeginsCall siblings text.now read.0 read.1.now) }
+{
+    let number = text.strip_prefix(b"wake ")?;
+    let (pid, rest) = number_before(number, b'\n', 1, MOST_NAMED_PID)?;
+    Some((Event::Wake(pid as u32), rest))
+}
+
+/// The `advance` that the text begins with, and what stands behind its line.
+#[inline(always)]
+fn advance_event(text: &[u8]) -> Option<(Event, &[u8])>
+    ensures { IfSome result (λ read. (siblings : ℕ) → BeginsCall siblings text.now read.0 read.1.now) }
+{
+    let number = text.strip_prefix(b"advance ")?;
+    let (delta, rest) = number_before(number, b'\n', 1, MOST_ADVANCE)?;
+    Some((Event::Advance(delta), rest))
+}
+
+/// The `offline` or `online` that the text begins with, of one of this number of siblings, and what stands behind its
+/// line.
+#[inline(always)]
+fn hotplug_event(text: &[u8], siblings: u8) -> Option<(Event, &[u8])>
+    requires { IsWithin 1 8 siblings }
+    ensures { IfSome result (λ read. BeginsCall siblings text.now read.0 read.1.now) }
+{
+    if let Some(number) = text.strip_prefix(b"offline ") {
+        let (cpu, rest) = last_cpu(number, siblings)?;
+        Some((Event::Offline(cpu), rest))
+    } else {
+        let number = text.strip_prefix(b"online ")?;
+        let (cpu, rest) = last_cpu(number, siblings)?;
+        Some((Event::Online(cpu), rest))
+    }
+}
+
+/// What a caller does, in a core with this number of siblings, where the text begins with that, and what stands behind
+/// its line.
+#[inline(always)]
+fn caller_event(text: &[u8], siblings: u8) -> Option<(Event, &[u8])>
+    requires { IsWithin 1 8 siblings }
+    ensures { IfSome result (λ read. BeginsCall siblings text.now read.0 read.1.now) }
+{
+    match *text {
+        [b'w', ..] => wake_event(text),
+        [b'a', ..] => advance_event(text),
+        [b'o', ..] => hotplug_event(text, siblings),
+        _ => None,
     }
 }
 
@@ -85,7 +139,7 @@ pub(crate) fn usual_step(text: &[u8], siblings: u8) -> Option<(Step, &[u8])>
         let actor = Actor::Sibling(number);
         Some((Step { actor, event }, rest))
     } else if letter == b'c' && number as u64 <= MOST_CALLER {
-        let (event, rest) = caller_event(behind)?;
+        let (event, rest) = caller_event(behind, siblings)?;
         let actor = Actor::Caller(number);
         Some((Step { actor, event }, rest))
     } else {

@@ -15,4 +15,4 @@ returns-in_ok-event-2 c =
     let text = c.args.text.now in
     caller_is c.args.siblings _ text c.in_ok-event-2.rest.now c.in_ok-event-2.event (omega arith)
     (eight_is text 99 _ (omega arith) (omega arith) (omega arith) (omega arith) (omega arith) (omega arith) (omega arith) (omega arith) (omega arith))
-    (c.in_ok-event-2.ensures c.args.siblings _ (omega arith))
+    (c.in_ok-event-2.ensures _ (omega arith))
