@@ -1,10 +1,12 @@
 //! The step lines that most lines of a text are, read from its bytes with no search for words: those of siblings, and
-//! `wake`, `advance`, `offline` and `online`. It is separate from the forms of lines, which say the same of these and
-//! have all others.
+//! `wake`, `advance`, `fork`, `offline` and `online`. It is separate from the forms of lines, which say the same of
+//! these and have all others.
 
-ghost use Rattle.std.specs.Prelude.{ℕ, ◌<◌, ◌-◌, IfSome};
+ghost use Rattle.std.specs.Prelude.{◌≡◌, ℕ, ◌<◌, ◌-◌, [], ◌∷◌, ◌++◌, IfSome};
 ghost use Rattle.cs_types.specs.declared.event.Actor.TheVariants.{Sibling};
 ghost use Rattle.cs_types.specs.Scenario.{IsWithin};
+ghost use Rattle.scenario_text.specs.Words.{child_word};
+ghost use Rattle.scenario_text.specs.Text.{line};
 ghost use Rattle.scenario_text.specs.Reading.{BeginsStep, BeginsEvent, BeginsCall, BeginsNumber};
 
 use crate::number::parse_number;
@@ -97,6 +99,31 @@ fn hotplug_event(text: &[u8], siblings: u8) -> Option<(Event, &[u8])>
     }
 }
 
+/// Whether the child that ends the first line is a thread, and what stands behind the line.
+#[inline(always)]
+fn last_child(text: &[u8]) -> Option<(bool, &[u8])>
+    ensures { IfSome result (λ read. text.now ≡ line (child_word read.0 ∷ []) ++ read.1.now) }
+{
+    if let Some(rest) = text.strip_prefix(b"thread\n") {
+        Some((true, rest))
+    } else {
+        let rest = text.strip_prefix(b"process\n")?;
+        Some((false, rest))
+    }
+}
+
+/// The `fork` that the text begins with, and what stands behind its line.
+#[inline(always)]
+fn fork_event(text: &[u8]) -> Option<(Event, &[u8])>
+    ensures { IfSome result (λ read. (siblings : ℕ) → BeginsCall siblings text.now read.0 read.1.now) }
+{
+    let number = text.strip_prefix(b"fork ")?;
+    let (caller, child) = number_before(number, b' ', 1, MOST_NAMED_PID)?;
+    let (thread, rest) = last_child(child)?;
+    let caller = caller as u32;
+    Some((Event::Fork { caller, thread }, rest))
+}
+
 /// What a caller does, in a core with this number of siblings, where the text begins with that, and what stands behind
 /// its line.
 #[inline(always)]
@@ -107,6 +134,7 @@ fn caller_event(text: &[u8], siblings: u8) -> Option<(Event, &[u8])>
     match *text {
         [b'w', ..] => wake_event(text),
         [b'a', ..] => advance_event(text),
+        [b'f', ..] => fork_event(text),
         [b'o', ..] => hotplug_event(text, siblings),
         _ => None,
     }
