@@ -1,6 +1,7 @@
 -- UsualLines: a text that begins with the line of a step, put together from what was found at its front.
 use Rattle.std.proofs.Common.{◌≡◌, ℕ, ◌≤◌, ◌<◌, ◌+◌, ◌-◌, ◌^◌, true, eqb, List, [], ◌∷◌, ◌++◌, length, take, drop, get_or, Some, Ok, Err, false, refl, sym, ap, subst, ◌∙◌, append_assoc, take_all, zero-le, arith}
-use Rattle.std.specs.Prelude.{codes, decimal, MatchResult}
+use Rattle.std.specs.Prelude.{codes, decimal, ℤ, MatchResult}
+use Rattle.std.specs.Fmt.{signed_decimal}
 use Rattle.std.specs.List.{AllByRecursion, join_with_byte}
 use Rattle.std.specs.Result.{result_ok}
 use Rattle.std.proofs.lemmas.Fmt.{decimal_digit}
@@ -10,20 +11,21 @@ use Rattle.cs_types.specs.declared.event.Actor.TheVariants.{Sibling, Caller}
 use Rattle.cs_types.specs.declared.event.Event.{Event}
 use Rattle.cs_types.specs.declared.event.Event.TheVariants.{Turn, Resched, Block, Exit, Tick, Wake, Advance, Fork, Prctl, SetSched, Offline, Online, Load, Unload}
 use Rattle.cs_types.specs.declared.event.Step.{Step}
-use Rattle.cs_types.specs.Scenario.{IsWithin, IsStep}
+use Rattle.cs_types.specs.Scenario.{IsWithin, IsPid, IsStep}
 use Rattle.scenario_text.specs.declared.fault.BadKind.TheVariants.{Number}
 use Rattle.scenario_text.specs.declared.head.Head.{Head}
 use Rattle.scenario_text.specs.declared.line.ScenarioLine.TheVariants as forms
 use Rattle.scenario_text.specs.Words.{Word, made_words, event_words}
 use Rattle.scenario_text.specs.Text.{spaced, line, step_words}
-use Rattle.scenario_text.specs.Grammar.{value, is_number}
+use Rattle.scenario_text.specs.Grammar.{value, is_number, is_signed}
 use Rattle.scenario_text.specs.Faults.{pieces, lines_in}
-use Rattle.scenario_text.specs.Reading.{◌>>=◌, Contents, place_after, Read, line_at, line_check, next_of, usable, IsHead, BeginsStep, BeginsEvent, BeginsNumber}
+use Rattle.scenario_text.specs.Reading.{◌>>=◌, Contents, place_after, Read, line_at, line_check, next_of, usable, IsHead, BeginsStep, BeginsEvent, BeginsNumber, BeginsTarget, signed_value}
 use Rattle.scenario_text.proofs.Numbers.{number_is}
+use Rattle.scenario_text.proofs.Fields.{signed_is}
 use Rattle.scenario_text.proofs.Cuts.{has_piece, line_at-lines_in}
 use Rattle.scenario_text.proofs.Texts.{IsPlain, words_in-spaced, spaced_lacks, all_lack}
 use Rattle.scenario_text.proofs.Forms.{line_again}
-use Rattle.scenario_text.proofs.Steps.{by}
+use Rattle.scenario_text.proofs.Steps.{pid_is, by}
 use Rattle.scenario_text.proofs.Usable.{usable_step}
 use Rattle.scenario_text.proofs.Plain.{plain_step}
 
@@ -74,6 +76,19 @@ number_before_is low high text word end rest (Ok m) n small cut spelled is =
     record {
       within = subst (IsWithin low high) same says.1;
       spelled = cut_is end text word rest cut ∙ ap (λ (w : List ℕ). w ++ end ∷ rest) (says.0 ∙ ap decimal same);
+    }
+
+-- the target of a call, before a space
+pub target_before_is : (text word rest : List ℕ) (r : Read ℤ) (target : ℤ) → pieces 32 text ≡ word ∷ pieces 32 rest →
+    MatchResult r (λ z. (is_signed 2147483648 2147483647 word ≡ true) × (z ≡ signed_value word)) (λ kind. (is_signed 2147483648 2147483647 word ≡ false) × (kind ≡ Number)) → result_ok r ≡ Some target →
+    BeginsTarget text target rest
+target_before_is text word rest (Err kind) target cut spelled is = absurd cc
+target_before_is text word rest (Ok z) target cut spelled is =
+    let says = signed_is 2147483648 2147483647 (omega arith, omega arith) word spelled.0 in
+    let same : signed_value word ≡ target = cc in
+    record {
+      is = subst IsPid same ((pid_is (signed_value word)).0 says.1);
+      spelled = cut_is 32 text word rest cut ∙ ap (λ (w : List ℕ). w ++ 32 ∷ rest) (says.0 ∙ ap signed_decimal same);
     }
 
 -- a digit before a line feed

@@ -2,6 +2,7 @@
 use Rattle.std.specs.Prelude.{◌≡◌, ◌≤◌, ◌<◌, ℕ, suc, ◌+◌, ◌-◌, Bool, true, ◌&&◌, ◌||◌, ◌==◌, not, nat_le, nat_lt, ℤ, pos, negsuc, if◌then◌else◌, List, [], ◌∷◌, ◌++◌, length, map, take, drop, All, decimal, slice_index_or, None, codes, Result, Ok, Err}
 use Rattle.std.specs.List.{list_any}
 use Rattle.std.specs.Borrow.{Bor}
+use Rattle.std.specs.Fmt.{signed_decimal}
 use Rattle.cs_types.specs.declared.task.Policy.{Policy}
 use Rattle.cs_types.specs.declared.task.Policy.TheVariants.{Stop, Deadline, Fifo, Rr, Fair}
 use Rattle.cs_types.specs.declared.task.TaskSpec.{TaskSpec}
@@ -13,7 +14,7 @@ use Rattle.cs_types.specs.declared.event.Event.TheVariants.{Turn, Resched, Block
 use Rattle.cs_types.specs.declared.event.Step.{Step}
 use Rattle.cs_types.specs.declared.scenario.Teach.{Teach}
 use Rattle.cs_types.specs.declared.scenario.Scenario.{Scenario}
-use Rattle.cs_types.specs.Scenario.{IsWithin, IsTask, AreDistinct, AreLed, IsTeach, AreNumbered, IsStep, IsValid}
+use Rattle.cs_types.specs.Scenario.{IsWithin, IsPid, IsAsk, IsTask, AreDistinct, AreLed, IsTeach, AreNumbered, IsStep, IsValid}
 use Rattle.scenario_text.specs.declared.fault.BadKind.{BadKind}
 use Rattle.scenario_text.specs.declared.fault.BadKind.TheVariants.{Cut, Shape, Number, Twice, Leader, Full}
 use Rattle.scenario_text.specs.declared.head.Head.{Head}
@@ -22,7 +23,7 @@ use Rattle.scenario_text.specs.declared.line.ScenarioLine.{ScenarioLine}
 use Rattle.scenario_text.specs.declared.line.ScenarioLine.TheVariants as forms
 use Rattle.scenario_text.specs.declared.plan.Plan.{Plan}
 use Rattle.scenario_text.specs.declared.fault.ReadFault.{ReadFault}
-use Rattle.scenario_text.specs.Words.{Word, task_words, teach_words, event_words}
+use Rattle.scenario_text.specs.Words.{Word, task_words, teach_words, ask_words, event_words}
 use Rattle.scenario_text.specs.Text.{line, version_words, step_words, end_words, scenario_lines}
 use Rattle.scenario_text.specs.Faults.{kind_of}
 use Rattle.scenario_text.specs.Reader.{Tells}
@@ -370,10 +371,20 @@ pub record BeginsEvent (siblings : ℕ) (actor : Actor) (text : List ℕ) (event
 abbrev pub BeginsCall : ℕ → List ℕ → Event → List ℕ → Type 0
 BeginsCall siblings text event rest = (j : ℕ) → j < 8 → BeginsEvent siblings (Caller j) text event rest
 
+-- and of the arguments of a call
+pub record BeginsAsk (text : List ℕ) (ask : Ask) (rest : List ℕ) : Type 0 where
+  pub is : IsAsk ask
+  pub spelled : text ≡ line (ask_words ask) ++ rest
+
 -- the text begins with a number, which ends at this byte, and the rest stands behind the byte
 pub record BeginsNumber (low high : ℕ) (text : List ℕ) (number end : ℕ) (rest : List ℕ) : Type 0 where
   pub within : IsWithin low high number
   pub spelled : text ≡ decimal number ++ end ∷ rest
+
+-- and with the target of a call, which ends at a space
+pub record BeginsTarget (text : List ℕ) (target : ℤ) (rest : List ℕ) : Type 0 where
+  pub is : IsPid target
+  pub spelled : text ≡ signed_decimal target ++ 32 ∷ rest
 
 -- the words of a plan's lines
 abbrev pub plan_lines : Contents → List (List Word)

@@ -29,7 +29,7 @@ const MOST_TARGET_ABOVE: u32 = 2_147_483_647;
 pub(crate) const MOST_ADVANCE: u64 = 1_000_000_000;
 
 /// The target of `prctl`.
-fn parse_target(word: &[u8]) -> Result<i32, BadKind>
+pub(crate) fn parse_target(word: &[u8]) -> Result<i32, BadKind>
     ensures { MatchResult result (λ n. (is_signed 2147483648 2147483647 word.now ≡ true) × (n ≡ signed_value word.now))
         (λ kind. (is_signed 2147483648 2147483647 word.now ≡ false) × (kind ≡ Number)) }
 {

@@ -1,18 +1,18 @@
 //! The step lines that most lines of a text are, read from its bytes with no search for words: those of siblings, and
-//! `wake`, `advance`, `fork`, `offline` and `online`. It is separate from the forms of lines, which say the same of
-//! these and have all others.
+//! `wake`, `advance`, `prctl`, `fork`, `offline` and `online`. It is separate from the forms of lines, which say the
+//! same of these and have all others.
 
 ghost use Rattle.std.specs.Prelude.{◌≡◌, ℕ, ◌<◌, ◌-◌, [], ◌∷◌, ◌++◌, IfSome};
 ghost use Rattle.cs_types.specs.declared.event.Actor.TheVariants.{Sibling};
 ghost use Rattle.cs_types.specs.Scenario.{IsWithin};
 ghost use Rattle.scenario_text.specs.Words.{child_word};
 ghost use Rattle.scenario_text.specs.Text.{line};
-ghost use Rattle.scenario_text.specs.Reading.{BeginsStep, BeginsEvent, BeginsCall, BeginsNumber};
+ghost use Rattle.scenario_text.specs.Reading.{BeginsStep, BeginsEvent, BeginsCall, BeginsAsk, BeginsNumber, BeginsTarget};
 
 use crate::number::parse_number;
 use crate::pieces::cut_near;
-use crate::step::{MOST_ADVANCE, MOST_CALLER, MOST_NAMED_PID};
-use cs_types::{Actor, Cpu, Event, Step};
+use crate::step::{MOST_ADVANCE, MOST_CALLER, MOST_NAMED_PID, parse_target};
+use cs_types::{Actor, Ask, Cpu, Event, Step};
 
 /// What the sibling does, to itself, where the text begins with that, and what stands behind its line.
 #[inline(always)]
@@ -124,6 +124,46 @@ fn fork_event(text: &[u8]) -> Option<(Event, &[u8])>
     Some((Event::Fork { caller, thread }, rest))
 }
 
+/// The target of a `prctl` that stands before the first space, and what stands behind that.
+#[inline(always)]
+fn target_before(text: &[u8]) -> Option<(i32, &[u8])>
+    ensures { IfSome result (λ read. BeginsTarget text.now read.0 read.1.now) }
+{
+    let (word, rest) = cut_near(text, b' ')?;
+    let target = parse_target(word).ok()?;
+    Some((target, rest))
+}
+
+/// The arguments of a `prctl` that the first line ends with, and what stands behind the line.
+#[inline(always)]
+fn last_ask(text: &[u8]) -> Option<(Ask, &[u8])>
+    ensures { IfSome result (λ read. BeginsAsk text.now read.0 read.1.now) }
+{
+    let (cmd, behind) = number_before(text, b' ', 0, u32::MAX as u64)?;
+    let (pid, behind) = target_before(behind)?;
+    let (scope, behind) = number_before(behind, b' ', 0, u32::MAX as u64)?;
+    let (addr, rest) = number_before(behind, b'\n', 0, u64::MAX)?;
+    let ask = Ask {
+        cmd: cmd as u32,
+        pid,
+        scope: scope as u32,
+        addr,
+    };
+    Some((ask, rest))
+}
+
+/// The `prctl` that the text begins with, and what stands behind its line.
+#[inline(always)]
+fn prctl_event(text: &[u8]) -> Option<(Event, &[u8])>
+    ensures { IfSome result (λ read. (siblings : ℕ) → BeginsCall siblings text.now read.0 read.1.now) }
+{
+    let number = text.strip_prefix(b"prctl ")?;
+    let (caller, behind) = number_before(number, b' ', 1, MOST_NAMED_PID)?;
+    let (ask, rest) = last_ask(behind)?;
+    let caller = caller as u32;
+    Some((Event::Prctl { caller, ask }, rest))
+}
+
 /// What a caller does, in a core with this number of siblings, where the text begins with that, and what stands behind
 /// its line.
 #[inline(always)]
@@ -134,6 +174,7 @@ fn caller_event(text: &[u8], siblings: u8) -> Option<(Event, &[u8])>
     match *text {
         [b'w', ..] => wake_event(text),
         [b'a', ..] => advance_event(text),
+        [b'p', ..] => prctl_event(text),
         [b'f', ..] => fork_event(text),
         [b'o', ..] => hotplug_event(text, siblings),
         _ => None,
