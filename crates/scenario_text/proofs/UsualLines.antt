@@ -8,20 +8,21 @@ use Rattle.std.proofs.lemmas.Fmt.{decimal_digit}
 use Rattle.std.proofs.lemmas.List.{length-drop}
 use Rattle.std.proofs.lemmas.List.Splits.{slice_split_at, join_with_byte-slice_split}
 use Rattle.cs_types.specs.declared.event.Actor.TheVariants.{Sibling, Caller}
+use Rattle.cs_types.specs.declared.task.Policy.{Policy}
 use Rattle.cs_types.specs.declared.event.Event.{Event}
 use Rattle.cs_types.specs.declared.event.Event.TheVariants.{Turn, Resched, Block, Exit, Tick, Wake, Advance, Fork, Prctl, SetSched, Offline, Online, Load, Unload}
 use Rattle.cs_types.specs.declared.event.Step.{Step}
-use Rattle.cs_types.specs.Scenario.{IsWithin, IsPid, IsStep}
+use Rattle.cs_types.specs.Scenario.{IsWithin, IsPolicy, IsPid, IsStep}
 use Rattle.scenario_text.specs.declared.fault.BadKind.TheVariants.{Number}
 use Rattle.scenario_text.specs.declared.head.Head.{Head}
 use Rattle.scenario_text.specs.declared.line.ScenarioLine.TheVariants as forms
-use Rattle.scenario_text.specs.Words.{Word, made_words, event_words}
+use Rattle.scenario_text.specs.Words.{Word, policy_word, made_words, event_words}
 use Rattle.scenario_text.specs.Text.{spaced, line, step_words}
-use Rattle.scenario_text.specs.Grammar.{value, is_number, is_signed}
+use Rattle.scenario_text.specs.Grammar.{value, is_number, is_signed, policy}
 use Rattle.scenario_text.specs.Faults.{pieces, lines_in}
-use Rattle.scenario_text.specs.Reading.{◌>>=◌, Contents, place_after, Read, line_at, line_check, next_of, usable, IsHead, BeginsStep, BeginsEvent, BeginsNumber, BeginsTarget, signed_value}
+use Rattle.scenario_text.specs.Reading.{◌>>=◌, Contents, place_after, Read, line_at, line_check, next_of, usable, IsHead, BeginsStep, BeginsEvent, BeginsPolicy, BeginsNumber, BeginsTarget, policy_value, signed_value}
 use Rattle.scenario_text.proofs.Numbers.{number_is}
-use Rattle.scenario_text.proofs.Fields.{signed_is}
+use Rattle.scenario_text.proofs.Fields.{signed_is, policy_is}
 use Rattle.scenario_text.proofs.Cuts.{has_piece, line_at-lines_in}
 use Rattle.scenario_text.proofs.Texts.{IsPlain, words_in-spaced, spaced_lacks, all_lack}
 use Rattle.scenario_text.proofs.Forms.{line_again}
@@ -91,6 +92,18 @@ target_before_is text word rest (Ok z) target cut spelled is =
       spelled = cut_is 32 text word rest cut ∙ ap (λ (w : List ℕ). w ++ 32 ∷ rest) (says.0 ∙ ap signed_decimal same);
     }
 
+-- a policy at the end of the line
+pub last_policy_is : (text word rest : List ℕ) (r : Read Policy) (said : Policy) → pieces 10 text ≡ word ∷ pieces 10 rest →
+    MatchResult r (λ said. (policy.is_right word ≡ true) × (said ≡ policy_value word)) (λ kind. (policy.is_right word ≡ false) × (kind ≡ Number)) → result_ok r ≡ Some said → BeginsPolicy text said rest
+last_policy_is text word rest (Err kind) said cut spelled is = absurd cc
+last_policy_is text word rest (Ok p) said cut spelled is =
+    let says = policy_is word spelled.0 in
+    let same : policy_value word ≡ said = cc in
+    record {
+      is = subst IsPolicy same says.1;
+      spelled = cut_is 10 text word rest cut ∙ ap (λ (w : List ℕ). w ++ 10 ∷ rest) (says.0 ∙ ap policy_word same) ∙ sym (append_assoc (policy_word said) (10 ∷ []) rest);
+    }
+
 -- a digit before a line feed
 pub last_digit_is : (high n : ℕ) (text rest : List ℕ) → n < 10 → n ≤ high → text ≡ (48 + n) ∷ 10 ∷ rest → BeginsNumber 0 high text n 10 rest
 last_digit_is high n text rest small most is =
@@ -128,7 +141,7 @@ event_some (Wake pid) = (_, _, refl)
 event_some (Advance delta) = (_, _, refl)
 event_some (Fork caller thread) = (_, _, refl)
 event_some (Prctl caller ask) = (_, _, refl)
-event_some (SetSched pid policy) = (_, _, refl)
+event_some (SetSched pid said) = (_, _, refl)
 event_some (Offline cpu) = (_, _, refl)
 event_some (Online cpu) = (_, _, refl)
 event_some (Load index) = (_, _, refl)

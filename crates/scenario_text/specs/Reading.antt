@@ -14,7 +14,7 @@ use Rattle.cs_types.specs.declared.event.Event.TheVariants.{Turn, Resched, Block
 use Rattle.cs_types.specs.declared.event.Step.{Step}
 use Rattle.cs_types.specs.declared.scenario.Teach.{Teach}
 use Rattle.cs_types.specs.declared.scenario.Scenario.{Scenario}
-use Rattle.cs_types.specs.Scenario.{IsWithin, IsPid, IsAsk, IsTask, AreDistinct, AreLed, IsTeach, AreNumbered, IsStep, IsValid}
+use Rattle.cs_types.specs.Scenario.{IsWithin, IsPolicy, IsPid, IsAsk, IsTask, AreDistinct, AreLed, IsTeach, AreNumbered, IsStep, IsValid}
 use Rattle.scenario_text.specs.declared.fault.BadKind.{BadKind}
 use Rattle.scenario_text.specs.declared.fault.BadKind.TheVariants.{Cut, Shape, Number, Twice, Leader, Full}
 use Rattle.scenario_text.specs.declared.head.Head.{Head}
@@ -23,7 +23,7 @@ use Rattle.scenario_text.specs.declared.line.ScenarioLine.{ScenarioLine}
 use Rattle.scenario_text.specs.declared.line.ScenarioLine.TheVariants as forms
 use Rattle.scenario_text.specs.declared.plan.Plan.{Plan}
 use Rattle.scenario_text.specs.declared.fault.ReadFault.{ReadFault}
-use Rattle.scenario_text.specs.Words.{Word, task_words, teach_words, ask_words, event_words}
+use Rattle.scenario_text.specs.Words.{Word, policy_word, task_words, teach_words, ask_words, event_words}
 use Rattle.scenario_text.specs.Text.{line, version_words, step_words, end_words, scenario_lines}
 use Rattle.scenario_text.specs.Faults.{kind_of}
 use Rattle.scenario_text.specs.Reader.{Tells}
@@ -375,6 +375,11 @@ BeginsCall siblings text event rest = (j : ℕ) → j < 8 → BeginsEvent siblin
 pub record BeginsAsk (text : List ℕ) (ask : Ask) (rest : List ℕ) : Type 0 where
   pub is : IsAsk ask
   pub spelled : text ≡ line (ask_words ask) ++ rest
+
+-- and of a policy
+pub record BeginsPolicy (text : List ℕ) (policy : Policy) (rest : List ℕ) : Type 0 where
+  pub is : IsPolicy policy
+  pub spelled : text ≡ line (policy_word policy ∷ []) ++ rest
 
 -- the text begins with a number, which ends at this byte, and the rest stands behind the byte
 pub record BeginsNumber (low high : ℕ) (text : List ℕ) (number end : ℕ) (rest : List ℕ) : Type 0 where

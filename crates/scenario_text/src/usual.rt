@@ -1,18 +1,19 @@
 //! The step lines that most lines of a text are, read from its bytes with no search for words: those of siblings, and
-//! `wake`, `advance`, `prctl`, `fork`, `offline` and `online`. It is separate from the forms of lines, which say the
-//! same of these and have all others.
+//! `wake`, `advance`, `prctl`, `fork`, `setsched`, `offline` and `online`. It is separate from the forms of lines,
+//! which say the same of these and have all others.
 
 ghost use Rattle.std.specs.Prelude.{◌≡◌, ℕ, ◌<◌, ◌-◌, [], ◌∷◌, ◌++◌, IfSome};
 ghost use Rattle.cs_types.specs.declared.event.Actor.TheVariants.{Sibling};
 ghost use Rattle.cs_types.specs.Scenario.{IsWithin};
 ghost use Rattle.scenario_text.specs.Words.{child_word};
 ghost use Rattle.scenario_text.specs.Text.{line};
-ghost use Rattle.scenario_text.specs.Reading.{BeginsStep, BeginsEvent, BeginsCall, BeginsAsk, BeginsNumber, BeginsTarget};
+ghost use Rattle.scenario_text.specs.Reading.{BeginsStep, BeginsEvent, BeginsCall, BeginsAsk, BeginsPolicy, BeginsNumber, BeginsTarget};
 
 use crate::number::parse_number;
 use crate::pieces::cut_near;
 use crate::step::{MOST_ADVANCE, MOST_CALLER, MOST_NAMED_PID, parse_target};
-use cs_types::{Actor, Ask, Cpu, Event, Step};
+use crate::task::parse_policy;
+use cs_types::{Actor, Ask, Cpu, Event, Policy, Step};
 
 /// What the sibling does, to itself, where the text begins with that, and what stands behind its line.
 #[inline(always)]
@@ -164,6 +165,28 @@ fn prctl_event(text: &[u8]) -> Option<(Event, &[u8])>
     Some((Event::Prctl { caller, ask }, rest))
 }
 
+/// The policy that ends the first line, and what stands behind the line.
+#[inline(always)]
+fn last_policy(text: &[u8]) -> Option<(Policy, &[u8])>
+    ensures { IfSome result (λ read. BeginsPolicy text.now read.0 read.1.now) }
+{
+    let (word, rest) = cut_near(text, b'\n')?;
+    let policy = parse_policy(word).ok()?;
+    Some((policy, rest))
+}
+
+/// The `setsched` that the text begins with, and what stands behind its line.
+#[inline(always)]
+fn setsched_event(text: &[u8]) -> Option<(Event, &[u8])>
+    ensures { IfSome result (λ read. (siblings : ℕ) → BeginsCall siblings text.now read.0 read.1.now) }
+{
+    let number = text.strip_prefix(b"setsched ")?;
+    let (pid, behind) = number_before(number, b' ', 1, MOST_NAMED_PID)?;
+    let (policy, rest) = last_policy(behind)?;
+    let pid = pid as u32;
+    Some((Event::SetSched { pid, policy }, rest))
+}
+
 /// What a caller does, in a core with this number of siblings, where the text begins with that, and what stands behind
 /// its line.
 #[inline(always)]
@@ -176,6 +199,7 @@ fn caller_event(text: &[u8], siblings: u8) -> Option<(Event, &[u8])>
         [b'a', ..] => advance_event(text),
         [b'p', ..] => prctl_event(text),
         [b'f', ..] => fork_event(text),
+        [b's', ..] => setsched_event(text),
         [b'o', ..] => hotplug_event(text, siblings),
         _ => None,
     }
