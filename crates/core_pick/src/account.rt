@@ -1,10 +1,11 @@
 //! What is charged for forced idle, and to whom. It is a file of its own since a tick, a block, an exit, a
 //! sibling that leaves and a schedule all charge.
 
-ghost use Rattle.std.specs.Prelude.{◌≡◌, ◌<◌, length, find, All, IsSome, IfSome};
+ghost use Rattle.std.specs.Prelude.{◌≡◌, ℕ, ◌+◌, ◌^◌, ◌<◌, [], length, find, All, IsSome, IfSome};
 ghost use Rattle.std.specs.Option.{option_and_then};
 ghost use Rattle.cs_types.specs.Room.{has_pid, task_of, sibling_of, to_run};
 ghost use Rattle.cs_types.specs.Accounting.{with_cookie, charged, charge};
+ghost use Rattle.task_table.specs.Table.{total_in, IsSound as IsTable};
 ghost use Rattle.core_lanes.specs.Queued.{IsOf};
 ghost use Rattle.core_lanes.specs.Lanes.{Beside, room_of, queues_of, bare, Agree};
 ghost use Rattle.core_pick.specs.Account.{charged_at, MayOwe, Owes};
@@ -27,26 +28,32 @@ fn charged_on<Q: SiblingQueue>(core: &Core<Q>, table: &TaskTable, cpu: Cpu) -> O
     ensures there { IfSome result (λ pid. IsSome (find (has_pid pid) table.now.tasks)) }
 {
     let lane = &core.lanes[cpu as usize];
-    let task = table.find(lane.waiting.unwrap_or(lane.run)?)?;
-    if lane.online && task.cookie != 0 {
+    if !lane.online {
+        return None;
+    }
+    let pid = match lane.waiting {
+        Some(waiting) => waiting?,
+        None => lane.run?,
+    };
+    let task = table.find(pid)?;
+    if task.cookie != 0 {
         Some(task.spec.pid)
     } else {
         None
     }
 }
 
-/// The tasks that are charged, by rising sibling.
-fn charged<Q: SiblingQueue>(core: &Core<Q>, table: &TaskTable) -> Charged
-    ensures tasks { (beside : Beside) → result.items ≡ charged (room_of beside (core.now, table.now)) }
-    ensures there { All (λ pid. IsSome (find (has_pid pid) table.now.tasks)) result.items }
+/// Puts into the empty list the tasks that are charged, by rising sibling.
+fn note_charged<Q: SiblingQueue>(tasks: &mut Charged, core: &Core<Q>, table: &TaskTable)
+    requires { tasks.old.items ≡ [] }
+    ensures tasks { (beside : Beside) → tasks.new.items ≡ charged (room_of beside (core.now, table.now)) }
+    ensures there { All (λ pid. IsSome (find (has_pid pid) table.now.tasks)) tasks.new.items }
 {
-    let mut charged = Charged::new();
     for cpu in 0..core.lanes.len() {
         if let Some(pid) = charged_on(core, table, cpu as u8) {
-            charged.push(pid);
+            tasks.push(pid);
         }
     }
-    charged
 }
 
 /// Each of these tasks has this share more, in ns, however often it stands among them.
@@ -62,8 +69,21 @@ fn charge_each(table: &mut TaskTable, charged: &[Pid], share: u64)
     }
 }
 
+/// Each task that is charged for a sibling has this share more, in ns.
+#[inline(never)]
+fn charge_tasks<Q: SiblingQueue>(core: &Core<Q>, table: &mut TaskTable, share: u64)
+    requires low { (pid : ℕ) → total_in table.old pid + share < 2 ^ 64 }
+    requires sound { IsTable table.old }
+    ensures { (beside : Beside) → Owes (charged (room_of beside (core.now, table.old))) share table.old table.new }
+{
+    let mut tasks = Charged::new();
+    note_charged(&mut tasks, core, table);
+    charge_each(table, tasks.as_slice(), share);
+}
+
 /// The open interval is charged up to now, if one is open and time has passed
 /// (`__sched_core_account_forceidle`).
+#[inline(always)]
 pub fn charge<Q: SiblingQueue>(core: &mut Core<Q>, table: &mut TaskTable, now: u64)
     requires agree { Agree (core.old, table.old) }
     requires paid { IsPaid now (core.old, table.old) }
@@ -75,7 +95,6 @@ pub fn charge<Q: SiblingQueue>(core: &mut Core<Q>, table: &mut TaskTable, now: u
     ensures table { table.new ≡ record table.old { totals = table.new.totals } }
 {
     if let Some(share) = core.account.charge(now) {
-        let charged = charged(core, table);
-        charge_each(table, charged.as_slice(), share);
+        charge_tasks(core, table, share);
     }
 }

@@ -10,20 +10,20 @@ use Rattle.cs_types.specs.Room.{has_pid}
 use Rattle.core_lanes.specs.Lanes.{lane_state, room_of}
 use Rattle.core_pick.specs.Account.{charged_at}
 use Rattle.core_pick.proofs.Accounts.{charged_each, charged_more}
-use Rattle.core_pick.proofs.account.charged.Given.{Over}
-use Rattle.core_pick.proofs.account.charged.Goals as goal
-use Rattle.core_pick.proofs.account.charged.Goals.{in-Some, in_default}
+use Rattle.core_pick.proofs.account.note_charged.Given.{Over}
+use Rattle.core_pick.proofs.account.note_charged.Goals as goal
+use Rattle.core_pick.proofs.account.note_charged.Goals.{in-Some, in_default}
 
 -- a task with the pid lives
 abbrev Lives : List Task → ℕ → Type 0
 Lives tasks pid = IsSome (find (has_pid pid) tasks)
 
 -- the tasks after the turn are one more where one is charged for the sibling
-pushed_is : (g : Over) (c : goal.Joined-charged_on g) → c.match-charged_on.charged.items ≡ c.loop-cpu.charged.items ++ option_to_list c.charged_on.result
+pushed_is : (g : Over) (c : goal.Joined-charged_on g) → c.match-charged_on.tasks.items ≡ c.loop-cpu.tasks.items ++ option_to_list c.charged_on.result
 pushed_is g c =
     elim c.match-charged_on.branch [
-      | in-Some w ↦ ap (λ charged. charged.items) w.charged-is ∙ w.push.ensures.items ∙ ap (λ one. c.loop-cpu.charged.items ++ option_to_list one) (sym w.in-Some.is)
-      | in_default w ↦ ap (λ charged. charged.items) w.charged-is ∙ sym (append-nil c.loop-cpu.charged.items) ∙ ap (λ one. c.loop-cpu.charged.items ++ option_to_list one) (sym w.in_default.is)
+      | in-Some w ↦ ap (λ tasks. tasks.items) w.tasks-is ∙ w.push.ensures.items ∙ ap (λ one. c.loop-cpu.tasks.items ++ option_to_list one) (sym w.in-Some.is)
+      | in_default w ↦ ap (λ tasks. tasks.items) w.tasks-is ∙ sym (append-nil c.loop-cpu.tasks.items) ∙ ap (λ one. c.loop-cpu.tasks.items ++ option_to_list one) (sym w.in_default.is)
     ]
 
 pub loop-cpu-preserved : goal.loop-cpu-preserved
@@ -31,8 +31,8 @@ loop-cpu-preserved g c =
     let so_far = c.loop-cpu.invariant in
     record {
       few = elim c.match-charged_on.branch [
-        | in-Some w ↦ omega (arith, ap array_vec_len w.charged-is, w.push.ensures.len, so_far.few)
-        | in_default w ↦ omega (arith, ap array_vec_len w.charged-is, so_far.few)
+        | in-Some w ↦ omega (arith, ap array_vec_len w.tasks-is, w.push.ensures.len, so_far.few)
+        | in_default w ↦ omega (arith, ap array_vec_len w.tasks-is, so_far.few)
       ];
       tasks = λ beside.
           let room = room_of beside (c.args.core.now, c.args.table.now) in
@@ -40,9 +40,9 @@ loop-cpu-preserved g c =
           ∙ (λ i. so_far.tasks beside i ++ option_to_list (c.charged_on.ensures.task beside i))
           ∙ sym (charged_more room c.loop-cpu.cpu);
       there = elim c.match-charged_on.branch [
-        | in-Some w ↦ subst (All (Lives c.args.table.now.tasks)) (sym (ap (λ charged. charged.items) w.charged-is ∙ w.push.ensures.items))
-            (All-push (Lives c.args.table.now.tasks) c.loop-cpu.charged.items _ so_far.there w.in-Some.ensures.there)
-        | in_default w ↦ subst (All (Lives c.args.table.now.tasks)) (sym (ap (λ charged. charged.items) w.charged-is)) so_far.there
+        | in-Some w ↦ subst (All (Lives c.args.table.now.tasks)) (sym (ap (λ tasks. tasks.items) w.tasks-is ∙ w.push.ensures.items))
+            (All-push (Lives c.args.table.now.tasks) c.loop-cpu.tasks.items _ so_far.there w.in-Some.ensures.there)
+        | in_default w ↦ subst (All (Lives c.args.table.now.tasks)) (sym (ap (λ tasks. tasks.items) w.tasks-is)) so_far.there
       ];
     }
 
