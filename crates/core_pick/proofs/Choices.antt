@@ -1,30 +1,26 @@
 -- What the code chooses is the model's choice, and what it counts are the model's counts.
-use Rattle.std.proofs.Common.{◌≡◌, ℕ, suc, ◌+◌, ◌-◌, ◌<◌, ◌≤◌, Bool, true, false, cond, List, [], ◌∷◌, ◌++◌, map, length, get_or, refl, sym, ap, ◌∙◌, append_assoc, arith, Fits, w8}
-use Rattle.std.specs.Prelude.{◌||◌, ◌&&◌, ◌==◌, filter, count_by, All, Option, Some, None, is_none, is_some, IfSome, not}
-use Rattle.std.specs.List.{list_any, list_all, range_with_len}
-use Rattle.std.specs.Int.{from_bool}
+use Rattle.std.proofs.Common.{◌≡◌, ℕ, suc, ◌+◌, ◌<◌, ◌≤◌, Bool, true, false, cond, List, [], ◌∷◌, ◌++◌, map, length, get_or, refl, sym, ap, ◌∙◌, arith}
+use Rattle.std.specs.Prelude.{◌||◌, ◌&&◌, ◌==◌, count_by, All, Option, Some, None, is_none, is_some, IfSome, not}
+use Rattle.std.specs.List.{list_all, range_with_len, enumerate_from}
+use Rattle.std.proofs.lemmas.List.{map-id}
 use Rattle.std.proofs.lemmas.List.Sums.{sum_by_push, count_by-le-length}
 use Rattle.std.proofs.lemmas.Bool.{cond-true, cond-false, eqb-true, and_parts}
-use Rattle.std.proofs.lemmas.List.Elements.{filter-append, filter_passes, All-map, All-filter, All-append, All-weaker}
-use Rattle.std.proofs.lemmas.List.FromFn.{get_or-map-range_with_len, get_or-range_with_len, length-range_with_len, length-map-range_with_len}
-use Rattle.cs_types.specs.Room.{RoomState, is_online, online, online_from, queued_on}
+use Rattle.std.proofs.lemmas.List.Elements.{filter_passes, All-map, All-filter, All-weaker}
+use Rattle.std.proofs.lemmas.List.FromFn.{get_or-map-range_with_len, length-range_with_len, length-map-range_with_len}
+use Rattle.cs_types.specs.Room.{RoomState, is_online, online, queued_on}
 use Rattle.cs_types.specs.Order.{fair_class, idle_class, class_of, first_of, goes_before}
-use Rattle.cs_types.specs.Selection.{first_on, cookie_of, pid_of, is_fair_task, queued_with, choice, is_forced, forced_count, occupation_of, is_run, task_after_selection}
+use Rattle.cs_types.specs.Selection.{first_on, cookie_of, pid_of, is_fair_task, queued_with, choice, is_forced, forced_count, occupation_of}
 use Rattle.cs_types.specs.declared.task.Task.{Task}
 use Rattle.cs_types.specs.declared.task.Policy.{Policy}
 use Rattle.cs_types.specs.declared.task.Policy.TheVariants.{Stop, Deadline, Fifo, Rr, Fair}
 use Rattle.sibling_priority.specs.Offers.{class_of_first}
 use Rattle.core_lanes.specs.declared.lane.Lane.{Lane}
 use Rattle.core_pick.specs.declared.choice.Choice.{Choice}
-use Rattle.core_pick.specs.declared.lead.First.{First}
-use Rattle.core_pick.specs.Choice.{own_of, online_between, kept_of, run_of, first_at, firsts_of, searched, choice_at, choices_of, task_after_choices}
-use Rattle.core_lanes.proofs.Lists.{count_at, any_at, range_more, All-find}
+use Rattle.core_pick.specs.declared.choice.Counts.{Counts}
+use Rattle.core_pick.specs.Choice.{own_of, run_of, choice_of, choices_of, gets_none, gets_task, IsCounted}
+use Rattle.core_lanes.proofs.Lists.{count_at, range_more, All-find}
 
-is_some-pid_of : (task : Option Task) → is_some (pid_of task) ≡ is_some task
-is_some-pid_of None = refl
-is_some-pid_of (Some task) = refl
-
--- what is kept of a first task tells whether there is one, which, and whether it is fair
+-- what is kept of a task tells whether there is one, which, and whether it is fair
 no_idle : (policy : Policy) → (class_of policy == idle_class) ≡ false
 no_idle Stop = refl
 no_idle (Deadline relative) = refl
@@ -36,18 +32,18 @@ pub is_idle : (first : Option Task) → (class_of_first first == idle_class) ≡
 is_idle None = refl
 is_idle (Some task) = no_idle task.spec.policy
 
-pub run_of-kept_of : (snapshot : ℕ) (first : Option Task) → run_of (kept_of snapshot first) ≡ pid_of first
-run_of-kept_of snapshot None = refl
-run_of-kept_of snapshot (Some task) = ap (λ b. cond b None (Some task.spec.pid)) (no_idle task.spec.policy)
+pub run_of-choice_of : (first : Option Task) → run_of (choice_of first) ≡ pid_of first
+run_of-choice_of None = refl
+run_of-choice_of (Some task) = ap (λ b. cond b None (Some task.spec.pid)) (no_idle task.spec.policy)
 
-pub fair-kept_of : (first : Option Task) → (class_of_first first == fair_class) ≡ is_fair_task first
-fair-kept_of None = refl
-fair-kept_of (Some task) = refl
+pub is_fair-choice_of : (first : Option Task) → (class_of_first first == fair_class) ≡ is_fair_task first
+is_fair-choice_of None = refl
+is_fair-choice_of (Some task) = refl
 
 -- ---- the choice
 
 -- whether the first of a sibling is idle or has the core cookie
-abbrev is_kept : RoomState → ℕ → ℕ → Bool
+abbrev pub is_kept : RoomState → ℕ → ℕ → Bool
 is_kept room core cpu = is_none (first_on room cpu) || (cookie_of (first_on room cpu) == core)
 
 -- such a first is the choice
@@ -61,132 +57,81 @@ pub choice_searched : (room : RoomState) (core cpu : ℕ) → is_kept room core 
 unfolding choice
 choice_searched room core cpu other = cond-false (is_kept room core cpu) (first_on room cpu) (cond (core == 0) None (first_of (queued_with room core cpu))) other
 
--- so it is not forced idle, or is where nothing was found
-pub not_forced : (room : RoomState) (core cpu : ℕ) → is_kept room core cpu ≡ true → is_forced room core cpu ≡ false
-not_forced room core cpu kept = ap (λ (f : Option Task). is_none f && is_some (first_on room cpu)) (choice_kept room core cpu kept) ∙ never (first_on room cpu) where
-  never : (first : Option Task) → (is_none first && is_some first) ≡ false
-  never None = refl
-  never (Some task) = refl
+-- ---- one sibling
 
-pub forced_searched : (room : RoomState) (core cpu : ℕ) → is_kept room core cpu ≡ false → is_forced room core cpu ≡ is_none (choice room core cpu)
-forced_searched room core cpu other = go (first_on room cpu) (cookie_of (first_on room cpu) == core) (is_none (choice room core cpu)) other where
-  go : (first : Option Task) (same none : Bool) → (is_none first || same) ≡ false → (none && is_some first) ≡ none
-  go None same none is = absurd cc
-  go (Some task) same true is = refl
-  go (Some task) same false is = refl
+-- one whose first is idle gets that
+pub nothing_there : (room : RoomState) (core cpu : ℕ) → is_none (first_on room cpu) ≡ true → choice room core cpu ≡ first_on room cpu
+nothing_there room core cpu none = choice_kept room core cpu (ap (λ b. b || (cookie_of (first_on room cpu) == core)) none)
 
--- what the search gives is the choice where the first is not
-pub choice_found : (room : RoomState) (core cpu : ℕ) (first : First) → first ≡ first_at room cpu → ((first.class == idle_class) || (first.cookie == core)) ≡ false →
-    (found : Option Task) → found ≡ cond (core == 0) None (first_of (queued_with room core cpu)) → (online : Bool) → online ≡ is_online room cpu →
-    searched found online ≡ choice_at room core cpu
-choice_found room core cpu first is other found searches online there =
-    let tested : is_kept room core cpu ≡ false =
-    ap (λ b. b || (cookie_of (first_on room cpu) == core)) (sym (is_idle (first_on room cpu)))
-    ∙ ap (λ (kept : First). (kept.class == idle_class) || (kept.cookie == core)) (sym is) ∙ other in
-    let same = searches ∙ sym (choice_searched room core cpu tested) in
-    let forced = sym (ap (λ b. is_online room cpu && b) (forced_searched room core cpu tested)) in
-    (λ i. searched (same i) (there i)) ∙ (λ i. record (searched (choice room core cpu) (is_online room cpu)) { is_forced = forced i })
+-- how it is counted
+module _ (room : RoomState) (core cpu : ℕ) (counts now : Counts) where
+  pub counted_nothing : is_none (first_on room cpu) ≡ true → IsCounted room core cpu counts counts
+  counted_nothing none =
+      let both = go (is_online room cpu) (first_on room cpu) (choice room core cpu) none (nothing_there room core cpu none) in
+      record { forced = omega (arith, ap {B = ℕ} (λ b. cond b 1 0) both.0); occupation = omega (arith, ap {B = ℕ} (λ b. cond b 1 0) both.1) } where
+        go : (online : Bool) (first got : Option Task) → is_none first ≡ true → got ≡ first → ((online && (is_none got && is_some first)) ≡ false) × ((online && is_some got) ≡ false)
+        go false first got is same = (refl, refl)
+        go true None got is same = (ap (λ (n : Option Task). is_none n && false) same, ap is_some same)
+        go true (Some task) got is same = absurd cc
 
--- there are as many choices as siblings
+  pub counted_offline : is_online room cpu ≡ false → IsCounted room core cpu counts counts
+  counted_offline offline = record {
+    forced = omega (arith, ap {B = ℕ} (λ b. cond (b && is_forced room core cpu) 1 0) offline);
+    occupation = omega (arith, ap {B = ℕ} (λ b. cond (b && is_some (choice room core cpu)) 1 0) offline);
+  }
+
+  pub counted_task : is_none (first_on room cpu) ≡ false → is_online room cpu ≡ true →
+      now ≡ cond (is_none (choice room core cpu)) (record counts { forced = counts.forced + 1 }) (record counts { occupation = counts.occupation + 1 }) →
+      IsCounted room core cpu counts now
+  counted_task some online is =
+      let both = go (is_online room cpu) (first_on room cpu) (choice room core cpu) some online is in record { forced = both.0; occupation = both.1 } where
+        go : (b : Bool) (first got : Option Task) → is_none first ≡ false → b ≡ true →
+            now ≡ cond (is_none got) (record counts { forced = counts.forced + 1 }) (record counts { occupation = counts.occupation + 1 }) →
+            (now.forced ≡ counts.forced + cond (b && (is_none got && is_some first)) 1 0) × (now.occupation ≡ counts.occupation + cond (b && is_some got) 1 0)
+        go false first got up on is = absurd cc
+        go true None got up on is = absurd cc
+        go true (Some task) None up on is = (ap (λ (n : Counts). n.forced) is, omega (arith, ap (λ (n : Counts). n.occupation) is))
+        go true (Some task) (Some other) up on is = (omega (arith, ap (λ (n : Counts). n.forced) is), ap (λ (n : Counts). n.occupation) is)
+
+-- ---- all siblings
+
+-- what each of so many siblings puts up or gets stands at its number
+pub at_number : (f : ℕ → Choice) (count cpu : ℕ) (d : Choice) → cpu < count → get_or (map f (range_with_len 0 count)) cpu d ≡ f cpu
+at_number f count cpu d below = get_or-map-range_with_len f 0 count cpu cpu d below (omega arith)
+
 pub choices_as_many : (room : RoomState) (core : ℕ) (choices : List Choice) → choices ≡ choices_of room core → length choices ≡ length room.siblings
-choices_as_many room core choices are = ap length are ∙ length-map-range_with_len (choice_at room core) 0 (length room.siblings)
+choices_as_many room core choices are = ap length are ∙ length-map-range_with_len (λ cpu. choice_of (choice room core cpu)) 0 (length room.siblings)
 
--- a count, once one more is made
-byte_is : (b : Bool) → from_bool b ≡ cond b 1 0
-byte_is true = refl
-byte_is false = refl
+-- by numbers alone
+pub map-enumerate_from : {X : Type 0} (f : ℕ → Choice) (a : ℕ) (xs : List X) → map (λ (numbered : ℕ × X). f numbered.0) (enumerate_from a xs) ≡ map f (range_with_len a (length xs))
+map-enumerate_from f a [] = refl
+map-enumerate_from f a (x ∷ xs) = ap (λ (cs : List Choice). f a ∷ cs) (map-enumerate_from f (a + 1) xs)
 
-pub count_more : (p : Choice → Bool) (choices : List Choice) (choice : Choice) {more : List Choice} {count one : ℕ} → more ≡ choices ++ choice ∷ [] →
-    count ≡ count_by p choices → one ≡ from_bool (p choice) → count + one ≡ count_by p more
-count_more p choices choice made so_far now =
-    (λ i. so_far i + (now ∙ byte_is (p choice)) i)
-    ∙ sym (sum_by_push (λ c. cond (p c) 1 0) choices choice) ∙ ap (count_by p) (sym made)
+-- a count, with one sibling more
+pub count_more : (p : ℕ → Bool) (cpu : ℕ) → count_by p (range_with_len 0 (cpu + 1)) ≡ count_by p (range_with_len 0 cpu) + cond (p cpu) 1 0
+count_more p cpu =
+    let next : cpu + 1 ≡ suc cpu = omega arith in
+    let last : 0 + cpu ≡ cpu = omega arith in
+    ap (λ n. count_by p (range_with_len 0 n)) next ∙ ap (count_by p) (range_more 0 cpu ∙ ap (λ n. range_with_len 0 cpu ++ n ∷ []) last)
+    ∙ sum_by_push (λ n. cond (p n) 1 0) (range_with_len 0 cpu) cpu
 
--- and it fits a byte
-pub one_at_most : (b : Bool) (one : ℕ) → one ≡ from_bool b → one ≤ 1
-one_at_most true one is = omega (arith, is)
-one_at_most false one is = omega (arith, is)
+-- it is small
+pub few_counted : (p : ℕ → Bool) (cpu : ℕ) → count_by p (range_with_len 0 cpu) ≤ cpu
+few_counted p cpu = omega (arith, count_by-le-length p (range_with_len 0 cpu), length-range_with_len 0 cpu)
 
-pub few_counted : (p : Choice → Bool) (choices : List Choice) (count one made siblings : ℕ) → count ≡ count_by p choices → length choices ≡ made → made < siblings →
-    siblings ≤ 16 → one ≤ 1 → Fits w8 (count + one)
-few_counted p choices count one made siblings counted many below few least = omega (arith, counted, count_by-le-length p choices, many, below, few, least)
+-- the counts of all are the model's
+module _ (room : RoomState) (core : ℕ) where
+  count_at_all : (q p : ℕ → Bool) → ((cpu : ℕ) → q cpu ≡ (is_online room cpu && p cpu)) → count_by q (range_with_len 0 (length room.siblings)) ≡ count_by p (online room)
+  count_at_all q p same =
+      ap (count_by q) (sym (map-id (range_with_len 0 (length room.siblings)))) ∙ count_at (λ cpu. cpu) q (is_online room) p (range_with_len 0 (length room.siblings)) same
 
--- a count of them is the model's
-pub forced_is : (room : RoomState) (core : ℕ) (choices : List Choice) (count : ℕ) → count ≡ count_by (λ c. c.is_forced) choices → choices ≡ choices_of room core →
-    count ≡ forced_count room core
-forced_is room core choices count counted are =
-    counted ∙ ap (count_by (λ (c : Choice). c.is_forced)) are
-    ∙ count_at (choice_at room core) (λ c. c.is_forced) (is_online room) (is_forced room core) (range_with_len 0 (length room.siblings)) (λ cpu. refl)
+  pub all_forced : count_by (gets_none room core) (range_with_len 0 (length room.siblings)) ≡ forced_count room core
+  all_forced = count_at_all (gets_none room core) (is_forced room core) (λ cpu. refl)
 
-pub occupation_is : (room : RoomState) (core : ℕ) (choices : List Choice) (count : ℕ) → count ≡ count_by (λ c. c.is_online && is_some c.run) choices →
-    choices ≡ choices_of room core → count ≡ occupation_of room core
-occupation_is room core choices count counted are =
-    counted ∙ ap (count_by (λ (c : Choice). c.is_online && is_some c.run)) are
-    ∙ count_at (choice_at room core) (λ c. c.is_online && is_some c.run) (is_online room) (λ cpu. is_some (choice room core cpu)) (range_with_len 0 (length room.siblings))
-    (λ cpu. ap (λ b. is_online room cpu && b) (is_some-pid_of (choice room core cpu)))
-
-any-choices : (room : RoomState) (core pid : ℕ) →
-    list_any (λ (c : Choice). c.is_online && is_run c.run (Some pid)) (choices_of room core)
-    ≡ list_any (λ cpu. is_run (pid_of (choice room core cpu)) (Some pid)) (online room)
-any-choices room core pid =
-    any_at (choice_at room core) (λ c. c.is_online && is_run c.run (Some pid)) (is_online room) (λ cpu. is_run (pid_of (choice room core cpu)) (Some pid)) (range_with_len 0 (length room.siblings)) (λ cpu. refl)
-
--- what a read past the last choice would give
-abbrev pub no_choice : Choice
-no_choice = record { run = None; is_online = false; is_forced = false; is_fair = false }
-
--- the choice of the sibling with this number
-pub choice_in : (room : RoomState) (core cpu : ℕ) (d : Choice) → cpu < length room.siblings → get_or (choices_of room core) cpu d ≡ choice_at room core cpu
-choice_in room core cpu d lt = get_or-map-range_with_len (choice_at room core) 0 (length room.siblings) cpu cpu d lt (omega arith)
+  pub all_occupied : count_by (gets_task room core) (range_with_len 0 (length room.siblings)) ≡ occupation_of room core
+  all_occupied = count_at_all (gets_task room core) (λ cpu. is_some (choice room core cpu)) (λ cpu. refl)
 
 -- ---- the firsts
-
--- those so far, after one more sibling
-pub online_step : (room : RoomState) (from cpu : ℕ) → from ≤ cpu → (initial before now : List ℕ) → before ≡ initial ++ online_between room from cpu →
-    now ≡ before ++ cond (is_online room cpu) (cpu ∷ []) [] → now ≡ initial ++ online_between room from (cpu + 1)
-online_step room from cpu le initial before now so_far step =
-    let n = cpu - from in
-    let one_more : suc n ≡ cpu + 1 - from = omega arith in
-    let there : cpu ≡ from + n = omega arith in
-    let more = cond (is_online room cpu) (cpu ∷ []) [] in
-    step
-    ∙ ap (λ (cpus : List ℕ). cpus ++ more) so_far
-    ∙ append_assoc initial (online_between room from cpu) more
-    ∙ ap (λ (cpus : List ℕ). initial ++ cpus)
-    (ap (λ (m : ℕ). online_between room from cpu ++ filter (is_online room) (m ∷ [])) there
-    ∙ sym (filter-append (is_online room) (range_with_len from n) ((from + n) ∷ []))
-    ∙ ap (filter (is_online room)) (sym (range_more from n))
-    ∙ ap (λ m. filter (is_online room) (range_with_len from m)) one_more)
-
--- what is pushed from a sibling on, and then up to it, are the online ones from it on
-pub online_pushed : (room : RoomState) (cpu count : ℕ) (none later all order : List ℕ) → count ≡ length room.siblings → none ≡ [] →
-    later ≡ none ++ online_between room cpu count → all ≡ later ++ online_between room 0 cpu → order ≡ all → order ≡ online_from room cpu
-online_pushed room cpu count none later all order counted empty first second same =
-    let whole : cpu - 0 ≡ cpu = omega arith in
-    same
-    ∙ second
-    ∙ (λ i. (first ∙ (λ j. empty j ++ online_between room cpu (counted j))) i ++ filter (is_online room) (range_with_len 0 (whole i)))
-    ∙ sym (filter-append (is_online room) (range_with_len cpu (length room.siblings - cpu)) (range_with_len 0 cpu))
-
--- they are siblings of the room
-pub online_within : (room : RoomState) (cpu : ℕ) → cpu ≤ length room.siblings → All (λ other. other < length room.siblings) (online_from room cpu)
-online_within room cpu le =
-    let count = length room.siblings in
-    let P : ℕ → Type 0 = λ other. other < count in
-    All-filter (is_online room) P (range_with_len cpu (count - cpu) ++ range_with_len 0 cpu)
-    (All-append P (range_with_len cpu (count - cpu)) (range_with_len 0 cpu) (below cpu (count - cpu) count (omega arith)) (below 0 cpu count (omega arith))) where
-      below : (from n count : ℕ) → from + n ≤ count → All (λ other. other < count) (range_with_len from n)
-      below from n count fits k d lt =
-          let inside : k < n = omega (arith, length-range_with_len from n) in
-          let there = get_or-range_with_len from n k d inside in
-          omega (arith, there)
-
--- what is kept of the first of a sibling is found among that of all
-pub kept_is : (room : RoomState) (firsts : List First) → firsts ≡ firsts_of room → (cpu : ℕ) (d : First) → cpu < length room.siblings →
-    get_or firsts cpu d ≡ first_at room cpu
-kept_is room firsts are cpu d below =
-    ap (λ (fs : List First). get_or fs cpu d) are
-    ∙ get_or-map-range_with_len (first_at room) 0 (length room.siblings) cpu cpu d below (omega arith)
 
 -- each first is a task of the room
 pub All-firsts : (P : Task → Type 0) (room : RoomState) (cpus : List ℕ) → All P room.tasks → All (λ first. IfSome first P) (map (first_on room) cpus)
@@ -202,12 +147,6 @@ first_home room cpu =
     All-find (λ task. task.home ≡ cpu) (λ task. list_all (λ other. not (goes_before other task)) (queued_on room cpu)) (queued_on room cpu)
     (All-weaker (λ task. on task ≡ true) (λ task. task.home ≡ cpu) (λ task is. eqb-true task.home cpu (and_parts task.queued (task.home == cpu) is).1) (queued_on room cpu)
     (filter_passes on room.tasks))
-
--- a task after a selection, as the code finds it among the choices
-pub map-task_after_choices : (room : RoomState) (core occupation : ℕ) (tasks : List Task) → occupation ≡ occupation_of room core →
-    map (task_after_choices (choices_of room core) occupation) tasks ≡ map (task_after_selection room core) tasks
-map-task_after_choices room core occupation tasks same =
-    λ i. map (λ (task : Task). record task { occupation = cond (any-choices room core task.spec.pid i) (same i) task.occupation }) tasks
 
 -- ---- what siblings keep
 

@@ -1,155 +1,198 @@
 -- Leads: the lead as the code finds it, by what is kept of first tasks, is the model's lead.
-use Rattle.std.proofs.Common.{◌≡◌, ℕ, ◌+◌, ◌-◌, ◌<◌, ◌≤◌, ◌^◌, Bool, true, false, cond, ltb, eqb, List, [], ◌∷◌, ◌++◌, length, get_or, inl, inr, refl, sym, ap, ◌∙◌, subst, arith}
-use Rattle.std.specs.Prelude.{◌==◌, ◌&&◌, ◌||◌, All, IfSome, Option, Some, None}
-use Rattle.std.specs.Cmp.{IsStrictWeakOrder}
-use Rattle.std.specs.Option.{option_and_then, option_map, option_map_or}
-use Rattle.std.proofs.lemmas.Bool.{cases_eq, cond-true, cond-false}
+use Rattle.std.proofs.Common.{◌≡◌, ℕ, ◌+◌, ◌-◌, ◌<◌, ◌≤◌, ◌^◌, Bool, true, false, cond, ltb, eqb, List, [], ◌∷◌, ◌++◌, map, length, inl, inr, refl, sym, ap, ◌∙◌, subst, arith}
+use Rattle.std.specs.Prelude.{◌==◌, ◌&&◌, ◌||◌, All, filter, IfSome, Option, Some, None}
+use Rattle.std.specs.List.{fold, range_with_len}
+use Rattle.std.specs.Option.{option_and_then}
+use Rattle.std.proofs.lemmas.Bool.{cases_eq, cases_Bool, both_ways, cond-true, cond-false}
 use Rattle.std.proofs.lemmas.Bool.Decides.{nat_tests}
-use Rattle.std.proofs.lemmas.List.{append-nil}
-use Rattle.std.proofs.lemmas.List.Elements.{recursion_from_All}
-use Rattle.std.proofs.lemmas.List.FromFn.{length-map-range_with_len}
 use Rattle.cs_types.specs.Room.{RoomState, is_online, online_from}
-use Rattle.cs_types.specs.Order.{fair_class, class_of, foremost, outranks}
+use Rattle.cs_types.specs.Order.{class_of, foremost, outranks}
 use Rattle.cs_types.specs.Queue.{rank_by}
-use Rattle.cs_types.specs.Selection.{first_on, cookie_of, snapshot_of, lead_from}
+use Rattle.cs_types.specs.Selection.{first_on, snapshot_of, lead_from}
 use Rattle.cs_types.specs.Scenario.{IsPolicy}
 use Rattle.cs_types.specs.declared.task.Policy.{Policy}
 use Rattle.cs_types.specs.declared.task.Policy.TheVariants.{Stop, Deadline, Fifo, Rr, Fair}
 use Rattle.cs_types.specs.declared.task.Task.{Task}
-use Rattle.cs_types.proofs.Foremost.{foremost_more}
-use Rattle.cs_types.proofs.Queues.{foremost-map, foremost_alike}
-use Rattle.sibling_priority.specs.Offers.{IsFirst, IsInRange, class_of_first, rank_of_first, snapshot_of_first, is_higher_offer}
-use Rattle.sibling_priority.proofs.Ranks.{is_higher_offer_is_order}
+use Rattle.cs_types.proofs.First.{outranks_is_order}
+use Rattle.cs_types.proofs.Foremost.{foremost_reduce}
+use Rattle.sibling_priority.specs.Offers.{IsFirst, class_of_first, rank_of_first, snapshot_of_first}
 use Rattle.sibling_priority.proofs.Firsts.{outranks-offer_of}
-use Rattle.core_pick.specs.declared.lead.First.{First}
-use Rattle.core_pick.specs.Choice.{kept_of, first_at, firsts_of, no_first, offer_of_kept, offer_in, is_ahead, online_between, AreInRange}
-use Rattle.core_pick.proofs.Choices.{kept_is, online_step, online_within, All-firsts, first_home}
+use Rattle.core_pick.specs.Choice.{kept_of, kept_in, is_above, offered, lead_of, lead_in}
+use Rattle.core_pick.proofs.Choices.{All-firsts, first_home}
 
--- ---- one sibling more
+-- ---- the higher of two
 
--- which first is higher than which is an order
-is_ahead_is_order : (firsts : List First) → IsStrictWeakOrder (is_ahead firsts)
-is_ahead_is_order firsts = record {
-  one_way = λ a b ahead. is_higher_offer_is_order.one_way (offer_in firsts a) (offer_in firsts b) ahead;
-  chain = λ a b c first second. is_higher_offer_is_order.chain (offer_in firsts a) (offer_in firsts b) (offer_in firsts c) first second;
-}
+module _ (snapshot : ℕ → ℕ) where
+  -- the higher of two first tasks, the earlier where they tie
+  abbrev pub higher_of : Option Task → Option Task → Option Task
+  higher_of first other = cond (outranks snapshot other first) other first
 
-module _ (room : RoomState) (firsts : List First) (order : List ℕ) (from cpu : ℕ) (le : from ≤ cpu) (before now : Option ℕ)
-    (so_far : before ≡ foremost (is_ahead firsts) (order ++ online_between room from cpu)) where
-  -- those so far with one sibling more, where it is online
-  more : (test : Bool) → is_online room cpu ≡ test →
-      (order ++ online_between room from cpu) ++ cond test (cpu ∷ []) [] ≡ order ++ online_between room from (cpu + 1)
-  more test is =
-      online_step room from cpu le order (order ++ online_between room from cpu) _ refl
-      (ap (λ b. (order ++ online_between room from cpu) ++ cond b (cpu ∷ []) []) (sym is))
+  -- of three it does not matter which two are compared first
+  higher_of-assoc : (a b c : Option Task) → higher_of (higher_of a b) c ≡ higher_of a (higher_of b c)
+  higher_of-assoc a b c =
+      let order = outranks_is_order snapshot in
+      elim (cases_Bool (outranks snapshot b a)) [
+        | inl above ↦ elim (cases_Bool (outranks snapshot c b)) [
+          | inl top ↦
+              let over : outranks snapshot c a ≡ true = elim (cases_Bool (outranks snapshot c a)) [
+                | inl is ↦ is
+                | inr not ↦ absurd (both_ways (outranks snapshot c b) (order.chain c a b not (order.one_way b a above)) top)
+              ] in
+              rw (above, top, over) refl
+          | inr low ↦ rw (above, low, above) refl
+        ]
+        | inr below ↦ elim (cases_Bool (outranks snapshot c b)) [
+          | inl top ↦ rw (below, top) refl
+          | inr low ↦ rw (below, low, below, order.chain c b a low below) refl
+        ]
+      ]
 
-  with_more : is_online room cpu ≡ true →
-      Some (option_map_or (λ lead. cond (is_ahead firsts cpu lead) cpu lead) before cpu) ≡ foremost (is_ahead firsts) (order ++ online_between room from (cpu + 1))
-  with_more online =
-      ap (λ lead. Some (option_map_or (λ lead. cond (is_ahead firsts cpu lead) cpu lead) lead cpu)) so_far
-      ∙ sym (foremost_more (is_ahead firsts) (is_ahead_is_order firsts) (order ++ online_between room from cpu) cpu)
-      ∙ ap (foremost (is_ahead firsts)) (more true online)
+  -- so a scan may begin anew and be compared at the end
+  fold-higher_of : (a b : Option Task) (xs : List (Option Task)) → fold higher_of (higher_of a b) xs ≡ higher_of a (fold higher_of b xs)
+  fold-higher_of a b [] = refl
+  fold-higher_of a b (x ∷ xs) =
+      ap (λ o. fold higher_of o xs) (higher_of-assoc a b x) ∙ fold-higher_of a (higher_of b x) xs
 
-  -- it leads, or the lead remains
-  pub lead_more : is_online room cpu ≡ true → option_map_or (is_ahead firsts cpu) before true ≡ true → now ≡ Some cpu →
-      now ≡ foremost (is_ahead firsts) (order ++ online_between room from (cpu + 1))
-  lead_more online ahead is = is ∙ by_test before ahead ∙ with_more online where
-    by_test : (before : Option ℕ) → option_map_or (is_ahead firsts cpu) before true ≡ true →
-        Some cpu ≡ Some (option_map_or (λ lead. cond (is_ahead firsts cpu lead) cpu lead) before cpu)
-    by_test None test = refl
-    by_test (Some lead) test = ap Some (sym (cond-true (is_ahead firsts cpu lead) cpu lead test))
+  fold-append : (a : Option Task) (xs ys : List (Option Task)) → fold higher_of a (xs ++ ys) ≡ fold higher_of (fold higher_of a xs) ys
+  fold-append a [] ys = refl
+  fold-append a (x ∷ xs) ys = fold-append (higher_of a x) xs ys
 
-  pub lead_remains : is_online room cpu ≡ true → option_map_or (is_ahead firsts cpu) before true ≡ false → now ≡ before →
-      now ≡ foremost (is_ahead firsts) (order ++ online_between room from (cpu + 1))
-  lead_remains online behind is = is ∙ by_test before behind ∙ with_more online where
-    by_test : (before : Option ℕ) → option_map_or (is_ahead firsts cpu) before true ≡ false →
-        before ≡ Some (option_map_or (λ lead. cond (is_ahead firsts cpu lead) cpu lead) before cpu)
-    by_test None test = absurd cc
-    by_test (Some lead) test = ap Some (sym (cond-false (is_ahead firsts cpu lead) cpu lead test))
+  -- a scan finds the foremost
+  foremost-fold : (xs : List (Option Task)) → option_and_then (λ (first : Option Task). first) (foremost (outranks snapshot) xs) ≡ fold higher_of None xs
+  foremost-fold [] = refl
+  foremost-fold (x ∷ xs) =
+      ap (option_and_then (λ (first : Option Task). first)) (foremost_reduce (outranks snapshot) (outranks_is_order snapshot) (x ∷ xs))
+      ∙ ap (λ o. fold higher_of o xs) (begin x) where
+        begin : (x : Option Task) → x ≡ higher_of None x
+        begin None = refl
+        begin (Some task) = refl
 
-  pub lead_stays : is_online room cpu ≡ false → now ≡ before → now ≡ foremost (is_ahead firsts) (order ++ online_between room from (cpu + 1))
-  lead_stays offline is =
-      is ∙ so_far
-      ∙ ap (foremost (is_ahead firsts)) (sym (append-nil (order ++ online_between room from cpu)) ∙ more false offline)
+-- ---- the lead of some siblings
 
--- ---- the snapshots that are taken off
+pub map-append : {X Y : Type 0} (f : X → Y) (xs ys : List X) → map f (xs ++ ys) ≡ map f xs ++ map f ys
+map-append f [] ys = refl
+map-append {Y = Y} f (x ∷ xs) ys = ap (λ (zs : List Y). f x ∷ zs) (map-append f xs ys)
+
+module _ (room : RoomState) where
+  abbrev higher : Option Task → Option Task → Option Task
+  higher = higher_of (snapshot_of room)
+
+  scan : (cpus : List ℕ) → lead_of room cpus ≡ fold higher None (map (offered room) cpus)
+  scan cpus = foremost-fold (snapshot_of room) (map (offered room) cpus)
+
+  -- of those in two parts
+  pub lead_of-append : (some rest : List ℕ) → lead_of room (some ++ rest) ≡ higher (lead_of room some) (lead_of room rest)
+  lead_of-append some rest =
+      scan (some ++ rest)
+      ∙ ap (fold higher None) (map-append (offered room) some rest)
+      ∙ fold-append (snapshot_of room) None (map (offered room) some) (map (offered room) rest)
+      ∙ fold-higher_of (snapshot_of room) (fold higher None (map (offered room) some)) None (map (offered room) rest)
+      ∙ sym (λ i. higher (scan some i) (scan rest i))
+
+  -- and of one alone
+  pub lead_of-one : (cpu : ℕ) → lead_of room (cpu ∷ []) ≡ offered room cpu
+  lead_of-one cpu = scan (cpu ∷ []) ∙ alone (offered room cpu) where
+    alone : (x : Option Task) → higher None x ≡ x
+    alone None = refl
+    alone (Some task) = refl
+
+  -- one that is offline puts up nothing
+  online_alone : (lead : Option Task) (cpus : List ℕ) → fold higher lead (map (offered room) cpus) ≡ fold higher lead (map (first_on room) (filter (is_online room) cpus))
+  online_alone lead [] = refl
+  online_alone lead (cpu ∷ cpus) =
+      by_test (is_online room cpu) (online_alone (higher lead (first_on room cpu)) cpus) (online_alone lead cpus) where
+        by_test : (b : Bool) → fold higher (higher lead (first_on room cpu)) (map (offered room) cpus) ≡ fold higher (higher lead (first_on room cpu)) (map (first_on room) (filter (is_online room) cpus)) →
+            fold higher lead (map (offered room) cpus) ≡ fold higher lead (map (first_on room) (filter (is_online room) cpus)) →
+            fold higher (higher lead (cond b (first_on room cpu) None)) (map (offered room) cpus)
+            ≡ fold higher lead (map (first_on room) (cond b (cpu ∷ filter (is_online room) cpus) (filter (is_online room) cpus)))
+        by_test true is_on is_off = is_on
+        by_test false is_on is_off = is_off
+
+  pub lead_of-all : (cpu : ℕ) → lead_of room (range_with_len cpu (length room.siblings - cpu) ++ range_with_len 0 cpu) ≡ lead_from room cpu
+  unfolding lead_from
+  lead_of-all cpu =
+      let all = range_with_len cpu (length room.siblings - cpu) ++ range_with_len 0 cpu in
+      scan all ∙ online_alone None all ∙ sym (foremost-fold (snapshot_of room) (map (first_on room) (online_from room cpu)))
+
+  -- it is one of their firsts
+  module _ (P : Option Task → Type 0) (none : P None) (each : (cpu : ℕ) → P (first_on room cpu)) where
+    pub of_offered : (cpu : ℕ) → P (offered room cpu)
+    of_offered cpu = by_test (is_online room cpu) where
+      by_test : (b : Bool) → P (cond b (first_on room cpu) None)
+      by_test true = each cpu
+      by_test false = none
+
+    among : (cpus : List ℕ) (lead : Option Task) → P lead → P (fold higher lead (map (offered room) cpus))
+    among [] lead is = is
+    among (cpu ∷ cpus) lead is = among cpus (higher lead (offered room cpu)) (by_test (outranks (snapshot_of room) (offered room cpu) lead)) where
+      by_test : (b : Bool) → P (cond b (offered room cpu) lead)
+      by_test true = of_offered cpu
+      by_test false = is
+
+    pub of_lead : (cpus : List ℕ) → P (lead_of room cpus)
+    of_lead cpus = subst P (sym (scan cpus)) (among cpus None none)
+
+-- ---- what is kept of them
 
 -- It does not matter on which side a snapshot stands.
-by_places : (c d r q s t own other high : ℕ) → (c ≡ 3 → s ≡ own) → (d ≡ 3 → t ≡ other) → own < high → other < high →
+by_places : (c d r q s t high : ℕ) → c ≤ 4 → d ≤ 4 → (c ≡ 0 → r ≡ 0) → (c ≡ 4 → r ≡ 0) → (d ≡ 0 → q ≡ 0) → (d ≡ 4 → q ≡ 0) → s < high → t < high →
     (ltb c d || ((eqb c 1 && eqb d 1) && ltb r q) || ((eqb c 2 && eqb d 2) && ltb r q) || ((eqb c 3 && eqb d 3) && ltb (r + t) (q + s)))
-    ≡ (ltb c d || ((eqb c 1 && eqb d 1) && ltb (cond (eqb c 3) (r + high - own) r) (cond (eqb d 3) (q + high - other) q))
-    || ((eqb c 2 && eqb d 2) && ltb (cond (eqb c 3) (r + high - own) r) (cond (eqb d 3) (q + high - other) q))
-    || ((eqb c 3 && eqb d 3) && ltb (cond (eqb c 3) (r + high - own) r + 0) (cond (eqb d 3) (q + high - other) q + 0)))
-by_places c d r q s t own other high same_own same_other low_own low_other =
+    ≡ (ltb c d || (eqb c d && ltb (cond (eqb c 3) (r + high - s) r) (cond (eqb d 3) (q + high - t) q)))
+by_places c d r q s t high below inside stop idle stop_other idle_other low low_other =
     elim (cases_eq c 3) [
       | inl here ↦ elim (cases_eq d 3) [
-        | inl there ↦ let one = same_own here in let two = same_other there in grind (arith, nat_tests)
+        | inl there ↦ grind (arith, nat_tests)
         | inr differs ↦ grind (arith, nat_tests)
       ]
       | inr differs ↦ grind (arith, nat_tests)
     ]
 
--- the snapshot of a fair first is that of its sibling, where it is at home
-own_snapshot : (room : RoomState) (cpu : ℕ) (first : Option Task) → IfSome first (λ task. task.home ≡ cpu) → class_of_first first ≡ fair_class →
-    snapshot_of_first (snapshot_of room) first ≡ snapshot_of room cpu
-own_snapshot room cpu None home fair = absurd (omega (arith, fair))
-own_snapshot room cpu (Some task) home fair = ap (snapshot_of room) home
+-- a class and a rank in it, which is 0 where the class has but one
+record IsRank (class rank : ℕ) : Type 0 where
+  below : class ≤ 4
+  stop : class ≡ 0 → rank ≡ 0
+  idle : class ≡ 4 → rank ≡ 0
 
--- ---- all siblings
+is_rank : (policy : Policy) (deadline vtime : ℕ) → IsRank (class_of policy) (rank_by policy deadline vtime)
+is_rank Stop deadline vtime = record { below = omega arith; stop = λ is. refl; idle = λ is. refl }
+is_rank (Deadline relative) deadline vtime = record { below = omega arith; stop = λ is. absurd (omega (arith, is)); idle = λ is. absurd (omega (arith, is)) }
+is_rank (Fifo priority) deadline vtime = record { below = omega arith; stop = λ is. absurd (omega (arith, is)); idle = λ is. absurd (omega (arith, is)) }
+is_rank (Rr priority) deadline vtime = record { below = omega arith; stop = λ is. absurd (omega (arith, is)); idle = λ is. absurd (omega (arith, is)) }
+is_rank (Fair nice) deadline vtime = record { below = omega arith; stop = λ is. absurd (omega (arith, is)); idle = λ is. absurd (omega (arith, is)) }
 
-module _ (room : RoomState) (firsts : List First) (are : firsts ≡ firsts_of room) where
-  pub many : length firsts ≡ length room.siblings
-  many = ap length are ∙ length-map-range_with_len (first_at room) 0 (length room.siblings)
+rank_of : (first : Option Task) → IsRank (class_of_first first) (rank_of_first first)
+rank_of None = record { below = omega arith; stop = λ is. refl; idle = λ is. refl }
+rank_of (Some task) = is_rank task.spec.policy task.deadline task.vtime
 
-  offer_is : (cpu : ℕ) → cpu < length room.siblings → offer_in firsts cpu ≡ offer_of_kept cpu (first_at room cpu)
-  offer_is cpu below = ap (offer_of_kept cpu) (kept_is room firsts are cpu no_first below)
+module _ (room : RoomState) (low : (cpu : ℕ) → snapshot_of room cpu < 2 ^ 100) where
+  low_snapshot : (first : Option Task) → snapshot_of_first (snapshot_of room) first < 2 ^ 100
+  low_snapshot None = omega arith
+  low_snapshot (Some task) = low task.home
 
-  -- the offers are in range, where the times are low
-  pub in_range : All (λ task. task.vtime < 2 ^ 100) room.tasks → AreInRange firsts
-  in_range times cpu below =
-      let inside : cpu < length room.siblings = omega (arith, below, many) in
-      subst IsInRange (sym (offer_is cpu inside)) (fits (first_on room cpu)
-      (All-firsts (λ task. task.vtime < 2 ^ 100) room (cpu ∷ []) times 0 None (omega arith))) where
-        by_policy : (policy : Policy) (deadline vtime own : ℕ) → vtime < 2 ^ 100 → class_of policy ≡ fair_class →
-            cond (class_of policy == fair_class) (rank_by policy deadline vtime + 2 ^ 100 - own) (rank_by policy deadline vtime) < 2 ^ 127
-        by_policy Stop deadline vtime own low fair = absurd (omega (arith, fair))
-        by_policy (Deadline relative) deadline vtime own low fair = absurd (omega (arith, fair))
-        by_policy (Fifo priority) deadline vtime own low fair = absurd (omega (arith, fair))
-        by_policy (Rr priority) deadline vtime own low fair = absurd (omega (arith, fair))
-        by_policy (Fair nice) deadline vtime own low fair = omega (arith, low)
+  -- so they stand in the order of the tasks
+  above-kept_in : (one two : Option Task) → IsFirst one → IsFirst two → outranks (snapshot_of room) one two ≡ is_above (kept_in room one) (kept_in room two)
+  above-kept_in one two is_one is_two =
+      let first = rank_of one in
+      let second = rank_of two in
+      outranks-offer_of (snapshot_of room) 0 0 one two is_one is_two
+      ∙ by_places (class_of_first one) (class_of_first two) (rank_of_first one) (rank_of_first two) (snapshot_of_first (snapshot_of room) one) (snapshot_of_first (snapshot_of room) two) (2 ^ 100)
+      first.below second.below first.stop first.idle second.stop second.idle (low_snapshot one) (low_snapshot two)
 
-        fits : (first : Option Task) → IfSome first (λ task. task.vtime < 2 ^ 100) → IsInRange (offer_of_kept cpu (kept_of (snapshot_of room cpu) first))
-        fits None low fair = absurd (omega (arith, fair))
-        fits (Some task) low fair = (by_policy task.spec.policy task.deadline task.vtime (snapshot_of room cpu) low fair, omega arith)
+  pub higher-kept_in : (one two : Option Task) → IsFirst one → IsFirst two →
+      cond (is_above (kept_in room two) (kept_in room one)) (kept_in room two) (kept_in room one) ≡ kept_in room (higher_of (snapshot_of room) one two)
+  higher-kept_in one two is_one is_two =
+      ap (λ b. cond b (kept_in room two) (kept_in room one)) (sym (above-kept_in two one is_two is_one)) ∙ by_test (outranks (snapshot_of room) two one) where
+        by_test : (b : Bool) → cond b (kept_in room two) (kept_in room one) ≡ kept_in room (cond b two one)
+        by_test true = refl
+        by_test false = refl
 
-module _ (room : RoomState) (firsts : List First) (are : firsts ≡ firsts_of room) (policies : All (λ task. IsPolicy task.spec.policy) room.tasks)
-    (low : (cpu : ℕ) → snapshot_of room cpu < 2 ^ 100) where
-  is_first : (cpu : ℕ) → IsFirst (first_on room cpu)
-  is_first cpu = All-firsts (λ task. IsPolicy task.spec.policy) room (cpu ∷ []) policies 0 None (omega arith)
+-- what is kept of the first of a sibling is kept under that one's snapshot
+pub kept_at_home : (room : RoomState) (cpu : ℕ) → kept_of (snapshot_of room cpu) (first_on room cpu) ≡ kept_in room (first_on room cpu)
+kept_at_home room cpu = by_first (first_on room cpu) (first_home room cpu) where
+  by_first : (first : Option Task) → IfSome first (λ task. task.home ≡ cpu) → kept_of (snapshot_of room cpu) first ≡ kept_in room first
+  by_first None home = refl
+  by_first (Some task) home = ap (λ (n : ℕ). kept_of (snapshot_of room n) (Some task)) (sym home)
 
-  -- so they stand in the order of these
-  as_outranks : (cpu other : ℕ) → cpu < length room.siblings → other < length room.siblings →
-      outranks (snapshot_of room) (first_on room cpu) (first_on room other) ≡ is_ahead firsts cpu other
-  as_outranks cpu other below inside =
-      let one = first_on room cpu in
-      let two = first_on room other in
-      outranks-offer_of (snapshot_of room) cpu other one two (is_first cpu) (is_first other)
-      ∙ by_places (class_of_first one) (class_of_first two) (rank_of_first one) (rank_of_first two) (snapshot_of_first (snapshot_of room) one) (snapshot_of_first (snapshot_of room) two)
-      (snapshot_of room cpu) (snapshot_of room other) (2 ^ 100) (own_snapshot room cpu one (first_home room cpu)) (own_snapshot room other two (first_home room other)) (low cpu) (low other)
-      ∙ (λ i. is_higher_offer (sym (offer_is room firsts are cpu below) i) (sym (offer_is room firsts are other inside) i))
-
-  -- the cookie of the lead is that of its first
-  pub cookie_of_lead : (cpu : ℕ) (lead : Option ℕ) → cpu ≤ length room.siblings → IfSome lead (λ cpu. cpu < length room.siblings) →
-      lead ≡ foremost (is_ahead firsts) (online_from room cpu) →
-      option_map_or (λ cpu. (get_or firsts cpu no_first).cookie) lead 0 ≡ cookie_of (lead_from room cpu)
-  unfolding lead_from
-  cookie_of_lead cpu lead le within is =
-      cookie lead within
-      ∙ ap (λ lead. cookie_of (option_and_then (λ (first : Option Task). first) (option_map (first_on room) lead)))
-      (is ∙ sym (foremost_alike (λ cpu. cpu < length room.siblings) (λ cpu other. outranks (snapshot_of room) (first_on room cpu) (first_on room other))
-      (is_ahead firsts) as_outranks (online_from room cpu) (recursion_from_All (λ cpu. cpu < length room.siblings) (online_from room cpu) (online_within room cpu le))))
-      ∙ ap (λ lead. cookie_of (option_and_then (λ (first : Option Task). first) lead)) (sym (foremost-map (outranks (snapshot_of room)) (first_on room) (online_from room cpu))) where
-        cookie : (lead : Option ℕ) → IfSome lead (λ cpu. cpu < length room.siblings) →
-            option_map_or (λ cpu. (get_or firsts cpu no_first).cookie) lead 0 ≡ cookie_of (option_and_then (λ (first : Option Task). first) (option_map (first_on room) lead))
-        cookie None within = refl
-        cookie (Some cpu) below = ap (λ (first : First). first.cookie) (kept_is room firsts are cpu no_first below)
+-- a first keeps the limits of its policy
+pub is_first : (room : RoomState) → All (λ task. IsPolicy task.spec.policy) room.tasks → (cpu : ℕ) → IsFirst (first_on room cpu)
+is_first room policies cpu = All-firsts (λ task. IsPolicy task.spec.policy) room (cpu ∷ []) policies 0 None (omega arith)

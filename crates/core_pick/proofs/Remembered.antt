@@ -1,15 +1,16 @@
 -- Remembered: the tasks that remember the occupation after a selection, and what stays where they do.
-use Rattle.std.proofs.Common.{◌≡◌, ℕ, ◌<◌, Bool, true, false, cond, List, [], ◌∷◌, ◌++◌, map, length, refl, subst, sym, ap, ◌∙◌, arith, eqb, Option, Some, None}
+use Rattle.std.proofs.Common.{◌≡◌, ℕ, suc, ◌+◌, ◌<◌, Bool, true, false, cond, List, [], ◌∷◌, ◌++◌, map, length, refl, subst, sym, ap, ◌∙◌, arith, eqb, Option, Some, None}
 use Rattle.std.specs.Prelude.{◌==◌, ◌&&◌, ◌||◌, find, IfSome, IsTrue}
-use Rattle.std.specs.List.{list_any}
+use Rattle.std.specs.List.{list_any, range_with_len}
 use Rattle.std.specs.Option.{option_map}
 use Rattle.std.proofs.lemmas.Bool.{cond-false}
+use Rattle.std.proofs.lemmas.List.{map-id}
 use Rattle.std.proofs.lemmas.Bool.Decides.{nat_tests}
 use Rattle.std.proofs.lemmas.List.Elements.{All-map, All-weaker}
 use Rattle.cs_types.specs.declared.task.Task.{Task}
 use Rattle.cs_types.specs.Queue.{queued_of}
-use Rattle.cs_types.specs.Room.{has_pid}
-use Rattle.cs_types.specs.Selection.{is_run}
+use Rattle.cs_types.specs.Room.{RoomState, has_pid, is_online}
+use Rattle.cs_types.specs.Selection.{is_run, pid_of, choice, occupation_of, task_after_selection}
 use Rattle.cs_types.proofs.Siblings.{map-map_alike}
 use Rattle.cs_types.proofs.Spots.{find-map}
 use Rattle.cs_types.proofs.Tasks.{found_again}
@@ -19,10 +20,10 @@ use Rattle.core_lanes.specs.declared.lanes.Core.{Core}
 use Rattle.core_lanes.specs.Queued.{queued_among, queued_at, IsOf, AreStamped}
 use Rattle.core_lanes.specs.Lanes.{IsFit, queues_of}
 use Rattle.core_lanes.specs.Changes.{Stays, identity_of}
-use Rattle.core_lanes.proofs.Lists.{filter-map, any-push}
+use Rattle.core_lanes.proofs.Lists.{filter-map, any-push, any-filter, range_more}
 use Rattle.core_lanes.proofs.Stays.{both_stay, alike_stays}
 use Rattle.core_pick.specs.declared.choice.Choice.{Choice}
-use Rattle.core_pick.specs.Choice.{is_choice_of, task_after_choice, task_after_choices}
+use Rattle.core_pick.specs.Choice.{run_of, is_choice_of, task_after_choice}
 
 -- ---- the task that is chosen for a sibling
 
@@ -36,12 +37,12 @@ run_test : (a b : ℕ) → eqb b a ≡ eqb a b
 run_test a b = grind (arith, nat_tests)
 
 -- the task with the pid of the choice remembers, and no other does
-pub map-task_after_choice : (tasks : List Task) (choice : Choice) (occupation pid : ℕ) → choice.is_online ≡ true → choice.run ≡ Some pid →
+pub map-task_after_choice : (tasks : List Task) (choice : Choice) (occupation pid : ℕ) → run_of choice ≡ Some pid →
     map (λ (task : Task). cond (has_pid pid task) (record task { occupation = occupation }) task) tasks ≡ map (task_after_choice choice occupation) tasks
-map-task_after_choice tasks choice occupation pid online run =
+map-task_after_choice tasks choice occupation pid run =
     λ i. map (λ (task : Task). cond (same task i) (record task { occupation = occupation }) task) tasks where
       same : (task : Task) → has_pid pid task ≡ is_choice_of task.spec.pid choice
-      same task = run_test pid task.spec.pid ∙ sym (λ i. online i && is_run (run i) (Some task.spec.pid))
+      same task = run_test pid task.spec.pid ∙ sym (ap (λ one. is_run one (Some task.spec.pid)) run)
 
 -- where it is of no task, none remembers
 pub map-task_after_choice_none : (tasks : List Task) (choice : Choice) (occupation : ℕ) → ((pid : ℕ) → is_choice_of pid choice ≡ false) →
@@ -50,48 +51,91 @@ map-task_after_choice_none [] choice occupation none = refl
 map-task_after_choice_none (task ∷ tasks) choice occupation none =
     λ i. sym (cond-false _ (record task { occupation = occupation }) task (none task.spec.pid)) i ∷ map-task_after_choice_none tasks choice occupation none i
 
--- ---- choice by choice
+-- ---- sibling by sibling
 
--- one choice more
-pub map-task_after_choices_push : (choices : List Choice) (choice : Choice) (occupation : ℕ) (tasks : List Task) →
-    map (task_after_choice choice occupation) (map (task_after_choices choices occupation) tasks) ≡ map (task_after_choices (choices ++ choice ∷ []) occupation) tasks
-map-task_after_choices_push choices choice occupation [] = refl
-map-task_after_choices_push choices choice occupation (task ∷ tasks) =
-    let test = λ (one : Choice). one.is_online && is_run one.run (Some task.spec.pid) in
-    let one = by_tests task (list_any test choices) (test choice) ∙ ap (λ b. record task { occupation = cond b occupation task.occupation }) (sym (any-push test choices choice)) in
-    λ i. one i ∷ map-task_after_choices_push choices choice occupation tasks i where
-      by_tests : (t : Task) (a b : Bool) → cond b (record t { occupation = occupation }) (record t { occupation = cond a occupation t.occupation })
-          ≡ record t { occupation = cond (a || b) occupation t.occupation }
-      by_tests t true true = refl
-      by_tests t true false = refl
-      by_tests t false true = refl
-      by_tests t false false = refl
+-- whether a sibling, which is online, gets the task with this pid
+abbrev pub hits : RoomState → ℕ → ℕ → ℕ → Bool
+hits room core cpu pid = is_online room cpu && is_run (pid_of (choice room core cpu)) (Some pid)
+
+-- a task once the siblings below a number have their choices, where this says whether a sibling has chosen the task
+abbrev pub remembering : (ℕ → ℕ → Bool) → ℕ → ℕ → Task → Task
+remembering gets occupation count task =
+    record task { occupation = cond (list_any (λ cpu. gets cpu task.spec.pid) (range_with_len 0 count)) occupation task.occupation }
+
+module _ (gets : ℕ → ℕ → Bool) (occupation cpu : ℕ) where
+  any_more : (pid : ℕ) → list_any (λ n. gets n pid) (range_with_len 0 (cpu + 1)) ≡ (list_any (λ n. gets n pid) (range_with_len 0 cpu) || gets cpu pid)
+  any_more pid =
+      let next : cpu + 1 ≡ suc cpu = omega arith in
+      let last : 0 + cpu ≡ cpu = omega arith in
+      ap (λ n. list_any (λ n. gets n pid) (range_with_len 0 n)) next
+      ∙ ap (list_any (λ n. gets n pid)) (range_more 0 cpu ∙ ap (λ n. range_with_len 0 cpu ++ n ∷ []) last) ∙ any-push (λ n. gets n pid) (range_with_len 0 cpu) cpu
+
+  -- one sibling more has its choice
+  pub map-remembering_more : (choice : Choice) → ((pid : ℕ) → is_choice_of pid choice ≡ gets cpu pid) → (tasks : List Task) →
+      map (task_after_choice choice occupation) (map (remembering gets occupation cpu) tasks) ≡ map (remembering gets occupation (cpu + 1)) tasks
+  map-remembering_more choice same [] = refl
+  map-remembering_more choice same (task ∷ tasks) =
+      let pid = task.spec.pid in
+      let one = by_tests task (list_any (λ n. gets n pid) (range_with_len 0 cpu)) (is_choice_of pid choice)
+      ∙ ap (λ b. record task { occupation = cond b occupation task.occupation }) (ap (λ b. list_any (λ n. gets n pid) (range_with_len 0 cpu) || b) (same pid) ∙ sym (any_more pid)) in
+      λ i. one i ∷ map-remembering_more choice same tasks i where
+        by_tests : (t : Task) (a b : Bool) → cond b (record t { occupation = occupation }) (record t { occupation = cond a occupation t.occupation })
+            ≡ record t { occupation = cond (a || b) occupation t.occupation }
+        by_tests t true true = refl
+        by_tests t true false = refl
+        by_tests t false true = refl
+        by_tests t false false = refl
+
+  -- or is offline
+  pub map-remembering_same : ((pid : ℕ) → gets cpu pid ≡ false) → (tasks : List Task) → map (remembering gets occupation cpu) tasks ≡ map (remembering gets occupation (cpu + 1)) tasks
+  map-remembering_same none [] = refl
+  map-remembering_same none (task ∷ tasks) =
+      let pid = task.spec.pid in
+      let one = ap (λ b. record task { occupation = cond b occupation task.occupation }) (or-false (list_any (λ n. gets n pid) (range_with_len 0 cpu)) ∙ ap (λ b. list_any (λ n. gets n pid) (range_with_len 0 cpu) || b) (sym (none pid)) ∙ sym (any_more pid)) in
+      λ i. one i ∷ map-remembering_same none tasks i where
+        or-false : (b : Bool) → b ≡ (b || false)
+        or-false true = refl
+        or-false false = refl
+
+-- at the start none remembers
+pub map-remembering_none : (gets : ℕ → ℕ → Bool) (occupation : ℕ) (tasks : List Task) → tasks ≡ map (remembering gets occupation 0) tasks
+map-remembering_none gets occupation tasks = sym (map-id tasks)
+
+-- at the end the chosen ones do
+pub map-remembering_all : (room : RoomState) (core occupation : ℕ) (tasks : List Task) → occupation ≡ occupation_of room core →
+    map (remembering (hits room core) occupation (length room.siblings)) tasks ≡ map (task_after_selection room core) tasks
+map-remembering_all room core occupation tasks same =
+    λ i. map (λ (task : Task). record task { occupation = cond (sym (any-filter (λ cpu. is_run (pid_of (choice room core cpu)) (Some task.spec.pid)) (is_online room) (range_with_len 0 (length room.siblings))) i) (same i) task.occupation }) tasks
 
 -- ---- what stays
 
-module _ (choices : List Choice) (occupation : ℕ) (tasks : List Task) where
+module _ (occupation : Task → ℕ) (tasks : List Task) where
+  -- a task once it remembers
+  abbrev after : Task → Task
+  after task = record task { occupation = occupation task }
+
   -- the tasks once they remember
   abbrev now : List Task
-  now = map (task_after_choices choices occupation) tasks
+  now = map after tasks
 
   -- each was there, the same but for what it remembers
-  was_there : (task : Task) → IsOf now task → (old : Task) × (IsOf tasks old) × (task_after_choices choices occupation old ≡ task)
+  was_there : (task : Task) → IsOf now task → (old : Task) × (IsOf tasks old) × (after old ≡ task)
   was_there task is =
-      by_found (find (has_pid task.spec.pid) tasks) refl (sym (find-map (task_after_choices choices occupation) (λ t. refl) task.spec.pid tasks) ∙ is) where
-        by_found : (found : Option Task) → find (has_pid task.spec.pid) tasks ≡ found → option_map (task_after_choices choices occupation) found ≡ Some task →
-            (old : Task) × (IsOf tasks old) × (task_after_choices choices occupation old ≡ task)
+      by_found (find (has_pid task.spec.pid) tasks) refl (sym (find-map after (λ t. refl) task.spec.pid tasks) ∙ is) where
+        by_found : (found : Option Task) → find (has_pid task.spec.pid) tasks ≡ found → option_map after found ≡ Some task →
+            (old : Task) × (IsOf tasks old) × (after old ≡ task)
         by_found None there some = absurd cc
         by_found (Some old) there some = (old, found_again task.spec.pid tasks old there, cc)
 
   -- so the queues hold the same
   pub queued_at-remembered : (cpu : ℕ) → queued_at now cpu ≡ queued_at tasks cpu
   queued_at-remembered cpu =
-      ap (map queued_of) (filter-map (task_after_choices choices occupation) (λ task. task.queued && (task.home == cpu)) tasks)
-      ∙ map-map_alike queued_of (task_after_choices choices occupation) (λ task. refl) (queued_among tasks cpu)
+      ap (map queued_of) (filter-map after (λ task. task.queued && (task.home == cpu)) tasks)
+      ∙ map-map_alike queued_of after (λ task. refl) (queued_among tasks cpu)
 
   stamped-remembered : (next : ℕ) → AreStamped next tasks → AreStamped next now
   stamped-remembered next stamped = record {
-    below = All-map (λ (t : Task). IsTrue t.queued → t.stamp < next) (task_after_choices choices occupation) tasks stamped.below;
+    below = All-map (λ (t : Task). IsTrue t.queued → t.stamp < next) after tasks stamped.below;
     distinct = λ one is queued other is_other queued_other same.
         let first = was_there one is in
         let second = was_there other is_other in
@@ -109,8 +153,8 @@ module _ (choices : List Choice) (occupation : ℕ) (tasks : List Task) where
     agree = λ agree. record {
       table = sound;
       few_tasks = agree.few_tasks;
-      tasks = All-map (IsFit (length core.lanes.items)) (task_after_choices choices occupation) tasks
-          (All-weaker (IsFit (length core.lanes.items)) (λ (t : Task). IsFit (length core.lanes.items) (task_after_choices choices occupation t))
+      tasks = All-map (IsFit (length core.lanes.items)) after tasks
+          (All-weaker (IsFit (length core.lanes.items)) (λ (t : Task). IsFit (length core.lanes.items) (after t))
           (λ t fit. record { home = fit.home; policy = fit.policy }) tasks agree.tasks);
       stamped = stamped-remembered core.next_stamp agree.stamped;
       held = λ cpu queue at. subst (λ qs. g.holds queue limit qs) (sym (queued_at-remembered cpu)) (agree.held cpu queue at);
@@ -118,13 +162,13 @@ module _ (choices : List Choice) (occupation : ℕ) (tasks : List Task) where
     kept = λ i. record {
       siblings = length core.lanes.items;
       limit = limit;
-      identities = map-map_alike identity_of (task_after_choices choices occupation) (λ task. refl) tasks i;
+      identities = map-map_alike identity_of after (λ task. refl) tasks i;
     };
   }
 
 -- also where the core keeps no more than its queues and its stamps
-pub stays-remembered : {Q : Type 0} {g : Ghosts Q} (old new : Core Q g × Table) (choices : List Choice) (occupation : ℕ) →
-    new.1 ≡ record old.1 { tasks = map (task_after_choices choices occupation) old.1.tasks } → IsTable new.1 →
+pub stays-remembered : {Q : Type 0} {g : Ghosts Q} (old new : Core Q g × Table) (occupation : Task → ℕ) →
+    new.1 ≡ record old.1 { tasks = map (λ (task : Task). record task { occupation = occupation task }) old.1.tasks } → IsTable new.1 →
     queues_of new.0 ≡ queues_of old.0 → new.0.next_stamp ≡ old.0.next_stamp → Stays old new
-stays-remembered {Q} {g} old new choices occupation table sound queues stamp =
-    both_stay (remembered_stays choices occupation old.1.tasks old.0 old.1.totals old.1.limit (subst IsTable table sound)) (alike_stays (old.0, record old.1 { tasks = map (task_after_choices choices occupation) old.1.tasks }) new queues table stamp)
+stays-remembered {Q} {g} old new occupation table sound queues stamp =
+    both_stay (remembered_stays occupation old.1.tasks old.0 old.1.totals old.1.limit (subst IsTable table sound)) (alike_stays (old.0, record old.1 { tasks = map (λ (task : Task). record task { occupation = occupation task }) old.1.tasks }) new queues table stamp)

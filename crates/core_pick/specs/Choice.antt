@@ -1,12 +1,12 @@
 -- Choice: what the lead and the choices of a selection are made of, and what the choices make of tasks.
-use Rattle.std.specs.Prelude.{◌≡◌, ℕ, ◌+◌, ◌-◌, ◌^◌, ◌<◌, Bool, false, ◌==◌, ◌&&◌, if◌then◌else◌, List, length, map, filter, Option, Some, None, is_none, is_some, count_by, slice_index_or, unwrap_or}
-use Rattle.std.specs.List.{list_any, range_with_len}
+use Rattle.std.specs.Prelude.{◌≡◌, ℕ, ◌+◌, ◌-◌, ◌^◌, Bool, false, ◌==◌, ◌&&◌, ◌||◌, nat_lt, if◌then◌else◌, List, length, map, Option, Some, None, is_some, unwrap_or}
+use Rattle.std.specs.List.{range_with_len}
+use Rattle.std.specs.Option.{option_and_then}
 use Rattle.cs_types.specs.Room.{RoomState, is_online}
-use Rattle.cs_types.specs.Order.{fair_class, idle_class}
-use Rattle.cs_types.specs.Selection.{first_on, snapshot_of, is_run, pid_of, cookie_of, is_fair_task, choice, is_forced, occupation_of, renews_snapshots}
+use Rattle.cs_types.specs.Order.{fair_class, idle_class, foremost, outranks}
+use Rattle.cs_types.specs.Selection.{first_on, snapshot_of, is_run, pid_of, cookie_of, choice, is_forced, forced_count, occupation_of, renews_snapshots}
 use Rattle.core_lanes.specs.declared.lane.Lane.{Lane}
-use Rattle.sibling_priority.specs.declared.offer.Offer.{Offer}
-use Rattle.sibling_priority.specs.Offers.{class_of_first, rank_of_first, is_higher_offer, IsInRange}
+use Rattle.sibling_priority.specs.Offers.{class_of_first, rank_of_first, snapshot_of_first}
 use Rattle.core_pick.specs.declared.choice.Choice.{Choice}
 use Rattle.core_pick.specs.declared.choice.Counts.{Counts}
 use Rattle.core_pick.specs.declared.lead.First.{First}
@@ -18,94 +18,82 @@ use Rattle.cs_types.specs.declared.task.Task.{Task}
 abbrev pub place_of : ℕ → ℕ → ℕ → ℕ
 place_of snapshot class rank = if class == fair_class then rank + 2 ^ 100 - snapshot else rank
 
--- what a selection keeps of the first task of a sibling with this snapshot
+-- a task that a sibling gets, or idle
+abbrev pub choice_of : Option Task → Choice
+choice_of task = record { cookie = cookie_of task; pid = unwrap_or (pid_of task) 0; class = class_of_first task }
+
+-- the task of a choice, none for idle
+abbrev pub run_of : Choice → Option ℕ
+run_of choice = if choice.class == idle_class then None else Some choice.pid
+
+-- what a selection keeps of a first task, under a snapshot
 abbrev pub kept_of : ℕ → Option Task → First
-kept_of snapshot first =
-    record { place = place_of snapshot (class_of_first first) (rank_of_first first); cookie = cookie_of first; pid = unwrap_or (pid_of first) 0; class = class_of_first first }
+kept_of snapshot first = record { place = place_of snapshot (class_of_first first) (rank_of_first first); choice = choice_of first }
 
--- the task of which this is kept, none for idle
-abbrev pub run_of : First → Option ℕ
-run_of first = if first.class == idle_class then None else Some first.pid
+-- under the snapshot of its own sibling
+abbrev pub kept_in : RoomState → Option Task → First
+kept_in room first = kept_of (snapshot_of_first (snapshot_of room) first) first
 
--- what is kept of the first task of a sibling
-abbrev pub first_at : RoomState → ℕ → First
-first_at room cpu = kept_of (snapshot_of room cpu) (first_on room cpu)
+-- whether one first is higher than another: its class is, or that is the same and its place is
+abbrev pub is_above : First → First → Bool
+is_above first other =
+    nat_lt first.choice.class other.choice.class
+    || ((first.choice.class == other.choice.class) && nat_lt first.place other.place)
 
--- and of each
-abbrev pub firsts_of : RoomState → List First
-firsts_of room = map (first_at room) (range_with_len 0 (length room.siblings))
+-- ---- what is asked of the siblings
 
--- what a read past the last of these would give
-abbrev pub no_first : First
-no_first = record { place = 0; cookie = 0; pid = 0; class = 0 }
+-- the firsts of the siblings, in the order of their numbers
+abbrev pub firsts_of : RoomState → List Choice
+firsts_of room = map (λ cpu. choice_of (first_on room cpu)) (range_with_len 0 (length room.siblings))
 
--- what a sibling offers by what is kept of its first, from which its snapshot is taken off already
-abbrev pub offer_of_kept : ℕ → First → Offer
-offer_of_kept cpu first = record { cpu = cpu; pid = first.pid; class = first.class; rank = first.place; snapshot = 0 }
+-- what a sibling puts up to lead: its first, none where it is offline
+abbrev pub offered : RoomState → ℕ → Option Task
+offered room cpu = if is_online room cpu then first_on room cpu else None
 
-abbrev pub offer_in : List First → ℕ → Offer
-offer_in firsts cpu = offer_of_kept cpu (slice_index_or firsts cpu no_first)
+-- the lead of what these siblings put up, and what is kept of it
+abbrev pub lead_of : RoomState → List ℕ → Option Task
+lead_of room cpus = option_and_then (λ first. first) (foremost (outranks (snapshot_of room)) (map (offered room) cpus))
 
--- whether the first of one sibling is higher than that of another
-abbrev pub is_ahead : List First → ℕ → ℕ → Bool
-is_ahead firsts cpu other = is_higher_offer (offer_in firsts cpu) (offer_in firsts other)
+abbrev pub lead_in : RoomState → List ℕ → First
+lead_in room cpus = kept_in room (lead_of room cpus)
 
--- what each sibling offers is in the range of the order
-abbrev pub AreInRange : List First → Type 0
-AreInRange firsts = (cpu : ℕ) → cpu < length firsts → IsInRange (offer_in firsts cpu)
+-- ---- what they get
 
--- what is kept of the firsts of so many siblings may be compared
-pub record AreFirsts (siblings : ℕ) (firsts : List First) : Type 0 where
-  pub each : length firsts ≡ siblings
-  pub ranges : AreInRange firsts
-
--- the online siblings from one on up to another
-abbrev pub online_between : RoomState → ℕ → ℕ → List ℕ
-online_between room from to = filter (is_online room) (range_with_len from (to - from))
-
--- what a sibling gets for a core cookie
-abbrev pub choice_at : RoomState → ℕ → ℕ → Choice
-choice_at room core cpu =
-    record {
-      run = pid_of (choice room core cpu);
-      is_online = is_online room cpu;
-      is_forced = is_online room cpu && is_forced room core cpu;
-      is_fair = is_fair_task (choice room core cpu);
-    }
-
--- what a sibling gets that a search for the core cookie finds this for: a task, else idle, to which it is forced
-abbrev pub searched : Option Task → Bool → Choice
-searched found online =
-    record { run = pid_of found; is_online = online; is_forced = online && is_none found; is_fair = is_fair_task found }
-
--- what each sibling gets, in the order of their numbers
+-- what each sibling gets for a core cookie, in the order of their numbers
 abbrev pub choices_of : RoomState → ℕ → List Choice
-choices_of room core = map (choice_at room core) (range_with_len 0 (length room.siblings))
+choices_of room core = map (λ cpu. choice_of (choice room core cpu)) (range_with_len 0 (length room.siblings))
 
--- whether this is the choice of an online sibling for the task with this pid
+-- whether this is the choice of the task with this pid
 abbrev pub is_choice_of : ℕ → Choice → Bool
-is_choice_of pid choice = choice.is_online && is_run choice.run (Some pid)
+is_choice_of pid choice = is_run (run_of choice) (Some pid)
 
 -- a task remembers the occupation where it is this choice
 abbrev pub task_after_choice : Choice → ℕ → Task → Task
 task_after_choice choice occupation task =
     if is_choice_of task.spec.pid choice then record task { occupation = occupation } else task
 
--- and where it is among these
-abbrev pub task_after_choices : List Choice → ℕ → Task → Task
-task_after_choices choices occupation task =
-    record task { occupation = if list_any (is_choice_of task.spec.pid) choices then occupation else task.occupation }
+-- whether a sibling counts as forced idle, and whether it counts as one with a task
+abbrev pub gets_none : RoomState → ℕ → ℕ → Bool
+gets_none room core cpu = is_online room cpu && is_forced room core cpu
+
+abbrev pub gets_task : RoomState → ℕ → ℕ → Bool
+gets_task room core cpu = is_online room cpu && is_some (choice room core cpu)
+
+-- the counts once a sibling is counted
+pub record IsCounted (room : RoomState) (core cpu : ℕ) (before now : Counts) : Type 0 where
+  pub forced : now.forced ≡ before.forced + (if gets_none room core cpu then 1 else 0)
+  pub occupation : now.occupation ≡ before.occupation + (if gets_task room core cpu then 1 else 0)
+
+-- how many siblings are forced idle in a selection for a core cookie, and for how many a task is chosen
+pub record AreCountsOf (room : RoomState) (core : ℕ) (counts : Counts) : Type 0 where
+  pub forced : counts.forced ≡ forced_count room core
+  pub occupation : counts.occupation ≡ occupation_of room core
 
 -- what a selection for a core cookie changes siblings by: the choices, the occupation, and whether snapshots are renewed
 pub record IsPlan (room : RoomState) (core : ℕ) (choices : List Choice) (occupation : ℕ) (renews : Bool) : Type 0 where
   pub each : choices ≡ choices_of room core
   pub occupied : occupation ≡ occupation_of room core
   pub renewed : renews ≡ renews_snapshots room core
-
--- what a selection counts of these choices: how many siblings are forced idle, and for how many a task is chosen
-pub record AreCountsOf (choices : List Choice) (counts : Counts) : Type 0 where
-  pub forced : counts.forced ≡ count_by (λ choice. choice.is_forced) choices
-  pub occupation : counts.occupation ≡ count_by (λ choice. choice.is_online && is_some choice.run) choices
 
 -- what a selection for the core leaves as it is in a sibling: its own number and its queue
 abbrev pub own_of : {Q : Type 0} → Lane Q → ℕ × Q

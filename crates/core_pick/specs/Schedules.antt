@@ -11,7 +11,7 @@ use Rattle.core_lanes.specs.declared.lanes.Core.{Core}
 use Rattle.core_lanes.specs.Lanes.{Beside, at, room_of, Agree, AgreesAt, HasLowTimes}
 use Rattle.core_lanes.specs.Numbers.{Numbers, numbers_of, numbers_in, booked, touched, took}
 use Rattle.core_lanes.specs.Changes.{Stays, BecomesCharged, IsBooked}
-use Rattle.core_pick.specs.declared.lead.First.{First}
+use Rattle.core_pick.specs.declared.choice.Choice.{Choice}
 use Rattle.core_pick.specs.Choice.{firsts_of}
 
 -- ---- what decides an adoption
@@ -60,7 +60,7 @@ pub record MaySchedule {Q : Type 0} {g : Ghosts Q} (now sibling : ℕ) (both : C
   pub paid : IsPaid now both
 
 -- these are the first tasks of the siblings and the cookie of the lead of a selection that the sibling makes now
-pub record MaySelect {Q : Type 0} {g : Ghosts Q} (now sibling cookie : ℕ) (firsts : List First) (both : Core Q g × Table) : Type 0 where
+pub record MaySelect {Q : Type 0} {g : Ghosts Q} (now sibling cookie : ℕ) (firsts : List Choice) (both : Core Q g × Table) : Type 0 where
   pub at : AgreesAt sibling both
   pub firsts_are : (beside : Beside) → firsts ≡ firsts_of (room_of beside both)
   pub lead : (beside : Beside) → cookie ≡ cookie_of (lead_from (room_of beside both) sibling)

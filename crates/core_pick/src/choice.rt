@@ -1,63 +1,83 @@
 //! What each sibling gets in a selection for the core. It is a file of its own since the selection
 //! counts the choices before it changes siblings and tasks by them.
 
-ghost use Rattle.std.specs.Prelude.{◌≡◌, ℕ, ◌≤◌, ◌&&◌, is_some, length, map, option_copied};
+ghost use Rattle.std.specs.Prelude.{◌≡◌, ℕ, ◌+◌, ◌<◌, ◌≤◌, ◌==◌, None, length, map, if◌then◌else◌};
 ghost use Rattle.cs_types.specs.Room.{RoomState};
-ghost use Rattle.cs_types.specs.Selection.{select_for};
+ghost use Rattle.cs_types.specs.Order.{fair_class, idle_class};
+ghost use Rattle.cs_types.specs.Selection.{select_for, task_after_selection};
 ghost use Rattle.task_table.specs.Table.{IsSound as IsTable};
 ghost use Rattle.core_lanes.specs.Lanes.{lane_state};
-ghost use Rattle.core_pick.specs.Choice.{IsPlan, own_of, searched, task_after_choice, task_after_choices};
+ghost use Rattle.core_pick.specs.Choice.{IsPlan, choice_of, own_of, run_of, task_after_choice};
 
 use crate::sibling::hand;
 use arrayvec::ArrayVec;
-use core_lanes::{Lane, is_fair};
-use cs_types::{Cpu, Pid, Task};
+use core_lanes::Lane;
+use cs_types::{Cookie, Cpu, Pid, Queued};
+use sibling_priority::{FAIR, IDLE};
 use task_table::TaskTable;
 
 /// The most siblings of a core.
 pub const MOST_SIBLINGS: usize = 16;
 
-/// What a sibling gets: a task, or none for idle. The first two tests say no of one that is offline.
+/// A task that a sibling gets, or idle: first the first of its queue, then what it gets for the core cookie. Its
+/// parts fill it, so that no copy of it moves bytes between them.
 #[derive(Clone, Copy, Default)]
 pub struct Choice {
-    pub run: Option<Pid>,
-    pub is_online: bool,
-    pub is_forced: bool,
-    /// Whether it is a fair task.
-    pub is_fair: bool,
+    /// Its cookie, 0 for none.
+    pub cookie: Cookie,
+    /// Its number, 0 for idle.
+    pub pid: Pid,
+    /// Its class, the smaller the higher.
+    pub class: u32,
 }
 
 impl Choice {
-    /// Whether a task is chosen for the sibling.
-    pub fn is_chosen(&self) -> bool
-        ensures { result ≡ (self.now.is_online && is_some self.now.run) }
+    /// Idle.
+    pub fn idle() -> Choice
+        ensures { result ≡ choice_of None }
     {
-        self.is_online && self.run.is_some()
+        Choice {
+            cookie: 0,
+            pid: 0,
+            class: u32::from(IDLE),
+        }
+    }
+
+    /// This task, as its queue has it.
+    pub fn of(queued: &Queued) -> Choice
+        ensures { result ≡ record { cookie = queued.now.cookie; pid = queued.now.pid; class = queued.now.class } }
+    {
+        Choice {
+            cookie: queued.cookie,
+            pid: queued.pid,
+            class: u32::from(queued.class),
+        }
+    }
+
+    /// Whether it is idle.
+    pub fn is_idle(&self) -> bool
+        ensures { result ≡ (self.now.class == idle_class) }
+    {
+        self.class == u32::from(IDLE)
+    }
+
+    /// Whether it is a fair task.
+    pub fn is_fair(&self) -> bool
+        ensures { result ≡ (self.now.class == fair_class) }
+    {
+        self.class == u32::from(FAIR)
+    }
+
+    /// The task, none for idle.
+    pub fn run(&self) -> Option<Pid>
+        ensures { result ≡ run_of self.now }
+    {
+        if self.is_idle() { None } else { Some(self.pid) }
     }
 }
 
 /// What each sibling gets, in the order of their numbers.
 pub type Choices = ArrayVec<Choice, MOST_SIBLINGS>;
-
-/// What a sibling gets by a search for the core cookie: what was found, else idle, to which it is forced.
-pub fn searched(found: Option<&Task>, is_online: bool) -> Choice
-    ensures { result ≡ searched (option_copied found.entry) is_online }
-{
-    match found {
-        Some(task) => Choice {
-            run: Some(task.spec.pid),
-            is_online,
-            is_forced: false,
-            is_fair: is_fair(task),
-        },
-        None => Choice {
-            run: None,
-            is_online,
-            is_forced: is_online,
-            is_fair: false,
-        },
-    }
-}
 
 /// What a selection counts.
 #[derive(Clone, Copy)]
@@ -68,16 +88,37 @@ pub struct Counts {
     pub occupation: u8,
 }
 
+impl Counts {
+    /// The counts with this choice of a sibling that has a task.
+    pub fn with(self, choice: &Choice) -> Counts
+        requires forced { self.forced < 255 }
+        requires occupation { self.occupation < 255 }
+        ensures { result ≡ (if choice.now.class == idle_class
+            then record self { forced = self.forced + 1 }
+            else record self { occupation = self.occupation + 1 }) }
+    {
+        if choice.is_idle() {
+            Counts {
+                forced: self.forced + 1,
+                ..self
+            }
+        } else {
+            Counts {
+                occupation: self.occupation + 1,
+                ..self
+            }
+        }
+    }
+}
+
 /// The task that is chosen for the sibling, if one is, remembers the occupation.
 fn update_task(tasks: &mut TaskTable, choice: &Choice, occupation: u8)
     requires { IsTable tasks.old }
     ensures tasks { tasks.new ≡ record tasks.old { tasks = map (task_after_choice choice.now occupation) tasks.old.tasks } }
     ensures sound { IsTable tasks.new }
 {
-    if choice.is_online {
-        if let Some(pid) = choice.run {
-            tasks.remember(pid, occupation);
-        }
+    if let Some(pid) = choice.run() {
+        tasks.remember(pid, occupation);
     }
 }
 
@@ -97,14 +138,16 @@ pub fn update<Q: Drop>(
     ensures states { (room : RoomState) (cookie : ℕ) → room.siblings ≡ map lane_state lanes.old →
         IsPlan room cookie choices.now occupation renews → map lane_state lanes.new ≡ (select_for room selector cookie).siblings }
     ensures own { map own_of lanes.new ≡ map own_of lanes.old }
-    ensures tasks { tasks.new ≡ record tasks.old { tasks = map (task_after_choices choices.now occupation) tasks.old.tasks } }
+    ensures tasks { (room : RoomState) (cookie : ℕ) → room.siblings ≡ map lane_state lanes.old →
+        IsPlan room cookie choices.now occupation renews →
+        tasks.new ≡ record tasks.old { tasks = map (task_after_selection room cookie) tasks.old.tasks } }
     ensures sound { IsTable tasks.new }
 {
     for (cpu, lane) in lanes.iter_mut().enumerate() {
-        let choice = choices[cpu];
-        update_task(tasks, &choice, occupation);
         if lane.online {
-            hand(lane, selector, cpu as u8, choice, occupation, renews);
+            let choice = choices[cpu];
+            update_task(tasks, &choice, occupation);
+            hand(lane, cpu as u8 == selector, &choice, occupation, renews);
         }
     }
 }

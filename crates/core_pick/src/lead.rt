@@ -1,75 +1,58 @@
-//! The lead of first tasks. It is a file of its own since it alone knows what a task offers.
+//! The first task of a sibling, and which of two is higher. It is a file of its own since it alone knows by what
+//! tasks of distinct siblings are compared.
 
-ghost use Rattle.std.specs.Prelude.{◌≡◌, ℕ, ◌<◌, ◌≤◌, ◌==◌, ◌++◌, length, true, Option, Some, IfSome, List, option_copied};
-ghost use Rattle.std.specs.Option.{option_map, option_map_or};
+ghost use Rattle.std.specs.Prelude.{◌≡◌, None, Option, Some, option_copied, if◌then◌else◌};
+ghost use Rattle.std.specs.Option.{option_map};
 ghost use Rattle.cs_types.specs.declared.task.Task.{Task};
-ghost use Rattle.cs_types.specs.Order.{fair_class, foremost};
 ghost use Rattle.cs_types.specs.Queue.{queued_of};
-ghost use Rattle.task_table.specs.Table.{Table};
-ghost use Rattle.core_lanes.specs.Lanes.{Beside, room_of};
-ghost use Rattle.core_pick.specs.Choice.{place_of, kept_of, run_of, offer_of_kept, is_ahead, online_between, AreInRange, AreFirsts};
+ghost use Rattle.core_pick.specs.Choice.{place_of, kept_of, is_above};
 ghost use Rattle.core_pick.specs.Schedules.{MayKeep};
 
-use crate::choice::MOST_SIBLINGS;
-use arrayvec::ArrayVec;
-use core_lanes::{Core, SiblingQueue};
-use cs_types::{Cookie, Cpu, Pid, Queued};
-use sibling_priority::{FAIR, IDLE, Offer, higher};
+use crate::choice::Choice;
+use cs_types::Queued;
+use sibling_priority::FAIR;
 
 /// Above each snapshot, in ns: it is added before one is taken off.
 const ABOVE_SNAPSHOTS: u128 = 1 << 100;
 
-/// What a selection keeps of the first task of a sibling, which is less than the task. For idle it is what no
-/// task has.
-#[derive(Clone, Copy, Default)]
+/// What a selection keeps of the first task of a sibling, which is less than the task, or of idle.
+#[derive(Clone, Copy)]
 pub struct First {
     /// Its place within the class, the smaller the higher: its rank, from which the snapshot of its sibling is
-    /// taken where it is fair.
+    /// taken where it is fair. 0 for idle.
     pub place: u128,
-    /// Its cookie, 0 for none.
-    pub cookie: Cookie,
-    /// Its number, 0 for idle.
-    pub pid: Pid,
-    /// Its class, the smaller the higher.
-    pub class: u8,
+    /// The task, as a sibling gets it.
+    pub choice: Choice,
 }
 
 impl First {
-    /// The task, none for idle.
-    pub fn run(&self) -> Option<Pid>
-        ensures { result ≡ run_of self.now }
+    /// What is kept of idle.
+    pub fn idle() -> First
+        ensures { result ≡ kept_of 0 None }
     {
-        if self.class == IDLE {
-            None
-        } else {
-            Some(self.pid)
+        First {
+            place: 0,
+            choice: Choice::idle(),
         }
     }
 
-    /// What the sibling offers by it.
+    /// Whether it is higher than another (`prio_less`): its class is, or both are of one class and its place is.
     #[inline(always)]
-    fn offer(&self, cpu: Cpu) -> Offer
-        ensures { result ≡ offer_of_kept cpu self.now }
+    fn is_higher(&self, other: &First) -> bool
+        ensures { result ≡ is_above self.now other.now }
     {
-        Offer {
-            cpu,
-            pid: self.pid,
-            class: self.class,
-            rank: self.place,
-            snapshot: 0,
-        }
+        let (class, other_class) = (self.choice.class, other.choice.class);
+        class < other_class || (class == other_class && self.place < other.place)
     }
 
-    /// Whether it is a fair task.
-    pub fn is_fair(&self) -> bool
-        ensures { result ≡ (self.now.class == fair_class) }
+    /// The higher of the two, this one where they tie.
+    #[inline(always)]
+    pub fn or_higher(self, other: First) -> First
+        ensures { result ≡ (if is_above other self then other else self) }
     {
-        self.class == FAIR
+        if other.is_higher(&self) { other } else { self }
     }
 }
-
-/// What is kept of the first task of each sibling, in the order of their numbers.
-pub type Firsts = ArrayVec<First, MOST_SIBLINGS>;
 
 /// The place of a first task within its class, under the snapshot of its sibling.
 #[inline(always)]
@@ -91,60 +74,10 @@ pub fn kept_of(first: Option<&Queued>, snapshot: u128) -> First
     ensures { (task : Option Task) → option_copied first.entry ≡ option_map queued_of task → result ≡ kept_of snapshot task }
 {
     match first {
-        None => First {
-            place: 0,
-            cookie: 0,
-            pid: 0,
-            class: IDLE,
-        },
+        None => First::idle(),
         Some(queued) => First {
             place: place_of(queued, snapshot),
-            cookie: queued.cookie,
-            pid: queued.pid,
-            class: queued.class,
+            choice: Choice::of(queued),
         },
     }
-}
-
-/// Whether the sibling leads instead of the lead of those before it, if there is one.
-#[inline(always)]
-fn leads(firsts: &[First], cpu: Cpu, before: Option<Cpu>) -> bool
-    requires cpu { cpu < length firsts.now }
-    requires before { IfSome before (λ lead. lead < length firsts.now) }
-    requires ranges { AreInRange firsts.now }
-    ensures { result ≡ option_map_or (is_ahead firsts.now cpu) before true }
-{
-    match before {
-        Some(lead) => higher(
-            &firsts[cpu as usize].offer(cpu),
-            &firsts[lead as usize].offer(lead),
-        ),
-        None => true,
-    }
-}
-
-/// The lead of the siblings before, which this is, and of the online ones from one on up to another. It is the
-/// earliest whose first task no other is higher than.
-pub fn lead_among<Q: SiblingQueue>(
-    core: &Core<Q>,
-    firsts: &[First],
-    from: Cpu,
-    to: Cpu,
-    before: Option<Cpu>,
-) -> Option<Cpu>
-    requires ordered { from ≤ to }
-    requires to { to ≤ length core.now.lanes.items }
-    requires firsts { AreFirsts (length core.now.lanes.items) firsts.now }
-    requires before { IfSome before (λ lead. lead < length firsts.now) }
-    ensures lead { (beside : Beside) (table : Table) (order : List ℕ) → before ≡ foremost (is_ahead firsts.now) order →
-        result ≡ foremost (is_ahead firsts.now) (order ++ online_between (room_of beside (core.now, table)) from to) }
-    ensures within { IfSome result (λ lead. lead < length firsts.now) }
-{
-    let mut lead = before;
-    for cpu in from..to {
-        if core.is_online(cpu) && leads(firsts, cpu, lead) {
-            lead = Some(cpu);
-        }
-    }
-    lead
 }

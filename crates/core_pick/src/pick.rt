@@ -2,19 +2,19 @@
 
 ghost use Rattle.std.specs.Prelude.{◌≡◌, ℕ, ◌+◌, ◌*◌, ◌^◌, ◌<◌, ◌≤◌, length, ◌==◌, ◌&&◌, ◌||◌, not, is_some, None, IfSome, IfNone, if◌then◌else◌};
 ghost use Rattle.cs_types.specs.Room.{sibling_of, is_online};
-ghost use Rattle.cs_types.specs.Selection.{is_plain, adopt, pick_plain, select, pick_anew, adopt_or_pick_anew, balance, schedule};
+ghost use Rattle.cs_types.specs.Selection.{first_on, is_plain, adopt, pick_plain, select, pick_anew, adopt_or_pick_anew, balance, schedule};
 ghost use Rattle.task_table.specs.Table.{Table};
 ghost use Rattle.core_lanes.specs.Lanes.{Beside, room_of};
 ghost use Rattle.core_lanes.specs.Numbers.{numbers_of};
-ghost use Rattle.core_pick.specs.Choice.{first_at};
+ghost use Rattle.core_pick.specs.Choice.{kept_in};
 ghost use Rattle.core_pick.specs.Comparisons.{most_of_schedule, Compares};
 ghost use Rattle.core_pick.specs.Schedules.{may_adopt_by, MayPick, MaySchedule, MaySelect, Selects, Schedules, ChargesAndSchedules};
 
 use crate::account::charge;
 use crate::balance::balance;
-use crate::choice::{Choices, Counts, update};
-use crate::lead::{First, Firsts};
-use crate::selection::{ask, choose, first_at, lead_cookie};
+use crate::choice::{Choice, Choices, Counts, update};
+use crate::lead::First;
+use crate::selection::{ask, choose, first_at};
 use crate::sibling::{run, run_first};
 use core_lanes::{Core, SiblingQueue};
 use cs_types::{Cookie, Cpu, Kind, Pick, Pid, Steps};
@@ -73,24 +73,25 @@ fn is_cookieless(core: Cookie, forced: u8, first: Cookie) -> bool
 /// Whether no cookie takes part in a schedule of the sibling with this first task.
 fn is_plain<Q: SiblingQueue>(core: &Core<Q>, first: &First) -> bool
     ensures { (beside : Beside) (table : Table) (cpu : ℕ) → let room = room_of beside (core.now, table) in
-        first.now ≡ first_at room cpu → result ≡ is_plain room cpu }
+        first.now ≡ kept_in room (first_on room cpu) → result ≡ is_plain room cpu }
 {
-    is_cookieless(core.cookie, core.account.count(), first.cookie)
+    is_cookieless(core.cookie, core.account.count(), first.choice.cookie)
 }
 
 /// The sibling runs this, the first of its own queue.
 fn pick_plain<Q: SiblingQueue>(core: &mut Core<Q>, cpu: Cpu, first: &First) -> Pick
     requires cpu { cpu < length core.old.lanes.items }
     requires touches { core.old.task_number + 1 < 2 ^ 64 }
-    ensures { (now : ℕ) (table : Table) → ((beside : Beside) → first.now ≡ first_at (room_of beside (core.old, table)) cpu) →
+    ensures { (now : ℕ) (table : Table) → ((beside : Beside) → let room = room_of beside (core.old, table) in first.now ≡ kept_in room (first_on room cpu)) →
         Schedules now (core.old, table) (core.new, table) cpu result (λ room. pick_plain room cpu) }
 {
     core.account.close();
-    run_first(&mut core.lanes[cpu as usize], first.run(), first.is_fair());
+    let choice = &first.choice;
+    run_first(&mut core.lanes[cpu as usize], choice.run(), choice.is_fair());
     core.touch();
     Pick {
         kind: Kind::Plain,
-        run: first.pid,
+        run: choice.pid,
         core: 0,
         forced: 0,
     }
@@ -112,23 +113,21 @@ fn select_for<Q: SiblingQueue, L: Ledger>(
     core: &mut Core<Q>,
     table: &mut TaskTable,
     cpu: Cpu,
-    firsts: &[First],
+    choices: &mut [Choice],
     cookie: Cookie,
     now: u64,
     steps: &mut Steps<L>,
 ) -> Option<Pid>
-    requires may { MaySelect now cpu cookie firsts.now (core.old, table.old) }
+    requires may { MaySelect now cpu cookie choices.old (core.old, table.old) }
     ensures selects { Selects now (core.old, table.old) (core.new, table.new) cpu cookie result }
     ensures counted { Compares (core.old, table.old) (λ most. steps.new ≤ steps.old + length core.old.lanes.items * most) }
 {
-    let mut choices = Choices::new();
-    let Counts { forced, occupation } = choose(&mut choices, core, table, firsts, cookie, steps);
-    let choices = choices.as_slice();
+    let Counts { forced, occupation } = choose(choices, core, table, cookie, steps);
     let renews = renews_snapshots(core.account.count(), forced);
     core.cookie = cookie;
     core.account.begin(cookie, forced, occupation, now);
     update(&mut core.lanes, table, cpu, choices, occupation, renews);
-    choices[cpu as usize].run
+    choices[cpu as usize].run()
 }
 
 /// The sibling, whose first task this is, makes a selection for the core, under the cookie of its lead.
@@ -141,17 +140,15 @@ fn select<Q: SiblingQueue, L: Ledger>(
     steps: &mut Steps<L>,
 ) -> Pick
     requires may { MayPick now cpu (core.old, table.old) }
-    requires first { (beside : Beside) → first.now ≡ first_at (room_of beside (core.old, table.old)) cpu }
+    requires first { (beside : Beside) → let room = room_of beside (core.old, table.old) in first.now ≡ kept_in room (first_on room cpu) }
     ensures schedules { Schedules now (core.old, table.old) (core.new, table.new) cpu result (λ room. select room cpu) }
 
     // The first was asked before.
     ensures counted { Compares (core.old, table.old) (λ most. steps.new + most ≤ steps.old + most_of_schedule (length core.old.lanes.items) most) }
 {
-    let mut firsts = Firsts::new();
-    ask(&mut firsts, core, table, cpu, first, steps);
-    let firsts = firsts.as_slice();
-    let cookie = lead_cookie(core, table, firsts, cpu);
-    let run = select_for(core, table, cpu, firsts, cookie, now, steps);
+    let mut choices = Choices::new();
+    let cookie = ask(&mut choices, core, table, cpu, first, steps);
+    let run = select_for(core, table, cpu, choices.as_mut_slice(), cookie, now, steps);
     core.touch();
     core.pick_number = core.task_number;
     core.lanes[cpu as usize].number = core.pick_number;

@@ -1,28 +1,32 @@
 //! What a selection for the core asks of the queues: the lead, and what each sibling gets for a core cookie.
 //! It is a file of its own since it changes nothing.
 
-ghost use Rattle.std.specs.Prelude.{◌≡◌, ℕ, ◌+◌, ◌*◌, ◌≤◌, [], ◌||◌, ◌==◌, length};
+ghost use Rattle.std.specs.Prelude.{◌≡◌, ℕ, ◌+◌, ◌-◌, ◌*◌, ◌≤◌, ◌<◌, [], ◌||◌, ◌==◌, ◌++◌, List, map, length};
+ghost use Rattle.std.specs.List.{range_with_len};
+ghost use Rattle.arrayvec.specs.ArrayVec.{array_vec_len};
 ghost use Rattle.cs_types.specs.Order.{idle_class};
-ghost use Rattle.cs_types.specs.Selection.{cookie_of, lead_from};
+ghost use Rattle.cs_types.specs.Selection.{first_on, cookie_of, lead_from, choice};
+ghost use Rattle.task_table.specs.Table.{Table};
 ghost use Rattle.core_lanes.specs.Queued.{queued_among};
 ghost use Rattle.core_lanes.specs.Lanes.{Beside, room_of, Agree, AgreesAt};
-ghost use Rattle.core_pick.specs.Choice.{choice_at, choices_of, AreCountsOf, first_at, firsts_of};
+ghost use Rattle.core_pick.specs.Choice.{choice_of, kept_in, firsts_of, offered, lead_in, choices_of, IsCounted, AreCountsOf};
 ghost use Rattle.core_pick.specs.Comparisons.{Compares};
 ghost use Rattle.core_pick.specs.Schedules.{MayAsk};
 
-use crate::choice::{Choice, Choices, Counts, searched};
-use crate::lead::{First, Firsts, kept_of, lead_among};
-use core_lanes::{Core, SiblingQueue};
+use crate::choice::{Choice, Choices, Counts};
+use crate::lead::{First, kept_of};
+use core_lanes::{Core, SiblingQueue, queued_of};
 use cs_types::{Cookie, Cpu, Steps};
-use sibling_priority::IDLE;
 use std::sync::ledger::Ledger;
 use task_table::TaskTable;
 
+// ---- what each gets
+
 /// Whether a sibling with this first task gets it for a core cookie: it is idle, or has the cookie.
-fn is_kept(first: &First, cookie: Cookie) -> bool
+fn is_kept(first: &Choice, cookie: Cookie) -> bool
     ensures { result ≡ ((first.now.class == idle_class) || (first.now.cookie == cookie)) }
 {
-    first.class == IDLE || first.cookie == cookie
+    first.is_idle() || first.cookie == cookie
 }
 
 /// What a sibling with this first task gets for a core cookie. Where it does not get that, it is searched for its
@@ -31,62 +35,82 @@ fn is_kept(first: &First, cookie: Cookie) -> bool
 fn choice_at<Q: SiblingQueue, L: Ledger>(
     core: &Core<Q>,
     table: &TaskTable,
-    first: &First,
+    first: &Choice,
     cookie: Cookie,
     cpu: Cpu,
     steps: &mut Steps<L>,
 ) -> Choice
     requires { AgreesAt cpu (core.now, table.now) }
-    ensures choice { (beside : Beside) → first.now ≡ first_at (room_of beside (core.now, table.now)) cpu →
-        result ≡ choice_at (room_of beside (core.now, table.now)) cookie cpu }
+    ensures choice { (beside : Beside) → let room = room_of beside (core.now, table.now) in
+        first.now ≡ choice_of (first_on room cpu) → result ≡ choice_of (choice room cookie cpu) }
     ensures counted { steps.new ≤ steps.old + Q.most_compared (length (queued_among table.now.tasks cpu)) }
 {
-    let is_online = core.is_online(cpu);
     if is_kept(first, cookie) {
-        return Choice {
-            run: first.run(),
-            is_online,
-            is_forced: false,
-            is_fair: first.is_fair(),
-        };
+        return *first;
     }
     if cookie == 0 {
-        return searched(None, is_online);
+        return Choice::idle();
     }
     let queue = &core.lanes[cpu as usize].queue;
-    let found = queue.first_with(cookie, table, cpu, steps);
-    searched(found.as_ref(), is_online)
+    match queue.first_with(cookie, table, cpu, steps) {
+        Some(task) => Choice::of(&queued_of(&task)),
+        None => Choice::idle(),
+    }
 }
 
-/// Puts into the empty list what each sibling gets for a core cookie, where this is kept of their first tasks, and
-/// counts it.
-pub fn choose<Q: SiblingQueue, L: Ledger>(
-    choices: &mut Choices,
+/// Puts what the sibling gets for a core cookie in the place of its first, and gives the counts with it. One whose
+/// first is idle gets that, and is not counted, and nor is one that is offline.
+#[inline(always)]
+fn settle<Q: SiblingQueue, L: Ledger>(
     core: &Core<Q>,
     table: &TaskTable,
-    firsts: &[First],
+    given: &mut Choice,
+    counts: Counts,
+    cookie: Cookie,
+    cpu: Cpu,
+    steps: &mut Steps<L>,
+) -> Counts
+    requires at { AgreesAt cpu (core.now, table.now) }
+    requires forced { counts.forced < 255 }
+    requires occupation { counts.occupation < 255 }
+    ensures gets { (beside : Beside) → let room = room_of beside (core.now, table.now) in
+        given.old ≡ choice_of (first_on room cpu) → given.new ≡ choice_of (choice room cookie cpu) }
+    ensures counts { (beside : Beside) → let room = room_of beside (core.now, table.now) in
+        given.old ≡ choice_of (first_on room cpu) → IsCounted room cookie cpu counts result }
+    ensures counted { steps.new ≤ steps.old + Q.most_compared (length (queued_among table.now.tasks cpu)) }
+{
+    if given.is_idle() {
+        return counts;
+    }
+    *given = choice_at(core, table, given, cookie, cpu, steps);
+    if core.is_online(cpu) { counts.with(given) } else { counts }
+}
+
+/// Puts what each sibling gets for a core cookie in the place of its first, and counts it.
+pub fn choose<Q: SiblingQueue, L: Ledger>(
+    choices: &mut [Choice],
+    core: &Core<Q>,
+    table: &TaskTable,
     cookie: Cookie,
     steps: &mut Steps<L>,
 ) -> Counts
-    requires empty { choices.old.items ≡ [] }
     requires agree { Agree (core.now, table.now) }
-    requires firsts { (beside : Beside) → firsts.now ≡ firsts_of (room_of beside (core.now, table.now)) }
-    ensures each { (beside : Beside) → choices.new.items ≡ choices_of (room_of beside (core.now, table.now)) cookie }
-    ensures counts { AreCountsOf choices.new.items result }
+    requires firsts { (beside : Beside) → choices.old ≡ firsts_of (room_of beside (core.now, table.now)) }
+    ensures each { (beside : Beside) → choices.new ≡ choices_of (room_of beside (core.now, table.now)) cookie }
+    ensures counts { (beside : Beside) → AreCountsOf (room_of beside (core.now, table.now)) cookie result }
     ensures counted { Compares (core.now, table.now) (λ most. steps.new ≤ steps.old + length core.now.lanes.items * most) }
 {
     let mut counts = Counts {
         forced: 0,
         occupation: 0,
     };
-    for cpu in 0..core.lanes.len() {
-        let choice = choice_at(core, table, &firsts[cpu], cookie, cpu as u8, steps);
-        counts.forced += u8::from(choice.is_forced);
-        counts.occupation += u8::from(choice.is_chosen());
-        choices.push(choice);
+    for (cpu, choice) in choices.iter_mut().enumerate() {
+        counts = settle(core, table, choice, counts, cookie, cpu as u8, steps);
     }
     counts
 }
+
+// ---- the firsts
 
 /// What is kept of the first task of a sibling, which is asked for it.
 #[inline(always)]
@@ -97,52 +121,75 @@ pub fn first_at<Q: SiblingQueue, L: Ledger>(
     steps: &mut Steps<L>,
 ) -> First
     requires { MayAsk cpu (core.now, table.now) }
-    ensures first { (beside : Beside) → result ≡ first_at (room_of beside (core.now, table.now)) cpu }
+    ensures first { (beside : Beside) → let room = room_of beside (core.now, table.now) in result ≡ kept_in room (first_on room cpu) }
     ensures counted { steps.new ≤ steps.old + Q.most_compared (length (queued_among table.now.tasks cpu)) }
 {
     let first = core.first_on(table, cpu, steps);
     kept_of(first.as_ref(), core.lanes[cpu as usize].snapshot)
 }
 
-/// Puts into the empty list what is kept of the first task of each sibling, where this is the one's. Each of the
-/// others is asked once.
+/// What a sibling with this first task puts up to lead: that, or idle where it is offline.
+#[inline(always)]
+fn offered<Q: SiblingQueue>(core: &Core<Q>, cpu: Cpu, first: First) -> First
+    requires { cpu < length core.now.lanes.items }
+    ensures { (beside : Beside) (table : Table) → let room = room_of beside (core.now, table) in
+        first ≡ kept_in room (first_on room cpu) → result ≡ kept_in room (offered room cpu) }
+{
+    if core.is_online(cpu) { first } else { First::idle() }
+}
+
+/// Notes the first of each sibling from one on up to another, after those before. Each is asked once. It gives the
+/// lead of all so far, where this is that of some before.
+#[inline(always)]
+fn ask_from<Q: SiblingQueue, L: Ledger>(
+    firsts: &mut Choices,
+    core: &Core<Q>,
+    table: &TaskTable,
+    from: Cpu,
+    to: Cpu,
+    before: First,
+    steps: &mut Steps<L>,
+) -> First
+    requires so_far { array_vec_len firsts.old ≡ from }
+    requires order { from ≤ to }
+    requires within { to ≤ length core.now.lanes.items }
+    requires may { (cpu : ℕ) → cpu < length core.now.lanes.items → MayAsk cpu (core.now, table.now) }
+    ensures so_far { array_vec_len firsts.new ≡ to }
+    ensures firsts { (beside : Beside) → let room = room_of beside (core.now, table.now) in
+        firsts.new.items ≡ firsts.old.items ++ map (λ cpu. choice_of (first_on room cpu)) (range_with_len from (to - from)) }
+    ensures lead { (beside : Beside) (order : List ℕ) → let room = room_of beside (core.now, table.now) in
+        before ≡ lead_in room order → result ≡ lead_in room (order ++ range_with_len from (to - from)) }
+    ensures counted { Compares (core.now, table.now) (λ most. steps.new ≤ steps.old + (to - from) * most) }
+{
+    let mut lead = before;
+    for cpu in from..to {
+        let first = first_at(core, table, cpu, steps);
+        firsts.push(first.choice);
+        lead = lead.or_higher(offered(core, cpu, first));
+    }
+    lead
+}
+
+/// Puts into the empty list the first of each sibling, where this is the one's. Each of the others is asked once. It
+/// gives the cookie of the lead of a selection that the one makes, 0 for idle.
 pub fn ask<Q: SiblingQueue, L: Ledger>(
-    firsts: &mut Firsts,
+    firsts: &mut Choices,
     core: &Core<Q>,
     table: &TaskTable,
     own: Cpu,
     first: &First,
     steps: &mut Steps<L>,
-)
+) -> Cookie
     requires empty { firsts.old.items ≡ [] }
     requires may { MayAsk own (core.now, table.now) }
-    requires first { (beside : Beside) → first.now ≡ first_at (room_of beside (core.now, table.now)) own }
+    requires first { (beside : Beside) → let room = room_of beside (core.now, table.now) in first.now ≡ kept_in room (first_on room own) }
     ensures each { (beside : Beside) → firsts.new.items ≡ firsts_of (room_of beside (core.now, table.now)) }
+    ensures lead { (beside : Beside) → result ≡ cookie_of (lead_from (room_of beside (core.now, table.now)) own) }
     ensures counted { Compares (core.now, table.now) (λ most. steps.new + most ≤ steps.old + length core.now.lanes.items * most) }
 {
-    for cpu in 0..core.lanes.len() {
-        if cpu as u8 == own {
-            firsts.push(*first);
-        } else {
-            firsts.push(first_at(core, table, cpu as u8, steps));
-        }
-    }
-}
-
-/// The cookie of the lead of a selection that the sibling makes, where these are the first tasks, and 0 for idle.
-pub fn lead_cookie<Q: SiblingQueue>(
-    core: &Core<Q>,
-    table: &TaskTable,
-    firsts: &[First],
-    cpu: Cpu,
-) -> Cookie
-    requires may { MayAsk cpu (core.now, table.now) }
-    requires firsts { (beside : Beside) → firsts.now ≡ firsts_of (room_of beside (core.now, table.now)) }
-    ensures { (beside : Beside) → result ≡ cookie_of (lead_from (room_of beside (core.now, table.now)) cpu) }
-{
-    let later = lead_among(core, firsts, cpu, core.lanes.len() as u8, None);
-    match lead_among(core, firsts, 0, cpu, later) {
-        Some(lead) => firsts[lead as usize].cookie,
-        None => 0,
-    }
+    let before = ask_from(firsts, core, table, 0, own, First::idle(), steps);
+    firsts.push(first.choice);
+    let offer = offered(core, own, *first);
+    let lead = ask_from(firsts, core, table, own + 1, core.lanes.len() as u8, offer, steps);
+    lead.or_higher(before).choice.cookie
 }

@@ -1,14 +1,14 @@
 //! What a schedule makes of one sibling. It is a file of its own since it knows no other sibling.
 
-ghost use Rattle.std.specs.Prelude.{◌≡◌, ℕ, if◌then◌else◌};
+ghost use Rattle.std.specs.Prelude.{◌≡◌, ℕ, ◌==◌, if◌then◌else◌};
 ghost use Rattle.cs_types.specs.Room.{RoomState};
-ghost use Rattle.cs_types.specs.Selection.{occupation_of, renews_snapshots, sibling_after_selection};
+ghost use Rattle.cs_types.specs.Selection.{pid_of, is_fair_task, choice, occupation_of, renews_snapshots, sibling_after_selection};
 ghost use Rattle.core_lanes.specs.Lanes.{lane_state};
-ghost use Rattle.core_pick.specs.Choice.{choice_at, own_of, lane_running};
+ghost use Rattle.core_pick.specs.Choice.{choice_of, own_of, lane_running};
 
 use crate::choice::Choice;
 use core_lanes::Lane;
-use cs_types::{Cpu, Pid};
+use cs_types::Pid;
 
 /// It runs this from now on, nothing waits for it, and its reschedule is no longer pending
 /// (`clear_tsk_need_resched`).
@@ -29,33 +29,55 @@ pub fn run_first<Q: Drop>(lane: &mut Lane<Q>, first: Option<Pid>, is_fair: bool)
     lane.snapshot = if is_fair { lane.least } else { lane.snapshot };
 }
 
-/// It gets this choice in a selection for the core that the selector makes, where it is online. The test
-/// says whether snapshots are renewed.
-pub fn hand<Q: Drop>(
+/// It gets this task, or none for idle, in a selection for the core, where it is online. The tests say whether it
+/// makes the selection itself, whether the task is fair, and whether snapshots are renewed.
+#[inline(always)]
+fn take<Q: Drop>(
     lane: &mut Lane<Q>,
-    selector: Cpu,
-    cpu: Cpu,
-    choice: Choice,
+    selects: bool,
+    chosen: Option<Pid>,
+    is_fair: bool,
     occupation: u8,
     renews: bool,
 )
-    ensures state { (room : RoomState) (cookie : ℕ) → choice ≡ choice_at room cookie cpu → occupation ≡ occupation_of room cookie →
+    ensures state { (room : RoomState) (cookie selector cpu : ℕ) → chosen ≡ pid_of (choice room cookie cpu) →
+        is_fair ≡ is_fair_task (choice room cookie cpu) → selects ≡ (cpu == selector) → occupation ≡ occupation_of room cookie →
         renews ≡ renews_snapshots room cookie → lane_state lane.new ≡ sibling_after_selection room cookie selector cpu (lane_state lane.old) }
     ensures own { own_of lane.new ≡ own_of lane.old }
 {
-    let runs_it = lane.run == choice.run;
-    if cpu == selector {
-        run(lane, choice.run);
+    let runs_it = lane.run == chosen;
+    if selects {
+        run(lane, chosen);
     } else if runs_it {
         lane.waiting = None;
     } else {
-        lane.waiting = Some(choice.run);
+        lane.waiting = Some(chosen);
         lane.pending = true;
     }
-    if choice.run.is_none() {
+    if chosen.is_none() {
         lane.idle_occupation = occupation;
     }
-    if choice.is_fair && renews {
+    if is_fair && renews {
         lane.snapshot = lane.least;
+    }
+}
+
+/// It gets this in a selection for the core, where it is online. The tests say whether it makes the selection itself,
+/// and whether snapshots are renewed.
+pub fn hand<Q: Drop>(
+    lane: &mut Lane<Q>,
+    selects: bool,
+    given: &Choice,
+    occupation: u8,
+    renews: bool,
+)
+    ensures state { (room : RoomState) (cookie selector cpu : ℕ) → given.now ≡ choice_of (choice room cookie cpu) →
+        selects ≡ (cpu == selector) → occupation ≡ occupation_of room cookie → renews ≡ renews_snapshots room cookie →
+        lane_state lane.new ≡ sibling_after_selection room cookie selector cpu (lane_state lane.old) }
+    ensures own { own_of lane.new ≡ own_of lane.old }
+{
+    match given.run() {
+        None => take(lane, selects, None, false, occupation, renews),
+        Some(pid) => take(lane, selects, Some(pid), given.is_fair(), occupation, renews),
     }
 }

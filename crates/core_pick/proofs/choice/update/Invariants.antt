@@ -4,16 +4,18 @@ use Rattle.cs_types.specs.Room.{RoomState}
 use Rattle.cs_types.proofs.Selections.{numbered_after_selection}
 use Rattle.task_table.specs.Table.{IsSound as IsTable}
 use Rattle.core_lanes.specs.Lanes.{lane_state}
-use Rattle.core_pick.specs.Choice.{IsPlan, own_of, task_after_choices}
+use Rattle.core_pick.specs.Choice.{IsPlan, own_of}
+use Rattle.core_pick.proofs.Remembered.{hits, remembering}
 use Rattle.core_pick.proofs.choice.update.Given as goal
 
 abbrev pub invariant-loop-cpu : goal.invariant-loop-cpu
 invariant-loop-cpu g l =
-    let states = map lane_state l.initial.lanes in
+    let before = map lane_state l.initial.lanes in
     record {
-      states : (room : RoomState) (core : ℕ) → room.siblings ≡ states → IsPlan room core l.choices l.occupation l.renews →
-          map lane_state l.lanes ≡ map (numbered_after_selection room core l.selector) (enumerate_from 0 (take l.cpu states)) ++ drop l.cpu states;
+      states : (room : RoomState) (core : ℕ) → room.siblings ≡ before → IsPlan room core l.choices l.occupation l.renews →
+          map lane_state l.lanes ≡ map (numbered_after_selection room core l.selector) (enumerate_from 0 (take l.cpu before)) ++ drop l.cpu before;
       own : map own_of l.lanes ≡ map own_of l.initial.lanes;
       sound : IsTable l.tasks;
-      so_far : l.tasks ≡ record l.initial.tasks { tasks = map (task_after_choices (take l.cpu l.choices) l.occupation) l.initial.tasks.tasks };
+      so_far : (room : RoomState) (core : ℕ) → room.siblings ≡ before → IsPlan room core l.choices l.occupation l.renews →
+          l.tasks ≡ record l.initial.tasks { tasks = map (remembering (hits room core) l.occupation l.cpu) l.initial.tasks.tasks };
     }

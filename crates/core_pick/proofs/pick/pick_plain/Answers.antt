@@ -5,13 +5,13 @@ use Rattle.cs_types.specs.declared.reply.Pick.{Pick}
 use Rattle.std.specs.Prelude.{◌==◌}
 use Rattle.cs_types.specs.Room.{sibling_of}
 use Rattle.cs_types.specs.Order.{fair_class}
-use Rattle.cs_types.specs.Selection.{pid_of, snapshot_of, first_on, is_fair_task, running}
+use Rattle.cs_types.specs.Selection.{pid_of, first_on, is_fair_task, running}
 use Rattle.core_lanes.specs.Lanes.{at, lane_state, room_of}
 use Rattle.core_lanes.specs.Numbers.{Numbers, numbers_of, touched}
 use Rattle.core_lanes.proofs.Stays.{lane_at, number_of, queue_of, numbers_kept, queues_kept, alike_stays, both_stay}
 use Rattle.core_pick.specs.declared.lead.First.{First}
 use Rattle.core_pick.specs.Choice.{run_of}
-use Rattle.core_pick.proofs.Choices.{run_of-kept_of, fair-kept_of}
+use Rattle.core_pick.proofs.Choices.{run_of-choice_of, is_fair-choice_of}
 use Rattle.core_pick.proofs.pick.pick_plain.Goals as goal
 
 pub returns : goal.returns
@@ -26,13 +26,13 @@ returns g c now table is_first =
     let own = numbers_kept lanes cpu lane after is (ap number_of c.run_first.ensures) in
     record {
       pick = λ beside.
-          let run = ap (λ (kept : First). kept.pid) (is_first (at now beside)) in
+          let run = ap (λ (kept : First). kept.choice.pid) (is_first (at now beside)) in
           λ i. let pick : Pick = record { kind = Plain; run = run i; core = 0; forced = 0 } in pick;
       room = λ beside.
           let room = room_of (at now beside) (old, table) in
           let first = is_first (at now beside) in
-          let run = c.run.ensures ∙ ap run_of first ∙ run_of-kept_of (snapshot_of room cpu) (first_on room cpu) in
-          let fair = c.is_fair.ensures ∙ ap (λ (kept : First). kept.class == fair_class) first ∙ fair-kept_of (first_on room cpu) in
+          let run = c.run.ensures ∙ ap (λ (kept : First). run_of kept.choice) first ∙ run_of-choice_of (first_on room cpu) in
+          let fair = c.is_fair.ensures ∙ ap (λ (kept : First). kept.choice.class == fair_class) first ∙ is_fair-choice_of (first_on room cpu) in
           let was = sym (lane_at lanes cpu lane c.requires.cpu is) in
           let state : lane_state after ≡ record (running (sibling_of room cpu) (pid_of (first_on room cpu))) { snapshot = cond (is_fair_task (first_on room cpu)) (sibling_of room cpu).least (sibling_of room cpu).snapshot } =
           ap lane_state c.run_first.ensures ∙ (λ i. record (running (was i) (run i)) { snapshot = cond (fair i) (was i).least (was i).snapshot }) in

@@ -14,15 +14,12 @@ use Rattle.core_lanes.specs.Changes.{Kept}
 use Rattle.core_lanes.proofs.Stays.{number_of, queues_kept, alike_stays, both_stay}
 use Rattle.core_pick.proofs.pick.select.Goals as goal
 
-pub lead_cookie-cookie-requires-clause-firsts : goal.lead_cookie-cookie-requires-clause-firsts
-lead_cookie-cookie-requires-clause-firsts g c beside = c.as_slice-firsts.ensures.value ∙ c.ask.ensures.each beside
-
 pub select_for-run-requires : goal.select_for-run-requires
 select_for-run-requires g c = record {
   may = record {
     at = record { cpu = c.requires.may.cpu; agree = c.requires.may.agree };
-    firsts_are = λ beside. c.as_slice-firsts.ensures.value ∙ c.ask.ensures.each beside;
-    lead = λ beside. c.lead_cookie-cookie.ensures beside;
+    firsts_are = λ beside. c.as_mut_slice.ensures.value ∙ c.ask-cookie.ensures.each beside;
+    lead = λ beside. c.ask-cookie.ensures.lead beside;
     clock = c.requires.may.clock;
   };
 }
@@ -51,7 +48,7 @@ returns-clause-schedules g c =
     record {
       pick = λ beside.
           let room = room_of (at now beside) (c.args.core.now, c.args.table.now) in
-          let core = c.lead_cookie-cookie.ensures (at now beside) in
+          let core = c.ask-cookie.ensures.lead (at now beside) in
           let run = c.unwrap_or.ensures
           ∙ ap (λ pid. unwrap_or pid 0) (c.select_for-run.ensures.selects.gets (at now beside) ∙ ap (λ n. pid_of (choice room n cpu)) core) in
           let forced = c.count.ensures.count
@@ -61,7 +58,7 @@ returns-clause-schedules g c =
           λ i. let pick : Pick = record { kind = Selected; run = run i; core = core i; forced = forced i } in pick;
       room = λ beside.
           let room = room_of (at now beside) (c.args.core.now, c.args.table.now) in
-          let core = c.lead_cookie-cookie.ensures (at now beside) in
+          let core = c.ask-cookie.ensures.lead (at now beside) in
           let same = map-set_same lane_state lanes cpu numbered lane (ap lane_state is) in
           (λ i. record (room_of (at now beside) (touched_core, c.select_for-run.new.table)) { siblings = same i })
           ∙ touch.room (at now beside)
@@ -75,4 +72,4 @@ returns-clause-schedules g c =
 
 pub returns-clause-counted : goal.returns-clause-counted
 returns-clause-counted g c longest longer =
-    omega (arith, c.ask.ensures.counted longest longer, c.select_for-run.ensures.counted longest longer)
+    omega (arith, c.ask-cookie.ensures.counted longest longer, c.select_for-run.ensures.counted longest longer)

@@ -1,60 +1,103 @@
-use Rattle.std.proofs.Common.{◌≡◌, ◌∙◌, ◌+◌, ◌*◌, ◌<◌, ◌≤◌, cond, [], ◌∷◌, ◌++◌, ap, sym, subst, map, length, arith}
+use Rattle.std.proofs.Common.{◌≡◌, ◌∙◌, ℕ, zero, suc, ◌+◌, ◌-◌, ◌*◌, ◌<◌, ◌≤◌, ◌^◌, [], ◌∷◌, ◌++◌, List, ap, sym, subst, cond, map, length, append_assoc, arith}
 use Rattle.std.specs.List.{range_with_len}
-use Rattle.std.proofs.lemmas.Bool.{eq-eqb, ne_eqb}
 use Rattle.std.proofs.lemmas.List.{length-map}
-use Rattle.std.proofs.lemmas.List.FromFn.{map-range_with_len_more}
-use Rattle.arrayvec.specs.ArrayVec.{ArrayVec, array_vec_len}
-use Rattle.core_lanes.specs.Queued.{queued_among}
+use Rattle.cs_types.specs.Selection.{first_on, cookie_of}
 use Rattle.core_lanes.specs.Lanes.{lane_state, room_of}
+use Rattle.core_lanes.proofs.Stays.{policies_of}
+use Rattle.sibling_priority.specs.Offers.{IsFirst}
+use Rattle.core_pick.specs.declared.choice.Choice.{Choice}
 use Rattle.core_pick.specs.declared.lead.First.{First}
-use Rattle.core_pick.specs.Choice.{first_at}
-use Rattle.core_pick.proofs.Asked.{one_more_but_own, all_but_own, spared}
+use Rattle.core_pick.specs.Choice.{choice_of, kept_in, is_above, lead_of}
+use Rattle.core_pick.proofs.Asked.{all_but_own}
+use Rattle.core_pick.proofs.Leads.{map-append, higher-kept_in, is_first, lead_of-append, lead_of-one, lead_of-all, of_lead}
+use Rattle.core_pick.proofs.Ranges.{low_snapshots}
 use Rattle.core_pick.proofs.selection.ask.Goals as goal
-use Rattle.core_pick.proofs.selection.ask.Goals.{then-cpu-own, else-cpu-own}
 
-pub loop-cpu-preserved : goal.loop-cpu-preserved
-loop-cpu-preserved g c =
-    let cpu = c.loop-cpu.cpu in
-    elim c.if-cpu-own.branch [
-      | then-cpu-own w ↦ record {
-        counted = omega (arith, ap array_vec_len w.firsts-is, w.push.ensures.len, c.loop-cpu.invariant.counted);
-        made = λ beside.
-            let room = room_of beside (c.args.core.now, c.args.table.now) in
-            ap (λ (firsts : ArrayVec First). firsts.items) w.firsts-is ∙ w.push.ensures.items
-            ∙ (λ i. c.loop-cpu.invariant.made beside i ++ (c.requires.first beside ∙ ap (first_at room) (sym w.if-cpu-own.true)) i ∷ [])
-            ∙ sym (map-range_with_len_more (first_at room) 0 cpu cpu (omega arith));
-        asked = λ longest longer.
-            let most = g.Q.SiblingQueue.most_compared longest in
-            one_more_but_own c.args.own cpu _ _ _ 0 most (omega arith) (c.loop-cpu.invariant.asked longest longer)
-            (subst (λ b. c.if-cpu-own.steps ≤ c.loop-cpu.steps + cond b 0 0) (sym (eq-eqb cpu c.args.own w.if-cpu-own.true)) (omega (arith, w.steps-is)));
-      }
-      | else-cpu-own w ↦ record {
-        counted = omega (arith, ap array_vec_len w.firsts-is, w.push-else-cpu-own.ensures.len, c.loop-cpu.invariant.counted);
-        made = λ beside.
-            let room = room_of beside (c.args.core.now, c.args.table.now) in
-            ap (λ (firsts : ArrayVec First). firsts.items) w.firsts-is ∙ w.push-else-cpu-own.ensures.items
-            ∙ (λ i. c.loop-cpu.invariant.made beside i ++ w.first_at.ensures.first beside i ∷ [])
-            ∙ sym (map-range_with_len_more (first_at room) 0 cpu cpu (omega arith));
-        asked = λ longest longer.
-            let most = g.Q.SiblingQueue.most_compared longest in
-            let below : cpu < length c.args.core.now.lanes.items = omega (arith, c.loop-cpu-test.true, c.len-cpu-end.ensures, c.args.core.now.lanes.ok.0) in
-            one_more_but_own c.args.own cpu _ _ _ _ most (g.met.Q.SiblingQueue.rises _ _ (longer cpu below)) (c.loop-cpu.invariant.asked longest longer)
-            (subst (λ b. c.if-cpu-own.steps ≤ c.loop-cpu.steps + cond b 0 (g.Q.SiblingQueue.most_compared (length (queued_among c.args.table.now.tasks cpu))))
-            (sym (ne_eqb cpu c.args.own w.if-cpu-own.false)) (omega (arith, w.steps-is, w.first_at.ensures.counted)));
-      }
-    ]
+-- the siblings in two parts, and the one between
+range-append : (a m k : ℕ) → range_with_len a (m + k) ≡ range_with_len a m ++ range_with_len (a + m) k
+range-append a zero k =
+    let same : a ≡ a + zero = omega arith in
+    let none : zero + k ≡ k = omega arith in
+    ap (range_with_len a) none ∙ ap (λ b. range_with_len b k) same
+range-append a (suc m) k =
+    let same : a + 1 + m ≡ a + suc m = omega arith in
+    let more : suc m + k ≡ suc (m + k) = omega arith in
+    ap (range_with_len a) more ∙ ap (λ (ns : List ℕ). a ∷ ns) (range-append (a + 1) m k ∙ ap (λ b. range_with_len (a + 1) m ++ range_with_len b k) same)
+
+own_between : (own count : ℕ) → own < count → range_with_len 0 own ++ own ∷ range_with_len (own + 1) (count - (own + 1)) ≡ range_with_len 0 count
+own_between own count below =
+    let there : own ≡ 0 + own = omega arith in
+    let all : own + suc (count - (own + 1)) ≡ count = omega arith in
+    ap (λ from. range_with_len 0 own ++ range_with_len from (suc (count - (own + 1)))) there
+    ∙ sym (range-append 0 own (suc (count - (own + 1)))) ∙ ap (range_with_len 0) all
+
+pub overflow_cast-len : goal.overflow_cast-len
+overflow_cast-len g c = omega (arith, c.len.ensures, c.args.core.now.lanes.ok.0, c.args.core.now.few)
+
+pub overflow_add-own : goal.overflow_add-own
+overflow_add-own g c = omega (arith, c.requires.may.at.cpu, c.args.core.now.few)
+
+pub push-requires : goal.push-requires
+push-requires g c = omega (arith, c.ask_from-before.ensures.so_far, c.requires.may.at.cpu, c.args.core.now.few)
+
+pub ask_from-before-requires-clause-may : goal.ask_from-before-requires-clause-may
+ask_from-before-requires-clause-may g c cpu below = record { at = record { cpu = below; agree = c.requires.may.at.agree }; low = c.requires.may.low }
+
+pub ask_from-lead-requires-clause-so_far : goal.ask_from-lead-requires-clause-so_far
+ask_from-lead-requires-clause-so_far g c = omega (arith, c.push.ensures.len, c.ask_from-before.ensures.so_far)
+
+pub ask_from-lead-requires-clause-order : goal.ask_from-lead-requires-clause-order
+ask_from-lead-requires-clause-order g c = omega (arith, c.len.ensures, c.args.core.now.lanes.ok.0, c.requires.may.at.cpu)
+
+pub ask_from-lead-requires-clause-within : goal.ask_from-lead-requires-clause-within
+ask_from-lead-requires-clause-within g c = omega (arith, c.len.ensures, c.args.core.now.lanes.ok.0)
+
+pub ask_from-lead-requires-clause-may : goal.ask_from-lead-requires-clause-may
+ask_from-lead-requires-clause-may g c cpu below = record { at = record { cpu = below; agree = c.requires.may.at.agree }; low = c.requires.may.low }
 
 pub returns-clause-each : goal.returns-clause-each
 returns-clause-each g c beside =
-    let core = c.args.core.now in
-    let room = room_of beside (core, c.args.table.now) in
-    let all : c.loop-cpu.cpu ≡ length (map lane_state core.lanes.items) = omega (arith, core.lanes.ok.0, c.loop-cpu-test.false, c.loop-cpu.auto.cpu-end, length-map core.lanes.items lane_state) in
-    c.loop-cpu.invariant.made beside ∙ ap (λ n. map (first_at room) (range_with_len 0 n)) all
+    let own = c.args.own in
+    let room = room_of beside (c.args.core.now, c.args.table.now) in
+    let offer : ℕ → Choice = λ cpu. choice_of (first_on room cpu) in
+    let whole : own - 0 ≡ own = omega arith in
+    let count : c.len.result ≡ length room.siblings = c.len.ensures ∙ c.args.core.now.lanes.ok.0 ∙ sym (length-map c.args.core.now.lanes.items lane_state) in
+    let below : own < length room.siblings = omega (arith, c.requires.may.at.cpu, length-map c.args.core.now.lanes.items lane_state) in
+    let before = c.ask_from-before.ensures.firsts beside ∙ (λ i. c.requires.empty i ++ map offer (range_with_len 0 (whole i))) in
+    let first = ap (λ (first : First). first.choice) (c.requires.first beside) in
+    c.ask_from-lead.ensures.firsts beside
+    ∙ (λ i. (c.push.ensures.items ∙ (λ j. before j ++ first j ∷ [])) i ++ map offer (range_with_len (own + 1) (count i - (own + 1))))
+    ∙ append_assoc (map offer (range_with_len 0 own)) (offer own ∷ []) (map offer (range_with_len (own + 1) (length room.siblings - (own + 1))))
+    ∙ sym (map-append offer (range_with_len 0 own) (own ∷ range_with_len (own + 1) (length room.siblings - (own + 1))))
+    ∙ ap (map offer) (own_between own (length room.siblings) below)
+
+pub returns-clause-lead : goal.returns-clause-lead
+returns-clause-lead g c beside =
+    let own = c.args.own in
+    let room = room_of beside (c.args.core.now, c.args.table.now) in
+    let may = c.requires.may in
+    let whole : own - 0 ≡ own = omega arith in
+    let some = own ∷ range_with_len (own + 1) (c.len.result - (own + 1)) in
+    let rest = range_with_len 0 (own - 0) in
+    let count : c.len.result ≡ length room.siblings = c.len.ensures ∙ c.args.core.now.lanes.ok.0 ∙ sym (length-map c.args.core.now.lanes.items lane_state) in
+    let from : suc (c.len.result - (own + 1)) ≡ length room.siblings - own = omega (arith, count, may.at.cpu, length-map c.args.core.now.lanes.items lane_state) in
+    let each = is_first room (policies_of (c.args.core.now, c.args.table.now) may.at.agree) in
+    let low = low_snapshots (map lane_state c.args.core.now.lanes.items) may.low.snapshots in
+    let lead = c.ask_from-lead.ensures.lead beside (own ∷ [])
+    (c.offered-offer.ensures beside c.args.table.now (c.requires.first beside) ∙ ap (kept_in room) (sym (lead_of-one room own))) in
+    let before = c.ask_from-before.ensures.lead beside [] c.idle.ensures in
+    ap (λ (first : First). first.choice.cookie)
+    (c.or_higher.ensures
+    ∙ (λ i. let one : First = lead i in let other : First = before i in cond (is_above other one) other one)
+    ∙ higher-kept_in room low (lead_of room some) (lead_of room rest) (of_lead room IsFirst tt each some) (of_lead room IsFirst tt each rest))
+    ∙ ap cookie_of (sym (lead_of-append room some rest) ∙ (λ i. lead_of room (range_with_len own (from i) ++ range_with_len 0 (whole i))) ∙ lead_of-all room own)
 
 pub returns-clause-counted : goal.returns-clause-counted
 returns-clause-counted g c longest longer =
-    let core = c.args.core.now in
+    let own = c.args.own in
     let most = g.Q.SiblingQueue.most_compared longest in
-    let all : c.loop-cpu.cpu ≡ length core.lanes.items = omega (arith, core.lanes.ok.0, c.loop-cpu-test.false, c.loop-cpu.auto.cpu-end) in
-    all_but_own c.args.own (length core.lanes.items) _ _ most c.requires.may.at.cpu
-    (subst (λ n. c.loop-cpu.steps + spared c.args.own n most ≤ c.args.steps.now + n * most) all (c.loop-cpu.invariant.asked longest longer))
+    let whole : own - 0 ≡ own = omega arith in
+    let count : c.len.result ≡ length c.args.core.now.lanes.items = c.len.ensures ∙ c.args.core.now.lanes.ok.0 in
+    all_but_own own (length c.args.core.now.lanes.items) c.args.steps.now c.ask_from-before.new.steps c.ask_from-lead.new.steps most c.requires.may.at.cpu
+    (subst (λ n. c.ask_from-before.new.steps ≤ c.args.steps.now + n * most) whole (c.ask_from-before.ensures.counted longest longer))
+    (subst (λ n. c.ask_from-lead.new.steps ≤ c.ask_from-before.new.steps + (n - (own + 1)) * most) count (c.ask_from-lead.ensures.counted longest longer))

@@ -1,62 +1,103 @@
-use Rattle.std.proofs.Common.{◌≡◌, ◌∙◌, ◌+◌, ◌*◌, ◌<◌, ◌≤◌, ap, refl, subst, map, length, arith}
-use Rattle.std.specs.Prelude.{◌&&◌, is_some}
-use Rattle.std.specs.List.{range_with_len}
-use Rattle.std.proofs.lemmas.List.{length-map}
-use Rattle.std.proofs.lemmas.List.FromFn.{map-range_with_len_more}
-use Rattle.core_lanes.specs.Lanes.{lane_state, room_of}
-use Rattle.core_pick.specs.Choice.{choice_at}
-use Rattle.core_pick.proofs.Asked.{one_more}
+use Rattle.std.proofs.Common.{◌≡◌, ◌∙◌, ℕ, ◌+◌, ◌*◌, ◌<◌, ◌≤◌, ◌++◌, Fits, w8, List, ap, refl, sym, subst, cond, map, take, drop, length, get_or, arith}
+use Rattle.std.specs.Prelude.{count_by}
+use Rattle.std.specs.List.{range_with_len, enumerate_from}
+use Rattle.std.proofs.Math.Seq.{take-length, drop-length}
+use Rattle.std.proofs.lemmas.List.{append-nil, length-map}
+use Rattle.std.proofs.lemmas.List.FromFn.{length-map-range_with_len}
+use Rattle.cs_types.specs.Selection.{first_on, choice}
+use Rattle.core_lanes.specs.Lanes.{Beside, lane_state, room_of}
+use Rattle.core_lanes.proofs.Lists.{placed_at, placed_more}
 use Rattle.core_lanes.proofs.Stays.{some_beside}
-use Rattle.std.specs.Int.{from_bool}
-use Rattle.core_pick.proofs.Choices.{kept_is, count_more, few_counted, one_at_most}
-use Rattle.core_pick.proofs.Leads.{many}
+use Rattle.core_pick.specs.declared.choice.Choice.{Choice}
+use Rattle.core_pick.specs.Choice.{choice_of, gets_none, gets_task}
+use Rattle.core_pick.proofs.Asked.{one_more}
+use Rattle.core_pick.proofs.Choices.{at_number, map-enumerate_from, count_more, few_counted, all_forced, all_occupied}
+use Rattle.core_pick.proofs.selection.choose.Given.{Over}
 use Rattle.core_pick.proofs.selection.choose.Goals as goal
+use Rattle.core_pick.proofs.selection.choose.Goals.{Start}
 
-pub overflow_add-counts : goal.overflow_add-counts
-overflow_add-counts g c =
-    few_counted (λ choice. choice.is_forced) c.loop-cpu.choices.items c.loop-cpu.counts.forced c.from.result c.loop-cpu.cpu (length c.args.core.now.lanes.items)
-    c.loop-cpu.invariant.counts.forced c.loop-cpu.invariant.counted (omega (arith, c.loop-cpu-test.true, c.len-cpu-end.ensures, c.args.core.now.lanes.ok.0)) c.args.core.now.few
-    (one_at_most c.choice_at-choice.result.is_forced c.from.result c.from.ensures)
+-- what a read past the last would give
+abbrev no_choice : Choice
+no_choice = record { cookie = 0; pid = 0; class = 0 }
 
-pub overflow_add-counts-in-loop-cpu : goal.overflow_add-counts-in-loop-cpu
-overflow_add-counts-in-loop-cpu g c =
-    few_counted (λ choice. choice.is_online && is_some choice.run) c.loop-cpu.choices.items c.loop-cpu.counts.occupation c.from-in-loop-cpu.result c.loop-cpu.cpu (length c.args.core.now.lanes.items)
-    c.loop-cpu.invariant.counts.occupation c.loop-cpu.invariant.counted (omega (arith, c.loop-cpu-test.true, c.len-cpu-end.ensures, c.args.core.now.lanes.ok.0)) c.args.core.now.few
-    (one_at_most c.is_chosen.result c.from-in-loop-cpu.result c.from-in-loop-cpu.ensures)
+-- there are as many as siblings, and those are few
+module _ (g : Over) (c : Start g) where
+  many : length c.args.choices.now ≡ length c.args.core.now.lanes.items
+  many =
+      let room = room_of some_beside (c.args.core.now, c.args.table.now) in
+      ap length (c.requires.firsts some_beside) ∙ length-map-range_with_len (λ cpu. choice_of (first_on room cpu)) 0 (length room.siblings) ∙ length-map c.args.core.now.lanes.items lane_state
 
-pub bounds-firsts-cpu : goal.bounds-firsts-cpu
-bounds-firsts-cpu g c =
-    let core = c.args.core.now in
-    let each = many (room_of some_beside (core, c.args.table.now)) c.args.firsts.now (c.requires.firsts some_beside) in
-    omega (arith, core.lanes.ok.0, c.loop-cpu-test.true, c.len-cpu-end.ensures, each, length-map core.lanes.items lane_state)
+pub overflow_cast-cpu : goal.overflow_cast-cpu
+overflow_cast-cpu g c = omega (arith, c.loop-cpu-test.true, many g (goal.at.overflow_cast-cpu g c).Start, c.args.core.now.few)
+
+pub settle-counts-requires-clause-at : goal.settle-counts-requires-clause-at
+settle-counts-requires-clause-at g c =
+    record { cpu = omega (arith, c.loop-cpu-test.true, many g (goal.at.settle-counts-requires-clause-at g c).Start); agree = c.requires.agree }
+
+pub settle-counts-requires-clause-forced : goal.settle-counts-requires-clause-forced
+settle-counts-requires-clause-forced g c =
+    let room = room_of some_beside (c.args.core.now, c.args.table.now) in
+    omega (arith, c.loop-cpu.invariant.forced some_beside, few_counted (gets_none room c.args.cookie) c.loop-cpu.cpu, c.loop-cpu-test.true, many g (goal.at.settle-counts-requires-clause-forced g c).Start, c.args.core.now.few)
+
+pub settle-counts-requires-clause-occupation : goal.settle-counts-requires-clause-occupation
+settle-counts-requires-clause-occupation g c =
+    let room = room_of some_beside (c.args.core.now, c.args.table.now) in
+    omega (arith, c.loop-cpu.invariant.occupation some_beside, few_counted (gets_task room c.args.cookie) c.loop-cpu.cpu, c.loop-cpu-test.true, many g (goal.at.settle-counts-requires-clause-occupation g c).Start, c.args.core.now.few)
 
 pub loop-cpu-preserved : goal.loop-cpu-preserved
-loop-cpu-preserved g c = record {
-  counted = omega (arith, c.push.ensures.len, c.loop-cpu.invariant.counted);
-  counts = record {
-    forced = count_more (λ choice. choice.is_forced) c.loop-cpu.choices.items c.choice_at-choice.result c.push.ensures.items c.loop-cpu.invariant.counts.forced c.from.ensures;
-    occupation = count_more (λ choice. choice.is_online && is_some choice.run) c.loop-cpu.choices.items c.choice_at-choice.result c.push.ensures.items c.loop-cpu.invariant.counts.occupation
-        (c.from-in-loop-cpu.ensures ∙ ap from_bool c.is_chosen.ensures);
-  };
-  made = λ beside.
-      let room = room_of beside (c.args.core.now, c.args.table.now) in
-      let below : c.loop-cpu.cpu < length room.siblings = omega (arith, c.loop-cpu-test.true, c.len-cpu-end.ensures, c.args.core.now.lanes.ok.0, length-map c.args.core.now.lanes.items lane_state) in
-      let made = c.choice_at-choice.ensures.choice beside (kept_is room c.args.firsts.now (c.requires.firsts beside) c.loop-cpu.cpu _ below) in
-      rw (c.push.ensures.items, c.loop-cpu.invariant.made beside, made, map-range_with_len_more (choice_at room c.args.cookie) 0 c.loop-cpu.cpu c.loop-cpu.cpu (omega arith)) refl;
-  asked = λ longest longer.
-      let below : c.loop-cpu.cpu < length c.args.core.now.lanes.items = omega (arith, c.loop-cpu-test.true, c.len-cpu-end.ensures, c.args.core.now.lanes.ok.0) in
-      let rises = g.met.Q.SiblingQueue.rises _ _ (longer c.loop-cpu.cpu below) in
-      one_more _ _ _ c.loop-cpu.cpu _ (c.loop-cpu.invariant.asked longest longer) (omega (arith, c.choice_at-choice.ensures.counted, rises));
-}
+loop-cpu-preserved g c =
+    let cpu = c.loop-cpu.cpu in
+    let core = c.args.cookie in
+    let below : cpu < length c.args.core.now.lanes.items = omega (arith, c.loop-cpu-test.true, many g (goal.at.loop-cpu-preserved g c).Start) in
+    let was = λ (beside : Beside).
+    let room = room_of beside (c.args.core.now, c.args.table.now) in
+    let inside : cpu < length room.siblings = omega (arith, below, length-map c.args.core.now.lanes.items lane_state) in
+    let gets : ℕ × Choice → Choice = λ numbered. choice_of (choice room core numbered.0) in
+    ap (λ (choices : List Choice). get_or choices cpu no_choice) (c.loop-cpu.invariant.made beside)
+    ∙ placed_at gets 0 c.args.choices.now cpu no_choice c.loop-cpu-test.true
+    ∙ ap (λ (choices : List Choice). get_or choices cpu no_choice) (c.requires.firsts beside)
+    ∙ at_number (λ cpu. choice_of (first_on room cpu)) (length room.siblings) cpu no_choice inside in
+    record {
+      made = λ beside.
+          let room = room_of beside (c.args.core.now, c.args.table.now) in
+          let gets : ℕ × Choice → Choice = λ numbered. choice_of (choice room core numbered.0) in
+          placed_more gets c.args.choices.now c.loop-cpu.choices cpu c.settle-counts.new.given no_choice c.loop-cpu-test.true (c.loop-cpu.invariant.made beside)
+          (c.settle-counts.ensures.gets beside (was beside));
+      forced = λ beside.
+          let p = gets_none (room_of beside (c.args.core.now, c.args.table.now)) core in
+          (c.settle-counts.ensures.counts beside (was beside)).forced ∙ ap (λ n. n + cond (p cpu) 1 0) (c.loop-cpu.invariant.forced beside) ∙ sym (count_more p cpu);
+      occupation = λ beside.
+          let p = gets_task (room_of beside (c.args.core.now, c.args.table.now)) core in
+          (c.settle-counts.ensures.counts beside (was beside)).occupation ∙ ap (λ n. n + cond (p cpu) 1 0) (c.loop-cpu.invariant.occupation beside) ∙ sym (count_more p cpu);
+      asked = λ longest longer.
+          let rises = g.met.Q.SiblingQueue.rises _ _ (longer cpu below) in
+          one_more _ _ _ cpu _ (c.loop-cpu.invariant.asked longest longer) (omega (arith, c.settle-counts.ensures.counted, rises));
+    }
 
 pub returns-clause-each : goal.returns-clause-each
 returns-clause-each g c beside =
-    let core = c.args.core.now in
-    let all : c.loop-cpu.cpu ≡ length (map lane_state core.lanes.items) = omega (arith, core.lanes.ok.0, c.loop-cpu-test.false, c.loop-cpu.auto.cpu-end, length-map core.lanes.items lane_state) in
-    c.loop-cpu.invariant.made beside ∙ ap (λ n. map (choice_at (room_of beside (core, c.args.table.now)) c.args.cookie) (range_with_len 0 n)) all
+    let room = room_of beside (c.args.core.now, c.args.table.now) in
+    let choices = c.args.choices.now in
+    let gets : ℕ × Choice → Choice = λ numbered. choice_of (choice room c.args.cookie numbered.0) in
+    let get : ℕ → Choice = λ cpu. choice_of (choice room c.args.cookie cpu) in
+    let all : c.loop-cpu.cpu ≡ length choices = omega (arith, c.loop-cpu-test.false, c.loop-cpu.auto.cpu-end) in
+    let as_many : length choices ≡ length room.siblings = omega (arith, many g (goal.at.returns-clause-each g c).Start, length-map c.args.core.now.lanes.items lane_state) in
+    c.loop-cpu.invariant.made beside
+    ∙ ap (λ n. map gets (enumerate_from 0 (take n choices)) ++ drop n choices) all
+    ∙ (λ i. map gets (enumerate_from 0 (take-length choices i)) ++ drop-length choices i)
+    ∙ append-nil (map gets (enumerate_from 0 choices))
+    ∙ map-enumerate_from get 0 choices ∙ ap (λ n. map get (range_with_len 0 n)) as_many
+
+pub returns-clause-counts : goal.returns-clause-counts
+returns-clause-counts g c beside =
+    let room = room_of beside (c.args.core.now, c.args.table.now) in
+    let all : c.loop-cpu.cpu ≡ length room.siblings = omega (arith, c.loop-cpu-test.false, c.loop-cpu.auto.cpu-end, many g (goal.at.returns-clause-counts g c).Start, length-map c.args.core.now.lanes.items lane_state) in
+    record {
+      forced = c.loop-cpu.invariant.forced beside ∙ ap (λ n. count_by (gets_none room c.args.cookie) (range_with_len 0 n)) all ∙ all_forced room c.args.cookie;
+      occupation = c.loop-cpu.invariant.occupation beside ∙ ap (λ n. count_by (gets_task room c.args.cookie) (range_with_len 0 n)) all ∙ all_occupied room c.args.cookie;
+    }
 
 pub returns-clause-counted : goal.returns-clause-counted
 returns-clause-counted g c longest longer =
-    let core = c.args.core.now in
-    let all : c.loop-cpu.cpu ≡ length core.lanes.items = omega (arith, core.lanes.ok.0, c.loop-cpu-test.false, c.loop-cpu.auto.cpu-end) in
+    let all : c.loop-cpu.cpu ≡ length c.args.core.now.lanes.items = omega (arith, c.loop-cpu-test.false, c.loop-cpu.auto.cpu-end, many g (goal.at.returns-clause-counted g c).Start) in
     subst (λ n. c.loop-cpu.steps ≤ c.args.steps.now + n * g.Q.SiblingQueue.most_compared longest) all (c.loop-cpu.invariant.asked longest longer)

@@ -13,6 +13,7 @@ use Rattle.core_lanes.specs.Lanes.{lane_state, room_of}
 use Rattle.core_lanes.proofs.Stays.{some_beside, lane_at}
 use Rattle.core_pick.specs.Choice.{kept_of}
 use Rattle.core_pick.proofs.Choices.{All-firsts}
+use Rattle.core_pick.proofs.Leads.{kept_at_home}
 use Rattle.core_pick.proofs.Ranges.{low_snapshots}
 use Rattle.core_pick.proofs.selection.first_at.Goals as goal
 
@@ -49,3 +50,4 @@ returns-clause-first g c beside =
     let own = sym (lane_at lanes c.args.cpu c.index.result.now c.requires.at.cpu c.index.ensures) in
     c.kept_of.ensures (first_on room c.args.cpu) (c.as_ref.ensures.value ∙ c.first_on-first.ensures.first beside)
     ∙ (λ i. let sibling : SiblingState = own i in kept_of sibling.snapshot (first_on room c.args.cpu))
+    ∙ kept_at_home room c.args.cpu

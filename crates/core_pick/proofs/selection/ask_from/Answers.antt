@@ -1,0 +1,84 @@
+use Rattle.std.proofs.Common.{◌≡◌, ◌∙◌, ℕ, suc, ◌+◌, ◌-◌, ◌*◌, ◌<◌, ◌≤◌, ◌^◌, [], ◌∷◌, ◌++◌, List, ap, sym, subst, cond, map, length, append_assoc, arith}
+use Rattle.std.specs.List.{range_with_len}
+use Rattle.std.specs.Prelude.{slice_index_or}
+use Rattle.std.proofs.lemmas.List.{append-nil}
+use Rattle.arrayvec.specs.ArrayVec.{ArrayVec}
+use Rattle.cs_types.specs.Room.{absent}
+use Rattle.cs_types.specs.Order.{outranks}
+use Rattle.cs_types.specs.Selection.{first_on, snapshot_of}
+use Rattle.core_lanes.specs.Lanes.{lane_state, room_of}
+use Rattle.core_lanes.proofs.Lists.{range_more}
+use Rattle.core_lanes.proofs.Stays.{policies_of}
+use Rattle.sibling_priority.specs.Offers.{IsFirst}
+use Rattle.core_pick.specs.declared.choice.Choice.{Choice}
+use Rattle.core_pick.specs.declared.lead.First.{First}
+use Rattle.core_pick.specs.Choice.{choice_of, kept_in, is_above, offered, lead_of, lead_in}
+use Rattle.core_pick.proofs.Asked.{one_more}
+use Rattle.core_pick.proofs.Leads.{map-append, higher-kept_in, is_first, lead_of-append, lead_of-one, of_offered, of_lead}
+use Rattle.core_pick.proofs.Ranges.{low_snapshots}
+use Rattle.core_pick.proofs.selection.ask_from.Goals as goal
+
+-- one sibling more
+range_next : (from cpu : ℕ) → from ≤ cpu → range_with_len from (cpu + 1 - from) ≡ range_with_len from (cpu - from) ++ cpu ∷ []
+range_next from cpu le =
+    let more : cpu + 1 - from ≡ suc (cpu - from) = omega arith in
+    let there : from + (cpu - from) ≡ cpu = omega arith in
+    ap (range_with_len from) more ∙ range_more from (cpu - from) ∙ ap (λ n. range_with_len from (cpu - from) ++ n ∷ []) there
+
+pub loop-cpu-init : goal.loop-cpu-init
+loop-cpu-init g c =
+    let none : c.args.from - c.args.from ≡ 0 = omega arith in
+    record {
+      counted = c.requires.so_far;
+      made = λ beside.
+          let room = room_of beside (c.args.core.now, c.args.table.now) in
+          sym (append-nil c.args.firsts.now.items) ∙ ap (λ n. c.args.firsts.now.items ++ map (λ cpu. choice_of (first_on room cpu)) (range_with_len c.args.from n)) (sym none);
+      leads = λ beside order is.
+          is ∙ ap (lead_in (room_of beside (c.args.core.now, c.args.table.now))) (sym (append-nil order) ∙ ap (λ n. order ++ range_with_len c.args.from n) (sym none));
+      asked = λ longest longer. omega arith;
+    }
+
+pub loop-cpu-preserved : goal.loop-cpu-preserved
+loop-cpu-preserved g c =
+    let cpu = c.loop-cpu.cpu in
+    let from = c.args.from in
+    let below : cpu < length c.args.core.now.lanes.items = omega (arith, c.loop-cpu-test.true, c.requires.within) in
+    let may = c.requires.may cpu below in
+    record {
+      counted = omega (arith, c.push.ensures.len, c.loop-cpu.invariant.counted);
+      made = λ beside.
+          let room = room_of beside (c.args.core.now, c.args.table.now) in
+          let offer : ℕ → Choice = λ cpu. choice_of (first_on room cpu) in
+          let first = c.first_at-first.ensures.first beside in
+          c.push.ensures.items
+          ∙ (λ i. c.loop-cpu.invariant.made beside i ++ (ap (λ (first : First). first.choice) first) i ∷ [])
+          ∙ append_assoc c.args.firsts.now.items (map offer (range_with_len from (cpu - from))) (offer cpu ∷ [])
+          ∙ ap (λ (more : List Choice). c.args.firsts.now.items ++ more) (sym (map-append offer (range_with_len from (cpu - from)) (cpu ∷ [])) ∙ ap (map offer) (sym (range_next from cpu c.loop-cpu.auto.cpu)));
+      leads = λ beside order is.
+          let room = room_of beside (c.args.core.now, c.args.table.now) in
+          let before = order ++ range_with_len from (cpu - from) in
+          let first = c.offered.ensures beside c.args.table.now (c.first_at-first.ensures.first beside) in
+          let each = is_first room (policies_of (c.args.core.now, c.args.table.now) may.at.agree) in
+          let low = low_snapshots (map lane_state c.args.core.now.lanes.items) may.low.snapshots in
+          c.or_higher-lead.ensures
+          ∙ (λ i. let lead = c.loop-cpu.invariant.leads beside order is i in let other : First = first i in cond (is_above other lead) other lead)
+          ∙ higher-kept_in room low (lead_of room before) (offered room cpu) (of_lead room IsFirst tt each before) (of_offered room IsFirst tt each cpu)
+          ∙ ap (kept_in room) ((λ i. cond (outranks (snapshot_of room) (sym (lead_of-one room cpu) i) (lead_of room before)) (sym (lead_of-one room cpu) i) (lead_of room before)) ∙ sym (lead_of-append room before (cpu ∷ [])))
+          ∙ ap (lead_in room) (append_assoc order (range_with_len from (cpu - from)) (cpu ∷ []) ∙ ap (λ (more : List ℕ). order ++ more) (sym (range_next from cpu c.loop-cpu.auto.cpu)));
+      asked = λ longest longer.
+          let rises = g.met.Q.SiblingQueue.rises _ _ (longer cpu below) in
+          let next : cpu + 1 - from ≡ (cpu - from) + 1 = omega (arith, c.loop-cpu.auto.cpu) in
+          rw next (one_more _ _ _ (cpu - from) _ (c.loop-cpu.invariant.asked longest longer) (omega (arith, c.first_at-first.ensures.counted, rises)));
+    }
+
+pub returns-clause-firsts : goal.returns-clause-firsts
+returns-clause-firsts g c beside = let there : c.args.to ≡ c.loop-cpu.cpu = omega (arith, c.loop-cpu.auto.cpu-end c.requires.order) in rw there (c.loop-cpu.invariant.made beside)
+
+pub returns-clause-lead : goal.returns-clause-lead
+returns-clause-lead g c beside order is = let there : c.args.to ≡ c.loop-cpu.cpu = omega (arith, c.loop-cpu.auto.cpu-end c.requires.order) in rw there (c.loop-cpu.invariant.leads beside order is)
+
+pub returns-clause-counted : goal.returns-clause-counted
+returns-clause-counted g c longest longer = let there : c.args.to ≡ c.loop-cpu.cpu = omega (arith, c.loop-cpu.auto.cpu-end c.requires.order) in rw there (c.loop-cpu.invariant.asked longest longer)
+
+pub returns-clause-so_far : goal.returns-clause-so_far
+returns-clause-so_far g c = omega (arith, c.loop-cpu.invariant.counted, c.loop-cpu.auto.cpu-end c.requires.order)
