@@ -16,3 +16,4 @@ pub mod Peers
 pub mod Settings
 pub mod Lives
 pub mod Runners
+pub mod Crosses

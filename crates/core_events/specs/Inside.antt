@@ -18,7 +18,7 @@ steps_of entries = map (λ entry. record { actor = entry.actor; event = entry.ev
 
 -- what it began with
 abbrev pub opening_of : {Q G : Type 0} {g : Ghosts Q} → Inside Q G g → Opening
-opening_of room = record { scenario = room.scenario; guards = room.guards }
+opening_of room = record { scenario = room.scenario.value; guards = room.guards }
 
 abbrev pub machine_of : {Q G : Type 0} {g : Ghosts Q} → Inside Q G g → Machine
 machine_of room =
@@ -34,15 +34,17 @@ most_entries scenario = length scenario.steps + scenario.siblings * scenario.sib
 
 -- the entries are the history of their steps, and the state is its fold
 pub record IsFold {Q G : Type 0} {g : Ghosts Q} (room : Inside Q G g) : Type 0 where
-  pub playable : IsPlayable room.scenario
+  pub playable : IsPlayable room.scenario.value
   pub events : AreEvents (opening_of room) room.entries.items
   pub history : room.entries.items ≡ history_of (opening_of room) (steps_of room.entries.items)
   pub fold : room_with (fold_of (opening_of room) room.entries.items).intervals room.state ≡ fold_of (opening_of room) room.entries.items
   pub numbers : state_numbers room.state ≡ numbers_at (opening_of room) (moment_of (opening_of room) room.entries.items)
   pub sound : IsSound room.state
-  pub siblings : length room.state.core.lanes.items ≡ room.scenario.siblings
+  -- the number of siblings is the scenario's, and that of the lanes
+  pub count : room.siblings ≡ room.scenario.value.siblings
+  pub siblings : length room.state.core.lanes.items ≡ room.scenario.value.siblings
   -- no advance is above one second
   pub slow : room.state.clock ≤ 1000000000 * vec_len room.entries
   -- so no stamp, cookie, number or time overflows, and no task that ends takes memory
-  pub few_entries : vec_capacity room.entries ≤ most_entries room.scenario
-  pub ends : vec_capacity room.state.ended ≡ most_entries room.scenario
+  pub few_entries : vec_capacity room.entries ≤ most_entries room.scenario.value
+  pub ends : vec_capacity room.state.ended ≡ most_entries room.scenario.value

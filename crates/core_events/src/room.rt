@@ -1,7 +1,7 @@
 //! The machine over any queue of a sibling: its scenario, the state of the core and every entry. It is a file of
 //! its own so that nothing else reads how a machine keeps these.
 
-ghost use Rattle.std.specs.Prelude.{◌≡◌, ◌+◌, ◌*◌, ◌<◌, [], length, IfOk};
+ghost use Rattle.std.specs.Prelude.{◌≡◌, ◌+◌, ◌*◌, ◌<◌, [], List, length, IfOk};
 ghost use Rattle.cs_types.specs.Scenario.{IsPlayable};
 ghost use Rattle.cs_types.specs.Room.{RoomState, Interval};
 ghost use Rattle.cs_types.specs.View.{task_after, task_view, forced_of};
@@ -15,12 +15,13 @@ use crate::state::State;
 use core_lanes::SiblingQueue;
 use cs_outside::Guard;
 use cs_types::{
-    Actor, CoreView, Cpu, CpuView, EndView, Entry, Event, GuardView, List, OutOfMemory, Pid, Reply,
-    Room, Scenario, Steps, Task, TaskView,
+    Actor, CoreView, Cpu, CpuView, EndView, Entry, Event, GuardView, OutOfMemory, Pid, Reply, Room,
+    Scenario, Steps, Task, TaskView,
 };
 use ptrace_check::Guards;
 use std::alloc::Global;
 use std::marker::{Brand, Model};
+use std::snapshot::Snapshot;
 use std::sync::ledger::{Blank, Ledger};
 use task_table::Group;
 
@@ -28,7 +29,10 @@ use task_table::Group;
 /// were made, and how many more entries it can take.
 #[derive(Drop)]
 pub struct CoreRoom<Q: SiblingQueue, G: Guard> {
-    scenario: Scenario,
+    /// The scenario as clauses see it. It has no bytes.
+    scenario: Snapshot<Scenario>,
+    /// How many siblings the core has, 1 to 16.
+    siblings: u8,
     /// How many guards were handed in, 0 to 16.
     guards: u8,
     state: State<Q, G>,
@@ -54,24 +58,6 @@ fn most_entries(scenario: &Scenario) -> usize
 {
     let siblings = scenario.siblings as usize;
     scenario.steps.items().len() + siblings * siblings
-}
-
-/// The scenario in memory of its own.
-fn copy_of(alloc: Global, scenario: &Scenario) -> Result<Scenario, OutOfMemory>
-    ensures { IfOk result (λ copy. copy ≡ scenario.now) }
-{
-    let tasks = Vec::from_slice(alloc, scenario.tasks.items())?;
-    let teaches = Vec::from_slice(alloc, scenario.teaches.items())?;
-    let steps = Vec::from_slice(alloc, scenario.steps.items())?;
-    Ok(Scenario {
-        siblings: scenario.siblings,
-        task_limit: scenario.task_limit,
-        cookie_limit: scenario.cookie_limit,
-        user_top: scenario.user_top,
-        tasks: List::of(tasks),
-        teaches: List::of(teaches),
-        steps: List::of(steps),
-    })
 }
 
 /// What a machine shows of the task, which was charged this for forced idle, in ns.
@@ -129,12 +115,12 @@ impl<Q: SiblingQueue, G: Guard> CoreRoom<Q, G> {
             length scenario.now.steps + scenario.now.siblings * scenario.now.siblings) }
     {
         let most = most_entries(scenario);
-        let copy = copy_of(alloc, scenario)?;
         let entries = Vec::with_capacity(alloc, most)?;
         let count = guards.len();
         let state = State::start(alloc, scenario, most, guards)?;
         Ok(CoreRoom {
-            scenario: copy,
+            scenario: Snapshot::of(scenario),
+            siblings: scenario.siblings,
             guards: count,
             state,
             entries,
@@ -165,7 +151,7 @@ impl<Q: SiblingQueue, G: Guard> Room for CoreRoom<Q, G> {
     }
 
     fn drain(&mut self) -> u64 {
-        let siblings = u64::from(self.scenario.siblings);
+        let siblings = u64::from(self.siblings);
         let most = siblings * siblings;
         for entries in 0..most {
             let Some(cpu) = next_to_schedule(&self.state.core) else {
@@ -189,7 +175,7 @@ impl<Q: SiblingQueue, G: Guard> Room for CoreRoom<Q, G> {
     }
 
     fn siblings(&self) -> u8 {
-        self.scenario.siblings
+        self.siblings
     }
 
     fn clock(&self) -> u64 {

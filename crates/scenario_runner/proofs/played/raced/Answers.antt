@@ -1,4 +1,6 @@
 use Rattle.std.proofs.Common.{◌∙◌, refl, map, subst}
+use denote.Param.Send.{sendable}
+use Rattle.core_events.proofs.Crosses.{CoreRoom-send}
 use Rattle.cs_types.specs.Room.{Opening}
 use Rattle.cs_types.specs.History.{history_of}
 use Rattle.sibling_workers.specs.Race.{IsRaced}
@@ -7,6 +9,10 @@ use Rattle.scenario_runner.proofs.Runs.{race_history, race_made}
 use Rattle.scenario_runner.proofs.Endings.{ends_written, ends_stopped, written_of}
 use Rattle.scenario_runner.proofs.Playable.{valid_playable}
 use Rattle.scenario_runner.proofs.played.raced.Goals as goal
+
+-- a room may go to another thread where its queues and its guards may
+pub race-requires-send-R : goal.race-requires-send-R
+race-requires-send-R g c κs within = search (sendable, CoreRoom-send) depth 40
 
 pub returns-in-Ok-race : goal.returns-in-Ok-race
 returns-in-Ok-race g c =

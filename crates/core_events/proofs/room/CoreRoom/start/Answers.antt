@@ -9,7 +9,13 @@ invariant_of-result g c =
     let entries = c.in_ok-entries.ensures in
     let state = c.in_ok-state.ensures in
     let most = c.most_entries-most.ensures in
-    subst (λ (s : Scenario). IsFold (record { scenario = s; guards = c.len-count.result; state = c.in_ok-state.state; entries = c.in_ok-entries.entries })) (sym c.in_ok-copy.ensures)
+    subst (λ (s : Scenario). IsFold (record {
+      scenario = record { marker = c.of.result.marker; value = s };
+      siblings = c.args.scenario.now.siblings;
+      guards = c.len-count.result;
+      state = c.in_ok-state.state;
+      entries = c.in_ok-entries.entries;
+    })) (sym c.of.ensures)
     (record {
       playable = c.requires.playable;
       events = rw entries.items (λ k d lt. absurd (omega arith));
@@ -17,6 +23,7 @@ invariant_of-result g c =
       fold = rw (entries.items, c.len-count.ensures.len) state.room;
       numbers = rw entries.items state.numbers;
       sound = state.sound;
+      count = refl;
       siblings = state.siblings;
       slow = omega (arith, ap (λ (room : RoomState). room.clock) state.room);
       few_entries = omega (arith, entries.exact, most);

@@ -43,14 +43,14 @@ counted-reply-requires-clause-may g c =
         sound = c.self.invariant.sound;
         time = record {
           entries = length a.entries.items;
-          few = omega (arith, a.entries.ok.0, c.self.invariant.few_entries, most_entries-le a.scenario c.self.invariant.playable);
+          few = omega (arith, a.entries.ok.0, c.self.invariant.few_entries, most_entries-le a.scenario.value c.self.invariant.playable);
           timely = λ intervals. subst (λ (room : RoomState). IsTimely (length a.entries.items) room)
               (sym (ap (λ (room : RoomState). let other : RoomState = record room { intervals = intervals } in other) c.self.invariant.fold))
               (timely_with intervals (length a.entries.items) (fold_of (opening_of a) a.entries.items) (timely-fold_of (opening_of a) a.entries.items));
-          clock = omega (arith, c.self.invariant.slow, a.entries.ok.0, c.self.invariant.few_entries, most_entries-le a.scenario c.self.invariant.playable);
+          clock = omega (arith, c.self.invariant.slow, a.entries.ok.0, c.self.invariant.few_entries, most_entries-le a.scenario.value c.self.invariant.playable);
         };
         paid = record {
-          clock = omega (arith, c.self.invariant.slow, a.entries.ok.0, c.self.invariant.few_entries, most_entries-le a.scenario c.self.invariant.playable);
+          clock = omega (arith, c.self.invariant.slow, a.entries.ok.0, c.self.invariant.few_entries, most_entries-le a.scenario.value c.self.invariant.playable);
           started = subst (λ (r : RoomState). charged_up_to (account_of r) ≤ r.clock) (sym fold) accounted.started;
           few = subst (λ (r : RoomState). r.forced ≤ 255) (sym fold) accounted.few;
           intervals = omega (
@@ -59,7 +59,7 @@ counted-reply-requires-clause-may g c =
             ap (λ (numbers : Numbers). numbers.intervals) c.self.invariant.numbers,
             a.entries.ok.0,
             c.self.invariant.few_entries,
-            most_entries-le a.scenario c.self.invariant.playable,
+            most_entries-le a.scenario.value c.self.invariant.playable,
           );
           totals = λ pid. subst (λ (r : RoomState). total_in a.state.tasks pid ≤ 255 * charged_up_to (account_of r)) (sym fold)
               (omega (arith, total_kept (opening_of a) a.state a.entries.items pid folds, accounted.totals pid));
@@ -75,7 +75,7 @@ counted-reply-requires-clause-may g c =
             ap (λ (numbers : Numbers). numbers.task) c.self.invariant.numbers,
             a.entries.ok.0,
             c.self.invariant.few_entries,
-            most_entries-le a.scenario c.self.invariant.playable,
+            most_entries-le a.scenario.value c.self.invariant.playable,
             ap (λ (room : RoomState). length room.tasks) c.self.invariant.fold,
             few-fold_of (opening_of a) a.entries.items c.self.invariant.playable.few_tasks,
             c.self.invariant.playable.task_limit.1,
@@ -86,13 +86,13 @@ counted-reply-requires-clause-may g c =
             ap (λ (room : RoomState). room.next_stamp) c.self.invariant.fold,
             a.entries.ok.0,
             c.self.invariant.few_entries,
-            most_entries-le a.scenario c.self.invariant.playable,
+            most_entries-le a.scenario.value c.self.invariant.playable,
             ap (λ (room : RoomState). length room.tasks) c.self.invariant.fold,
             few-fold_of (opening_of a) a.entries.items c.self.invariant.playable.few_tasks,
             c.self.invariant.playable.task_limit.1,
           );
           serial = omega (arith, next_cookie-fold_of (opening_of a) a.entries.items c.self.invariant.playable.few_tasks c.self.invariant.playable.task_limit.1, ap (λ (room : RoomState). room.next_cookie) c.self.invariant.fold, a.entries.ok.0);
-          pid = omega (arith, next_pid-fold_of (opening_of a) a.entries.items c.self.invariant.playable.few_tasks c.self.invariant.playable.task_limit.1, ap (λ (room : RoomState). room.next_pid) c.self.invariant.fold, a.entries.ok.0, first_pid-low a.scenario c.self.invariant.playable, c.self.invariant.few_entries, most_entries-le a.scenario c.self.invariant.playable);
+          pid = omega (arith, next_pid-fold_of (opening_of a) a.entries.items c.self.invariant.playable.few_tasks c.self.invariant.playable.task_limit.1, ap (λ (room : RoomState). room.next_pid) c.self.invariant.fold, a.entries.ok.0, first_pid-low a.scenario.value c.self.invariant.playable, c.self.invariant.few_entries, most_entries-le a.scenario.value c.self.invariant.playable);
           ended = omega (
             arith,
             ended-fold_of (opening_of a) a.entries.items c.self.invariant.playable.few_tasks c.self.invariant.playable.task_limit.1,
@@ -106,13 +106,13 @@ counted-reply-requires-clause-may g c =
             a.state.ended.ok.0,
           );
           places = All-weaker (λ (lane : Lane g.row.Q.Denot). lane.place ≤ length a.entries.items) (λ (lane : Lane g.row.Q.Denot). lane.place + 1 < 2 ^ 32)
-              (λ lane few. omega (arith, few, a.entries.ok.0, c.self.invariant.few_entries, most_entries-le a.scenario c.self.invariant.playable)) a.state.core.lanes.items
+              (λ lane few. omega (arith, few, a.entries.ok.0, c.self.invariant.few_entries, most_entries-le a.scenario.value c.self.invariant.playable)) a.state.core.lanes.items
               (of_states (λ (sibling : SiblingState). sibling.place ≤ length a.entries.items) a.state.core.lanes.items
               (subst (λ (room : RoomState). All (λ (sibling : SiblingState). sibling.place ≤ length a.entries.items) room.siblings) (sym c.self.invariant.fold) (places-fold_of (opening_of a) a.entries.items)));
           asked = All-weaker (λ (guard : GuardState). guard.asked < 2 ^ 43) (λ (guard : GuardState). guard.asked < 2 ^ 62) (λ guard is. omega (arith, is)) a.state.guards.guards.all
               (subst (λ (room : RoomState). All (λ (guard : GuardState). guard.asked < 2 ^ 43) room.guards.all) (sym c.self.invariant.fold)
               (asked-fold_of (opening_of a) a.entries.items c.self.invariant.playable.few_tasks c.self.invariant.playable.task_limit.1
-              (omega (arith, a.entries.ok.0, c.self.invariant.few_entries, most_entries-le a.scenario c.self.invariant.playable))));
+              (omega (arith, a.entries.ok.0, c.self.invariant.few_entries, most_entries-le a.scenario.value c.self.invariant.playable))));
         };
       };
     }
@@ -127,18 +127,19 @@ invariant_of-self g c =
     let folds = folds_more (opening_of a) a.state c.counted-reply.new.state a.entries.items entry limits so_far (c.counted-reply.ensures.step (fold_of (opening_of a) a.entries.items).intervals) in
     record {
       playable = c.self.invariant.playable;
-      events = rw c.push_reserved.ensures.items (All-push (λ (e : Entry). IsEvent a.scenario.siblings e.event) a.entries.items entry c.self.invariant.events limits);
+      events = rw c.push_reserved.ensures.items (All-push (λ (e : Entry). IsEvent a.scenario.value.siblings e.event) a.entries.items entry c.self.invariant.events limits);
       history = rw c.push_reserved.ensures.items (history_more (opening_of a) a.entries.items entry c.self.invariant.history reply);
       fold = rw c.push_reserved.ensures.items folds.fold;
       numbers = rw c.push_reserved.ensures.items folds.numbers;
       sound = c.counted-reply.ensures.stays.sound c.self.invariant.sound;
+      count = c.self.invariant.count;
       siblings = c.counted-reply.ensures.stays.siblings ∙ c.self.invariant.siblings;
       slow = omega (
         arith,
         c.push_reserved.ensures.len,
         c.self.invariant.slow,
         ap (λ (room : RoomState). room.clock) (c.counted-reply.ensures.step (fold_of (opening_of a) a.entries.items).intervals).room,
-        clock-step (room_with (fold_of (opening_of a) a.entries.items).intervals a.state) (is_fresh_by (state_numbers a.state)) c.args.event a.scenario.siblings limits,
+        clock-step (room_with (fold_of (opening_of a) a.entries.items).intervals a.state) (is_fresh_by (state_numbers a.state)) c.args.event a.scenario.value.siblings limits,
       );
       few_entries = omega (arith, c.push_reserved.ensures.capacity, c.self.invariant.few_entries);
       ends = c.counted-reply.ensures.stays.ends ∙ c.self.invariant.ends;

@@ -66,7 +66,7 @@ pub loop-entries-init : goal.loop-entries-init
 loop-entries-init g c =
     let opening = c.args.self.now.opening in
     let past = history_of opening c.args.self.now.steps in
-    let count : c.from-siblings.result ≡ opening.scenario.siblings = c.from-siblings.ensures ∙ ap (λ (m : Machine). m.opening.scenario.siblings) c.self.view_is in
+    let count : c.from-siblings.result ≡ opening.scenario.siblings = c.from-siblings.ensures ∙ c.self.invariant.count ∙ ap (λ (m : Machine). m.opening.scenario.siblings) c.self.view_is in
     record {
       opening = refl;
       spare = omega arith;
@@ -127,16 +127,16 @@ returns-clause-one_cookie g c =
 pub overflow_mul-most : goal.overflow_mul-most
 overflow_mul-most g c =
     let n = c.from-siblings.result in
-    let few : n ≤ 16 = omega (arith, c.from-siblings.ensures, c.self.invariant.playable.siblings.1) in
+    let few : n ≤ 16 = omega (arith, c.from-siblings.ensures, c.self.invariant.count, c.self.invariant.playable.siblings.1) in
     omega (arith, mul-le n n 16 16 few few)
 
 -- the square of the siblings, as the code has it
-square : {Q G : Type 0} {g : Ghosts Q} (a : Inside Q G g) (m : Machine) (n : ℕ) → machine_of a ≡ m → n ≡ a.scenario.siblings → n * n ≡ m.opening.scenario.siblings * m.opening.scenario.siblings
+square : {Q G : Type 0} {g : Ghosts Q} (a : Inside Q G g) (m : Machine) (n : ℕ) → machine_of a ≡ m → n ≡ a.scenario.value.siblings → n * n ≡ m.opening.scenario.siblings * m.opening.scenario.siblings
 square a m n view_is is = ap (λ k. k * k) (is ∙ ap (λ (m : Machine). m.opening.scenario.siblings) view_is)
 
 pub apply-requires-clause-spare : goal.apply-requires-clause-spare
 apply-requires-clause-spare g c =
-    let most = square c.self.inside c.args.self.now c.from-siblings.result c.self.view_is c.from-siblings.ensures in
+    let most = square c.self.inside c.args.self.now c.from-siblings.result c.self.view_is (c.from-siblings.ensures ∙ c.self.invariant.count) in
     omega (arith, most, c.loop-entries-test.true, c.loop-entries.invariant.spare, c.requires.spare)
 
 pub returns-in_default-clause-count : goal.returns-in_default-clause-count
@@ -145,7 +145,7 @@ returns-in_default-clause-count g c =
 
 pub returns-in_default-clause-few : goal.returns-in_default-clause-few
 returns-in_default-clause-few g c =
-    let most = square c.self.inside c.args.self.now c.from-siblings.result c.self.view_is c.from-siblings.ensures in
+    let most = square c.self.inside c.args.self.now c.from-siblings.result c.self.view_is (c.from-siblings.ensures ∙ c.self.invariant.count) in
     omega (arith, most, c.loop-entries-test.true)
 
 pub returns-in_default-clause-spare : goal.returns-in_default-clause-spare
@@ -158,7 +158,7 @@ returns-clause-count g c =
     ∙ ap (λ n. length (history_of c.args.self.now.opening c.args.self.now.steps) + n) all
 
 pub returns-clause-few : goal.returns-clause-few
-returns-clause-few g c = omega (arith, square c.self.inside c.args.self.now c.from-siblings.result c.self.view_is c.from-siblings.ensures)
+returns-clause-few g c = omega (arith, square c.self.inside c.args.self.now c.from-siblings.result c.self.view_is (c.from-siblings.ensures ∙ c.self.invariant.count))
 
 pub returns-clause-spare : goal.returns-clause-spare
 returns-clause-spare g c = omega (arith, c.loop-entries-test.false, c.loop-entries.auto.entries-end, c.loop-entries.invariant.spare)

@@ -52,7 +52,7 @@ returns-clause-view g c =
 pub returns-clause-bounded : goal.returns-clause-bounded
 returns-clause-bounded g c =
     let a = c.self.inside in
-    let most = most_entries-le a.scenario c.self.invariant.playable in
+    let most = most_entries-le a.scenario.value c.self.invariant.playable in
     subst (λ (one : Option TaskView). IfSome one (λ task. task.vtime < 2 ^ 80)) (sym (shown g c))
     (shown_bounded (opening_of a) a.entries.items c.args.pid
     (omega (arith, a.entries.ok.0, a.entries.ok.1, c.self.invariant.few_entries, most))
