@@ -90,6 +90,11 @@ number_is low high word small h =
     let spelled = decimal-digits_value digits_model word parts.digits first.some first.zero_alone (omega arith) in
     (sym spelled, (parts.from, parts.to))
 
+-- and so is one whose digits were read
+pub digits_are : (low high : ℕ) (word : Word) → high < 2 ^ 64 → is_canonical word ≡ true → all_ascii_digits word ≡ true → IsWithin low high (value word) → word ≡ decimal (value word)
+digits_are low high word small first digits within =
+    (number_is low high word small (number_whole low high word (record { canonical = first; digits = digits; from = within.0; to = within.1 }))).0
+
 -- what a number spells is right
 pub record Spells (low high n : ℕ) : Type 0 where
   pub right : is_number low high (decimal n) ≡ true

@@ -1,8 +1,8 @@
 -- UsualLines: a text that begins with the line of a step, put together from what was found at its front.
 use Rattle.std.proofs.Common.{◌≡◌, ℕ, ◌≤◌, ◌<◌, ◌+◌, ◌-◌, ◌^◌, true, eqb, List, [], ◌∷◌, ◌++◌, length, take, drop, get_or, Some, Ok, Err, false, refl, sym, ap, subst, ◌∙◌, append_assoc, take_all, zero-le, arith}
-use Rattle.std.specs.Prelude.{codes, decimal, ℤ, MatchResult}
-use Rattle.std.specs.Fmt.{signed_decimal}
+use Rattle.std.specs.Prelude.{codes, decimal, MatchResult}
 use Rattle.std.specs.List.{AllByRecursion, join_with_byte}
+use Rattle.std.specs.Str.{all_ascii_digits}
 use Rattle.std.specs.Result.{result_ok}
 use Rattle.std.proofs.lemmas.Fmt.{decimal_digit}
 use Rattle.std.proofs.lemmas.List.{length-drop}
@@ -12,21 +12,21 @@ use Rattle.cs_types.specs.declared.task.Policy.{Policy}
 use Rattle.cs_types.specs.declared.event.Event.{Event}
 use Rattle.cs_types.specs.declared.event.Event.TheVariants.{Turn, Resched, Block, Exit, Tick, Wake, Advance, Fork, Prctl, SetSched, Offline, Online, Load, Unload}
 use Rattle.cs_types.specs.declared.event.Step.{Step}
-use Rattle.cs_types.specs.Scenario.{IsWithin, IsPolicy, IsPid, IsStep}
+use Rattle.cs_types.specs.Scenario.{IsWithin, IsPolicy, IsStep}
 use Rattle.scenario_text.specs.declared.fault.BadKind.TheVariants.{Number}
 use Rattle.scenario_text.specs.declared.head.Head.{Head}
 use Rattle.scenario_text.specs.declared.line.ScenarioLine.TheVariants as forms
 use Rattle.scenario_text.specs.Words.{Word, policy_word, made_words, event_words}
 use Rattle.scenario_text.specs.Text.{spaced, line, step_words}
-use Rattle.scenario_text.specs.Grammar.{value, is_number, is_signed, policy}
+use Rattle.scenario_text.specs.Grammar.{value, is_canonical, policy}
 use Rattle.scenario_text.specs.Faults.{pieces, lines_in}
-use Rattle.scenario_text.specs.Reading.{◌>>=◌, Contents, place_after, Read, line_at, line_check, next_of, usable, IsHead, BeginsStep, BeginsEvent, BeginsPolicy, BeginsNumber, BeginsTarget, policy_value, signed_value}
-use Rattle.scenario_text.proofs.Numbers.{number_is}
-use Rattle.scenario_text.proofs.Fields.{signed_is, policy_is}
+use Rattle.scenario_text.specs.Reading.{◌>>=◌, Contents, place_after, Read, line_at, line_check, next_of, usable, IsHead, BeginsStep, BeginsEvent, BeginsPolicy, BeginsNumber, policy_value}
+use Rattle.scenario_text.proofs.Numbers.{digits_are}
+use Rattle.scenario_text.proofs.Fields.{policy_is}
 use Rattle.scenario_text.proofs.Cuts.{has_piece, line_at-lines_in}
 use Rattle.scenario_text.proofs.Texts.{IsPlain, words_in-spaced, spaced_lacks, all_lack}
 use Rattle.scenario_text.proofs.Forms.{line_again}
-use Rattle.scenario_text.proofs.Steps.{pid_is, by}
+use Rattle.scenario_text.proofs.Steps.{by}
 use Rattle.scenario_text.proofs.Usable.{usable_step}
 use Rattle.scenario_text.proofs.Plain.{plain_step}
 
@@ -68,28 +68,14 @@ cut_is separator bytes first rest cut =
     ∙ ap (λ (bytes : List ℕ). first ++ separator ∷ bytes) there
 
 -- a number before a separator
-pub number_before_is : (low high : ℕ) (text word : List ℕ) (end : ℕ) (rest : List ℕ) (r : Read ℕ) (n : ℕ) → high < 2 ^ 64 → pieces end text ≡ word ∷ pieces end rest →
-    MatchResult r (λ n. (is_number low high word ≡ true) × (n ≡ value word)) (λ kind. (is_number low high word ≡ false) × (kind ≡ Number)) → result_ok r ≡ Some n → BeginsNumber low high text n end rest
-number_before_is low high text word end rest (Err kind) n small cut spelled is = absurd cc
-number_before_is low high text word end rest (Ok m) n small cut spelled is =
-    let says = number_is low high word small spelled.0 in
-    let same : value word ≡ n = cc in
+pub number_before_is : (low high : ℕ) (text word behind rest : List ℕ) (n end : ℕ) → high < 2 ^ 64 → text ≡ word ++ behind → behind ≡ end ∷ rest → is_canonical word ≡ true → all_ascii_digits word ≡ true →
+    n ≡ value word → IsWithin low high n → BeginsNumber low high text n end rest
+number_before_is low high text word behind rest n end small cut ends first digits same within =
     record {
-      within = subst (IsWithin low high) same says.1;
-      spelled = cut_is end text word rest cut ∙ ap (λ (w : List ℕ). w ++ end ∷ rest) (says.0 ∙ ap decimal same);
-    }
-
--- the target of a call, before a space
-pub target_before_is : (text word rest : List ℕ) (r : Read ℤ) (target : ℤ) → pieces 32 text ≡ word ∷ pieces 32 rest →
-    MatchResult r (λ z. (is_signed 2147483648 2147483647 word ≡ true) × (z ≡ signed_value word)) (λ kind. (is_signed 2147483648 2147483647 word ≡ false) × (kind ≡ Number)) → result_ok r ≡ Some target →
-    BeginsTarget text target rest
-target_before_is text word rest (Err kind) target cut spelled is = absurd cc
-target_before_is text word rest (Ok z) target cut spelled is =
-    let says = signed_is 2147483648 2147483647 (omega arith, omega arith) word spelled.0 in
-    let same : signed_value word ≡ target = cc in
-    record {
-      is = subst IsPid same ((pid_is (signed_value word)).0 says.1);
-      spelled = cut_is 32 text word rest cut ∙ ap (λ (w : List ℕ). w ++ 32 ∷ rest) (says.0 ∙ ap signed_decimal same);
+      within = within;
+      spelled = cut
+          ∙ ap (λ (bytes : List ℕ). word ++ bytes) ends
+          ∙ ap (λ (w : List ℕ). w ++ end ∷ rest) (digits_are low high word small first digits (subst (IsWithin low high) same within) ∙ ap decimal (sym same));
     }
 
 -- a policy at the end of the line
@@ -115,6 +101,11 @@ behind_first n text = take (length text - n) (drop n text)
 
 whole : (n : ℕ) (text : List ℕ) → drop n text ≡ behind_first n text
 whole n text = sym (take_all (length text - n) (drop n text) (omega (arith, length-drop n text)))
+
+-- the first byte of a text
+pub one_is : (text : List ℕ) (a : ℕ) → 1 ≤ length text → get_or text 0 0 ≡ a → text ≡ a ∷ behind_first 1 text
+one_is (first ∷ rest) a long is = ap (λ (byte : ℕ). byte ∷ rest) is ∙ ap (λ (bytes : List ℕ). a ∷ bytes) (whole 1 (first ∷ rest))
+one_is [] a long is = absurd (omega arith)
 
 -- the first two bytes of a text
 two_are : (text : List ℕ) (a b : ℕ) → 2 ≤ length text → get_or text 0 0 ≡ a → get_or text 1 0 ≡ b → text ≡ a ∷ b ∷ drop 2 text

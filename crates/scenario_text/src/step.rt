@@ -20,16 +20,16 @@ pub(crate) const MOST_CALLER: u64 = 7;
 pub(crate) const MOST_NAMED_PID: u64 = 999_999;
 
 /// How far below 0 the target of a `prctl` may be, a number of 32 bits with a sign.
-const MOST_TARGET_BELOW: u32 = 2_147_483_648;
+pub(crate) const MOST_TARGET_BELOW: u32 = 2_147_483_648;
 
 /// How far above 0 the target of a `prctl` may be.
-const MOST_TARGET_ABOVE: u32 = 2_147_483_647;
+pub(crate) const MOST_TARGET_ABOVE: u32 = 2_147_483_647;
 
 /// The greatest advance of the clock, in ns. The least is 1.
 pub(crate) const MOST_ADVANCE: u64 = 1_000_000_000;
 
 /// The target of `prctl`.
-pub(crate) fn parse_target(word: &[u8]) -> Result<i32, BadKind>
+fn parse_target(word: &[u8]) -> Result<i32, BadKind>
     ensures { MatchResult result (λ n. (is_signed 2147483648 2147483647 word.now ≡ true) × (n ≡ signed_value word.now))
         (λ kind. (is_signed 2147483648 2147483647 word.now ≡ false) × (kind ≡ Number)) }
 {

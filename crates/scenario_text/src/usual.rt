@@ -9,9 +9,11 @@ ghost use Rattle.scenario_text.specs.Words.{child_word};
 ghost use Rattle.scenario_text.specs.Text.{line};
 ghost use Rattle.scenario_text.specs.Reading.{BeginsStep, BeginsEvent, BeginsCall, BeginsAsk, BeginsPolicy, BeginsNumber, BeginsTarget};
 
-use crate::number::parse_number;
+use crate::number::{first_digits, is_canonical};
 use crate::pieces::cut_near;
-use crate::step::{MOST_ADVANCE, MOST_CALLER, MOST_NAMED_PID, parse_target};
+use crate::step::{
+    MOST_ADVANCE, MOST_CALLER, MOST_NAMED_PID, MOST_TARGET_ABOVE, MOST_TARGET_BELOW,
+};
 use crate::task::parse_policy;
 use cs_types::{Actor, Ask, Cpu, Event, Policy, Step};
 
@@ -21,18 +23,15 @@ fn sibling_event(text: &[u8], cpu: Cpu) -> Option<(Event, &[u8])>
     ensures { IfSome result (λ read. (siblings : ℕ) → cpu < siblings →
         BeginsEvent siblings (Sibling cpu) text.now read.0 read.1.now) }
 {
-    if let Some(rest) = text.strip_prefix(b"turn\n") {
-        Some((Event::Turn(cpu), rest))
-    } else if let Some(rest) = text.strip_prefix(b"block\n") {
-        Some((Event::Block(cpu), rest))
-    } else if let Some(rest) = text.strip_prefix(b"tick\n") {
-        Some((Event::Tick(cpu), rest))
-    } else if let Some(rest) = text.strip_prefix(b"resched\n") {
-        Some((Event::Resched(cpu), rest))
-    } else if let Some(rest) = text.strip_prefix(b"exit\n") {
-        Some((Event::Exit(cpu), rest))
-    } else {
-        None
+    match *text {
+        [b't', b'u', b'r', b'n', b'\n', ref rest @ ..] => Some((Event::Turn(cpu), rest)),
+        [b'b', b'l', b'o', b'c', b'k', b'\n', ref rest @ ..] => Some((Event::Block(cpu), rest)),
+        [b't', b'i', b'c', b'k', b'\n', ref rest @ ..] => Some((Event::Tick(cpu), rest)),
+        [b'r', b'e', b's', b'c', b'h', b'e', b'd', b'\n', ref rest @ ..] => {
+            Some((Event::Resched(cpu), rest))
+        }
+        [b'e', b'x', b'i', b't', b'\n', ref rest @ ..] => Some((Event::Exit(cpu), rest)),
+        _ => None,
     }
 }
 
@@ -41,9 +40,15 @@ fn sibling_event(text: &[u8], cpu: Cpu) -> Option<(Event, &[u8])>
 fn number_before(text: &[u8], end: u8, low: u64, high: u64) -> Option<(u64, &[u8])>
     ensures { IfSome result (λ read. BeginsNumber low high text.now read.0 end read.1.now) }
 {
-    let (word, rest) = cut_near(text, end)?;
-    let number = parse_number(word, low, high).ok()?;
-    Some((number, rest))
+    let (number, count) = first_digits(text);
+    let (word, behind) = text.split_at(count);
+    if !is_canonical(word) || !(low..=high).contains(&number) {
+        return None;
+    }
+    match *behind {
+        [byte, ref rest @ ..] if byte == end => Some((number, rest)),
+        _ => None,
+    }
 }
 
 /// The sibling, of this number of them, that ends the first line, and what stands behind the line.
@@ -68,7 +73,9 @@ fn last_cpu(text: &[u8], siblings: u8) -> Option<(Cpu, &[u8])>
 fn wake_event(text: &[u8]) -> Option<(Event, &[u8])>
     ensures { IfSome result (λ read. (siblings : ℕ) → BeginsCall siblings text.now read.0 read.1.now) }
 {
-    let number = text.strip_prefix(b"wake ")?;
+    let [b'w', b'a', b'k', b'e', b' ', ref number @ ..] = *text else {
+        return None;
+    };
     let (pid, rest) = number_before(number, b'\n', 1, MOST_NAMED_PID)?;
     Some((Event::Wake(pid as u32), rest))
 }
@@ -78,7 +85,9 @@ fn wake_event(text: &[u8]) -> Option<(Event, &[u8])>
 fn advance_event(text: &[u8]) -> Option<(Event, &[u8])>
     ensures { IfSome result (λ read. (siblings : ℕ) → BeginsCall siblings text.now read.0 read.1.now) }
 {
-    let number = text.strip_prefix(b"advance ")?;
+    let [b'a', b'd', b'v', b'a', b'n', b'c', b'e', b' ', ref number @ ..] = *text else {
+        return None;
+    };
     let (delta, rest) = number_before(number, b'\n', 1, MOST_ADVANCE)?;
     Some((Event::Advance(delta), rest))
 }
@@ -90,13 +99,16 @@ fn hotplug_event(text: &[u8], siblings: u8) -> Option<(Event, &[u8])>
     requires { IsWithin 1 8 siblings }
     ensures { IfSome result (λ read. BeginsCall siblings text.now read.0 read.1.now) }
 {
-    if let Some(number) = text.strip_prefix(b"offline ") {
-        let (cpu, rest) = last_cpu(number, siblings)?;
-        Some((Event::Offline(cpu), rest))
-    } else {
-        let number = text.strip_prefix(b"online ")?;
-        let (cpu, rest) = last_cpu(number, siblings)?;
-        Some((Event::Online(cpu), rest))
+    match *text {
+        [b'o', b'f', b'f', b'l', b'i', b'n', b'e', b' ', ref number @ ..] => {
+            let (cpu, rest) = last_cpu(number, siblings)?;
+            Some((Event::Offline(cpu), rest))
+        }
+        [b'o', b'n', b'l', b'i', b'n', b'e', b' ', ref number @ ..] => {
+            let (cpu, rest) = last_cpu(number, siblings)?;
+            Some((Event::Online(cpu), rest))
+        }
+        _ => None,
     }
 }
 
@@ -105,11 +117,10 @@ fn hotplug_event(text: &[u8], siblings: u8) -> Option<(Event, &[u8])>
 fn last_child(text: &[u8]) -> Option<(bool, &[u8])>
     ensures { IfSome result (λ read. text.now ≡ line (child_word read.0 ∷ []) ++ read.1.now) }
 {
-    if let Some(rest) = text.strip_prefix(b"thread\n") {
-        Some((true, rest))
-    } else {
-        let rest = text.strip_prefix(b"process\n")?;
-        Some((false, rest))
+    match *text {
+        [b't', b'h', b'r', b'e', b'a', b'd', b'\n', ref rest @ ..] => Some((true, rest)),
+        [b'p', b'r', b'o', b'c', b'e', b's', b's', b'\n', ref rest @ ..] => Some((false, rest)),
+        _ => None,
     }
 }
 
@@ -118,7 +129,9 @@ fn last_child(text: &[u8]) -> Option<(bool, &[u8])>
 fn fork_event(text: &[u8]) -> Option<(Event, &[u8])>
     ensures { IfSome result (λ read. (siblings : ℕ) → BeginsCall siblings text.now read.0 read.1.now) }
 {
-    let number = text.strip_prefix(b"fork ")?;
+    let [b'f', b'o', b'r', b'k', b' ', ref number @ ..] = *text else {
+        return None;
+    };
     let (caller, child) = number_before(number, b' ', 1, MOST_NAMED_PID)?;
     let (thread, rest) = last_child(child)?;
     let caller = caller as u32;
@@ -130,9 +143,13 @@ fn fork_event(text: &[u8]) -> Option<(Event, &[u8])>
 fn target_before(text: &[u8]) -> Option<(i32, &[u8])>
     ensures { IfSome result (λ read. BeginsTarget text.now read.0 read.1.now) }
 {
-    let (word, rest) = cut_near(text, b' ')?;
-    let target = parse_target(word).ok()?;
-    Some((target, rest))
+    if let [b'-', ref digits @ ..] = *text {
+        let (below, rest) = number_before(digits, b' ', 1, MOST_TARGET_BELOW as u64)?;
+        Some((-(below as i64) as i32, rest))
+    } else {
+        let (above, rest) = number_before(text, b' ', 0, MOST_TARGET_ABOVE as u64)?;
+        Some((above as i32, rest))
+    }
 }
 
 /// The arguments of a `prctl` that the first line ends with, and what stands behind the line.
@@ -158,7 +175,9 @@ fn last_ask(text: &[u8]) -> Option<(Ask, &[u8])>
 fn prctl_event(text: &[u8]) -> Option<(Event, &[u8])>
     ensures { IfSome result (λ read. (siblings : ℕ) → BeginsCall siblings text.now read.0 read.1.now) }
 {
-    let number = text.strip_prefix(b"prctl ")?;
+    let [b'p', b'r', b'c', b't', b'l', b' ', ref number @ ..] = *text else {
+        return None;
+    };
     let (caller, behind) = number_before(number, b' ', 1, MOST_NAMED_PID)?;
     let (ask, rest) = last_ask(behind)?;
     let caller = caller as u32;
@@ -180,7 +199,9 @@ fn last_policy(text: &[u8]) -> Option<(Policy, &[u8])>
 fn setsched_event(text: &[u8]) -> Option<(Event, &[u8])>
     ensures { IfSome result (λ read. (siblings : ℕ) → BeginsCall siblings text.now read.0 read.1.now) }
 {
-    let number = text.strip_prefix(b"setsched ")?;
+    let [b's', b'e', b't', b's', b'c', b'h', b'e', b'd', b' ', ref number @ ..] = *text else {
+        return None;
+    };
     let (pid, behind) = number_before(number, b' ', 1, MOST_NAMED_PID)?;
     let (policy, rest) = last_policy(behind)?;
     let pid = pid as u32;
