@@ -1,7 +1,7 @@
 //! A line while it is put together. It lies on the stack and can take the longest entry, so it
 //! takes no memory and cannot fail, and a sink is given it whole.
 
-ghost use Rattle.std.specs.Prelude.{◌≡◌, ◌+◌, ◌≤◌, [], ◌∷◌, ◌++◌, length, codes, decimal};
+ghost use Rattle.std.specs.Prelude.{◌≡◌, ◌+◌, ◌<◌, ◌≤◌, [], ◌∷◌, ◌++◌, length, codes, decimal};
 ghost use Rattle.scenario_text.specs.Words.{policy_word, flag_word, creds_words, made_words, actor_word, ask_words, child_word, event_words, deed_words, reply_words, pick_words, kind_word, run_word, errno_word};
 ghost use Rattle.scenario_text.specs.Text.{line_room, spaced, entry_text};
 
@@ -116,17 +116,20 @@ impl Line {
             Event::Block(_) => self.text("block"),
             Event::Exit(_) => self.text("exit"),
             Event::Tick(_) => self.text("tick"),
-            Event::Wake(pid) => self.named("wake", pid),
+            Event::Wake(pid) => {
+                self.text("wake ");
+                self.medium(pid);
+            }
             Event::Advance(delta) => self.named("advance", delta),
             Event::Fork { caller, thread } => {
                 self.text("fork ");
-                self.number(caller);
+                self.medium(caller);
                 self.text(" ");
                 self.child(thread);
             }
             Event::Prctl { caller, ref ask } => {
                 self.text("prctl ");
-                self.number(caller);
+                self.medium(caller);
                 self.text(" ");
                 self.ask(ask);
             }
@@ -212,13 +215,13 @@ impl Line {
         ensures text { self.new ≡ self.old ++ spaced (ask_words ask.now) }
         ensures longest { length self.new ≤ length self.old + 54 }
     {
-        self.number(ask.cmd);
+        self.medium(ask.cmd);
         self.text(" ");
         self.number(ask.pid);
         self.text(" ");
-        self.number(ask.scope);
+        self.medium(ask.scope);
         self.text(" ");
-        self.number(ask.addr);
+        self.long(ask.addr);
     }
 
     fn reply(&mut self, reply: &Reply)
@@ -282,7 +285,7 @@ impl Line {
         ensures text { self.new ≡ self.old ++ spaced (decimal pid ∷ pick_words pick.now) }
         ensures longest { length self.new ≤ length self.old + 67 }
     {
-        self.number(pid);
+        self.medium(pid);
         self.text(" ");
         self.pick(pick);
     }
@@ -296,7 +299,7 @@ impl Line {
         self.text(" ");
         self.run(pick.run);
         self.text(" core ");
-        self.number(pick.core);
+        self.long(pick.core);
         self.text(" forced ");
         self.short(pick.forced);
     }
@@ -339,7 +342,7 @@ impl Line {
         if pid == 0 {
             self.text("idle");
         } else {
-            self.number(pid);
+            self.medium(pid);
         }
     }
 
@@ -396,6 +399,49 @@ impl Line {
         } else {
             self.number(number);
         }
+    }
+
+    /// A number of 32 bits that mostly has three digits at most, which need no buffer of their own.
+    fn medium(&mut self, number: u32)
+        requires { length self.old + 10 ≤ line_room }
+        ensures text { self.new ≡ self.old ++ decimal number }
+        ensures longest { length self.new ≤ length self.old + 10 }
+    {
+        let tens = number / 10;
+        if number < 10 {
+            self.digit(number);
+        } else if number < 100 {
+            self.digit(tens);
+            self.digit(number % 10);
+        } else if number < 1000 {
+            self.digit(tens / 10);
+            self.digit(tens % 10);
+            self.digit(number % 10);
+        } else {
+            self.number(number);
+        }
+    }
+
+    /// A number of 64 bits that mostly has 32 bits.
+    fn long(&mut self, number: u64)
+        requires { length self.old + 20 ≤ line_room }
+        ensures text { self.new ≡ self.old ++ decimal number }
+        ensures longest { length self.new ≤ length self.old + 20 }
+    {
+        if number <= u32::MAX as u64 {
+            self.medium(number as u32);
+        } else {
+            self.number(number);
+        }
+    }
+
+    /// A digit.
+    #[inline(always)]
+    fn digit(&mut self, digit: u32)
+        requires { (digit < 10) × (length self.old + 1 ≤ line_room) }
+        ensures { self.new ≡ self.old ++ (48 + digit) ∷ [] }
+    {
+        self.text.push((b'0' + digit as u8) as char);
     }
 
     /// A text as it is.
