@@ -23,8 +23,11 @@ fn sibling_event(text: &[u8], cpu: Cpu) -> Option<(Event, &[u8])>
     ensures { IfSome result (λ read. (siblings : ℕ) → cpu < siblings →
         BeginsEvent siblings (Sibling cpu) text.now read.0 read.1.now) }
 {
+    // Most are turns, so whether it is one is asked first.
+    if let [b't', b'u', b'r', b'n', b'\n', ref rest @ ..] = *text {
+        return Some((Event::Turn(cpu), rest));
+    }
     match *text {
-        [b't', b'u', b'r', b'n', b'\n', ref rest @ ..] => Some((Event::Turn(cpu), rest)),
         [b'b', b'l', b'o', b'c', b'k', b'\n', ref rest @ ..] => Some((Event::Block(cpu), rest)),
         [b't', b'i', b'c', b'k', b'\n', ref rest @ ..] => Some((Event::Tick(cpu), rest)),
         [b'r', b'e', b's', b'c', b'h', b'e', b'd', b'\n', ref rest @ ..] => {
