@@ -1,9 +1,9 @@
 -- Leads: the lead as the code finds it, by what is kept of first tasks, is the model's lead.
 use Rattle.std.proofs.Common.{◌≡◌, ℕ, ◌+◌, ◌-◌, ◌<◌, ◌≤◌, ◌^◌, Bool, true, false, cond, ltb, eqb, List, [], ◌∷◌, ◌++◌, map, length, inl, inr, refl, sym, ap, ◌∙◌, subst, arith}
-use Rattle.std.specs.Prelude.{◌==◌, ◌&&◌, ◌||◌, All, filter, IfSome, Option, Some, None}
+use Rattle.std.specs.Prelude.{◌&&◌, ◌||◌, All, filter, IfSome, Option, Some, None}
 use Rattle.std.specs.List.{fold, range_with_len}
 use Rattle.std.specs.Option.{option_and_then}
-use Rattle.std.proofs.lemmas.Bool.{cases_eq, cases_Bool, both_ways, cond-true, cond-false}
+use Rattle.std.proofs.lemmas.Bool.{cases_eq, cases_Bool, both_ways}
 use Rattle.std.proofs.lemmas.Bool.Decides.{nat_tests}
 use Rattle.cs_types.specs.Room.{RoomState, is_online, online_from}
 use Rattle.cs_types.specs.Order.{class_of, foremost, outranks}
@@ -17,7 +17,7 @@ use Rattle.cs_types.proofs.First.{outranks_is_order}
 use Rattle.cs_types.proofs.Foremost.{foremost_reduce}
 use Rattle.sibling_priority.specs.Offers.{IsFirst, class_of_first, rank_of_first, snapshot_of_first}
 use Rattle.sibling_priority.proofs.Firsts.{outranks-offer_of}
-use Rattle.core_pick.specs.Choice.{kept_of, kept_in, is_above, offered, lead_of, lead_in}
+use Rattle.core_pick.specs.Choice.{kept_of, kept_in, is_above, offered, lead_of}
 use Rattle.core_pick.proofs.Choices.{All-firsts, first_home}
 
 -- ---- the higher of two

@@ -83,7 +83,11 @@ fn settle<Q: SiblingQueue, L: Ledger>(
         return counts;
     }
     *given = choice_at(core, table, given, cookie, cpu, steps);
-    if core.is_online(cpu) { counts.with(given) } else { counts }
+    if core.is_online(cpu) {
+        counts.with(given)
+    } else {
+        counts
+    }
 }
 
 /// Puts what each sibling gets for a core cookie in the place of its first, and counts it.

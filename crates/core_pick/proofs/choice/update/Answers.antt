@@ -2,9 +2,9 @@ use Rattle.std.proofs.Common.{Some, List, ℕ, refl, ◌≡◌, ◌<◌, ◌≤�
 use Rattle.std.specs.List.{enumerate_from}
 use Rattle.std.specs.Prelude.{◌&&◌}
 use Rattle.std.proofs.lemmas.Bool.{cond-true, cond-false}
-use Rattle.std.proofs.lemmas.List.{append-nil, map-set, map-id, take_more, length-map, get_or-map}
+use Rattle.std.proofs.lemmas.List.{append-nil, map-set, length-map, get_or-map}
 use Rattle.std.proofs.Math.Seq.{take-length, drop-length, map-set_same}
-use Rattle.cs_types.specs.Room.{RoomState, SiblingState, idle, absent, is_online}
+use Rattle.cs_types.specs.Room.{RoomState, SiblingState, idle, absent}
 use Rattle.cs_types.specs.Selection.{choice, pid_of, is_run, sibling_after_selection, select_for}
 use Rattle.cs_types.proofs.Selections.{numbered_after_selection}
 use Rattle.cs_types.specs.declared.task.Task.{Task}

@@ -1,9 +1,6 @@
-use Rattle.std.proofs.Common.{◌≡◌, ◌∙◌, ℕ, suc, ◌+◌, ◌-◌, ◌*◌, ◌<◌, ◌≤◌, ◌^◌, [], ◌∷◌, ◌++◌, List, ap, sym, subst, cond, map, length, append_assoc, arith}
+use Rattle.std.proofs.Common.{◌≡◌, ◌∙◌, ℕ, suc, ◌+◌, ◌-◌, ◌<◌, ◌≤◌, [], ◌∷◌, ◌++◌, List, ap, sym, cond, map, length, append_assoc, arith}
 use Rattle.std.specs.List.{range_with_len}
-use Rattle.std.specs.Prelude.{slice_index_or}
 use Rattle.std.proofs.lemmas.List.{append-nil}
-use Rattle.arrayvec.specs.ArrayVec.{ArrayVec}
-use Rattle.cs_types.specs.Room.{absent}
 use Rattle.cs_types.specs.Order.{outranks}
 use Rattle.cs_types.specs.Selection.{first_on, snapshot_of}
 use Rattle.core_lanes.specs.Lanes.{lane_state, room_of}

@@ -1,4 +1,4 @@
-use Rattle.std.proofs.Common.{◌∙◌, ap, sym, cond, None}
+use Rattle.std.proofs.Common.{◌∙◌, ap, sym, None}
 use Rattle.std.proofs.lemmas.Bool.{cond-true, cond-false}
 use Rattle.cs_types.specs.Room.{is_online}
 use Rattle.cs_types.specs.Selection.{first_on}
