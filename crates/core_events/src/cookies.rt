@@ -68,8 +68,8 @@ impl<Q: SiblingQueue, G: Guard> State<Q, G> {
         requires touches { self.old.core.task_number + 2 * length self.old.tasks.tasks + 2 < 2 ^ 64 }
         ensures { SetsCookies self.old self.new (group_above group 0 self.old.tasks.tasks) cookie }
     {
-        let mut after = 0;
-        for _ in 0..self.tasks.len() {
+        let mut after = self.tasks.below(group);
+        for _ in 0..self.tasks.most_in(group) {
             let Some(task) = self.tasks.next_in(group, after).copied() else {
                 return;
             };

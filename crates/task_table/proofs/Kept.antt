@@ -1,5 +1,5 @@
 -- What a table keeps, and how a search, an insert, a removal and a write find and leave it.
-use Rattle.std.proofs.Common.{eq-eqb, ◌≡◌, ◌≢◌, ℕ, zero, suc, ◌+◌, ◌<◌, ◌≤◌, not, cond, List, [], ◌∷◌, map, length, get_or, set, Some, None, Ok, Err, is_some, refl, sym, ap, ◌∙◌, subst, arith}
+use Rattle.std.proofs.Common.{eq-eqb, ◌≡◌, ◌≢◌, ℕ, zero, suc, ◌+◌, ◌^◌, ◌<◌, ◌≤◌, not, cond, replicate, List, [], ◌∷◌, map, length, get_or, set, Some, None, Ok, Err, is_some, refl, sym, ap, ◌∙◌, subst, arith}
 use Rattle.std.specs.Prelude.{find, filter, insert, remove, slice_get}
 use Rattle.std.proofs.lemmas.List.Edits.{length-insert, length-remove}
 use Rattle.std.proofs.lemmas.Bool.{ne_eqb}
@@ -12,10 +12,17 @@ use Rattle.cs_types.specs.declared.task.Task.{Task}
 use Rattle.cs_types.specs.declared.task.TaskSpec.{TaskSpec}
 use Rattle.cs_types.specs.Room.{has_pid, inserted}
 use Rattle.task_table.specs.declared.entry.Entry.{Entry}
+use Rattle.task_table.specs.declared.group.Group.{Group}
+use Rattle.task_table.specs.declared.spans.Span.{Span}
+use Rattle.task_table.specs.Group.{is_in_group}
+use Rattle.task_table.specs.Grouping.{no_span, span_at, AreSpans, HasMember, Counts, AreGrouped, thread_of, process_of}
+use Rattle.std.proofs.lemmas.List.Sums.{length-filter, count_by-le-length}
+use Rattle.task_table.proofs.Grouping.{no_spans}
+use Rattle.task_table.proofs.Grouped.{has_member, grouped_alike}
 use Rattle.task_table.specs.Table.{pid_of, Table, Rises, add_answer}
 use Rattle.task_table.specs.declared.fault.AddFault.TheVariants.{Full}
 use Rattle.task_table.specs.Positions.{IsAt, IsGap}
-use Rattle.task_table.specs.Inside.{slot_of, tasks_at, totals_of, groups_of, groups_told, TellGroups, IsWalk, IsKept}
+use Rattle.task_table.specs.Inside.{slot_of, tasks_at, totals_of, groups_of, groups_told, IsWalk, IsKept}
 use Rattle.task_table.proofs.Rising.{find_at, find_none, none_gap, without_at, with_at, inserted_gap, rises_insert, rises_remove, rises_set, pids_set, at_within, split_within}
 use Rattle.task_table.proofs.Tables.{changed_each}
 use Rattle.task_table.proofs.Totals.{total-none}
@@ -32,29 +39,38 @@ at_some pid (suc position) (task ∷ rest) at = at_some pid position rest at.1
 abbrev pub with_groups : Task → Entry → Entry
 with_groups task entry = record entry { tgid = task.spec.tgid; pgid = task.spec.pgid }
 
--- the entry at a position tells the groups of the task there
-groups_at : (entries : List Entry) (tasks : List Task) → TellGroups entries tasks → (position : ℕ) (d : Entry) (task : Task) →
-    position < length entries → slice_get tasks position ≡ Some task → groups_told (get_or entries position d) ≡ groups_of task
-groups_at [] tasks tell position d task within is = absurd (omega arith)
-groups_at (entry ∷ entries) [] tell position d task within is = absurd cc
-groups_at (entry ∷ entries) (first ∷ tasks) tell zero d task within is =
-    let same : first ≡ task = cc in
-    let head : groups_told entry ≡ groups_of first = cc in
-    head ∙ ap groups_of same
-groups_at (entry ∷ entries) (first ∷ tasks) tell (suc position) d task within is =
-    groups_at entries tasks (cc) position d task (omega arith) is
+-- what lists that are told alike tell at a position
+both_at : {X Y Z : Type 0} (f : X → Z) (g : Y → Z) (xs : List X) (ys : List Y) → map f xs ≡ map g ys → (position : ℕ) (d : X) (y : Y) →
+    position < length xs → slice_get ys position ≡ Some y → f (get_or xs position d) ≡ g y
+both_at f g [] ys alike position d y within is = absurd (omega arith)
+both_at f g (x ∷ xs) [] alike position d y within is = absurd cc
+both_at f g (x ∷ xs) (first ∷ ys) alike zero d y within is =
+    let same : first ≡ y = cc in
+    let head : f x ≡ g first = cc in
+    head ∙ ap g same
+both_at f g (x ∷ xs) (first ∷ ys) alike (suc position) d y within is = both_at f g xs ys (cc) position d y (omega arith) is
 
-module _ {slots : Slab Task} {entries : List Entry} {room limit : ℕ} {tasks : List Task} (kept : IsKept slots entries room limit tasks) where
+module _ {slots : Slab Task} {entries : List Entry} {threads processes : List Span} {room limit : ℕ} {tasks : List Task} (kept : IsKept slots entries threads processes room limit tasks) where
   -- what is kept is what the slots hold
   pub kept_view : tasks_at slots entries ≡ tasks
   kept_view = listed slots entries tasks kept.holds
 
-  pub kept_again : IsKept slots entries room limit (tasks_at slots entries)
-  kept_again = subst (IsKept slots entries room limit) (sym kept_view) kept
+  pub kept_again : IsKept slots entries threads processes room limit (tasks_at slots entries)
+  kept_again = subst (IsKept slots entries threads processes room limit) (sym kept_view) kept
 
   -- a walk over all entries
-  pub kept_walk : IsWalk slots entries
-  kept_walk = record { filled = filled slots entries tasks kept.holds; groups = kept.groups ∙ ap (map groups_of) (sym kept_view) }
+  pub kept_walk : (group : Group) → IsWalk slots entries group (length entries)
+  kept_walk group = record {
+    filled = filled slots entries tasks kept.holds;
+    told = kept.groups ∙ ap (map groups_of) (sym kept_view);
+    bound = omega (
+      arith,
+      length-filter (is_in_group group) (tasks_at slots entries),
+      count_by-le-length (is_in_group group) (tasks_at slots entries),
+      ap length kept_view,
+      length_both (λ entry. entry.pid) pid_of entries tasks kept.index,
+    );
+  }
 
   pub kept_length : length entries ≡ length tasks
   kept_length = length_both (λ entry. entry.pid) pid_of entries tasks kept.index
@@ -78,12 +94,46 @@ module _ {slots : Slab Task} {entries : List Entry} {room limit : ℕ} {tasks : 
       let there = at_some pid position tasks at in
       (there.0, found pid position entry at is ∙ find_at pid position tasks at ∙ there.1, there.2)
 
+  -- the spans count the task at the position of a pid where its entry tells
+  pub member_at : (pid position : ℕ) (entry : Entry) → IsAt pid position tasks → entry ≡ get_or entries position entry →
+      HasMember (map thread_of tasks) position (entry.tgid, entry.pid) × HasMember (map process_of tasks) position (entry.pgid, entry.pid)
+  member_at pid position entry at is =
+      let there = at_some pid position tasks at in
+      let within = position_within pid position at in
+      let groups = ap groups_told is ∙ both_at groups_told groups_of entries tasks kept.groups position entry there.0 within there.1 in
+      let pids = ap (λ (e : Entry). e.pid) is ∙ both_at (λ (e : Entry). e.pid) pid_of entries tasks kept.index position entry there.0 within there.1 in (
+        subst (HasMember (map thread_of tasks) position) (λ i. ((sym groups i).0, sym pids i)) (has_member thread_of tasks position there.0 there.1),
+        subst (HasMember (map process_of tasks) position) (λ i. ((sym groups i).1, sym pids i)) (has_member process_of tasks position there.0 there.1),
+      )
+
+  -- so it can come to other groups
+  pub counts_at : (pid position : ℕ) (entry : Entry) → IsAt pid position tasks → entry ≡ get_or entries position entry →
+      Counts threads entry.tgid entry.pid × Counts processes entry.pgid entry.pid
+  counts_at pid position entry at is =
+      let members = member_at pid position entry at is in (
+        record {
+          members = map thread_of tasks;
+          position = position;
+          has = members.0;
+          are = kept.grouped.by_threads;
+          few = omega (arith, length-map tasks thread_of, kept.sound.few, kept.sound.limit);
+        },
+        record {
+          members = map process_of tasks;
+          position = position;
+          has = members.1;
+          are = kept.grouped.by_processes;
+          few = omega (arith, length-map tasks process_of, kept.sound.few, kept.sound.limit);
+        },
+      )
+
   -- a task goes into an empty slot, and an entry for it into its gap
-  pub kept_insert : (new : Slab Task) (after : List Entry) (more key position : ℕ) (task : Task) → IsGap task.spec.pid position tasks →
+  pub kept_insert : (new : Slab Task) (after : List Entry) (more key position : ℕ) (task : Task) {by_threads by_processes : List Span} →
+      AreGrouped by_threads by_processes (inserted task tasks) → IsGap task.spec.pid position tasks →
       get slots key ≡ None → Updates slots new key (Some task) → slab_len new ≡ slab_len slots + 1 → new.capacity ≡ slots.capacity →
       room ≤ more → length entries ≢ limit → after ≡ insert entries position (record { pid = task.spec.pid; tgid = task.spec.tgid; pgid = task.spec.pgid; key = key; forced = 0 }) →
-      IsKept new after more limit (inserted task tasks)
-  kept_insert new after more key position task gap empty updates longer same_room more_room free is =
+      IsKept new after by_threads by_processes more limit (inserted task tasks)
+  kept_insert new after more key position task grouped gap empty updates longer same_room more_room free is =
       let entry : Entry = record { pid = task.spec.pid; tgid = task.spec.tgid; pgid = task.spec.pgid; key = key; forced = 0 } in
       let inside = gap_in_entries task.spec.pid position gap in
       let long : length after ≡ length entries + 1 = ap length is ∙ length-insert entries position entry inside in
@@ -94,6 +144,7 @@ module _ {slots : Slab Task} {entries : List Entry} {room limit : ℕ} {tasks : 
         holds = subst (λ es. map (λ (e : Entry). get new e.key) es ≡ map Some (inserted task tasks)) (sym is)
             (holds_insert slots new key task empty updates entries tasks position entry refl kept.holds ∙ ap (map Some) there);
         index = index;
+        grouped = grouped;
         groups = ap (map groups_told) is ∙ insert_both groups_told groups_of entries tasks position entry task kept.groups refl ∙ ap (map groups_of) there;
         sound = record {
           rising = subst Rises there (rises_insert task 0 position tasks kept.sound.rising (omega arith) gap);
@@ -107,11 +158,12 @@ module _ {slots : Slab Task} {entries : List Entry} {room limit : ℕ} {tasks : 
       }
 
   -- the entry of a pid goes, and its slot becomes empty
-  pub kept_remove : (new : Slab Task) (after : List Entry) (less pid position : ℕ) (entry : Entry) → IsAt pid position tasks →
+  pub kept_remove : (new : Slab Task) (after : List Entry) (less pid position : ℕ) (entry : Entry) {by_threads by_processes : List Span} →
+      AreGrouped by_threads by_processes (filter (λ task. not (has_pid pid task)) tasks) → IsAt pid position tasks →
       entry ≡ get_or entries position entry → Updates slots new entry.key None → slab_len new + 1 ≡ slab_len slots →
       new.capacity ≡ slots.capacity → less ≡ room → after ≡ remove entries position →
-      IsKept new after less limit (filter (λ task. not (has_pid pid task)) tasks)
-  kept_remove new after less pid position entry at here updates shorter same_room room_stays is =
+      IsKept new after by_threads by_processes less limit (filter (λ task. not (has_pid pid task)) tasks)
+  kept_remove new after less pid position entry grouped at here updates shorter same_room room_stays is =
       let there = found_some pid position entry at here in
       let inside = position_within pid position at in
       let long : length after + 1 ≡ length entries = ap (λ (es : List Entry). length es + 1) is ∙ length-remove entries position inside in
@@ -123,6 +175,7 @@ module _ {slots : Slab Task} {entries : List Entry} {room limit : ℕ} {tasks : 
             ∙ holds_remove slots new entry.key there.0 there.1 updates entries tasks position (subst (λ p. IsAt p position tasks) (sym there.2) at) kept.holds
             ∙ ap (map Some) without;
         index = index;
+        grouped = grouped;
         groups = ap (map groups_told) is ∙ remove_both groups_told groups_of entries tasks position kept.groups ∙ ap (map groups_of) without;
         sound = record {
           rising = subst Rises without (rises_remove pid 0 position tasks kept.sound.rising at);
@@ -137,13 +190,14 @@ module _ {slots : Slab Task} {entries : List Entry} {room limit : ℕ} {tasks : 
 
   -- the entry of a pid gets another total
   pub kept_entry : (position : ℕ) (old new : Entry) → old ≡ get_or entries position old → new.pid ≡ old.pid → new.key ≡ old.key →
-      groups_told new ≡ groups_told old → IsKept slots (set entries position new) room limit tasks
+      groups_told new ≡ groups_told old → IsKept slots (set entries position new) threads processes room limit tasks
   kept_entry position old new is pid key groups =
       let index = map-set_same (λ (e : Entry). e.pid) entries position new old (pid ∙ ap (λ (e : Entry). e.pid) is) ∙ kept.index in
       record {
         holds = map-set_same (slot_of slots) entries position new old (ap (get slots) key ∙ ap (slot_of slots) is) ∙ kept.holds;
         index = index;
         groups = map-set_same groups_told entries position new old (groups ∙ ap groups_told is) ∙ kept.groups;
+        grouped = kept.grouped;
         sound = record {
           rising = kept.sound.rising;
           known = λ pid none. total-none pid (set entries position new) tasks index none;
@@ -156,11 +210,12 @@ module _ {slots : Slab Task} {entries : List Entry} {room limit : ℕ} {tasks : 
       }
 
   -- the slot of a pid gets another task with the pid, and the entry its groups
-  pub kept_set : (new : Slab Task) (after : List Entry) (position : ℕ) (entry : Entry) (task : Task) → IsAt task.spec.pid position tasks →
+  pub kept_set : (new : Slab Task) (after : List Entry) (position : ℕ) (entry : Entry) (task : Task) {by_threads by_processes : List Span} →
+      AreGrouped by_threads by_processes (map (λ other. cond (has_pid task.spec.pid other) task other) tasks) → IsAt task.spec.pid position tasks →
       entry ≡ get_or entries position entry → Updates slots new entry.key (Some task) → slab_len new ≡ slab_len slots →
       new.capacity ≡ slots.capacity → after ≡ set entries position (with_groups task entry) →
-      IsKept new after room limit (map (λ other. cond (has_pid task.spec.pid other) task other) tasks)
-  kept_set new after position entry task at here updates same_length same_room is =
+      IsKept new after by_threads by_processes room limit (map (λ other. cond (has_pid task.spec.pid other) task other) tasks)
+  kept_set new after position entry task grouped at here updates same_length same_room is =
       let now = with_groups task entry in
       let there = found_some task.spec.pid position entry at here in
       let inside = position_within task.spec.pid position at in
@@ -174,6 +229,7 @@ module _ {slots : Slab Task} {entries : List Entry} {room limit : ℕ} {tasks : 
             (others_elsewhere slots entry.key there.0 there.1 position entries tasks kept.holds (subst (λ p. IsAt p position tasks) (sym there.2) at)) kept.holds
             ∙ ap (map Some) with;
         index = index;
+        grouped = grouped;
         groups = ap (map groups_told) is ∙ map-set groups_told entries position now ∙ ap (λ (gs : List (ℕ × ℕ)). set gs position (groups_of task)) kept.groups
             ∙ sym (map-set groups_of tasks position task) ∙ ap (map groups_of) with;
         sound = record {
@@ -198,7 +254,7 @@ module _ {slots : Slab Task} {entries : List Entry} {room limit : ℕ} {tasks : 
   pub kept_changed : (change : Task → Task) (new : Slab Task) (pid position : ℕ) (entry : Entry) (task : Task) → (change task).spec ≡ task.spec →
       IsAt pid position tasks → entry ≡ get_or entries position entry → get slots entry.key ≡ Some task →
       Updates slots new entry.key (Some (change task)) → slab_len new ≡ slab_len slots → new.capacity ≡ slots.capacity →
-      IsKept new entries room limit (map (λ (other : Task). cond (has_pid pid other) (change other) other) tasks)
+      IsKept new entries threads processes room limit (map (λ (other : Task). cond (has_pid pid other) (change other) other) tasks)
   kept_changed change new pid position entry task spec at here in_slot updates same_length same_room =
       let now = change task in
       let there = found_some pid position entry at here in
@@ -209,16 +265,18 @@ module _ {slots : Slab Task} {entries : List Entry} {room limit : ℕ} {tasks : 
       let it = sym (found pid position entry at here) ∙ in_slot in
       let told : groups_told entry ≡ groups_of now =
       ap groups_told here
-      ∙ groups_at entries tasks kept.groups position entry task (position_within pid position at) (sym (find_at pid position tasks at) ∙ it)
+      ∙ both_at groups_told groups_of entries tasks kept.groups position entry task (position_within pid position at) (sym (find_at pid position tasks at) ∙ it)
       ∙ ap (λ (s : TaskSpec). (s.tgid, s.pgid)) (sym spec) in
       let same : with_groups now entry ≡ entry = (λ i. record entry { tgid = (sym told i).0; pgid = (sym told i).1 }) in
       let whole : entries ≡ set entries position (with_groups now entry) =
       sym (set-get_or entries position entry) ∙ ap (set entries position) (sym here ∙ sym same) in
-      subst (IsKept new entries room limit)
+      let at_now = subst (λ n. IsAt n position tasks) (sym has_now) at in
+      let grouped = grouped_alike now position task tasks kept.grouped at_now (sym (find_at pid position tasks at) ∙ it) (ap (λ (s : TaskSpec). (s.tgid, s.pid)) spec) (ap (λ (s : TaskSpec). (s.pgid, s.pid)) spec) in
+      subst (IsKept new entries threads processes room limit)
       (ap (λ n. map (λ (other : Task). cond (has_pid n other) now other) tasks) (ap (λ (s : TaskSpec). s.pid) spec)
       ∙ changed_each change tasks task kept.sound.rising (subst (λ n. find (has_pid n) tasks ≡ Some task) (sym has) it)
       ∙ ap (λ n. map (λ (other : Task). cond (has_pid n other) (change other) other) tasks) has)
-      (kept_set new entries position entry now (subst (λ n. IsAt n position tasks) (sym has_now) at) here updates same_length same_room
+      (kept_set new entries position entry now grouped at_now here updates same_length same_room
       whole)
 
 -- a write in a slot that has a task leaves how many there are
@@ -230,16 +288,17 @@ slab_len-with_value slots key old new has =
     omega (arith, counts, one)
 
 -- an open table keeps the tasks that it is seen as
-pub kept_of : (slots : Slab Task) (entries : List Entry) (room limit : ℕ) (table : Table) →
+pub kept_of : (slots : Slab Task) (entries : List Entry) (threads processes : List Span) (room limit : ℕ) (table : Table) →
     record { tasks = tasks_at slots entries; totals = totals_of entries; limit = limit } ≡ table →
-    IsKept slots entries room limit (tasks_at slots entries) → IsKept slots entries room limit table.tasks
-kept_of slots entries room limit table view kept = subst (λ (t : Table). IsKept slots entries room limit t.tasks) view kept
+    IsKept slots entries threads processes room limit (tasks_at slots entries) → IsKept slots entries threads processes room limit table.tasks
+kept_of slots entries threads processes room limit table view kept = subst (λ (t : Table). IsKept slots entries threads processes room limit t.tasks) view kept
 
 -- what a kept table is seen as
-pub seen_as : (slots : Slab Task) (entries : List Entry) (room limit : ℕ) (tasks : List Task) (old : ℕ) → IsKept slots entries room limit tasks → limit ≡ old →
+pub seen_as : (slots : Slab Task) (entries : List Entry) (threads processes : List Span) (room limit : ℕ) (tasks : List Task) (old : ℕ) →
+    IsKept slots entries threads processes room limit tasks → limit ≡ old →
     (λ (table : Table). table) (record { tasks = tasks_at slots entries; totals = totals_of entries; limit = limit })
     ≡ record { tasks = tasks; totals = totals_of entries; limit = old }
-seen_as slots entries room limit tasks old kept same =
+seen_as slots entries threads processes room limit tasks old kept same =
     let table : List Task → ℕ → Table = λ ts n. record { tasks = ts; totals = totals_of entries; limit = n } in
     ap (λ (ts : List Task). table ts limit) (kept_view kept) ∙ ap (table tasks) same
 
@@ -256,3 +315,22 @@ pub free_answer : (table : Table) (spec : TaskSpec) (position limit : ℕ) → I
     length table.tasks ≢ limit → Ok tt ≡ add_answer table spec
 free_answer table spec position limit gap same free =
     rw (find_none spec.pid table.tasks (none_gap spec.pid position table.tasks gap), ne_eqb (length table.tasks) table.limit (λ full. free (full ∙ sym same))) refl
+
+-- ---- a table with no task
+
+no_counts : (spans : List Span) → spans ≡ replicate 8192 no_span → AreSpans spans []
+no_counts spans none = record { counts = λ place. ap (λ (s : List Span). (span_at s place).count) none ∙ ap (λ (s : Span). s.count) (no_spans place 8192); leasts = tt }
+
+pub kept_empty : (slots : Slab Task) (threads processes : List Span) (room limit : ℕ) → slab_len slots ≡ 0 →
+    threads ≡ replicate 8192 no_span → processes ≡ replicate 8192 no_span → limit ≤ room → limit ≤ slots.capacity → limit < 2 ^ 16 →
+    IsKept slots [] threads processes room limit []
+kept_empty slots threads processes room limit empty no_threads no_processes entries tasks small = record {
+  holds = refl;
+  index = refl;
+  groups = refl;
+  sound = record { rising = tt; known = λ pid none. refl; few = omega arith; limit = small };
+  grouped = record { by_threads = no_counts threads no_threads; by_processes = no_counts processes no_processes };
+  counted = empty;
+  room_for_entries = entries;
+  room_for_tasks = tasks;
+}

@@ -1,5 +1,7 @@
 pub mod Rising
+pub mod Grouping
 pub mod Slots
+pub mod Grouped
 pub mod Kept
 pub mod Tables
 pub mod Totals

@@ -1,5 +1,5 @@
 -- A walk over a group: how the entries tell where its next task is.
-use Rattle.std.proofs.Common.{Bor, ◌≡◌, ℕ, zero, suc, ◌+◌, ◌<◌, Bool, true, false, List, [], ◌∷◌, map, length, get_or, drop, Option, Some, None, inl, inr, refl, sym, ap, ◌∙◌, subst, arith}
+use Rattle.std.proofs.Common.{Bor, ◌≡◌, ℕ, zero, suc, ◌+◌, ◌<◌, ◌≤◌, Bool, true, false, List, [], ◌∷◌, map, length, get_or, drop, Option, Some, None, inl, inr, refl, sym, ap, ◌∙◌, subst, arith}
 use Rattle.std.specs.Prelude.{◌==◌, ◌&&◌, nat_lt, filter, find, slice_get, option_copied, MatchOption, IfSome}
 use Rattle.std.specs.Iterator.{YieldsFirstRef}
 use Rattle.std.specs.List.{position, position_from}
@@ -68,7 +68,7 @@ module _ {X Y : Type 0} (p : X → Bool) (q : Y → Bool) where
 
 -- ---- a walk
 
-module _ (slots : Slab Task) (entries : List Entry) (walk : IsWalk slots entries) where
+module _ (slots : Slab Task) (entries : List Entry) {of : Group} {most : ℕ} (walk : IsWalk slots entries of most) where
   abbrev held : List Task
   held = tasks_at slots entries
 
@@ -77,11 +77,12 @@ module _ (slots : Slab Task) (entries : List Entry) (walk : IsWalk slots entries
   seen_from place = listed slots (drop place entries) _ (holds_drop slots entries held place walk.filled)
 
   -- from there on it goes on
-  pub walk_from : (place : ℕ) → IsWalk slots (drop place entries)
-  walk_from place = record {
+  pub walk_from : (place less : ℕ) → length (filter (is_in_group of) (tasks_at slots (drop place entries))) ≤ less → IsWalk slots (drop place entries) of less
+  walk_from place less bound = record {
     filled = filled slots (drop place entries) _ (holds_drop slots entries held place walk.filled);
-    groups = sym (drop-map groups_told place entries) ∙ ap (drop place) walk.groups ∙ drop-map groups_of place held
+    told = sym (drop-map groups_told place entries) ∙ ap (drop place) walk.told ∙ drop-map groups_of place held
         ∙ ap (map groups_of) (sym (seen_from place));
+    bound = bound;
   }
 
   -- the first entry of the group has the first task of it, and those behind it have the others
@@ -91,7 +92,7 @@ module _ (slots : Slab Task) (entries : List Entry) (walk : IsWalk slots entries
   walked_to group i d first =
       let at = position-Some (tells_group group) entries i d first in
       let next : suc i ≡ i + 1 = omega arith in
-      let found = first_passes (tells_group group) (is_in_group group) i entries held d (told_each group entries held walk.groups) at.0 at.1 at.2 in (
+      let found = first_passes (tells_group group) (is_in_group group) i entries held d (told_each group entries held walk.told) at.0 at.1 at.2 in (
         found.0,
         slot_at slots entries held walk.filled i d at.0 ∙ found.1,
         found.2
@@ -102,7 +103,7 @@ module _ (slots : Slab Task) (entries : List Entry) (walk : IsWalk slots entries
   -- where no entry is of the group, it has no task
   pub walked_out : (group : Group) → position (tells_group group) entries ≡ None → filter (is_in_group group) held ≡ []
   walked_out group none =
-      none_passes (tells_group group) (is_in_group group) 0 entries held (told_each group entries held walk.groups)
+      none_passes (tells_group group) (is_in_group group) 0 entries held (told_each group entries held walk.told)
       (sym (position_from-zero (tells_group group) entries) ∙ none)
 
 -- each task is one of all

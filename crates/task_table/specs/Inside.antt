@@ -1,5 +1,5 @@
 -- How a table keeps its tasks: in slots, with an index of entries. No public clause cites this module.
-use Rattle.std.specs.Prelude.{◌≡◌, ℕ, Bool, true, ◌==◌, ◌≤◌, List, map, length, Option, Some}
+use Rattle.std.specs.Prelude.{◌≡◌, ℕ, Bool, true, ◌==◌, ◌≤◌, List, map, length, filter, Option, Some}
 use Rattle.std.specs.List.{filter_map}
 use Rattle.slab.specs.Slab.{Slab, get, slab_len}
 use Rattle.cs_types.specs.declared.task.Task.{Task}
@@ -8,6 +8,9 @@ use Rattle.task_table.specs.declared.group.Group.{Group}
 use Rattle.task_table.specs.declared.group.Group.TheVariants.{All, Threads, Process}
 use Rattle.task_table.specs.Table.{IsSound}
 use Rattle.task_table.specs.Positions.{IsIndexOf}
+use Rattle.task_table.specs.Group.{is_in_group}
+use Rattle.task_table.specs.declared.spans.Span.{Span}
+use Rattle.task_table.specs.Grouping.{AreGrouped}
 
 -- the task in the slot of an entry
 abbrev pub slot_of : Slab Task → Entry → Option Task
@@ -46,17 +49,20 @@ groups_told entry = (entry.tgid, entry.pgid)
 abbrev pub TellGroups : List Entry → List Task → Type 0
 TellGroups entries tasks = map groups_told entries ≡ map groups_of tasks
 
--- a walk over these entries finds a task in each slot, and its groups in the entry
-pub record IsWalk (slots : Slab Task) (entries : List Entry) : Type 0 where
+-- a walk over these entries finds a task in each slot, and its groups in the entry, and at most so many are of the group
+pub record IsWalk (slots : Slab Task) (entries : List Entry) (group : Group) (most : ℕ) : Type 0 where
   pub filled : EachFilled slots entries
-  pub groups : TellGroups entries (tasks_at slots entries)
+  pub told : TellGroups entries (tasks_at slots entries)
+  pub bound : length (filter (is_in_group group) (tasks_at slots entries)) ≤ most
 
--- the entries name all slots that have a task, these tasks make a sound table, and the slots can take the limit
-pub record IsKept (slots : Slab Task) (entries : List Entry) (room limit : ℕ) (tasks : List Task) : Type 0 where
+-- the entries name all slots that have a task, these tasks make a sound table, the spans count them, and the slots can take
+-- the limit
+pub record IsKept (slots : Slab Task) (entries : List Entry) (threads processes : List Span) (room limit : ℕ) (tasks : List Task) : Type 0 where
   pub holds : Holds slots entries tasks
   pub index : IsIndexOf entries tasks
   pub groups : TellGroups entries tasks
   pub sound : IsSound (record { tasks = tasks; totals = totals_of entries; limit = limit })
+  pub grouped : AreGrouped threads processes tasks
   pub counted : slab_len slots ≡ length entries
   pub room_for_entries : limit ≤ room
   pub room_for_tasks : limit ≤ slots.capacity

@@ -1,5 +1,6 @@
 pub mod Table
 pub mod Group
 pub mod Positions
+pub mod Grouping
 pub mod Inside
 pub mod Walk

@@ -6,6 +6,7 @@ mod entry;
 mod fault;
 mod group;
 mod places;
+mod spans;
 mod table;
 mod tasks;
 

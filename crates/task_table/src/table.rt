@@ -1,18 +1,21 @@
 //! The table. It is apart since it alone keeps the slots and the index in step.
 
-ghost use Rattle.std.specs.Prelude.{◌≡◌, ℕ, ◌+◌, ◌<◌, ◌^◌, ◌≤◌, ◌==◌, ◌&&◌, nat_lt, [], ◌∷◌, length, map, drop, filter, find, not, Some, if◌then◌else◌, IfOk, IfNone, IfSome, OnOk, OnErr, MatchResult, MatchOption, option_copied, slice_get, IsSome};
+ghost use Rattle.std.specs.Prelude.{◌≡◌, ℕ, ◌+◌, ◌<◌, ◌^◌, ◌≤◌, ◌==◌, ◌&&◌, nat_lt, [], ◌∷◌, length, map, drop, filter, find, not, slice_set, List, IsTrue, Some, if◌then◌else◌, IfOk, IfNone, IfSome, OnOk, OnErr, MatchResult, MatchOption, option_copied, slice_get, IsSome};
 ghost use Rattle.std.specs.Option.{option_map};
 ghost use Rattle.cs_types.specs.Room.{asleep, inserted, has_pid};
 ghost use Rattle.cs_types.specs.declared.task.Task.{Task as SomeTask};
 ghost use Rattle.task_table.specs.Table.{Table, total_in, IsSound, add_answer};
 ghost use Rattle.task_table.specs.Group.{is_in_group, group_above};
 ghost use Rattle.task_table.specs.Walk.{WalksInOrder};
-ghost use Rattle.task_table.specs.Positions.{IsAt, IsGap, IsAbove};
+ghost use Rattle.std.specs.List.{AllByRecursion};
+ghost use Rattle.task_table.specs.Positions.{IsAt, IsGap, IsAbove, IsSplit};
+ghost use Rattle.task_table.specs.Grouping.{HasMember, Counts, AreSpans};
 
 use crate::entry::{Entry, position_above, position_of};
 use crate::fault::AddFault;
 use crate::group::Group;
 use crate::places::Places;
+use crate::spans::{Span, Spans};
 use crate::tasks::Tasks;
 use cs_types::{Cookie, Cpu, OutOfMemory, Pid, Task, TaskSpec};
 use slab::Slab;
@@ -27,6 +30,8 @@ pub struct TaskTable {
     /// An entry for each task, by rising pid.
     entries: Vec<Entry>,
     places: Places,
+    threads: Spans,
+    processes: Spans,
     limit: u16,
 }
 
@@ -43,7 +48,7 @@ impl Model for TaskTable {
       limit = table.limit;
     } };
 
-    ghost invariant = { λ table. IsKept table.slots table.entries.items (vec_capacity table.entries) table.limit
+    ghost invariant = { λ table. IsKept table.slots table.entries.items table.threads.all.items table.processes.all.items (vec_capacity table.entries) table.limit
         (tasks_at table.slots table.entries.items) };
 }
 
@@ -64,6 +69,27 @@ fn asleep(spec: TaskSpec) -> Task
     }
 }
 
+/// The entry tells the groups that the line of its task says, and the spans count it there. They are seldom others than
+/// before.
+#[inline(always)]
+fn regroup(entry: &mut Entry, threads: &mut Spans, processes: &mut Spans, spec: &TaskSpec)
+    requires threads { Counts threads.old.all.items entry.old.tgid entry.old.pid }
+    requires processes { Counts processes.old.all.items entry.old.pgid entry.old.pid }
+    ensures entry { entry.new ≡ record entry.old { tgid = spec.now.tgid; pgid = spec.now.pgid } }
+    ensures threads { (members : List (ℕ × ℕ)) (position : ℕ) → HasMember members position (entry.old.tgid, entry.old.pid) →
+        AreSpans threads.old.all.items members → AreSpans threads.new.all.items (slice_set members position (spec.now.tgid, entry.old.pid)) }
+    ensures processes { (members : List (ℕ × ℕ)) (position : ℕ) → HasMember members position (entry.old.pgid, entry.old.pid) →
+        AreSpans processes.old.all.items members → AreSpans processes.new.all.items (slice_set members position (spec.now.pgid, entry.old.pid)) }
+{
+    if entry.tgid == spec.tgid && entry.pgid == spec.pgid {
+        return;
+    }
+    threads.move_between(entry.tgid, spec.tgid, entry.pid);
+    processes.move_between(entry.pgid, spec.pgid, entry.pid);
+    entry.tgid = spec.tgid;
+    entry.pgid = spec.pgid;
+}
+
 impl TaskTable {
     /// An empty table that can take `limit` tasks. This call alone takes memory.
     pub fn with_limit(alloc: Global, limit: u16) -> Result<TaskTable, OutOfMemory>
@@ -74,6 +100,8 @@ impl TaskTable {
             slots: Slab::with_capacity(alloc, limit as usize)?,
             entries: Vec::with_capacity(alloc, limit as usize)?,
             places: Places::none(alloc)?,
+            threads: Spans::none(alloc)?,
+            processes: Spans::none(alloc)?,
             limit,
         })
     }
@@ -137,6 +165,8 @@ impl TaskTable {
         self.entries
             .insert(position, Entry::of(&spec, key))
             .unwrap();
+        self.threads.add(spec.tgid, spec.pid);
+        self.processes.add(spec.pgid, spec.pid);
         self.places.note(&self.entries, position);
         self.places.note_slot(spec.pid, key);
         Ok(())
@@ -230,9 +260,9 @@ impl TaskTable {
             return None;
         };
         let entry = &mut self.entries[position];
-        entry.tgid = task.spec.tgid;
-        entry.pgid = task.spec.pgid;
-        let slot = &mut self.slots[entry.key];
+        let key = entry.key;
+        regroup(entry, &mut self.threads, &mut self.processes, &task.spec);
+        let slot = &mut self.slots[key];
         let old = *slot;
         *slot = task;
         Some(old)
@@ -323,6 +353,8 @@ impl TaskTable {
         };
         let entry = self.entries.remove(position);
         let task = self.slots.remove(entry.key);
+        self.threads.remove(entry.tgid);
+        self.processes.remove(entry.pgid);
         self.places.note(&self.entries, position);
         Some((task, entry.forced))
     }
@@ -345,7 +377,49 @@ impl TaskTable {
         ensures there { IfSome result (λ next. find (has_pid next.now.spec.pid) self.now.tasks ≡ Some next.now) }
         ensures sound { IsSound self.now }
     {
-        self.members_from(group, self.position_above(after)).next()
+        self.members_from(group, self.position_above(after), self.entries.len())
+            .next()
+    }
+
+    /// The span of the group. That of all tasks is counted anew.
+    #[inline(always)]
+    fn span_of(&self, group: Group) -> Span
+        ensures count { length (filter (is_in_group group) self.now.tasks) ≤ result.count }
+        ensures least { AllByRecursion (λ task. IsTrue (is_in_group group task) → result.least ≤ task.spec.pid) self.now.tasks }
+    {
+        match group {
+            Group::All => Span {
+                count: self.entries.len() as u16,
+                least: 0,
+            },
+            Group::Threads(leader) => self.threads.of(leader),
+            Group::Process(number) => self.processes.of(number),
+        }
+    }
+
+    /// The position of the first task with this pid or a greater one, or the number of tasks.
+    #[inline(always)]
+    fn position_from(&self, pid: Pid) -> usize
+        ensures { IsSplit pid pid result self.now.tasks }
+    {
+        match self.position_of(pid) {
+            Ok(position) => position,
+            Err(position) => position,
+        }
+    }
+
+    /// At most so many tasks has the group, a count from 0 to the limit. It compares none of them.
+    pub fn most_in(&self, group: Group) -> u16
+        ensures most { length (filter (is_in_group group) self.now.tasks) ≤ result }
+    {
+        self.span_of(group).count
+    }
+
+    /// A pid below those of all tasks of the group, or 0: a walk over the group can begin with the next one above it.
+    pub fn below(&self, group: Group) -> Pid
+        ensures members { group_above group result self.now.tasks ≡ group_above group 0 self.now.tasks }
+    {
+        self.span_of(group).least.saturating_sub(1)
     }
 
     /// How many tasks there are, 0 to the limit.
@@ -371,17 +445,21 @@ impl TaskTable {
         ensures runs { WalksInOrder }
         ensures sound { IsSound self.now }
     {
-        self.members_from(group, 0)
+        let span = self.span_of(group);
+        self.members_from(group, self.position_from(span.least), span.count as usize)
     }
 
-    /// The tasks of the group from a position on, by rising pid.
-    fn members_from(&self, group: Group, position: usize) -> Tasks<'_>
-        requires { position ≤ length self.now.tasks }
+    /// The tasks of the group from a position on, by rising pid, which are at most so many.
+    #[inline(always)]
+    fn members_from(&self, group: Group, position: usize, most: usize) -> Tasks<'_>
+        requires within { position ≤ length self.now.tasks }
+        requires most { length (filter (is_in_group group) (drop position self.now.tasks)) ≤ most }
         ensures members { result ≡ filter (is_in_group group) (drop position self.now.tasks) }
         ensures sound { IsSound self.now }
     {
         Tasks {
             group,
+            most,
             entries: &self.entries[position..],
             slots: &self.slots,
         }

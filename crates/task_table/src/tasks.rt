@@ -1,5 +1,6 @@
 //! A walk over the tasks of a group.
 
+ghost use Rattle.std.specs.Prelude.{◌≡◌, ◌+◌, ◌≤◌, MatchOption};
 ghost use Rattle.std.specs.Iterator.{YieldsFirstRef, item_count};
 
 use crate::entry::{Entry, first_in};
@@ -12,6 +13,8 @@ use std::marker::Model;
 #[derive(Drop)]
 pub struct Tasks<'a> {
     pub(crate) group: Group,
+    /// At most so many are left, a count.
+    pub(crate) most: usize,
     pub(crate) entries: &'a [Entry],
     pub(crate) slots: &'a Slab<Task>,
 }
@@ -26,7 +29,18 @@ impl<'a> Model for Tasks<'a> {
 
     ghost view = { λ left. filter (is_in_group left.group) (tasks_at left.slots.now left.entries.now) };
 
-    ghost invariant = { λ left. IsWalk left.slots.now left.entries.now };
+    ghost invariant = { λ left. IsWalk left.slots.now left.entries.now left.group left.most };
+}
+
+/// At most so many are left behind the next one of a group. `None` where none was left. Those of all tasks are not counted.
+#[inline(always)]
+fn behind_next(group: Group, most: usize) -> Option<usize>
+    ensures { MatchOption result (most ≡ 0) (λ behind. most ≤ behind + 1) }
+{
+    match group {
+        Group::All => Some(most),
+        _ => most.checked_sub(1),
+    }
 }
 
 impl<'a> Iterator for Tasks<'a> {
@@ -38,7 +52,9 @@ impl<'a> Iterator for Tasks<'a> {
 
     #[inline(always)]
     fn next(&mut self) -> Option<&'a Task> {
+        let behind = behind_next(self.group, self.most)?;
         let position = first_in(self.entries, self.group)?;
+        self.most = behind;
         let key = self.entries[position].key;
         self.entries = &self.entries[position + 1..];
         self.slots.get(key)

@@ -1,8 +1,13 @@
 use Rattle.std.proofs.Common.{◌≡◌, ◌∙◌, ◌≤◌, List, Some, None, [], ◌∷◌, sym, ap, refl, length, arith, ltb}
-use Rattle.std.specs.Prelude.{◌&&◌}
+use Rattle.std.specs.Prelude.{◌&&◌, filter}
 use Rattle.std.proofs.lemmas.List.Sums.{length-filter, count_by-le-length}
 use Rattle.cs_types.specs.declared.task.Task.{Task}
 use Rattle.cs_types.specs.Room.{RoomState}
+use Rattle.cs_types.specs.Prctl.{set_cookies}
+use Rattle.cs_types.specs.Touches.{setting_touches}
+use Rattle.task_table.specs.declared.group.Group.{Group}
+use Rattle.core_lanes.specs.Numbers.{touched}
+use Rattle.core_events.specs.State.{room_with, state_numbers}
 use Rattle.task_table.specs.Group.{is_in_group, group_above}
 use Rattle.task_table.proofs.Tables.{above_kept}
 use Rattle.core_events.specs.Cookies.{setting}
@@ -19,14 +24,22 @@ none_left : (tasks : List Task) → length tasks ≤ 0 → tasks ≡ []
 none_left [] few = refl
 none_left (task ∷ tasks) few = absurd (omega arith)
 
+-- those above 0 are of the group
+members_above : (group : Group) (tasks : List Task) → length (group_above group 0 tasks) ≤ length (filter (is_in_group group) tasks)
+members_above group [] = omega arith
+members_above group (task ∷ tasks) = grind (arith, members_above group tasks)
+
 pub loop-init : goal.loop-init
-loop-init g c = record {
-  stays = same_stays;
-  own = c.requires.own;
-  room = λ intervals. refl;
-  numbers = refl;
-  left = omega (arith, few_members c.args.group c.args.self.now.tasks.tasks, c.len-end.ensures.len);
-}
+loop-init g c =
+    let tasks = c.args.self.now.tasks.tasks in
+    let members = c.below-after.ensures.members in
+    record {
+      stays = same_stays;
+      own = c.requires.own;
+      room = λ intervals. ap (λ (left : List Task). set_cookies (room_with intervals c.args.self.now) (setting left c.args.cookie)) members;
+      numbers = ap (λ (left : List Task). touched (setting_touches (setting left c.args.cookie)) (state_numbers c.args.self.now)) members;
+      left = omega (arith, ap length members, members_above c.args.group tasks, c.most_in-end.ensures.most);
+    }
 
 pub returns-in_default : goal.returns-in_default
 returns-in_default g c =

@@ -7,7 +7,7 @@ use Rattle.task_table.proofs.table.TaskTable.at.Goals as goal
 
 pub returns-clause-task : goal.returns-clause-task
 returns-clause-task c =
-    let kept = kept_of _ _ _ _ _ c.self.view_is c.self.invariant in
+    let kept = kept_of _ _ _ _ _ _ _ c.self.view_is c.self.invariant in
     let entries = c.self.inside.entries.items in
     let there = rw c.deref.ensures.value at c.in_ok-entry.ensures.lookup in
     c.get-2.ensures ∙ ap (slot_of c.self.inside.slots) there.1

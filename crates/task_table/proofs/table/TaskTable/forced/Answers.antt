@@ -8,11 +8,11 @@ use Rattle.task_table.proofs.table.TaskTable.forced.Goals as goal
 
 pub index-requires : goal.index-requires
 index-requires c =
-    omega (arith, c.self.inside.entries.ok.0, position_within (kept_of _ _ _ _ _ c.self.view_is c.self.invariant) c.args.pid c.in-Ok.position c.in-Ok.ensures.position)
+    omega (arith, c.self.inside.entries.ok.0, position_within (kept_of _ _ _ _ _ _ _ c.self.view_is c.self.invariant) c.args.pid c.in-Ok.position c.in-Ok.ensures.position)
 
 pub returns-in-Ok-clause-total : goal.returns-in-Ok-clause-total
 returns-in-Ok-clause-total c =
-    let kept = kept_of _ _ _ _ _ c.self.view_is c.self.invariant in
+    let kept = kept_of _ _ _ _ _ _ _ c.self.view_is c.self.invariant in
     let there = total-at c.args.pid c.in-Ok.position c.self.inside.entries.items c.args.self.now.tasks c.index.result.now kept.index c.in-Ok.ensures.position in
     ap (λ (entry : Entry). entry.forced) c.index.ensures ∙ sym there.1 ∙ ap (λ (table : Table). total_in table c.args.pid) c.self.view_is
 

@@ -12,18 +12,19 @@ use Rattle.task_table.proofs.table.TaskTable.give_cookie.Goals as goal
 
 pub index-requires : goal.index-requires
 index-requires c =
-    omega (arith, c.self.inside.entries.ok.0, position_within (kept_of _ _ _ _ _ c.self.view_is c.self.invariant) c.args.pid c.in-Ok.position c.in-Ok.ensures.position)
+    omega (arith, c.self.inside.entries.ok.0, position_within (kept_of _ _ _ _ _ _ _ c.self.view_is c.self.invariant) c.args.pid c.in-Ok.position c.in-Ok.ensures.position)
 
 pub index_mut-requires : goal.index_mut-requires
 index_mut-requires c =
-    let there = found_some (kept_of _ _ _ _ _ c.self.view_is c.self.invariant) c.args.pid c.in-Ok.position _ c.in-Ok.ensures.position c.index.ensures in
+    let there = found_some (kept_of _ _ _ _ _ _ _ c.self.view_is c.self.invariant) c.args.pid c.in-Ok.position _ c.in-Ok.ensures.position c.index.ensures in
     rw there.1 refl
 
 after : (c : goal.After-self-1) → IsKept (with_value c.self.inside.slots c.index.result.now.key (record c.index_mut.result.now { cookie = c.args.cookie })) c.self.inside.entries.items
+    c.self.inside.threads.all.items c.self.inside.processes.all.items
     (vec_capacity c.self.inside.entries) c.self.inside.limit
     (map (λ (task : Task). if has_pid c.args.pid task then record task { cookie = c.args.cookie } else task) c.args.self.now.tasks)
 after c =
-    let kept = kept_of _ _ _ _ _ c.self.view_is c.self.invariant in
+    let kept = kept_of _ _ _ _ _ _ _ c.self.view_is c.self.invariant in
     let slots = c.self.inside.slots in
     let key = c.index.result.now.key in
     let task = c.index_mut.result.now in
@@ -36,7 +37,7 @@ invariant_of-self c = kept_again (after c)
 
 pub returns-in-Ok-clause-given : goal.returns-in-Ok-clause-given
 returns-in-Ok-clause-given c =
-    seen_as _ _ _ _ _ _ (after c) (ap (λ (t : Table). t.limit) c.self.view_is)
+    seen_as _ _ _ _ _ _ _ _ (after c) (ap (λ (t : Table). t.limit) c.self.view_is)
     ∙ ap (λ (t : Table). let table : Table = record c.args.self.now {
       tasks = map (λ (task : Task). if has_pid c.args.pid task then record task { cookie = c.args.cookie } else task) c.args.self.now.tasks;
       totals = t.totals;

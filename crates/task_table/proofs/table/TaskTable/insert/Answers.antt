@@ -6,23 +6,26 @@ use Rattle.task_table.specs.Inside.{totals_of, IsKept}
 use Rattle.task_table.specs.declared.entry.Entry.{Entry}
 use Rattle.task_table.proofs.Totals.{total-insert}
 use Rattle.task_table.proofs.Kept.{kept_of, kept_again, kept_length, seen_as, gap_in_entries, kept_insert, full_answer, free_answer}
+use Rattle.task_table.proofs.Grouped.{grouped_insert}
 use Rattle.task_table.proofs.table.TaskTable.insert.Goals as goal
 
 pub returns-then-len-self-clause-answer : goal.returns-then-len-self-clause-answer
 returns-then-len-self-clause-answer c =
-    let kept = kept_of _ _ _ _ _ c.self.view_is c.self.invariant in
+    let kept = kept_of _ _ _ _ _ _ _ c.self.view_is c.self.invariant in
     full_answer c.args.self.now c.args.spec c.args.position c.self.inside.limit c.requires
     (ap (λ (t : Table). t.limit) c.self.view_is) (sym (kept_length kept) ∙ sym c.self.inside.entries.ok.0 ∙ sym c.len.ensures ∙ c.if-len-self.true)
 
 pub insert-requires : goal.insert-requires
 insert-requires c =
-    omega (arith, c.self.inside.entries.ok.0, gap_in_entries (kept_of _ _ _ _ _ c.self.view_is c.self.invariant) c.args.spec.pid c.args.position c.requires)
+    omega (arith, c.self.inside.entries.ok.0, gap_in_entries (kept_of _ _ _ _ _ _ _ c.self.view_is c.self.invariant) c.args.spec.pid c.args.position c.requires)
 
 after : (c : goal.After-note_slot) → IsKept c.insert_reserved-key.new.self c.insert.new.self.items
-    (vec_capacity c.insert.new.self) c.self.inside.limit (inserted (asleep c.args.spec) c.args.self.now.tasks)
+    c.add.new.self.all.items c.add-2.new.self.all.items (vec_capacity c.insert.new.self) c.self.inside.limit (inserted (asleep c.args.spec) c.args.self.now.tasks)
 after c =
-    kept_insert (kept_of _ _ _ _ _ c.self.view_is c.self.invariant) c.insert_reserved-key.new.self c.insert.new.self.items _ c.insert_reserved-key.result
-    c.args.position (asleep c.args.spec) c.requires c.insert_reserved-key.ensures.was_vacant
+    kept_insert (kept_of _ _ _ _ _ _ _ c.self.view_is c.self.invariant) c.insert_reserved-key.new.self c.insert.new.self.items _ c.insert_reserved-key.result
+    c.args.position (asleep c.args.spec)
+    (grouped_insert (asleep c.args.spec) c.args.position c.args.self.now.tasks (kept_of _ _ _ _ _ _ _ c.self.view_is c.self.invariant).grouped c.requires c.add.ensures c.add-2.ensures)
+    c.requires c.insert_reserved-key.ensures.was_vacant
     (rw c.asleep.ensures at c.insert_reserved-key.ensures.updates) c.insert_reserved-key.ensures.len c.insert_reserved-key.ensures.capacity
     c.insert.ensures.capacity (λ full. c.if-len-self.false (c.len.ensures ∙ c.self.inside.entries.ok.0 ∙ full)) (rw (c.unwrap.ensures, c.of.ensures) at c.insert.ensures.items)
 
@@ -31,12 +34,12 @@ invariant_of-self c = kept_again (after c)
 
 pub returns-clause-answer : goal.returns-clause-answer
 returns-clause-answer c =
-    let kept = kept_of _ _ _ _ _ c.self.view_is c.self.invariant in
+    let kept = kept_of _ _ _ _ _ _ _ c.self.view_is c.self.invariant in
     free_answer c.args.self.now c.args.spec c.args.position c.self.inside.limit c.requires
     (ap (λ (t : Table). t.limit) c.self.view_is) (λ full. c.if-len-self.false (c.len.ensures ∙ c.self.inside.entries.ok.0 ∙ kept_length kept ∙ full))
 
 pub returns-clause-added : goal.returns-clause-added
-returns-clause-added c = seen_as _ _ _ _ _ _ (after c) (ap (λ (t : Table). t.limit) c.self.view_is)
+returns-clause-added c = seen_as _ _ _ _ _ _ _ _ (after c) (ap (λ (t : Table). t.limit) c.self.view_is)
 
 pub returns-clause-sound : goal.returns-clause-sound
 returns-clause-sound c = (kept_again (after c)).sound

@@ -9,7 +9,7 @@ overflow_add-result c =
       arith,
       c.self.inside.entries.ok.0,
       c.self.inside.entries.ok.1,
-      position_within (kept_of _ _ _ _ _ c.self.view_is c.self.invariant) c.args.pid c.in-Some.position c.in-Some.ensures,
+      position_within (kept_of _ _ _ _ _ _ _ c.self.view_is c.self.invariant) c.args.pid c.in-Some.position c.in-Some.ensures,
     )
 
 pub returns-in-Some : goal.returns-in-Some
@@ -17,5 +17,5 @@ returns-in-Some c = above_at c.args.pid c.in-Some.position c.args.self.now.tasks
 
 pub returns-in-None : goal.returns-in-None
 returns-in-None c =
-    let kept = kept_of _ _ _ _ _ c.self.view_is c.self.invariant in
+    let kept = kept_of _ _ _ _ _ _ _ c.self.view_is c.self.invariant in
     c.position_above.ensures c.args.self.now.tasks (rw c.deref.ensures.value kept.index) kept.sound.rising

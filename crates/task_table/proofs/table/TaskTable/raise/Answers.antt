@@ -18,11 +18,11 @@ unreachable-requires c =
 
 pub index_mut-requires : goal.index_mut-requires
 index_mut-requires c =
-    omega (arith, c.self.inside.entries.ok.0, position_within (kept_of _ _ _ _ _ c.self.view_is c.self.invariant) c.args.pid c.in-Ok.position c.in-Ok.ensures.position)
+    omega (arith, c.self.inside.entries.ok.0, position_within (kept_of _ _ _ _ _ _ _ c.self.view_is c.self.invariant) c.args.pid c.in-Ok.position c.in-Ok.ensures.position)
 
 pub overflow_add-index_mut : goal.overflow_add-index_mut
 overflow_add-index_mut c =
-    let kept = kept_of _ _ _ _ _ c.self.view_is c.self.invariant in
+    let kept = kept_of _ _ _ _ _ _ _ c.self.view_is c.self.invariant in
     let there = total-at c.args.pid c.in-Ok.position c.self.inside.entries.items c.args.self.now.tasks c.index_mut.result.now kept.index c.in-Ok.ensures.position in
     omega (
       arith,
@@ -33,18 +33,19 @@ overflow_add-index_mut c =
     )
 
 after : (c : goal.After-self-1) → IsKept c.self.inside.slots (set c.self.inside.entries.items c.in-Ok.position (record c.index_mut.result.now { forced = c.index_mut.result.now.forced + c.args.share }))
+    c.self.inside.threads.all.items c.self.inside.processes.all.items
     (vec_capacity c.self.inside.entries) c.self.inside.limit c.args.self.now.tasks
-after c = kept_entry (kept_of _ _ _ _ _ c.self.view_is c.self.invariant) c.in-Ok.position c.index_mut.result.now _ c.index_mut.ensures.value refl refl refl
+after c = kept_entry (kept_of _ _ _ _ _ _ _ c.self.view_is c.self.invariant) c.in-Ok.position c.index_mut.result.now _ c.index_mut.ensures.value refl refl refl
 
 pub invariant_of-self : goal.invariant_of-self
 invariant_of-self c = kept_again (after c)
 
 pub returns-clause-rest : goal.returns-clause-rest
-returns-clause-rest c = seen_as _ _ _ _ _ _ (after c) (ap (λ (t : Table). t.limit) c.self.view_is)
+returns-clause-rest c = seen_as _ _ _ _ _ _ _ _ (after c) (ap (λ (t : Table). t.limit) c.self.view_is)
 
 pub returns-clause-totals : goal.returns-clause-totals
 returns-clause-totals c other =
-    let kept = kept_of _ _ _ _ _ c.self.view_is c.self.invariant in
+    let kept = kept_of _ _ _ _ _ _ _ c.self.view_is c.self.invariant in
     let old = c.self.inside.entries.items in
     let there = total-at c.args.pid c.in-Ok.position old c.args.self.now.tasks c.index_mut.result.now kept.index c.in-Ok.ensures.position in
     total-set c.args.pid other c.in-Ok.position c.args.share old _ c.index_mut.result.now (position_within kept c.args.pid c.in-Ok.position c.in-Ok.ensures.position)

@@ -1,5 +1,6 @@
-use Rattle.std.proofs.Common.{◌≡◌, ◌-◌, ◌∙◌, ◌∷◌, ◌+◌, List, length, filter, take, drop, subst, sym, ap}
+use Rattle.std.proofs.Common.{refl, ◌≡◌, ◌-◌, ◌∙◌, ◌∷◌, ◌+◌, List, length, filter, take, drop, subst, sym, ap, arith, [], ◌≤◌}
 use Rattle.std.proofs.lemmas.List.{take_rest}
+use Rattle.cs_types.specs.declared.task.Task.{Task}
 use Rattle.task_table.specs.declared.entry.Entry.{Entry}
 use Rattle.task_table.specs.Group.{is_in_group}
 use Rattle.task_table.specs.Inside.{tasks_at, IsWalk}
@@ -13,12 +14,18 @@ part c = take_rest c.self.inside.entries.now (c.in_ok-position.position + 1)
 
 pub invariant_of-self : goal.invariant_of-self
 invariant_of-self c =
-    subst (IsWalk c.self.inside.slots.now) (sym (part c))
-    (walk_from c.self.inside.slots.now c.self.inside.entries.now c.self.invariant (c.in_ok-position.position + 1))
+    let slots = c.self.inside.slots.now in
+    let group = c.self.inside.group in
+    let entries = c.self.inside.entries.now in
+    let none : Entry = record { pid = 0; tgid = 0; pgid = 0; key = 0; forced = 0 } in
+    let first = walked_to slots entries c.self.invariant group c.in_ok-position.position none (sym c.first_in.ensures ∙ c.in_ok-position.was) in
+    subst (λ es. IsWalk slots es group c.in_ok-behind.behind) (sym (part c))
+    (walk_from slots entries c.self.invariant (c.in_ok-position.position + 1) c.in_ok-behind.behind
+    (omega (arith, ap length first.2, c.self.invariant.bound, c.in_ok-behind.ensures)))
 
 pub returns-in_err-position-clause-steps : goal.returns-in_err-position-clause-steps
 returns-in_err-position-clause-steps c =
-    steps_out c.args.self.now c.from_residual.result c.from_residual.ensures
+    steps_out c.args.self.now c.from_residual-in_err-position.result c.from_residual-in_err-position.ensures
     (sym c.self.view_is
     ∙ walked_out c.self.inside.slots.now c.self.inside.entries.now c.self.invariant c.self.inside.group (sym c.first_in.ensures ∙ c.in_err-position.was))
 
@@ -33,3 +40,13 @@ returns-clause-steps c =
 
 pub returns-clause-goes : goal.returns-clause-goes
 returns-clause-goes c = goes_on (λ _. tt) c.args.self.now c.get.result _ (returns-clause-steps c)
+
+-- where none is left, there is none
+none_left : (tasks : List Task) → length tasks ≤ 0 → tasks ≡ []
+none_left [] few = refl
+none_left (task ∷ tasks) few = absurd (omega arith)
+
+pub returns-in_err-behind-clause-steps : goal.returns-in_err-behind-clause-steps
+returns-in_err-behind-clause-steps c =
+    steps_out c.args.self.now c.from_residual.result c.from_residual.ensures
+    (none_left c.args.self.now (omega (arith, ap length c.self.view_is, c.self.invariant.bound, c.in_err-behind.ensures)))
