@@ -351,10 +351,8 @@ impl<Q: SiblingQueue> Core<Q> {
         ensures told { IsPermutation (map mover_of (queued_among table.now.tasks leaving)) movers.new.items }
         ensures rising { IsSortedByKey (λ mover. mover.0) nat_cmp movers.new.items }
     {
-        self.lanes[leaving as usize]
-            .queue
-            .clear_into(table, leaving, movers);
-        movers.sort_unstable_by_key(|mover| mover.0);
+        self.tell_queued(table, leaving, movers);
+        self.lanes[leaving as usize].queue.clear(table, leaving);
     }
 
     /// The task leaves its home, whose queue is empty already, and enters the queue of its new one with the next stamp.

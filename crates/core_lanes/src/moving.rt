@@ -79,12 +79,14 @@ impl<Q: SiblingQueue> Core<Q> {
         self.task_number += 2;
     }
 
-    /// The queues of the two siblings change places, and the one that moved has its tasks as they are now.
+    /// The queues of the two siblings change places, and the one that moved has its tasks as they are now. The list may
+    /// tell it in which order they moved.
     pub fn exchange<L: Ledger>(
         &mut self,
         table: &TaskTable,
         from: Cpu,
         to: Cpu,
+        movers: &Movers,
         steps: &mut Steps<L>,
     )
         requires { MayExchange from to (self.old, table.now) }
@@ -92,6 +94,6 @@ impl<Q: SiblingQueue> Core<Q> {
         ensures held { AreHeld (self.new, table.now) }
     {
         swap_queues(&mut self.lanes, from as usize, to as usize);
-        self.lanes[to as usize].queue.renew(table, to, steps);
+        self.lanes[to as usize].queue.renew(table, to, movers, steps);
     }
 }

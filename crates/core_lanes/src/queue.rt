@@ -1,6 +1,6 @@
 //! What a sibling's queue is asked. It is a trait, so that one text of the events serves every kind of queue.
 
-ghost use Rattle.std.specs.Prelude.{◌≡◌, ◌≢◌, ◌==◌, ◌&&◌, ℕ, ◌+◌, ◌*◌, ◌≤◌, List, [], ◌++◌, length, map, IfOk, IsPermutation};
+ghost use Rattle.std.specs.Prelude.{◌≡◌, ◌≢◌, ◌==◌, ◌&&◌, ℕ, ◌+◌, ◌*◌, ◌≤◌, List, [], length, map, IfOk, IsPermutation};
 ghost use Rattle.std.specs.Option.{option_map};
 ghost use Rattle.cs_types.specs.declared.queue.Queued.{Queued as SomeQueued, Queued};
 ghost use Rattle.cs_types.specs.Order.{first_of};
@@ -79,23 +79,28 @@ pub trait SiblingQueue: Drop {
         // It may leave and enter.
         ensures counted { steps.new ≤ steps.old + 2 * most_compared (length (queued_among table.now.tasks cpu)) };
 
-    /// Every task leaves, and each is told by its stamp and its pid, in any order. It can take as many in all as
-    /// before. There is a place for each task in the list.
-    fn clear_into(&mut self, table: &TaskTable, cpu: Cpu, movers: &mut Movers)
-        requires places { length movers.old.items + length (queued_among table.now.tasks cpu) ≤ 256 }
-        requires holds { holds self.old table.now.limit (queued_at table.now.tasks cpu) }
-        ensures holds { holds self.new table.now.limit [] }
-        ensures told { IsPermutation (movers.old.items ++ map mover_of (queued_among table.now.tasks cpu)) movers.new.items };
+    /// Every task leaves. It can take as many in all as before.
+    fn clear(&mut self, table: &TaskTable, cpu: Cpu)
+        requires { holds self.old table.now.limit (queued_at table.now.tasks cpu) }
+        ensures { holds self.new table.now.limit [] };
 
-    /// Each task is told, in any order. There is a place for each task in the list.
+    /// Each task is told by its stamp and its pid, in any order, in a list that has none yet.
     fn tell_into(&self, table: &TaskTable, cpu: Cpu, movers: &mut Movers)
-        requires places { length movers.old.items + length (queued_among table.now.tasks cpu) ≤ 256 }
+        requires none { movers.old.items ≡ [] }
+        requires few { length (queued_among table.now.tasks cpu) ≤ 256 }
         requires holds { holds self.now table.now.limit (queued_at table.now.tasks cpu) }
-        ensures told { IsPermutation (movers.old.items ++ map mover_of (queued_among table.now.tasks cpu)) movers.new.items };
+        ensures told { IsPermutation (map mover_of (queued_among table.now.tasks cpu)) movers.new.items };
 
     /// All tasks that it holds have moved to the sibling in the table, in the order in which they stand. It holds them
-    /// as they are now. It makes at most three times as many comparisons as another call.
-    fn renew<L: Ledger>(&mut self, table: &TaskTable, cpu: Cpu, steps: &mut Steps<L>)
+    /// as they are now. It makes at most three times as many comparisons as another call. The list may tell it in which
+    /// order they moved; nothing that it promises rests on that.
+    fn renew<L: Ledger>(
+        &mut self,
+        table: &TaskTable,
+        cpu: Cpu,
+        movers: &Movers,
+        steps: &mut Steps<L>,
+    )
         requires { MayRenew (holds self.old table.now.limit) cpu table.now }
         ensures holds { holds self.new table.now.limit (queued_at table.now.tasks cpu) }
         ensures counted { steps.new ≤ steps.old + 3 * most_compared (length (queued_among table.now.tasks cpu)) };

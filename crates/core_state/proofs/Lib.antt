@@ -10,3 +10,4 @@ pub mod Crosses
 pub mod Compared
 pub mod Firsts
 pub mod Moved
+pub mod Told

@@ -1,6 +1,7 @@
 //! The fast machine: the queues of its siblings are ordered trees.
 #![tactic(auto)]
 
+mod arrivals;
 mod first;
 mod queue;
 mod renewed;

@@ -1,6 +1,7 @@
 //! The queue with trees: each question is answered from the ordered trees of a run queue, and the table tells the
 //! task of a pid.
 
+use crate::arrivals::Arrivals;
 use crate::first::{enter, find_first, find_first_with, give_cookie, is_of};
 use crate::renewed::Renewed;
 use crate::task::{KINDS, LOTS, kind_of, lot_of};
@@ -20,6 +21,8 @@ pub struct TreeQueue {
     first: Option<Queued>,
     kinds: [u16; KINDS],
     lots: [u16; LOTS],
+    /// The tasks that came, of which some may have left.
+    arrivals: Arrivals,
 }
 
 impl SiblingQueue for TreeQueue {
@@ -33,6 +36,7 @@ impl SiblingQueue for TreeQueue {
     ghost most_compared = { most_of_call };
 
     fn with_capacity(alloc: Global, most: u16) -> Result<TreeQueue, OutOfMemory> {
+        let arrivals = Arrivals::with_capacity(alloc, most)?;
         let mut run = RunQueue::empty(alloc);
         run.reserve(u32::from(most))?;
         Ok(TreeQueue {
@@ -40,6 +44,7 @@ impl SiblingQueue for TreeQueue {
             first: None,
             kinds: [0; KINDS],
             lots: [0; LOTS],
+            arrivals,
         })
     }
 
@@ -49,6 +54,7 @@ impl SiblingQueue for TreeQueue {
         self.run.enqueue(queued, steps);
         self.kinds[kind_of(task)] += 1;
         self.lots[lot_of(task.cookie)] += 1;
+        self.arrivals.note(task.stamp, task.spec.pid);
     }
 
     fn take<L: Ledger>(&mut self, table: &TaskTable, _cpu: Cpu, task: &Task, steps: &mut Steps<L>) {
@@ -94,20 +100,32 @@ impl SiblingQueue for TreeQueue {
         }
     }
 
-    fn clear_into(&mut self, _table: &TaskTable, _cpu: Cpu, movers: &mut Movers) {
-        self.run.clear_into(movers);
+    fn clear(&mut self, _table: &TaskTable, _cpu: Cpu) {
+        self.run.clear();
+        self.arrivals.clear();
         self.first = None;
         self.kinds = [0; KINDS];
         self.lots = [0; LOTS];
     }
 
-    fn tell_into(&self, _table: &TaskTable, _cpu: Cpu, movers: &mut Movers) {
+    fn tell_into(&self, table: &TaskTable, cpu: Cpu, movers: &mut Movers) {
+        let count = self.run.count() as usize;
+        if self.arrivals.tell(table, cpu, count, movers) {
+            return;
+        }
         self.run.tell_into(movers);
     }
 
-    fn renew<L: Ledger>(&mut self, table: &TaskTable, _cpu: Cpu, steps: &mut Steps<L>) {
+    fn renew<L: Ledger>(
+        &mut self,
+        table: &TaskTable,
+        _cpu: Cpu,
+        movers: &Movers,
+        steps: &mut Steps<L>,
+    ) {
         self.run.renew(&Renewed { table }, steps);
         self.first = find_first(&self.run, table, steps);
+        self.arrivals.renew(table, movers);
     }
 
     #[inline(always)]

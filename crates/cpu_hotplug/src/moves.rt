@@ -97,7 +97,7 @@ fn move_queue<Q: SiblingQueue, L: Ledger>(
         let moved = core.moved_to(to, task);
         core.place(table, &moved);
     }
-    core.exchange(table, cpu, to, steps);
+    core.exchange(table, cpu, to, &movers, steps);
 }
 
 /// The tasks move one by one.

@@ -131,18 +131,6 @@ impl OrderTree {
         free_all(&mut self.count, &mut self.spare);
     }
 
-    /// Takes out all pids, and tells them by rising key, each with the stamp of its key. It compares no key.
-    pub fn clear_into(&mut self, movers: &mut Movers)
-        requires room { length movers.old.items + map.len self.old.members ≤ 256 }
-        ensures told { movers.new.items ≡ movers.old.items ++ list.map stamped (map.entries self.old.members) }
-        ensures members { self.new.members ≡ map.empty }
-        ensures spare { self.new.spare ≡ self.old.spare + map.len self.old.members }
-    {
-        mem::replace(&mut self.tree, Tree::empty()).give_told(&mut self.nodes, movers);
-        self.first = None;
-        free_all(&mut self.count, &mut self.spare);
-    }
-
     /// Tells all pids by rising key, each with the stamp of its key. It compares no key.
     pub fn tell_into(&self, movers: &mut Movers)
         requires room { length movers.old.items + map.len self.now.members ≤ 256 }

@@ -49,14 +49,12 @@ impl RankTree {
         }
     }
 
-    /// Every task leaves, and each is told by its stamp and its pid, in any order.
-    pub fn clear_into(&mut self, movers: &mut Movers)
-        requires room { length movers.old.items + len self.old.members ≤ 256 }
-        ensures told { IsPermutation (movers.old.items ++ map stamped (entries self.old.members)) movers.new.items }
+    /// Every task leaves.
+    pub fn clear(&mut self)
         ensures members { self.new.members ≡ empty }
         ensures spare { self.new.spare ≡ self.old.spare + len self.old.members }
     {
-        self.tree.clear_into(movers);
+        self.tree.clear();
     }
 
     /// The task at a rank, which is there, has another rank, at which none has its stamp.

@@ -110,19 +110,6 @@ impl RecentTree {
         self.tree.clear();
     }
 
-    /// Takes out all pids, and tells each with the stamp of its key, in any order. It compares no key.
-    pub fn clear_into(&mut self, movers: &mut Movers)
-        requires room { length movers.old.items + map.len self.old.members ≤ 256 }
-        ensures told { IsPermutation (movers.old.items ++ list.map stamped (map.entries self.old.members)) movers.new.items }
-        ensures members { self.new.members ≡ map.empty }
-        ensures spare { self.new.spare ≡ self.old.spare + map.len self.old.members }
-    {
-        if let Some((key, pid)) = self.recent.take() {
-            movers.push((key.stamp, pid));
-        }
-        self.tree.clear_into(movers);
-    }
-
     /// Tells all pids, each with the stamp of its key, in any order. It compares no key.
     pub fn tell_into(&self, movers: &mut Movers)
         requires room { length movers.old.items + map.len self.now.members ≤ 256 }

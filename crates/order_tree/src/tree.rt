@@ -242,23 +242,6 @@ impl Tree {
         parts.right.give(nodes);
     }
 
-    /// The same, and each pid is told on the way, by rising key, with the stamp of its key.
-    pub fn give_told(self, nodes: &mut Vec<Box<Node>>, movers: &mut Movers)
-        requires places { length nodes.old.items + length self.entries ≤ vec_capacity nodes.old }
-        requires room { length movers.old.items + length self.entries ≤ 256 }
-        ensures nodes { length nodes.new.items ≡ length nodes.old.items + length self.entries }
-        ensures places { vec_capacity nodes.old ≤ vec_capacity nodes.new }
-        ensures told { movers.new.items ≡ movers.old.items ++ map stamped self.entries }
-    {
-        let Some(parts) = self.open() else {
-            return;
-        };
-        parts.left.give_told(nodes, movers);
-        movers.push((parts.node.key.stamp, parts.node.pid));
-        nodes.push_reserved(parts.node);
-        parts.right.give_told(nodes, movers);
-    }
-
     /// Tells its pids by rising key, each with the stamp of its key. It compares no key.
     pub fn tell(&self, movers: &mut Movers)
         requires room { length movers.old.items + length self.now.entries ≤ 256 }

@@ -80,15 +80,19 @@ impl SiblingQueue for Walk {
         _steps: &mut Steps<L>,
     ) {}
 
-    fn clear_into(&mut self, table: &TaskTable, cpu: Cpu, movers: &mut Movers) {
-        tell(table, cpu, movers);
-    }
+    fn clear(&mut self, _table: &TaskTable, _cpu: Cpu) {}
 
     fn tell_into(&self, table: &TaskTable, cpu: Cpu, movers: &mut Movers) {
         tell(table, cpu, movers);
     }
 
-    fn renew<L: Ledger>(&mut self, _table: &TaskTable, _cpu: Cpu, _steps: &mut Steps<L>) {}
+    fn renew<L: Ledger>(
+        &mut self,
+        _table: &TaskTable,
+        _cpu: Cpu,
+        _movers: &Movers,
+        _steps: &mut Steps<L>,
+    ) {}
 
     fn first<L: Ledger>(
         &self,

@@ -136,17 +136,15 @@ impl Classes {
         self.fair.set_rank(rank, later, stamp, pid, steps);
     }
 
-    /// Every task leaves, and each is told by its stamp and its pid, in any order.
-    pub fn clear_into(&mut self, movers: &mut Movers)
-        requires room { length movers.old.items + map.len self.old.tasks ≤ 256 }
-        ensures told { IsPermutation (movers.old.items ++ list.map stamped (map.entries self.old.tasks)) movers.new.items }
+    /// Every task leaves.
+    pub fn clear(&mut self)
         ensures tasks { self.new.tasks ≡ map.empty }
         ensures spare { self.new.spare ≡ self.old.spare + map.len self.old.tasks }
     {
-        self.stop.clear_into(movers);
-        self.deadline.clear_into(movers);
-        self.real_time.clear_into(movers);
-        self.fair.clear_into(movers);
+        self.stop.clear();
+        self.deadline.clear();
+        self.real_time.clear();
+        self.fair.clear();
     }
 
     /// Each task is told by its stamp and its pid, in any order.

@@ -186,15 +186,13 @@ impl RunQueue {
         }
     }
 
-    /// Every task leaves, and each is told by its stamp and its pid, in any order.
-    pub fn clear_into(&mut self, movers: &mut Movers)
-        requires room { length movers.old.items + map.len self.old.tasks ≤ 256 }
-        ensures told { IsPermutation (movers.old.items ++ list.map stamped (map.entries self.old.tasks)) movers.new.items }
+    /// Every task leaves.
+    pub fn clear(&mut self)
         ensures tasks { self.new.tasks ≡ map.empty }
         ensures cookies { self.new.cookies ≡ map.empty }
         ensures spare { self.new.spare ≡ self.old.spare + map.len self.old.tasks }
     {
-        self.classes.clear_into(movers);
+        self.classes.clear();
         self.cookies.clear();
     }
 

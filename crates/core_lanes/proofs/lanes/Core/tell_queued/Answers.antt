@@ -1,4 +1,4 @@
-use Rattle.std.proofs.Common.{ℕ, List, ◌++◌, map, sym, subst, ap, length, arith, rules}
+use Rattle.std.proofs.Common.{ℕ, map, sym, subst, arith, rules}
 use Rattle.std.specs.Prelude.{◌==◌, ◌&&◌}
 use Rattle.std.specs.Ordering.{nat_cmp}
 use Rattle.std.specs.List.Sorted.{IsPermutation, IsSortedByKey}
@@ -18,9 +18,9 @@ tell_into-requires g c =
     let leaving = c.args.cpu in
     let lane = c.index.result.now in
     record {
-      places = omega (
+      none = c.requires.none;
+      few = omega (
         arith,
-        ap length c.requires.none,
         c.requires.agree.agree.table.few,
         c.requires.agree.agree.few_tasks,
         length-filter (λ (task : Task). task.queued && (task.home == leaving)) tasks,
@@ -37,8 +37,7 @@ returns-clause-told g c =
     let cleared = c.tell_into.new.movers in
     let sorted = c.sort_unstable_by_key.new.self in
     subst (IsPermutation told) (sym (items-with_items cleared sorted (search rules)))
-    (IsPermutation-trans told cleared.items sorted
-    (subst (λ (old : List (ℕ × ℕ)). IsPermutation (old ++ told) cleared.items) c.requires.none c.tell_into.ensures.told) (search rules))
+    (IsPermutation-trans told cleared.items sorted c.tell_into.ensures.told (search rules))
 
 pub returns-clause-rising : goal.returns-clause-rising
 returns-clause-rising g c =
