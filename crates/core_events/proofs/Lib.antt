@@ -9,10 +9,6 @@ pub mod Views
 pub mod Playable
 pub mod Pending
 pub mod Ends
-pub mod Changes
-pub mod Growth
-pub mod Clocks
-pub mod Peers
 pub mod Settings
 pub mod Lives
 pub mod Runners

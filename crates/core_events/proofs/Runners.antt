@@ -16,7 +16,7 @@ use Rattle.core_lanes.specs.Lanes.{lane_state, room_of}
 use Rattle.core_lanes.proofs.Stays.{some_beside}
 use Rattle.core_events.specs.declared.state.State.{State}
 use Rattle.core_events.specs.State.{both, room_with}
-use Rattle.core_events.specs.Time.{RunTheirOwn}
+use Rattle.core_clock.specs.Time.{RunTheirOwn}
 use Rattle.core_events.specs.Cookies.{flagged_for, RunsAtMostAt}
 
 -- ---- a change that leaves all of a list but one alone

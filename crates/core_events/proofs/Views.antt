@@ -26,7 +26,7 @@ use Rattle.core_lanes.specs.Numbers.{Numbers}
 use Rattle.core_pick.specs.Schedules.{own_of}
 use Rattle.core_lanes.proofs.Stays.{lane_at}
 use Rattle.core_events.specs.State.{both, room_with, state_numbers, IsSound, IsGone}
-use Rattle.core_events.specs.Time.{RunTheirOwn}
+use Rattle.core_clock.specs.Time.{RunTheirOwn}
 use Rattle.core_events.specs.declared.state.State.{State}
 use Rattle.cs_types.specs.declared.task.Task.{Task}
 use Rattle.core_events.proofs.Machines.{Folds}

@@ -1,8 +1,6 @@
 pub mod State
 pub mod Steps
-pub mod Moments
 pub mod Start
-pub mod Time
 pub mod Life
 pub mod Cookies
 pub mod Drain

@@ -11,8 +11,9 @@ use Rattle.core_lanes.specs.declared.queue.SiblingQueue.{Ghosts}
 use Rattle.core_lanes.specs.declared.lanes.Core.{Core}
 use Rattle.core_lanes.specs.Lanes.{Beside, room_of, Agree}
 use Rattle.core_lanes.specs.Numbers.{Numbers, numbers_of, with_ended}
-use Rattle.core_pick.specs.Schedules.{own_of, IsPaid}
-use Rattle.core_events.specs.Time.{RunTheirOwn}
+use Rattle.core_charge.specs.Charges.{IsPaid}
+use Rattle.core_pick.specs.Schedules.{own_of}
+use Rattle.core_clock.specs.Time.{RunTheirOwn}
 use Rattle.core_events.specs.declared.state.State.{State}
 
 -- ---- the room

@@ -8,7 +8,7 @@ ghost use Rattle.prctl_core.specs.Plan.{named};
 ghost use Rattle.core_lanes.specs.Queued.{IsOf};
 ghost use Rattle.core_lanes.specs.Lanes.{lane_state};
 ghost use Rattle.core_events.specs.State.{both, IsSoundBut, IsReady};
-ghost use Rattle.core_events.specs.Time.{RunTheirOwn};
+ghost use Rattle.core_clock.specs.Time.{RunTheirOwn};
 ghost use Rattle.core_events.specs.Steps.{Makes};
 ghost use Rattle.core_events.specs.Cookies.{flagged_for, RunsAtMostAt, SetsCookies};
 

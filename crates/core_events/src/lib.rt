@@ -5,10 +5,8 @@ mod cookies;
 mod drain;
 mod events;
 mod life;
-mod queueing;
 mod room;
 mod start;
 mod state;
-mod time;
 
 pub use room::CoreRoom;

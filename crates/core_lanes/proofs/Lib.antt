@@ -6,3 +6,4 @@ pub mod Lists
 pub mod Alike
 pub mod Timed
 pub mod Exchanged
+pub mod Onlines

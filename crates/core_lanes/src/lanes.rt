@@ -24,6 +24,9 @@ use std::alloc::Global;
 use std::sync::ledger::Ledger;
 use task_table::TaskTable;
 
+/// The most siblings of a core.
+pub const MOST_SIBLINGS: usize = 16;
+
 /// The living task with the pid.
 #[inline(always)]
 pub fn task_of(table: &TaskTable, pid: Pid) -> Option<Task>

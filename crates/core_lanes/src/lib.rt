@@ -10,7 +10,7 @@ mod queue;
 mod queued;
 
 pub use lane::Lane;
-pub use lanes::{Core, task_of};
+pub use lanes::{Core, MOST_SIBLINGS, task_of};
 pub use order::{goes_before, is_fair, is_higher, priority_of};
 pub use queue::{MOST_TASKS, Movers, SiblingQueue, is_on};
 pub use queued::{queued_of, rank_of};

@@ -1,4 +1,3 @@
-pub mod Accounts
 pub mod Choices
 pub mod Remembered
 pub mod Ranges

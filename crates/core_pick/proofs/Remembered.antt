@@ -1,6 +1,6 @@
 -- Remembered: the tasks that remember the occupation after a selection, and what stays where they do.
 use Rattle.std.proofs.Common.{◌≡◌, ℕ, suc, ◌+◌, ◌<◌, Bool, true, false, cond, List, [], ◌∷◌, ◌++◌, map, length, refl, subst, sym, ap, ◌∙◌, arith, eqb, Option, Some, None}
-use Rattle.std.specs.Prelude.{◌==◌, ◌&&◌, ◌||◌, find, IfSome, IsTrue}
+use Rattle.std.specs.Prelude.{◌==◌, ◌&&◌, ◌||◌, find, IsTrue}
 use Rattle.std.specs.List.{list_any, range_with_len}
 use Rattle.std.specs.Option.{option_map}
 use Rattle.std.proofs.lemmas.Bool.{cond-false}
@@ -26,12 +26,6 @@ use Rattle.core_pick.specs.declared.choice.Choice.{Choice}
 use Rattle.core_pick.specs.Choice.{run_of, is_choice_of, task_after_choice}
 
 -- ---- the task that is chosen for a sibling
-
--- what was found by a pid is found by its own
-pub found_there : (pid : ℕ) (tasks : List Task) (found : Option Task) → found ≡ find (has_pid pid) tasks →
-    IfSome found (λ task. find (has_pid task.spec.pid) tasks ≡ Some task)
-found_there pid tasks None is = tt
-found_there pid tasks (Some task) is = found_again pid tasks task (sym is)
 
 run_test : (a b : ℕ) → eqb b a ≡ eqb a b
 run_test a b = grind (arith, nat_tests)

@@ -1,4 +1,3 @@
 pub mod Schedules
-pub mod Account
 pub mod Choice
 pub mod Comparisons

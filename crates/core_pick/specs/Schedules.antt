@@ -1,16 +1,17 @@
--- Schedules: what a charge and a schedule ask of a core and its table, and what they make of them.
-use Rattle.std.specs.Prelude.{◌≡◌, ℕ, ◌+◌, ◌*◌, ◌^◌, ◌≤◌, ◌<◌, ◌==◌, ◌&&◌, not, Bool, List, length, Option, IfSome, unwrap_or, slice_index_or}
+-- Schedules: what a schedule asks of a core and its table, and what it makes of them.
+use Rattle.std.specs.Prelude.{◌≡◌, ℕ, ◌+◌, ◌^◌, ◌<◌, ◌==◌, ◌&&◌, not, Bool, List, length, Option, IfSome, slice_index_or}
 use Rattle.cs_types.specs.declared.reply.Pick.{Pick}
 use Rattle.cs_types.specs.declared.queue.Queued.{Queued}
 use Rattle.cs_types.specs.Room.{RoomState}
 use Rattle.cs_types.specs.Selection.{Scheduled, cookie_of, lead_from, pid_of, choice, forced_count, select_for}
 use Rattle.cs_types.specs.Order.{fair_class}
-use Rattle.task_table.specs.Table.{Table, total_in}
+use Rattle.task_table.specs.Table.{Table}
 use Rattle.core_lanes.specs.declared.queue.SiblingQueue.{Ghosts}
 use Rattle.core_lanes.specs.declared.lanes.Core.{Core}
 use Rattle.core_lanes.specs.Lanes.{Beside, at, room_of, Agree, AgreesAt, HasLowTimes}
 use Rattle.core_lanes.specs.Numbers.{Numbers, numbers_of, numbers_in, booked, touched, took}
 use Rattle.core_lanes.specs.Changes.{Stays, BecomesCharged, IsBooked}
+use Rattle.core_charge.specs.Charges.{IsPaid}
 use Rattle.core_pick.specs.declared.choice.Choice.{Choice}
 use Rattle.core_pick.specs.Choice.{firsts_of}
 
@@ -27,14 +28,6 @@ abbrev pub may_adopt_by : ℕ → Numbers → Bool
 may_adopt_by cpu numbers = (numbers.pick == numbers.task) && not (own_of cpu numbers == numbers.pick)
 
 -- ---- what is asked
-
--- the open interval did not begin later than now, and no number of the books overflows where it is charged
-pub record IsPaid {Q : Type 0} {g : Ghosts Q} (now : ℕ) (both : Core Q g × Table) : Type 0 where
-  pub clock : now < 2 ^ 56
-  pub started : unwrap_or both.0.account.started now ≤ now
-  pub few : both.0.account.count ≤ 255
-  pub intervals : both.0.account.intervals < 2 ^ 63
-  pub totals : (pid : ℕ) → total_in both.1 pid ≤ 255 * unwrap_or both.0.account.started now
 
 -- the sibling may be asked for its first task
 pub record MayAsk {Q : Type 0} {g : Ghosts Q} (sibling : ℕ) (both : Core Q g × Table) : Type 0 where
@@ -75,20 +68,6 @@ pub record Selects {Q : Type 0} {g : Ghosts Q} (now : ℕ) (old new : Core Q g �
   pub stays : Stays old new
   pub gets : (beside : Beside) → run ≡ pid_of (choice (room_of beside old) cookie sibling)
   pub forced : (beside : Beside) → new.0.account.count ≡ forced_count (room_of beside old) cookie
-
--- the new room is the old one after this change, which charges the open interval at this moment
-pub record Charges {Q : Type 0} {g : Ghosts Q} (now : ℕ) (old new : Core Q g × Table) (change : RoomState → RoomState) : Type 0 where
-  pub room : BecomesCharged now old new change
-  pub numbers : (beside : Beside) → IsBooked (at now beside) old →
-      numbers_in beside new ≡ booked (change (room_of (at now beside) old)) (numbers_in beside old)
-  pub stays : Stays old new
-
--- the same where it then touches the queues this number of times
-pub record ChargesAndTouches {Q : Type 0} {g : Ghosts Q} (now count : ℕ) (old new : Core Q g × Table) (change : RoomState → RoomState) : Type 0 where
-  pub room : BecomesCharged now old new change
-  pub numbers : (beside : Beside) → IsBooked (at now beside) old →
-      numbers_in beside new ≡ touched count (booked (change (room_of (at now beside) old)) (numbers_in beside old))
-  pub stays : Stays old new
 
 -- the new room and the pick are those of a schedule of the sibling at this moment, which a change of the room is
 pub record Schedules {Q : Type 0} {g : Ghosts Q} (now : ℕ) (old new : Core Q g × Table) (cpu : ℕ) (chosen : Pick) (change : RoomState → Scheduled) : Type 0 where

@@ -11,13 +11,10 @@ ghost use Rattle.core_pick.specs.Choice.{IsPlan, choice_of, own_of, run_of, task
 
 use crate::sibling::hand;
 use arrayvec::ArrayVec;
-use core_lanes::Lane;
+use core_lanes::{Lane, MOST_SIBLINGS};
 use cs_types::{Cookie, Cpu, Pid, Queued};
 use sibling_priority::{FAIR, IDLE};
 use task_table::TaskTable;
-
-/// The most siblings of a core.
-pub const MOST_SIBLINGS: usize = 16;
 
 /// A task that a sibling gets, or idle: first the first of its queue, then what it gets for the core cookie. Its
 /// parts fill it, so that no copy of it moves bytes between them.

@@ -2,7 +2,6 @@
 //! and what becomes of them. The queue of a sibling is a parameter.
 #![tactic(auto)]
 
-mod account;
 mod balance;
 mod choice;
 mod lead;
@@ -10,5 +9,5 @@ mod pick;
 mod selection;
 mod sibling;
 
-pub use account::charge;
+pub use core_charge::charge;
 pub use pick::{pick_and_balance, schedule};

@@ -10,12 +10,12 @@ ghost use Rattle.core_pick.specs.Choice.{kept_in};
 ghost use Rattle.core_pick.specs.Comparisons.{most_of_schedule, Compares};
 ghost use Rattle.core_pick.specs.Schedules.{may_adopt_by, MayPick, MaySchedule, MaySelect, Selects, Schedules, ChargesAndSchedules};
 
-use crate::account::charge;
 use crate::balance::balance;
 use crate::choice::{Choice, Choices, Counts, update};
 use crate::lead::First;
 use crate::selection::{ask, choose, first_at};
 use crate::sibling::{run, run_first};
+use core_charge::charge;
 use core_lanes::{Core, SiblingQueue};
 use cs_types::{Cookie, Cpu, Kind, Pick, Pid, Steps};
 use std::sync::ledger::Ledger;

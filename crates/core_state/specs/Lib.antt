@@ -1,5 +1,1 @@
-pub mod Kinds
-pub mod Held
 pub mod Comparisons
-pub mod Renewed
-pub mod Arrivals

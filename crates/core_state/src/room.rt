@@ -1,6 +1,6 @@
 //! The machine over trees.
 
-use crate::queue::TreeQueue;
+use tree_queue::TreeQueue;
 use core_events::CoreRoom;
 
 /// A machine that keeps ordered trees. Contracts see what it stands for: what it began with, the steps that

@@ -1,4 +1,3 @@
-pub mod Onlines
 mod Ranks
 mod Leaving
 mod Steps

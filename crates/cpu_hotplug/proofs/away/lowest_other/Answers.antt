@@ -6,7 +6,7 @@ use Rattle.std.proofs.lemmas.List.{length-map}
 use Rattle.cs_types.specs.Room.{RoomState, is_online}
 use Rattle.task_table.specs.Table.{Table}
 use Rattle.core_lanes.specs.Lanes.{Beside, lane_state, room_of}
-use Rattle.cpu_hotplug.proofs.Onlines.{none_more, first_found, online_is}
+use Rattle.core_lanes.proofs.Onlines.{none_more, first_found, online_is}
 use Rattle.cpu_hotplug.proofs.away.lowest_other.Goals as goal
 use Rattle.cpu_hotplug.proofs.away.lowest_other.Goals.{else-index-via-then-index+else-other-cpu, else-index-via-else-index}
 

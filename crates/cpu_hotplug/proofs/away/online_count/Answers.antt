@@ -2,7 +2,7 @@ use Rattle.std.proofs.Common.{List, ◌≤◌, ◌∙◌, length, ap, arith}
 use Rattle.std.specs.Prelude.{filter}
 use Rattle.std.proofs.lemmas.List.{take_all}
 use Rattle.core_lanes.specs.declared.lane.Lane.{Lane}
-use Rattle.cpu_hotplug.proofs.Onlines.{length-online}
+use Rattle.core_lanes.proofs.Onlines.{length-online}
 use Rattle.cpu_hotplug.proofs.away.online_count.Goals as goal
 
 pub overflow_add-count : goal.overflow_add-count

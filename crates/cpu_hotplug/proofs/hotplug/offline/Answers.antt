@@ -13,7 +13,7 @@ use Rattle.core_lanes.specs.Changes.{IsBooked}
 use Rattle.core_lanes.proofs.Stays.{same_stays}
 use Rattle.cpu_hotplug.specs.Hotplugs.{leave_touches}
 use Rattle.cpu_hotplug.specs.declared.hotplug.Hotplug.TheVariants.{Done}
-use Rattle.cpu_hotplug.proofs.Onlines.{another}
+use Rattle.core_lanes.proofs.Onlines.{another}
 use Rattle.cpu_hotplug.proofs.Steps.{offline_step}
 use Rattle.cpu_hotplug.proofs.hotplug.offline.Goals as goal
 

@@ -2,7 +2,7 @@ use Rattle.std.proofs.Common.{◌∙◌, ap, Some}
 use Rattle.command_words.specs.declared.command.Command.TheVariants.{Replay, Race, Drill}
 use Rattle.std.proofs.Crossing as std
 use denote.Param.Send.{sendable}
-use Rattle.core_state.proofs.Crosses.{TreeQueue-send}
+use Rattle.tree_queue.proofs.Crosses.{TreeQueue-send}
 use Rattle.scenario_runner.proofs.Asked.{drill_words, known_words}
 use Rattle.scenario_runner.proofs.command.run.Goals as goal
 

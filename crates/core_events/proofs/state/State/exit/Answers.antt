@@ -17,7 +17,7 @@ use Rattle.core_events.proofs.Onlines.{untouched, when_running, when_offline}
 use Rattle.core_events.proofs.Sleeps.{took-touched}
 use Rattle.core_events.proofs.Lows.{HasLow, low_idled, low_without}
 use Rattle.core_events.proofs.Readies.{may_pick, may_touch_after, picked_charged}
-use Rattle.core_events.proofs.Changes.{still_below}
+use Rattle.core_clock.proofs.Changes.{still_below}
 use Rattle.core_events.proofs.state.State.exit.Goals as goal
 use Rattle.task_table.specs.Table.{Table}
 use Rattle.core_lanes.specs.Queued.{IsOf}

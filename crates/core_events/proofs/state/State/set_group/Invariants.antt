@@ -5,7 +5,7 @@ use Rattle.cs_types.specs.Touches.{setting_touches}
 use Rattle.task_table.specs.Group.{group_above}
 use Rattle.core_lanes.specs.Numbers.{touched}
 use Rattle.core_events.specs.State.{both, room_with, StaysBut, state_numbers}
-use Rattle.core_events.specs.Time.{RunTheirOwn}
+use Rattle.core_clock.specs.Time.{RunTheirOwn}
 use Rattle.core_events.specs.Cookies.{setting}
 use Rattle.core_events.proofs.state.State.set_group.Given as goal
 

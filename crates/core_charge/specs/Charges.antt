@@ -1,0 +1,31 @@
+-- Charges: what a charge asks of a core and its table, and what it makes of them.
+use Rattle.std.specs.Prelude.{◌≡◌, ℕ, ◌*◌, ◌^◌, ◌≤◌, ◌<◌, unwrap_or}
+use Rattle.cs_types.specs.Room.{RoomState}
+use Rattle.task_table.specs.Table.{Table, total_in}
+use Rattle.core_lanes.specs.declared.queue.SiblingQueue.{Ghosts}
+use Rattle.core_lanes.specs.declared.lanes.Core.{Core}
+use Rattle.core_lanes.specs.Lanes.{Beside, at, room_of}
+use Rattle.core_lanes.specs.Numbers.{numbers_in, booked, touched}
+use Rattle.core_lanes.specs.Changes.{Stays, BecomesCharged, IsBooked}
+
+-- the open interval did not begin later than now, and no number of the books overflows where it is charged
+pub record IsPaid {Q : Type 0} {g : Ghosts Q} (now : ℕ) (both : Core Q g × Table) : Type 0 where
+  pub clock : now < 2 ^ 56
+  pub started : unwrap_or both.0.account.started now ≤ now
+  pub few : both.0.account.count ≤ 255
+  pub intervals : both.0.account.intervals < 2 ^ 63
+  pub totals : (pid : ℕ) → total_in both.1 pid ≤ 255 * unwrap_or both.0.account.started now
+
+-- the new room is the old one after this change, which charges the open interval at this moment
+pub record Charges {Q : Type 0} {g : Ghosts Q} (now : ℕ) (old new : Core Q g × Table) (change : RoomState → RoomState) : Type 0 where
+  pub room : BecomesCharged now old new change
+  pub numbers : (beside : Beside) → IsBooked (at now beside) old →
+      numbers_in beside new ≡ booked (change (room_of (at now beside) old)) (numbers_in beside old)
+  pub stays : Stays old new
+
+-- the same where it then touches the queues this number of times
+pub record ChargesAndTouches {Q : Type 0} {g : Ghosts Q} (now count : ℕ) (old new : Core Q g × Table) (change : RoomState → RoomState) : Type 0 where
+  pub room : BecomesCharged now old new change
+  pub numbers : (beside : Beside) → IsBooked (at now beside) old →
+      numbers_in beside new ≡ touched count (booked (change (room_of (at now beside) old)) (numbers_in beside old))
+  pub stays : Stays old new

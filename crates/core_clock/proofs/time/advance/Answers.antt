@@ -1,0 +1,38 @@
+use Rattle.std.proofs.Common.{◌+◌, ◌<◌, ◌≤◌, ◌^◌, ◌∙◌, ap, sym, subst, map, arith}
+use Rattle.std.specs.Prelude.{All}
+use Rattle.std.proofs.lemmas.List.Elements.{All-weaker}
+use Rattle.cs_types.specs.declared.task.Task.{Task}
+use Rattle.cs_types.specs.Room.{RoomState, SiblingState}
+use Rattle.cs_types.specs.Time.{with_leasts, advanced}
+use Rattle.core_lanes.specs.Lanes.{at, lane_state}
+use Rattle.core_lanes.proofs.Stays.{some_beside, both_stay}
+use Rattle.core_clock.specs.Time.{with_ages}
+use Rattle.core_clock.proofs.time.advance.Goals as goal
+
+pub grow_tasks-requires : goal.grow_tasks-requires
+grow_tasks-requires g c = record {
+  agree = c.requires.may.agree;
+  own = c.requires.may.own;
+  delta = c.requires.delta;
+  used = All-weaker (λ (task : Task). task.used ≤ c.args.now) (λ (task : Task). task.used < 2 ^ 56) (λ task is. omega (arith, is, c.requires.may.clock)) c.args.table.now.tasks c.requires.may.used;
+  vtimes = c.requires.may.low.vtimes;
+}
+
+pub renew_siblings-requires : goal.renew_siblings-requires
+renew_siblings-requires g c = record {
+  agree = c.grow_tasks.ensures.stays.agree c.requires.may.agree;
+  ran = subst (All (λ (sibling : SiblingState). sibling.ran + c.args.delta < 2 ^ 64))
+      (sym (ap (λ (room : RoomState). room.siblings) (c.grow_tasks.ensures.room some_beside)))
+      (All-weaker (λ (sibling : SiblingState). sibling.ran ≤ c.args.now) (λ (sibling : SiblingState). sibling.ran + c.args.delta < 2 ^ 64)
+      (λ sibling is. omega (arith, is, c.requires.may.clock, c.requires.delta)) (map lane_state c.args.core.now.lanes.items) c.requires.may.ran);
+}
+
+pub returns-clause-advances : goal.returns-clause-advances
+unfolding advanced
+returns-clause-advances g c = record {
+  room = λ beside.
+      let later = at (c.args.now + c.args.delta) beside in
+      c.renew_siblings.ensures.room later ∙ ap (λ (room : RoomState). with_leasts (with_ages c.args.delta room)) (c.grow_tasks.ensures.room later);
+  numbers = c.renew_siblings.ensures.numbers ∙ c.grow_tasks.ensures.numbers;
+  stays = both_stay c.grow_tasks.ensures.stays c.renew_siblings.ensures.stays;
+}

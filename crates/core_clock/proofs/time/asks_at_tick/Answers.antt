@@ -1,0 +1,17 @@
+use Rattle.std.proofs.Common.{◌∙◌, sym}
+use Rattle.std.specs.Prelude.{◌||◌}
+use Rattle.cs_types.specs.Time.{is_overtaken, is_to_yield}
+use Rattle.core_lanes.specs.Lanes.{room_of}
+use Rattle.core_clock.proofs.time.asks_at_tick.Goals as goal
+
+pub returns-then-rotates : goal.returns-then-rotates
+returns-then-rotates g c beside =
+    let room = room_of beside (c.args.core.now, c.args.table.now) in
+    let behind = sym (c.requires.rotates beside) ∙ c.if-rotates.true in
+    c.if-rotates.true ∙ sym (λ i. behind i || is_overtaken room c.args.cpu c.args.task.now || is_to_yield room c.args.cpu c.args.task.now)
+
+pub returns-else-rotates : goal.returns-else-rotates
+returns-else-rotates g c beside =
+    let room = room_of beside (c.args.core.now, c.args.table.now) in
+    let behind = sym (c.requires.rotates beside) ∙ c.if-rotates.false in
+    c.is_asked.ensures beside ∙ sym (λ i. behind i || is_overtaken room c.args.cpu c.args.task.now || is_to_yield room c.args.cpu c.args.task.now)

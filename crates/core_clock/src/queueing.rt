@@ -1,0 +1,106 @@
+//! How a task comes to the queue of its home. It is apart since a wake, a fork and a new policy all queue
+//! a task there.
+
+ghost use Rattle.std.specs.Prelude.{◌≡◌, ◌+◌, ◌^◌, ◌<◌, length, map, All};
+ghost use Rattle.cs_types.specs.Scenario.{IsPolicy};
+ghost use Rattle.cs_types.specs.Room.{lowest_online};
+ghost use Rattle.cs_types.specs.Queueing.{online_home, rehomed, preempts, refreshed, queue_at_home};
+ghost use Rattle.task_table.specs.Table.{Table};
+ghost use Rattle.core_lanes.specs.Lanes.{Beside, at, lane_state, room_of};
+ghost use Rattle.core_clock.specs.Moments.{MayQueue, TouchesAt};
+
+use core_lanes::{Core, SiblingQueue, is_higher};
+use cs_types::{Cpu, Policy, Steps, Task};
+use std::sync::ledger::Ledger;
+use task_table::TaskTable;
+
+/// The lowest sibling that is online.
+fn lowest_online<Q: SiblingQueue>(core: &Core<Q>) -> Cpu
+    requires some { 0 < length core.now.lanes.items }
+    ensures lowest { (beside : Beside) (table : Table) → result ≡ lowest_online (room_of beside (core.now, table)) }
+    ensures within { result < length core.now.lanes.items }
+{
+    for cpu in 0..core.lanes.len() {
+        if core.lanes[cpu].online {
+            return cpu as u8;
+        }
+    }
+    0
+}
+
+/// Where a task of this sibling is at home: there, or on the lowest online one while that is offline.
+pub fn online_home<Q: SiblingQueue>(core: &Core<Q>, cpu: Cpu) -> Cpu
+    requires cpu { cpu < length core.now.lanes.items }
+    ensures home { (beside : Beside) (table : Table) → result ≡ online_home (room_of beside (core.now, table)) cpu }
+    ensures within { result < length core.now.lanes.items }
+{
+    if core.is_online(cpu) {
+        cpu
+    } else {
+        lowest_online(core)
+    }
+}
+
+/// The task as it is where its home is online: there, or moved to another sibling.
+pub fn rehomed<Q: SiblingQueue>(core: &Core<Q>, task: Task) -> Task
+    requires home { task.home < length core.now.lanes.items }
+    requires vtime { task.vtime < 2 ^ 100 }
+    requires leasts { All (λ sibling. sibling.least < 2 ^ 100) (map lane_state core.now.lanes.items) }
+    ensures rehomed { (beside : Beside) (table : Table) → result ≡ rehomed (room_of beside (core.now, table)) task }
+    ensures within { result.home < length core.now.lanes.items }
+{
+    if core.is_online(task.home) {
+        task
+    } else {
+        core.moved_to(lowest_online(core), task)
+    }
+}
+
+/// Whether the task, once it is queued, asks its sibling to reschedule: that runs idle or a lower one.
+fn preempts<Q: SiblingQueue>(core: &Core<Q>, table: &TaskTable, task: &Task) -> bool
+    requires { task.now.home < length core.now.lanes.items }
+    ensures { (beside : Beside) → result ≡ preempts (room_of beside (core.now, table.now)) task.now }
+{
+    match core.running_on(table, task.home) {
+        None => true,
+        Some(running) => is_higher(task, &running),
+    }
+}
+
+/// The task as it is queued anew: a deadline task has its next deadline, and a fair one is pulled up to
+/// the least virtual time of its queue.
+fn refreshed<Q: SiblingQueue>(core: &Core<Q>, task: Task, now: u64) -> Task
+    requires home { task.home < length core.now.lanes.items }
+    requires policy { IsPolicy task.spec.policy }
+    requires clock { now + 1000000000 < 2 ^ 56 }
+    ensures { (beside : Beside) (table : Table) → result ≡ refreshed (room_of (at now beside) (core.now, table)) task }
+{
+    match task.spec.policy {
+        Policy::Deadline(relative) => Task {
+            deadline: now + relative,
+            ..task
+        },
+        Policy::Fair(_) => Task {
+            vtime: task.vtime.max(core.lanes[task.home as usize].least),
+            ..task
+        },
+        _ => task,
+    }
+}
+
+/// The task is queued at its home, which may become pending.
+pub fn queue_at_home<Q: SiblingQueue, L: Ledger>(
+    core: &mut Core<Q>,
+    table: &mut TaskTable,
+    task: Task,
+    now: u64,
+    steps: &mut Steps<L>,
+)
+    requires { MayQueue now 1 (core.old, table.old) task }
+    ensures { TouchesAt now 1 (core.old, table.old) (core.new, table.new) (λ room. queue_at_home room task) }
+{
+    let fresh = refreshed(core, task, now);
+    let preempts = preempts(core, table, &fresh);
+    core.enqueue(table, fresh, steps);
+    core.flag(task.home, preempts);
+}

@@ -1,0 +1,280 @@
+//! What an advance of the clock and a tick of a sibling's timer do. It is a file of its own since these
+//! alone move time.
+
+ghost use Rattle.std.specs.Prelude.{◌≡◌, ℕ, ◌+◌, ◌*◌, ◌^◌, ◌<◌, ◌≤◌, ◌||◌, map, All, find, Some, IsSome};
+ghost use Rattle.cs_types.specs.declared.reply.Reply.TheVariants.{Ticked};
+ghost use Rattle.cs_types.specs.declared.task.Task.{Task as SomeTask};
+ghost use Rattle.cs_types.specs.Room.{has_pid, running_on};
+ghost use Rattle.cs_types.specs.Step.{tick};
+ghost use Rattle.cs_types.specs.Time as time;
+ghost use Rattle.cs_types.specs.Time.{grown, with_leasts, has_used_slice, rotates, is_overtaken, is_to_yield, asks_at_tick, begin_slice};
+ghost use Rattle.core_lanes.specs.Lanes.{Beside, at, lane_state, room_of, Agree, AgreesAt};
+ghost use Rattle.core_lanes.specs.Changes.{Changes};
+ghost use Rattle.core_charge.specs.Charges.{IsPaid, Charges};
+ghost use Rattle.core_clock.specs.Moments.{MayAsk, Advances};
+ghost use Rattle.core_clock.specs.Time.{RunTheirOwn, MayAdvance, with_grown, with_ages};
+
+use core_lanes::{Core, SiblingQueue, is_fair, task_of};
+use core_charge::charge;
+use cs_types::{Cpu, Pid, Policy, Steps, Task};
+use fair_queue::grow;
+use std::sync::ledger::Ledger;
+use task_table::TaskTable;
+
+/// The slice of an RR task, in ns (`RR_TIMESLICE`, which the kernel counts in ticks).
+const SLICE: u64 = 100_000_000;
+
+/// How long a fair task that is alone may run while a sibling is forced idle, in ns.
+const PATIENCE: u64 = 6_000_000;
+
+/// The task that the sibling runs, if one, is `delta` ns later: an RR task used its slice, and the virtual time of a
+/// fair one grew (`update_curr`).
+#[inline(always)]
+fn grow_on<Q: SiblingQueue, L: Ledger>(
+    core: &mut Core<Q>,
+    table: &mut TaskTable,
+    cpu: Cpu,
+    delta: u64,
+    steps: &mut Steps<L>,
+)
+    requires at { AgreesAt cpu (core.old, table.old) }
+    requires used { All (λ task. task.used + delta < 2 ^ 64) table.old.tasks }
+    requires vtimes { All (λ task. task.vtime + 69 * delta < 2 ^ 128) table.old.tasks }
+    ensures { Changes (core.old, table.old) (core.new, table.new) (with_grown cpu delta) }
+{
+    let Some(task) = core.runner(table, cpu) else {
+        return;
+    };
+    let pid = task.spec.pid;
+    match task.spec.policy {
+        Policy::Rr(_) => {
+            let used = task.used + delta;
+            core.set_used(table, pid, used);
+        }
+        Policy::Fair(nice) => {
+            let vtime = task.vtime + grow(delta, nice);
+            core.set_vtime(table, pid, vtime, steps);
+        }
+        _ => {}
+    }
+}
+
+/// The running tasks grow by `delta` ns. No two siblings run one task.
+fn grow_tasks<Q: SiblingQueue, L: Ledger>(
+    core: &mut Core<Q>,
+    table: &mut TaskTable,
+    delta: u64,
+    steps: &mut Steps<L>,
+)
+    requires agree { Agree (core.old, table.old) }
+    requires own { RunTheirOwn (core.old, table.old) }
+    requires delta { delta ≤ 1000000000 }
+    requires used { All (λ task. task.used < 2 ^ 56) table.old.tasks }
+    requires vtimes { All (λ task. task.vtime < 2 ^ 100) table.old.tasks }
+    ensures { Changes (core.old, table.old) (core.new, table.new) (λ room. record room { tasks = map (grown room delta) room.tasks }) }
+{
+    for cpu in 0..core.lanes.len() {
+        grow_on(core, table, cpu as u8, delta, steps);
+    }
+}
+
+/// The siblings have run `delta` ns longer, and the least virtual time of each becomes the greater of itself
+/// and the smallest of the fair tasks that are queued there.
+fn renew_siblings<Q: SiblingQueue, L: Ledger>(
+    core: &mut Core<Q>,
+    table: &TaskTable,
+    delta: u64,
+    steps: &mut Steps<L>,
+)
+    requires agree { Agree (core.old, table.now) }
+    requires ran { All (λ sibling. sibling.ran + delta < 2 ^ 64) (map lane_state core.old.lanes.items) }
+    ensures { Changes (core.old, table.now) (core.new, table.now) (λ room. with_leasts (with_ages delta room)) }
+{
+    for cpu in 0..core.lanes.len() {
+        let lane = &mut core.lanes[cpu];
+        lane.ran += delta;
+        if let Some(smallest) = lane.queue.smallest_vtime(table, cpu as u8, steps) {
+            lane.least = lane.least.max(smallest);
+        }
+    }
+}
+
+/// The clock goes on by `delta` ns. The result is the new clock, in ns.
+pub fn advance<Q: SiblingQueue, L: Ledger>(
+    core: &mut Core<Q>,
+    table: &mut TaskTable,
+    delta: u64,
+    now: u64,
+    steps: &mut Steps<L>,
+) -> u64
+    requires may { MayAdvance now (core.old, table.old) }
+    requires delta { delta ≤ 1000000000 }
+    ensures clock { result ≡ now + delta }
+    ensures advances { Advances now delta (core.old, table.old) (core.new, table.new) }
+{
+    grow_tasks(core, table, delta, steps);
+    renew_siblings(core, table, delta, steps);
+    now + delta
+}
+
+/// Whether an RR task has used its slice.
+fn has_used_slice(task: &Task) -> bool
+    ensures { result ≡ has_used_slice task.now }
+{
+    match task.spec.policy {
+        Policy::Rr(_) => task.used >= SLICE,
+        _ => false,
+    }
+}
+
+/// Whether the running task goes behind the others of its priority.
+fn rotates<Q: SiblingQueue, L: Ledger>(
+    core: &Core<Q>,
+    table: &TaskTable,
+    cpu: Cpu,
+    task: &Task,
+    steps: &mut Steps<L>,
+) -> bool
+    requires { MayAsk cpu (core.now, table.now) task.now }
+    ensures { (beside : Beside) → result ≡ rotates (room_of beside (core.now, table.now)) cpu task.now }
+{
+    has_used_slice(task)
+        && core.lanes[cpu as usize]
+            .queue
+            .has_peer(task, table, cpu, steps)
+}
+
+/// Whether another fair task on the sibling has a smaller virtual time than the running fair one.
+fn is_overtaken<Q: SiblingQueue, L: Ledger>(
+    core: &Core<Q>,
+    table: &TaskTable,
+    cpu: Cpu,
+    task: &Task,
+    steps: &mut Steps<L>,
+) -> bool
+    requires { MayAsk cpu (core.now, table.now) task.now }
+    ensures { (beside : Beside) → result ≡ is_overtaken (room_of beside (core.now, table.now)) cpu task.now }
+{
+    if !is_fair(task) {
+        return false;
+    }
+    match core.lanes[cpu as usize]
+        .queue
+        .smallest_vtime(table, cpu, steps)
+    {
+        Some(smallest) => smallest < task.vtime,
+        None => false,
+    }
+}
+
+/// Whether the running task is to yield: it is fair, no other fair one is queued beside it, and it has run
+/// for so long while a sibling is forced idle.
+fn is_to_yield<Q: SiblingQueue, L: Ledger>(
+    core: &Core<Q>,
+    table: &TaskTable,
+    cpu: Cpu,
+    task: &Task,
+    steps: &mut Steps<L>,
+) -> bool
+    requires { MayAsk cpu (core.now, table.now) task.now }
+    ensures { (beside : Beside) → result ≡ is_to_yield (room_of beside (core.now, table.now)) cpu task.now }
+{
+    let lane = &core.lanes[cpu as usize];
+    is_fair(task)
+        && core.account.count() != 0
+        && lane.ran >= PATIENCE
+        && !lane.queue.has_peer(task, table, cpu, steps)
+}
+
+/// Whether the running task is asked to leave as a fair one: it is overtaken, or is to yield.
+fn is_asked<Q: SiblingQueue, L: Ledger>(
+    core: &Core<Q>,
+    table: &TaskTable,
+    cpu: Cpu,
+    task: &Task,
+    steps: &mut Steps<L>,
+) -> bool
+    requires { MayAsk cpu (core.now, table.now) task.now }
+    ensures { (beside : Beside) → let room = room_of beside (core.now, table.now) in
+        result ≡ (is_overtaken room cpu task.now || is_to_yield room cpu task.now) }
+{
+    is_overtaken(core, table, cpu, task, steps) || is_to_yield(core, table, cpu, task, steps)
+}
+
+/// Whether the tick asks for a reschedule, where the test says whether the running task goes behind the
+/// others of its priority.
+fn asks_at_tick<Q: SiblingQueue, L: Ledger>(
+    core: &Core<Q>,
+    table: &TaskTable,
+    cpu: Cpu,
+    task: &Task,
+    rotates: bool,
+    steps: &mut Steps<L>,
+) -> bool
+    requires may { MayAsk cpu (core.now, table.now) task.now }
+    requires rotates { (beside : Beside) → rotates ≡ time.rotates (room_of beside (core.now, table.now)) cpu task.now }
+    ensures { (beside : Beside) → result ≡ asks_at_tick (room_of beside (core.now, table.now)) cpu task.now }
+{
+    rotates || is_asked(core, table, cpu, task, steps)
+}
+
+/// The task with the pid, where it is an RR one that has used its slice, begins a new one, with the next stamp where it
+/// goes behind the others of its priority.
+fn begin_slice<Q: SiblingQueue, L: Ledger>(
+    core: &mut Core<Q>,
+    table: &mut TaskTable,
+    pid: Pid,
+    used: bool,
+    rotates: bool,
+    steps: &mut Steps<L>,
+)
+    requires there { IsSome (find (has_pid pid) table.old.tasks) }
+    requires agree { Agree (core.old, table.old) }
+    requires stamp { core.old.next_stamp + 1 < 2 ^ 64 }
+    ensures { (cpu : ℕ) (task : SomeTask) → find (has_pid pid) table.old.tasks ≡ Some task → used ≡ time.has_used_slice task →
+        ((beside : Beside) → rotates ≡ time.rotates (room_of beside (core.old, table.old)) cpu task) →
+        Changes (core.old, table.old) (core.new, table.new) (λ room. begin_slice room cpu task) }
+{
+    if rotates {
+        let task = task_of(table, pid).unwrap();
+        let stamp = core.next_stamp;
+        core.next_stamp += 1;
+        let last = Task {
+            used: 0,
+            stamp,
+            ..task
+        };
+        core.change(table, last, steps);
+    } else if used {
+        core.set_used(table, pid, 0);
+    }
+}
+
+/// The timer of the sibling, which is online, ticks. The open interval is charged first. The result says
+/// whether the tick asks for a reschedule.
+pub fn tick<Q: SiblingQueue, L: Ledger>(
+    core: &mut Core<Q>,
+    table: &mut TaskTable,
+    cpu: Cpu,
+    now: u64,
+    steps: &mut Steps<L>,
+) -> bool
+    requires at { AgreesAt cpu (core.old, table.old) }
+    requires paid { IsPaid now (core.old, table.old) }
+    requires stamp { core.old.next_stamp + 1 < 2 ^ 64 }
+    ensures asks { (beside : Beside) → let room = room_of (at now beside) (core.old, table.old) in
+        Ticked result ≡ (tick room cpu (running_on room cpu)).reply }
+    ensures charges { Charges now (core.old, table.old) (core.new, table.new) (λ room. (tick room cpu (running_on room cpu)).room) }
+{
+    charge(core, table, now);
+    let Some(task) = core.runner(table, cpu) else {
+        return false;
+    };
+    let pid = task.spec.pid;
+    let used = has_used_slice(task);
+    let rotates = rotates(core, table, cpu, task, steps);
+    let asks = asks_at_tick(core, table, cpu, task, rotates, steps);
+    begin_slice(core, table, pid, used, rotates, steps);
+    core.flag(cpu, asks);
+    asks
+}

@@ -1,8 +1,0 @@
-use Rattle.core_lanes.specs.Changes.{Changes}
-use Rattle.core_events.proofs.Clocks.{renewed_first}
-use Rattle.core_events.proofs.time.renew_siblings.Given as goal
-
-abbrev pub invariant-loop-cpu : goal.invariant-loop-cpu
-invariant-loop-cpu g l = record {
-  changes : Changes (l.initial.core, l.table) (l.core, l.table) (renewed_first l.delta l.cpu);
-}

@@ -1,0 +1,13 @@
+pub mod Tasks
+pub mod Made
+pub mod Splits
+pub mod Held
+pub mod Found
+pub mod Asked
+pub mod Vtimes
+pub mod Counts
+pub mod Crosses
+pub mod Compared
+pub mod Firsts
+pub mod Moved
+pub mod Told

@@ -1,0 +1,5 @@
+pub mod Kinds
+pub mod Held
+pub mod Comparisons
+pub mod Renewed
+pub mod Arrivals

@@ -1,0 +1,130 @@
+//! The tasks that came to a queue, in the order in which they came. It is apart, since it is a hint: what it tells is
+//! looked up in the table, and nothing that is promised rests on what it keeps.
+
+ghost use Rattle.std.specs.Prelude.{◌≡◌, ◌+◌, ◌<◌, ◌≤◌, false, [], length, map, Contains, IsTrue, IsPermutation};
+ghost use Rattle.std.specs.List.{AllByRecursion};
+ghost use Rattle.core_lanes.specs.Queued.{queued_among, mover_of};
+ghost use Rattle.tree_queue.specs.Arrivals.{AreRising};
+
+use core_lanes::{Movers, is_on};
+use cs_types::{Cpu, OutOfMemory, Pid};
+use std::alloc::Global;
+use task_table::TaskTable;
+
+/// The stamps and the pids of tasks that came to a queue, each in its turn. Of those that left since nothing is taken
+/// out.
+#[derive(Drop)]
+pub struct Arrivals {
+    entries: Vec<(u64, Pid)>,
+}
+
+impl Arrivals {
+    /// None, with places for twice as many as the queue can take. This call alone takes memory.
+    pub fn with_capacity(alloc: Global, most: u16) -> Result<Arrivals, OutOfMemory> {
+        Ok(Arrivals {
+            entries: Vec::with_capacity(alloc, 2 * usize::from(most))?,
+        })
+    }
+
+    /// A task came. Where there is no place for it, none is kept any more.
+    #[inline(always)]
+    pub fn note(&mut self, stamp: u64, pid: Pid) {
+        if self.entries.len() < self.entries.capacity() {
+            self.entries.push_reserved((stamp, pid));
+        } else {
+            self.entries.clear();
+        }
+    }
+
+    /// None is kept any more.
+    pub fn clear(&mut self) {
+        self.entries.clear();
+    }
+
+    /// The tasks that were told moved, in that order, and the stamps that they have in the table are in a row.
+    pub fn renew(&mut self, table: &TaskTable, movers: &Movers) {
+        self.entries.clear();
+        let mut stamp = first_stamp(table, movers);
+        for mover in movers.iter() {
+            self.note(stamp, mover.1);
+            stamp = stamp.wrapping_add(1);
+        }
+    }
+
+    /// Tells the tasks that are queued on the sibling, `count` of them, by rising stamp, in a list that has none yet.
+    /// `false` where these are not all among those that are kept, or where far more are kept than there are: to look
+    /// these up would take longer than to ask the trees. Then it tells none.
+    pub fn tell(&self, table: &TaskTable, cpu: Cpu, count: usize, movers: &mut Movers) -> bool
+        requires none { movers.old.items ≡ [] }
+        requires count { count ≡ length (queued_among table.now.tasks cpu) }
+        requires few { count ≤ 256 }
+        ensures told { IsTrue result → IsPermutation (map mover_of (queued_among table.now.tasks cpu)) movers.new.items }
+        ensures none { result ≡ false → movers.new.items ≡ [] }
+    {
+        if self.entries.len() > 2 * count + 16 {
+            return false;
+        }
+        tell_there(&self.entries, table, cpu, count, movers);
+        if movers.len() == count {
+            return true;
+        }
+        movers.clear();
+        false
+    }
+}
+
+/// The stamp of the first task that was told, 0 where there is none.
+fn first_stamp(table: &TaskTable, movers: &Movers) -> u64 {
+    let Some(mover) = movers.first() else {
+        return 0;
+    };
+    match table.find(mover.1) {
+        Some(task) => task.stamp,
+        None => 0,
+    }
+}
+
+/// Tells those of the entries that are tasks queued on the sibling since then, by rising stamp, and no more than `most`.
+fn tell_there(
+    entries: &[(u64, Pid)],
+    table: &TaskTable,
+    cpu: Cpu,
+    most: usize,
+    movers: &mut Movers,
+)
+    requires none { movers.old.items ≡ [] }
+    requires few { most ≤ 256 }
+    ensures there { AllByRecursion (Contains (map mover_of (queued_among table.now.tasks cpu))) movers.new.items }
+    ensures rising { AreRising movers.new.items }
+{
+    let mut above = 0;
+    for entry in entries.iter() {
+        let next = after(entry.0);
+        if movers.len() < most && above < next && is_there(table, cpu, entry) {
+            movers.push(*entry);
+            above = next;
+        }
+    }
+}
+
+/// The stamp that comes after this one, 0 where none does.
+#[inline(always)]
+fn after(stamp: u64) -> u64
+    ensures { 0 < result → result ≡ stamp + 1 }
+{
+    match stamp.checked_add(1) {
+        Some(next) => next,
+        None => 0,
+    }
+}
+
+/// Whether the entry is a task that is queued on the sibling since then.
+#[inline(always)]
+fn is_there(table: &TaskTable, cpu: Cpu, entry: &(u64, Pid)) -> bool
+    ensures { IsTrue result → Contains (map mover_of (queued_among table.now.tasks cpu)) entry.now }
+{
+    match table.find(entry.1) {
+        Some(task) => is_on(task, cpu) && task.stamp == entry.0,
+        None => false,
+    }
+}

@@ -1,0 +1,99 @@
+//! The first of the tasks of a queue, which is asked for more often than it changes: it stands beside the trees. It
+//! is apart, since it knows these by their contract alone.
+
+ghost use Rattle.std.specs.Prelude.{◌≡◌, ℕ, ◌+◌, ◌≤◌, List, Some, All};
+ghost use Rattle.std.specs.FinMap as map;
+ghost use Rattle.std.specs.Option.{option_map};
+ghost use Rattle.cs_types.specs.Comparisons.{most_comparisons};
+ghost use Rattle.cs_types.specs.declared.queue.Queued.{Queued as SomeQueued};
+ghost use Rattle.tree_queue.specs.Held.{seated, is_before, earlier, first_among, is_of, given_cookie, IsIn, IsInBut};
+
+use core_lanes::queued_of;
+use cs_types::{Cookie, Pid, Queued, Steps};
+use run_queue::RunQueue;
+use std::sync::ledger::Ledger;
+use task_table::TaskTable;
+
+/// Whether the task stands before the other: its class is smaller, or in one class its rank, or at one rank its
+/// stamp.
+#[inline(always)]
+fn is_before(task: &Queued, other: &Queued) -> bool
+    ensures { result ≡ is_before task.now other.now }
+{
+    if task.class != other.class {
+        return task.class < other.class;
+    }
+    if task.rank != other.rank {
+        return task.rank < other.rank;
+    }
+    task.stamp < other.stamp
+}
+
+/// A task enters: it is the first, unless the first is before it.
+#[inline(always)]
+pub fn enter<L: Ledger>(first: &mut Option<Queued>, task: Queued, steps: &mut Steps<L>)
+    ensures first { first.new ≡ Some (earlier task first.old) }
+    ensures counted { steps.new ≤ steps.old + 1 }
+{
+    if let Some(kept) = first {
+        steps.tick();
+        if is_before(kept, &task) {
+            return;
+        }
+    }
+    *first = Some(task);
+}
+
+/// Whether the first is the task with the pid.
+#[inline(always)]
+pub fn is_of(first: &Option<Queued>, pid: Pid) -> bool
+    ensures { result ≡ is_of pid first.now }
+{
+    match first {
+        Some(task) => task.pid == pid,
+        None => false,
+    }
+}
+
+/// The first has the cookie, where it is the task with the pid.
+#[inline(always)]
+pub fn give_cookie(first: &mut Option<Queued>, pid: Pid, cookie: Cookie)
+    ensures { first.new ≡ option_map (given_cookie pid cookie) first.old }
+{
+    if let Some(task) = first {
+        if task.pid == pid {
+            task.cookie = cookie;
+        }
+    }
+}
+
+/// The first of the tasks that the trees hold, of which the table tells what else a queue has.
+pub fn find_first<L: Ledger>(
+    run: &RunQueue,
+    table: &TaskTable,
+    steps: &mut Steps<L>,
+) -> Option<Queued>
+    ensures first { (tasks : List SomeQueued) → run.now.tasks ≡ seated tasks → All (IsIn table.now.tasks) tasks → result ≡ first_among tasks }
+    ensures counted { steps.new ≤ steps.old + most_comparisons (map.len run.now.tasks) + 6 }
+{
+    let task = table.find(run.first(steps)?)?;
+    Some(queued_of(task))
+}
+
+/// The same where this is one of the tasks, which the table does not have so yet. It is not looked up.
+pub fn find_first_with<L: Ledger>(
+    run: &RunQueue,
+    task: Queued,
+    table: &TaskTable,
+    steps: &mut Steps<L>,
+) -> Option<Queued>
+    ensures first { (tasks : List SomeQueued) → run.now.tasks ≡ seated tasks → All (IsInBut table.now.tasks task) tasks → result ≡ first_among tasks }
+    ensures counted { steps.new ≤ steps.old + most_comparisons (map.len run.now.tasks) + 6 }
+{
+    let pid = run.first(steps)?;
+    if pid == task.pid {
+        return Some(task);
+    }
+    let other = table.find(pid)?;
+    Some(queued_of(other))
+}

@@ -1,0 +1,10 @@
+//! The queue of a sibling that the fast machine has: ordered trees, with the first task beside them.
+#![tactic(auto)]
+
+mod arrivals;
+mod first;
+mod queue;
+mod renewed;
+mod task;
+
+pub use queue::TreeQueue;

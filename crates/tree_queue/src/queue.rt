@@ -1,0 +1,191 @@
+//! The queue with trees: each question is answered from the ordered trees of a run queue, and the table tells the
+//! task of a pid.
+
+use crate::arrivals::Arrivals;
+use crate::first::{enter, find_first, find_first_with, give_cookie, is_of};
+use crate::renewed::Renewed;
+use crate::task::{KINDS, LOTS, kind_of, lot_of};
+use core_lanes::{Movers, SiblingQueue, is_on, queued_of, task_of};
+use cs_types::{Cookie, Cpu, OutOfMemory, Queued, Steps, Task};
+use run_queue::RunQueue;
+use std::alloc::Global;
+use std::sync::ledger::Ledger;
+use task_table::TaskTable;
+
+/// The queued tasks of a sibling in ordered trees, the first of them, and how many there are of each kind and with
+/// cookies of each lot. A cookie of which no task has the lot is not looked for.
+#[derive(Drop)]
+pub struct TreeQueue {
+    run: RunQueue,
+    /// The first task, none where there is no task.
+    first: Option<Queued>,
+    kinds: [u16; KINDS],
+    lots: [u16; LOTS],
+    /// The tasks that came, of which some may have left.
+    arrivals: Arrivals,
+}
+
+impl SiblingQueue for TreeQueue {
+    ghost use Rattle.tree_queue.specs.Held.{Keeps};
+    ghost use Rattle.tree_queue.specs.Comparisons.{most_of_call};
+    ghost use Rattle.cs_types.proofs.Comparisons.{most_comparisons-le};
+    ghost use Rattle.std.proofs.Math.Nat.{mul-le-mul_left};
+
+    ghost holds = { λ queue most tasks. Keeps queue.run queue.first queue.kinds queue.lots most tasks };
+
+    ghost most_compared = { most_of_call };
+
+    fn with_capacity(alloc: Global, most: u16) -> Result<TreeQueue, OutOfMemory> {
+        let arrivals = Arrivals::with_capacity(alloc, most)?;
+        let mut run = RunQueue::empty(alloc);
+        run.reserve(u32::from(most))?;
+        Ok(TreeQueue {
+            run,
+            first: None,
+            kinds: [0; KINDS],
+            lots: [0; LOTS],
+            arrivals,
+        })
+    }
+
+    fn put<L: Ledger>(&mut self, _table: &TaskTable, _cpu: Cpu, task: &Task, steps: &mut Steps<L>) {
+        let queued = queued_of(task);
+        enter(&mut self.first, queued, steps);
+        self.run.enqueue(queued, steps);
+        self.kinds[kind_of(task)] += 1;
+        self.lots[lot_of(task.cookie)] += 1;
+        self.arrivals.note(task.stamp, task.spec.pid);
+    }
+
+    fn take<L: Ledger>(&mut self, table: &TaskTable, _cpu: Cpu, task: &Task, steps: &mut Steps<L>) {
+        self.run.dequeue(&queued_of(task), steps);
+        self.kinds[kind_of(task)] -= 1;
+        self.lots[lot_of(task.cookie)] -= 1;
+        if is_of(&self.first, task.spec.pid) {
+            self.first = find_first(&self.run, table, steps);
+        }
+    }
+
+    fn set_cookie<L: Ledger>(
+        &mut self,
+        _table: &TaskTable,
+        _cpu: Cpu,
+        task: &Task,
+        cookie: Cookie,
+        steps: &mut Steps<L>,
+    ) {
+        self.run.set_cookie(&queued_of(task), cookie, steps);
+        give_cookie(&mut self.first, task.spec.pid, cookie);
+        self.lots[lot_of(task.cookie)] -= 1;
+        self.lots[lot_of(cookie)] += 1;
+    }
+
+    #[inline(always)]
+    fn set_vtime<L: Ledger>(
+        &mut self,
+        table: &TaskTable,
+        _cpu: Cpu,
+        task: &Task,
+        vtime: u128,
+        steps: &mut Steps<L>,
+    ) {
+        let queued = queued_of(task);
+        let rank = fair_queue::rank(vtime);
+        self.run.set_fair_rank(&queued, rank, steps);
+        let later = Queued { rank, ..queued };
+        if is_of(&self.first, task.spec.pid) {
+            self.first = find_first_with(&self.run, later, table, steps);
+        } else {
+            enter(&mut self.first, later, steps);
+        }
+    }
+
+    fn clear(&mut self, _table: &TaskTable, _cpu: Cpu) {
+        self.run.clear();
+        self.arrivals.clear();
+        self.first = None;
+        self.kinds = [0; KINDS];
+        self.lots = [0; LOTS];
+    }
+
+    fn tell_into(&self, table: &TaskTable, cpu: Cpu, movers: &mut Movers) {
+        let count = self.run.count() as usize;
+        if self.arrivals.tell(table, cpu, count, movers) {
+            return;
+        }
+        self.run.tell_into(movers);
+    }
+
+    fn renew<L: Ledger>(
+        &mut self,
+        table: &TaskTable,
+        _cpu: Cpu,
+        movers: &Movers,
+        steps: &mut Steps<L>,
+    ) {
+        self.run.renew(&Renewed { table }, steps);
+        self.first = find_first(&self.run, table, steps);
+        self.arrivals.renew(table, movers);
+    }
+
+    #[inline(always)]
+    fn first<L: Ledger>(
+        &self,
+        _table: &TaskTable,
+        _cpu: Cpu,
+        _steps: &mut Steps<L>,
+    ) -> Option<Queued> {
+        self.first
+    }
+
+    #[inline(always)]
+    fn first_with<L: Ledger>(
+        &self,
+        cookie: Cookie,
+        table: &TaskTable,
+        _cpu: Cpu,
+        steps: &mut Steps<L>,
+    ) -> Option<Task> {
+        if self.lots[lot_of(cookie)] == 0 {
+            return None;
+        }
+        task_of(table, self.run.first_of(cookie, steps)?.pid)
+    }
+
+    fn next_with<L: Ledger>(
+        &self,
+        task: &Task,
+        table: &TaskTable,
+        _cpu: Cpu,
+        steps: &mut Steps<L>,
+    ) -> Option<Task> {
+        task_of(table, self.run.next_of(&queued_of(task), steps)?.pid)
+    }
+
+    #[inline(always)]
+    fn smallest_vtime<L: Ledger>(
+        &self,
+        _table: &TaskTable,
+        _cpu: Cpu,
+        steps: &mut Steps<L>,
+    ) -> Option<u128> {
+        self.run.least_fair(steps)
+    }
+
+    fn has_peer<L: Ledger>(
+        &self,
+        task: &Task,
+        _table: &TaskTable,
+        cpu: Cpu,
+        _steps: &mut Steps<L>,
+    ) -> bool {
+        let own = u16::from(is_on(task, cpu));
+        self.kinds[kind_of(task)] > own
+    }
+
+    fn count(&self, _table: &TaskTable, _cpu: Cpu) -> u32 {
+        self.run.count()
+    }
+
+    ghost rises = { λ few many le. mul-le-mul_left 4 (most_comparisons-le few many le) };
+}
