@@ -14,8 +14,8 @@ ghost use Rattle.core_charge.specs.Charges.{IsPaid, Charges};
 ghost use Rattle.core_clock.specs.Moments.{MayAsk, Advances};
 ghost use Rattle.core_clock.specs.Time.{RunTheirOwn, MayAdvance, with_grown, with_ages};
 
-use core_lanes::{Core, SiblingQueue, is_fair, task_of};
 use core_charge::charge;
+use core_lanes::{Core, SiblingQueue, is_fair, task_of};
 use cs_types::{Cpu, Pid, Policy, Steps, Task};
 use fair_queue::grow;
 use std::sync::ledger::Ledger;

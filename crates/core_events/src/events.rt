@@ -11,9 +11,9 @@ ghost use Rattle.cpu_hotplug.specs.Hotplugs.{reply_of as hotplug_reply};
 
 use crate::state::State;
 use cookie_steal::{Try, try_steal};
-use core_lanes::{Core, SiblingQueue, task_of};
 use core_charge::charge;
 use core_clock::{advance, online_home, queue_at_home, rehomed, tick};
+use core_lanes::{Core, SiblingQueue, task_of};
 use core_pick::{pick_and_balance, schedule};
 use cpu_hotplug::{Hotplug, offline, online};
 use cs_outside::Guard;

@@ -94,6 +94,8 @@ impl<Q: SiblingQueue> Core<Q> {
         ensures held { AreHeld (self.new, table.now) }
     {
         swap_queues(&mut self.lanes, from as usize, to as usize);
-        self.lanes[to as usize].queue.renew(table, to, movers, steps);
+        self.lanes[to as usize]
+            .queue
+            .renew(table, to, movers, steps);
     }
 }

@@ -87,7 +87,11 @@ fn pick_plain<Q: SiblingQueue>(core: &mut Core<Q>, cpu: Cpu, first: &First) -> P
 {
     core.account.close();
     let choice = &first.choice;
-    run_first(&mut core.lanes[cpu as usize], choice.run(), choice.is_fair());
+    run_first(
+        &mut core.lanes[cpu as usize],
+        choice.run(),
+        choice.is_fair(),
+    );
     core.touch();
     Pick {
         kind: Kind::Plain,

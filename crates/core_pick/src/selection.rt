@@ -139,7 +139,11 @@ fn offered<Q: SiblingQueue>(core: &Core<Q>, cpu: Cpu, first: First) -> First
     ensures { (beside : Beside) (table : Table) → let room = room_of beside (core.now, table) in
         first ≡ kept_in room (first_on room cpu) → result ≡ kept_in room (offered room cpu) }
 {
-    if core.is_online(cpu) { first } else { First::idle() }
+    if core.is_online(cpu) {
+        first
+    } else {
+        First::idle()
+    }
 }
 
 /// Notes the first of each sibling from one on up to another, after those before. Each is asked once. It gives the
@@ -194,6 +198,14 @@ pub fn ask<Q: SiblingQueue, L: Ledger>(
     let before = ask_from(firsts, core, table, 0, own, First::idle(), steps);
     firsts.push(first.choice);
     let offer = offered(core, own, *first);
-    let lead = ask_from(firsts, core, table, own + 1, core.lanes.len() as u8, offer, steps);
+    let lead = ask_from(
+        firsts,
+        core,
+        table,
+        own + 1,
+        core.lanes.len() as u8,
+        offer,
+        steps,
+    );
     lead.or_higher(before).choice.cookie
 }

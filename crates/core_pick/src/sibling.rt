@@ -78,6 +78,13 @@ pub fn hand<Q: Drop>(
 {
     match given.run() {
         None => take(lane, selects, None, false, occupation, renews),
-        Some(pid) => take(lane, selects, Some(pid), given.is_fair(), occupation, renews),
+        Some(pid) => take(
+            lane,
+            selects,
+            Some(pid),
+            given.is_fair(),
+            occupation,
+            renews,
+        ),
     }
 }

@@ -11,8 +11,8 @@ ghost use Rattle.cpu_hotplug.specs.Hotplugs.{MayLeave, TakesOffline, BringsOnlin
 
 use crate::away::{online_count, set_back, set_one_away};
 use crate::moves::move_off;
-use core_lanes::{Core, SiblingQueue};
 use core_charge::charge;
+use core_lanes::{Core, SiblingQueue};
 use cs_types::{Cpu, Steps};
 use std::sync::ledger::Ledger;
 use task_table::TaskTable;

@@ -30,9 +30,17 @@ fn sibling_event(text: &[u8], cpu: Cpu) -> Option<(Event, &[u8])>
     match *text {
         [b'b', b'l', b'o', b'c', b'k', b'\n', ref rest @ ..] => Some((Event::Block(cpu), rest)),
         [b't', b'i', b'c', b'k', b'\n', ref rest @ ..] => Some((Event::Tick(cpu), rest)),
-        [b'r', b'e', b's', b'c', b'h', b'e', b'd', b'\n', ref rest @ ..] => {
-            Some((Event::Resched(cpu), rest))
-        }
+        [
+            b'r',
+            b'e',
+            b's',
+            b'c',
+            b'h',
+            b'e',
+            b'd',
+            b'\n',
+            ref rest @ ..,
+        ] => { Some((Event::Resched(cpu), rest)) }
         [b'e', b'x', b'i', b't', b'\n', ref rest @ ..] => Some((Event::Exit(cpu), rest)),
         _ => None,
     }
@@ -88,7 +96,18 @@ fn wake_event(text: &[u8]) -> Option<(Event, &[u8])>
 fn advance_event(text: &[u8]) -> Option<(Event, &[u8])>
     ensures { IfSome result (λ read. (siblings : ℕ) → BeginsCall siblings text.now read.0 read.1.now) }
 {
-    let [b'a', b'd', b'v', b'a', b'n', b'c', b'e', b' ', ref number @ ..] = *text else {
+    let [
+        b'a',
+        b'd',
+        b'v',
+        b'a',
+        b'n',
+        b'c',
+        b'e',
+        b' ',
+        ref number @ ..,
+    ] = *text
+    else {
         return None;
     };
     let (delta, rest) = number_before(number, b'\n', 1, MOST_ADVANCE)?;
@@ -103,7 +122,17 @@ fn hotplug_event(text: &[u8], siblings: u8) -> Option<(Event, &[u8])>
     ensures { IfSome result (λ read. BeginsCall siblings text.now read.0 read.1.now) }
 {
     match *text {
-        [b'o', b'f', b'f', b'l', b'i', b'n', b'e', b' ', ref number @ ..] => {
+        [
+            b'o',
+            b'f',
+            b'f',
+            b'l',
+            b'i',
+            b'n',
+            b'e',
+            b' ',
+            ref number @ ..,
+        ] => {
             let (cpu, rest) = last_cpu(number, siblings)?;
             Some((Event::Offline(cpu), rest))
         }
@@ -122,7 +151,17 @@ fn last_child(text: &[u8]) -> Option<(bool, &[u8])>
 {
     match *text {
         [b't', b'h', b'r', b'e', b'a', b'd', b'\n', ref rest @ ..] => Some((true, rest)),
-        [b'p', b'r', b'o', b'c', b'e', b's', b's', b'\n', ref rest @ ..] => Some((false, rest)),
+        [
+            b'p',
+            b'r',
+            b'o',
+            b'c',
+            b'e',
+            b's',
+            b's',
+            b'\n',
+            ref rest @ ..,
+        ] => Some((false, rest)),
         _ => None,
     }
 }
@@ -202,7 +241,19 @@ fn last_policy(text: &[u8]) -> Option<(Policy, &[u8])>
 fn setsched_event(text: &[u8]) -> Option<(Event, &[u8])>
     ensures { IfSome result (λ read. (siblings : ℕ) → BeginsCall siblings text.now read.0 read.1.now) }
 {
-    let [b's', b'e', b't', b's', b'c', b'h', b'e', b'd', b' ', ref number @ ..] = *text else {
+    let [
+        b's',
+        b'e',
+        b't',
+        b's',
+        b'c',
+        b'h',
+        b'e',
+        b'd',
+        b' ',
+        ref number @ ..,
+    ] = *text
+    else {
         return None;
     };
     let (pid, behind) = number_before(number, b' ', 1, MOST_NAMED_PID)?;

@@ -85,13 +85,7 @@ fn first_stamp(table: &TaskTable, movers: &Movers) -> u64 {
 }
 
 /// Tells those of the entries that are tasks queued on the sibling since then, by rising stamp, and no more than `most`.
-fn tell_there(
-    entries: &[(u64, Pid)],
-    table: &TaskTable,
-    cpu: Cpu,
-    most: usize,
-    movers: &mut Movers,
-)
+fn tell_there(entries: &[(u64, Pid)], table: &TaskTable, cpu: Cpu, most: usize, movers: &mut Movers)
     requires none { movers.old.items ≡ [] }
     requires few { most ≤ 256 }
     ensures there { AllByRecursion (Contains (map mover_of (queued_among table.now.tasks cpu))) movers.new.items }

@@ -23,10 +23,10 @@ loop-entry-preserved c =
           let now : c.if-len-most.movers.items ≡ was ++ entry ∷ [] = ap (λ movers. movers.items) w.movers-is ∙ w.push.ensures.items in
           let next_is : next ≡ entry.0 + 1 = c.after-next.ensures (omega (arith, w.if-above-next.true)) in
           let lower = all_weaker (λ (mover : ℕ × ℕ). mover.0 < c.loop-entry.above) (λ (mover : ℕ × ℕ). mover.0 < entry.0)
-              (λ mover less. omega (arith, less, next_is, w.if-above-next.true)) was invariant.below in
+          (λ mover less. omega (arith, less, next_is, w.if-above-next.true)) was invariant.below in
           let below = all_more (λ (mover : ℕ × ℕ). mover.0 < next) was entry
-              (all_weaker (λ (mover : ℕ × ℕ). mover.0 < entry.0) (λ (mover : ℕ × ℕ). mover.0 < next) (λ mover less. omega (arith, less, next_is)) was lower)
-              (omega (arith, next_is)) in
+          (all_weaker (λ (mover : ℕ × ℕ). mover.0 < entry.0) (λ (mover : ℕ × ℕ). mover.0 < next) (λ mover less. omega (arith, less, next_is)) was lower)
+          (omega (arith, next_is)) in
           record {
             there = subst (AllByRecursion (Contains all)) (sym now) (all_more (Contains all) was entry invariant.there (w.is_there.ensures w.if-is_there.true));
             rising = subst AreRising (sym now) (rising_more was entry invariant.rising lower);
