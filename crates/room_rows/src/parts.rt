@@ -122,6 +122,23 @@ fn expect_groups(rt: &impl Abort, table: &TaskTable) {
     assert!(rt; found == [Some(1), Some(3), None, Some(2), None, Some(3)]);
 }
 
+/// Expects how many tasks each group has at most, and below which pid none of its tasks is.
+fn expect_spans(rt: &impl Abort, table: &TaskTable) {
+    let most = [
+        table.most_in(Group::All),
+        table.most_in(Group::Threads(1)),
+        table.most_in(Group::Threads(2)),
+        table.most_in(Group::Process(3)),
+    ];
+    assert!(rt; most == [3, 2, 0, 1]);
+    let below = [
+        table.below(Group::All),
+        table.below(Group::Threads(1)),
+        table.below(Group::Process(3)),
+    ];
+    assert!(rt; below == [0, 0, 2]);
+}
+
 #[test]
 fn tasks_of_a_table(rt: HostRuntime) {
     let table = three_tasks(&rt);
@@ -129,6 +146,7 @@ fn tasks_of_a_table(rt: HostRuntime) {
     expect_added(&rt, &table);
     expect_last(&rt, &table);
     expect_groups(&rt, &table);
+    expect_spans(&rt, &table);
 }
 
 /// Expects that no second task 2 is added, and none beyond the limit.

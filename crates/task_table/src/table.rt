@@ -30,7 +30,9 @@ pub struct TaskTable {
     /// An entry for each task, by rising pid.
     entries: Vec<Entry>,
     places: Places,
+    /// The spans of the thread groups.
     threads: Spans,
+    /// The spans of the process groups.
     processes: Spans,
     limit: u16,
 }
