@@ -4,7 +4,7 @@ use Rattle.std.specs.Prelude.{find, filter, insert, remove, slice_get}
 use Rattle.std.proofs.lemmas.List.Edits.{length-insert, length-remove}
 use Rattle.std.proofs.lemmas.Bool.{ne_eqb}
 use Rattle.slab.specs.Slab.{Slab, get, slab_len, Updates, with_value}
-use Rattle.slab.proofs.SlabLemmas.{ContainsKey-within}
+use Rattle.slab.proofs.SlabLemmas.{ContainsKey-within, Updates-with_value}
 use Rattle.std.proofs.lemmas.List.Sums.{sum_by-set}
 use Rattle.std.proofs.lemmas.List.{length-set, length-map, map-set, set-get_or}
 use Rattle.std.proofs.Math.Seq.{map-set_same}
@@ -22,7 +22,7 @@ use Rattle.task_table.proofs.Grouped.{has_member, grouped_alike}
 use Rattle.task_table.specs.Table.{pid_of, Table, Rises, add_answer}
 use Rattle.task_table.specs.declared.fault.AddFault.TheVariants.{Full}
 use Rattle.task_table.specs.Positions.{IsAt, IsGap}
-use Rattle.task_table.specs.Inside.{slot_of, tasks_at, totals_of, groups_of, groups_told, IsWalk, IsKept}
+use Rattle.task_table.specs.Inside.{slot_of, tasks_at, totals_of, groups_of, groups_told, IsSlotOf, IsWalk, IsKept}
 use Rattle.task_table.proofs.Rising.{find_at, find_none, none_gap, without_at, with_at, inserted_gap, rises_insert, rises_remove, rises_set, pids_set, at_within, split_within}
 use Rattle.task_table.proofs.Tables.{changed_each}
 use Rattle.task_table.proofs.Totals.{total-none}
@@ -49,6 +49,14 @@ both_at f g (x ∷ xs) (first ∷ ys) alike zero d y within is =
     let head : f x ≡ g first = cc in
     head ∙ ap g same
 both_at f g (x ∷ xs) (first ∷ ys) alike (suc position) d y within is = both_at f g xs ys (cc) position d y (omega arith) is
+
+-- a write in a slot that has a task leaves how many there are
+pub slab_len-with_value : (slots : Slab Task) (key : ℕ) (old new : Task) → get slots key ≡ Some old → slab_len (with_value slots key new) ≡ slab_len slots
+slab_len-with_value slots key old new has =
+    let inside = ContainsKey-within slots key (rw has refl) in
+    let counts = sum_by-set (λ slot. cond (is_some slot) 1 0) slots.slots key (Some new) None inside in
+    let one : ◌≡◌ {A = ℕ} (cond (is_some (get_or slots.slots key None)) 1 0) 1 = rw has refl in
+    omega (arith, counts, one)
 
 module _ {slots : Slab Task} {entries : List Entry} {threads processes : List Span} {room limit : ℕ} {tasks : List Task} (kept : IsKept slots entries threads processes room limit tasks) where
   -- what is kept is what the slots hold
@@ -250,42 +258,52 @@ module _ {slots : Slab Task} {entries : List Entry} {threads processes : List Sp
       let total : Entry → ℕ × ℕ = λ entry. (entry.pid, entry.forced) in
       ap totals_of is ∙ map-set_same total entries position (with_groups task entry) entry (ap total here)
 
-  -- the task in the slot of a pid changes, but not what its line says of it
-  pub kept_changed : (change : Task → Task) (new : Slab Task) (pid position : ℕ) (entry : Entry) (task : Task) → (change task).spec ≡ task.spec →
-      IsAt pid position tasks → entry ≡ get_or entries position entry → get slots entry.key ≡ Some task →
-      Updates slots new entry.key (Some (change task)) → slab_len new ≡ slab_len slots → new.capacity ≡ slots.capacity →
-      IsKept new entries threads processes room limit (map (λ (other : Task). cond (has_pid pid other) (change other) other) tasks)
-  kept_changed change new pid position entry task spec at here in_slot updates same_length same_room =
-      let now = change task in
-      let there = found_some pid position entry at here in
+  -- the slot of a pid has its task
+  pub task_in : {key pid : ℕ} → IsSlotOf key pid entries tasks → (task : Task) × (get slots key ≡ Some task) × (find (has_pid pid) tasks ≡ Some task) × (task.spec.pid ≡ pid)
+  task_in {key} {pid} slot =
+      let there = found_some pid slot.position slot.entry slot.at slot.is in
+      (there.0, ap (get slots) (sym slot.slot) ∙ there.1, sym (found pid slot.position slot.entry slot.at slot.is) ∙ there.1, there.2)
+
+  -- which is the task in the slot
+  pub found_in : {key pid : ℕ} (task : Task) → IsSlotOf key pid entries tasks → get slots key ≡ Some task →
+      (find (has_pid pid) tasks ≡ Some task) × (task.spec.pid ≡ pid)
+  found_in task slot in_slot =
+      let there = task_in slot in
       let both : Some there.0 ≡ Some task = sym there.1 ∙ in_slot in
       let is : there.0 ≡ task = cc in
-      let has : task.spec.pid ≡ pid = ap pid_of (sym is) ∙ there.2 in
-      let has_now : now.spec.pid ≡ pid = ap (λ (s : TaskSpec). s.pid) spec ∙ has in
-      let it = sym (found pid position entry at here) ∙ in_slot in
+      (there.2 ∙ ap Some is, ap pid_of (sym is) ∙ there.3)
+
+  -- a task with the same line comes into its slot
+  pub kept_edited : {key pid : ℕ} (old now : Task) → IsSlotOf key pid entries tasks → get slots key ≡ Some old → now.spec ≡ old.spec →
+      IsKept (with_value slots key now) entries threads processes room limit (map (λ (other : Task). cond (has_pid pid other) now other) tasks)
+  kept_edited {key} {pid} old now slot in_slot spec =
+      let there = found_in old slot in_slot in
+      let entry = slot.entry in
+      let position = slot.position in
+      let it = sym (find_at pid position tasks slot.at) ∙ there.0 in
+      let has_now : now.spec.pid ≡ pid = ap (λ (s : TaskSpec). s.pid) spec ∙ there.1 in
       let told : groups_told entry ≡ groups_of now =
-      ap groups_told here
-      ∙ both_at groups_told groups_of entries tasks kept.groups position entry task (position_within pid position at) (sym (find_at pid position tasks at) ∙ it)
+      ap groups_told slot.is
+      ∙ both_at groups_told groups_of entries tasks kept.groups position entry old (position_within pid position slot.at) it
       ∙ ap (λ (s : TaskSpec). (s.tgid, s.pgid)) (sym spec) in
       let same : with_groups now entry ≡ entry = (λ i. record entry { tgid = (sym told i).0; pgid = (sym told i).1 }) in
-      let whole : entries ≡ set entries position (with_groups now entry) =
-      sym (set-get_or entries position entry) ∙ ap (set entries position) (sym here ∙ sym same) in
-      let at_now = subst (λ n. IsAt n position tasks) (sym has_now) at in
-      let grouped = grouped_alike now position task tasks kept.grouped at_now (sym (find_at pid position tasks at) ∙ it) (ap (λ (s : TaskSpec). (s.tgid, s.pid)) spec) (ap (λ (s : TaskSpec). (s.pgid, s.pid)) spec) in
-      subst (IsKept new entries threads processes room limit)
-      (ap (λ n. map (λ (other : Task). cond (has_pid n other) now other) tasks) (ap (λ (s : TaskSpec). s.pid) spec)
-      ∙ changed_each change tasks task kept.sound.rising (subst (λ n. find (has_pid n) tasks ≡ Some task) (sym has) it)
-      ∙ ap (λ n. map (λ (other : Task). cond (has_pid n other) (change other) other) tasks) has)
-      (kept_set new entries position entry now grouped at_now here updates same_length same_room
-      whole)
+      let at_now = subst (λ n. IsAt n position tasks) (sym has_now) slot.at in
+      subst (λ n. IsKept (with_value slots key now) entries threads processes room limit (map (λ (other : Task). cond (has_pid n other) now other) tasks)) has_now
+      (kept_set (with_value slots key now) entries position entry now
+      (grouped_alike now position old tasks kept.grouped at_now it (ap (λ (s : TaskSpec). (s.tgid, s.pid)) spec) (ap (λ (s : TaskSpec). (s.pgid, s.pid)) spec))
+      at_now slot.is
+      (subst (λ n. Updates slots (with_value slots key now) n (Some now)) (sym slot.slot) (Updates-with_value slots key now (rw in_slot refl)))
+      (slab_len-with_value slots key old now in_slot) refl
+      (sym (set-get_or entries position entry) ∙ ap (set entries position) (sym slot.is ∙ sym same)))
 
--- a write in a slot that has a task leaves how many there are
-pub slab_len-with_value : (slots : Slab Task) (key : ℕ) (old new : Task) → get slots key ≡ Some old → slab_len (with_value slots key new) ≡ slab_len slots
-slab_len-with_value slots key old new has =
-    let inside = ContainsKey-within slots key (rw has refl) in
-    let counts = sum_by-set (λ slot. cond (is_some slot) 1 0) slots.slots key (Some new) None inside in
-    let one : ◌≡◌ {A = ℕ} (cond (is_some (get_or slots.slots key None)) 1 0) 1 = rw has refl in
-    omega (arith, counts, one)
+  -- where a change makes it of the old one, it makes each task with the pid
+  pub edited : {key pid : ℕ} (change : Task → Task) (old now : Task) → IsSlotOf key pid entries tasks → get slots key ≡ Some old → now ≡ change old →
+      map (λ (other : Task). cond (has_pid pid other) now other) tasks ≡ map (λ (other : Task). cond (has_pid pid other) (change other) other) tasks
+  edited change old now slot in_slot is =
+      let there = found_in old slot in_slot in
+      subst (λ n. map (λ (other : Task). cond (has_pid n other) now other) tasks ≡ map (λ (other : Task). cond (has_pid n other) (change other) other) tasks) there.1
+      (ap (λ (t : Task). map (λ (other : Task). cond (has_pid old.spec.pid other) t other) tasks) is
+      ∙ changed_each change tasks old kept.sound.rising (subst (λ n. find (has_pid n) tasks ≡ Some old) (sym there.1) there.0))
 
 -- an open table keeps the tasks that it is seen as
 pub kept_of : (slots : Slab Task) (entries : List Entry) (threads processes : List Span) (room limit : ℕ) (table : Table) →

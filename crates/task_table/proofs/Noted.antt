@@ -1,5 +1,5 @@
 -- Noted: a slot that has a task is that of an entry, since there are as many entries as slots that have one.
-use Rattle.std.proofs.Common.{◌≡◌, ℕ, zero, suc, ◌+◌, ◌<◌, ◌≤◌, cond, List, [], ◌∷◌, length, get_or, set, Some, None, is_some, refl, sym, ap, ◌∙◌, subst, arith, inl, inr}
+use Rattle.std.proofs.Common.{◌≡◌, ℕ, zero, suc, ◌+◌, ◌≤◌, cond, List, [], ◌∷◌, length, get_or, set, Some, None, is_some, refl, sym, ap, ◌∙◌, subst, arith, inl, inr}
 use Rattle.std.proofs.lemmas.Bool.{cases_eq}
 use Rattle.std.proofs.lemmas.List.Sums.{sum_by-set}
 use Rattle.slab.specs.Slab.{Slab, get, slab_len, Updates}
@@ -8,11 +8,8 @@ use Rattle.cs_types.specs.declared.task.Task.{Task}
 use Rattle.task_table.specs.declared.entry.Entry.{Entry}
 use Rattle.task_table.specs.Table.{pid_of, RisesFrom}
 use Rattle.task_table.specs.Positions.{IsAt}
-use Rattle.task_table.specs.Inside.{slot_of, Holds}
-use Rattle.task_table.proofs.Slots.{above_elsewhere, same_elsewhere, length_both, slot_at}
-use Rattle.task_table.proofs.Rising.{find_at, at_within}
-use Rattle.std.specs.Prelude.{find}
-use Rattle.cs_types.specs.Room.{has_pid}
+use Rattle.task_table.specs.Inside.{Holds, IsSlotOf}
+use Rattle.task_table.proofs.Slots.{above_elsewhere, same_elsewhere}
 
 -- ---- a slot that is emptied
 
@@ -39,12 +36,9 @@ at_low low pid position [] rises at = absurd at
 at_low low pid zero (task ∷ rest) rises at = omega (arith, rises.0, at.0)
 at_low low pid (suc position) (task ∷ rest) rises at = omega (arith, rises.0, at.0)
 
--- the position of the task in a slot
-abbrev pub StandsAt : ℕ → ℕ → ℕ → List Entry → List Task → Type 0
-StandsAt key pid position entries tasks = IsAt pid position tasks × ((d : Entry) → (get_or entries position d).key ≡ key)
-
+-- a slot that has a task is that of the entry with its pid
 pub stands : (slots : Slab Task) (low : ℕ) (entries : List Entry) (tasks : List Task) → Holds slots entries tasks → RisesFrom low tasks → slab_len slots ≡ length entries →
-    (key : ℕ) (task : Task) → get slots key ≡ Some task → (position : ℕ) × StandsAt key task.spec.pid position entries tasks
+    (key : ℕ) (task : Task) → get slots key ≡ Some task → IsSlotOf key task.spec.pid entries tasks
 stands slots low [] tasks holds rises counted key task has = absurd (omega (arith, counted, one_less slots key task has))
 stands slots low (entry ∷ entries) [] holds rises counted key task has = absurd cc
 stands slots low (entry ∷ entries) (first ∷ tasks) holds rises counted key task has =
@@ -52,21 +46,24 @@ stands slots low (entry ∷ entries) (first ∷ tasks) holds rises counted key t
     elim (cases_eq key entry.key) [
       | inl same ↦
           let found : first ≡ task = (let both = sym head ∙ ap (get slots) (sym same) ∙ has in cc) in
-          (zero, ((ap pid_of found, subst (λ (t : Task). RisesFrom (t.spec.pid + 1) tasks) found rises.1), λ d. sym same))
+          record {
+            position = zero;
+            entry = entry;
+            at = (ap pid_of found, subst (λ (t : Task). RisesFrom (t.spec.pid + 1) tasks) found rises.1);
+            is = refl;
+            slot = sym same;
+          }
       | inr apart ↦
           let empty = empties slots entry.key first head in
           let elsewhere = above_elsewhere slots entry.key first head (first.spec.pid + 1) (omega arith) entries tasks (cc) rises.1 in
           let later = stands (emptied slots entry.key) (first.spec.pid + 1) entries tasks
           (same_elsewhere slots (emptied slots entry.key) entry.key None empty entries elsewhere ∙ cc) rises.1
           (omega (arith, one_less slots entry.key first head, counted)) key task (empty.others key apart ∙ has) in
-          (suc later.0, ((omega (arith, at_low (first.spec.pid + 1) task.spec.pid later.0 tasks rises.1 later.1.0), later.1.0), later.1.1))
+          record {
+            position = suc later.position;
+            entry = later.entry;
+            at = (omega (arith, at_low (first.spec.pid + 1) task.spec.pid later.position tasks rises.1 later.at), later.at);
+            is = later.is;
+            slot = later.slot;
+          }
     ]
-
--- so the task in a slot is the one that its pid finds
-pub found_in_slot : (slots : Slab Task) (entries : List Entry) (tasks : List Task) → Holds slots entries tasks → RisesFrom 0 tasks → slab_len slots ≡ length entries →
-    (key : ℕ) (task : Task) → get slots key ≡ Some task → find (has_pid task.spec.pid) tasks ≡ Some task
-found_in_slot slots entries tasks holds rises counted key task has =
-    let there = stands slots 0 entries tasks holds rises counted key task has in
-    let none : Entry = record { pid = 0; tgid = 0; pgid = 0; key = 0; forced = 0 } in
-    let within : there.0 < length entries = omega (arith, at_within task.spec.pid there.0 tasks there.1.0, length_both (slot_of slots) Some entries tasks holds) in
-    find_at task.spec.pid there.0 tasks there.1.0 ∙ sym (slot_at slots entries tasks holds there.0 none within) ∙ ap (get slots) (there.1.1 none) ∙ has

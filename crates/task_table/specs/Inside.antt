@@ -1,5 +1,5 @@
 -- How a table keeps its tasks: in slots, with an index of entries. No public clause cites this module.
-use Rattle.std.specs.Prelude.{◌≡◌, ℕ, Bool, true, ◌==◌, ◌≤◌, List, map, length, filter, Option, Some}
+use Rattle.std.specs.Prelude.{◌≡◌, ℕ, Bool, true, ◌==◌, ◌≤◌, List, map, length, filter, Option, Some, slice_index_or}
 use Rattle.std.specs.List.{filter_map}
 use Rattle.slab.specs.Slab.{Slab, get, slab_len}
 use Rattle.cs_types.specs.declared.task.Task.{Task}
@@ -7,7 +7,7 @@ use Rattle.task_table.specs.declared.entry.Entry.{Entry}
 use Rattle.task_table.specs.declared.group.Group.{Group}
 use Rattle.task_table.specs.declared.group.Group.TheVariants.{All, Threads, Process}
 use Rattle.task_table.specs.Table.{IsSound}
-use Rattle.task_table.specs.Positions.{IsIndexOf}
+use Rattle.task_table.specs.Positions.{IsIndexOf, IsAt}
 use Rattle.task_table.specs.Group.{is_in_group}
 use Rattle.task_table.specs.declared.spans.Span.{Span}
 use Rattle.task_table.specs.Grouping.{AreGrouped}
@@ -31,6 +31,14 @@ Holds slots entries tasks = map (slot_of slots) entries ≡ map Some tasks
 -- each entry's slot has a task
 abbrev pub EachFilled : Slab Task → List Entry → Type 0
 EachFilled slots entries = Holds slots entries (tasks_at slots entries)
+
+-- the slot is that of the entry at the position of the pid
+pub record IsSlotOf (key pid : ℕ) (entries : List Entry) (tasks : List Task) : Type 0 where
+  pub position : ℕ
+  pub entry : Entry
+  pub at : IsAt pid position tasks
+  pub is : entry ≡ slice_index_or entries position entry
+  pub slot : entry.key ≡ key
 
 -- whether an entry tells that its task is of the group
 abbrev pub tells_group : Group → Entry → Bool

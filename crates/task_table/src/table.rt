@@ -2,13 +2,16 @@
 
 ghost use Rattle.std.specs.Prelude.{◌≡◌, ℕ, ◌+◌, ◌<◌, ◌^◌, ◌≤◌, ◌==◌, ◌&&◌, nat_lt, [], ◌∷◌, length, map, drop, filter, find, not, slice_set, List, IsTrue, Some, if◌then◌else◌, IfOk, IfNone, IfSome, OnOk, OnErr, MatchResult, MatchOption, option_copied, slice_get, IsSome};
 ghost use Rattle.std.specs.Option.{option_map};
+ghost use Rattle.std.specs.Fn.{FnOnceReturnsAtMut};
 ghost use Rattle.cs_types.specs.Room.{asleep, inserted, has_pid};
 ghost use Rattle.cs_types.specs.declared.task.Task.{Task as SomeTask};
-ghost use Rattle.task_table.specs.Table.{Table, total_in, IsSound, add_answer};
+ghost use Rattle.task_table.specs.Table.{Table, total_in, Rises, IsSound, add_answer};
+ghost use Rattle.task_table.specs.Inside.{IsSlotOf, IsKept};
+ghost use Rattle.task_table.specs.declared.spans.Span.{Span as SomeSpan};
 ghost use Rattle.task_table.specs.Group.{is_in_group, group_above};
 ghost use Rattle.task_table.specs.Walk.{WalksInOrder};
 ghost use Rattle.std.specs.List.{AllByRecursion};
-ghost use Rattle.task_table.specs.Positions.{IsAt, IsGap, IsAbove, IsSplit};
+ghost use Rattle.task_table.specs.Positions.{IsIndexOf, IsAt, IsGap, IsAbove, IsSplit};
 ghost use Rattle.task_table.specs.Grouping.{HasMember, Counts, AreSpans};
 
 use crate::entry::{Entry, position_above, position_of};
@@ -90,6 +93,32 @@ fn regroup(entry: &mut Entry, threads: &mut Spans, processes: &mut Spans, spec: 
     processes.move_between(entry.pgid, spec.pgid, entry.pid);
     entry.tgid = spec.tgid;
     entry.pgid = spec.pgid;
+}
+
+/// The slot of the task with the pid. `None` exactly where there is none.
+#[inline(always)]
+fn slot_of(slots: &Slab<Task>, entries: &[Entry], places: &Places, pid: Pid) -> Option<usize>
+    ensures { (threads processes : List SomeSpan) (room limit : ℕ) (tasks : List SomeTask) → IsKept slots.now entries.now threads processes room limit tasks →
+        MatchOption result (find (has_pid pid) tasks ≡ None) (λ key. IsSlotOf key pid entries.now tasks) }
+{
+    let key = places.slot_of(pid);
+    match slots.get(key) {
+        Some(task) if task.spec.pid == pid => Some(key),
+        _ => searched(entries, pid),
+    }
+}
+
+/// The slot of the entry with the pid. `None` exactly where there is none. It is seldom called, since most slots are noted.
+#[cold]
+#[inline(never)]
+fn searched(entries: &[Entry], pid: Pid) -> Option<usize>
+    ensures { (tasks : List SomeTask) → IsIndexOf entries.now tasks → Rises tasks →
+        MatchOption result (find (has_pid pid) tasks ≡ None) (λ key. IsSlotOf key pid entries.now tasks) }
+{
+    let Ok(position) = position_of(entries, pid) else {
+        return None;
+    };
+    Some(entries.get(position)?.key)
 }
 
 impl TaskTable {
@@ -270,6 +299,20 @@ impl TaskTable {
         Some(old)
     }
 
+    /// The task with the pid, if there is one, is changed by the call, which leaves its line. Nothing else changes.
+    #[inline(always)]
+    fn edit<F: FnOnce(&mut Task)>(&mut self, pid: Pid, change: F)
+        requires callable { F.IsAlwaysCallable change }
+        requires line { (old new : SomeTask) → FnOnceReturnsAtMut F.FnOnce change old tt new → new.spec ≡ old.spec }
+        ensures edited { (after : SomeTask → SomeTask) → ((old new : SomeTask) → FnOnceReturnsAtMut F.FnOnce change old tt new → new ≡ after old) →
+            self.new ≡ record self.old { tasks = map (λ task. if has_pid pid task then after task else task) self.old.tasks } }
+        ensures sound { IsSound self.new }
+    {
+        if let Some(key) = slot_of(&self.slots, &self.entries, &self.places, pid) {
+            change(&mut self.slots[key]);
+        }
+    }
+
     /// The task with the pid, if there is one, remembers this occupation (`core_occupation`). Nothing else changes.
     #[inline(always)]
     pub fn remember(&mut self, pid: Pid, occupation: u8)
@@ -278,9 +321,7 @@ impl TaskTable {
         } }
         ensures sound { IsSound self.new }
     {
-        if let Ok(position) = self.position_of(pid) {
-            self.slots[self.entries[position].key].occupation = occupation;
-        }
+        self.edit(pid, |task| task.occupation = occupation);
     }
 
     /// The task with the pid, if there is one, has this cookie. Nothing else changes.
@@ -290,9 +331,7 @@ impl TaskTable {
         } }
         ensures sound { IsSound self.new }
     {
-        if let Ok(position) = self.position_of(pid) {
-            self.slots[self.entries[position].key].cookie = cookie;
-        }
+        self.edit(pid, |task| task.cookie = cookie);
     }
 
     /// The task with the pid, if there is one, is at home on this sibling, with this virtual time, in ns, and this stamp.
@@ -304,12 +343,11 @@ impl TaskTable {
         } }
         ensures sound { IsSound self.new }
     {
-        if let Ok(position) = self.position_of(pid) {
-            let task = &mut self.slots[self.entries[position].key];
+        self.edit(pid, |task| {
             task.home = home;
             task.vtime = vtime;
             task.stamp = stamp;
-        }
+        });
     }
 
     /// The task with the pid, if there is one, has this virtual time, in ns. Nothing else changes.
@@ -320,9 +358,7 @@ impl TaskTable {
         } }
         ensures sound { IsSound self.new }
     {
-        if let Ok(position) = self.position_of(pid) {
-            self.slots[self.entries[position].key].vtime = vtime;
-        }
+        self.edit(pid, |task| task.vtime = vtime);
     }
 
     /// The task with the pid, if there is one, has used this much of its slice, in ns. Nothing else changes.
@@ -333,9 +369,7 @@ impl TaskTable {
         } }
         ensures sound { IsSound self.new }
     {
-        if let Ok(position) = self.position_of(pid) {
-            self.slots[self.entries[position].key].used = used;
-        }
+        self.edit(pid, |task| task.used = used);
     }
 
     /// Takes the task with the pid out, and gives it and what it was charged for forced idle, in ns. `None`
