@@ -272,7 +272,9 @@ impl Tree {
             right,
             ..
         } = &mut **root;
-        left.renew(renewal);
+        if !left.is_empty() {
+            left.renew(renewal);
+        }
         (key.rank, key.stamp) = renewal.of(*pid);
         right.renew(renewal);
     }
