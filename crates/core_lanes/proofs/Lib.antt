@@ -7,3 +7,4 @@ pub mod Alike
 pub mod Timed
 pub mod Exchanged
 pub mod Onlines
+pub mod Movers

@@ -1,6 +1,8 @@
 -- Queued: the tasks of a table that are queued on a sibling, as its queue has them, and what it is asked of them.
 use Rattle.std.specs.Prelude.{◌≡◌, ℕ, ◌<◌, Bool, ◌==◌, ◌&&◌, not, nat_lt, if◌then◌else◌, List, map, filter, find, count_by, Option, Some, All, IsTrue}
 use Rattle.std.specs.List.{list_any}
+use Rattle.std.specs.List.Sorted.{IsPermutation, IsSortedByKey}
+use Rattle.std.specs.Ordering.{nat_cmp}
 use Rattle.cs_types.specs.declared.task.Task.{Task}
 use Rattle.cs_types.specs.declared.queue.Queued.{Queued}
 use Rattle.cs_types.specs.Order.{class_of, priority_of, foremost, is_fair, goes_before}
@@ -22,6 +24,13 @@ queued_at tasks cpu = map queued_of (queued_among tasks cpu)
 -- a task as it is told where all leave: its stamp, and its pid
 abbrev pub mover_of : Task → ℕ × ℕ
 mover_of task = (task.stamp, task.spec.pid)
+
+-- These are the pids of the tasks, each of which has its stamp here and its pid, by rising stamp.
+pub record AreTold (tasks : List (ℕ × ℕ)) (pids : List ℕ) : Type 0 where
+  pub movers : List (ℕ × ℕ)
+  pub same : IsPermutation tasks movers
+  pub rising : IsSortedByKey (λ mover. mover.0) nat_cmp movers
+  pub are : pids ≡ map (λ mover. mover.1) movers
 
 -- those but for the one with this pid
 abbrev pub others : ℕ → List Queued → List Queued

@@ -1,8 +1,6 @@
 //! The core.
 
-ghost use Rattle.std.specs.Prelude.{◌≡◌, ◌≢◌, ℕ, [], ◌+◌, ◌^◌, ◌<◌, ◌≤◌, length, map, find, is_some, All, Some, IfOk, IfSome, IsSomeAnd, option_copied, slice_get, IsPermutation, IsTrue, if◌then◌else◌};
-ghost use Rattle.std.specs.Ordering.{nat_cmp};
-ghost use Rattle.std.specs.List.Sorted.{IsSortedByKey};
+ghost use Rattle.std.specs.Prelude.{◌≡◌, ◌≢◌, ℕ, [], ◌+◌, ◌^◌, ◌<◌, ◌≤◌, length, map, find, is_some, All, Some, IfOk, IfSome, IsSomeAnd, option_copied, slice_get, IsTrue, if◌then◌else◌};
 ghost use Rattle.std.specs.Option.{option_map};
 ghost use Rattle.cs_types.specs.declared.task.Task.{Task as SomeTask};
 ghost use Rattle.cs_types.specs.Room.{has_pid, is_online, running_on, with_task, flag};
@@ -13,7 +11,7 @@ ghost use Rattle.cs_types.specs.Step.{run_idle};
 ghost use Rattle.cs_types.specs.Steal.{set_place};
 ghost use Rattle.cs_types.specs.Queueing.{enqueue, dequeue, moved_to};
 ghost use Rattle.task_table.specs.Table.{Table, IsSound as IsTable};
-ghost use Rattle.core_lanes.specs.Queued.{IsOf, queued_among, queued_at, mover_of, others, given_cookie, given_vtime, is_alike};
+ghost use Rattle.core_lanes.specs.Queued.{IsOf, queued_among, queued_at, mover_of, AreTold, others, given_cookie, given_vtime, is_alike};
 
 use crate::lane::Lane;
 use crate::order::is_alike;
@@ -351,8 +349,7 @@ impl<Q: SiblingQueue> Core<Q> {
         requires none { movers.old.items ≡ [] }
         ensures bare { bare self.new ≡ bare self.old }
         ensures away { AgreeAway leaving (self.new, table.now) }
-        ensures told { IsPermutation (map mover_of (queued_among table.now.tasks leaving)) movers.new.items }
-        ensures rising { IsSortedByKey (λ mover. mover.0) nat_cmp movers.new.items }
+        ensures told { AreTold (map mover_of (queued_among table.now.tasks leaving)) movers.new.items }
     {
         self.tell_queued(table, leaving, movers);
         self.lanes[leaving as usize].queue.clear(table, leaving);

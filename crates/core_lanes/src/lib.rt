@@ -8,9 +8,11 @@ mod moving;
 mod order;
 mod queue;
 mod queued;
+mod told;
 
 pub use lane::Lane;
 pub use lanes::{Core, MOST_SIBLINGS, task_of};
 pub use order::{goes_before, is_fair, is_higher, priority_of};
 pub use queue::{MOST_TASKS, Movers, SiblingQueue, is_on};
 pub use queued::{queued_of, rank_of};
+pub use told::{Stamped, tell_by_stamp};

@@ -1,10 +1,8 @@
 //! How a queue comes to another sibling with all its tasks. It is apart, since it alone leaves tasks and queues
 //! for a moment as they do not agree.
 
-ghost use Rattle.std.specs.Prelude.{◌≡◌, ◌≢◌, ℕ, [], ◌+◌, ◌<◌, length, map, slice_get, IsPermutation};
-ghost use Rattle.std.specs.Ordering.{nat_cmp};
-ghost use Rattle.std.specs.List.Sorted.{IsSortedByKey};
-ghost use Rattle.core_lanes.specs.Queued.{queued_among, mover_of};
+ghost use Rattle.std.specs.Prelude.{◌≡◌, ◌≢◌, ℕ, [], ◌+◌, ◌<◌, length, map, slice_get};
+ghost use Rattle.core_lanes.specs.Queued.{queued_among, mover_of, AreTold};
 ghost use Rattle.core_lanes.specs.Lanes.{lane_state};
 
 use crate::lane::Lane;
@@ -53,15 +51,13 @@ impl<Q: SiblingQueue> Core<Q> {
     ghost use Rattle.core_lanes.specs.Changes.{Becomes, kept_of};
     ghost use Rattle.cs_types.specs.Queueing.{enqueue};
 
-    /// Tells the tasks queued on the sibling, in a list that has none yet, by rising stamp.
+    /// Tells the tasks queued on the sibling by their pids, in a list that has none yet, by rising stamp.
     pub fn tell_queued(&self, table: &TaskTable, cpu: Cpu, movers: &mut Movers)
         requires agree { AgreesAt cpu (self.now, table.now) }
         requires none { movers.old.items ≡ [] }
-        ensures told { IsPermutation (map mover_of (queued_among table.now.tasks cpu)) movers.new.items }
-        ensures rising { IsSortedByKey (λ mover. mover.0) nat_cmp movers.new.items }
+        ensures told { AreTold (map mover_of (queued_among table.now.tasks cpu)) movers.new.items }
     {
         self.lanes[cpu as usize].queue.tell_into(table, cpu, movers);
-        movers.sort_unstable_by_key(|mover| mover.0);
     }
 
     /// The task has its new home in the table, with the next stamp. Its queue is to follow.

@@ -1,12 +1,12 @@
 //! What a sibling's queue is asked. It is a trait, so that one text of the events serves every kind of queue.
 
-ghost use Rattle.std.specs.Prelude.{◌≡◌, ◌≢◌, ◌==◌, ◌&&◌, ℕ, ◌+◌, ◌*◌, ◌≤◌, List, [], length, map, IfOk, IsPermutation};
+ghost use Rattle.std.specs.Prelude.{◌≡◌, ◌≢◌, ◌==◌, ◌&&◌, ℕ, ◌+◌, ◌*◌, ◌≤◌, List, [], length, map, IfOk};
 ghost use Rattle.std.specs.Option.{option_map};
 ghost use Rattle.cs_types.specs.declared.queue.Queued.{Queued as SomeQueued, Queued};
 ghost use Rattle.cs_types.specs.Order.{first_of};
 ghost use Rattle.cs_types.specs.Queue.{queued_of};
 ghost use Rattle.cs_types.specs.Scenario.{IsPolicy};
-ghost use Rattle.core_lanes.specs.Queued.{queued_among, queued_at, mover_of, others, given_cookie, given_vtime, IsOf, IsQueuedOn, IsFairOn, MayBePut, with_cookie, behind, smallest_vtime, has_peer, HavePolicies};
+ghost use Rattle.core_lanes.specs.Queued.{queued_among, queued_at, mover_of, AreTold, others, given_cookie, given_vtime, IsOf, IsQueuedOn, IsFairOn, MayBePut, with_cookie, behind, smallest_vtime, has_peer, HavePolicies};
 ghost use Rattle.core_lanes.specs.Moved.{MayRenew};
 ghost use Rattle.task_table.specs.Table.{IsSound as IsTable};
 
@@ -19,8 +19,8 @@ use task_table::TaskTable;
 /// The most tasks that live at once.
 pub const MOST_TASKS: usize = 256;
 
-/// Some tasks, each by its stamp and its pid.
-pub type Movers = ArrayVec<(u64, Pid), MOST_TASKS>;
+/// The pids of some tasks.
+pub type Movers = ArrayVec<Pid, MOST_TASKS>;
 
 /// The queued tasks of one sibling (`struct rq`). The tasks themselves stand in a table, which each call is
 /// handed: what the queue is asked is answered of the tasks that the table has queued on the sibling, and the
@@ -84,12 +84,12 @@ pub trait SiblingQueue: Drop {
         requires { holds self.old table.now.limit (queued_at table.now.tasks cpu) }
         ensures { holds self.new table.now.limit [] };
 
-    /// Each task is told by its stamp and its pid, in any order, in a list that has none yet.
+    /// Each task is told by its pid, by rising stamp, in a list that has none yet.
     fn tell_into(&self, table: &TaskTable, cpu: Cpu, movers: &mut Movers)
         requires none { movers.old.items ≡ [] }
         requires few { length (queued_among table.now.tasks cpu) ≤ 256 }
         requires holds { holds self.now table.now.limit (queued_at table.now.tasks cpu) }
-        ensures told { IsPermutation (map mover_of (queued_among table.now.tasks cpu)) movers.new.items };
+        ensures told { AreTold (map mover_of (queued_among table.now.tasks cpu)) movers.new.items };
 
     /// All tasks that it holds have moved to the sibling in the table, in the order in which they stand. It holds them
     /// as they are now. It makes at most three times as many comparisons as another call. The list may tell it in which

@@ -2,11 +2,10 @@
 use Rattle.std.proofs.Common.{◌≡◌, inl, inr, ℕ, ◌+◌, ◌<◌, Bool, true, false, cond, ltb, List, [], ◌∷◌, map, refl, sym, ap, ◌∙◌, subst, length, get_or, arith, Some, ne_eqb}
 use Rattle.std.specs.Prelude.{find, ◌&&◌, ◌==◌, Contains}
 use Rattle.std.specs.List.{AllByRecursion}
-use Rattle.std.specs.List.Sorted.{IsPermutation, IsSortedByKey}
-use Rattle.std.specs.Ordering.{nat_cmp}
 use Rattle.std.proofs.Math.Bool.{and-false}
 use Rattle.std.proofs.lemmas.Bool.{cond-true, cond-false, cases_Bool, eqb-true, eqb-false, and_parts, lt-ltb}
 use Rattle.std.proofs.lemmas.Bool.Decides.{nat_tests}
+use Rattle.std.proofs.lemmas.List.{length-map, get_or-map}
 use Rattle.std.proofs.lemmas.List.Elements.{All-contains_itself, recursion_from_All}
 use Rattle.cs_types.specs.declared.task.Task.{Task}
 use Rattle.cs_types.specs.Room.{RoomState, SiblingState, has_pid, queued_on}
@@ -14,9 +13,9 @@ use Rattle.cs_types.specs.Queueing.{moved_to}
 use Rattle.cs_types.specs.Hotplug.{lowest_other, moved_off}
 use Rattle.cs_types.proofs.Filtered.{Contains-filter, each_found}
 use Rattle.task_table.specs.Table.{Rises}
-use Rattle.core_lanes.specs.Queued.{queued_among, mover_of, count_before, IsOf, AreStamped}
+use Rattle.core_lanes.specs.Queued.{queued_among, mover_of, AreTold, count_before, IsOf, AreStamped}
 use Rattle.core_lanes.proofs.Queues.{is_on}
-use Rattle.cpu_hotplug.proofs.Ranks.{fewer_before, same_stamp, mover_at, rank_at}
+use Rattle.cpu_hotplug.proofs.Ranks.{fewer_before, same_stamp, length-movers, mover_at, rank_at}
 
 -- ---- the task that moves
 
@@ -172,27 +171,36 @@ pub record IsNext (room : RoomState) (cpu count : ℕ) (now : List Task) (task :
   pub rank : count_before (queued_on room cpu) task.stamp ≡ count
   pub found : find (has_pid task.spec.pid) now ≡ Some task
 
-module _ (room : RoomState) (cpu : ℕ) (rises : Rises room.tasks) (stamped : AreStamped room.next_stamp room.tasks) (movers : List (ℕ × ℕ))
-    (same : IsPermutation (map mover_of (queued_on room cpu)) movers) (sorted : IsSortedByKey (λ (mover : ℕ × ℕ). mover.0) nat_cmp movers)
-    (count : ℕ) (d : ℕ × ℕ) (within : count < length movers) (now : List Task) (are : now ≡ map (after_some room cpu count) room.tasks) where
-  -- it is found by its pid
-  pub next_found : (task : Task) × (find (has_pid (get_or movers count d).1) now ≡ Some task) × IsNext room cpu count now task
-  next_found =
-      let mover = get_or movers count d in
-      let is = mover_at room.tasks rises cpu room.next_stamp stamped movers same count d within in
-      let task = is.task in
-      let rank = ap (λ (m : ℕ × ℕ). count_before (queued_on room cpu) m.0) is.is ∙ rank_at room.tasks rises cpu room.next_stamp stamped movers same sorted count d within in
-      let found = ap (find (has_pid task.spec.pid)) are ∙ found_then room cpu count task.spec.pid room.tasks task is.there
-      ∙ ap Some (not_yet room cpu stamped count task is.there is.on rank) in
-      (task, ap (λ (m : ℕ × ℕ). find (has_pid m.1) now) (sym is.is) ∙ found, record { there = is.there; on = is.on; rank = rank; found = found })
+module _ (room : RoomState) (cpu : ℕ) (rises : Rises room.tasks) (stamped : AreStamped room.next_stamp room.tasks) (pids : List ℕ)
+    (told : AreTold (map mover_of (queued_on room cpu)) pids) where
+  -- there are as many
+  pub length-told : length pids ≡ length (queued_on room cpu)
+  length-told = ap length told.are ∙ length-map told.movers (λ (mover : ℕ × ℕ). mover.1) ∙ length-movers room.tasks rises cpu room.next_stamp stamped told.movers told.same
 
-  -- and what is found by it is the next one
-  pub next_is : (task : Task) → find (has_pid (get_or movers count d).1) now ≡ Some task → IsNext room cpu count now task
-  next_is task found =
-      let next = next_found in
-      let both : Some next.0 ≡ Some task = sym next.1 ∙ found in
-      let is : next.0 ≡ task = cc in
-      subst (IsNext room cpu count now) is next.2
+  module _ (count : ℕ) (within : count < length pids) (now : List Task) (are : now ≡ map (after_some room cpu count) room.tasks) where
+    -- it is found by its pid
+    pub next_found : (task : Task) × (find (has_pid (get_or pids count 0)) now ≡ Some task) × IsNext room cpu count now task
+    next_found =
+        let movers = told.movers in
+        let mover = get_or movers count (0, 0) in
+        let below : count < length movers = omega (arith, within, ap length told.are, length-map movers (λ (mover : ℕ × ℕ). mover.1)) in
+        let pid : mover.1 ≡ get_or pids count 0 = sym (ap (λ (pids : List ℕ). get_or pids count 0) told.are ∙ get_or-map (λ (mover : ℕ × ℕ). mover.1) movers count (0, 0) 0 below) in
+        let is = mover_at room.tasks rises cpu room.next_stamp stamped movers told.same count (0, 0) below in
+        let task = is.task in
+        let rank = ap (λ (m : ℕ × ℕ). count_before (queued_on room cpu) m.0) is.is
+        ∙ rank_at room.tasks rises cpu room.next_stamp stamped movers told.same told.rising count (0, 0) below in
+        let found = ap (find (has_pid task.spec.pid)) are ∙ found_then room cpu count task.spec.pid room.tasks task is.there
+        ∙ ap Some (not_yet room cpu stamped count task is.there is.on rank) in
+        (task, ap (λ n. find (has_pid n) now) (sym (ap (λ (m : ℕ × ℕ). m.1) is.is ∙ pid)) ∙ found,
+         record { there = is.there; on = is.on; rank = rank; found = found })
+
+    -- and what is found by it is the next one
+    pub next_is : (task : Task) → find (has_pid (get_or pids count 0)) now ≡ Some task → IsNext room cpu count now task
+    next_is task found =
+        let next = next_found in
+        let both : Some next.0 ≡ Some task = sym next.1 ∙ found in
+        let is : next.0 ≡ task = cc in
+        subst (IsNext room cpu count now) is next.2
 
 -- ---- those that are left
 

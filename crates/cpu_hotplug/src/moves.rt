@@ -93,7 +93,7 @@ fn move_queue<Q: SiblingQueue, L: Ledger>(
     let mut movers = Movers::new();
     core.tell_queued(table, cpu, &mut movers);
     for mover in movers.iter() {
-        let task = task_of(table, mover.1).unwrap();
+        let task = task_of(table, *mover).unwrap();
         let moved = core.moved_to(to, task);
         core.place(table, &moved);
     }
@@ -121,7 +121,7 @@ fn move_each<Q: SiblingQueue, L: Ledger>(
     let mut movers = Movers::new();
     core.empty_queue(table, cpu, &mut movers);
     for mover in movers.iter() {
-        let task = task_of(table, mover.1).unwrap();
+        let task = task_of(table, *mover).unwrap();
         let moved = core.moved_to(to, task);
         core.enter(table, moved, steps);
     }

@@ -3,7 +3,9 @@
 ghost use Rattle.std.specs.Prelude.{◌≡◌, ◌+◌, ◌≤◌, ◌++◌, length, map};
 ghost use Rattle.core_lanes.specs.Queued.{is_peer_of, queued_among, mover_of};
 
-use core_lanes::{Movers, SiblingQueue, goes_before, is_fair, is_on, priority_of, queued_of};
+use core_lanes::{
+    Movers, SiblingQueue, Stamped, goes_before, is_fair, is_on, priority_of, queued_of, tell_by_stamp,
+};
 use cs_types::{Cookie, Cpu, OutOfMemory, Queued, Steps, Task};
 use std::alloc::Global;
 use std::sync::ledger::Ledger;
@@ -22,8 +24,8 @@ fn is_peer_of(task: &Task, other: &Task) -> bool
         && priority_of(task.spec.policy) == priority_of(other.spec.policy)
 }
 
-/// Tells the tasks of the table that are queued on the sibling.
-fn tell(table: &TaskTable, cpu: Cpu, movers: &mut Movers)
+/// Tells the tasks of the table that are queued on the sibling, each by its stamp and its pid.
+fn tell(table: &TaskTable, cpu: Cpu, movers: &mut Stamped)
     requires places { length movers.old.items + length (queued_among table.now.tasks cpu) ≤ 256 }
     ensures told { movers.new.items ≡ movers.old.items ++ map mover_of (queued_among table.now.tasks cpu) }
 {
@@ -83,7 +85,9 @@ impl SiblingQueue for Walk {
     fn clear(&mut self, _table: &TaskTable, _cpu: Cpu) {}
 
     fn tell_into(&self, table: &TaskTable, cpu: Cpu, movers: &mut Movers) {
-        tell(table, cpu, movers);
+        let mut tasks = Stamped::new();
+        tell(table, cpu, &mut tasks);
+        tell_by_stamp(&mut tasks, movers);
     }
 
     fn renew<L: Ledger>(

@@ -1,18 +1,20 @@
 -- Told: as many tasks as a sibling has, with rising stamps, are its tasks.
-use Rattle.std.proofs.Common.{◌≡◌, ◌≢◌, ℕ, ◌<◌, true, List, [], ◌∷◌, ◌++◌, Some, map, length, sym, ap, ◌∙◌, arith}
+use Rattle.std.proofs.Common.{◌≡◌, ◌≢◌, ℕ, zero, suc, ◌+◌, ◌<◌, ◌≤◌, Bool, true, false, cond, ltb, eqb, List, [], ◌∷◌, ◌++◌, Some, map, length, get_or, refl, sym, ap, ◌∙◌, arith, le-ltb}
 use Rattle.std.specs.Prelude.{find, Contains}
 use Rattle.std.specs.List.{AllByRecursion, remove}
-use Rattle.std.specs.List.Sorted.{IsPermutation}
-use Rattle.std.proofs.lemmas.List.{length-map, get_or-map}
+use Rattle.std.specs.List.Sorted.{IsPermutation, IsSortedByKey}
+use Rattle.std.specs.Ordering.{nat_cmp, is_lt}
+use Rattle.std.specs.declared.cmp.Ordering.TheVariants.{Less, Equal, Greater}
+use Rattle.std.proofs.lemmas.List.{length-map, map-append, get_or-map}
 use Rattle.std.proofs.lemmas.List.Elements.{All-contains_itself, recursion_from_All}
 use Rattle.std.proofs.lemmas.List.Sorted.{IsPermutation-refl, IsPermutation-trans, IsPermutation-remove, IsPermutation-cons, Contains-permutation, length_permutation}
 use Rattle.std.proofs.lemmas.Map.Made.{Contains-tail}
 use Rattle.cs_types.specs.declared.task.Task.{Task}
 use Rattle.cs_types.specs.Room.{has_pid}
 use Rattle.cs_types.proofs.Filtered.{Contains-filter, each_found}
-use Rattle.core_lanes.specs.Queued.{queued_among, mover_of}
+use Rattle.core_lanes.specs.Queued.{queued_among, mover_of, AreTold}
 use Rattle.core_lanes.proofs.Queues.{is_on}
-use Rattle.tree_queue.specs.Arrivals.{AreRising}
+use Rattle.tree_queue.specs.Arrivals.{AreRising, AreAmong}
 
 -- ---- one more
 
@@ -30,6 +32,33 @@ pub rising_more : (movers : List (ℕ × ℕ)) (mover : ℕ × ℕ) → AreRisin
 rising_more [] mover rising below = (tt, tt)
 rising_more (first ∷ movers) mover rising below =
     (all_more (λ (other : ℕ × ℕ). first.0 < other.0) movers mover rising.0 below.0, rising_more movers mover rising.1 below.1)
+
+-- tasks that are told have smaller stamps than this
+pub record AreBelow (tasks : List (ℕ × ℕ)) (above : ℕ) (pids : List ℕ) : Type 0 where
+  pub among : AreAmong tasks pids
+  pub below : AllByRecursion (λ (mover : ℕ × ℕ). mover.0 < above) among.movers
+
+pub none_below : (tasks : List (ℕ × ℕ)) (above : ℕ) → AreBelow tasks above []
+none_below tasks above = record { among = record { movers = []; there = tt; rising = tt; are = refl }; below = tt }
+
+-- one more of the tasks is told, whose stamp is not smaller than that
+pub below_more : (tasks : List (ℕ × ℕ)) (above next : ℕ) (mover : ℕ × ℕ) (pids : List ℕ) → AreBelow tasks above pids → Contains tasks mover →
+    next ≡ mover.0 + 1 → above < next → AreBelow tasks next (pids ++ mover.1 ∷ [])
+below_more tasks above next mover pids was there next_is less =
+    let movers = was.among.movers in
+    let lower = all_weaker (λ (other : ℕ × ℕ). other.0 < above) (λ (other : ℕ × ℕ). other.0 < mover.0)
+    (λ other smaller. omega (arith, smaller, next_is, less)) movers was.below in
+    record {
+      among = record {
+        movers = movers ++ mover ∷ [];
+        there = all_more (Contains tasks) movers mover was.among.there there;
+        rising = rising_more movers mover was.among.rising lower;
+        are = ap (λ (pids : List ℕ). pids ++ mover.1 ∷ []) was.among.are ∙ sym (map-append (λ (other : ℕ × ℕ). other.1) movers (mover ∷ []));
+      };
+      below = all_more (λ (other : ℕ × ℕ). other.0 < next) movers mover
+          (all_weaker (λ (other : ℕ × ℕ). other.0 < mover.0) (λ (other : ℕ × ℕ). other.0 < next) (λ other smaller. omega (arith, smaller, next_is)) movers lower)
+          (omega (arith, next_is));
+    }
 
 -- ---- a task of a sibling
 
@@ -62,3 +91,32 @@ all_told (mover ∷ movers) all rising there many =
     IsPermutation-trans all (mover ∷ rest) (mover ∷ movers) same
     (IsPermutation-cons mover rest movers
     (all_told movers rest rising.1 (others all rest mover same movers rising.0 there.1) (omega (arith, many, length_permutation all (mover ∷ rest) same))))
+
+-- ---- by rising stamp
+
+not_less : (x y : ℕ) → y ≤ x → is_lt (nat_cmp x y) ≡ false
+not_less x y le = by_tests (ltb x y) (eqb x y) (le-ltb x y le) where
+  by_tests : (less equal : Bool) → less ≡ false → is_lt (cond less Less (cond equal Equal Greater)) ≡ false
+  by_tests true equal is = is
+  by_tests false true is = refl
+  by_tests false false is = refl
+
+-- a list that rises is sorted
+pub sorted : (movers : List (ℕ × ℕ)) → AreRising movers → IsSortedByKey (λ (mover : ℕ × ℕ). mover.0) nat_cmp movers
+sorted [] rising k d low high = absurd (omega (arith, high))
+sorted (mover ∷ []) rising k d low high = absurd (omega (arith, high))
+sorted (mover ∷ other ∷ movers) rising zero d low high = not_less other.0 mover.0 (omega (arith, rising.0.0))
+sorted (mover ∷ other ∷ movers) rising (suc k) d low high =
+    let all = mover ∷ other ∷ movers in
+    let next : suc k + 1 ≡ suc (k + 1) = omega arith in
+    ap (λ n. is_lt (nat_cmp (get_or all n d).0 (get_or all (suc k) d).0)) next ∙ sorted (other ∷ movers) rising.1 k d (omega arith) (omega (arith, high))
+
+-- as many of the tasks as there are, by rising stamp, are told
+pub told_all : (all : List (ℕ × ℕ)) (pids : List ℕ) → AreAmong all pids → length pids ≡ length all → AreTold all pids
+told_all all pids among many =
+    record {
+      movers = among.movers;
+      same = all_told among.movers all among.rising among.there (omega (arith, many, ap length among.are, length-map among.movers (λ (mover : ℕ × ℕ). mover.1)));
+      rising = sorted among.movers among.rising;
+      are = among.are;
+    }

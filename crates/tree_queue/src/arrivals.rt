@@ -1,10 +1,9 @@
 //! The tasks that came to a queue, in the order in which they came. It is apart, since it is a hint: what it tells is
 //! looked up in the table, and nothing that is promised rests on what it keeps.
 
-ghost use Rattle.std.specs.Prelude.{◌≡◌, ◌+◌, ◌<◌, ◌≤◌, false, [], length, map, Contains, IsTrue, IsPermutation};
-ghost use Rattle.std.specs.List.{AllByRecursion};
-ghost use Rattle.core_lanes.specs.Queued.{queued_among, mover_of};
-ghost use Rattle.tree_queue.specs.Arrivals.{AreRising};
+ghost use Rattle.std.specs.Prelude.{◌≡◌, ◌+◌, ◌<◌, ◌≤◌, false, [], length, map, Contains, IsTrue};
+ghost use Rattle.core_lanes.specs.Queued.{queued_among, mover_of, AreTold};
+ghost use Rattle.tree_queue.specs.Arrivals.{AreAmong};
 
 use core_lanes::{Movers, is_on};
 use cs_types::{Cpu, OutOfMemory, Pid};
@@ -45,8 +44,8 @@ impl Arrivals {
     pub fn renew(&mut self, table: &TaskTable, movers: &Movers) {
         self.entries.clear();
         let mut stamp = first_stamp(table, movers);
-        for mover in movers.iter() {
-            self.note(stamp, mover.1);
+        for pid in movers.iter() {
+            self.note(stamp, *pid);
             stamp = stamp.wrapping_add(1);
         }
     }
@@ -58,7 +57,7 @@ impl Arrivals {
         requires none { movers.old.items ≡ [] }
         requires count { count ≡ length (queued_among table.now.tasks cpu) }
         requires few { count ≤ 256 }
-        ensures told { IsTrue result → IsPermutation (map mover_of (queued_among table.now.tasks cpu)) movers.new.items }
+        ensures told { IsTrue result → AreTold (map mover_of (queued_among table.now.tasks cpu)) movers.new.items }
         ensures none { result ≡ false → movers.new.items ≡ [] }
     {
         if self.entries.len() > 2 * count + 16 {
@@ -75,10 +74,10 @@ impl Arrivals {
 
 /// The stamp of the first task that was told, 0 where there is none.
 fn first_stamp(table: &TaskTable, movers: &Movers) -> u64 {
-    let Some(mover) = movers.first() else {
+    let Some(pid) = movers.first() else {
         return 0;
     };
-    match table.find(mover.1) {
+    match table.find(*pid) {
         Some(task) => task.stamp,
         None => 0,
     }
@@ -88,14 +87,13 @@ fn first_stamp(table: &TaskTable, movers: &Movers) -> u64 {
 fn tell_there(entries: &[(u64, Pid)], table: &TaskTable, cpu: Cpu, most: usize, movers: &mut Movers)
     requires none { movers.old.items ≡ [] }
     requires few { most ≤ 256 }
-    ensures there { AllByRecursion (Contains (map mover_of (queued_among table.now.tasks cpu))) movers.new.items }
-    ensures rising { AreRising movers.new.items }
+    ensures among { AreAmong (map mover_of (queued_among table.now.tasks cpu)) movers.new.items }
 {
     let mut above = 0;
     for entry in entries.iter() {
         let next = after(entry.0);
         if movers.len() < most && above < next && is_there(table, cpu, entry) {
-            movers.push(*entry);
+            movers.push(entry.1);
             above = next;
         }
     }

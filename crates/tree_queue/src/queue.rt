@@ -1,11 +1,16 @@
 //! The queue with trees: each question is answered from the ordered trees of a run queue, and the table tells the
 //! task of a pid.
 
+ghost use Rattle.std.specs.Prelude.{◌≡◌, ◌≤◌, [], map};
+ghost use Rattle.std.specs.FinMap.{entries, len};
+ghost use Rattle.core_lanes.specs.Queued.{AreTold};
+ghost use Rattle.run_queue.specs.Classes.{stamped};
+
 use crate::arrivals::Arrivals;
 use crate::first::{enter, find_first, find_first_with, give_cookie, is_of};
 use crate::renewed::Renewed;
 use crate::task::{KINDS, LOTS, kind_of, lot_of};
-use core_lanes::{Movers, SiblingQueue, is_on, queued_of, task_of};
+use core_lanes::{Movers, SiblingQueue, Stamped, is_on, queued_of, task_of, tell_by_stamp};
 use cs_types::{Cookie, Cpu, OutOfMemory, Queued, Steps, Task};
 use run_queue::RunQueue;
 use std::alloc::Global;
@@ -113,7 +118,7 @@ impl SiblingQueue for TreeQueue {
         if self.arrivals.tell(table, cpu, count, movers) {
             return;
         }
-        self.run.tell_into(movers);
+        tell_by_trees(&self.run, movers);
     }
 
     fn renew<L: Ledger>(
@@ -188,4 +193,18 @@ impl SiblingQueue for TreeQueue {
     }
 
     ghost rises = { λ few many le. mul-le-mul_left 4 (most_comparisons-le few many le) };
+}
+
+/// Tells the tasks of the trees by rising stamp, in a list that has none yet. It is seldom called, since most tasks
+/// are told by their arrivals.
+#[cold]
+#[inline(never)]
+fn tell_by_trees(run: &RunQueue, movers: &mut Movers)
+    requires none { movers.old.items ≡ [] }
+    requires few { len run.now.tasks ≤ 256 }
+    ensures told { AreTold (map stamped (entries run.now.tasks)) movers.new.items }
+{
+    let mut tasks = Stamped::new();
+    run.tell_into(&mut tasks);
+    tell_by_stamp(&mut tasks, movers);
 }

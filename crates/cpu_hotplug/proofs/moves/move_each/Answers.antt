@@ -1,8 +1,6 @@
 use Rattle.std.proofs.Common.{Option, None, Some, true, ◌≡◌, ◌+◌, ◌*◌, ◌<◌, ◌≤◌, ◌^◌, ℕ, List, refl, subst, sym, ap, ◌∙◌, arith, length, map}
 use Rattle.std.specs.Prelude.{◌==◌, ◌&&◌, All, find}
-use Rattle.std.specs.Ordering.{nat_cmp}
 use Rattle.std.specs.Option.{IsSome}
-use Rattle.std.specs.List.Sorted.{IsPermutation, IsSortedByKey}
 use Rattle.std.proofs.lemmas.Bool.{and_parts, eqb-true}
 use Rattle.std.proofs.lemmas.List.{length-map}
 use Rattle.std.proofs.lemmas.List.Sums.{length-filter, count_by-le-length}
@@ -10,13 +8,13 @@ use Rattle.cs_types.specs.declared.task.Task.{Task}
 use Rattle.cs_types.specs.Room.{RoomState, SiblingState, has_pid}
 use Rattle.cs_types.specs.Queue.{queued_of}
 use Rattle.cs_types.proofs.Spots.{replaced_by}
-use Rattle.core_lanes.specs.Queued.{queued_among, queued_at, mover_of}
+use Rattle.core_lanes.specs.Queued.{queued_among, queued_at, mover_of, AreTold}
 use Rattle.core_lanes.specs.Lanes.{BareCore, lane_state, room_by, room_of, AgreeAway, IsFit}
 use Rattle.core_lanes.specs.Numbers.{Numbers, numbers_by, numbers_of, touched}
 use Rattle.core_lanes.specs.Changes.{Kept, identity_of}
 use Rattle.core_lanes.proofs.Stays.{some_beside, agree_again, found_in}
-use Rattle.cpu_hotplug.proofs.Ranks.{each_of, length-movers}
-use Rattle.cpu_hotplug.proofs.Leaving.{moved_is, so_far, none_moved, all_moved, one_more, next_found, next_is, none_left}
+use Rattle.cpu_hotplug.proofs.Ranks.{each_of}
+use Rattle.cpu_hotplug.proofs.Leaving.{length-told, moved_is, so_far, none_moved, all_moved, one_more, next_found, next_is, none_left}
 use Rattle.cpu_hotplug.proofs.moves.move_each.Goals as goal
 
 -- ---- before any moved
@@ -54,11 +52,10 @@ unwrap-task-requires g c =
     let now = c.loop-mover.table in
     let room = room_of some_beside (core, table) in
     let list_is = c.deref-mover-items.ensures.0 in
-    let movers = c.deref-mover-items.result.now in
-    let same = subst (IsPermutation (map mover_of (queued_among table.tasks cpu))) (sym list_is) c.empty_queue.ensures.told in
-    let sorted = subst (IsSortedByKey (λ (mover : ℕ × ℕ). mover.0) nat_cmp) (sym list_is) c.empty_queue.ensures.rising in
+    let pids = c.deref-mover-items.result.now in
+    let told = subst (AreTold (map mover_of (queued_among table.tasks cpu))) (sym list_is) c.empty_queue.ensures.told in
     let are = ap (λ (one : RoomState). one.tasks) (c.loop-mover.invariant.room some_beside) in
-    let next = next_found room cpu c.requires.agree.table.rising c.requires.agree.stamped movers same sorted c.loop-mover.mover-index (0, 0) c.loop-mover-test.true now.tasks are in
+    let next = next_found room cpu c.requires.agree.table.rising c.requires.agree.stamped pids told c.loop-mover.mover-index c.loop-mover-test.true now.tasks are in
     is_there c.task_of.result next.0 (c.task_of.ensures.task ∙ next.1)
 
 pub moved_to-moved-requires-clause-home : goal.moved_to-moved-requires-clause-home
@@ -69,12 +66,11 @@ moved_to-moved-requires-clause-home g c =
     let now = c.loop-mover.table in
     let room = room_of some_beside (core, table) in
     let list_is = c.deref-mover-items.ensures.0 in
-    let movers = c.deref-mover-items.result.now in
-    let same = subst (IsPermutation (map mover_of (queued_among table.tasks cpu))) (sym list_is) c.empty_queue.ensures.told in
-    let sorted = subst (IsSortedByKey (λ (mover : ℕ × ℕ). mover.0) nat_cmp) (sym list_is) c.empty_queue.ensures.rising in
+    let pids = c.deref-mover-items.result.now in
+    let told = subst (AreTold (map mover_of (queued_among table.tasks cpu))) (sym list_is) c.empty_queue.ensures.told in
     let are = ap (λ (one : RoomState). one.tasks) (c.loop-mover.invariant.room some_beside) in
     let task = c.unwrap-task.result in
-    let next = next_is room cpu c.requires.agree.table.rising c.requires.agree.stamped movers same sorted c.loop-mover.mover-index (0, 0) c.loop-mover-test.true now.tasks are task (sym c.task_of.ensures.task ∙ c.unwrap-task.ensures) in
+    let next = next_is room cpu c.requires.agree.table.rising c.requires.agree.stamped pids told c.loop-mover.mover-index c.loop-mover-test.true now.tasks are task (sym c.task_of.ensures.task ∙ c.unwrap-task.ensures) in
     (found_in (IsFit (length c.loop-mover.core.lanes.items)) task.spec.pid now.tasks task c.loop-mover.invariant.away.tasks next.found).home
 
 pub moved_to-moved-requires-clause-vtime : goal.moved_to-moved-requires-clause-vtime
@@ -85,12 +81,11 @@ moved_to-moved-requires-clause-vtime g c =
     let now = c.loop-mover.table in
     let room = room_of some_beside (core, table) in
     let list_is = c.deref-mover-items.ensures.0 in
-    let movers = c.deref-mover-items.result.now in
-    let same = subst (IsPermutation (map mover_of (queued_among table.tasks cpu))) (sym list_is) c.empty_queue.ensures.told in
-    let sorted = subst (IsSortedByKey (λ (mover : ℕ × ℕ). mover.0) nat_cmp) (sym list_is) c.empty_queue.ensures.rising in
+    let pids = c.deref-mover-items.result.now in
+    let told = subst (AreTold (map mover_of (queued_among table.tasks cpu))) (sym list_is) c.empty_queue.ensures.told in
     let are = ap (λ (one : RoomState). one.tasks) (c.loop-mover.invariant.room some_beside) in
     let task = c.unwrap-task.result in
-    let next = next_is room cpu c.requires.agree.table.rising c.requires.agree.stamped movers same sorted c.loop-mover.mover-index (0, 0) c.loop-mover-test.true now.tasks are task (sym c.task_of.ensures.task ∙ c.unwrap-task.ensures) in
+    let next = next_is room cpu c.requires.agree.table.rising c.requires.agree.stamped pids told c.loop-mover.mover-index c.loop-mover-test.true now.tasks are task (sym c.task_of.ensures.task ∙ c.unwrap-task.ensures) in
     found_in (λ (one : Task). one.vtime < 2 ^ 100) task.spec.pid table.tasks task c.requires.low.vtimes next.there
 
 pub moved_to-moved-requires-clause-leasts : goal.moved_to-moved-requires-clause-leasts
@@ -112,15 +107,14 @@ enter-requires g c =
     let now = c.loop-mover.table in
     let room = room_of some_beside (core, table) in
     let list_is = c.deref-mover-items.ensures.0 in
-    let movers = c.deref-mover-items.result.now in
-    let same = subst (IsPermutation (map mover_of (queued_among table.tasks cpu))) (sym list_is) c.empty_queue.ensures.told in
-    let sorted = subst (IsSortedByKey (λ (mover : ℕ × ℕ). mover.0) nat_cmp) (sym list_is) c.empty_queue.ensures.rising in
+    let pids = c.deref-mover-items.result.now in
+    let told = subst (AreTold (map mover_of (queued_among table.tasks cpu))) (sym list_is) c.empty_queue.ensures.told in
     let are = ap (λ (one : RoomState). one.tasks) (c.loop-mover.invariant.room some_beside) in
     let task = c.unwrap-task.result in
-    let next = next_is room cpu c.requires.agree.table.rising c.requires.agree.stamped movers same sorted c.loop-mover.mover-index (0, 0) c.loop-mover-test.true now.tasks are task (sym c.task_of.ensures.task ∙ c.unwrap-task.ensures) in
+    let next = next_is room cpu c.requires.agree.table.rising c.requires.agree.stamped pids told c.loop-mover.mover-index c.loop-mover-test.true now.tasks are task (sym c.task_of.ensures.task ∙ c.unwrap-task.ensures) in
     let many : length c.loop-mover.core.lanes.items ≡ length core.lanes.items = ap (λ (kept : Kept). kept.siblings) c.loop-mover.invariant.kept in
     let moved = c.moved_to-moved.ensures some_beside now in
-    let movers_are = length-movers table.tasks c.requires.agree.table.rising cpu core.next_stamp c.requires.agree.stamped movers same in
+    let movers_are = length-told room cpu c.requires.agree.table.rising c.requires.agree.stamped pids told in
     let invariant = c.loop-mover.invariant in
     let on = and_parts task.queued (task.home == cpu) next.on in
     let home : task.home ≡ cpu = eqb-true task.home cpu on.1 in
@@ -149,12 +143,11 @@ loop-mover-preserved g c =
     let now = c.loop-mover.table in
     let room = room_of some_beside (core, table) in
     let list_is = c.deref-mover-items.ensures.0 in
-    let movers = c.deref-mover-items.result.now in
-    let same = subst (IsPermutation (map mover_of (queued_among table.tasks cpu))) (sym list_is) c.empty_queue.ensures.told in
-    let sorted = subst (IsSortedByKey (λ (mover : ℕ × ℕ). mover.0) nat_cmp) (sym list_is) c.empty_queue.ensures.rising in
+    let pids = c.deref-mover-items.result.now in
+    let told = subst (AreTold (map mover_of (queued_among table.tasks cpu))) (sym list_is) c.empty_queue.ensures.told in
     let are = ap (λ (one : RoomState). one.tasks) (c.loop-mover.invariant.room some_beside) in
     let task = c.unwrap-task.result in
-    let next = next_is room cpu c.requires.agree.table.rising c.requires.agree.stamped movers same sorted c.loop-mover.mover-index (0, 0) c.loop-mover-test.true now.tasks are task (sym c.task_of.ensures.task ∙ c.unwrap-task.ensures) in
+    let next = next_is room cpu c.requires.agree.table.rising c.requires.agree.stamped pids told c.loop-mover.mover-index c.loop-mover-test.true now.tasks are task (sym c.task_of.ensures.task ∙ c.unwrap-task.ensures) in
     let i = c.loop-mover.mover-index in
     let on = next.on in
     let stamps = ap (λ (one : RoomState). one.next_stamp) (c.loop-mover.invariant.room some_beside) in
@@ -193,12 +186,11 @@ returns g c =
     let now = c.loop-mover.table in
     let room = room_of some_beside (core, table) in
     let list_is = c.deref-mover-items.ensures.0 in
-    let movers = c.deref-mover-items.result.now in
-    let same = subst (IsPermutation (map mover_of (queued_among table.tasks cpu))) (sym list_is) c.empty_queue.ensures.told in
-    let sorted = subst (IsSortedByKey (λ (mover : ℕ × ℕ). mover.0) nat_cmp) (sym list_is) c.empty_queue.ensures.rising in
+    let pids = c.deref-mover-items.result.now in
+    let told = subst (AreTold (map mover_of (queued_among table.tasks cpu))) (sym list_is) c.empty_queue.ensures.told in
     let are = ap (λ (one : RoomState). one.tasks) (c.loop-mover.invariant.room some_beside) in
     let i = c.loop-mover.mover-index in
-    let many = length-movers table.tasks c.requires.agree.table.rising cpu core.next_stamp c.requires.agree.stamped movers same in
+    let many = length-told room cpu c.requires.agree.table.rising c.requires.agree.stamped pids told in
     let all : i ≡ length (queued_among table.tasks cpu) = omega (arith, many, c.loop-mover-test.false, c.loop-mover.auto.mover-index-end) in
     let moved = all_moved room cpu table.tasks (each_of table.tasks c.requires.agree.table.rising) in
     record {

@@ -1,21 +1,19 @@
 use Rattle.std.proofs.Common.{Option, None, Some, true, ◌≡◌, ◌+◌, ◌*◌, ◌<◌, ◌≤◌, ◌^◌, ℕ, List, refl, subst, sym, ap, ◌∙◌, arith, length, map}
 use Rattle.std.specs.Prelude.{◌==◌, ◌&&◌, All, find}
-use Rattle.std.specs.Ordering.{nat_cmp}
 use Rattle.std.specs.Option.{IsSome}
-use Rattle.std.specs.List.Sorted.{IsPermutation, IsSortedByKey}
 use Rattle.std.proofs.lemmas.Bool.{and_parts}
 use Rattle.std.proofs.lemmas.List.Sums.{length-filter, count_by-le-length}
 use Rattle.cs_types.specs.declared.task.Task.{Task}
 use Rattle.cs_types.specs.Room.{RoomState, SiblingState, has_pid}
 use Rattle.cs_types.specs.Queue.{queued_of}
 use Rattle.cs_types.proofs.Spots.{replaced_by}
-use Rattle.core_lanes.specs.Queued.{queued_among, queued_at, mover_of}
+use Rattle.core_lanes.specs.Queued.{queued_among, queued_at, mover_of, AreTold}
 use Rattle.core_lanes.specs.Lanes.{BareCore, room_by, room_of, IsFit}
 use Rattle.core_lanes.specs.Numbers.{Numbers, numbers_by, numbers_of, touched}
 use Rattle.core_lanes.specs.Changes.{Kept}
 use Rattle.core_lanes.proofs.Stays.{some_beside, found_in}
-use Rattle.cpu_hotplug.proofs.Ranks.{each_of, length-movers}
-use Rattle.cpu_hotplug.proofs.Leaving.{moved_is, so_far, none_moved, all_moved, one_more, next_found, next_is, none_left}
+use Rattle.cpu_hotplug.proofs.Ranks.{each_of}
+use Rattle.cpu_hotplug.proofs.Leaving.{length-told, moved_is, so_far, none_moved, all_moved, one_more, next_found, next_is, none_left}
 use Rattle.std.proofs.Common.{[], ◌≢◌}
 use Rattle.std.specs.Prelude.{slice_get}
 use Rattle.std.specs.Global.{Vec}
@@ -67,11 +65,10 @@ unwrap-task-requires g c =
     let now = c.loop-mover.table in
     let room = room_of some_beside (core, table) in
     let list_is = c.deref-mover-items.ensures.0 in
-    let movers = c.deref-mover-items.result.now in
-    let same = subst (IsPermutation (map mover_of (queued_among table.tasks cpu))) (sym list_is) c.tell_queued.ensures.told in
-    let sorted = subst (IsSortedByKey (λ (mover : ℕ × ℕ). mover.0) nat_cmp) (sym list_is) c.tell_queued.ensures.rising in
+    let pids = c.deref-mover-items.result.now in
+    let told = subst (AreTold (map mover_of (queued_among table.tasks cpu))) (sym list_is) c.tell_queued.ensures.told in
     let are = ap (λ (one : RoomState). one.tasks) (c.loop-mover.invariant.room some_beside) in
-    let next = next_found room cpu c.requires.agree.table.rising c.requires.agree.stamped movers same sorted c.loop-mover.mover-index (0, 0) c.loop-mover-test.true now.tasks are in
+    let next = next_found room cpu c.requires.agree.table.rising c.requires.agree.stamped pids told c.loop-mover.mover-index c.loop-mover-test.true now.tasks are in
     is_there c.task_of.result next.0 (c.task_of.ensures.task ∙ next.1)
 
 pub moved_to-moved-requires-clause-home : goal.moved_to-moved-requires-clause-home
@@ -82,12 +79,11 @@ moved_to-moved-requires-clause-home g c =
     let now = c.loop-mover.table in
     let room = room_of some_beside (core, table) in
     let list_is = c.deref-mover-items.ensures.0 in
-    let movers = c.deref-mover-items.result.now in
-    let same = subst (IsPermutation (map mover_of (queued_among table.tasks cpu))) (sym list_is) c.tell_queued.ensures.told in
-    let sorted = subst (IsSortedByKey (λ (mover : ℕ × ℕ). mover.0) nat_cmp) (sym list_is) c.tell_queued.ensures.rising in
+    let pids = c.deref-mover-items.result.now in
+    let told = subst (AreTold (map mover_of (queued_among table.tasks cpu))) (sym list_is) c.tell_queued.ensures.told in
     let are = ap (λ (one : RoomState). one.tasks) (c.loop-mover.invariant.room some_beside) in
     let task = c.unwrap-task.result in
-    let next = next_is room cpu c.requires.agree.table.rising c.requires.agree.stamped movers same sorted c.loop-mover.mover-index (0, 0) c.loop-mover-test.true now.tasks are task (sym c.task_of.ensures.task ∙ c.unwrap-task.ensures) in
+    let next = next_is room cpu c.requires.agree.table.rising c.requires.agree.stamped pids told c.loop-mover.mover-index c.loop-mover-test.true now.tasks are task (sym c.task_of.ensures.task ∙ c.unwrap-task.ensures) in
     (found_in (IsFit (length c.loop-mover.core.lanes.items)) task.spec.pid now.tasks task c.loop-mover.invariant.apart.tasks next.found).home
 
 pub moved_to-moved-requires-clause-vtime : goal.moved_to-moved-requires-clause-vtime
@@ -98,12 +94,11 @@ moved_to-moved-requires-clause-vtime g c =
     let now = c.loop-mover.table in
     let room = room_of some_beside (core, table) in
     let list_is = c.deref-mover-items.ensures.0 in
-    let movers = c.deref-mover-items.result.now in
-    let same = subst (IsPermutation (map mover_of (queued_among table.tasks cpu))) (sym list_is) c.tell_queued.ensures.told in
-    let sorted = subst (IsSortedByKey (λ (mover : ℕ × ℕ). mover.0) nat_cmp) (sym list_is) c.tell_queued.ensures.rising in
+    let pids = c.deref-mover-items.result.now in
+    let told = subst (AreTold (map mover_of (queued_among table.tasks cpu))) (sym list_is) c.tell_queued.ensures.told in
     let are = ap (λ (one : RoomState). one.tasks) (c.loop-mover.invariant.room some_beside) in
     let task = c.unwrap-task.result in
-    let next = next_is room cpu c.requires.agree.table.rising c.requires.agree.stamped movers same sorted c.loop-mover.mover-index (0, 0) c.loop-mover-test.true now.tasks are task (sym c.task_of.ensures.task ∙ c.unwrap-task.ensures) in
+    let next = next_is room cpu c.requires.agree.table.rising c.requires.agree.stamped pids told c.loop-mover.mover-index c.loop-mover-test.true now.tasks are task (sym c.task_of.ensures.task ∙ c.unwrap-task.ensures) in
     found_in (λ (one : Task). one.vtime < 2 ^ 100) task.spec.pid table.tasks task c.requires.low.vtimes next.there
 
 pub moved_to-moved-requires-clause-leasts : goal.moved_to-moved-requires-clause-leasts
@@ -125,15 +120,14 @@ place-requires g c =
     let now = c.loop-mover.table in
     let room = room_of some_beside (core, table) in
     let list_is = c.deref-mover-items.ensures.0 in
-    let movers = c.deref-mover-items.result.now in
-    let same = subst (IsPermutation (map mover_of (queued_among table.tasks cpu))) (sym list_is) c.tell_queued.ensures.told in
-    let sorted = subst (IsSortedByKey (λ (mover : ℕ × ℕ). mover.0) nat_cmp) (sym list_is) c.tell_queued.ensures.rising in
+    let pids = c.deref-mover-items.result.now in
+    let told = subst (AreTold (map mover_of (queued_among table.tasks cpu))) (sym list_is) c.tell_queued.ensures.told in
     let are = ap (λ (one : RoomState). one.tasks) (c.loop-mover.invariant.room some_beside) in
     let task = c.unwrap-task.result in
-    let next = next_is room cpu c.requires.agree.table.rising c.requires.agree.stamped movers same sorted c.loop-mover.mover-index (0, 0) c.loop-mover-test.true now.tasks are task (sym c.task_of.ensures.task ∙ c.unwrap-task.ensures) in
+    let next = next_is room cpu c.requires.agree.table.rising c.requires.agree.stamped pids told c.loop-mover.mover-index c.loop-mover-test.true now.tasks are task (sym c.task_of.ensures.task ∙ c.unwrap-task.ensures) in
     let many : length c.loop-mover.core.lanes.items ≡ length core.lanes.items = ap (λ (kept : Kept). kept.siblings) c.loop-mover.invariant.kept in
     let moved = c.moved_to-moved.ensures some_beside now in
-    let movers_are = length-movers table.tasks c.requires.agree.table.rising cpu core.next_stamp c.requires.agree.stamped movers same in
+    let movers_are = length-told room cpu c.requires.agree.table.rising c.requires.agree.stamped pids told in
     let invariant = c.loop-mover.invariant in
     let on = and_parts task.queued (task.home == cpu) next.on in
     record {
@@ -158,12 +152,11 @@ loop-mover-preserved g c =
     let now = c.loop-mover.table in
     let room = room_of some_beside (core, table) in
     let list_is = c.deref-mover-items.ensures.0 in
-    let movers = c.deref-mover-items.result.now in
-    let same = subst (IsPermutation (map mover_of (queued_among table.tasks cpu))) (sym list_is) c.tell_queued.ensures.told in
-    let sorted = subst (IsSortedByKey (λ (mover : ℕ × ℕ). mover.0) nat_cmp) (sym list_is) c.tell_queued.ensures.rising in
+    let pids = c.deref-mover-items.result.now in
+    let told = subst (AreTold (map mover_of (queued_among table.tasks cpu))) (sym list_is) c.tell_queued.ensures.told in
     let are = ap (λ (one : RoomState). one.tasks) (c.loop-mover.invariant.room some_beside) in
     let task = c.unwrap-task.result in
-    let next = next_is room cpu c.requires.agree.table.rising c.requires.agree.stamped movers same sorted c.loop-mover.mover-index (0, 0) c.loop-mover-test.true now.tasks are task (sym c.task_of.ensures.task ∙ c.unwrap-task.ensures) in
+    let next = next_is room cpu c.requires.agree.table.rising c.requires.agree.stamped pids told c.loop-mover.mover-index c.loop-mover-test.true now.tasks are task (sym c.task_of.ensures.task ∙ c.unwrap-task.ensures) in
     let i = c.loop-mover.mover-index in
     let on = next.on in
     let stamps = ap (λ (one : RoomState). one.next_stamp) (c.loop-mover.invariant.room some_beside) in
@@ -257,11 +250,11 @@ exchange-requires g c =
     let cpu = c.args.cpu in
     let room = room_of some_beside (core, table) in
     let list_is = c.deref-mover-items.ensures.0 in
-    let movers = c.deref-mover-items.result.now in
-    let same = subst (IsPermutation (map mover_of (queued_among table.tasks cpu))) (sym list_is) c.tell_queued.ensures.told in
+    let pids = c.deref-mover-items.result.now in
+    let told = subst (AreTold (map mover_of (queued_among table.tasks cpu))) (sym list_is) c.tell_queued.ensures.told in
     let are = ap (λ (one : RoomState). one.tasks) (c.loop-mover.invariant.room some_beside) in
     let i = c.loop-mover.mover-index in
-    let many = length-movers table.tasks c.requires.agree.table.rising cpu core.next_stamp c.requires.agree.stamped movers same in
+    let many = length-told room cpu c.requires.agree.table.rising c.requires.agree.stamped pids told in
     let all : i ≡ length (queued_among table.tasks cpu) = omega (arith, many, c.loop-mover-test.false, c.loop-mover.auto.mover-index-end) in
     let moved = all_moved room cpu table.tasks (each_of table.tasks c.requires.agree.table.rising) in
     may_exchange core c.loop-mover.core table c.loop-mover.table cpu c.args.to c.requires.agree c.loop-mover.invariant.apart c.loop-mover.invariant.lanes
@@ -276,10 +269,10 @@ returns g c =
     let cpu = c.args.cpu in
     let room = room_of some_beside (core, table) in
     let list_is = c.deref-mover-items.ensures.0 in
-    let movers = c.deref-mover-items.result.now in
-    let same = subst (IsPermutation (map mover_of (queued_among table.tasks cpu))) (sym list_is) c.tell_queued.ensures.told in
+    let pids = c.deref-mover-items.result.now in
+    let told = subst (AreTold (map mover_of (queued_among table.tasks cpu))) (sym list_is) c.tell_queued.ensures.told in
     let i = c.loop-mover.mover-index in
-    let many = length-movers table.tasks c.requires.agree.table.rising cpu core.next_stamp c.requires.agree.stamped movers same in
+    let many = length-told room cpu c.requires.agree.table.rising c.requires.agree.stamped pids told in
     let all : i ≡ length (queued_among table.tasks cpu) = omega (arith, many, c.loop-mover-test.false, c.loop-mover.auto.mover-index-end) in
     let moved = all_moved room cpu table.tasks (each_of table.tasks c.requires.agree.table.rising) in
     let bare_is = c.exchange.ensures.bare in

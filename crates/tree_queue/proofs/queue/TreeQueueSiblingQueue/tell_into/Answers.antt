@@ -1,12 +1,13 @@
-use Rattle.std.proofs.Common.{◌≡◌, ℕ, List, [], ◌∷◌, ◌++◌, map, length, refl, sym, ap, ◌∙◌, subst, arith}
+use Rattle.std.proofs.Common.{◌≡◌, ℕ, List, [], ◌∷◌, map, length, refl, sym, ap, ◌∙◌, subst, arith}
 use Rattle.std.specs.FinMap.{entries, len}
 use Rattle.std.specs.List.Sorted.{IsPermutation}
 use Rattle.std.proofs.lemmas.List.{length-map}
-use Rattle.std.proofs.lemmas.List.Sorted.{IsPermutation-trans, IsPermutation-map}
+use Rattle.std.proofs.lemmas.List.Sorted.{IsPermutation-map}
 use Rattle.cs_types.specs.declared.task.Task.{Task}
 use Rattle.cs_types.specs.declared.queue.Queued.{Queued}
 use Rattle.cs_types.specs.Queue.{RunQueued, Seats, queued_of, seat_of}
 use Rattle.core_lanes.specs.Queued.{queued_among, mover_of}
+use Rattle.core_lanes.proofs.Movers.{told_alike}
 use Rattle.run_queue.specs.Classes.{stamped}
 use Rattle.tree_queue.specs.Held.{Holds}
 use Rattle.tree_queue.proofs.Held.{len-seated, entries-seated}
@@ -29,11 +30,13 @@ tell-requires c =
       few = omega (arith, c.count-count.ensures, many c.args.self.now.run c.args.table.now.limit tasks c.requires.holds.trees, c.requires.few);
     }
 
-pub tell_into-requires : goal.tell_into-requires
-tell_into-requires c =
+pub tell_by_trees-requires : goal.tell_by_trees-requires
+tell_by_trees-requires c =
     let tasks = queued_among c.args.table.now.tasks c.args.cpu in
-    let none = c.tell.ensures.none c.if-tell.false in
-    record { room = omega (arith, ap length none, many c.args.self.now.run c.args.table.now.limit tasks c.requires.holds.trees, c.requires.few) }
+    record {
+      none = c.tell.ensures.none c.if-tell.false;
+      few = omega (arith, many c.args.self.now.run c.args.table.now.limit tasks c.requires.holds.trees, c.requires.few);
+    }
 
 pub returns-then-tell : goal.returns-then-tell
 returns-then-tell c = record { told = c.tell.ensures.told c.if-tell.true }
@@ -46,8 +49,4 @@ returns c =
     let held = c.args.self.now.run.tasks in
     let same = subst (λ (m : Seats). IsPermutation seats (entries m)) (sym trees.seats) (entries-seated (map queued_of tasks) trees.distinct) in
     let told = subst (λ (movers : List (ℕ × ℕ)). IsPermutation movers (map stamped (entries held))) (told_is tasks) (IsPermutation-map stamped seats (entries held) same) in
-    let none = c.tell.ensures.none c.if-tell.false in
-    record {
-      told = IsPermutation-trans (map mover_of tasks) (map stamped (entries held)) c.tell_into.new.movers.items told
-          (subst (λ (old : List (ℕ × ℕ)). IsPermutation (old ++ map stamped (entries held)) c.tell_into.new.movers.items) none c.tell_into.ensures.told);
-    }
+    record { told = told_alike (map mover_of tasks) (map stamped (entries held)) c.tell_by_trees.new.movers.items told c.tell_by_trees.ensures.told }
