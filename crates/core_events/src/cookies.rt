@@ -47,6 +47,7 @@ fn touches(task: &Task, cookie: Cookie) -> u64
 impl<Q: SiblingQueue, G: Guard> State<Q, G> {
     /// The task has the cookie, with a reference of its own, and where it runs its sibling becomes
     /// pending.
+    #[inline(always)]
     fn set_cookie<L: Ledger>(&mut self, task: &Task, cookie: Cookie, steps: &mut Steps<L>)
         requires sound { IsSoundBut self.old cookie }
         requires own { RunTheirOwn (both self.old) }

@@ -190,9 +190,11 @@ module _ (room : RoomState) (cpu : ℕ) (rises : Rises room.tasks) (stamped : Ar
         let rank = ap (λ (m : ℕ × ℕ). count_before (queued_on room cpu) m.0) is.is
         ∙ rank_at room.tasks rises cpu room.next_stamp stamped movers told.same told.rising count (0, 0) below in
         let found = ap (find (has_pid task.spec.pid)) are ∙ found_then room cpu count task.spec.pid room.tasks task is.there
-        ∙ ap Some (not_yet room cpu stamped count task is.there is.on rank) in
-        (task, ap (λ n. find (has_pid n) now) (sym (ap (λ (m : ℕ × ℕ). m.1) is.is ∙ pid)) ∙ found,
-         record { there = is.there; on = is.on; rank = rank; found = found })
+        ∙ ap Some (not_yet room cpu stamped count task is.there is.on rank) in (
+          task,
+          ap (λ n. find (has_pid n) now) (sym (ap (λ (m : ℕ × ℕ). m.1) is.is ∙ pid)) ∙ found,
+          record { there = is.there; on = is.on; rank = rank; found = found },
+        )
 
     -- and what is found by it is the next one
     pub next_is : (task : Task) → find (has_pid (get_or pids count 0)) now ≡ Some task → IsNext room cpu count now task

@@ -4,7 +4,8 @@ ghost use Rattle.std.specs.Prelude.{◌≡◌, ◌+◌, ◌≤◌, ◌++◌, len
 ghost use Rattle.core_lanes.specs.Queued.{is_peer_of, queued_among, mover_of};
 
 use core_lanes::{
-    Movers, SiblingQueue, Stamped, goes_before, is_fair, is_on, priority_of, queued_of, tell_by_stamp,
+    Movers, SiblingQueue, Stamped, goes_before, is_fair, is_on, priority_of, queued_of,
+    tell_by_stamp,
 };
 use cs_types::{Cookie, Cpu, OutOfMemory, Queued, Steps, Task};
 use std::alloc::Global;
