@@ -1,3 +1,4 @@
 pub mod Counts
 pub mod LiveCookies
 pub mod Agreements
+pub mod Changes

@@ -1,5 +1,5 @@
--- How many cookies are live, where the counts agree with the tasks: as many as the tasks have.
-use Rattle.std.proofs.Common.{◌≡◌, ℕ, ◌+◌, ◌<◌, Bool, true, false, not, cond, eqb, ltb, List, [], ◌∷◌, map, length, refl, sym, ap, ◌∙◌, arith}
+-- How many cookies are live: as many as are counted, and as many as the tasks have, where the counts agree with these.
+use Rattle.std.proofs.Common.{◌≡◌, ℕ, ◌+◌, Bool, true, false, not, cond, eqb, ltb, List, [], ◌∷◌, map, length, refl, sym, ap, ◌∙◌, arith}
 use Rattle.std.specs.Prelude.{◌&&◌, ◌||◌, ◌==◌}
 use Rattle.std.specs.Cmp.{unsigned_Decides}
 use Rattle.std.specs.List.{All, IsDistinct, filter, list_any, sum_by}
@@ -9,16 +9,16 @@ use Rattle.std.proofs.lemmas.Bool.{eqb-true, cond-true, cond-false}
 use Rattle.std.proofs.lemmas.Bool.Decides.{nat_tests}
 use Rattle.std.proofs.lemmas.Cmp.{nat_eq_equiv}
 use Rattle.std.proofs.lemmas.List.{length-map}
-use Rattle.std.proofs.lemmas.List.Elements.{All-head, All-tail}
+use Rattle.std.proofs.lemmas.List.Elements.{All-head, All-tail, filter_passes}
 use Rattle.std.proofs.lemmas.List.Sums.{sum_by-cons}
 use Rattle.std.proofs.lemmas.Map.Made.{IsDistinct-from_AllPairs, is_member-filter, length-from_keys}
 use Rattle.cs_types.specs.declared.task.Task.{Task}
 use Rattle.cs_types.specs.Prctl.{distinct, live_cookies}
-use Rattle.cookie_refs.specs.declared.refs.LiveCookie.{LiveCookie}
+use Rattle.cookie_refs.specs.declared.refs.CookieCount.{CookieCount}
 use Rattle.cookie_refs.specs.declared.refs.CookieRefs.TheInside.{Inside}
 use Rattle.cookie_refs.specs.Refs.{count_of, live_count, references, Agree}
-use Rattle.cookie_refs.specs.Inside.{IsRising, IsSound, count_in, refs_of}
-use Rattle.cookie_refs.proofs.Counts.{count-entries, len-entries}
+use Rattle.cookie_refs.specs.Inside.{IsRising, IsSound, count_in, live_of, refs_of}
+use Rattle.cookie_refs.proofs.Counts.{count-entries, count_in-live, len-entries, rising-live}
 
 -- ---- the cookies that tasks have, each once
 
@@ -79,16 +79,17 @@ list_any-and p b (x ∷ xs) = rw (list_any-and p b xs) (both (p x) (list_any p x
   both false false true = refl
   both false false false = refl
 
--- the serials of the live cookies
-abbrev serials : List LiveCookie → List ℕ
-serials live = map (λ one. one.cookie) live
+-- the serials of cookies
+abbrev serials : List CookieCount → List ℕ
+serials cookies = map (λ one. one.cookie) cookies
 
 -- a cookie has a count where it is live
-count_in_above_0 : (live : List LiveCookie) → All (λ one. 0 < one.count) live → (cookie : ℕ) →
-    ltb 0 (count_in live cookie) ≡ is_member eqb (serials live) cookie
-count_in_above_0 live counted cookie =
-    sum_by_above_0 _ (λ one. eqb cookie one.cookie) live (λ k d lt. let above = counted k d lt in grind (arith, nat_tests))
-    ∙ sym (list_any-map (eqb cookie) (λ one. one.cookie) live)
+count_in_above_0 : (cookies : List CookieCount) (cookie : ℕ) → ltb 0 (count_in cookies cookie) ≡ is_member eqb (serials (live_of cookies)) cookie
+count_in_above_0 cookies cookie =
+    ap (ltb 0) (sym (count_in-live cookies cookie))
+    ∙ sum_by_above_0 _ (λ one. eqb cookie one.cookie) (live_of cookies)
+    (λ k d lt. let above = filter_passes (λ one. not (one.count == 0)) cookies k d lt in grind (arith, nat_tests))
+    ∙ sym (list_any-map (eqb cookie) (λ one. one.cookie) (live_of cookies))
 
 -- tasks have a reference to a cookie where one has it
 references_above_0 : (tasks : List Task) (cookie : ℕ) →
@@ -100,26 +101,31 @@ references_above_0 tasks cookie =
     ∙ sym (is_member-filter nat_eq_equiv is_cookie cookie (λ y same. ap is_cookie (eqb-true cookie y same)) (map (λ task. task.cookie) tasks))
 
 -- rising serials are distinct
-serials_are_distinct : (live : List LiveCookie) → IsRising live → IsDistinct eqb (serials live)
-serials_are_distinct live rising =
-    IsDistinct-from_AllPairs unsigned_Decides (serials live) (λ i j d lt in_range same.
-    let one : LiveCookie = record { cookie = d; count = 0 } in
-    let cookie = λ (live : LiveCookie). live.cookie in
-    let up = rising i j one lt (rw (← length-map live cookie) in_range) in
-    omega (arith, up, get_or-map cookie live i one, get_or-map cookie live j one, same))
+serials_are_distinct : (cookies : List CookieCount) → IsRising cookies → IsDistinct eqb (serials cookies)
+serials_are_distinct cookies rising =
+    IsDistinct-from_AllPairs unsigned_Decides (serials cookies) (λ i j d lt in_range same.
+    let one : CookieCount = record { cookie = d; count = 0 } in
+    let cookie = λ (one : CookieCount). one.cookie in
+    let up = rising i j one lt (rw (← length-map cookies cookie) in_range) in
+    omega (arith, up, get_or-map cookie cookies i one, get_or-map cookie cookies j one, same))
+
+-- what is counted are the live ones
+pub live_count-counted : (refs : Inside) → IsSound refs → live_count (refs_of refs) ≡ refs.live
+live_count-counted refs sound = len-entries refs.cookies.items sound.rising ∙ sym sound.counted
 
 -- where the counts agree with the tasks, as many cookies are live as the tasks have
 pub live_count-agreed : (refs : Inside) → IsSound refs → (tasks : List Task) → Agree (refs_of refs) tasks →
     live_count (refs_of refs) ≡ length (live_cookies tasks)
 live_count-agreed refs sound tasks agree =
-    let live = refs.live.items in
+    let kept = refs.cookies.items in
+    let live = live_of kept in
     let cookies = map (λ (task : Task). task.cookie) tasks in
     let member : (cookie : ℕ) → is_member eqb (serials live) cookie ≡ is_member eqb (filter is_cookie cookies) cookie = λ cookie.
-    sym (count_in_above_0 live sound.counted cookie) ∙ ap (ltb 0) (sym (count-entries live sound.rising cookie) ∙ agree_at cookie)
+    sym (count_in_above_0 kept cookie) ∙ ap (ltb 0) (sym (count-entries kept sound.rising cookie) ∙ agree_at cookie)
     ∙ references_above_0 tasks cookie in
-    len-entries live sound.rising
+    len-entries kept sound.rising
     ∙ sym (length-map live (λ one. one.cookie))
-    ∙ length-from_keys nat_eq_equiv (serials live) (filter is_cookie cookies) (serials_are_distinct live sound.rising) member
+    ∙ length-from_keys nat_eq_equiv (serials live) (filter is_cookie cookies) (serials_are_distinct live (rising-live kept sound.rising)) member
     ∙ ap length (sym (filter-distinct cookies)) where
       agree_at : (cookie : ℕ) → count_of (refs_of refs) cookie ≡ sum_by (λ task. references task.cookie cookie) tasks
       agree_at cookie = let said = agree cookie in grind (arith, nat_tests)

@@ -6,10 +6,10 @@ use cs_types::Cookie;
 /// How many indices are noted, a count. Cookies that differ by a multiple of it share one.
 const PLACES: usize = 256;
 
-/// The indices of live cookies, as they were last found.
+/// The indices of cookies, as they were made or found last. An index changes where those that ended are taken out.
 #[derive(Drop)]
 pub(crate) struct Places {
-    noted: [u16; PLACES],
+    noted: [u32; PLACES],
 }
 
 impl Places {
@@ -25,7 +25,7 @@ impl Places {
 
     /// Notes the index of the cookie.
     pub fn note(&mut self, cookie: Cookie, index: usize) {
-        if let Ok(index) = u16::try_from(index) {
+        if let Ok(index) = u32::try_from(index) {
             self.noted[cookie as usize % PLACES] = index;
         }
     }

@@ -1,10 +1,10 @@
-//! How many references each live cookie has, in one vector by rising serial.
+//! How many references each cookie has, in one vector by rising serial. A cookie that ended stays in it, with none,
+//! until there is no place for a new one. So a cookie's index changes only when those that ended are taken out.
 
-ghost use Rattle.std.specs.Prelude.{◌≡◌, ◌≢◌, ℕ, ◌+◌, ◌^◌, ◌<◌, ◌↔◌, ◌==◌, if◌then◌else◌, IsErr, IfOk, IfErr, OnOk, OnErr, IfSome, IfNone, ◌≤◌, length, remove, IsTrue, vec_len, vec_capacity};
+ghost use Rattle.std.specs.Prelude.{◌≡◌, ◌≢◌, ℕ, ◌+◌, ◌^◌, ◌<◌, ◌↔◌, ◌==◌, if◌then◌else◌, IsErr, IfOk, IfErr, OnOk, OnErr, IfSome, IfNone, ◌≤◌, length, IsTrue, vec_len, vec_capacity};
 ghost use Rattle.cs_types.specs.Prctl.{live_cookies};
 ghost use Rattle.cookie_refs.specs.Refs.{count_of, live_count, references, Agree};
-ghost use Rattle.std.specs.List.{SameBelow, ShiftedDown};
-ghost use Rattle.cookie_refs.specs.Inside.{IsRising, AreCookies, IsAt, count_in};
+ghost use Rattle.cookie_refs.specs.Inside.{IsRising, AreCookies, IsAt, count_in, live_of};
 
 use crate::places::Places;
 use cs_types::{Cookie, OutOfMemory};
@@ -19,9 +19,9 @@ pub struct CookieFull {
     pub limit: u16,
 }
 
-/// A live cookie and how many references it has, 1 or more.
+/// A cookie that was made and how many references it has: 1 or more while it is live, and 0 since it ended.
 #[derive(Clone, Copy)]
-struct LiveCookie {
+struct CookieCount {
     cookie: Cookie,
     count: u32,
 }
@@ -31,9 +31,10 @@ struct LiveCookie {
 /// again.
 #[derive(Drop)]
 pub struct CookieRefs {
-    live: Vec<LiveCookie>,
+    cookies: Vec<CookieCount>,
     places: Places,
     next: Cookie,
+    live: u16,
     limit: u16,
 }
 
@@ -52,19 +53,20 @@ impl Model for CookieRefs {
 }
 
 impl CookieRefs {
-    /// No live cookie yet, and 1 the next serial. It takes memory for `limit` live cookies, 0 to
-    /// 65535, and no later call takes any.
+    /// No live cookie yet, and 1 the next serial. It takes memory for twice as many cookies as `limit`,
+    /// 0 to 65535, since those that ended stay for a while. No later call takes any.
     pub fn with_limit(alloc: Global, limit: u16) -> Result<CookieRefs, OutOfMemory>
         ensures counts { IfOk result (λ refs. (cookie : ℕ) → count_of refs cookie ≡ 0) }
         ensures live { IfOk result (λ refs. live_count refs ≡ 0) }
         ensures next { IfOk result (λ refs. refs.next ≡ 1) }
         ensures limit { IfOk result (λ refs. refs.limit ≡ limit) }
     {
-        let live = Vec::with_capacity(alloc, usize::from(limit))?;
+        let cookies = Vec::with_capacity(alloc, 2 * usize::from(limit))?;
         Ok(CookieRefs {
-            live,
+            cookies,
             places: Places::none(),
             next: 1,
+            live: 0,
             limit,
         })
     }
@@ -92,13 +94,15 @@ impl CookieRefs {
         ensures tasks { (tasks : _) → Agree self.old tasks →
             live_count self.old ≡ length (live_cookies tasks) }
     {
-        if self.live.len() == usize::from(self.limit) {
+        if self.live == self.limit {
             return Err(CookieFull { limit: self.limit });
         }
+        take_out_ended(&mut self.cookies);
         let cookie = self.next;
-        self.places.note(cookie, self.live.len());
-        self.live.push_reserved(LiveCookie { cookie, count: 1 });
+        self.places.note(cookie, self.cookies.len());
+        self.cookies.push_reserved(CookieCount { cookie, count: 1 });
         self.next += 1;
+        self.live += 1;
         Ok(cookie)
     }
 
@@ -113,8 +117,8 @@ impl CookieRefs {
         ensures next { self.new.next ≡ self.old.next }
         ensures limit { self.new.limit ≡ self.old.limit }
     {
-        if let Some(index) = find(&self.live, &mut self.places, cookie) {
-            self.live[index].count += 1;
+        if let Some(index) = find(&self.cookies, &mut self.places, cookie) {
+            self.cookies[index].count += 1;
         }
     }
 
@@ -129,11 +133,11 @@ impl CookieRefs {
         ensures next { self.new.next ≡ self.old.next }
         ensures limit { self.new.limit ≡ self.old.limit }
     {
-        if let Some(index) = find(&self.live, &mut self.places, cookie) {
-            if self.live[index].count == 1 {
-                take_out(&mut self.live, index);
-            } else {
-                self.live[index].count -= 1;
+        if let Some(index) = find(&self.cookies, &mut self.places, cookie) {
+            let counted = &mut self.cookies[index];
+            counted.count -= 1;
+            if counted.count == 0 {
+                self.live -= 1;
             }
         }
     }
@@ -143,8 +147,8 @@ impl CookieRefs {
         ensures count { result ≡ count_of self.now cookie }
         ensures none { cookie ≡ 0 → result ≡ 0 }
     {
-        match index_of(&self.live, cookie) {
-            Some(index) => self.live[index].count,
+        match index_of(&self.cookies, cookie) {
+            Some(index) => self.cookies[index].count,
             None => 0,
         }
     }
@@ -157,61 +161,59 @@ impl CookieRefs {
         // Where the counts are those of a list of tasks, these are the cookies that its tasks have.
         ensures tasks { (tasks : _) → Agree self.now tasks → result ≡ length (live_cookies tasks) }
     {
-        self.live.len() as u16
+        self.live
     }
 }
 
-/// Takes a cookie out of the live ones. It is seldom called: most cookies have a reference left.
-#[cold]
-#[inline(never)]
-fn take_out(live: &mut Vec<LiveCookie>, index: usize)
-    requires { index < vec_len live.old }
-    ensures items { live.new.items ≡ remove live.old.items index }
-    ensures by_index { SameBelow live.old.items live.new.items index × ShiftedDown live.old.items live.new.items index }
-    ensures len { vec_len live.new + 1 ≡ vec_len live.old }
-    ensures capacity { vec_capacity live.new ≡ vec_capacity live.old }
+/// Takes out the cookies that ended, where there is no place for one more.
+fn take_out_ended(cookies: &mut Vec<CookieCount>)
+    ensures items { cookies.new.items ≡
+        (if vec_len cookies.old == vec_capacity cookies.old then live_of cookies.old.items else cookies.old.items) }
+    ensures capacity { vec_capacity cookies.new ≡ vec_capacity cookies.old }
 {
-    live.remove(index);
+    if cookies.len() == cookies.capacity() {
+        cookies.retain(|one| one.count != 0);
+    }
 }
 
-/// The index of a live cookie. It halves what is left with each comparison. It is seldom called, since most indices
-/// are noted.
+/// The index of a cookie, live or ended. It halves what is left with each comparison. It is seldom called, since most
+/// indices are noted.
 #[cold]
 #[inline(never)]
-fn index_of(live: &[LiveCookie], cookie: Cookie) -> Option<usize>
-    requires { IsRising live.now }
-    ensures found { IfSome result (IsAt live.now cookie) }
-    ensures none { IfNone result (count_in live.now cookie ≡ 0) }
+fn index_of(cookies: &[CookieCount], cookie: Cookie) -> Option<usize>
+    requires { IsRising cookies.now }
+    ensures found { IfSome result (IsAt cookies.now cookie) }
+    ensures none { IfNone result (count_in cookies.now cookie ≡ 0) }
 {
-    live.binary_search_by_key(&cookie, |one| one.cookie).ok()
+    cookies.binary_search_by_key(&cookie, |one| one.cookie).ok()
 }
 
-/// Whether the live cookie at the index is this one.
-fn is_at(live: &[LiveCookie], index: usize, cookie: Cookie) -> bool
-    requires { IsRising live.now }
-    ensures { IsTrue result → IsAt live.now cookie index }
+/// Whether the cookie at the index is this one.
+fn is_at(cookies: &[CookieCount], index: usize, cookie: Cookie) -> bool
+    requires { IsRising cookies.now }
+    ensures { IsTrue result → IsAt cookies.now cookie index }
 {
-    match live.get(index) {
+    match cookies.get(index) {
         Some(one) => one.cookie == cookie,
         None => false,
     }
 }
 
-/// The index of a live cookie. It is noted, so that the next search for it is one look. For 0 there is none.
-fn find(live: &[LiveCookie], places: &mut Places, cookie: Cookie) -> Option<usize>
-    requires rising { IsRising live.now }
-    requires cookies { AreCookies live.now }
-    ensures found { IfSome result (IsAt live.now cookie) }
-    ensures none { IfNone result (count_in live.now cookie ≡ 0) }
+/// The index of a cookie, live or ended. It is noted, so that the next search for it is one look. For 0 there is none.
+fn find(cookies: &[CookieCount], places: &mut Places, cookie: Cookie) -> Option<usize>
+    requires rising { IsRising cookies.now }
+    requires above_0 { AreCookies cookies.now }
+    ensures found { IfSome result (IsAt cookies.now cookie) }
+    ensures none { IfNone result (count_in cookies.now cookie ≡ 0) }
 {
     if cookie == 0 {
         return None;
     }
     let noted = places.of(cookie);
-    if is_at(live, noted, cookie) {
+    if is_at(cookies, noted, cookie) {
         return Some(noted);
     }
-    let index = index_of(live, cookie)?;
+    let index = index_of(cookies, cookie)?;
     places.note(cookie, index);
     Some(index)
 }

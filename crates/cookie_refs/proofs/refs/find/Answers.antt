@@ -5,4 +5,4 @@ use Rattle.cookie_refs.proofs.refs.find.Goals as goal
 
 pub returns-then-cookie-eq0-clause-none : goal.returns-then-cookie-eq0-clause-none
 returns-then-cookie-eq0-clause-none c =
-    ap (count_in c.args.live.now) c.if-cookie-eq0.true ∙ count_of_none c.args.live.now c.requires.cookies
+    ap (count_in c.args.cookies.now) c.if-cookie-eq0.true ∙ count_of_none c.args.cookies.now c.requires.above_0

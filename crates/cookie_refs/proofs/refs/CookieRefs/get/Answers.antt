@@ -1,52 +1,40 @@
-use Rattle.std.proofs.Common.{◌+◌, ◌∙◌, sym, ap, inl, inr, arith}
+use Rattle.std.proofs.Common.{◌+◌, ◌∙◌, sym, inl, inr, arith}
 use Rattle.std.proofs.lemmas.Bool.{cases_eq}
 use Rattle.std.proofs.lemmas.Bool.Decides.{nat_tests}
-use Rattle.std.proofs.lemmas.List.{length-set}
-use Rattle.cookie_refs.specs.declared.refs.LiveCookie.{LiveCookie}
-use Rattle.cookie_refs.specs.Inside.{IsAt}
-use Rattle.cookie_refs.proofs.Counts.{count-entries, count-set, len-entries, rising-set}
+use Rattle.cookie_refs.proofs.Changes.{IsSound-changed, count_of-changed, found_count}
+use Rattle.cookie_refs.proofs.Counts.{count-entries}
+use Rattle.cookie_refs.proofs.LiveCookies.{live_count-counted}
 use Rattle.cookie_refs.proofs.refs.CookieRefs.get.Goals as goal
 
 pub overflow_add-index_mut : goal.overflow_add-index_mut
 overflow_add-index_mut c =
-    let live = c.self.inside.live.items in
-    let at : IsAt live c.args.cookie c.in-Some.index = rw (← c.deref.ensures.value) c.in-Some.ensures.found in
-    let few = rw (← c.self.view_is) at c.requires.few in
-    let own = ap (λ (one : LiveCookie). one.count) c.index_mut.ensures.value ∙ at.count_there c.index_mut.result.now in
-    omega (arith, few, own, count-entries live c.self.invariant.rising c.args.cookie)
+    let live = rw (← c.self.view_is) at c.requires.live in
+    let count = found_count c.self.inside c.self.invariant c.args.cookie c.in-Some.index (rw (← c.deref.ensures.value) c.in-Some.ensures.found)
+    c.index_mut.result.now c.index_mut.ensures.value live in
+    omega (arith, count, rw (← c.self.view_is) at c.requires.few)
+
+-- as many are live as before
+pub invariant_of-self : goal.invariant_of-self
+invariant_of-self c =
+    let live = rw (← c.self.view_is) at c.requires.live in
+    IsSound-changed c.self.inside c.self.invariant c.args.cookie c.in-Some.index (rw (← c.deref.ensures.value) c.in-Some.ensures.found)
+    c.index_mut.result.now c.index_mut.ensures.value live (c.index_mut.result.now.count + 1) c.find.new.places c.self.inside.live
+    (grind (arith, nat_tests))
 
 pub returns-in-Some-clause-counts : goal.returns-in-Some-clause-counts
 returns-in-Some-clause-counts c other =
-    let live = c.self.inside.live.items in
-    let rising = c.self.invariant.rising in
-    let at : IsAt live c.args.cookie c.in-Some.index = rw (← c.deref.ensures.value) c.in-Some.ensures.found in
-    let one = c.index_mut.result.now in
-    let same = ap (λ (one : LiveCookie). one.cookie) c.index_mut.ensures.value ∙ at.cookie_there one in
-    let own = ap (λ (one : LiveCookie). one.count) c.index_mut.ensures.value ∙ at.count_there one in
-    let above = c.self.invariant.above_0 c.in-Some.index one at.in_range in
-    let more : LiveCookie = record { cookie = one.cookie; count = one.count + 1 } in
-    let new = count-entries _ (rising-set live rising c.args.cookie c.in-Some.index at more same) other in
-    let counts = count-set live rising c.args.cookie c.in-Some.index at more same other in
-    rw (← c.self.view_is)
-    (grind (arith, nat_tests, new, counts, own, at.cookie_there one, count-entries live rising other))
+    let live = rw (← c.self.view_is) at c.requires.live in
+    let counts = count_of-changed c.self.inside c.self.invariant c.args.cookie c.in-Some.index (rw (← c.deref.ensures.value) c.in-Some.ensures.found)
+    c.index_mut.result.now c.index_mut.ensures.value live (c.index_mut.result.now.count + 1) c.find.new.places c.self.inside.live other in
+    rw (← c.self.view_is) (grind (arith, nat_tests, counts))
 
 pub returns-in-Some-clause-live : goal.returns-in-Some-clause-live
 returns-in-Some-clause-live c =
-    let live = c.self.inside.live.items in
-    let rising = c.self.invariant.rising in
-    let at : IsAt live c.args.cookie c.in-Some.index = rw (← c.deref.ensures.value) c.in-Some.ensures.found in
-    let one = c.index_mut.result.now in
-    let same = ap (λ (one : LiveCookie). one.cookie) c.index_mut.ensures.value ∙ at.cookie_there one in
-    let more : LiveCookie = record { cookie = one.cookie; count = one.count + 1 } in
-    rw (← c.self.view_is)
-    (len-entries _ (rising-set live rising c.args.cookie c.in-Some.index at more same)
-    ∙ length-set live c.in-Some.index more
-    ∙ sym (len-entries live rising))
+    rw (← c.self.view_is) (live_count-counted _ (invariant_of-self c) ∙ sym (live_count-counted c.self.inside c.self.invariant))
 
 pub returns-in_default-clause-counts : goal.returns-in_default-clause-counts
 returns-in_default-clause-counts c other =
-    let live = c.self.inside.live.items in
-    let none = count-entries live c.self.invariant.rising c.args.cookie ∙ rw c.deref.ensures.value at c.in_default.ensures.none in
+    let none = count-entries c.self.inside.cookies.items c.self.invariant.rising c.args.cookie ∙ rw c.deref.ensures.value at c.in_default.ensures.none in
     let there = rw (← c.self.view_is) at c.requires.live in
     rw (← c.self.view_is) (elim (cases_eq c.args.cookie 0) [
       | inl no_cookie ↦ grind (arith, nat_tests)
