@@ -4,7 +4,7 @@
 use cs_types::Cookie;
 
 /// How many indices are noted, a count. Cookies that differ by a multiple of it share one.
-const PLACES: usize = 256;
+const PLACES: usize = 1024;
 
 /// The indices of cookies, as they were made or found last. An index changes where those that ended are taken out.
 #[derive(Drop)]
