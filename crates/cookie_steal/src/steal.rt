@@ -93,6 +93,7 @@ fn next_place<Q: SiblingQueue>(core: &Core<Q>, cpu: Cpu) -> u32
 }
 
 /// The sibling tries to steal a task, where its balance place says that it is to.
+#[inline(always)]
 pub fn try_steal<Q: SiblingQueue, L: Ledger>(
     core: &mut Core<Q>,
     table: &mut TaskTable,
