@@ -59,10 +59,6 @@ height-lt (suc (suc h)) n some many =
     let half_some : 1 ≤ n / 2 = omega arith in
     omega (arith, height-lt h (n / 2) half_some half, digits-step n some)
 
-pub fewest-none : (h : ℕ) → fewest h ≤ 0 → h ≡ 0
-fewest-none zero none = omega arith
-fewest-none (suc h) none = let some = fewest-suc-pos h in absurd (omega arith)
-
 -- a height by whether it is a level lower than before
 pub level_kept : (before after : ℕ) {lower : Bool} → before ≡ after + cond lower 1 0 → lower ≡ false → after ≡ before
 level_kept before after is kept = let told = is ∙ ap (λ b. after + cond b 1 0) kept in omega arith

@@ -13,11 +13,11 @@ use Rattle.std.specs.List as list
 use Rattle.std.specs.Option.{option_map, option_or}
 use Rattle.std.specs.declared.alloc.Global.{Global}
 use Rattle.order_tree.specs.Branch.{Branch, without, reaches}
-use Rattle.order_tree.specs.Balance.{entry_in, joined, branch_of, fewest, HasMany, Leans, HoldsSides, IsFork, IsEven, IsBalanced, IsRoot, IsTaken, IsTakenIf, IsUprooted, IsNode}
+use Rattle.order_tree.specs.Balance.{entry_in, joined, branch_of, fewest, HasMany, Leans, HoldsSides, IsFork, IsEven, IsBalanced, IsRoot, IsTakenIf, IsNode}
 use Rattle.order_tree.specs.declared.key.Key.{Key}
 use Rattle.order_tree.specs.declared.tree.Node.{Node}
 use Rattle.order_tree.proofs.Entries.{less_by, find-left, find-right, find-middle, put-left, put-right, is_sorted-put_of, where_key-left, where_key-right, where_key-middle, is_sorted-without, find_passes-left, find_passes-right}
-use Rattle.order_tree.proofs.Heights.{height-le, fewest-none}
+use Rattle.order_tree.proofs.Heights.{height-le}
 use Rattle.order_tree.proofs.Forks.{leans-higher}
 use Rattle.order_tree.proofs.Keys.{key_total}
 use Rattle.cs_types.specs.Comparisons.{digits}
@@ -75,11 +75,6 @@ IsRoot-from {root} {whole} {node} view_is balanced is =
       entries = ap (λ (b : Branch). b.entries) (sym seen);
       fork = subst (λ h. IsFork node.value.left (entry_in node.value) h node.value.right) (ap (λ (b : Branch). b.height) seen) even.fork;
     }
-
--- a tree that is balanced has many entries
-pub many-balanced : (root : Option (Box Node Global)) → IsBalanced root → HasMany (branch_of root)
-many-balanced None balanced = omega arith
-many-balanced (Some node) balanced = balanced.fork.many
 
 pub IsNode-from : {root : Option (Box Node Global)} {whole : Branch} {box : Box Node Global} {node : Node} → branch_of root ≡ whole → IsBalanced root →
     root ≡ Some box → node ≡ box.value → IsNode whole node
@@ -248,15 +243,6 @@ sides-raised {node = node} at entry others is many = record {
   many_left = at.root.fork.sides.many_left;
   many_right = many;
 }
-
--- a tree with no entry has no level
-pub level-none : (branch : Branch) → HasMany branch → branch.entries ≡ [] → branch.height ≡ 0
-level-none branch many none = let count = ap length none in let low : fewest branch.height ≤ 0 = omega arith in fewest-none branch.height low
-
-pub uprooted : {old taken : Option (Box Node Global)} {node box : Box Node Global} {after : Branch} {lower : Bool} → old ≡ Some node → taken ≡ Some box →
-    IsTaken node.value box.value after lower → IsUprooted old taken after lower
-uprooted {taken = taken} {node = node} {after = after} {lower = lower} was is t =
-    subst (λ o. IsUprooted o taken after lower) (sym was) (subst (λ o. IsUprooted (Some node) o after lower) (sym is) t)
 
 -- what is left of a tree without its root
 pub left_of : (node : Node) (taken : Option (Box Node Global)) (after : Branch) (lower : Bool) → IsTakenIf node taken after lower →

@@ -102,6 +102,11 @@ pub record IsFirst (whole : Branch) (entry : Entry) (others : Branch) (lower : B
   pub entries : whole.entries ≡ entry ∷ others.entries
   pub height : whole.height ≡ others.height + (if lower then 1 else 0)
 
+-- the same where a place holds the node of the first entry
+abbrev pub HasFirst : Branch → Option (Box Node Global) → Branch → Bool → Type 0
+HasFirst whole None others lower = ⊥
+HasFirst whole (Some node) others lower = IsFirst whole (entry_in node.value) others lower
+
 -- ---- a node of which a side is higher than it says
 
 -- a root whose sides compare so

@@ -110,7 +110,8 @@ impl OrderTree {
         ensures spare { self.new.spare ≡ self.old.spare + (if result then 1 else 0) }
         ensures counted { steps.new ≤ steps.old + 2 * digits (map.len self.old.members) }
     {
-        let (taken, _) = self.tree.remove(key, steps);
+        let mut taken = None;
+        self.tree.remove(key, &mut taken, steps);
         let Some(node) = taken else {
             return false;
         };

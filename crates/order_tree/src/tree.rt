@@ -8,7 +8,7 @@ ghost use Rattle.cs_types.specs.Comparisons.{digits};
 ghost use Rattle.order_tree.specs.Order.{key_cmp, stamped};
 ghost use Rattle.order_tree.specs.Anew.{rekeyed};
 ghost use Rattle.order_tree.specs.Branch.{without, reaches};
-ghost use Rattle.order_tree.specs.Balance.{entry_in, entry_at, joined, branch_of, over, split, HasMany, IsBare, IsLeaning, CanSpread, IsEven, IsBalanced, IsRoot, IsNode, IsFirst, TiltsLeft, TiltsRight, IsHighLeft, IsHighRight, left_levels, right_levels, IsUprooted};
+ghost use Rattle.order_tree.specs.Balance.{entry_in, entry_at, joined, branch_of, over, split, HasMany, IsBare, IsLeaning, CanSpread, IsEven, IsBalanced, IsRoot, IsNode, HasFirst, TiltsLeft, TiltsRight, IsHighLeft, IsHighRight, left_levels, right_levels, IsUprooted};
 
 use crate::key::Key;
 use crate::movers::Movers;
@@ -205,27 +205,28 @@ impl Tree {
         lean_right(&mut self.root)
     }
 
-    /// Takes out the node of the first entry. It compares no key. The result tells also whether the tree is a
-    /// level lower then.
-    fn take_first(&mut self) -> (Option<Box<Node>>, bool)
-        ensures none { result.0 ≡ None → self.new ≡ self.old }
-        ensures first { MatchOption result.0 (self.old.entries ≡ []) (λ node. IsFirst self.old (entry_in node.value) self.new result.1) }
+    /// Takes out the node of the first entry, and puts it where none is. It compares no key. The result tells
+    /// whether the tree is a level lower then.
+    fn take_first(&mut self, taken: &mut Option<Box<Node>>) -> bool
+        requires some { self.old.entries ≢ [] }
+        requires none { taken.old ≡ None }
+        ensures first { HasFirst self.old taken.new self.new result }
         ensures many_before { HasMany self.old }
         ensures many { HasMany self.new }
     {
         let Some(root) = &mut self.root else {
-            return (None, false);
+            unreachable!()
         };
         let Node { left, right, .. } = &mut **root;
-        let (taken, lower) = left.take_first();
-        let Some(first) = taken else {
+        if left.is_empty() {
             let right = mem::replace(right, Tree::empty());
-            return (mem::replace(&mut self.root, right.root), true);
-        };
-        if !lower {
-            return (Some(first), false);
+            hand_out(&mut self.root, right.root, taken);
+            return true;
         }
-        (Some(first), !lean_right(&mut self.root))
+        if !left.take_first(taken) {
+            return false;
+        }
+        !lean_right(&mut self.root)
     }
 
     /// Gives its nodes to the list, which has places for them. It compares no key.
@@ -279,22 +280,24 @@ impl Tree {
         right.renew(renewal);
     }
 
-    /// Takes out the entry at the key, and gives the node that is spare then. `None` comes exactly where no
-    /// entry has the key. The result tells also whether the tree is a level lower then.
+    /// Takes out the entry at the key, and puts the node that is spare then where none is. It stays `None` exactly
+    /// where no entry has the key. The result tells whether the tree is a level lower then.
     pub fn remove<L: Ledger>(
         &mut self,
         key: &Key,
+        taken: &mut Option<Box<Node>>,
         steps: &mut Steps<L>,
-    ) -> (Option<Box<Node>>, bool)
+    ) -> bool
+        requires none { taken.old ≡ None }
         ensures entries { self.new.entries ≡ without key.now self.old.entries }
-        ensures taken { option_map (λ node. node.value.pid) result.0 ≡ find key_cmp key.now self.old.entries }
-        ensures height { self.old.height ≡ self.new.height + (if result.1 then 1 else 0) }
+        ensures taken { option_map (λ node. node.value.pid) taken.new ≡ find key_cmp key.now self.old.entries }
+        ensures height { self.old.height ≡ self.new.height + (if result then 1 else 0) }
         ensures many_before { HasMany self.old }
         ensures many { HasMany self.new }
         ensures counted { steps.new ≤ steps.old + self.old.height }
     {
         let Some(root) = &mut self.root else {
-            return (None, false);
+            return false;
         };
         let Node {
             left,
@@ -305,19 +308,17 @@ impl Tree {
         steps.tick();
         match key.cmp(own) {
             Ordering::Less => {
-                let (taken, lower) = left.remove(key, steps);
-                if !lower {
-                    return (taken, false);
+                if !left.remove(key, taken, steps) {
+                    return false;
                 }
-                (taken, !lean_right(&mut self.root))
+                !lean_right(&mut self.root)
             }
-            Ordering::Equal => uproot(&mut self.root),
+            Ordering::Equal => uproot(&mut self.root, taken),
             Ordering::Greater => {
-                let (taken, lower) = right.remove(key, steps);
-                if !lower {
-                    return (taken, false);
+                if !right.remove(key, taken, steps) {
+                    return false;
                 }
-                (taken, !lean_left(&mut self.root))
+                !lean_left(&mut self.root)
             }
         }
     }
@@ -388,6 +389,16 @@ fn set_root(root: &mut Option<Box<Node>>, node: Box<Node>)
     ensures { root.new ≡ Some node }
 {
     mem::forget(mem::replace(root, Some(node)));
+}
+
+/// Puts a side of a root in the place of the root, and the root where no node is. So nothing is let go.
+#[inline(always)]
+fn hand_out(root: &mut Option<Box<Node>>, side: Option<Box<Node>>, taken: &mut Option<Box<Node>>)
+    requires none { taken.old ≡ None }
+    ensures root { root.new ≡ side }
+    ensures taken { taken.new ≡ root.old }
+{
+    mem::forget(mem::replace(taken, mem::replace(root, side)));
 }
 
 /// Puts the tree of a node where an empty one is.
@@ -604,12 +615,15 @@ fn split(lean: Ordering) -> (Ordering, Ordering)
     }
 }
 
-/// Takes the root out of its tree. The result has its node, and tells whether the tree is a level lower then.
-fn uproot(root: &mut Option<Box<Node>>) -> (Option<Box<Node>>, bool)
+/// Takes the root out of its tree, and puts the node that is spare then where none is. The result tells whether
+/// the tree is a level lower then.
+#[inline(never)]
+fn uproot(root: &mut Option<Box<Node>>, taken: &mut Option<Box<Node>>) -> bool
     requires some { root.old ≢ None }
     requires balanced { IsBalanced root.old }
+    requires none { taken.old ≡ None }
     ensures balanced { IsBalanced root.new }
-    ensures uprooted { IsUprooted root.old result.0 (branch_of root.new) result.1 }
+    ensures uprooted { IsUprooted root.old taken.new (branch_of root.new) result }
 {
     let Some(node) = root else { unreachable!() };
     let Node {
@@ -619,15 +633,17 @@ fn uproot(root: &mut Option<Box<Node>>) -> (Option<Box<Node>>, bool)
         right,
         ..
     } = &mut **node;
-    let (taken, lower) = right.take_first();
-    let Some(mut first) = taken else {
+    if right.is_empty() {
         let left = mem::replace(left, Tree::empty());
-        return (mem::replace(root, left.root), true);
-    };
-    mem::swap(key, &mut first.key);
+        hand_out(root, left.root, taken);
+        return true;
+    }
+    let lower = right.take_first(taken);
+    let Some(first) = taken else { unreachable!() };
+    *key = first.key;
     mem::swap(pid, &mut first.pid);
     if !lower {
-        return (Some(first), false);
+        return false;
     }
-    (Some(first), !lean_left(root))
+    !lean_left(root)
 }

@@ -34,11 +34,11 @@ pub invariant_of-self : goal.invariant_of-self
 invariant_of-self g c =
     let sound = c.self.invariant in
     let es = c.self.inside.tree.entries in
-    let cut = IsCut-from es c.args.key.now _ sound.rising c.remove-taken.ensures.entries in
-    let none = sym c.remove-taken.ensures.taken ∙ ap pid_in c.in_default.is in
+    let cut = IsCut-from es c.args.key.now _ sound.rising c.remove.ensures.entries in
+    let none = sym c.remove.ensures.taken ∙ ap pid_in c.in_default.is in
     let count =
-    sym (ap (λ (o : Option (Box Node Global)). cond (is_some o) 1 0 + length c.remove-taken.new.self.entries) c.in_default.is)
-    ∙ counted es sound.rising c.args.key.now c.remove-taken.new.self.entries c.remove-taken.result.0 cut.entries c.remove-taken.ensures.taken in record {
+    sym (ap (λ (o : Option (Box Node Global)). cond (is_some o) 1 0 + length c.remove.new.self.entries) c.in_default.is)
+    ∙ counted es sound.rising c.args.key.now c.remove.new.self.entries c.remove.new.taken cut.entries c.remove.ensures.taken in record {
       rising = cut.rising;
       counted = omega arith;
       first = sound.first ∙ ap (λ (xs : List Entry). slice_get xs 0) (sym (cut.entries ∙ without-none es c.args.key.now none));
@@ -50,20 +50,20 @@ invariant_of-self g c =
 pub returns-in_default-clause-found : goal.returns-in_default-clause-found
 returns-in_default-clause-found g c =
     ap (λ (o : Option (Box Node Global)). is_some o) (sym c.in_default.is)
-    ∙ some-pid c.remove-taken.result.0
-    ∙ ap is_some c.remove-taken.ensures.taken
+    ∙ some-pid c.remove.new.taken
+    ∙ ap is_some c.remove.ensures.taken
     ∙ sym (contains_key-map_of c.self.inside.tree.entries c.self.invariant.rising _ (ap (λ (o : Ordered). o.members) c.self.view_is) c.args.key.now)
 
 pub returns-in_default-clause-members : goal.returns-in_default-clause-members
 returns-in_default-clause-members g c =
     map_of-without c.self.inside.tree.entries c.self.invariant.rising _ (ap (λ (o : Ordered). o.members) c.self.view_is) c.args.key.now _
-    c.remove-taken.ensures.entries
+    c.remove.ensures.entries
 
 pub returns-in_default-clause-counted : goal.returns-in_default-clause-counted
 returns-in_default-clause-counted g c =
     rw (← c.self.view_is)
-    (within c.self.inside.tree.entries c.self.invariant.rising _ _ c.self.inside.tree.height c.remove-taken.ensures.counted
-    (height-le _ _ c.remove-taken.ensures.many_before))
+    (within c.self.inside.tree.entries c.self.invariant.rising _ _ c.self.inside.tree.height c.remove.ensures.counted
+    (height-le _ _ c.remove.ensures.many_before))
 
 -- ---- where it was
 
@@ -71,12 +71,12 @@ pub invariant_of-self-2 : goal.invariant_of-self-2
 invariant_of-self-2 g c =
     let sound = c.self.invariant in
     let es = c.self.inside.tree.entries in
-    let cut = IsCut-from es c.args.key.now _ sound.rising c.remove-taken.ensures.entries in
-    let found = sym c.remove-taken.ensures.taken ∙ ap pid_in c.in-Some.is in
+    let cut = IsCut-from es c.args.key.now _ sound.rising c.remove.ensures.entries in
+    let found = sym c.remove.ensures.taken ∙ ap pid_in c.in-Some.is in
     let pid : c.pid.result ≡ c.in-Some.node.value.pid = c.pid.ensures ∙ ap (λ (n : Node). n.pid) c.deref.ensures in
     let count =
-    sym (ap (λ (o : Option (Box Node Global)). cond (is_some o) 1 0 + length c.remove-taken.new.self.entries) c.in-Some.is)
-    ∙ counted es sound.rising c.args.key.now c.remove-taken.new.self.entries c.remove-taken.result.0 cut.entries c.remove-taken.ensures.taken in
+    sym (ap (λ (o : Option (Box Node Global)). cond (is_some o) 1 0 + length c.remove.new.self.entries) c.in-Some.is)
+    ∙ counted es sound.rising c.args.key.now c.remove.new.self.entries c.remove.new.taken cut.entries c.remove.ensures.taken in
     let items = rw c.unwrap.ensures at c.push.ensures.items in
     let nodes = ap length items ∙ length_push c.self.inside.nodes.items c.in-Some.node in
     let capacity = c.push.ensures.capacity in record {
@@ -95,17 +95,17 @@ invariant_of-self-2 g c =
 pub returns-clause-found : goal.returns-clause-found
 returns-clause-found g c =
     ap (λ (o : Option (Box Node Global)). is_some o) (sym c.in-Some.is)
-    ∙ some-pid c.remove-taken.result.0
-    ∙ ap is_some c.remove-taken.ensures.taken
+    ∙ some-pid c.remove.new.taken
+    ∙ ap is_some c.remove.ensures.taken
     ∙ sym (contains_key-map_of c.self.inside.tree.entries c.self.invariant.rising _ (ap (λ (o : Ordered). o.members) c.self.view_is) c.args.key.now)
 
 pub returns-clause-members : goal.returns-clause-members
 returns-clause-members g c =
     map_of-without c.self.inside.tree.entries c.self.invariant.rising _ (ap (λ (o : Ordered). o.members) c.self.view_is) c.args.key.now _
-    c.remove-taken.ensures.entries
+    c.remove.ensures.entries
 
 pub returns-clause-counted : goal.returns-clause-counted
 returns-clause-counted g c =
     rw (← c.self.view_is)
-    (within c.self.inside.tree.entries c.self.invariant.rising _ _ c.self.inside.tree.height c.remove-taken.ensures.counted
-    (height-le _ _ c.remove-taken.ensures.many_before))
+    (within c.self.inside.tree.entries c.self.invariant.rising _ _ c.self.inside.tree.height c.remove.ensures.counted
+    (height-le _ _ c.remove.ensures.many_before))
