@@ -1,4 +1,4 @@
-use Rattle.std.proofs.Common.{◌≡◌, ap, ◌∙◌, refl}
+use Rattle.std.proofs.Common.{ap, ◌∙◌, refl}
 use Rattle.order_tree.specs.Branch.{Branch}
 use Rattle.order_tree.specs.Balance.{entry_in, over}
 use Rattle.order_tree.specs.declared.tree.Node.{Node}
