@@ -3,7 +3,6 @@ use Rattle.std.proofs.Common.{◌≡◌, ◌⊎◌, inl, inr, ℕ, ◌+◌, ◌<
 use Rattle.std.specs.Prelude.{find, ◌==◌, All, IsTrue}
 use Rattle.std.proofs.lemmas.Bool.{cond_both, cond-true, cond-false, cases_Bool, eqb-true, eq-eqb, ne_eqb}
 use Rattle.task_table.specs.Table.{Rises, RisesFrom}
-use Rattle.task_table.proofs.Tables.{changed_each}
 use Rattle.std.proofs.lemmas.List.Elements.{All-map, All-weaker}
 use Rattle.cs_types.specs.declared.task.Task.{Task}
 use Rattle.cs_types.specs.Room.{has_pid}
@@ -135,16 +134,3 @@ identities-replaced task old tasks rises there cookie = go 0 tasks rises there w
             let rest = go (t.spec.pid + 1) ts rises.1 (sym (cond-false _ (Some t) (find (has_pid task.spec.pid) ts) other) ∙ found) in
             (λ i. identity_of (cond-false (has_pid task.spec.pid t) task t other i) ∷ rest i)
       ]
-
--- A task that moves takes its own place: the one with its pid gets its home, its virtual time and its stamp.
-pub moved_is_replaced : (task old : Task) (tasks : List Task) → Rises tasks → find (has_pid task.spec.pid) tasks ≡ Some old →
-    task ≡ record old { home = task.home; vtime = task.vtime; stamp = task.stamp } →
-    map (λ (other : Task). cond (has_pid task.spec.pid other) (record other { home = task.home; vtime = task.vtime; stamp = task.stamp }) other) tasks
-    ≡ map (replaced_by task) tasks
-moved_is_replaced task old tasks rises there moved =
-    let change : Task → Task = λ other. record other { home = task.home; vtime = task.vtime; stamp = task.stamp } in
-    let pid : task.spec.pid ≡ old.spec.pid = ap (λ (t : Task). t.spec.pid) moved in
-    ap (λ n. map (λ (other : Task). cond (has_pid n other) (change other) other) tasks) pid
-    ∙ sym (changed_each change tasks old rises (subst (λ n. find (has_pid n) tasks ≡ Some old) pid there))
-    ∙ ap (λ n. map (λ (other : Task). cond (has_pid n other) (change old) other) tasks) (sym pid)
-    ∙ ap (λ (now : Task). map (λ (other : Task). cond (has_pid task.spec.pid other) now other) tasks) (sym moved)

@@ -1,11 +1,9 @@
 -- Exchanges: two siblings of a core change their queues, where all tasks of the one moved to the other, which had none.
-use Rattle.std.specs.Prelude.{◌≡◌, ◌≢◌, ℕ, ◌+◌, ◌^◌, ◌<◌, find, length, Some, IsTrue, slice_get}
-use Rattle.cs_types.specs.declared.task.Task.{Task}
-use Rattle.cs_types.specs.Room.{has_pid}
+use Rattle.std.specs.Prelude.{◌≡◌, ◌≢◌, ℕ, ◌<◌, length, Some, slice_get}
 use Rattle.task_table.specs.Table.{Table}
 use Rattle.core_lanes.specs.Queued.{queued_at}
 use Rattle.core_lanes.specs.Moved.{MayRenew}
-use Rattle.core_lanes.specs.Lanes.{queues_of, AgreeBy}
+use Rattle.core_lanes.specs.Lanes.{queues_of, AgreeBy, MayMoveBy}
 use Rattle.core_lanes.specs.declared.queue.SiblingQueue.{Ghosts}
 use Rattle.core_lanes.specs.declared.lanes.Core.{Core}
 
@@ -13,17 +11,9 @@ use Rattle.core_lanes.specs.declared.lanes.Core.{Core}
 abbrev pub AgreeApart : {Q : Type 0} {g : Ghosts Q} → Core Q g × Table → Type 0
 AgreeApart both = AgreeBy (Unit {0}) both
 
--- The task is a queued one of the table, with another home and another virtual time. The next stamp and two touches do not
--- overflow.
-pub record MayPlace {Q : Type 0} {g : Ghosts Q} (both : Core Q g × Table) (task : Task) : Type 0 where
-  pub old : Task
-  pub there : find (has_pid task.spec.pid) both.1.tasks ≡ Some old
-  pub apart : AgreeApart both
-  pub moved : task ≡ record old { home = task.home; vtime = task.vtime }
-  pub queued : IsTrue task.queued
-  pub home : task.home < length both.0.lanes.items
-  pub stamp : both.0.next_stamp + 1 < 2 ^ 64
-  pub touches : both.0.task_number + 2 < 2 ^ 64
+-- a task may move, whatever the queues hold
+abbrev pub MayPlace : {Q : Type 0} {g : Ghosts Q} → ℕ → ℕ → ℕ → Core Q g × Table → Type 0
+MayPlace pid from to both = MayMoveBy (Unit {0}) pid from to both
 
 -- All tasks of the one sibling moved to the other, whose queue has none of its own. Each other queue holds what it is to hold.
 pub record MayExchange {Q : Type 0} {g : Ghosts Q} (from to : ℕ) (both : Core Q g × Table) : Type 0 where

@@ -217,18 +217,24 @@ pub record Knows {Q : Type 0} {g : Ghosts Q} (both : Core Q g × Table) (task : 
   pub known : KnowsApart both task
   pub stamp : IsTrue task.queued → MayStamp both.0.next_stamp both.1.tasks task
 
--- The task is a queued one of the table that leaves its sibling for another, with another home and another virtual time. The
--- next stamp and two touches do not overflow.
-pub record MayEnter {Q : Type 0} {g : Ghosts Q} (both : Core Q g × Table) (task : Task) : Type 0 where
-  pub old : Task
-  pub there : find (has_pid task.spec.pid) both.1.tasks ≡ Some old
-  pub leaves : AgreeAway old.home both
-  pub moved : task ≡ record old { home = task.home; vtime = task.vtime }
+-- The task with the pid is queued on the one sibling, and may move to the other: its virtual time and the least ones are far from
+-- overflow, and the next stamp and two touches do not overflow.
+pub record MayMoveBy {Q : Type 0} {g : Ghosts Q} (Held : Type 0) (pid from to : ℕ) (both : Core Q g × Table) : Type 0 where
+  pub task : Task
+  pub there : find (has_pid pid) both.1.tasks ≡ Some task
   pub queued : IsTrue task.queued
-  pub home : task.home < length both.0.lanes.items
-  pub elsewhere : task.home ≢ old.home
+  pub home : task.home ≡ from
+  pub other : to < length both.0.lanes.items
+  pub elsewhere : to ≢ from
+  pub agree : AgreeBy Held both
+  pub vtime : task.vtime < 2 ^ 100
+  pub leasts : All (λ sibling. sibling.least < 2 ^ 100) (map lane_state both.0.lanes.items)
   pub stamp : both.0.next_stamp + 1 < 2 ^ 64
   pub touches : both.0.task_number + 2 < 2 ^ 64
+
+-- the same where its sibling's queue is empty already
+abbrev pub MayEnter : {Q : Type 0} {g : Ghosts Q} → ℕ → ℕ → ℕ → Core Q g × Table → Type 0
+MayEnter pid from to both = MayMoveBy (AreHeldAway from both) pid from to both
 
 -- ---- how long the queues are
 

@@ -9,7 +9,7 @@ ghost use Rattle.cs_types.specs.Queue.{queued_of};
 ghost use Rattle.cs_types.specs.Selection.{first_on};
 ghost use Rattle.cs_types.specs.Step.{run_idle};
 ghost use Rattle.cs_types.specs.Steal.{set_place};
-ghost use Rattle.cs_types.specs.Queueing.{enqueue, dequeue, moved_to};
+ghost use Rattle.cs_types.specs.Queueing.{enqueue, dequeue, moved_to, moved};
 ghost use Rattle.task_table.specs.Table.{Table, IsSound as IsTable};
 ghost use Rattle.core_lanes.specs.Queued.{IsOf, queued_among, queued_at, mover_of, AreTold, others, given_cookie, given_vtime, is_alike};
 
@@ -355,19 +355,26 @@ impl<Q: SiblingQueue> Core<Q> {
         self.lanes[leaving as usize].queue.clear(table, leaving);
     }
 
-    /// The task leaves its home, whose queue is empty already, and enters the queue of its new one with the next stamp.
+    /// The task with the pid leaves the one sibling, whose queue is empty already, and enters the queue of the other with the
+    /// next stamp. It keeps what it is ahead of the least virtual time of its queue.
     #[inline(always)]
-    pub fn enter<L: Ledger>(&mut self, table: &mut TaskTable, task: Task, steps: &mut Steps<L>)
-        requires { MayEnter (self.old, table.old) task }
-        ensures room { Becomes (self.old, table.old) (self.new, table.new) (λ room. enqueue room task) }
+    pub fn enter<L: Ledger>(
+        &mut self,
+        table: &mut TaskTable,
+        pid: Pid,
+        from: Cpu,
+        to: Cpu,
+        steps: &mut Steps<L>,
+    )
+        requires { MayEnter pid from to (self.old, table.old) }
+        ensures room { (task : SomeTask) → find (has_pid pid) table.old.tasks ≡ Some task →
+            Becomes (self.old, table.old) (self.new, table.new) (λ room. moved room to task) }
         ensures numbers { numbers_of (self.new, table.new) ≡ touched 2 (numbers_of (self.old, table.old)) }
         ensures kept { kept_of (self.new, table.new) ≡ kept_of (self.old, table.old) }
-        ensures away { (old : SomeTask) → find (has_pid task.spec.pid) table.old.tasks ≡ Some old → AgreeAway old.home (self.new, table.new) }
+        ensures away { AgreeAway from (self.new, table.new) }
     {
-        table.move_to(task.spec.pid, task.home, task.vtime, self.next_stamp);
-        self.next_stamp += 1;
-        self.task_number += 2;
-        let entered = table.find(task.spec.pid).unwrap();
+        self.place(table, pid, from, to);
+        let entered = table.find(pid).unwrap();
         self.put_away(table, entered, steps);
     }
 

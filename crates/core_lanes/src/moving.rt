@@ -1,14 +1,16 @@
 //! How a queue comes to another sibling with all its tasks. It is apart, since it alone leaves tasks and queues
 //! for a moment as they do not agree.
 
-ghost use Rattle.std.specs.Prelude.{◌≡◌, ◌≢◌, ℕ, [], ◌+◌, ◌<◌, length, map, slice_get};
+ghost use Rattle.std.specs.Prelude.{◌≡◌, ◌≢◌, ℕ, [], ◌+◌, ◌<◌, length, map, find, slice_get, Some};
+ghost use Rattle.cs_types.specs.declared.task.Task.{Task as SomeTask};
+ghost use Rattle.cs_types.specs.Room.{has_pid};
 ghost use Rattle.core_lanes.specs.Queued.{queued_among, mover_of, AreTold};
 ghost use Rattle.core_lanes.specs.Lanes.{lane_state};
 
 use crate::lane::Lane;
 use crate::lanes::Core;
 use crate::queue::{Movers, SiblingQueue};
-use cs_types::{Cpu, Steps, Task};
+use cs_types::{Cpu, Pid, Steps};
 use std::mem;
 use std::sync::ledger::Ledger;
 use task_table::TaskTable;
@@ -49,7 +51,7 @@ impl<Q: SiblingQueue> Core<Q> {
     ghost use Rattle.core_lanes.specs.Lanes.{bare, room_of, AgreesAt, AreHeld};
     ghost use Rattle.core_lanes.specs.Numbers.{numbers_of, touched};
     ghost use Rattle.core_lanes.specs.Changes.{Becomes, kept_of};
-    ghost use Rattle.cs_types.specs.Queueing.{enqueue};
+    ghost use Rattle.cs_types.specs.Queueing.{moved};
 
     /// Tells the tasks queued on the sibling by their pids, in a list that has none yet, by rising stamp.
     pub fn tell_queued(&self, table: &TaskTable, cpu: Cpu, movers: &mut Movers)
@@ -60,17 +62,21 @@ impl<Q: SiblingQueue> Core<Q> {
         self.lanes[cpu as usize].queue.tell_into(table, cpu, movers);
     }
 
-    /// The task has its new home in the table, with the next stamp. Its queue is to follow.
+    /// The task with the pid, which is queued on the one sibling, is at home on the other in the table, with the next stamp: it
+    /// keeps what it is ahead of the least virtual time of its queue. Its queue is to follow.
     #[inline(always)]
-    pub fn place(&mut self, table: &mut TaskTable, task: &Task)
-        requires { MayPlace (self.old, table.old) task.now }
-        ensures room { Becomes (self.old, table.old) (self.new, table.new) (λ room. enqueue room task.now) }
+    pub fn place(&mut self, table: &mut TaskTable, pid: Pid, from: Cpu, to: Cpu)
+        requires { MayPlace pid from to (self.old, table.old) }
+        ensures room { (task : SomeTask) → find (has_pid pid) table.old.tasks ≡ Some task →
+            Becomes (self.old, table.old) (self.new, table.new) (λ room. moved room to task) }
         ensures numbers { numbers_of (self.new, table.new) ≡ touched 2 (numbers_of (self.old, table.old)) }
         ensures kept { kept_of (self.new, table.new) ≡ kept_of (self.old, table.old) }
         ensures apart { AgreeApart (self.new, table.new) }
         ensures lanes { self.new.lanes ≡ self.old.lanes }
     {
-        table.move_to(task.spec.pid, task.home, task.vtime, self.next_stamp);
+        let behind = self.lanes[from as usize].least;
+        let least = self.lanes[to as usize].least;
+        table.move_to(pid, to, behind, least, self.next_stamp);
         self.next_stamp += 1;
         self.task_number += 2;
     }

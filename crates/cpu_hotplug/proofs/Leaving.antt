@@ -1,5 +1,5 @@
 -- Leaving: the tasks of a sibling move off it one after another, by rising stamp.
-use Rattle.std.proofs.Common.{◌≡◌, inl, inr, ℕ, ◌+◌, ◌<◌, Bool, true, false, cond, ltb, List, [], ◌∷◌, map, refl, sym, ap, ◌∙◌, subst, length, get_or, arith, Some, ne_eqb}
+use Rattle.std.proofs.Common.{◌≡◌, inl, inr, ℕ, ◌+◌, ◌<◌, Bool, true, false, cond, ltb, List, [], ◌∷◌, map, refl, sym, ap, ◌∙◌, length, get_or, arith, Some, ne_eqb}
 use Rattle.std.specs.Prelude.{find, ◌&&◌, ◌==◌, Contains}
 use Rattle.std.specs.List.{AllByRecursion}
 use Rattle.std.proofs.Math.Bool.{and-false}
@@ -195,14 +195,6 @@ module _ (room : RoomState) (cpu : ℕ) (rises : Rises room.tasks) (stamped : Ar
           ap (λ n. find (has_pid n) now) (sym (ap (λ (m : ℕ × ℕ). m.1) is.is ∙ pid)) ∙ found,
           record { there = is.there; on = is.on; rank = rank; found = found },
         )
-
-    -- and what is found by it is the next one
-    pub next_is : (task : Task) → find (has_pid (get_or pids count 0)) now ≡ Some task → IsNext room cpu count now task
-    next_is task found =
-        let next = next_found in
-        let both : Some next.0 ≡ Some task = sym next.1 ∙ found in
-        let is : next.0 ≡ task = cc in
-        subst (IsNext room cpu count now) is next.2
 
 -- ---- those that are left
 

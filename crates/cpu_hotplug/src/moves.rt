@@ -10,7 +10,7 @@ ghost use Rattle.core_lanes.specs.Changes.{Touches};
 ghost use Rattle.cpu_hotplug.specs.Leaves.{move_off, NoneBehind};
 
 use crate::away::lowest_other;
-use core_lanes::{Core, Movers, SiblingQueue, task_of};
+use core_lanes::{Core, Movers, SiblingQueue};
 use cs_types::{Cpu, Steps};
 use std::sync::ledger::Ledger;
 use task_table::TaskTable;
@@ -93,9 +93,7 @@ fn move_queue<Q: SiblingQueue, L: Ledger>(
     let mut movers = Movers::new();
     core.tell_queued(table, cpu, &mut movers);
     for mover in movers.iter() {
-        let task = task_of(table, *mover).unwrap();
-        let moved = core.moved_to(to, task);
-        core.place(table, &moved);
+        core.place(table, *mover, cpu, to);
     }
     core.exchange(table, cpu, to, &movers, steps);
 }
@@ -121,8 +119,6 @@ fn move_each<Q: SiblingQueue, L: Ledger>(
     let mut movers = Movers::new();
     core.empty_queue(table, cpu, &mut movers);
     for mover in movers.iter() {
-        let task = task_of(table, *mover).unwrap();
-        let moved = core.moved_to(to, task);
-        core.enter(table, moved, steps);
+        core.enter(table, *mover, cpu, to, steps);
     }
 }

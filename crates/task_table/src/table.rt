@@ -1,6 +1,6 @@
 //! The table. It is apart since it alone keeps the slots and the index in step.
 
-ghost use Rattle.std.specs.Prelude.{◌≡◌, ℕ, ◌+◌, ◌<◌, ◌^◌, ◌≤◌, ◌==◌, ◌&&◌, nat_lt, [], ◌∷◌, length, map, drop, filter, find, not, slice_set, List, IsTrue, Some, if◌then◌else◌, IfOk, IfNone, IfSome, OnOk, OnErr, MatchResult, MatchOption, option_copied, slice_get, IsSome};
+ghost use Rattle.std.specs.Prelude.{◌≡◌, ℕ, ◌+◌, ◌-◌, ◌<◌, ◌^◌, ◌≤◌, ◌==◌, ◌&&◌, nat_lt, [], ◌∷◌, length, map, min, drop, filter, find, not, slice_set, List, IsTrue, Some, if◌then◌else◌, IfOk, IfNone, IfSome, OnOk, OnErr, MatchResult, MatchOption, option_copied, slice_get, IsSome};
 ghost use Rattle.std.specs.Option.{option_map};
 ghost use Rattle.std.specs.Fn.{FnOnceReturnsAtMut};
 ghost use Rattle.cs_types.specs.Room.{asleep, inserted, has_pid};
@@ -334,18 +334,18 @@ impl TaskTable {
         self.edit(pid, |task| task.cookie = cookie);
     }
 
-    /// The task with the pid, if there is one, is at home on this sibling, with this virtual time, in ns, and this stamp.
-    /// Nothing else changes.
+    /// The task with the pid, if there is one, is at home on this sibling, with this stamp. Its virtual time, in ns, is as far
+    /// ahead of `to` as it was of `from`. Nothing else changes.
     #[inline(always)]
-    pub fn move_to(&mut self, pid: Pid, home: Cpu, vtime: u128, stamp: u64)
+    pub fn move_to(&mut self, pid: Pid, home: Cpu, from: u128, to: u128, stamp: u64)
         ensures moved { self.new ≡ record self.old {
-          tasks = map (λ (task : SomeTask). if has_pid pid task then record task { home = home; vtime = vtime; stamp = stamp } else task) self.old.tasks;
+          tasks = map (λ (task : SomeTask). if has_pid pid task then record task { home = home; vtime = min (to + (task.vtime - from)) (2 ^ 128 - 1); stamp = stamp } else task) self.old.tasks;
         } }
         ensures sound { IsSound self.new }
     {
         self.edit(pid, |task| {
             task.home = home;
-            task.vtime = vtime;
+            task.vtime = to.saturating_add(task.vtime.saturating_sub(from));
             task.stamp = stamp;
         });
     }

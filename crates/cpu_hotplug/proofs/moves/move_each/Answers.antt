@@ -1,20 +1,20 @@
-use Rattle.std.proofs.Common.{Option, None, Some, true, ◌≡◌, ◌+◌, ◌*◌, ◌<◌, ◌≤◌, ◌^◌, ℕ, List, refl, subst, sym, ap, ◌∙◌, arith, length, map}
-use Rattle.std.specs.Prelude.{◌==◌, ◌&&◌, All, find}
-use Rattle.std.specs.Option.{IsSome}
+use Rattle.std.proofs.Common.{true, ◌≡◌, ◌+◌, ◌*◌, ◌<◌, ◌≤◌, ◌^◌, ℕ, List, refl, subst, sym, ap, ◌∙◌, arith, length, map}
+use Rattle.std.specs.Prelude.{◌==◌, ◌&&◌, All}
 use Rattle.std.proofs.lemmas.Bool.{and_parts, eqb-true}
 use Rattle.std.proofs.lemmas.List.{length-map}
 use Rattle.std.proofs.lemmas.List.Sums.{length-filter, count_by-le-length}
 use Rattle.cs_types.specs.declared.task.Task.{Task}
-use Rattle.cs_types.specs.Room.{RoomState, SiblingState, has_pid}
+use Rattle.cs_types.specs.Room.{RoomState, SiblingState}
 use Rattle.cs_types.specs.Queue.{queued_of}
+use Rattle.cs_types.specs.Queueing.{moved_to}
 use Rattle.cs_types.proofs.Spots.{replaced_by}
 use Rattle.core_lanes.specs.Queued.{queued_among, queued_at, mover_of, AreTold}
-use Rattle.core_lanes.specs.Lanes.{BareCore, lane_state, room_by, room_of, AgreeAway, IsFit}
+use Rattle.core_lanes.specs.Lanes.{BareCore, lane_state, room_by, room_of}
 use Rattle.core_lanes.specs.Numbers.{Numbers, numbers_by, numbers_of, touched}
 use Rattle.core_lanes.specs.Changes.{Kept, identity_of}
 use Rattle.core_lanes.proofs.Stays.{some_beside, agree_again, found_in}
 use Rattle.cpu_hotplug.proofs.Ranks.{each_of}
-use Rattle.cpu_hotplug.proofs.Leaving.{length-told, moved_is, so_far, none_moved, all_moved, one_more, next_found, next_is, none_left}
+use Rattle.cpu_hotplug.proofs.Leaving.{length-told, moved_is, so_far, none_moved, all_moved, one_more, next_found, none_left}
 use Rattle.cpu_hotplug.proofs.moves.move_each.Goals as goal
 
 -- ---- before any moved
@@ -38,61 +38,6 @@ loop-mover-init g c =
       away = c.empty_queue.ensures.away;
     }
 
--- ---- the next one
-
-is_there : (found : Option Task) (task : Task) → found ≡ Some task → IsSome found
-is_there None task is = absurd cc
-is_there (Some found) task is = refl
-
-pub unwrap-task-requires : goal.unwrap-task-requires
-unwrap-task-requires g c =
-    let core = c.args.core.now in
-    let table = c.args.table.now in
-    let cpu = c.args.cpu in
-    let now = c.loop-mover.table in
-    let room = room_of some_beside (core, table) in
-    let list_is = c.deref-mover-items.ensures.0 in
-    let pids = c.deref-mover-items.result.now in
-    let told = subst (AreTold (map mover_of (queued_among table.tasks cpu))) (sym list_is) c.empty_queue.ensures.told in
-    let are = ap (λ (one : RoomState). one.tasks) (c.loop-mover.invariant.room some_beside) in
-    let next = next_found room cpu c.requires.agree.table.rising c.requires.agree.stamped pids told c.loop-mover.mover-index c.loop-mover-test.true now.tasks are in
-    is_there c.task_of.result next.0 (c.task_of.ensures.task ∙ next.1)
-
-pub moved_to-moved-requires-clause-home : goal.moved_to-moved-requires-clause-home
-moved_to-moved-requires-clause-home g c =
-    let core = c.args.core.now in
-    let table = c.args.table.now in
-    let cpu = c.args.cpu in
-    let now = c.loop-mover.table in
-    let room = room_of some_beside (core, table) in
-    let list_is = c.deref-mover-items.ensures.0 in
-    let pids = c.deref-mover-items.result.now in
-    let told = subst (AreTold (map mover_of (queued_among table.tasks cpu))) (sym list_is) c.empty_queue.ensures.told in
-    let are = ap (λ (one : RoomState). one.tasks) (c.loop-mover.invariant.room some_beside) in
-    let task = c.unwrap-task.result in
-    let next = next_is room cpu c.requires.agree.table.rising c.requires.agree.stamped pids told c.loop-mover.mover-index c.loop-mover-test.true now.tasks are task (sym c.task_of.ensures.task ∙ c.unwrap-task.ensures) in
-    (found_in (IsFit (length c.loop-mover.core.lanes.items)) task.spec.pid now.tasks task c.loop-mover.invariant.away.tasks next.found).home
-
-pub moved_to-moved-requires-clause-vtime : goal.moved_to-moved-requires-clause-vtime
-moved_to-moved-requires-clause-vtime g c =
-    let core = c.args.core.now in
-    let table = c.args.table.now in
-    let cpu = c.args.cpu in
-    let now = c.loop-mover.table in
-    let room = room_of some_beside (core, table) in
-    let list_is = c.deref-mover-items.ensures.0 in
-    let pids = c.deref-mover-items.result.now in
-    let told = subst (AreTold (map mover_of (queued_among table.tasks cpu))) (sym list_is) c.empty_queue.ensures.told in
-    let are = ap (λ (one : RoomState). one.tasks) (c.loop-mover.invariant.room some_beside) in
-    let task = c.unwrap-task.result in
-    let next = next_is room cpu c.requires.agree.table.rising c.requires.agree.stamped pids told c.loop-mover.mover-index c.loop-mover-test.true now.tasks are task (sym c.task_of.ensures.task ∙ c.unwrap-task.ensures) in
-    found_in (λ (one : Task). one.vtime < 2 ^ 100) task.spec.pid table.tasks task c.requires.low.vtimes next.there
-
-pub moved_to-moved-requires-clause-leasts : goal.moved_to-moved-requires-clause-leasts
-moved_to-moved-requires-clause-leasts g c =
-    subst (λ (siblings : List SiblingState). All (λ (sibling : SiblingState). sibling.least < 2 ^ 100) siblings)
-    (sym (ap (λ (room : RoomState). room.siblings) (c.loop-mover.invariant.room some_beside))) c.requires.low.leasts
-
 -- no more move than there are
 few : (tasks : List Task) (cpu : ℕ) → length (queued_among tasks cpu) ≤ length tasks
 few tasks cpu = omega (arith, length-filter (λ (task : Task). task.queued && (task.home == cpu)) tasks, count_by-le-length (λ (task : Task). task.queued && (task.home == cpu)) tasks)
@@ -110,24 +55,24 @@ enter-requires g c =
     let pids = c.deref-mover-items.result.now in
     let told = subst (AreTold (map mover_of (queued_among table.tasks cpu))) (sym list_is) c.empty_queue.ensures.told in
     let are = ap (λ (one : RoomState). one.tasks) (c.loop-mover.invariant.room some_beside) in
-    let task = c.unwrap-task.result in
-    let next = next_is room cpu c.requires.agree.table.rising c.requires.agree.stamped pids told c.loop-mover.mover-index c.loop-mover-test.true now.tasks are task (sym c.task_of.ensures.task ∙ c.unwrap-task.ensures) in
+    let found = next_found room cpu c.requires.agree.table.rising c.requires.agree.stamped pids told c.loop-mover.mover-index c.loop-mover-test.true now.tasks are in
+    let task = found.0 in
+    let next = found.2 in
     let many : length c.loop-mover.core.lanes.items ≡ length core.lanes.items = ap (λ (kept : Kept). kept.siblings) c.loop-mover.invariant.kept in
-    let moved = c.moved_to-moved.ensures some_beside now in
     let movers_are = length-told room cpu c.requires.agree.table.rising c.requires.agree.stamped pids told in
     let invariant = c.loop-mover.invariant in
     let on = and_parts task.queued (task.home == cpu) next.on in
-    let home : task.home ≡ cpu = eqb-true task.home cpu on.1 in
     record {
-      old = task;
-      there = ap (λ (one : Task). find (has_pid one.spec.pid) now.tasks) moved ∙ next.found;
-      leaves = subst (λ n. AgreeAway n (c.loop-mover.core, now)) (sym home) invariant.away;
-      moved = moved ∙ (λ i. let as_moved : Task = record task { home = (sym moved i).home; vtime = (sym moved i).vtime } in as_moved);
-      queued = ap (λ (one : Task). one.queued) moved ∙ on.0;
-      home = omega (arith, ap (λ (one : Task). one.home) moved, c.requires.within, many);
-      elsewhere = λ here.
-          c.requires.another some_beside
-          (sym (c.requires.lowest some_beside table) ∙ sym (ap (λ (one : Task). one.home) moved) ∙ here ∙ home);
+      task = task;
+      there = found.1;
+      queued = on.0;
+      home = eqb-true task.home cpu on.1;
+      other = omega (arith, c.requires.within, many);
+      elsewhere = λ here. c.requires.another some_beside (sym (c.requires.lowest some_beside table) ∙ here);
+      agree = invariant.away;
+      vtime = found_in (λ (one : Task). one.vtime < 2 ^ 100) task.spec.pid table.tasks task c.requires.low.vtimes next.there;
+      leasts = subst (λ (siblings : List SiblingState). All (λ (sibling : SiblingState). sibling.least < 2 ^ 100) siblings)
+          (sym (ap (λ (room : RoomState). room.siblings) (invariant.room some_beside))) c.requires.low.leasts;
       stamp = omega (arith, ap (λ (one : RoomState). one.next_stamp) (invariant.room some_beside), c.loop-mover-test.true, movers_are, few table.tasks cpu, c.requires.stamp);
       touches = omega (arith, ap (λ (numbers : Numbers). numbers.task) invariant.numbers, c.loop-mover-test.true, movers_are, few table.tasks cpu, c.requires.touches);
     }
@@ -146,34 +91,34 @@ loop-mover-preserved g c =
     let pids = c.deref-mover-items.result.now in
     let told = subst (AreTold (map mover_of (queued_among table.tasks cpu))) (sym list_is) c.empty_queue.ensures.told in
     let are = ap (λ (one : RoomState). one.tasks) (c.loop-mover.invariant.room some_beside) in
-    let task = c.unwrap-task.result in
-    let next = next_is room cpu c.requires.agree.table.rising c.requires.agree.stamped pids told c.loop-mover.mover-index c.loop-mover-test.true now.tasks are task (sym c.task_of.ensures.task ∙ c.unwrap-task.ensures) in
+    let found = next_found room cpu c.requires.agree.table.rising c.requires.agree.stamped pids told c.loop-mover.mover-index c.loop-mover-test.true now.tasks are in
+    let task = found.0 in
+    let next = found.2 in
     let i = c.loop-mover.mover-index in
     let on = next.on in
     let stamps = ap (λ (one : RoomState). one.next_stamp) (c.loop-mover.invariant.room some_beside) in
     let stamp = c.loop-mover.core.next_stamp in
-    let done : Task = record c.moved_to-moved.result { queued = true; stamp = stamp } in
-    let moved = c.moved_to-moved.ensures some_beside now in
-    let queued = ap (λ (one : Task). one.queued) moved ∙ (and_parts task.queued (task.home == cpu) on).0 in
+    let moved = moved_to (room_of some_beside (c.loop-mover.core, now)) c.args.to task in
+    let done : Task = record moved { queued = true; stamp = stamp } in
+    let queued : task.queued ≡ true = (and_parts task.queued (task.home == cpu) on).0 in
     record {
       room = λ beside.
           let was = room_of beside (core, table) in
           let invariant = c.loop-mover.invariant.room beside in
-          let is = ap (λ b. let one : Task = record c.moved_to-moved.result { queued = b; stamp = stamp } in one) (sym queued)
-          ∙ moved_is was (room_of beside (c.loop-mover.core, now)) cpu c.args.to c.loop-mover.core.next_stamp task c.moved_to-moved.result
-          (ap (λ (one : RoomState). one.siblings) invariant) (c.requires.lowest beside table) (c.moved_to-moved.ensures beside now) on
+          let is = ap (λ b. let one : Task = record moved { queued = b; stamp = stamp } in one) (sym queued)
+          ∙ moved_is was (room_of beside (c.loop-mover.core, now)) cpu c.args.to c.loop-mover.core.next_stamp task moved
+          (ap (λ (one : RoomState). one.siblings) invariant) (c.requires.lowest beside table) refl on
           (stamps ∙ ap (λ n. core.next_stamp + n) (sym next.rank)) in
           let more = ap (map (replaced_by done)) are
           ∙ one_more was cpu c.requires.agree.stamped i task next.there on next.rank done is table.tasks (each_of table.tasks c.requires.agree.table.rising) in
           let stamp : c.loop-mover.core.next_stamp + 1 ≡ core.next_stamp + (i + 1) = omega (arith, stamps) in
-          c.enter.ensures.room beside ∙ (λ j. let after : RoomState = record (invariant j) { tasks = more j; next_stamp = stamp j } in after);
+          c.enter.ensures.room task found.1 beside ∙ (λ j. let after : RoomState = record (invariant j) { tasks = more j; next_stamp = stamp j } in after);
       numbers =
           c.enter.ensures.numbers
           ∙ ap (touched 2) c.loop-mover.invariant.numbers
           ∙ ap (λ n. let after : Numbers = record (numbers_of (core, table)) { task = n } in after) (two_more core.task_number i);
       kept = c.enter.ensures.kept ∙ c.loop-mover.invariant.kept;
-      away = subst (λ n. AgreeAway n (c.enter.new.self, c.enter.new.table)) (eqb-true task.home cpu (and_parts task.queued (task.home == cpu) on).1)
-          (c.enter.ensures.away task (ap (λ (one : Task). find (has_pid one.spec.pid) now.tasks) moved ∙ next.found));
+      away = c.enter.ensures.away;
     }
 
 -- ---- all tasks

@@ -1,21 +1,24 @@
-use Rattle.std.proofs.Common.{Option, Some, None, Bor, ◌≡◌, ◌≢◌, ℕ, ◌<◌, ◌≤◌, ◌+◌, arith, [], cond, List, inl, inr, refl, sym, subst, ap, ◌∙◌, map, length}
+use Rattle.std.proofs.Common.{Option, true, Some, None, Bor, ◌≡◌, ◌≢◌, ℕ, ◌<◌, [], cond, List, inl, inr, refl, sym, subst, ap, ◌∙◌, map, length}
 use Rattle.std.specs.Prelude.{◌==◌, All, IsTrue, find, slice_get, option_copied}
+use Rattle.std.specs.Global.{Vec}
 use Rattle.std.specs.Option.{IsSome}
-use Rattle.std.proofs.lemmas.Bool.{cases_Bool, cond-true, cond-false, eqb-false, ne_eqb}
+use Rattle.std.proofs.lemmas.Bool.{cases_Bool, cond-true, cond-false, eqb-true, eqb-false, ne_eqb}
+use Rattle.cs_types.proofs.Foremost.{find_passes}
 use Rattle.cs_types.proofs.Spots.{replaced_by}
+use Rattle.cs_types.specs.declared.queue.Queued.{Queued}
 use Rattle.cs_types.specs.declared.task.Task.{Task}
-use Rattle.cs_types.specs.Scenario.{IsPolicy}
-use Rattle.cs_types.specs.Room.{has_pid}
+use Rattle.cs_types.specs.Room.{RoomState, has_pid}
+use Rattle.cs_types.specs.Queueing.{moved_to, moved}
 use Rattle.task_table.specs.Table.{Table}
 use Rattle.core_lanes.specs.Queued.{queued_at, others, IsOf, HasOwnStamp, AreStamped}
+use Rattle.core_lanes.specs.declared.lane.Lane.{Lane}
 use Rattle.core_lanes.specs.declared.queue.SiblingQueue.{Ghosts}
 use Rattle.core_lanes.specs.declared.lanes.Core.{Core}
-use Rattle.core_lanes.specs.Lanes.{BareCore, bare, room_by, queues_of, AreHeldAway, AreHeldAwayBut, AgreeAway, IsFit, MayStamp, MayEnter}
-use Rattle.core_lanes.specs.Numbers.{numbers_by}
-use Rattle.core_lanes.specs.Changes.{Kept, identity_of}
+use Rattle.core_lanes.specs.Lanes.{BareCore, bare, room_of, queues_of, AreHeldAwayBut, AgreeAway, IsFit, MayEnter}
+use Rattle.core_lanes.specs.Changes.{Kept, kept_of}
 use Rattle.core_lanes.proofs.Queues.{others-replaced, absent_from, off_elsewhere}
-use Rattle.core_lanes.proofs.Replaced.{is_of, own_stamp, stamped-replaced, All-replaced, identities-replaced, moved_is_replaced}
-use Rattle.core_lanes.proofs.Stays.{as_many_bare, found_in, stamped-later, stamp_next}
+use Rattle.core_lanes.proofs.Replaced.{is_of, own_stamp}
+use Rattle.core_lanes.proofs.Stays.{some_beside, as_many_bare, queue_of, stamp_next}
 use Rattle.core_lanes.proofs.lanes.Core.enter.Goals as goal
 
 -- the table then
@@ -44,38 +47,6 @@ module _ {Q : Type 0} {g : Ghosts Q} (core : Core Q g) (before : Table) (task ol
       (cond-false (task.home == old.home) [] (queued_at before.tasks task.home) (ne_eqb task.home old.home other) ∙ sym (others_stay task.home other))
       (away.held task.home queue at)
 
--- ---- the task as the table has it
-
--- the core with the next stamp and the touches, and the task with its stamp
-abbrev counted : {Q : Type 0} {g : Ghosts Q} → Core Q g → Core Q g
-counted core = record core { next_stamp = core.next_stamp + 1; task_number = core.task_number + 2 }
-
-abbrev stamped : ℕ → Task → Task
-stamped stamp task = record task { stamp = stamp }
-
-module _ {Q : Type 0} {g : Ghosts Q} (core : Core Q g) (before : Table) (task : Task) (may : MayEnter (core, before) task) where
-  away : AgreeAway may.old.home (counted core, before)
-  away = record {
-    table = may.leaves.table;
-    few_tasks = may.leaves.few_tasks;
-    tasks = may.leaves.tasks;
-    stamped = stamped-later (omega arith) may.leaves.stamped;
-    held = may.leaves.held;
-  }
-
-  may_stamp : MayStamp (core.next_stamp + 1) before.tasks (stamped core.next_stamp task)
-  may_stamp = stamp_next core.next_stamp before.tasks (stamped core.next_stamp task) refl may.leaves.stamped
-
-  module _ (now : Table)
-      (is : now ≡ record before { tasks = map (λ (other : Task). cond (has_pid task.spec.pid other) (record other { home = task.home; vtime = task.vtime; stamp = core.next_stamp }) other) before.tasks }) where
-    after : now ≡ with before (stamped core.next_stamp task)
-    after = is
-        ∙ ap (λ (ts : List Task). let table : Table = record before { tasks = ts } in table)
-        (moved_is_replaced (stamped core.next_stamp task) may.old before.tasks may.leaves.table.rising may.there (ap (stamped core.next_stamp) may.moved))
-
-    there_now : IsOf now.tasks (stamped core.next_stamp task)
-    there_now = ap (λ (table : Table). find (has_pid task.spec.pid) table.tasks) after ∙ is_of (stamped core.next_stamp task) may.old before.tasks may.there
-
 is_there : (found : Option (Bor Task)) (task : Task) → option_copied found ≡ Some task → IsSome found
 is_there None task is = absurd cc
 is_there (Some found) task is = refl
@@ -86,117 +57,139 @@ is_it found entered task is copied =
     let same : Some entered.now ≡ Some task = sym (ap option_copied is) ∙ copied in
     cc
 
+-- ---- the task as the table has it
+
+-- the task stands in the table with its stamp, and no queue has it yet
+record IsPlaced {Q : Type 0} {g : Ghosts Q} (pid from : ℕ) (then : Core Q g) (now : Table) (task : Task) : Type 0 where
+  found : find (has_pid pid) now.tasks ≡ Some task
+  there : IsOf now.tasks task
+  own : HasOwnStamp now.tasks task
+  queued : IsTrue task.queued
+  home : task.home < length then.lanes.items
+  elsewhere : task.home ≢ from
+  here_but : (queue : Q) → slice_get (queues_of then) task.home ≡ Some queue → g.holds queue now.limit (others task.spec.pid (queued_at now.tasks task.home))
+  away_but : AreHeldAwayBut from task.spec.pid (then, now)
+
+module _ {Q : Type 0} {g : Ghosts Q} (core : Core Q g) (before : Table) (pid from to : ℕ) (may : MayEnter pid from to (core, before)) (then : Core Q g) (now : Table)
+    (is : room_of some_beside (then, now) ≡ moved (room_of some_beside (core, before)) to may.task) (same : kept_of (then, now) ≡ kept_of (core, before)) (lanes : then.lanes ≡ core.lanes) where
+  abbrev went : Task
+  went = record (moved_to (room_of some_beside (core, before)) to may.task) { queued = true; stamp = core.next_stamp }
+
+  pid_is : went.spec.pid ≡ pid
+  pid_is = eqb-true may.task.spec.pid pid (find_passes (has_pid pid) before.tasks may.task may.there)
+
+  there : find (has_pid went.spec.pid) before.tasks ≡ Some may.task
+  there = subst (λ n. find (has_pid n) before.tasks ≡ Some may.task) (sym pid_is) may.there
+
+  tasks : now.tasks ≡ map (replaced_by went) before.tasks
+  tasks = ap (λ (room : RoomState). room.tasks) is
+
+  limit : now.limit ≡ before.limit
+  limit = ap (λ (kept : Kept). kept.limit) same
+
+  there_now : IsOf now.tasks went
+  there_now = subst (λ (ts : List Task). IsOf ts went) (sym tasks) (is_of went may.task before.tasks there)
+
+  own : HasOwnStamp now.tasks went
+  own = subst (λ (ts : List Task). HasOwnStamp ts went) (sym tasks)
+      (own_stamp went may.task before.tasks there (stamp_next core.next_stamp before.tasks went refl may.agree.stamped).own)
+
+  leaves : AgreeAway may.task.home (core, before)
+  leaves = subst (λ n. AgreeAway n (core, before)) (sym may.home) may.agree
+
+  at_before : (cpu : ℕ) (queue : Q) → slice_get (queues_of then) cpu ≡ Some queue → slice_get (queues_of core) cpu ≡ Some queue
+  at_before cpu queue at = ap (λ (ls : Vec (Lane Q)). slice_get (map queue_of ls.items) cpu) (sym lanes) ∙ at
+
+  holds_now : (queue : Q) (of : List Task → List Queued) → g.holds queue before.limit (of (map (replaced_by went) before.tasks)) → g.holds queue now.limit (of now.tasks)
+  holds_now queue of held =
+      subst (λ n. g.holds queue n (of now.tasks)) (sym limit) (subst (λ (ts : List Task). g.holds queue before.limit (of ts)) (sym tasks) held)
+
+  here : (queue : Q) → slice_get (queues_of then) to ≡ Some queue → g.holds queue now.limit (others went.spec.pid (queued_at now.tasks to))
+  here queue at =
+      holds_now queue (λ (ts : List Task). others went.spec.pid (queued_at ts to))
+      (here_but core before went may.task there leaves queue (λ same. may.elsewhere (same ∙ may.home)) (at_before to queue at))
+
+  away_but : AreHeldAwayBut from went.spec.pid (then, now)
+  away_but cpu queue at =
+      holds_now queue (λ (ts : List Task). cond (cpu == from) [] (others went.spec.pid (queued_at ts cpu)))
+      (subst (λ n. AreHeldAwayBut n went.spec.pid (core, with before went)) may.home (all_but core before went may.task there leaves) cpu queue (at_before cpu queue at))
+
+  is_placed : IsPlaced pid from then now went
+  is_placed = record {
+    found = subst (λ n. find (has_pid n) now.tasks ≡ Some went) pid_is there_now;
+    there = there_now;
+    own = own;
+    queued = refl;
+    home = subst (λ (ls : Vec (Lane Q)). to < length ls.items) (sym lanes) may.other;
+    elsewhere = may.elsewhere;
+    here_but = here;
+    away_but = away_but;
+  }
+
+  -- the one that was found was placed
+  found_placed : (found : Option (Bor Task)) (entered : Bor Task) → option_copied found ≡ find (has_pid pid) now.tasks → found ≡ Some entered → IsPlaced pid from then now entered.now
+  found_placed found entered told some = subst (IsPlaced pid from then now) (is_it found entered went some (told ∙ is_placed.found)) is_placed
+
+pub place-requires : goal.place-requires
+place-requires g c =
+    let may = c.requires in
+    record {
+      task = may.task;
+      there = may.there;
+      queued = may.queued;
+      home = may.home;
+      other = may.other;
+      elsewhere = may.elsewhere;
+      agree = record { table = may.agree.table; few_tasks = may.agree.few_tasks; tasks = may.agree.tasks; stamped = may.agree.stamped; held = tt };
+      vtime = may.vtime;
+      leasts = may.leasts;
+      stamp = may.stamp;
+      touches = may.touches;
+    }
+
 pub unwrap-entered-requires : goal.unwrap-entered-requires
 unwrap-entered-requires g c =
-    is_there c.find.result (stamped c.args.self.now.next_stamp c.args.task) (c.find.ensures.task ∙ there_now c.args.self.now c.args.table.now c.args.task c.requires c.move_to.new.self c.move_to.ensures.moved)
+    let is = c.place.ensures.room c.requires.task c.requires.there some_beside in
+    let placed = is_placed c.args.self.now c.args.table.now c.args.pid c.args.from c.args.to c.requires c.place.new.self c.place.new.table is c.place.ensures.kept c.place.ensures.lanes in
+    is_there c.find.result _ (c.find.ensures.task ∙ placed.found)
 
 -- ---- it enters the queue
 
 pub put_away-requires-clause-home : goal.put_away-requires-clause-home
 put_away-requires-clause-home g c =
-    let there = there_now c.args.self.now c.args.table.now c.args.task c.requires c.move_to.new.self c.move_to.ensures.moved in
-    let is = is_it c.find.result c.unwrap-entered.result (stamped c.args.self.now.next_stamp c.args.task) c.unwrap-entered.ensures (c.find.ensures.task ∙ there) in
-    record {
-      table = c.find.ensures.sound;
-      there = subst (IsOf c.move_to.new.self.tasks) is there;
-      home = subst (λ (task : Task). task.home < length c.args.self.now.lanes.items) is c.requires.home;
-    }
+    let one = found_placed c.args.self.now c.args.table.now c.args.pid c.args.from c.args.to c.requires c.place.new.self c.place.new.table
+    (c.place.ensures.room c.requires.task c.requires.there some_beside) c.place.ensures.kept c.place.ensures.lanes c.find.result c.unwrap-entered.result c.find.ensures.task c.unwrap-entered.ensures in
+    record { table = c.place.ensures.apart.table; there = one.there; home = one.home }
 
 pub put_away-requires-clause-queued : goal.put_away-requires-clause-queued
 put_away-requires-clause-queued g c =
-    let there = there_now c.args.self.now c.args.table.now c.args.task c.requires c.move_to.new.self c.move_to.ensures.moved in
-    let is = is_it c.find.result c.unwrap-entered.result (stamped c.args.self.now.next_stamp c.args.task) c.unwrap-entered.ensures (c.find.ensures.task ∙ there) in
-    subst (λ (task : Task). IsTrue task.queued) is c.requires.queued
+    let one = found_placed c.args.self.now c.args.table.now c.args.pid c.args.from c.args.to c.requires c.place.new.self c.place.new.table
+    (c.place.ensures.room c.requires.task c.requires.there some_beside) c.place.ensures.kept c.place.ensures.lanes c.find.result c.unwrap-entered.result c.find.ensures.task c.unwrap-entered.ensures in
+    one.queued
 
 pub put_away-requires-clause-stamp : goal.put_away-requires-clause-stamp
 put_away-requires-clause-stamp g c =
-    let may = c.requires in
-    let task = stamped c.args.self.now.next_stamp c.args.task in
-    let there = there_now c.args.self.now c.args.table.now c.args.task may c.move_to.new.self c.move_to.ensures.moved in
-    let is = is_it c.find.result c.unwrap-entered.result task c.unwrap-entered.ensures (c.find.ensures.task ∙ there) in
-    let changed = after c.args.self.now c.args.table.now c.args.task may c.move_to.new.self c.move_to.ensures.moved in
-    subst (HasOwnStamp c.move_to.new.self.tasks) is
-    (subst (λ (table : Table). HasOwnStamp table.tasks task) (sym changed)
-    (own_stamp task may.old c.args.table.now.tasks may.there (may_stamp c.args.self.now c.args.table.now c.args.task may).own))
+    let one = found_placed c.args.self.now c.args.table.now c.args.pid c.args.from c.args.to c.requires c.place.new.self c.place.new.table
+    (c.place.ensures.room c.requires.task c.requires.there some_beside) c.place.ensures.kept c.place.ensures.lanes c.find.result c.unwrap-entered.result c.find.ensures.task c.unwrap-entered.ensures in
+    one.own
 
 pub put_away-requires-clause-held : goal.put_away-requires-clause-held
 put_away-requires-clause-held g c =
-    let may = c.requires in
-    let before = c.args.table.now in
-    let task = stamped c.args.self.now.next_stamp c.args.task in
-    let there = there_now c.args.self.now before c.args.task may c.move_to.new.self c.move_to.ensures.moved in
-    let is = is_it c.find.result c.unwrap-entered.result task c.unwrap-entered.ensures (c.find.ensures.task ∙ there) in
-    let changed = after c.args.self.now before c.args.task may c.move_to.new.self c.move_to.ensures.moved in
-    let queues = queues_of c.args.self.now in
-    subst
-    (λ (task : Task). (queue : _) → slice_get queues task.home ≡ Some queue →
-    g.Q.SiblingQueue.holds queue c.move_to.new.self.limit (others task.spec.pid (queued_at c.move_to.new.self.tasks task.home))) is
-    (subst
-    (λ (table : Table). (queue : _) → slice_get queues task.home ≡ Some queue →
-    g.Q.SiblingQueue.holds queue table.limit (others task.spec.pid (queued_at table.tasks task.home))) (sym changed)
-    (λ queue at. here_but c.args.self.now before task may.old may.there may.leaves queue may.elsewhere at))
-
--- ---- the room
-
-pub returns-clause-room : goal.returns-clause-room
-returns-clause-room g c beside =
-    let stamp = c.args.self.now.next_stamp in
-    let changed = after c.args.self.now c.args.table.now c.args.task c.requires c.move_to.new.self c.move_to.ensures.moved in
-    (λ i. room_by beside (c.put_away.ensures.bare i) (changed i))
-    ∙ ap (λ b. let queued : Task = record c.args.task { queued = b; stamp = stamp } in room_by beside (bare (counted c.args.self.now)) (with c.args.table.now queued)) c.requires.queued
-
-pub returns-clause-numbers : goal.returns-clause-numbers
-returns-clause-numbers g c =
-    let changed = after c.args.self.now c.args.table.now c.args.task c.requires c.move_to.new.self c.move_to.ensures.moved in
-    λ i. numbers_by (c.put_away.ensures.bare i) (changed i)
-
-pub returns-clause-kept : goal.returns-clause-kept
-returns-clause-kept g c =
-    let may = c.requires in
-    let before = c.args.table.now in
-    let task = stamped c.args.self.now.next_stamp c.args.task in
-    let changed = after c.args.self.now before c.args.task may c.move_to.new.self c.move_to.ensures.moved in
-    (λ i. record {
-      siblings = as_many_bare (counted c.args.self.now) c.put_away.new.self c.put_away.ensures.bare i;
-      limit = (changed i).limit;
-      identities = map identity_of (changed i).tasks;
-    })
-    ∙ ap (λ (identities : List (ℕ × ℕ)). let kept : Kept = record {
-      siblings = length c.args.self.now.lanes.items;
-      limit = before.limit;
-      identities = identities;
-    } in kept) (identities-replaced task may.old before.tasks may.leaves.table.rising may.there (ap (λ (task : Task). task.cookie) may.moved))
+    let one = found_placed c.args.self.now c.args.table.now c.args.pid c.args.from c.args.to c.requires c.place.new.self c.place.new.table
+    (c.place.ensures.room c.requires.task c.requires.there some_beside) c.place.ensures.kept c.place.ensures.lanes c.find.result c.unwrap-entered.result c.find.ensures.task c.unwrap-entered.ensures in
+    one.here_but
 
 pub returns-clause-away : goal.returns-clause-away
-returns-clause-away g c was found =
-    let may = c.requires in
-    let old = counted c.args.self.now in
-    let before = c.args.table.now in
-    let task = stamped c.args.self.now.next_stamp c.args.task in
-    let there = there_now c.args.self.now before c.args.task may c.move_to.new.self c.move_to.ensures.moved in
-    let is = is_it c.find.result c.unwrap-entered.result task c.unwrap-entered.ensures (c.find.ensures.task ∙ there) in
-    let changed = after c.args.self.now before c.args.task may c.move_to.new.self c.move_to.ensures.moved in
-    let both : Some may.old ≡ Some was = sym may.there ∙ found in
-    let was_is : may.old ≡ was = cc in
-    let left = away c.args.self.now before c.args.task may in
-    let same : bare c.put_away.new.self ≡ bare old = c.put_away.ensures.bare in
-    let many = as_many_bare old c.put_away.new.self same in
-    let table : Table = with before task in
-    let fits = found_in (IsFit (length old.lanes.items)) task.spec.pid before.tasks may.old left.tasks may.there in
-    let fit : IsFit (length old.lanes.items) task = record {
-      home = may.home;
-      policy = subst (λ (t : Task). IsPolicy t.spec.policy) (sym may.moved) fits.policy;
-    } in
-    subst (λ (t : Task). AgreeAway t.home (c.put_away.new.self, c.move_to.new.self)) was_is
+returns-clause-away g c =
+    let one = found_placed c.args.self.now c.args.table.now c.args.pid c.args.from c.args.to c.requires c.place.new.self c.place.new.table
+    (c.place.ensures.room c.requires.task c.requires.there some_beside) c.place.ensures.kept c.place.ensures.lanes c.find.result c.unwrap-entered.result c.find.ensures.task c.unwrap-entered.ensures in
+    let apart = c.place.ensures.apart in
+    let same : bare c.put_away.new.self ≡ bare c.place.new.self = c.put_away.ensures.bare in
+    let many = as_many_bare c.place.new.self c.put_away.new.self same in
     record {
-      table = c.move_to.ensures.sound;
-      few_tasks = subst (λ (t : Table). t.limit ≤ 256) (sym changed) left.few_tasks;
-      tasks = subst (λ (t : Table). All (IsFit (length c.put_away.new.self.lanes.items)) t.tasks) (sym changed)
-          (subst (λ n. All (IsFit n) table.tasks) (sym many) (All-replaced (IsFit (length old.lanes.items)) task before.tasks fit left.tasks));
-      stamped = subst (λ (t : Table). AreStamped c.put_away.new.self.next_stamp t.tasks) (sym changed)
-          (subst (λ (core : BareCore). AreStamped core.next_stamp table.tasks) (sym same)
-          (stamped-replaced task may.old before.tasks may.there old.next_stamp (λ queued. may_stamp c.args.self.now before c.args.task may) left.stamped));
-      held = subst (λ (t : Task). t.home ≢ may.old.home → AreHeldAwayBut may.old.home t.spec.pid (old, c.move_to.new.self) → AreHeldAway may.old.home (c.put_away.new.self, c.move_to.new.self))
-          (sym is) (c.put_away.ensures.held may.old.home) may.elsewhere
-          (subst (λ (t : Table). AreHeldAwayBut may.old.home task.spec.pid (old, t)) (sym changed) (all_but old before task may.old may.there left));
+      table = apart.table;
+      few_tasks = apart.few_tasks;
+      tasks = subst (λ n. All (IsFit n) c.place.new.table.tasks) (sym many) apart.tasks;
+      stamped = subst (λ (core : BareCore). AreStamped core.next_stamp c.place.new.table.tasks) (sym same) apart.stamped;
+      held = c.put_away.ensures.held c.args.from one.elsewhere one.away_but;
     }
