@@ -57,6 +57,7 @@ impl CookieQueue {
 
     /// Puts a task, which has a cookie, where none has its cookie, class, rank and stamp
     /// (`sched_core_enqueue`).
+    #[inline(always)]
     pub fn put<L: Ledger>(&mut self, task: Queued, steps: &mut Steps<L>)
         requires spare { 0 < self.old.spare }
         requires ranked { IsRanked task }
