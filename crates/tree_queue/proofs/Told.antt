@@ -14,7 +14,7 @@ use Rattle.cs_types.specs.Room.{has_pid}
 use Rattle.cs_types.proofs.Filtered.{Contains-filter, each_found}
 use Rattle.core_lanes.specs.Queued.{queued_among, mover_of, AreTold}
 use Rattle.core_lanes.proofs.Queues.{is_on}
-use Rattle.tree_queue.specs.Arrivals.{AreRising, AreAmong}
+use Rattle.tree_queue.specs.Arrivals.{AreRising, AreAmong, AreBelow}
 
 -- ---- one more
 
@@ -32,11 +32,6 @@ pub rising_more : (movers : List (ℕ × ℕ)) (mover : ℕ × ℕ) → AreRisin
 rising_more [] mover rising below = (tt, tt)
 rising_more (first ∷ movers) mover rising below =
     (all_more (λ (other : ℕ × ℕ). first.0 < other.0) movers mover rising.0 below.0, rising_more movers mover rising.1 below.1)
-
--- tasks that are told have smaller stamps than this
-pub record AreBelow (tasks : List (ℕ × ℕ)) (above : ℕ) (pids : List ℕ) : Type 0 where
-  pub among : AreAmong tasks pids
-  pub below : AllByRecursion (λ (mover : ℕ × ℕ). mover.0 < above) among.movers
 
 pub none_below : (tasks : List (ℕ × ℕ)) (above : ℕ) → AreBelow tasks above []
 none_below tasks above = record { among = record { movers = []; there = tt; rising = tt; are = refl }; below = tt }
@@ -59,6 +54,13 @@ below_more tasks above next mover pids was there next_is less =
           (all_weaker (λ (other : ℕ × ℕ). other.0 < mover.0) (λ (other : ℕ × ℕ). other.0 < next) (λ other smaller. omega (arith, smaller, next_is)) movers lower)
           (omega (arith, next_is));
     }
+
+-- stamps that are below one are below any greater one
+pub below_later : (tasks : List (ℕ × ℕ)) (above next : ℕ) (pids : List ℕ) → above ≤ next → AreBelow tasks above pids → AreBelow tasks next pids
+below_later tasks above next pids le was = record {
+  among = was.among;
+  below = all_weaker (λ (mover : ℕ × ℕ). mover.0 < above) (λ (mover : ℕ × ℕ). mover.0 < next) (λ mover smaller. omega (arith, smaller, le)) was.among.movers was.below;
+}
 
 -- ---- a task of a sibling
 

@@ -13,3 +13,8 @@ pub record AreAmong (tasks : List (ℕ × ℕ)) (pids : List ℕ) : Type 0 where
   pub there : AllByRecursion (Contains tasks) movers
   pub rising : AreRising movers
   pub are : pids ≡ map (λ mover. mover.1) movers
+
+-- The same, and these stamps are all below one.
+pub record AreBelow (tasks : List (ℕ × ℕ)) (above : ℕ) (pids : List ℕ) : Type 0 where
+  pub among : AreAmong tasks pids
+  pub below : AllByRecursion (λ mover. mover.0 < above) among.movers

@@ -1,19 +1,23 @@
 //! The tasks that came to a queue, in the order in which they came. It is apart, since it is a hint: what it tells is
 //! looked up in the table, and nothing that is promised rests on what it keeps.
 
-ghost use Rattle.std.specs.Prelude.{◌≡◌, ◌+◌, ◌<◌, ◌≤◌, false, [], length, map, Contains, IsTrue};
+ghost use Rattle.std.specs.Prelude.{◌≡◌, ◌+◌, ◌^◌, ◌<◌, ◌≤◌, false, [], length, map, Contains, IsTrue};
 ghost use Rattle.core_lanes.specs.Queued.{queued_among, mover_of, AreTold};
-ghost use Rattle.tree_queue.specs.Arrivals.{AreAmong};
+ghost use Rattle.tree_queue.specs.Arrivals.{AreAmong, AreBelow};
 
 use core_lanes::{Movers, is_on};
 use cs_types::{Cpu, OutOfMemory, Pid};
 use std::alloc::Global;
 use task_table::TaskTable;
 
-/// The stamps and the pids of tasks that came to a queue, each in its turn. Of those that left since nothing is taken
-/// out.
+/// Tasks that came to a queue, each in its turn. Of those that left since nothing is taken out.
 #[derive(Drop)]
 pub struct Arrivals {
+    /// The pids of those that came all at once, by the last move.
+    moved: Movers,
+    /// The stamp of the first of these. Those of the others follow in a row.
+    base: u64,
+    /// The stamps and the pids of those that came one by one since.
     entries: Vec<(u64, Pid)>,
 }
 
@@ -21,11 +25,13 @@ impl Arrivals {
     /// None, with places for twice as many as the queue can take. This call alone takes memory.
     pub fn with_capacity(alloc: Global, most: u16) -> Result<Arrivals, OutOfMemory> {
         Ok(Arrivals {
+            moved: Movers::new(),
+            base: 0,
             entries: Vec::with_capacity(alloc, 2 * usize::from(most))?,
         })
     }
 
-    /// A task came. Where there is no place for it, none is kept any more.
+    /// A task came. Where there is no place for it, none of those that came one by one is kept any more.
     #[inline(always)]
     pub fn note(&mut self, stamp: u64, pid: Pid) {
         if self.entries.len() < self.entries.capacity() {
@@ -37,17 +43,15 @@ impl Arrivals {
 
     /// None is kept any more.
     pub fn clear(&mut self) {
+        self.moved.clear();
         self.entries.clear();
     }
 
     /// The tasks that were told moved, in that order, and the stamps that they have in the table are in a row.
     pub fn renew(&mut self, table: &TaskTable, movers: &Movers) {
-        self.entries.clear();
-        let mut stamp = first_stamp(table, movers);
-        for pid in movers.iter() {
-            self.note(stamp, *pid);
-            stamp = stamp.wrapping_add(1);
-        }
+        self.clear();
+        self.base = first_stamp(table, movers);
+        let _fits = self.moved.try_extend_from_slice(movers);
     }
 
     /// Tells the tasks that are queued on the sibling, `count` of them, by rising stamp, in a list that has none yet.
@@ -60,10 +64,14 @@ impl Arrivals {
         ensures told { IsTrue result → AreTold (map mover_of (queued_among table.now.tasks cpu)) movers.new.items }
         ensures none { result ≡ false → movers.new.items ≡ [] }
     {
-        if self.entries.len() > 2 * count + 16 {
+        if self.moved.len() + self.entries.len() > 2 * count + 16 {
             return false;
         }
-        tell_there(&self.entries, table, cpu, count, movers);
+        let Some(past) = self.base.checked_add(self.moved.len() as u64) else {
+            return false;
+        };
+        tell_moved(&self.moved, self.base, table, cpu, movers);
+        tell_entries(&self.entries, past, table, cpu, count, movers);
         if movers.len() == count {
             return true;
         }
@@ -83,17 +91,41 @@ fn first_stamp(table: &TaskTable, movers: &Movers) -> u64 {
     }
 }
 
-/// Tells those of the entries that are tasks queued on the sibling since then, by rising stamp, and no more than `most`.
-fn tell_there(entries: &[(u64, Pid)], table: &TaskTable, cpu: Cpu, most: usize, movers: &mut Movers)
+/// Tells those of the tasks that are queued on the sibling since they moved, in a list that has none yet. The first got
+/// the stamp `base` then, and those of the others follow in a row.
+fn tell_moved(moved: &[Pid], base: u64, table: &TaskTable, cpu: Cpu, movers: &mut Movers)
     requires none { movers.old.items ≡ [] }
+    requires few { length moved.now ≤ 256 }
+    requires low { base + length moved.now < 2 ^ 64 }
+    ensures below { AreBelow (map mover_of (queued_among table.now.tasks cpu)) (base + length moved.now) movers.new.items }
+{
+    for (place, pid) in moved.iter().enumerate() {
+        if is_there(table, cpu, base + place as u64, *pid) {
+            movers.push(*pid);
+        }
+    }
+}
+
+/// Tells those of the entries that are tasks queued on the sibling since then, by rising stamp, behind those that are
+/// told already, whose stamps are below `past`. It tells no more than `most` in all.
+fn tell_entries(
+    entries: &[(u64, Pid)],
+    past: u64,
+    table: &TaskTable,
+    cpu: Cpu,
+    most: usize,
+    movers: &mut Movers,
+)
+    requires below { AreBelow (map mover_of (queued_among table.now.tasks cpu)) past movers.old.items }
     requires few { most ≤ 256 }
     ensures among { AreAmong (map mover_of (queued_among table.now.tasks cpu)) movers.new.items }
 {
-    let mut above = 0;
+    let mut above = past;
     for entry in entries.iter() {
-        let next = after(entry.0);
-        if movers.len() < most && above < next && is_there(table, cpu, entry) {
-            movers.push(entry.1);
+        let (stamp, pid) = *entry;
+        let next = after(stamp);
+        if movers.len() < most && above < next && is_there(table, cpu, stamp, pid) {
+            movers.push(pid);
             above = next;
         }
     }
@@ -110,13 +142,13 @@ fn after(stamp: u64) -> u64
     }
 }
 
-/// Whether the entry is a task that is queued on the sibling since then.
+/// Whether there is a task with this pid that is queued on the sibling since it was given this stamp.
 #[inline(always)]
-fn is_there(table: &TaskTable, cpu: Cpu, entry: &(u64, Pid)) -> bool
-    ensures { IsTrue result → Contains (map mover_of (queued_among table.now.tasks cpu)) entry.now }
+fn is_there(table: &TaskTable, cpu: Cpu, stamp: u64, pid: Pid) -> bool
+    ensures { IsTrue result → Contains (map mover_of (queued_among table.now.tasks cpu)) (stamp, pid) }
 {
-    match table.find(entry.1) {
-        Some(task) => is_on(task, cpu) && task.stamp == entry.0,
+    match table.find(pid) {
+        Some(task) => is_on(task, cpu) && task.stamp == stamp,
         None => false,
     }
 }

@@ -1,4 +1,4 @@
-use Rattle.std.proofs.Common.{◌≡◌, Some, true, map, sym, ◌∙◌, subst}
+use Rattle.std.proofs.Common.{◌≡◌, ℕ, Some, true, map, sym, ◌∙◌, subst}
 use Rattle.std.specs.Prelude.{find, Contains}
 use Rattle.std.proofs.lemmas.Bool.{eqb-true}
 use Rattle.cs_types.specs.Room.{has_pid}
@@ -11,7 +11,7 @@ use Rattle.tree_queue.proofs.arrivals.is_there.Goals as goal
 pub returns-then-is_on : goal.returns-then-is_on
 returns-then-is_on c same =
     let task = c.in-Some.task.now in
-    let entry = c.args.entry.now in
+    let entry : ℕ × ℕ = (c.args.stamp, c.args.pid) in
     let tasks = c.args.table.now.tasks in
     let cpu = c.args.cpu in
     let found : find (has_pid entry.1) tasks ≡ Some task = sym c.in-Some.ensures.task in

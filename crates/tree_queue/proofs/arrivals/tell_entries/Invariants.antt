@@ -1,7 +1,7 @@
 use Rattle.std.proofs.Common.{map}
 use Rattle.core_lanes.specs.Queued.{queued_among, mover_of}
-use Rattle.tree_queue.proofs.Told.{AreBelow}
-use Rattle.tree_queue.proofs.arrivals.tell_there.Given as goal
+use Rattle.tree_queue.specs.Arrivals.{AreBelow}
+use Rattle.tree_queue.proofs.arrivals.tell_entries.Given as goal
 
 abbrev pub invariant-loop-entry : goal.invariant-loop-entry
 invariant-loop-entry l = record {

@@ -1,13 +1,12 @@
 use Rattle.std.proofs.Common.{◌≡◌, [], ◌∷◌, ◌++◌, map, get_or, sym, ap, ◌∙◌, subst, arith}
 use Rattle.core_lanes.specs.Queued.{queued_among, mover_of}
-use Rattle.tree_queue.proofs.Told.{AreBelow, none_below, below_more}
-use Rattle.tree_queue.proofs.arrivals.tell_there.Goals as goal
-use Rattle.tree_queue.proofs.arrivals.tell_there.Goals.{then-len-most+then-above-next+then-is_there, else-len-most}
+use Rattle.tree_queue.specs.Arrivals.{AreBelow}
+use Rattle.tree_queue.proofs.Told.{below_more}
+use Rattle.tree_queue.proofs.arrivals.tell_entries.Goals as goal
+use Rattle.tree_queue.proofs.arrivals.tell_entries.Goals.{then-len-most+then-above-next+then-is_there, else-len-most}
 
 pub loop-entry-init : goal.loop-entry-init
-loop-entry-init c =
-    let all = map mover_of (queued_among c.args.table.now.tasks c.args.cpu) in
-    record { below = subst (AreBelow all 0) (sym c.requires.none) (none_below all 0) }
+loop-entry-init c = record { below = c.requires.below }
 
 pub loop-entry-preserved : goal.loop-entry-preserved
 loop-entry-preserved c =
