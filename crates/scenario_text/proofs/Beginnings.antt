@@ -212,6 +212,12 @@ module _ {A : Type 0} (taken : Read (A × List (List Word))) (rest : List (List 
   told_line (Ok y) q takes on x e = takes ∙ ap (λ (z : A). Ok (z, rest)) (same_found y x (sym on ∙ e))
   told_line (Err kind) q takes on x e = absurd (no_fault x (Bad number kind) (sym e ∙ on))
 
+  pub taken_line : (r : Read A) → Takes (λ x. x) r rest taken → (x : A) → r ≡ Ok x → taken ≡ Ok (x, rest)
+  taken_line r takes x e = subst (λ (r : Read A). Takes (λ x. x) r rest taken) e takes
+
+  pub taken_fault : (r : Read A) → Takes (λ x. x) r rest taken → (kind : BadKind) → r ≡ Err kind → taken ≡ Err kind
+  taken_fault r takes kind e = subst (λ (r : Read A). Takes (λ x. x) r rest taken) e takes
+
 -- the head of these lines
 pub head_found : (all lines : List (List Word)) (siblings : ℕ) → IsWithin 1 8 siblings → Begins all (version_words ∷ count_words siblings ∷ []) lines 2 → (r : Read Head) (q : Result Head ReadFault) (rest : List (List Word)) →
     Takes (λ head. head) r rest (line_as (limits_reading siblings) lines) → OnLine r 3 q → ReadsHead all q rest

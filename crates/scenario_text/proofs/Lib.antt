@@ -6,7 +6,6 @@ pub mod Judging
 pub mod Said
 pub mod Heads
 pub mod TaskLines
-pub mod StepLines
 pub mod Tasks
 pub mod Steps
 pub mod Told

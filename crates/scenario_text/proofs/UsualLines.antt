@@ -1,13 +1,15 @@
 -- UsualLines: a text that begins with the line of a step, put together from what was found at its front.
-use Rattle.std.proofs.Common.{◌≡◌, ℕ, ◌≤◌, ◌<◌, ◌+◌, ◌-◌, ◌^◌, true, eqb, List, [], ◌∷◌, ◌++◌, length, take, drop, get_or, Some, Ok, Err, false, refl, sym, ap, subst, ◌∙◌, append_assoc, take_all, zero-le, arith}
+use Rattle.std.proofs.Common.{◌≡◌, ℕ, ◌≤◌, ◌<◌, ◌+◌, ◌-◌, ◌^◌, true, eqb, List, [], ◌∷◌, ◌++◌, length, take, drop, get_or, Some, Ok, Err, false, refl, sym, ap, subst, ◌∙◌, append_assoc, take_all, take-suc, zero-le, arith}
+use native.Mathlib.Numerals.{unary_clauses}
 use Rattle.std.specs.Prelude.{codes, decimal, MatchResult}
 use Rattle.std.specs.List.{AllByRecursion, join_with_byte}
 use Rattle.std.specs.Str.{all_ascii_digits}
 use Rattle.std.specs.Result.{result_ok}
 use Rattle.std.proofs.lemmas.Fmt.{decimal_digit}
-use Rattle.std.proofs.lemmas.List.{length-drop}
+use Rattle.std.proofs.lemmas.List.{length-drop, take-append-drop}
 use Rattle.std.proofs.lemmas.List.Splits.{slice_split_at, join_with_byte-slice_split}
-use Rattle.cs_types.specs.declared.event.Actor.TheVariants.{Sibling, Caller}
+use Rattle.cs_types.specs.declared.event.Actor.{Actor}
+use Rattle.cs_types.specs.declared.event.Actor.TheVariants.{Sibling, Caller, End}
 use Rattle.cs_types.specs.declared.task.Policy.{Policy}
 use Rattle.cs_types.specs.declared.event.Event.{Event}
 use Rattle.cs_types.specs.declared.event.Event.TheVariants.{Turn, Resched, Block, Exit, Tick, Wake, Advance, Fork, Prctl, SetSched, Offline, Online, Load, Unload}
@@ -16,11 +18,11 @@ use Rattle.cs_types.specs.Scenario.{IsWithin, IsPolicy, IsStep}
 use Rattle.scenario_text.specs.declared.fault.BadKind.TheVariants.{Number}
 use Rattle.scenario_text.specs.declared.head.Head.{Head}
 use Rattle.scenario_text.specs.declared.line.ScenarioLine.TheVariants as forms
-use Rattle.scenario_text.specs.Words.{Word, policy_word, made_words, event_words}
+use Rattle.scenario_text.specs.Words.{Word, policy_word, actor_word, made_words, event_words}
 use Rattle.scenario_text.specs.Text.{spaced, line, step_words}
 use Rattle.scenario_text.specs.Grammar.{value, is_canonical, policy}
 use Rattle.scenario_text.specs.Faults.{pieces, lines_in}
-use Rattle.scenario_text.specs.Reading.{◌>>=◌, Contents, place_after, Read, line_at, line_check, next_of, usable, IsHead, BeginsStep, BeginsEvent, BeginsPolicy, BeginsNumber, policy_value}
+use Rattle.scenario_text.specs.Reading.{◌>>=◌, Contents, place_after, Read, line_at, line_check, next_of, usable, IsHead, BeginsStep, BeginsActor, BeginsEvent, BeginsPolicy, BeginsNumber, policy_value}
 use Rattle.scenario_text.proofs.Numbers.{digits_are}
 use Rattle.scenario_text.proofs.Fields.{policy_is}
 use Rattle.scenario_text.proofs.Cuts.{has_piece, line_at-lines_in}
@@ -56,6 +58,14 @@ next_checked head is plan lines rest step fits taken checked by =
     rw (taken, line_again head.siblings (place_after plan) (forms.Step step) (let most = is.siblings in omega arith) fits, by) refl
 
 -- ---- as the code finds it
+
+-- two texts that are alike so far are alike one byte further
+pub more_alike : (text first : List ℕ) (count : ℕ) → count < length first → length first ≤ length text → take count text ≡ take count first → get_or text count 0 ≡ get_or first count 0 → take (count + 1) text ≡ take (count + 1) first
+more_alike text first count some short alike same = simp unary_clauses
+    (take-suc text count 0 (omega arith)
+    ∙ ap (λ (bytes : List ℕ). bytes ++ get_or text count 0 ∷ []) alike
+    ∙ ap (λ (byte : ℕ). take count first ++ byte ∷ []) same
+    ∙ sym (take-suc first count 0 some))
 
 -- bytes that are cut at a separator
 cut_is : (separator : ℕ) (bytes first rest : List ℕ) → pieces separator bytes ≡ first ∷ pieces separator rest → bytes ≡ first ++ separator ∷ rest
@@ -102,6 +112,13 @@ behind_first n text = take (length text - n) (drop n text)
 whole : (n : ℕ) (text : List ℕ) → drop n text ≡ behind_first n text
 whole n text = sym (take_all (length text - n) (drop n text) (omega (arith, length-drop n text)))
 
+-- a text that begins with these bytes
+pub behind_is : (text first : List ℕ) (count : ℕ) → count ≡ length first → take count text ≡ take count first → text ≡ first ++ behind_first count text
+behind_is text first count all alike =
+    sym (take-append-drop count text)
+    ∙ ap (λ (bytes : List ℕ). bytes ++ drop count text) (alike ∙ take_all count first (omega arith))
+    ∙ ap (λ (bytes : List ℕ). first ++ bytes) (whole count text)
+
 -- the first byte of a text
 pub one_is : (text : List ℕ) (a : ℕ) → 1 ≤ length text → get_or text 0 0 ≡ a → text ≡ a ∷ behind_first 1 text
 one_is (first ∷ rest) a long is = ap (λ (byte : ℕ). byte ∷ rest) is ∙ ap (λ (bytes : List ℕ). a ∷ bytes) (whole 1 (first ∷ rest))
@@ -115,11 +132,17 @@ two_are text a b long e0 e1 = absurd (omega arith)
 pub two_is : (text : List ℕ) (a b : ℕ) → 2 ≤ length text → get_or text 0 0 ≡ a → get_or text 1 0 ≡ b → text ≡ a ∷ b ∷ behind_first 2 text
 two_is text a b long e0 e1 = two_are text a b long e0 e1 ∙ ap (λ (bytes : List ℕ). a ∷ b ∷ bytes) (whole 2 text)
 
--- the first eight bytes of a text
-pub eight_is : (text : List ℕ) (letter digit : ℕ) → 8 ≤ length text → get_or text 0 0 ≡ 115 → get_or text 1 0 ≡ 116 → get_or text 2 0 ≡ 101 → get_or text 3 0 ≡ 112 → get_or text 4 0 ≡ 32 →
-    get_or text 5 0 ≡ letter → get_or text 6 0 ≡ digit → get_or text 7 0 ≡ 32 → text ≡ codes "step " ++ letter ∷ digit ∷ 32 ∷ drop 8 text
-eight_is (a ∷ b ∷ c ∷ d ∷ e ∷ f ∷ g ∷ h ∷ rest) letter digit long e0 e1 e2 e3 e4 e5 e6 e7 = cc
-eight_is text letter digit long e0 e1 e2 e3 e4 e5 e6 e7 = absurd (omega arith)
+-- the first three bytes of a text
+three_are : (text : List ℕ) (a b c : ℕ) → 3 ≤ length text → get_or text 0 0 ≡ a → get_or text 1 0 ≡ b → get_or text 2 0 ≡ c → text ≡ a ∷ b ∷ c ∷ drop 3 text
+three_are (first ∷ second ∷ third ∷ rest) a b c long e0 e1 e2 = cc
+three_are text a b c long e0 e1 e2 = absurd (omega arith)
+
+pub three_is : (text : List ℕ) (a b c : ℕ) → 3 ≤ length text → get_or text 0 0 ≡ a → get_or text 1 0 ≡ b → get_or text 2 0 ≡ c → text ≡ a ∷ b ∷ c ∷ behind_first 3 text
+three_is text a b c long e0 e1 e2 = three_are text a b c long e0 e1 e2 ∙ ap (λ (bytes : List ℕ). a ∷ b ∷ c ∷ bytes) (whole 3 text)
+
+-- a letter, a digit and a space
+pub actor_is : (letter n : ℕ) (text rest : List ℕ) → n < 10 → text ≡ letter ∷ (48 + n) ∷ 32 ∷ rest → text ≡ (letter ∷ decimal n) ++ 32 ∷ rest
+actor_is letter n text rest small is = is ∙ ap (λ (w : Word). letter ∷ (w ++ 32 ∷ rest)) (sym (decimal_digit n small))
 
 -- an event has a word at least
 event_some : (event : Event) → (first : Word) × (more : List Word) × (event_words event ≡ first ∷ more)
@@ -138,26 +161,22 @@ event_some (Online cpu) = (_, _, refl)
 event_some (Load index) = (_, _, refl)
 event_some (Unload index) = (_, _, refl)
 
--- the line of an actor, whose word is a letter and a digit
-step_text : (letter digit : ℕ) (words : List Word) (first : Word) (more : List Word) (text behind rest : List ℕ) → words ≡ first ∷ more → text ≡ codes "step " ++ letter ∷ digit ∷ 32 ∷ behind → behind ≡ line words ++ rest →
-    text ≡ line (codes "step" ∷ (letter ∷ digit ∷ []) ∷ words) ++ rest
-step_text letter digit words first more text behind rest some front is =
-    front ∙ ap (λ (bytes : List ℕ). codes "step " ++ letter ∷ digit ∷ 32 ∷ bytes) is ∙ rw some refl
+-- the line of a step, whose words stand behind one another
+step_text : (word : Word) (words : List Word) (first : Word) (more : List Word) (text front behind rest : List ℕ) → words ≡ first ∷ more → text ≡ codes "step " ++ front → front ≡ word ++ 32 ∷ behind → behind ≡ line words ++ rest →
+    text ≡ line (codes "step" ∷ word ∷ words) ++ rest
+step_text word words first more text front behind rest some begins acts is =
+    let tail = spaced (first ∷ more) in
+    let ends : behind ≡ tail ++ 10 ∷ rest = is ∙ ap (λ (words : List Word). line words ++ rest) some ∙ append_assoc tail (10 ∷ []) rest in
+    begins
+    ∙ ap (λ (bytes : List ℕ). codes "step " ++ bytes) (acts ∙ ap (λ (bytes : List ℕ). word ++ 32 ∷ bytes) ends ∙ sym (append_assoc (word ++ 32 ∷ tail) (10 ∷ []) rest ∙ append_assoc word (32 ∷ tail) (10 ∷ rest)))
+    ∙ ap (λ (words : List Word). line (codes "step" ∷ word ∷ words) ++ rest) (sym some)
 
-pub sibling_is : (siblings n : ℕ) (text rest : List ℕ) (event : Event) → n < 10 → text ≡ codes "step " ++ 115 ∷ (48 + n) ∷ 32 ∷ drop 8 text → BeginsEvent siblings (Sibling n) (behind_first 8 text) event rest → BeginsStep siblings text (by (Sibling n) event) rest
-sibling_is siblings n text rest event small front found =
+pub step_is : (siblings : ℕ) (actor : Actor) (event : Event) (text front behind rest : List ℕ) → text ≡ codes "step " ++ front → BeginsActor siblings front actor behind → BeginsEvent siblings actor behind event rest →
+    BeginsStep siblings text (by actor event) rest
+step_is siblings (Sibling i) event text front behind rest begins acts found =
     let some = event_some event in
-    record {
-      is = found.is;
-      spelled = step_text 115 (48 + n) (event_words event) some.0 some.1 text (drop 8 text) rest some.2 front (whole 8 text ∙ found.spelled)
-          ∙ ap (λ (w : Word). line (codes "step" ∷ (codes "s" ++ w) ∷ event_words event) ++ rest) (sym (decimal_digit n small));
-    }
-
-pub caller_is : (siblings n : ℕ) (text rest : List ℕ) (event : Event) → n < 10 → text ≡ codes "step " ++ 99 ∷ (48 + n) ∷ 32 ∷ drop 8 text → BeginsEvent siblings (Caller n) (behind_first 8 text) event rest → BeginsStep siblings text (by (Caller n) event) rest
-caller_is siblings n text rest event small front found =
+    record { is = found.is; spelled = step_text (actor_word (Sibling i)) (event_words event) some.0 some.1 text front behind rest some.2 begins acts.spelled found.spelled }
+step_is siblings (Caller j) event text front behind rest begins acts found =
     let some = event_some event in
-    record {
-      is = found.is;
-      spelled = step_text 99 (48 + n) (event_words event) some.0 some.1 text (drop 8 text) rest some.2 front (whole 8 text ∙ found.spelled)
-          ∙ ap (λ (w : Word). line (codes "step" ∷ (codes "c" ++ w) ∷ event_words event) ++ rest) (sym (decimal_digit n small));
-    }
+    record { is = found.is; spelled = step_text (actor_word (Caller j)) (event_words event) some.0 some.1 text front behind rest some.2 begins acts.spelled found.spelled }
+step_is siblings End event text front behind rest begins acts found = absurd acts.is

@@ -7,7 +7,7 @@ use Rattle.cs_types.specs.declared.task.Policy.{Policy}
 use Rattle.cs_types.specs.declared.task.Policy.TheVariants.{Stop, Deadline, Fifo, Rr, Fair}
 use Rattle.cs_types.specs.declared.task.TaskSpec.{TaskSpec}
 use Rattle.cs_types.specs.declared.event.Actor.{Actor}
-use Rattle.cs_types.specs.declared.event.Actor.TheVariants.{Sibling, Caller}
+use Rattle.cs_types.specs.declared.event.Actor.TheVariants.{Sibling, Caller, End}
 use Rattle.cs_types.specs.declared.event.Ask.{Ask}
 use Rattle.cs_types.specs.declared.event.Event.{Event}
 use Rattle.cs_types.specs.declared.event.Event.TheVariants.{Turn, Resched, Block, Exit, Tick, Wake, Advance, Fork, Prctl, SetSched, Offline, Online, Load, Unload}
@@ -23,11 +23,11 @@ use Rattle.scenario_text.specs.declared.line.ScenarioLine.{ScenarioLine}
 use Rattle.scenario_text.specs.declared.line.ScenarioLine.TheVariants as forms
 use Rattle.scenario_text.specs.declared.plan.Plan.{Plan}
 use Rattle.scenario_text.specs.declared.fault.ReadFault.{ReadFault}
-use Rattle.scenario_text.specs.Words.{Word, policy_word, task_words, teach_words, ask_words, event_words}
+use Rattle.scenario_text.specs.Words.{Word, policy_word, task_words, teach_words, actor_word, ask_words, event_words}
 use Rattle.scenario_text.specs.Text.{line, version_words, step_words, end_words, scenario_lines}
 use Rattle.scenario_text.specs.Faults.{kind_of}
 use Rattle.scenario_text.specs.Reader.{Tells}
-use Rattle.scenario_text.specs.Grammar.{is_word, begins, behind, has_minus, value, is_number, keyword, number, signed, sibling, named_pid, guard, child, policy, Form, version_form, siblings_form, limits_form, task_form, teach_form}
+use Rattle.scenario_text.specs.Grammar.{is_word, begins, behind, has_minus, value, is_number, is_signed, keyword, number, signed, sibling, named_pid, guard, child, policy, Form, version_form, siblings_form, limits_form, task_form, teach_form}
 
 -- words, as a pattern sees them: how many there are, and the word at each place from 0
 pub record Parts : Type 0 where
@@ -119,9 +119,19 @@ teach_value line words =
     record { line = line; guard = value (words.at 1); from = value (words.at 2); to = value (words.at 3) }
 
 -- what the four words after the caller of `prctl` say
+abbrev pub ask_said : Word → Word → Word → Word → Ask
+ask_said cmd target scope addr = record { cmd = value cmd; pid = signed_value target; scope = value scope; addr = value addr }
+
 abbrev pub ask_value : Parts → Ask
-ask_value words =
-    record { cmd = value (words.at 2); pid = signed_value (words.at 3); scope = value (words.at 4); addr = value (words.at 5) }
+ask_value words = ask_said (words.at 2) (words.at 3) (words.at 4) (words.at 5)
+
+-- whether they are right
+abbrev pub is_ask : Word → Word → Word → Word → Bool
+is_ask cmd target scope addr =
+    is_number 0 4294967295 cmd
+    && is_signed 2147483648 2147483647 target
+    && is_number 0 4294967295 scope
+    && is_number 0 18446744073709551615 addr
 
 -- the forms of events, with what each says
 
@@ -362,7 +372,18 @@ pub record BeginsStep (siblings : ℕ) (text : List ℕ) (step : Step) (rest : L
   pub is : IsStep siblings step
   pub spelled : text ≡ line (step_words step) ++ rest
 
--- the same of what an actor does
+-- an actor of step lines, in a core of so many siblings
+abbrev pub MakesSteps : ℕ → Actor → Type 0
+MakesSteps siblings (Sibling i) = i < siblings
+MakesSteps siblings (Caller j) = j < 8
+MakesSteps siblings End = ⊥
+
+-- the same of the word of an actor, which a space follows
+pub record BeginsActor (siblings : ℕ) (text : List ℕ) (actor : Actor) (rest : List ℕ) : Type 0 where
+  pub is : MakesSteps siblings actor
+  pub spelled : text ≡ actor_word actor ++ 32 ∷ rest
+
+-- and of what an actor does
 pub record BeginsEvent (siblings : ℕ) (actor : Actor) (text : List ℕ) (event : Event) (rest : List ℕ) : Type 0 where
   pub is : IsStep siblings (record { actor = actor; event = event })
   pub spelled : text ≡ line (event_words event) ++ rest

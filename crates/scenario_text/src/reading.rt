@@ -49,8 +49,14 @@ fn read_plan(alloc: Global, lines: &mut Lines<'_>, head: Head) -> Result<Plan, R
     let mut plan = Plan::new(alloc);
     let mut slots = slots();
     loop {
-        let number = plan.place().number;
-        match on_line(next_line(lines, &mut slots, head, &plan), number)? {
+        let line = match next_line(lines, &mut slots, head, &plan) {
+            Ok(line) => line,
+            Err(kind) => {
+                let line = plan.place().number;
+                return Err(ReadFault::Bad { line, kind });
+            }
+        };
+        match line {
             ScenarioLine::Task(task) => plan.tasks.push(task)?,
             ScenarioLine::Teach(teach) => plan.teaches.push(teach)?,
             ScenarioLine::Step(step) => plan.steps.push(step)?,

@@ -1,17 +1,18 @@
 //! Steps, as the words of a step line spell them: an actor and what it does. It is separate from tasks,
 //! with which it shares no more than siblings.
 
-ghost use Rattle.std.specs.Prelude.{◌≡◌, [], ◌∷◌, true, false, codes, MatchResult};
+ghost use Rattle.std.specs.Prelude.{◌≡◌, ◌&&◌, [], ◌∷◌, true, false, codes, MatchResult};
+ghost use Rattle.cs_types.specs.declared.event.Event.TheVariants.{Fork, Prctl, SetSched};
 ghost use Rattle.scenario_text.specs.declared.fault.BadKind.TheVariants.{Number};
-ghost use Rattle.scenario_text.specs.Grammar.{is_word, is_number, is_signed, value, child};
-ghost use Rattle.scenario_text.specs.Reading.{parts, lent, read_in, signed_value, ask_value, caller_readings, sibling_step, caller_step, step_line};
+ghost use Rattle.scenario_text.specs.Grammar.{is_word, is_number, is_signed, value, named_pid, child, policy};
+ghost use Rattle.scenario_text.specs.Reading.{parts, lent, read_in, signed_value, policy_value, is_ask, ask_said, joined, sibling_readings, caller_readings, sibling_step, caller_step, step_line};
 
 use crate::fault::BadKind;
 use crate::number::{parse_cpu, parse_number, parse_signed};
 use crate::task::{has_policy_shape, parse_policy};
 use crate::teach::parse_guard;
 use crate::words::is_word;
-use cs_types::{Actor, Ask, Event, Pid, Step};
+use cs_types::{Actor, Ask, Cpu, Event, Pid, Step};
 
 /// The greatest number of a caller. The least is 0.
 pub(crate) const MOST_CALLER: u64 = 7;
@@ -59,6 +60,71 @@ fn has_child_shape(word: &[u8]) -> bool
     is_word(word, "thread") || is_word(word, "process")
 }
 
+/// A fork.
+fn parse_fork(caller: &[u8], child: &[u8]) -> Result<Event, BadKind>
+    ensures { MatchResult result
+        (λ event. (named_pid.is_right caller.now ≡ true) × (event ≡ Fork (value caller.now) (is_word child.now (codes "thread"))))
+        (λ kind. (named_pid.is_right caller.now ≡ false) × (kind ≡ Number)) }
+{
+    let caller = parse_named_pid(caller)?;
+    let thread = is_word(child, "thread");
+    Ok(Event::Fork { caller, thread })
+}
+
+/// A change of a task's policy.
+fn parse_setsched(pid: &[u8], said: &[u8]) -> Result<Event, BadKind>
+    ensures { MatchResult result
+        (λ event. (named_pid.is_right pid.now && policy.is_right said.now ≡ true) × (event ≡ SetSched (value pid.now) (policy_value said.now)))
+        (λ kind. (named_pid.is_right pid.now && policy.is_right said.now ≡ false) × (kind ≡ Number)) }
+{
+    let (Ok(pid), Ok(policy)) = (parse_named_pid(pid), parse_policy(said)) else {
+        return Err(BadKind::Number);
+    };
+    Ok(Event::SetSched { pid, policy })
+}
+
+/// The arguments of `prctl`.
+fn parse_ask(cmd: &[u8], target: &[u8], scope: &[u8], addr: &[u8]) -> Result<Ask, BadKind>
+    ensures { MatchResult result
+        (λ ask. (is_ask cmd.now target.now scope.now addr.now ≡ true) × (ask ≡ ask_said cmd.now target.now scope.now addr.now))
+        (λ kind. (is_ask cmd.now target.now scope.now addr.now ≡ false) × (kind ≡ Number)) }
+{
+    let (Ok(cmd), Ok(pid), Ok(scope), Ok(addr)) = (
+        parse_number(cmd, 0, u32::MAX as u64),
+        parse_target(target),
+        parse_number(scope, 0, u32::MAX as u64),
+        parse_number(addr, 0, u64::MAX),
+    ) else {
+        return Err(BadKind::Number);
+    };
+    let (cmd, scope) = (cmd as u32, scope as u32);
+    Ok(Ask {
+        cmd,
+        pid,
+        scope,
+        addr,
+    })
+}
+
+/// A call of `prctl`.
+fn parse_prctl(
+    caller: &[u8],
+    cmd: &[u8],
+    target: &[u8],
+    scope: &[u8],
+    addr: &[u8],
+) -> Result<Event, BadKind>
+    ensures { MatchResult result
+        (λ event. (named_pid.is_right caller.now && is_ask cmd.now target.now scope.now addr.now ≡ true) × (event ≡ Prctl (value caller.now) (ask_said cmd.now target.now scope.now addr.now)))
+        (λ kind. (named_pid.is_right caller.now && is_ask cmd.now target.now scope.now addr.now ≡ false) × (kind ≡ Number)) }
+{
+    let (Ok(caller), Ok(ask)) = (parse_named_pid(caller), parse_ask(cmd, target, scope, addr))
+    else {
+        return Err(BadKind::Number);
+    };
+    Ok(Event::Prctl { caller, ask })
+}
+
 /// What a caller does, in a core with this number of siblings.
 fn parse_caller_event(words: &[&[u8]], siblings: u8) -> Result<Event, BadKind>
     ensures { result ≡ read_in (caller_readings siblings) (lent words.now) }
@@ -67,35 +133,13 @@ fn parse_caller_event(words: &[&[u8]], siblings: u8) -> Result<Event, BadKind>
         [name, pid] if is_word(name, "wake") => parse_named_pid(pid).map(Event::Wake),
         [name, delta] if is_word(name, "advance") => parse_advance(delta).map(Event::Advance),
         [name, caller, child] if is_word(name, "fork") && has_child_shape(child) => {
-            Ok(Event::Fork {
-                caller: parse_named_pid(caller)?,
-                thread: is_word(child, "thread"),
-            })
+            parse_fork(caller, child)
         }
         [name, caller, cmd, target, scope, addr] if is_word(name, "prctl") => {
-            let (Ok(caller), Ok(pid)) = (parse_named_pid(caller), parse_target(target)) else {
-                return Err(BadKind::Number);
-            };
-            let (Ok(cmd), Ok(scope), Ok(addr)) = (
-                parse_number(cmd, 0, u32::MAX as u64),
-                parse_number(scope, 0, u32::MAX as u64),
-                parse_number(addr, 0, u64::MAX),
-            ) else {
-                return Err(BadKind::Number);
-            };
-            let ask = Ask {
-                cmd: cmd as u32,
-                pid,
-                scope: scope as u32,
-                addr,
-            };
-            Ok(Event::Prctl { caller, ask })
+            parse_prctl(caller, cmd, target, scope, addr)
         }
         [name, pid, policy] if is_word(name, "setsched") && has_policy_shape(policy) => {
-            let (Ok(pid), Ok(policy)) = (parse_named_pid(pid), parse_policy(policy)) else {
-                return Err(BadKind::Number);
-            };
-            Ok(Event::SetSched { pid, policy })
+            parse_setsched(pid, policy)
         }
         [name, cpu] if is_word(name, "offline") => parse_cpu(cpu, siblings).map(Event::Offline),
         [name, cpu] if is_word(name, "online") => parse_cpu(cpu, siblings).map(Event::Online),
@@ -105,29 +149,33 @@ fn parse_caller_event(words: &[&[u8]], siblings: u8) -> Result<Event, BadKind>
     }
 }
 
-/// What the sibling of this number does, to itself, where the event is one word.
-#[inline(always)]
-pub(crate) fn parse_sibling_step(digits: &[u8], name: &[u8], siblings: u8) -> Result<Step, BadKind>
+/// What the sibling does, to itself.
+fn parse_sibling_event(name: &[u8], cpu: Cpu) -> Result<Event, BadKind>
+    ensures { result ≡ joined (read_in sibling_readings (parts (name.now ∷ []))) true (λ make. make cpu) }
+{
+    if is_word(name, "turn") {
+        Ok(Event::Turn(cpu))
+    } else if is_word(name, "resched") {
+        Ok(Event::Resched(cpu))
+    } else if is_word(name, "block") {
+        Ok(Event::Block(cpu))
+    } else if is_word(name, "exit") {
+        Ok(Event::Exit(cpu))
+    } else if is_word(name, "tick") {
+        Ok(Event::Tick(cpu))
+    } else {
+        Err(BadKind::Shape)
+    }
+}
+
+/// What the sibling of this number does, to itself, where the event is one word. Whether it is an event is asked first.
+fn parse_sibling_step(digits: &[u8], name: &[u8], siblings: u8) -> Result<Step, BadKind>
     ensures { result ≡ sibling_step siblings digits.now (parts (name.now ∷ [])) }
 {
     let cpu = parse_cpu(digits, siblings);
-    let event = if is_word(name, "turn") {
-        Event::Turn(cpu?)
-    } else if is_word(name, "resched") {
-        Event::Resched(cpu?)
-    } else if is_word(name, "block") {
-        Event::Block(cpu?)
-    } else if is_word(name, "exit") {
-        Event::Exit(cpu?)
-    } else if is_word(name, "tick") {
-        Event::Tick(cpu?)
-    } else {
-        return Err(BadKind::Shape);
-    };
-    Ok(Step {
-        actor: Actor::Sibling(cpu?),
-        event,
-    })
+    let event = parse_sibling_event(name, cpu.unwrap_or(0))?;
+    let actor = Actor::Sibling(cpu?);
+    Ok(Step { actor, event })
 }
 
 /// What the caller of this number does, in a core with this number of siblings.

@@ -7,7 +7,7 @@ ghost use Rattle.cs_types.specs.declared.event.Actor.TheVariants.{Sibling};
 ghost use Rattle.cs_types.specs.Scenario.{IsWithin};
 ghost use Rattle.scenario_text.specs.Words.{child_word};
 ghost use Rattle.scenario_text.specs.Text.{line};
-ghost use Rattle.scenario_text.specs.Reading.{BeginsStep, BeginsEvent, BeginsCall, BeginsAsk, BeginsPolicy, BeginsNumber, BeginsTarget};
+ghost use Rattle.scenario_text.specs.Reading.{BeginsStep, BeginsActor, BeginsEvent, BeginsCall, BeginsAsk, BeginsPolicy, BeginsNumber, BeginsTarget};
 
 use crate::number::{first_digits, is_canonical};
 use crate::pieces::cut_near;
@@ -17,6 +17,24 @@ use crate::step::{
 use crate::task::parse_policy;
 use cs_types::{Actor, Ask, Cpu, Event, Policy, Step};
 
+/// What stands behind these bytes, where the text begins with them.
+#[inline(always)]
+fn behind<'a>(text: &'a [u8], first: &[u8]) -> Option<&'a [u8]>
+    ensures { IfSome result (λ rest. text.now ≡ first.now ++ rest.now) }
+{
+    if text.len() < first.len() {
+        return None;
+    }
+    let mut count = 0;
+    while count < first.len() {
+        if text[count] != first[count] {
+            return None;
+        }
+        count += 1;
+    }
+    Some(&text[count..])
+}
+
 /// What the sibling does, to itself, where the text begins with that, and what stands behind its line.
 #[inline(always)]
 fn sibling_event(text: &[u8], cpu: Cpu) -> Option<(Event, &[u8])>
@@ -24,25 +42,17 @@ fn sibling_event(text: &[u8], cpu: Cpu) -> Option<(Event, &[u8])>
         BeginsEvent siblings (Sibling cpu) text.now read.0 read.1.now) }
 {
     // Most are turns, so whether it is one is asked first.
-    if let [b't', b'u', b'r', b'n', b'\n', ref rest @ ..] = *text {
-        return Some((Event::Turn(cpu), rest));
-    }
-    match *text {
-        [b'b', b'l', b'o', b'c', b'k', b'\n', ref rest @ ..] => Some((Event::Block(cpu), rest)),
-        [b't', b'i', b'c', b'k', b'\n', ref rest @ ..] => Some((Event::Tick(cpu), rest)),
-        [
-            b'r',
-            b'e',
-            b's',
-            b'c',
-            b'h',
-            b'e',
-            b'd',
-            b'\n',
-            ref rest @ ..,
-        ] => { Some((Event::Resched(cpu), rest)) }
-        [b'e', b'x', b'i', b't', b'\n', ref rest @ ..] => Some((Event::Exit(cpu), rest)),
-        _ => None,
+    if let Some(rest) = behind(text, b"turn\n") {
+        Some((Event::Turn(cpu), rest))
+    } else if let Some(rest) = behind(text, b"block\n") {
+        Some((Event::Block(cpu), rest))
+    } else if let Some(rest) = behind(text, b"tick\n") {
+        Some((Event::Tick(cpu), rest))
+    } else if let Some(rest) = behind(text, b"resched\n") {
+        Some((Event::Resched(cpu), rest))
+    } else {
+        let rest = behind(text, b"exit\n")?;
+        Some((Event::Exit(cpu), rest))
     }
 }
 
@@ -52,11 +62,11 @@ fn number_before(text: &[u8], end: u8, low: u64, high: u64) -> Option<(u64, &[u8
     ensures { IfSome result (λ read. BeginsNumber low high text.now read.0 end read.1.now) }
 {
     let (number, count) = first_digits(text);
-    let (word, behind) = text.split_at(count);
+    let (word, more) = text.split_at(count);
     if !is_canonical(word) || !(low..=high).contains(&number) {
         return None;
     }
-    match *behind {
+    match *more {
         [byte, ref rest @ ..] if byte == end => Some((number, rest)),
         _ => None,
     }
@@ -84,10 +94,7 @@ fn last_cpu(text: &[u8], siblings: u8) -> Option<(Cpu, &[u8])>
 fn wake_event(text: &[u8]) -> Option<(Event, &[u8])>
     ensures { IfSome result (λ read. (siblings : ℕ) → BeginsCall siblings text.now read.0 read.1.now) }
 {
-    let [b'w', b'a', b'k', b'e', b' ', ref number @ ..] = *text else {
-        return None;
-    };
-    let (pid, rest) = number_before(number, b'\n', 1, MOST_NAMED_PID)?;
+    let (pid, rest) = number_before(behind(text, b"wake ")?, b'\n', 1, MOST_NAMED_PID)?;
     Some((Event::Wake(pid as u32), rest))
 }
 
@@ -96,21 +103,7 @@ fn wake_event(text: &[u8]) -> Option<(Event, &[u8])>
 fn advance_event(text: &[u8]) -> Option<(Event, &[u8])>
     ensures { IfSome result (λ read. (siblings : ℕ) → BeginsCall siblings text.now read.0 read.1.now) }
 {
-    let [
-        b'a',
-        b'd',
-        b'v',
-        b'a',
-        b'n',
-        b'c',
-        b'e',
-        b' ',
-        ref number @ ..,
-    ] = *text
-    else {
-        return None;
-    };
-    let (delta, rest) = number_before(number, b'\n', 1, MOST_ADVANCE)?;
+    let (delta, rest) = number_before(behind(text, b"advance ")?, b'\n', 1, MOST_ADVANCE)?;
     Some((Event::Advance(delta), rest))
 }
 
@@ -121,26 +114,12 @@ fn hotplug_event(text: &[u8], siblings: u8) -> Option<(Event, &[u8])>
     requires { IsWithin 1 8 siblings }
     ensures { IfSome result (λ read. BeginsCall siblings text.now read.0 read.1.now) }
 {
-    match *text {
-        [
-            b'o',
-            b'f',
-            b'f',
-            b'l',
-            b'i',
-            b'n',
-            b'e',
-            b' ',
-            ref number @ ..,
-        ] => {
-            let (cpu, rest) = last_cpu(number, siblings)?;
-            Some((Event::Offline(cpu), rest))
-        }
-        [b'o', b'n', b'l', b'i', b'n', b'e', b' ', ref number @ ..] => {
-            let (cpu, rest) = last_cpu(number, siblings)?;
-            Some((Event::Online(cpu), rest))
-        }
-        _ => None,
+    if let Some(number) = behind(text, b"offline ") {
+        let (cpu, rest) = last_cpu(number, siblings)?;
+        Some((Event::Offline(cpu), rest))
+    } else {
+        let (cpu, rest) = last_cpu(behind(text, b"online ")?, siblings)?;
+        Some((Event::Online(cpu), rest))
     }
 }
 
@@ -149,20 +128,10 @@ fn hotplug_event(text: &[u8], siblings: u8) -> Option<(Event, &[u8])>
 fn last_child(text: &[u8]) -> Option<(bool, &[u8])>
     ensures { IfSome result (λ read. text.now ≡ line (child_word read.0 ∷ []) ++ read.1.now) }
 {
-    match *text {
-        [b't', b'h', b'r', b'e', b'a', b'd', b'\n', ref rest @ ..] => Some((true, rest)),
-        [
-            b'p',
-            b'r',
-            b'o',
-            b'c',
-            b'e',
-            b's',
-            b's',
-            b'\n',
-            ref rest @ ..,
-        ] => Some((false, rest)),
-        _ => None,
+    if let Some(rest) = behind(text, b"thread\n") {
+        Some((true, rest))
+    } else {
+        Some((false, behind(text, b"process\n")?))
     }
 }
 
@@ -171,10 +140,7 @@ fn last_child(text: &[u8]) -> Option<(bool, &[u8])>
 fn fork_event(text: &[u8]) -> Option<(Event, &[u8])>
     ensures { IfSome result (λ read. (siblings : ℕ) → BeginsCall siblings text.now read.0 read.1.now) }
 {
-    let [b'f', b'o', b'r', b'k', b' ', ref number @ ..] = *text else {
-        return None;
-    };
-    let (caller, child) = number_before(number, b' ', 1, MOST_NAMED_PID)?;
+    let (caller, child) = number_before(behind(text, b"fork ")?, b' ', 1, MOST_NAMED_PID)?;
     let (thread, rest) = last_child(child)?;
     let caller = caller as u32;
     Some((Event::Fork { caller, thread }, rest))
@@ -185,7 +151,7 @@ fn fork_event(text: &[u8]) -> Option<(Event, &[u8])>
 fn target_before(text: &[u8]) -> Option<(i32, &[u8])>
     ensures { IfSome result (λ read. BeginsTarget text.now read.0 read.1.now) }
 {
-    if let [b'-', ref digits @ ..] = *text {
+    if let Some(digits) = behind(text, b"-") {
         let (below, rest) = number_before(digits, b' ', 1, MOST_TARGET_BELOW as u64)?;
         Some((-(below as i64) as i32, rest))
     } else {
@@ -199,10 +165,10 @@ fn target_before(text: &[u8]) -> Option<(i32, &[u8])>
 fn last_ask(text: &[u8]) -> Option<(Ask, &[u8])>
     ensures { IfSome result (λ read. BeginsAsk text.now read.0 read.1.now) }
 {
-    let (cmd, behind) = number_before(text, b' ', 0, u32::MAX as u64)?;
-    let (pid, behind) = target_before(behind)?;
-    let (scope, behind) = number_before(behind, b' ', 0, u32::MAX as u64)?;
-    let (addr, rest) = number_before(behind, b'\n', 0, u64::MAX)?;
+    let (cmd, text) = number_before(text, b' ', 0, u32::MAX as u64)?;
+    let (pid, text) = target_before(text)?;
+    let (scope, text) = number_before(text, b' ', 0, u32::MAX as u64)?;
+    let (addr, rest) = number_before(text, b'\n', 0, u64::MAX)?;
     let ask = Ask {
         cmd: cmd as u32,
         pid,
@@ -217,11 +183,8 @@ fn last_ask(text: &[u8]) -> Option<(Ask, &[u8])>
 fn prctl_event(text: &[u8]) -> Option<(Event, &[u8])>
     ensures { IfSome result (λ read. (siblings : ℕ) → BeginsCall siblings text.now read.0 read.1.now) }
 {
-    let [b'p', b'r', b'c', b't', b'l', b' ', ref number @ ..] = *text else {
-        return None;
-    };
-    let (caller, behind) = number_before(number, b' ', 1, MOST_NAMED_PID)?;
-    let (ask, rest) = last_ask(behind)?;
+    let (caller, asked) = number_before(behind(text, b"prctl ")?, b' ', 1, MOST_NAMED_PID)?;
+    let (ask, rest) = last_ask(asked)?;
     let caller = caller as u32;
     Some((Event::Prctl { caller, ask }, rest))
 }
@@ -241,23 +204,8 @@ fn last_policy(text: &[u8]) -> Option<(Policy, &[u8])>
 fn setsched_event(text: &[u8]) -> Option<(Event, &[u8])>
     ensures { IfSome result (λ read. (siblings : ℕ) → BeginsCall siblings text.now read.0 read.1.now) }
 {
-    let [
-        b's',
-        b'e',
-        b't',
-        b's',
-        b'c',
-        b'h',
-        b'e',
-        b'd',
-        b' ',
-        ref number @ ..,
-    ] = *text
-    else {
-        return None;
-    };
-    let (pid, behind) = number_before(number, b' ', 1, MOST_NAMED_PID)?;
-    let (policy, rest) = last_policy(behind)?;
+    let (pid, said) = number_before(behind(text, b"setsched ")?, b' ', 1, MOST_NAMED_PID)?;
+    let (policy, rest) = last_policy(said)?;
     let pid = pid as u32;
     Some((Event::SetSched { pid, policy }, rest))
 }
@@ -280,37 +228,38 @@ fn caller_event(text: &[u8], siblings: u8) -> Option<(Event, &[u8])>
     }
 }
 
+/// The actor that the text begins with, one of this number of siblings or a caller, and what stands behind the space
+/// after it.
+#[inline(always)]
+fn first_actor(text: &[u8], siblings: u8) -> Option<(Actor, &[u8])>
+    requires { IsWithin 1 8 siblings }
+    ensures { IfSome result (λ read. BeginsActor siblings text.now read.0 read.1.now) }
+{
+    let [letter, digit, b' ', ref rest @ ..] = *text else {
+        return None;
+    };
+    // The number is one digit, since a scenario has at most 8 siblings and 8 callers.
+    let number = digit.wrapping_sub(b'0');
+    if letter == b's' && number < siblings {
+        Some((Actor::Sibling(number), rest))
+    } else if letter == b'c' && number as u64 <= MOST_CALLER {
+        Some((Actor::Caller(number), rest))
+    } else {
+        None
+    }
+}
+
 /// The step of the first line, where it is one of these, and what stands behind the line.
 #[inline(always)]
 pub(crate) fn usual_step(text: &[u8], siblings: u8) -> Option<(Step, &[u8])>
     requires { IsWithin 1 8 siblings }
     ensures { IfSome result (λ read. BeginsStep siblings text.now read.0 read.1.now) }
 {
-    let [
-        b's',
-        b't',
-        b'e',
-        b'p',
-        b' ',
-        letter,
-        digit,
-        b' ',
-        ref behind @ ..,
-    ] = *text
-    else {
-        return None;
+    let (actor, text) = first_actor(behind(text, b"step ")?, siblings)?;
+    let (event, rest) = match actor {
+        Actor::Sibling(cpu) => sibling_event(text, cpu)?,
+        Actor::Caller(_) => caller_event(text, siblings)?,
+        Actor::End => return None,
     };
-    // The number is one digit, since a scenario has at most 8 siblings and 8 callers.
-    let number = digit.wrapping_sub(b'0');
-    if letter == b's' && number < siblings {
-        let (event, rest) = sibling_event(behind, number)?;
-        let actor = Actor::Sibling(number);
-        Some((Step { actor, event }, rest))
-    } else if letter == b'c' && number as u64 <= MOST_CALLER {
-        let (event, rest) = caller_event(behind, siblings)?;
-        let actor = Actor::Caller(number);
-        Some((Step { actor, event }, rest))
-    } else {
-        None
-    }
+    Some((Step { actor, event }, rest))
 }

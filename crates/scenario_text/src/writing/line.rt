@@ -27,6 +27,23 @@ impl Model for Line {
     ghost view = { λ line. line.text.bytes };
 }
 
+/// The name of an error.
+fn errno_word(errno: Errno) -> &'static str
+    ensures word { result.now ≡ errno_word errno }
+    ensures longest { length result.now ≤ 6 }
+{
+    match errno {
+        Errno::Eperm => "EPERM",
+        Errno::Esrch => "ESRCH",
+        Errno::Eagain => "EAGAIN",
+        Errno::Enomem => "ENOMEM",
+        Errno::Efault => "EFAULT",
+        Errno::Enodev => "ENODEV",
+        Errno::Einval => "EINVAL",
+        Errno::Ebusy => "EBUSY",
+    }
+}
+
 impl Line {
     /// A line with nothing on it.
     pub fn new() -> Self
@@ -253,14 +270,11 @@ impl Line {
             Reply::Ticked(false) => self.text("Ticked no"),
             Reply::Child(pid) => self.named("Child", pid),
             Reply::Zero => self.text("0"),
-            Reply::Value(cookie) => {
-                self.text("0 value ");
-                self.number(cookie);
-            }
+            Reply::Value(cookie) => self.named("0 value", cookie),
             Reply::Set => self.text("Set"),
             Reply::Done => self.text("Done"),
             Reply::Already => self.text("Already"),
-            Reply::Refused(errno) => self.errno(errno),
+            Reply::Refused(errno) => self.text(errno_word(errno)),
             Reply::NoCaller => self.text("NoCaller"),
             Reply::Loaded => self.text("Loaded"),
             Reply::Dropped => self.text("Dropped"),
@@ -313,23 +327,6 @@ impl Line {
             Kind::Selected => self.text("Selected"),
             Kind::Adopted => self.text("Adopted"),
             Kind::Plain => self.text("Plain"),
-        }
-    }
-
-    fn errno(&mut self, errno: Errno)
-        requires { length self.old + 6 ≤ line_room }
-        ensures text { self.new ≡ self.old ++ errno_word errno }
-        ensures longest { length self.new ≤ length self.old + 6 }
-    {
-        match errno {
-            Errno::Eperm => self.text("EPERM"),
-            Errno::Esrch => self.text("ESRCH"),
-            Errno::Eagain => self.text("EAGAIN"),
-            Errno::Enomem => self.text("ENOMEM"),
-            Errno::Efault => self.text("EFAULT"),
-            Errno::Enodev => self.text("ENODEV"),
-            Errno::Einval => self.text("EINVAL"),
-            Errno::Ebusy => self.text("EBUSY"),
         }
     }
 
@@ -395,7 +392,7 @@ impl Line {
         ensures longest { length self.new ≤ length self.old + 3 }
     {
         if number < 10 {
-            self.text.push((b'0' + number) as char);
+            self.digit(number as u32);
         } else {
             self.number(number);
         }
