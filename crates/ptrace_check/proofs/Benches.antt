@@ -1,12 +1,14 @@
 -- Benches: what it makes that guards are seated one after another.
-use Rattle.std.proofs.Common.{◌≡◌, ℕ, ◌+◌, List, [], ◌∷◌, ◌++◌, map, length, refl, ap, ◌∙◌, sym, append-nil, arith}
+use Rattle.std.proofs.Common.{◌≡◌, ℕ, ◌+◌, ◌≤◌, List, [], ◌∷◌, ◌++◌, map, length, refl, ap, ◌∙◌, sym, append-nil, append_assoc, subst, arith}
 use Rattle.std.specs.Prelude.{All}
 use Rattle.std.specs.List.{range_with_len, AllByRecursion}
+use Rattle.std.proofs.lemmas.List.{length-map, map-append}
+use Rattle.std.proofs.lemmas.List.Sums.{count_by-le-length}
 use Rattle.std.proofs.lemmas.List.Elements.{recursion_from_All}
 use Rattle.cs_types.specs.declared.view.GuardPlace.TheVariants.{Bench}
-use Rattle.cs_types.specs.Guards.{GuardState, GuardList, on_bench, guards_on_bench}
-use Rattle.ptrace_check.specs.Guards.{Seated}
-use Rattle.ptrace_check.specs.Inside.{guards_in}
+use Rattle.cs_types.specs.Guards.{GuardState, GuardList, is_bench, on_bench, guards_on_bench}
+use Rattle.ptrace_check.specs.Guards.{Seated, most_guards}
+use Rattle.ptrace_check.specs.Inside.{guards_in, AreKept}
 
 -- a guard that is seated on the bench
 abbrev pub seated : {G : Type 0} → (G → List (ℕ × ℕ)) → (G → ℕ) → (G → ℕ) → G → Seated
@@ -38,3 +40,29 @@ caps-seated pairs asked cap (guard ∷ list) = ap (λ (caps : List ℕ). cap gua
 pub none_left : {X : Type 0} (taken rest list : List X) → taken ++ rest ≡ list → length rest ≡ 0 → taken ≡ list
 none_left taken [] list whole none = sym (append-nil taken) ∙ whole
 none_left taken (x ∷ rest) list whole none = absurd (omega arith)
+
+-- one more is seated
+pub seated-more : {G : Type 0} (pairs : G → List (ℕ × ℕ)) (asked cap : G → ℕ) (taken : List G) (guard : G) (seats : List Seated) (seat : Seated) (now : List Seated) →
+    seats ≡ map (seated pairs asked cap) taken → seat ≡ seated pairs asked cap guard → now ≡ seats ++ seat ∷ [] → now ≡ map (seated pairs asked cap) (taken ++ guard ∷ [])
+seated-more pairs asked cap taken guard seats seat now are is pushed =
+    pushed
+    ∙ ap (λ (before : List Seated). before ++ seat ∷ []) are
+    ∙ ap (λ (last : Seated). map (seated pairs asked cap) taken ++ last ∷ []) is
+    ∙ sym (map-append (seated pairs asked cap) taken (guard ∷ []))
+
+-- guards none of which is active are kept
+pub AreKept-idle : (seats : List Seated) (active : List ℕ) (places : ℕ) → active ≡ [] → length seats ≤ places → length seats ≤ most_guards → AreKept (guards_in seats active) places
+AreKept-idle seats active places none fits few =
+    let all = map (λ (seat : Seated). seat.guard) seats in
+    let long = length-map seats (λ (seat : Seated). seat.guard) in
+    subst (λ (active : List ℕ). AreKept (guards_in seats active) places) (sym none)
+    (record {
+      once = λ index. omega arith;
+      parts = omega (arith, count_by-le-length (λ (guard : GuardState). is_bench guard.place) all);
+      fits = omega (arith, fits, long);
+      few = omega (arith, few, long);
+    })
+
+-- one more is taken of a list
+pub taken-more : {X : Type 0} (taken : List X) (x : X) (rest before list : List X) → before ≡ x ∷ rest → taken ++ before ≡ list → (taken ++ x ∷ []) ++ rest ≡ list
+taken-more {X} taken x rest before list is whole = append_assoc taken (x ∷ []) rest ∙ ap (λ (rest : List X). taken ++ rest) (sym is) ∙ whole

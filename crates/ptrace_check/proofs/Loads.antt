@@ -3,7 +3,7 @@ use Rattle.std.proofs.Common.{◌≡◌, ℕ, ◌<◌, ◌≤◌, false, cond, L
 use Rattle.std.specs.Prelude.{◌==◌, not, filter}
 use Rattle.std.proofs.Math.ListN.{set}
 use Rattle.std.proofs.lemmas.Bool.{cond-true, cond-false}
-use Rattle.std.proofs.lemmas.List.{set-get_or, map-set, length-map}
+use Rattle.std.proofs.lemmas.List.{set-get_or, set_past, map-set, length-map}
 use Rattle.std.proofs.lemmas.List.Sums.{get_or-le-sum_by}
 use Rattle.cs_types.specs.declared.view.GuardPlace.{GuardPlace}
 use Rattle.cs_types.specs.declared.view.GuardPlace.TheVariants.{Bench, Active, Dropped}
@@ -13,7 +13,7 @@ use Rattle.ptrace_check.specs.declared.answer.UnloadAnswer.TheVariants as unload
 use Rattle.ptrace_check.specs.Guards.{Seated, cap_of}
 use Rattle.ptrace_check.specs.Answers.{load_answer, loaded, unload_answer, unloaded, cap_without}
 use Rattle.ptrace_check.specs.Inside.{guards_in, AreKept}
-use Rattle.ptrace_check.proofs.Seats.{guard_in, cap_in, guards_in-set, AreKept-load, AreKept-unload}
+use Rattle.ptrace_check.proofs.Seats.{guard_in, guard_past, cap_in, guards_in-set, AreKept-load, AreKept-unload}
 
 -- ---- what an answer says of a guard
 
@@ -140,6 +140,26 @@ caps-unload seats active i seat now within is is_cap =
     ∙ ap (λ (guard : GuardState). cap_without guard seat.cap) (sym (guard_in seats active i seat within is))
     ∙ ap (cap_without (guard_of (guards_in seats active) i)) (sym (cap_in seats i seat within is))
     )
+
+-- ---- where there is no seat
+
+pub load_answer-past : (seats : List Seated) (active : List ℕ) (i : ℕ) → length seats ≤ i → load_with.NoGuard ≡ load_answer (guard_of (guards_in seats active) i)
+load_answer-past seats active i past = ap load_answer (sym (guard_past seats active i past))
+
+pub load-past : (seats : List Seated) (active : List ℕ) (i : ℕ) → length seats ≤ i → guards_in seats active ≡ load (guards_in seats active) i
+load-past seats active i past =
+    sym (cond-false (is_bench (guard_of (guards_in seats active) i).place) _ _ (ap (λ (guard : GuardState). is_bench guard.place) (guard_past seats active i past)))
+
+pub unload_answer-past : (seats : List Seated) (active : List ℕ) (i : ℕ) → length seats ≤ i → unload_with.NoGuard ≡ unload_answer (guard_of (guards_in seats active) i)
+unload_answer-past seats active i past = ap unload_answer (sym (guard_past seats active i past))
+
+pub unload-past : (seats : List Seated) (active : List ℕ) (i : ℕ) → length seats ≤ i → guards_in seats active ≡ unload (guards_in seats active) i
+unload-past seats active i past =
+    sym (cond-false (is_active (guard_of (guards_in seats active) i).place) _ _ (ap (λ (guard : GuardState). is_active guard.place) (guard_past seats active i past)))
+
+pub caps-past : (seats : List Seated) (i cap : ℕ) → length seats ≤ i → map (λ (s : Seated). s.cap) seats ≡ set (map (λ (s : Seated). s.cap) seats) i cap
+caps-past seats i cap past =
+    sym (set_past (map (λ (s : Seated). s.cap) seats) i cap (omega (arith, past, length-map seats (λ (s : Seated). s.cap))))
 
 -- ---- room
 

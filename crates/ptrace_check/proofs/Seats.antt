@@ -1,12 +1,15 @@
 -- Seats: what a write to one of them makes of the guards, and that they stay kept.
-use Rattle.std.proofs.Common.{◌≡◌, ◌≢◌, ℕ, ◌<◌, ◌≤◌, Bool, cond, List, [], ◌∷◌, ◌++◌, length, map, get_or, length-set, length-append, refl, sym, ◌∙◌, ap, subst, inl, inr, arith}
-use Rattle.std.specs.Prelude.{◌==◌, not, filter, sum}
+use Rattle.std.proofs.Common.{◌≡◌, ◌≢◌, ℕ, ◌<◌, ◌≤◌, Bool, true, false, cond, List, [], ◌∷◌, ◌++◌, length, map, get_or, length-set, length-append, refl, sym, ◌∙◌, ap, subst, inl, inr, Option, Some, None, arith}
+use Rattle.std.specs.Prelude.{◌==◌, not, filter, sum, option_map}
 use Rattle.std.proofs.Math.ListN.{set}
-use Rattle.std.proofs.lemmas.Bool.{cases_Bool, eqb-true, eqb-false, cond_both, cond-false}
-use Rattle.std.proofs.lemmas.List.{get_or-map, map-set, get_or-set_same, get_or-set_other}
+use Rattle.std.proofs.lemmas.Bool.{cases_Bool, cases_lt, both_ways, eqb-true, eqb-false, cond_both, cond-false}
+use Rattle.std.proofs.lemmas.List.{get_or-map, get_or_past, length-map, map-set, get_or-set_same, get_or-set_other, set-get_or}
 use Rattle.std.proofs.lemmas.List.Sums.{sum_by_push, sum_by-set, sum-map}
+use Rattle.std.proofs.lemmas.Option.{slice_get-map, slice_get_past, slice_get_read}
 use Rattle.std.proofs.lemmas.List.Filters.{sum_by-filter_both, length-filter_both}
 use Rattle.cs_types.specs.declared.view.GuardPlace.{GuardPlace}
+use Rattle.cs_types.specs.declared.view.GuardView.{GuardView}
+use Rattle.cs_types.specs.View.{guard_view}
 use Rattle.cs_types.specs.declared.view.GuardPlace.TheVariants.{Bench, Active, Dropped}
 use Rattle.cs_types.specs.Guards.{GuardState, GuardList, no_guard, guard_of, with_guard, is_bench, is_active}
 use Rattle.cs_types.proofs.Selections.{get_or-set_alike}
@@ -14,7 +17,7 @@ use Rattle.cs_types.proofs.Siblings.{map-set_alike}
 use Rattle.ptrace_check.specs.Guards.{Seated, cap_of}
 use Rattle.ptrace_check.specs.declared.answer.TeachAnswer.{TeachAnswer}
 use Rattle.ptrace_check.specs.declared.answer.TeachAnswer.TheVariants.{Taught, NoGuard, Full, OutOfMemory}
-use Rattle.ptrace_check.specs.Answers.{with_answer}
+use Rattle.ptrace_check.specs.Answers.{IsTeachAnswer, with_answer}
 use Rattle.ptrace_check.specs.Inside.{guards_in, bench_count, turns_of, most_turns, AreKept}
 
 -- ---- one seat
@@ -28,6 +31,18 @@ guard_in seats active i seat within is =
 pub cap_in : (seats : List Seated) (i : ℕ) (seat : Seated) → i < length seats → seat ≡ get_or seats i seat → cap_of (map (λ (s : Seated). s.cap) seats) i ≡ seat.cap
 cap_in seats i seat within is =
     get_or-map (λ (s : Seated). s.cap) seats i seat 0 within ∙ ap (λ (s : Seated). s.cap) (sym is)
+
+-- no guard is past the last seat
+pub guard_past : (seats : List Seated) (active : List ℕ) (i : ℕ) → length seats ≤ i → guard_of (guards_in seats active) i ≡ no_guard
+guard_past seats active i past =
+    get_or_past (map (λ (s : Seated). s.guard) seats) i no_guard (omega (arith, past, length-map seats (λ (s : Seated). s.guard)))
+
+-- where a seat that is asked for is none, its number is past the last
+pub past_from : (i count long : ℕ) → count ≡ long → (i < count → false ≡ true) → long ≤ i
+past_from i count long same never = elim (cases_lt i count) [
+  | inl within ↦ absurd (both_ways false refl (never within))
+  | inr past ↦ omega (arith, past, same)
+]
 
 -- a write to a seat is one to the guard of its number
 pub guards_in-set : (seats : List Seated) (active : List ℕ) (i : ℕ) (seat : Seated) → guards_in (set seats i seat) active ≡ with_guard (guards_in seats active) i seat.guard
@@ -139,7 +154,38 @@ place-with_answer NoGuard pair guard = refl
 place-with_answer (Full named) pair guard = refl
 place-with_answer OutOfMemory pair guard = refl
 
+-- a guard that is written as it is
+pub with_guard-same : (guards : GuardList) (i : ℕ) → guards ≡ with_guard guards i (guard_of guards i)
+with_guard-same guards i = ap (λ (all : List GuardState). record guards { all = all }) (sym (set-get_or guards.all i no_guard))
+
+-- what the answer of a seat says of the guard of its number
+pub teach_answer-in : (seats : List Seated) (active : List ℕ) (i : ℕ) (seat : Seated) (answer : TeachAnswer) → i < length seats → seat ≡ get_or seats i seat →
+    IsTeachAnswer seat.guard seat.cap answer → IsTeachAnswer (guard_of (guards_in seats active) i) (cap_of (map (λ (s : Seated). s.cap) seats) i) answer
+teach_answer-in seats active i seat answer within is says =
+    subst (λ (guard : GuardState). IsTeachAnswer guard (cap_of (map (λ (s : Seated). s.cap) seats) i) answer) (sym (guard_in seats active i seat within is))
+    (subst (λ (cap : ℕ). IsTeachAnswer seat.guard cap answer) (sym (cap_in seats i seat within is)) says)
+
 -- what a write that leaves the caps makes of them
 pub caps-set_alike : (seats : List Seated) (i : ℕ) (seat now : Seated) → seat ≡ get_or seats i seat → now.cap ≡ seat.cap → map (λ (s : Seated). s.cap) (set seats i now) ≡ map (λ (s : Seated). s.cap) seats
 caps-set_alike seats i seat now is same =
     map-set_alike (λ (s : Seated). s.cap) seats i now seat (same ∙ ap (λ (s : Seated). s.cap) is)
+
+-- ---- what is shown
+
+abbrev shown : GuardState → GuardView
+shown guard = record { place = guard.place; asked = guard.asked }
+
+-- what is shown of the guard in a seat
+pub guard_view-in : (seats : List Seated) (active : List ℕ) (i : ℕ) (seat : Seated) → i < length seats → seat ≡ get_or seats i seat →
+    Some (record { place = seat.guard.place; asked = seat.guard.asked }) ≡ guard_view (guards_in seats active) i
+guard_view-in seats active i seat within is =
+    sym (
+    ap (option_map shown) (slice_get-map (λ (s : Seated). s.guard) seats i)
+    ∙ ap (λ (found : Option Seated). option_map shown (option_map (λ (s : Seated). s.guard) found)) (slice_get_read seats (length seats) i seat refl within is)
+    )
+
+-- and where there is no seat
+pub guard_view-past : (seats : List Seated) (active : List ℕ) (i : ℕ) → length seats ≤ i → None ≡ guard_view (guards_in seats active) i
+guard_view-past seats active i past =
+    sym (ap (option_map shown) (slice_get-map (λ (s : Seated). s.guard) seats i)
+    ∙ ap (λ (found : Option Seated). option_map shown (option_map (λ (s : Seated). s.guard) found)) (slice_get_past seats i past))

@@ -1,8 +1,9 @@
-use Rattle.std.proofs.Common.{ℕ, ap, ◌∙◌, sym}
-use Rattle.cs_types.specs.Guards.{GuardState, with_guard}
+use Rattle.std.proofs.Common.{ℕ, length, refl, ap, ◌∙◌, sym}
+use Rattle.std.specs.Prelude.{not}
+use Rattle.cs_types.specs.Guards.{GuardState, with_guard, is_bench}
 use Rattle.ptrace_check.specs.Answers.{with_answer}
 use Rattle.ptrace_check.specs.Inside.{guards_in}
-use Rattle.ptrace_check.proofs.Seats.{guard_in, guards_in-set, AreKept-with_guard, place-with_answer, caps-set_alike}
+use Rattle.ptrace_check.proofs.Seats.{guard_in, guard_past, past_from, guards_in-set, with_guard-same, teach_answer-in, AreKept-with_guard, place-with_answer, caps-set_alike}
 use Rattle.ptrace_check.proofs.guards.Guards.teach.Goals as goal
 
 pub invariant_of-self-2 : goal.invariant_of-self-2
@@ -33,3 +34,25 @@ returns-clause-caps g c =
     let seats = c.self.inside.seats.items in
     rw (← c.self.view_is)
     (caps-set_alike seats c.args.index c.in-Some.seat.now c.teach.new.self c.in-Some.ensures.value c.teach.ensures.cap)
+
+pub invariant_of-self : goal.invariant_of-self
+invariant_of-self g c = c.self.invariant
+
+pub returns-in_default-clause-answer : goal.returns-in_default-clause-answer
+returns-in_default-clause-answer g c =
+    let seats = c.self.inside.seats in
+    let past = past_from c.args.index seats.len (length seats.items) seats.ok.0 c.in_default.ensures.variant.1 in
+    rw (← c.self.view_is) (ap (λ (guard : GuardState). not (is_bench guard.place)) (guard_past seats.items c.self.inside.active.items c.args.index past))
+
+pub returns-in_default-clause-taught : goal.returns-in_default-clause-taught
+returns-in_default-clause-taught g c =
+    rw (← c.self.view_is) (with_guard-same (guards_in c.self.inside.seats.items c.self.inside.active.items) c.args.index)
+
+pub returns-in_default-clause-caps : goal.returns-in_default-clause-caps
+returns-in_default-clause-caps g c = rw (← c.self.view_is) refl
+
+pub returns-clause-answer : goal.returns-clause-answer
+returns-clause-answer g c =
+    rw (← c.self.view_is)
+    (teach_answer-in c.self.inside.seats.items c.self.inside.active.items c.args.index c.in-Some.seat.now c.teach.result c.in-Some.ensures.item.3.0 c.in-Some.ensures.value
+    c.teach.ensures.answer)

@@ -1,5 +1,7 @@
-use Rattle.std.proofs.Common.{◌∙◌, sym}
-use Rattle.ptrace_check.proofs.Loads.{unload_drops, unload_keeps, unload_stays, unload_refused, caps-unload, AreKept-more}
+use Rattle.std.proofs.Common.{length, ap, ◌∙◌, sym}
+use Rattle.ptrace_check.specs.Answers.{unload_answer}
+use Rattle.ptrace_check.proofs.Seats.{guard_in, past_from}
+use Rattle.ptrace_check.proofs.Loads.{unload_drops, unload_keeps, unload_stays, unload_refused, caps-unload, unload_answer-past, unload-past, caps-past, AreKept-more}
 use Rattle.ptrace_check.proofs.guards.Guards.unload.Goals as goal
 
 pub invariant_of-self-in-Dropped : goal.invariant_of-self-in-Dropped
@@ -40,3 +42,34 @@ returns-in_default-answer-clause-caps g c =
     rw (← c.self.view_is)
     (caps-unload c.self.inside.seats.items c.self.inside.active.items c.args.index c.in-Some.seat.now c.unload-answer.new.self
     c.in-Some.ensures.item.3.0 c.in-Some.ensures.value c.unload-answer.ensures.cap)
+
+pub invariant_of-self : goal.invariant_of-self
+invariant_of-self g c = c.self.invariant
+
+pub returns-in_default-clause-answer : goal.returns-in_default-clause-answer
+returns-in_default-clause-answer g c =
+    let seats = c.self.inside.seats in
+    let past = past_from c.args.index seats.len (length seats.items) seats.ok.0 c.in_default.ensures.variant.1 in
+    rw (← c.self.view_is) (unload_answer-past seats.items c.self.inside.active.items c.args.index past)
+
+pub returns-in_default-clause-guards : goal.returns-in_default-clause-guards
+returns-in_default-clause-guards g c =
+    let seats = c.self.inside.seats in
+    let past = past_from c.args.index seats.len (length seats.items) seats.ok.0 c.in_default.ensures.variant.1 in
+    rw (← c.self.view_is) (unload-past seats.items c.self.inside.active.items c.args.index past)
+
+pub returns-in_default-clause-caps : goal.returns-in_default-clause-caps
+returns-in_default-clause-caps g c =
+    let seats = c.self.inside.seats in
+    let past = past_from c.args.index seats.len (length seats.items) seats.ok.0 c.in_default.ensures.variant.1 in
+    rw (← c.self.view_is) (caps-past seats.items c.args.index _ past)
+
+pub returns-in-Dropped-clause-answer : goal.returns-in-Dropped-clause-answer
+returns-in-Dropped-clause-answer g c =
+    let was = guard_in c.self.inside.seats.items c.self.inside.active.items c.args.index c.in-Some.seat.now c.in-Some.ensures.item.3.0 c.in-Some.ensures.value in
+    rw (← c.self.view_is) (c.unload-answer.ensures.answer ∙ ap unload_answer (sym was))
+
+pub returns-in_default-answer-clause-answer : goal.returns-in_default-answer-clause-answer
+returns-in_default-answer-clause-answer g c =
+    let was = guard_in c.self.inside.seats.items c.self.inside.active.items c.args.index c.in-Some.seat.now c.in-Some.ensures.item.3.0 c.in-Some.ensures.value in
+    rw (← c.self.view_is) (c.unload-answer.ensures.answer ∙ ap unload_answer (sym was))
