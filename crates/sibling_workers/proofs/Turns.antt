@@ -13,6 +13,7 @@ use Rattle.cs_types.specs.declared.scenario.Scenario.{Scenario}
 use Rattle.cs_types.specs.Scenario.{is_actor, script, IsEvent, IsStep, IsPlayable}
 use Rattle.cs_types.specs.History.{History, events_by}
 use Rattle.sibling_workers.specs.Scripts.{step_of, events_in}
+use Rattle.sibling_workers.specs.declared.turn.Turn.TheVariants.{Made, Finished}
 
 abbrev entry_with : Actor → Event → Reply → Entry
 entry_with actor event reply = record { actor = actor; event = event; reply = reply }
@@ -98,3 +99,13 @@ still_made scenario past now left rest made a before after taken whole =
     let none : events_in a left ≡ [] = nothing_follows (events_by a past) (events_in a left) (before ∙ sym whole) in
     let none_after : events_in a rest ≡ [] = second_empty (events_in a made) (events_in a rest) (sym none ∙ taken) in
     sym (append-nil (events_by a now)) ∙ ap (λ (es : List Event). events_by a now ++ es) (sym none_after) ∙ after
+
+-- a turn that made a step has not found the script made
+pub made_not_finished : (reply : Reply) → Made reply ≡ Finished → ⊥
+made_not_finished reply same = absurd cc
+
+-- an actor to whom no step is left has made its whole script
+pub whole_script : (scenario : Scenario) (history : History) (left : List Step) (actor : Actor) →
+    events_by actor history ++ events_in actor left ≡ script scenario actor → events_in actor left ≡ [] → events_by actor history ≡ script scenario actor
+whole_script scenario history left actor parts none =
+    sym (append-nil (events_by actor history)) ∙ ap (λ (es : List Event). events_by actor history ++ es) (sym none) ∙ parts
