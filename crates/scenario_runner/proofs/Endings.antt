@@ -13,7 +13,7 @@ use Rattle.cs_types.specs.Scenario.{IsValid}
 use Rattle.scenario_text.specs.Text.{scenario_text}
 use Rattle.scenario_text.specs.Faults.{lines_in, IsFirstBad}
 use Rattle.scenario_text.proofs.Scenarios.{none_of}
-use Rattle.scenario_text.specs.Entry.{FitsReply, IsMade, IsEntry}
+use Rattle.scenario_text.specs.Entry.{IsMade, IsEntry}
 use Rattle.std.proofs.lemmas.List.{append-nil}
 use Rattle.scenario_input.specs.declared.status.Status.{Status}
 use Rattle.scenario_input.specs.declared.status.Status.TheVariants as status
@@ -25,6 +25,7 @@ use Rattle.scenario_input.proofs.Completes.{stop_complete}
 use Rattle.cs_types.specs.Room.{Opening}
 use Rattle.cs_types.specs.History.{History}
 use Rattle.scenario_runner.specs.Outcomes.{opened_with, Outputs, BreaksOff}
+use Rattle.scenario_runner.specs.Written.{IsWritten, IsShort}
 use Rattle.scenario_runner.specs.Ends.{Used, Failed, IsFaultless, IsBadGuard, EndsAs}
 
 -- ---- what is known once the input was read, or was not
@@ -47,17 +48,6 @@ pub record HasRead {S T : Type 0} (caps : List ℕ) (source : Used S) (read : Re
 -- the step of each entry is one that is made
 abbrev pub AreMade : History → Type 0
 AreMade run = All (λ entry. IsMade entry.actor entry.event) run
-
--- what is known once the output of a run was written, or the sink failed
-pub record IsWritten {K : Type 0} (sink : Used K) (opening : Opening) (run : History) (ended : Status) : Type 0 where
-  pub either : (ended ≡ status.Done) ⊎ (ended ≡ status.WriteFault)
-  pub whole : ended ≡ status.Done → sink.bytes sink.after ≡ appended (sink.bytes sink.before) (output_text opening run)
-  pub prefix : WritesPrefix (sink.bytes sink.before) (output_text opening run) (sink.bytes sink.after)
-  pub one : (begun : Opening) (other : History) → All IsEntry other → All IsEntry run → output_text begun other ≡ output_text opening run → other ≡ run
-  pub numbers : ended ≡ status.Done → All (λ entry. FitsReply entry.reply) run
-  pub faultless : ended ≡ status.Done → IsFaultless sink
-  pub failed : ended ≡ status.WriteFault → Rose (sink.faults sink.before) (sink.faults sink.after)
-  pub few : sink.faults sink.before < 2 ^ 64 - 1
 
 not_both : {T E : Type 0} (read : Result T E) (value : T) (error : E) → read ≡ Ok value → read ≡ Err error → ⊥
 not_both read value error is other = cc
@@ -159,18 +149,13 @@ ends_write_fault IsOutcome caps source sink read value has is failed scenario br
           absurd (not_taught caps told scenario bad _ _ text valid breaks.reads one taught);
     }
 
--- what was written of a room is that of the opening that it has
-pub written_of : {K : Type 0} (sink : Used K) (opening now : Opening) (run : History) (ended : Status) → now ≡ opening → IsWritten sink now run ended →
-    IsWritten sink opening run ended
-written_of sink opening now run ended same written = subst (λ (o : Opening). IsWritten sink o run ended) same written
-
 -- The run was written, or the sink failed.
 pub ends_written : {S K T : Type 0} (IsOutcome : Opening → History → Type 0) (caps : List ℕ) (source : Used S) (sink : Used K) (read : Result T Stop) (value : T) (ended : Status) →
     HasRead caps source read → read ≡ Ok value → (scenario : Scenario) → first_bad caps scenario.teaches ≡ None →
     Reads scenario (source.bytes source.before) (source.bytes source.after) → (run : History) → IsOutcome (opened_with caps scenario) run →
-    AreMade run → IsWritten sink (opened_with caps scenario) run ended →
+    AreMade run → sink.faults sink.before < 2 ^ 64 - 1 → IsWritten sink (opened_with caps scenario) run ended →
     EndsAs IsOutcome caps source sink ended
-ends_written IsOutcome caps source sink read value ended has is scenario taught reads run outcome made written =
+ends_written IsOutcome caps source sink read value ended has is scenario taught reads run outcome made few written =
     elim written.either [
       | inl done ↦
           rw done
@@ -178,7 +163,7 @@ ends_written IsOutcome caps source sink read value ended has is scenario taught 
           (record { reads = reads; run = run; outcome = outcome; writes = written.whole done; spelled = spelled done }) taught)
       | inr fault ↦
           rw fault
-          (ends_write_fault IsOutcome caps source sink read value has is (omega (arith, written.failed fault, written.few)) scenario
+          (ends_write_fault IsOutcome caps source sink read value has is (omega (arith, written.failed fault, few)) scenario
           (record { reads = reads; run = run; outcome = outcome; writes = written.prefix }) taught)
     ] where
       spelled : ended ≡ status.Done → (begun : Opening) (other : History) → All IsEntry other →
@@ -232,3 +217,31 @@ ends_stopped IsOutcome caps source sink read stop has is same =
           subst (λ (told : Option (List ℕ)). IsBad line kind told (source.bytes source.after)) text (has.bad line kind (is ∙ ap Err e)) in
           let failed = λ (e : stop ≡ ReadFault). has.failed (is ∙ ap Err e) in
           stop_complete stop (source.bytes source.after) (source.faults source.before) (source.faults source.after) scenario long bad failed has.few valid fits calm_source
+
+-- An input that was read, and then there was no memory, is as one that was not read for lack of it.
+pub short_of_memory : {S T : Type 0} (caps : List ℕ) (source : Used S) (read : Result T Stop) (value : T) → HasRead caps source read → read ≡ Ok value → HasRead {T = T} caps source (Err OutOfMemory)
+short_of_memory caps source read value has is =
+    record {
+      faultless = λ _. has.faultless (not_both read value ReadFault is);
+      failed = λ e. absurd cc;
+      few = has.few;
+      too_long = neither_long (source.bytes source.before) _ read (Err OutOfMemory) value is refl has.too_long;
+      most = has.most;
+      bad = λ line kind e. absurd cc;
+      first = λ bytes line kind told fits bad calm. inr refl;
+      bad_guard = λ line kind e. absurd cc;
+    } where
+      neither_long : {T : Type 0} (told : Option (List ℕ)) (count : ℕ) (read short : Result T Stop) (value : T) → read ≡ Ok value → short ≡ Err OutOfMemory →
+          IfSome told (λ _. (read ≡ Err TooLong) ↔ (input_limit < count)) → IfSome told (λ _. (short ≡ Err TooLong) ↔ (input_limit < count))
+      neither_long None count read short value is memory long = tt
+      neither_long (Some left) count read short value is memory long = (
+        λ e. let wrong = sym memory ∙ e in absurd cc,
+        λ past. absurd (not_both read value TooLong is (long.1 past)),
+      )
+
+-- So it ends.
+pub ends_short : {S K T : Type 0} (IsOutcome : Opening → History → Type 0) (caps : List ℕ) (source : Used S) (sink : Used K) (read : Result T Stop) (value : T) (ended : Status) →
+    HasRead caps source read → read ≡ Ok value → IsShort sink ended → EndsAs IsOutcome caps source sink ended
+ends_short IsOutcome caps source sink read value ended has is short =
+    rw short.memory
+    (ends_stopped IsOutcome caps source sink (Err OutOfMemory) OutOfMemory (short_of_memory caps source read value has is) refl short.unwritten)

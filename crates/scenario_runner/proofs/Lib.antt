@@ -3,3 +3,4 @@ pub mod Playable
 pub mod Asked
 pub mod Drills
 mod Runs
+mod Outputs

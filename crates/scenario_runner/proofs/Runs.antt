@@ -12,7 +12,7 @@ use Rattle.cs_types.specs.declared.reply.Entry.{Entry}
 use Rattle.cs_types.specs.Room.{Opening, RoomState}
 use Rattle.cs_types.specs.Scenario.{IsEvent, IsMadeBy, IsStep, IsPlayable, is_actor}
 use Rattle.cs_types.specs.Accounting.{total_of}
-use Rattle.cs_types.specs.History.{History, AreEvents, IsLegal, moment_of, fold_of, events_by, file}
+use Rattle.cs_types.specs.History.{History, AreEvents, IsLegal, moment_of, fold_of, history_of, events_by, file}
 use Rattle.cs_types.specs.Drain.{IsDrained}
 use Rattle.cs_types.proofs.Accounts.{accounted-fold_of}
 use Rattle.cs_types.proofs.Foremost.{each_weaker}
@@ -229,10 +229,10 @@ keeps_laws opening shuffled run playable lawful shuffle drained =
       events_so_far past rest is =
           All-from_recursion P past (all_left P past rest (recursion_from_All P (past ++ rest) (subst (AreEvents opening) is events)))
 
--- the entries of the end follow the file of the scenario
-pub drained_file : (opening played : Opening) (past run : History) → played ≡ opening → past ≡ file opening → IsDrained played past run → IsDrained opening (file opening) run
-drained_file opening played past run same is drained =
-    subst (λ (o : Opening). IsDrained o (file opening) run) same (subst (λ (h : History). IsDrained played h run) is drained)
+-- the entries of the end follow the steps that were made
+pub drained_of : (opening played : Opening) (steps : List Step) (past run : History) → played ≡ opening → past ≡ history_of opening steps → IsDrained played past run → IsDrained opening (history_of opening steps) run
+drained_of opening played steps past run same is drained =
+    subst (λ (o : Opening). IsDrained o (history_of opening steps) run) same (subst (λ (h : History). IsDrained played h run) is drained)
 
 pub replay_history : (opening : Opening) (run : History) → IsPlayable opening.scenario → IsDrained opening (file opening) run → IsReplayHistory opening run
 replay_history opening run playable drained =

@@ -1,2 +1,3 @@
 pub mod Outcomes
 pub mod Ends
+pub mod Written

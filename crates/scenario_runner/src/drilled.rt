@@ -1,32 +1,65 @@
 //! The command `drill`, once its words are read.
 
-ghost use Rattle.std.specs.Prelude.{◌≡◌, ◌-◌, ◌^◌, ◌<◌, IfOk};
-ghost use Rattle.cs_types.specs.History.{file, history_of};
-ghost use Rattle.cs_types.specs.Drain.{IsDrained};
-ghost use Rattle.cs_types.specs.Scenario.{IsValid};
+ghost use Rattle.std.specs.Prelude.{◌≡◌, ◌⊎◌, ◌+◌, ◌-◌, ◌*◌, ◌^◌, ◌<◌, ◌≤◌, [], length, All, IfOk};
+ghost use Rattle.cs_types.specs.Scenario.{IsEvent, IsValid};
+ghost use Rattle.cs_outside.specs.Device.{Rose, appended, WritesPrefix};
+ghost use Rattle.room_drill.specs.Drill.{drill_scenario};
+ghost use Rattle.room_drill.specs.Summary.{summary_text};
 ghost use Rattle.scenario_runner.specs.Outcomes.{drill_opening};
 ghost use Rattle.scenario_runner.specs.Ends.{EndsAsDrill};
+ghost use Rattle.scenario_runner.specs.Written.{WritesDrill};
 
 use core_state::CoreState;
 use cs_outside::{NullGuard, Sink};
-use cs_types::{OutOfMemory, Room};
+use cs_types::{OutOfMemory, Room, Scenario, Step};
 use ptrace_check::Guards;
 use room_drill::{generate, summary};
 use scenario_input::{Status, play};
 use std::alloc::Global;
 
-/// The room of the seed's scenario after its steps and the entries of the end. No guard is handed in.
-fn drilled_room(alloc: Global, seed: u32) -> Result<CoreState<NullGuard>, OutOfMemory>
-    ensures opening { IfOk result (λ room. room.opening ≡ drill_opening seed) }
-    ensures valid { IfOk result (λ room. IsValid room.opening.scenario) }
-    ensures drained { IfOk result (λ room. IsDrained room.opening (file room.opening) (history_of room.opening room.steps)) }
+/// The scenario of the seed, and the room of it before its first step. No guard is handed in.
+fn opened(alloc: Global, seed: u32) -> Result<(Scenario, CoreState<NullGuard>), OutOfMemory>
+    ensures scenario { IfOk result (λ opened. opened.0 ≡ drill_scenario seed) }
+    ensures valid { IfOk result (λ opened. IsValid opened.0) }
+    ensures opening { IfOk result (λ opened. opened.1.opening ≡ drill_opening seed) }
+    ensures empty { IfOk result (λ opened. opened.1.steps ≡ []) }
+    ensures spare { IfOk result (λ opened.
+        opened.1.spare ≡ length opened.0.steps + opened.0.siblings * opened.0.siblings) }
 {
     let scenario = generate(alloc, seed)?;
     let guards = Guards::of(alloc, Vec::new(alloc))?;
-    let mut room = CoreState::start(alloc, &scenario, guards)?;
-    play(&mut room, scenario.steps.items());
+    let room = CoreState::start(alloc, &scenario, guards)?;
+    Ok((scenario, room))
+}
+
+/// Writes the summary and the report, and says how that ended.
+fn write_summary<R: Room, K: Sink>(seed: u32, room: &R, sink: &mut K) -> Status
+    ensures either { (result ≡ Status.Done) ⊎ (result ≡ Status.WriteFault) }
+    ensures whole { result ≡ Status.Done → K.written sink.new ≡ appended (K.written sink.old) (summary_text seed (R.opening room.now) (R.history room.now)) }
+    ensures prefix { WritesPrefix (K.written sink.old) (summary_text seed (R.opening room.now) (R.history room.now)) (K.written sink.new) }
+    ensures faultless { result ≡ Status.Done → K.faults sink.new ≡ K.faults sink.old }
+    ensures failed { result ≡ Status.WriteFault → Rose (K.faults sink.old) (K.faults sink.new) }
+{
+    match summary(seed, room, sink) {
+        Ok(()) => Status::Done,
+        Err(_) => Status::WriteFault,
+    }
+}
+
+/// Makes the steps, in their order, in a room that has made none, and then the entries of the end, and writes the summary
+/// and the report.
+fn write_drill<R: Room, K: Sink>(seed: u32, mut room: R, steps: &[Step], sink: &mut K) -> Status
+    requires empty { R.history room ≡ [] }
+    requires spare { length steps.now + (R.opening room).scenario.siblings * (R.opening room).scenario.siblings
+        ≤ R.spare room }
+    requires events { All (λ step. IsEvent (R.opening room).scenario.siblings step.event) steps.now }
+
+    ensures { WritesDrill seed (R.opening room) steps.now
+        (record { bytes = K.written; faults = K.faults; before = sink.old; after = sink.new }) result }
+{
+    play(&mut room, steps);
     room.drain();
-    Ok(room)
+    write_summary(seed, &room, sink)
 }
 
 /// Plays the seed's scenario in the order of its steps, and then the entries of the end, and writes the summary and
@@ -35,11 +68,8 @@ pub(crate) fn drilled<K: Sink>(alloc: Global, seed: u32, sink: &mut K) -> Status
     requires sink { K.faults sink.old < 2 ^ 64 - 1 }
     ensures { EndsAsDrill seed (record { bytes = K.written; faults = K.faults; before = sink.old; after = sink.new }) result }
 {
-    let Ok(room) = drilled_room(alloc, seed) else {
-        return Status::OutOfMemory;
-    };
-    match summary(seed, &room, sink) {
-        Ok(()) => Status::Done,
-        Err(_) => Status::WriteFault,
+    match opened(alloc, seed) {
+        Ok((scenario, room)) => write_drill(seed, room, scenario.steps.items(), sink),
+        Err(_) => Status::OutOfMemory,
     }
 }

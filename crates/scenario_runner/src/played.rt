@@ -2,6 +2,7 @@
 
 ghost use Rattle.std.specs.Prelude.{◌≡◌, ◌≢◌, ◌⊎◌, ◌↔◌, ◌+◌, ◌-◌, ◌*◌, ◌^◌, ◌<◌, ◌≤◌, [], length, map, All, Err, None, IfOk, IfSome, vec_len};
 ghost use Rattle.cs_types.specs.Room.{Opening};
+ghost use Rattle.cs_types.specs.Scenario.{IsEvent, IsPlayable};
 ghost use Rattle.cs_types.specs.History.{History};
 ghost use Rattle.cs_outside.specs.Device.{Rose, appended, WritesPrefix};
 ghost use Rattle.scenario_text.specs.Entry.{FitsReply, IsEntry};
@@ -11,11 +12,12 @@ ghost use Rattle.scenario_input.specs.Input.{Reads, IsBad, input_limit, count_re
 ghost use Rattle.scenario_input.specs.Teaching.{first_bad};
 ghost use Rattle.scenario_runner.specs.Outcomes.{opened_with};
 ghost use Rattle.scenario_runner.specs.Ends.{IsBadGuard, EndsAsReplay, EndsAsRace};
+ghost use Rattle.scenario_runner.specs.Written.{WritesReplay, MayWriteRace};
 
 use core_events::CoreRoom;
 use core_lanes::SiblingQueue;
 use cs_outside::{Gate, Guard, Sink, Source};
-use cs_types::{Room, Scenario};
+use cs_types::{Room, Scenario, Step};
 use room_report::output;
 use scenario_input::{Status, Stop, play, read_scenario, taught};
 use std::alloc::Global;
@@ -83,6 +85,22 @@ fn write_output<R: Room, K: Sink>(room: &R, sink: &mut K) -> Status
     }
 }
 
+/// Makes the steps, in their order, in a room that has made none, and then the entries of the end, and writes the line of
+/// each entry and the report.
+fn write_replay<R: Room, K: Sink>(mut room: R, steps: &[Step], sink: &mut K) -> Status
+    requires empty { R.history room ≡ [] }
+    requires spare { length steps.now + (R.opening room).scenario.siblings * (R.opening room).scenario.siblings
+        ≤ R.spare room }
+    requires events { All (λ step. IsEvent (R.opening room).scenario.siblings step.event) steps.now }
+
+    ensures { WritesReplay (R.opening room) steps.now
+        (record { bytes = K.written; faults = K.faults; before = sink.old; after = sink.new }) result }
+{
+    play(&mut room, steps);
+    room.drain();
+    write_output(&room, sink)
+}
+
 /// Reads a scenario to its end, makes its steps in the order of their lines and then the entries of the end, and
 /// writes the line of each entry and the report.
 pub(crate) fn replayed<Q: SiblingQueue, S: Source, K: Sink, G: Guard>(
@@ -102,12 +120,31 @@ pub(crate) fn replayed<Q: SiblingQueue, S: Source, K: Sink, G: Guard>(
         (record { bytes = K.written; faults = K.faults; before = sink.old; after = sink.new }) result }
 {
     match opened::<Q, S, G>(alloc, source, guards) {
-        Ok((scenario, mut room)) => {
-            play(&mut room, scenario.steps.items());
-            room.drain();
-            write_output(&room, sink)
-        }
+        Ok((scenario, room)) => write_replay(room, scenario.steps.items(), sink),
         Err(stop) => Status::from(stop),
+    }
+}
+
+/// Plays the scenario in the room, each actor in a worker of its own that passes the gate before each of its turns, makes
+/// the entries of the end, and writes what a replay writes. The scenario is the room's, which has made no step.
+fn write_race<R: Room + Send, T: Threads + Wait + AllocGlobal + Sync, K: Sink, P: Gate + Sync>(
+    rt: &T,
+    room: R,
+    scenario: &Scenario,
+    sink: &mut K,
+    gate: &P,
+) -> Status
+    requires playable { IsPlayable scenario.now }
+    requires scenario { (R.opening room).scenario ≡ scenario.now }
+    requires empty { R.history room ≡ [] }
+    requires spare { length scenario.now.steps + scenario.now.siblings * scenario.now.siblings ≤ R.spare room }
+
+    ensures { MayWriteRace (R.opening room)
+        (record { bytes = K.written; faults = K.faults; before = sink.old; after = sink.new }) result }
+{
+    match sibling_workers::race(rt, room, scenario, gate) {
+        Ok(raced) => write_output(&raced, sink),
+        Err(_) => Status::OutOfMemory,
     }
 }
 
@@ -133,10 +170,7 @@ pub(crate) fn raced<
         (record { bytes = K.written; faults = K.faults; before = sink.old; after = sink.new }) result }
 {
     match opened::<Q, S, G>(rt.alloc(), source, guards) {
-        Ok((scenario, room)) => match sibling_workers::race(rt, room, &scenario, gate) {
-            Ok(raced) => write_output(&raced, sink),
-            Err(_) => Status::OutOfMemory,
-        },
+        Ok((scenario, room)) => write_race(rt, room, &scenario, sink, gate),
         Err(stop) => Status::from(stop),
     }
 }

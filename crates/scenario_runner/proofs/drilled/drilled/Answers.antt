@@ -1,14 +1,14 @@
-use Rattle.std.proofs.Common.{arith}
-use Rattle.cs_types.specs.History.{history_of}
-use Rattle.scenario_runner.proofs.Drills.{drill_done, drill_broken}
+use Rattle.std.proofs.Common.{◌∙◌, ap, subst, refl}
+use Rattle.cs_types.specs.declared.scenario.Scenario.{Scenario}
+use Rattle.cs_types.specs.Scenario.{IsValid}
+use Rattle.scenario_runner.proofs.Drills.{ends_drilled, ends_undrilled}
 use Rattle.scenario_runner.proofs.drilled.drilled.Goals as goal
 
-pub returns-in-Ok-summary : goal.returns-in-Ok-summary
-returns-in-Ok-summary g c =
-    drill_done c.args.seed _ c.in-Ok.room.opening (history_of c.in-Ok.room.opening c.in-Ok.room.steps) c.in-Ok.ensures.opening c.in-Ok.ensures.valid c.in-Ok.ensures.drained
-    c.in-Ok-summary.ensures.ok c.in-Ok-summary.ensures.faultless
+pub returns-in-Ok : goal.returns-in-Ok
+returns-in-Ok g c =
+    ends_drilled c.args.seed _ c.in-Ok.room.opening c.items.result.now c.write_drill.result c.in-Ok.ensures.opening
+    (subst IsValid c.in-Ok.ensures.scenario c.in-Ok.ensures.valid) (c.items.ensures ∙ ap (λ (s : Scenario). s.steps) c.in-Ok.ensures.scenario)
+    c.requires.sink c.write_drill.ensures
 
-pub returns : goal.returns
-returns g c =
-    drill_broken c.args.seed _ c.in-Ok.room.opening (history_of c.in-Ok.room.opening c.in-Ok.room.steps) c.in-Ok.ensures.opening c.in-Ok.ensures.valid c.in-Ok.ensures.drained
-    c.summary.ensures.prefix (omega (arith, c.in-Err.ensures.failed, c.requires.sink))
+pub returns-in-Err : goal.returns-in-Err
+returns-in-Err g c = ends_undrilled c.args.seed _ refl
