@@ -2,24 +2,27 @@
 use Rattle.std.proofs.Common.{◌≡◌, ◌∙◌, sym, refl, ℕ, ◌-◌, ◌^◌, ◌<◌, List, subst, inl, inr, arith}
 use Rattle.std.specs.Prelude.{◌⊎◌, ◌↔◌, ◌≤◌, Option, Some, None, IfSome, Result, Ok, Err}
 use Rattle.cs_types.specs.declared.event.Step.{Step}
+use Rattle.cs_types.specs.declared.scenario.Scenario.{Scenario}
 use Rattle.cs_types.specs.Room.{Opening}
-use Rattle.cs_types.specs.History.{History, file, history_of}
+use Rattle.cs_types.specs.History.{file, history_of}
 use Rattle.cs_types.specs.Drain.{IsDrained}
-use Rattle.cs_outside.specs.Device.{Rose, appended, WritesPrefix}
+use Rattle.cs_types.proofs.Drains.{drained_alone}
+use Rattle.cs_outside.specs.Device.{Rose}
 use Rattle.run_summary.specs.Summaries.{Summary}
-use Rattle.times_report.specs.Summary.{summary_text}
 use Rattle.scenario_input.specs.declared.stop.Stop.{Stop}
 use Rattle.scenario_input.specs.declared.stop.Stop.TheVariants.{TooLong}
 use Rattle.scenario_input.specs.declared.stop.Stop.TheVariants as stops
-use Rattle.scenario_input.specs.Input.{input_limit}
+use Rattle.scenario_input.specs.Input.{Reads, input_limit}
+use Rattle.scenario_input.specs.Teaching.{first_bad}
 use Rattle.scenario_input.specs.declared.status.Status.{Status}
 use Rattle.scenario_input.specs.declared.status.Status.TheVariants as status
 use Rattle.scenario_input.specs.Stop.{status_of}
 use Rattle.scenario_input.proofs.Stops.{stop_not_done, stop_not_words, stop_not_write}
-use Rattle.scenario_runner.specs.Outcomes.{IsReplayHistory}
+use Rattle.scenario_runner.specs.Outcomes.{opened_with, IsReplayHistory}
 use Rattle.scenario_runner.specs.Ends.{Used, IsFaultless}
-use Rattle.scenario_runner.proofs.Endings.{HasRead, ends_stopped}
+use Rattle.scenario_runner.proofs.Endings.{HasRead, ends_stopped, ends_short}
 use Rattle.view_runner.specs.Ends.{IsTimed, EndsAsSummary, EndsAsShown}
+use Rattle.view_runner.specs.Written.{IsWritten, WritesSummary, MayWriteSummary}
 
 -- ---- what was read
 
@@ -27,42 +30,45 @@ not_both : {T E : Type 0} (read : Result T E) (value : T) (error : E) → read �
 not_both read value error is other = cc
 
 -- what was read as a scenario is no longer than an input may be
-pub fits_where : {T : Type 0} (told : Option (List ℕ)) (count : ℕ) (read : Result T Stop) (value : T) → read ≡ Ok value →
+fits_where : {T : Type 0} (told : Option (List ℕ)) (count : ℕ) (read : Result T Stop) (value : T) → read ≡ Ok value →
     IfSome told (λ _. (read ≡ Err TooLong) ↔ (input_limit < count)) → IfSome told (λ _. count ≤ input_limit)
 fits_where None count read value is long = tt
 fits_where (Some left) count read value is long = omega (arith, λ (past : input_limit < count). not_both read value TooLong is (long.1 past))
 
--- and so the answer is not that it is too long
-pub not_long : {T U : Type 0} (told : Option (List ℕ)) (count : ℕ) (read : Result T Stop) (value : T) (made : U) → read ≡ Ok value →
-    IfSome told (λ _. (read ≡ Err TooLong) ↔ (input_limit < count)) → IfSome told (λ _. (Ok made ≡ Err TooLong) ↔ (input_limit < count))
-not_long None count read value made is long = tt
-not_long (Some left) count read value made is long = (λ e. absurd cc, λ past. absurd (not_both read value TooLong is (long.1 past)))
-
--- the entries of the end follow the file of the scenario
-pub drained_file : (played opening : Opening) (steps : List Step) (run : History) → played ≡ opening → steps ≡ opening.scenario.steps →
-    IsDrained played (history_of played steps) run → IsDrained opening (file opening) run
-drained_file played opening steps run same is drained =
-    subst (λ (s : List Step). IsDrained opening (history_of opening s) run) is
-    (subst (λ (o : Opening). IsDrained o (history_of o steps) run) same drained)
-
 -- ---- how it ends
 
--- what is known once the summary was written, or the sink failed
-pub record IsWritten {K : Type 0} (sink : Used K) (summary : Summary) (ended : Status) : Type 0 where
-  pub either : (ended ≡ status.Done) ⊎ (ended ≡ status.WriteFault)
-  pub whole : ended ≡ status.Done → sink.bytes sink.after ≡ appended (sink.bytes sink.before) (summary_text summary)
-  pub prefix : WritesPrefix (sink.bytes sink.before) (summary_text summary) (sink.bytes sink.after)
-  pub faultless : ended ≡ status.Done → IsFaultless sink
-  pub failed : ended ≡ status.WriteFault → Rose (sink.faults sink.before) (sink.faults sink.after)
-  pub few : sink.faults sink.before < 2 ^ 64 - 1
+-- what is known of the scenario that was read, and of what a room of it begins with
+pub record IsOpened {S : Type 0} (caps : List ℕ) (source : Used S) (scenario : Scenario) (opening : Opening) : Type 0 where
+  pub reads : Reads scenario (source.bytes source.before) (source.bytes source.after)
+  pub taught : first_bad caps scenario.teaches ≡ None
+  pub begins : opening ≡ opened_with caps scenario
+
+-- what was read of the input, and the summary of its run
+is_timed : {S K T : Type 0} (caps : List ℕ) (source : Used S) (sink : Used K) (read : Result T Stop) (value : T) (scenario : Scenario) (steps : List Step) (ended : Status) →
+    HasRead caps source read → read ≡ Ok value → IsOpened caps source scenario (opened_with caps scenario) → steps ≡ scenario.steps →
+    (writes : WritesSummary (opened_with caps scenario) steps sink ended) → IsTimed caps source writes.summary
+is_timed caps source sink read value scenario steps ended has is opened all writes =
+    let of = opened_with caps scenario in
+    let drained = subst (λ (s : List Step). IsDrained of (history_of of s) writes.run) all writes.drained in
+    record {
+      scenario = scenario;
+      reads = opened.reads;
+      fits = fits_where (source.bytes source.before) _ read value is has.too_long;
+      taught = opened.taught;
+      faultless = has.faultless (not_both read value stops.ReadFault is);
+      run = writes.run;
+      drained = drained;
+      alone = λ other too. drained_alone of (file of) other writes.run too drained;
+      of_run = writes.of_run;
+    }
 
 -- the summary was written, or the sink failed
-pub ends_written : {S K : Type 0} (caps : List ℕ) (source : Used S) (sink : Used K) (summary : Summary) (ended : Status) → IsTimed caps source summary → IsWritten sink summary ended →
-    EndsAsSummary caps source sink ended
-ends_written caps source sink summary ended timed written =
+ends_written : {S K : Type 0} (caps : List ℕ) (source : Used S) (sink : Used K) (summary : Summary) (ended : Status) → IsTimed caps source summary → sink.faults sink.before < 2 ^ 64 - 1 →
+    IsWritten sink summary ended → EndsAsSummary caps source sink ended
+ends_written caps source sink summary ended timed few written =
     record {
       done = λ e. (written.faultless e, (summary, timed, written.whole e));
-      write_fault = λ e. (omega (arith, written.failed e, written.few), (summary, timed, written.prefix));
+      write_fault = λ e. (omega (arith, written.failed e, few), (summary, timed, written.prefix));
       good_words = λ bad. elim written.either [
         | inl done ↦ let wrong : status.BadWords ≡ status.Done = sym bad ∙ done in absurd cc
         | inr fault ↦ let wrong : status.BadWords ≡ status.WriteFault = sym bad ∙ fault in absurd cc
@@ -72,6 +78,23 @@ ends_written caps source sink summary ended timed written =
         | inr fault ↦ absurd (not_fault fault)
       ];
     }
+
+-- the input was played, or there was no memory for that
+pub ends_summarized : {S K T : Type 0} (caps : List ℕ) (source : Used S) (sink : Used K) (read : Result T Stop) (value : T) (scenario : Scenario) (opening : Opening) (steps : List Step) (ended : Status) →
+    HasRead caps source read → read ≡ Ok value → IsOpened caps source scenario opening → steps ≡ scenario.steps → sink.faults sink.before < 2 ^ 64 - 1 →
+    MayWriteSummary opening steps sink ended → EndsAsSummary caps source sink ended
+ends_summarized caps source sink read value scenario opening steps ended has is opened all few (inl writes) =
+    let told = subst (λ (o : Opening). WritesSummary o steps sink ended) opened.begins writes in
+    let of = subst (IsOpened caps source scenario) opened.begins opened in
+    ends_written caps source sink told.summary ended (is_timed caps source sink read value scenario steps ended has is of all told) few told.written
+ends_summarized caps source sink read value scenario opening steps ended has is opened all few (inr short) =
+    rw short.memory
+    (record {
+      done = λ e. absurd cc;
+      write_fault = λ e. absurd cc;
+      good_words = λ e. absurd cc;
+      stopped = λ _ _. ends_short IsReplayHistory caps source sink read value status.OutOfMemory has is (record { memory = refl; unwritten = short.unwritten });
+    })
 
 -- the input was not played
 pub ends_refused : {S K T : Type 0} (caps : List ℕ) (source : Used S) (sink : Used K) (read : Result T Stop) (stop : Stop) →
@@ -85,27 +108,6 @@ ends_refused caps source sink read stop has is same =
     }
 
 -- ---- how it ends that shows a run
-
--- An input that was read, and then there was no memory, is as one that was not read for lack of it.
-short_of_memory : {S T : Type 0} (caps : List ℕ) (source : Used S) (read : Result T Stop) (value : T) → HasRead caps source read → read ≡ Ok value → HasRead {T = T} caps source (Err stops.OutOfMemory)
-short_of_memory caps source read value has is =
-    record {
-      faultless = λ _. has.faultless (not_both read value stops.ReadFault is);
-      failed = λ e. absurd cc;
-      few = has.few;
-      too_long = neither_long (source.bytes source.before) _ read (Err stops.OutOfMemory) value is refl has.too_long;
-      most = has.most;
-      bad = λ line kind e. absurd cc;
-      first = λ bytes line kind told fits bad calm. inr refl;
-      bad_guard = λ line kind e. absurd cc;
-    } where
-      neither_long : {T : Type 0} (told : Option (List ℕ)) (count : ℕ) (read short : Result T Stop) (value : T) → read ≡ Ok value → short ≡ Err stops.OutOfMemory →
-          IfSome told (λ _. (read ≡ Err TooLong) ↔ (input_limit < count)) → IfSome told (λ _. (short ≡ Err TooLong) ↔ (input_limit < count))
-      neither_long None count read short value is memory long = tt
-      neither_long (Some left) count read short value is memory long = (
-        λ e. let wrong = sym memory ∙ e in absurd cc,
-        λ past. absurd (not_both read value TooLong is (long.1 past)),
-      )
 
 -- what is known once it was written what the run shows, or the sink failed, or there was no memory
 pub record IsShown {K : Type 0} (sink : Used K) (ended : Status) : Type 0 where
@@ -131,8 +133,7 @@ ends_shown caps source sink read value ended has is shown =
         | inl done ↦ absurd (not_done done)
         | inr (inl fault) ↦ absurd (not_fault fault)
         | inr (inr memory) ↦
-            rw memory
-            (ends_stopped IsReplayHistory caps source sink (Err stops.OutOfMemory) stops.OutOfMemory (short_of_memory caps source read value has is) refl (shown.unwritten memory))
+            ends_short IsReplayHistory caps source sink read value ended has is (record { memory = memory; unwritten = shown.unwritten memory })
       ];
     }
 

@@ -85,20 +85,20 @@ fn write_form<K: Sink>(alloc: Global, form: Form, run: &RunStretches, sink: &mut
 fn write_run<R: Room, K: Sink>(
     alloc: Global,
     form: Form,
-    room: &mut R,
+    mut room: R,
     steps: &[Step],
     sink: &mut K,
 ) -> Status
-    requires spare { length steps.now + (R.opening room.old).scenario.siblings * (R.opening room.old).scenario.siblings
-        ≤ R.spare room.old }
-    requires events { All (λ step. IsEvent (R.opening room.old).scenario.siblings step.event) steps.now }
+    requires spare { length steps.now + (R.opening room).scenario.siblings * (R.opening room).scenario.siblings
+        ≤ R.spare room }
+    requires events { All (λ step. IsEvent (R.opening room).scenario.siblings step.event) steps.now }
 
     ensures either { (result ≡ Status.Done) ⊎ ((result ≡ Status.WriteFault) ⊎ (result ≡ Status.OutOfMemory)) }
     ensures faultless { result ≡ Status.Done → K.faults sink.new ≡ K.faults sink.old }
     ensures failed { result ≡ Status.WriteFault → Rose (K.faults sink.old) (K.faults sink.new) }
     ensures unwritten { result ≡ Status.OutOfMemory → sink.new ≡ sink.old }
 {
-    match recorded_run(alloc, room, steps) {
+    match recorded_run(alloc, &mut room, steps) {
         Ok(run) => write_form(alloc, form, &run, sink),
         Err(_) => Status::OutOfMemory,
     }
@@ -124,9 +124,7 @@ pub(crate) fn shown<Q: SiblingQueue, S: Source, K: Sink, G: Guard>(
         (record { bytes = K.written; faults = K.faults; before = sink.old; after = sink.new }) result }
 {
     match opened::<Q, S, G>(alloc, source, guards) {
-        Ok((scenario, mut room)) => {
-            write_run(alloc, form, &mut room, scenario.steps.items(), sink)
-        }
+        Ok((scenario, room)) => write_run(alloc, form, room, scenario.steps.items(), sink),
         Err(stop) => Status::from(stop),
     }
 }

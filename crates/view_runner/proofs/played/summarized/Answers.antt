@@ -1,31 +1,34 @@
 use Rattle.std.proofs.Common.{refl}
-use Rattle.view_runner.proofs.Endings.{ends_written, ends_refused}
+use Rattle.view_runner.proofs.Endings.{ends_summarized, ends_refused}
 use Rattle.view_runner.proofs.played.summarized.Goals as goal
 
 pub returns-in-Ok : goal.returns-in-Ok
 returns-in-Ok g c =
-    ends_written _ _ _ c.in-Ok.told c.write_summary.result c.in-Ok.ensures.timed
+    ends_summarized _ _ _ c.opened.result (c.in-Ok.scenario, c.in-Ok.room) c.in-Ok.scenario c.in-Ok.room.opening c.items.result.now c.write_run.result
     (record {
-      either = c.write_summary.ensures.either;
-      whole = c.write_summary.ensures.whole;
-      prefix = c.write_summary.ensures.prefix;
-      faultless = c.write_summary.ensures.faultless;
-      failed = c.write_summary.ensures.failed;
-      few = c.requires.sink;
+      faultless = c.opened.ensures.faultless;
+      failed = c.opened.ensures.failed;
+      few = c.requires.source;
+      too_long = c.opened.ensures.too_long;
+      most = c.opened.ensures.most;
+      bad = c.opened.ensures.bad;
+      first = c.opened.ensures.first;
+      bad_guard = c.opened.ensures.bad_guard;
     })
+    c.in-Ok.is (record { reads = c.in-Ok.ensures.reads; taught = c.in-Ok.ensures.taught; begins = c.in-Ok.ensures.opening }) c.items.ensures c.requires.sink c.write_run.ensures
 
 pub returns-in-Err : goal.returns-in-Err
 returns-in-Err g c =
     rw c.from.ensures
-    (ends_refused _ _ _ c.timed.result c.in-Err.stop
+    (ends_refused _ _ _ c.opened.result c.in-Err.stop
     (record {
-      faultless = c.timed.ensures.faultless;
-      failed = c.timed.ensures.failed;
+      faultless = c.opened.ensures.faultless;
+      failed = c.opened.ensures.failed;
       few = c.requires.source;
-      too_long = c.timed.ensures.too_long;
-      most = c.timed.ensures.most;
-      bad = c.timed.ensures.bad;
-      first = c.timed.ensures.first;
-      bad_guard = c.timed.ensures.bad_guard;
+      too_long = c.opened.ensures.too_long;
+      most = c.opened.ensures.most;
+      bad = c.opened.ensures.bad;
+      first = c.opened.ensures.first;
+      bad_guard = c.opened.ensures.bad_guard;
     })
     c.in-Err.is refl)

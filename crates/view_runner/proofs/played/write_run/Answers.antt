@@ -1,0 +1,25 @@
+use Rattle.std.proofs.Common.{inl, inr, refl, subst}
+use Rattle.cs_types.specs.Room.{Opening}
+use Rattle.run_summary.specs.Summaries.{IsSummaryOf}
+use Rattle.view_runner.proofs.played.write_run.Goals as goal
+
+pub returns-in-Ok : goal.returns-in-Ok
+returns-in-Ok g c =
+    let run = g.R.Room.history c.summarized_run.new.room in
+    inl
+    (record {
+      run = run;
+      drained = c.in-Ok.ensures.history;
+      summary = c.in-Ok.told;
+      of_run = subst (λ (o : Opening). IsSummaryOf o run c.in-Ok.told) c.summarized_run.ensures.opening c.in-Ok.ensures.summary;
+      written = record {
+        either = c.write_summary.ensures.either;
+        whole = c.write_summary.ensures.whole;
+        prefix = c.write_summary.ensures.prefix;
+        faultless = c.write_summary.ensures.faultless;
+        failed = c.write_summary.ensures.failed;
+      };
+    })
+
+pub returns : goal.returns
+returns g c = inr (record { memory = refl; unwritten = refl })
