@@ -4,7 +4,7 @@ use Rattle.std.specs.Prelude.{None, Result, Ok}
 use Rattle.cs_types.specs.declared.event.Step.{Step}
 use Rattle.cs_types.specs.declared.scenario.Scenario.{Scenario}
 use Rattle.cs_types.specs.Room.{Opening}
-use Rattle.cs_types.specs.History.{file, history_of}
+use Rattle.cs_types.specs.History.{history_of}
 use Rattle.cs_types.specs.Drain.{IsDrained}
 use Rattle.scenario_input.specs.declared.stop.Stop.{Stop}
 use Rattle.scenario_input.specs.declared.status.Status.{Status}
