@@ -1,10 +1,11 @@
 //! The queue with trees: each question is answered from the ordered trees of a run queue, and the table tells the
 //! task of a pid.
 
-ghost use Rattle.std.specs.Prelude.{◌≡◌, ◌≤◌, [], map};
+ghost use Rattle.std.specs.Prelude.{◌≡◌, ◌≤◌, [], map, IfOk};
 ghost use Rattle.std.specs.FinMap.{entries, len};
 ghost use Rattle.core_lanes.specs.Queued.{AreTold};
 ghost use Rattle.run_queue.specs.Classes.{stamped};
+ghost use Rattle.tree_queue.specs.Held.{Holds};
 
 use crate::arrivals::Arrivals;
 use crate::first::{enter, find_first, find_first_with, give_cookie, is_of};
@@ -42,8 +43,7 @@ impl SiblingQueue for TreeQueue {
 
     fn with_capacity(alloc: Global, most: u16) -> Result<TreeQueue, OutOfMemory> {
         let arrivals = Arrivals::with_capacity(alloc, most)?;
-        let mut run = RunQueue::empty(alloc);
-        run.reserve(u32::from(most))?;
+        let run = run_with_room(alloc, most)?;
         Ok(TreeQueue {
             run,
             first: None,
@@ -193,6 +193,15 @@ impl SiblingQueue for TreeQueue {
     }
 
     ghost rises = { λ few many le. mul-le-mul_left 4 (most_comparisons-le few many le) };
+}
+
+/// A run queue with no task, which can take `most`.
+fn run_with_room(alloc: Global, most: u16) -> Result<RunQueue, OutOfMemory>
+    ensures { IfOk result (λ run. Holds run most []) }
+{
+    let mut run = RunQueue::empty(alloc);
+    run.reserve(u32::from(most))?;
+    Ok(run)
 }
 
 /// Tells the tasks of the trees by rising stamp, in a list that has none yet. It is seldom called, since most tasks
