@@ -1,8 +1,9 @@
-use Rattle.std.proofs.Common.{rules, ◌≡◌, None, ◌∙◌, arith}
+use Rattle.std.proofs.Common.{rules, ◌≡◌, ◌+◌, max, None, sym, ap, ◌∙◌, arith}
 use Rattle.std.specs.FinMap.{find}
 use Rattle.order_tree.specs.Order.{key_cmp}
-use Rattle.order_tree.proofs.Placed.{below, not_below_root, sides_shorter, left-free, right-free, IsNode-from, IsPut-left, IsPut-right, sides-left, sides-right, leans-left, leans-right, tilts-left, tilts-right}
+use Rattle.order_tree.proofs.Placed.{below, not_below_root, sides_shorter, left-free, right-free, IsNode-from, IsPut-left, IsPut-right, sides-left, sides-right, leans-left, leans-right, tilts-left, tilts-right, many_of, many-balanced}
 use Rattle.order_tree.proofs.Forks.{IsEven-from}
+use Rattle.order_tree.proofs.Heights.{no_more, raised-left, raised-right, counted-left, counted-right}
 use Rattle.order_tree.proofs.tree.Tree.+insert.Goals as goal
 
 -- ---- the left side
@@ -94,3 +95,75 @@ returns-clause-entries g t c =
     let at = IsNode-from c.self.view_is c.self.invariant c.in-Some.is c.deref_mut.ensures.value in
     let more = not_below_root at c.deref.ensures c.is_below.ensures c.if-is_below.false c.requires.free in
     c.lean_right.ensures.entries ∙ (IsPut-right at.root c.args.node.value.key c.args.node.value.pid c.requires.free c.insert-2.new.self more c.insert-2.ensures.entries).entries
+
+-- ---- the height and the comparisons
+
+pub returns-then-not-insert-clause-many_before : goal.returns-then-not-insert-clause-many_before
+returns-then-not-insert-clause-many_before g t c =
+    let at = IsNode-from c.self.view_is c.self.invariant c.in-Some.is c.deref_mut.ensures.value in
+    many_of at.root
+
+pub returns-then-is_below-clause-many_before : goal.returns-then-is_below-clause-many_before
+returns-then-is_below-clause-many_before g t c =
+    let at = IsNode-from c.self.view_is c.self.invariant c.in-Some.is c.deref_mut.ensures.value in
+    many_of at.root
+
+pub returns-then-not-insert-2-clause-many_before : goal.returns-then-not-insert-2-clause-many_before
+returns-then-not-insert-2-clause-many_before g t c =
+    let at = IsNode-from c.self.view_is c.self.invariant c.in-Some.is c.deref_mut.ensures.value in
+    many_of at.root
+
+pub returns-clause-many_before : goal.returns-clause-many_before
+returns-clause-many_before g t c =
+    let at = IsNode-from c.self.view_is c.self.invariant c.in-Some.is c.deref_mut.ensures.value in
+    many_of at.root
+
+pub returns-then-is_below-clause-many : goal.returns-then-is_below-clause-many
+returns-then-is_below-clause-many g t c =
+    many-balanced c.lean_left.new.root c.lean_left.ensures.balanced
+
+pub returns-clause-many : goal.returns-clause-many
+returns-clause-many g t c =
+    many-balanced c.lean_right.new.root c.lean_right.ensures.balanced
+
+pub returns-then-not-insert-clause-counted : goal.returns-then-not-insert-clause-counted
+returns-then-not-insert-clause-counted g t c =
+    let at = IsNode-from c.self.view_is c.self.invariant c.in-Some.is c.deref_mut.ensures.value in
+    counted-left _ _ _ _ c.deref_mut.result.now.right.height _ c.tick.ensures c.insert.ensures.counted at.root.fork.one_more
+
+pub returns-then-is_below-clause-counted : goal.returns-then-is_below-clause-counted
+returns-then-is_below-clause-counted g t c =
+    let at = IsNode-from c.self.view_is c.self.invariant c.in-Some.is c.deref_mut.ensures.value in
+    counted-left _ _ _ _ c.deref_mut.result.now.right.height _ c.tick.ensures c.insert.ensures.counted at.root.fork.one_more
+
+pub returns-then-not-insert-2-clause-counted : goal.returns-then-not-insert-2-clause-counted
+returns-then-not-insert-2-clause-counted g t c =
+    let at = IsNode-from c.self.view_is c.self.invariant c.in-Some.is c.deref_mut.ensures.value in
+    counted-right _ _ _ c.deref_mut.result.now.left.height _ _ c.tick.ensures c.insert-2.ensures.counted at.root.fork.one_more
+
+pub returns-clause-counted : goal.returns-clause-counted
+returns-clause-counted g t c =
+    let at = IsNode-from c.self.view_is c.self.invariant c.in-Some.is c.deref_mut.ensures.value in
+    counted-right _ _ _ c.deref_mut.result.now.left.height _ _ c.tick.ensures c.insert-2.ensures.counted at.root.fork.one_more
+
+pub returns-then-not-insert-clause-height : goal.returns-then-not-insert-clause-height
+returns-then-not-insert-clause-height g t c =
+    let at = IsNode-from c.self.view_is c.self.invariant c.in-Some.is c.deref_mut.ensures.value in
+    let kept : c.insert.new.self.height ≡ c.deref_mut.result.now.left.height = omega (arith, c.if-not-insert.ensures.height) in
+    no_more _ _ (ap (λ h. max h c.deref_mut.result.now.right.height + 1) kept ∙ sym at.root.fork.one_more)
+
+pub returns-then-not-insert-2-clause-height : goal.returns-then-not-insert-2-clause-height
+returns-then-not-insert-2-clause-height g t c =
+    let at = IsNode-from c.self.view_is c.self.invariant c.in-Some.is c.deref_mut.ensures.value in
+    let kept : c.insert-2.new.self.height ≡ c.deref_mut.result.now.right.height = omega (arith, c.if-not-insert-2.ensures.height) in
+    no_more _ _ (ap (λ h. max c.deref_mut.result.now.left.height h + 1) kept ∙ sym at.root.fork.one_more)
+
+pub returns-then-is_below-clause-height : goal.returns-then-is_below-clause-height
+returns-then-is_below-clause-height g t c =
+    let at = IsNode-from c.self.view_is c.self.invariant c.in-Some.is c.deref_mut.ensures.value in
+    raised-left _ c.deref_mut.result.now.left.height c.deref_mut.result.now.right.height c.insert.new.self.height _ _ at.root.fork.one_more (omega (arith, c.if-not-insert.ensures.height)) c.lean_left.ensures.height
+
+pub returns-clause-height : goal.returns-clause-height
+returns-clause-height g t c =
+    let at = IsNode-from c.self.view_is c.self.invariant c.in-Some.is c.deref_mut.ensures.value in
+    raised-right _ c.deref_mut.result.now.left.height c.deref_mut.result.now.right.height c.insert-2.new.self.height _ _ at.root.fork.one_more (omega (arith, c.if-not-insert-2.ensures.height)) c.lean_right.ensures.height
