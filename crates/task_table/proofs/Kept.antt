@@ -17,7 +17,7 @@ use Rattle.task_table.specs.declared.spans.Span.{Span}
 use Rattle.task_table.specs.Group.{is_in_group}
 use Rattle.task_table.specs.Grouping.{no_span, span_at, AreSpans, HasMember, Counts, AreGrouped, thread_of, process_of}
 use Rattle.std.proofs.lemmas.List.Sums.{length-filter, count_by-le-length}
-use Rattle.task_table.proofs.Grouping.{no_spans}
+use Rattle.task_table.proofs.Grouping.{no_spans, few_of}
 use Rattle.task_table.proofs.Grouped.{has_member, grouped_alike}
 use Rattle.task_table.specs.Table.{pid_of, Table, Rises, add_answer}
 use Rattle.task_table.specs.declared.fault.AddFault.TheVariants.{Full}
@@ -133,6 +133,37 @@ module _ {slots : Slab Task} {entries : List Entry} {threads processes : List Sp
           are = kept.grouped.by_processes;
           few = omega (arith, length-map tasks process_of, kept.sound.few, kept.sound.limit);
         },
+      )
+
+  -- a table that is not full has room for one task more
+  pub room_in_slots : length entries ≢ limit → slab_len slots + 1 ≤ slots.capacity
+  room_in_slots free = omega (arith, kept_length, kept.sound.few, free, kept.counted, kept.room_for_tasks)
+
+  pub room_in_entries : length entries ≢ limit → length entries < room
+  room_in_entries free = omega (arith, kept_length, kept.sound.few, free, kept.room_for_entries)
+
+  pub room_in_threads : length entries ≢ limit → (place : ℕ) → (span_at threads place).count + 1 < 2 ^ 16
+  room_in_threads free place =
+      omega (
+        arith,
+        few_of threads (map thread_of tasks) place kept.grouped.by_threads,
+        length-map tasks thread_of,
+        kept_length,
+        kept.sound.few,
+        kept.sound.limit,
+        free,
+      )
+
+  pub room_in_processes : length entries ≢ limit → (place : ℕ) → (span_at processes place).count + 1 < 2 ^ 16
+  room_in_processes free place =
+      omega (
+        arith,
+        few_of processes (map process_of tasks) place kept.grouped.by_processes,
+        length-map tasks process_of,
+        kept_length,
+        kept.sound.few,
+        kept.sound.limit,
+        free,
       )
 
   -- a task goes into an empty slot, and an entry for it into its gap

@@ -1,11 +1,12 @@
-use Rattle.std.proofs.Common.{List, refl, ◌∙◌, sym, ap, arith}
+use Rattle.std.proofs.Common.{List, refl, ◌∙◌, sym, ap, subst, arith}
 use Rattle.std.specs.Prelude.{vec_capacity}
 use Rattle.cs_types.specs.Room.{asleep, inserted}
-use Rattle.task_table.specs.Table.{Table, total_among, total_in}
+use Rattle.task_table.specs.Table.{Table, IsSound, total_among, total_in}
+use Rattle.task_table.specs.Grouping.{place_of}
 use Rattle.task_table.specs.Inside.{totals_of, IsKept}
 use Rattle.task_table.specs.declared.entry.Entry.{Entry}
 use Rattle.task_table.proofs.Totals.{total-insert}
-use Rattle.task_table.proofs.Kept.{kept_of, kept_again, kept_length, seen_as, gap_in_entries, kept_insert, full_answer, free_answer}
+use Rattle.task_table.proofs.Kept.{kept_of, kept_again, kept_length, seen_as, gap_in_entries, kept_insert, full_answer, free_answer, room_in_slots, room_in_entries, room_in_threads, room_in_processes}
 use Rattle.task_table.proofs.Grouped.{grouped_insert}
 use Rattle.task_table.proofs.table.TaskTable.insert.Goals as goal
 
@@ -49,3 +50,24 @@ returns-clause-totals c pid =
     ap (λ (entries : List Entry). total_among (totals_of entries) pid) (rw (c.unwrap.ensures, c.of.ensures) at c.insert.ensures.items)
     ∙ total-insert pid c.args.position c.self.inside.entries.items _ refl
     ∙ ap (λ (t : Table). total_in t pid) c.self.view_is
+
+-- ---- the room for it
+
+pub insert_reserved-key-requires : goal.insert_reserved-key-requires
+insert_reserved-key-requires c = room_in_slots (kept_of _ _ _ _ _ _ _ c.self.view_is c.self.invariant) (λ full. c.if-len-self.false (c.len.ensures ∙ c.self.inside.entries.ok.0 ∙ full))
+
+pub unwrap-requires : goal.unwrap-requires
+unwrap-requires c =
+    let room = room_in_entries (kept_of _ _ _ _ _ _ _ c.self.view_is c.self.invariant) (λ full. c.if-len-self.false (c.len.ensures ∙ c.self.inside.entries.ok.0 ∙ full)) in
+    c.insert.ensures.succeeds (omega (arith, c.self.inside.entries.ok.0, room))
+
+pub add-requires : goal.add-requires
+add-requires c = record { few = room_in_threads (kept_of _ _ _ _ _ _ _ c.self.view_is c.self.invariant) (λ full. c.if-len-self.false (c.len.ensures ∙ c.self.inside.entries.ok.0 ∙ full)) (place_of c.args.spec.tgid) }
+
+pub add-requires-2 : goal.add-requires-2
+add-requires-2 c = record { few = room_in_processes (kept_of _ _ _ _ _ _ _ c.self.view_is c.self.invariant) (λ full. c.if-len-self.false (c.len.ensures ∙ c.self.inside.entries.ok.0 ∙ full)) (place_of c.args.spec.pgid) }
+
+-- ---- a full table is left as it is
+
+pub returns-then-len-self-clause-sound : goal.returns-then-len-self-clause-sound
+returns-then-len-self-clause-sound c = subst IsSound c.self.view_is c.self.invariant.sound
