@@ -2,8 +2,12 @@ use Rattle.std.proofs.Common.{◌∙◌, sym, ap}
 use Rattle.std.specs.List.{position}
 use Rattle.std.proofs.lemmas.List.{take_rest}
 use Rattle.task_table.specs.Inside.{tells_group}
-use Rattle.task_table.proofs.Blocks.{first_behind}
+use Rattle.task_table.proofs.Blocks.{first_near, first_behind}
 use Rattle.task_table.proofs.entry.search.Goals as goal
+
+pub returns-in-Some : goal.returns-in-Some
+returns-in-Some c =
+    sym (first_near (tells_group c.args.group) c.min-near.result c.in-Some.position c.args.entries.now (sym c.first_among.ensures ∙ c.in-Some.is))
 
 pub returns-in_err-position : goal.returns-in_err-position
 returns-in_err-position c =
