@@ -1,5 +1,5 @@
 use Rattle.std.proofs.Common.{arith, ◌∙◌, sym, ap, refl, map, set, subst, if◌then◌else◌}
-use Rattle.std.specs.Prelude.{vec_capacity}
+use Rattle.std.specs.Prelude.{is_some, vec_capacity}
 use Rattle.slab.specs.Slab.{with_value}
 use Rattle.slab.proofs.SlabLemmas.{Updates-with_value}
 use Rattle.cs_types.specs.Room.{has_pid}
@@ -29,7 +29,7 @@ pub index_mut-slot-requires : goal.index_mut-slot-requires
 index_mut-slot-requires c =
     let kept = kept_of _ _ _ _ _ _ _ c.self.view_is c.self.invariant in
     let there = found_some kept c.args.task.spec.pid c.in-Ok.position _ c.in-Ok.ensures.position c.index_mut-entry.ensures.value in
-    rw there.1 refl
+    ap is_some there.1
 
 pub regroup-requires-clause-threads : goal.regroup-requires-clause-threads
 regroup-requires-clause-threads c =
@@ -67,7 +67,7 @@ after c =
     let here = c.index_mut-entry.ensures.value in
     let there = found_some kept c.args.task.spec.pid c.in-Ok.position entry c.in-Ok.ensures.position here in
     kept_set kept _ _ c.in-Ok.position entry c.args.task (grouped c) c.in-Ok.ensures.position here
-    (Updates-with_value c.self.inside.slots entry.key c.args.task (rw there.1 refl))
+    (Updates-with_value c.self.inside.slots entry.key c.args.task (ap is_some there.1))
     (slab_len-with_value c.self.inside.slots entry.key there.0 c.args.task there.1) refl
     (ap (set c.self.inside.entries.items c.in-Ok.position) c.regroup.ensures.entry)
 
