@@ -49,7 +49,7 @@ pub record HasRead {S T : Type 0} (caps : List ℕ) (source : Used S) (read : Re
 abbrev pub AreMade : History → Type 0
 AreMade run = All (λ entry. IsMade entry.actor entry.event) run
 
-not_both : {T E : Type 0} (read : Result T E) (value : T) (error : E) → read ≡ Ok value → read ≡ Err error → ⊥
+pub not_both : {T E : Type 0} (read : Result T E) (value : T) (error : E) → read ≡ Ok value → read ≡ Err error → ⊥
 not_both read value error is other = cc
 
 pub not_true : (b : Bool) → b ≡ false → b ≡ true → ⊥
@@ -61,11 +61,11 @@ where_told : (told : Option (List ℕ)) {A : Type 0} → A → IfSome told (λ _
 where_told None is = tt
 where_told (Some left) is = is
 
-same_where_told : (told : Option (List ℕ)) {A B : Type 0} (C : Type 0) → (A → B) → (B → A) → IfSome told (λ _. A ↔ C) → IfSome told (λ _. B ↔ C)
+pub same_where_told : (told : Option (List ℕ)) {A B : Type 0} (C : Type 0) → (A → B) → (B → A) → IfSome told (λ _. A ↔ C) → IfSome told (λ _. B ↔ C)
 same_where_told None C to back is = tt
 same_where_told (Some left) C to back is = (λ b. is.0 (back b), λ c. to (is.1 c))
 
-same_error : {T E : Type 0} (read : Result T E) (one other : E) → read ≡ Err one → read ≡ Err other → one ≡ other
+pub same_error : {T E : Type 0} (read : Result T E) (one other : E) → read ≡ Err one → read ≡ Err other → one ≡ other
 same_error read one other is too = cc
 
 -- ---- the one scenario of an input

@@ -4,3 +4,4 @@ pub mod Asked
 pub mod Drills
 mod Runs
 mod Outputs
+mod Openings

@@ -1,14 +1,15 @@
-use Rattle.std.proofs.Common.{◌≡◌, ◌∙◌, ℕ, List, Result, Ok, Err, sym, ap, map, length, arith, inl, inr}
-use Rattle.std.specs.Prelude.{◌⊎◌}
+use Rattle.std.proofs.Common.{◌≡◌, ◌∙◌, ℕ, List, Ok, Err, refl, sym, ap, subst, map, length, arith}
 use Rattle.std.proofs.lemmas.Result.{err_from_is_err_and}
 use Rattle.std.proofs.lemmas.List.{length-map}
 use Rattle.std.proofs.lemmas.List.FromFn.{length-map-range_with_len}
-use Rattle.scenario_input.specs.declared.stop.Stop.TheVariants.{ReadFault, BadScenario, OutOfMemory}
-use Rattle.scenario_input.specs.Teaching.{first_bad}
+use Rattle.scenario_input.specs.declared.stop.Stop.TheVariants.{OutOfMemory}
+use Rattle.scenario_input.specs.Teaching.{first_bad, IsTeachStop}
 use Rattle.cs_types.specs.Room.{Opening}
 use Rattle.cs_types.specs.Guards.{GuardList, on_bench, guards_on_bench}
 use Rattle.cs_types.specs.declared.scenario.Scenario.{Scenario}
 use Rattle.cs_types.specs.declared.scenario.Teach.{Teach}
+use Rattle.scenario_runner.specs.Ends.{Used}
+use Rattle.scenario_runner.proofs.Openings.{none_made, unread, untaught, is_opened}
 use Rattle.scenario_runner.proofs.played.opened.Goals as goal
 
 -- as many guards are on the bench as were put there
@@ -23,51 +24,136 @@ start-requires-clause-guards g c =
     let taught = c.in_ok-guards.ensures.taught in
     taught ∙ (λ i. guards_on_bench (c.items.ensures i) (sym (count_on_bench _ _ _ taught) i))
 
+pub returns-in_err-scenario : goal.returns-in_err-scenario
+returns-in_err-scenario g c =
+    let source : Used g.row.S.Denot = record { bytes = g.S.Source.left; faults = g.S.Source.faults; before = c.args.source.now; after = c.read_scenario.new.source } in
+    let caps = map g.G.Guard.cap c.args.guards.items in
+    let stop = err_from_is_err_and c.from_residual.result c.from_residual.ensures.1 in
+    let o = unread caps source c.read_scenario.result c.from_residual.result c.in_err-scenario.field-0.0
+    (record {
+      too_long = c.read_scenario.ensures.too_long;
+      most = c.read_scenario.ensures.most;
+      bad = c.read_scenario.ensures.bad;
+      first = c.read_scenario.ensures.first;
+      faultless = c.read_scenario.ensures.faultless;
+      failed = c.read_scenario.ensures.failed;
+    })
+    c.read_scenario.ensures.guards c.in_err-scenario.was (stop.1 ∙ ap Err stop.2) in
+    record {
+      reads = none_made _ _ _ stop.1;
+      taught = none_made _ _ _ stop.1;
+      opening = none_made _ _ _ stop.1;
+      empty = none_made _ _ _ stop.1;
+      spare = none_made _ _ _ stop.1;
+      too_long = o.told.too_long;
+      most = o.told.most;
+      bad = o.told.bad;
+      first = o.told.first;
+      bad_guard = o.bad_guard;
+      faultless = o.told.faultless;
+      failed = o.told.failed;
+      counted = c.read_scenario.ensures.counted;
+    }
+
+pub returns-in_err-guards : goal.returns-in_err-guards
+returns-in_err-guards g c =
+    let source : Used g.row.S.Denot = record { bytes = g.S.Source.left; faults = g.S.Source.faults; before = c.args.source.now; after = c.read_scenario.new.source } in
+    let caps = map g.G.Guard.cap c.args.guards.items in
+    let scenario = c.in_ok-scenario.scenario in
+    let stop = err_from_is_err_and c.from_residual-in_err-guards.result c.from_residual-in_err-guards.ensures.1 in
+    let why = subst (λ (teaches : List Teach). IsTeachStop (first_bad caps teaches) c.in_err-guards.field-0.0) c.items.ensures c.in_err-guards.ensures.stop in
+    let o = untaught caps source c.read_scenario.result c.from_residual-in_err-guards.result scenario c.in_err-guards.field-0.0
+    (record {
+      too_long = c.read_scenario.ensures.too_long;
+      most = c.read_scenario.ensures.most;
+      bad = c.read_scenario.ensures.bad;
+      first = c.read_scenario.ensures.first;
+      faultless = c.read_scenario.ensures.faultless;
+      failed = c.read_scenario.ensures.failed;
+    })
+    c.in_ok-scenario.ensures.reads c.in_ok-scenario.was why (stop.1 ∙ ap Err stop.2) in
+    record {
+      reads = none_made _ _ _ stop.1;
+      taught = none_made _ _ _ stop.1;
+      opening = none_made _ _ _ stop.1;
+      empty = none_made _ _ _ stop.1;
+      spare = none_made _ _ _ stop.1;
+      too_long = o.told.too_long;
+      most = o.told.most;
+      bad = o.told.bad;
+      first = o.told.first;
+      bad_guard = o.bad_guard;
+      faultless = o.told.faultless;
+      failed = o.told.failed;
+      counted = c.read_scenario.ensures.counted;
+    }
+
+pub returns-in_err-room : goal.returns-in_err-room
+returns-in_err-room g c =
+    let source : Used g.row.S.Denot = record { bytes = g.S.Source.left; faults = g.S.Source.faults; before = c.args.source.now; after = c.read_scenario.new.source } in
+    let caps = map g.G.Guard.cap c.args.guards.items in
+    let scenario = c.in_ok-scenario.scenario in
+    let stop = err_from_is_err_and c.from_residual-in_err-room.result c.from_residual-in_err-room.ensures.1 in
+    let o = untaught caps source c.read_scenario.result c.from_residual-in_err-room.result scenario OutOfMemory
+    (record {
+      too_long = c.read_scenario.ensures.too_long;
+      most = c.read_scenario.ensures.most;
+      bad = c.read_scenario.ensures.bad;
+      first = c.read_scenario.ensures.first;
+      faultless = c.read_scenario.ensures.faultless;
+      failed = c.read_scenario.ensures.failed;
+    })
+    c.in_ok-scenario.ensures.reads c.in_ok-scenario.was tt (stop.1 ∙ ap Err stop.2) in
+    record {
+      reads = none_made _ _ _ stop.1;
+      taught = none_made _ _ _ stop.1;
+      opening = none_made _ _ _ stop.1;
+      empty = none_made _ _ _ stop.1;
+      spare = none_made _ _ _ stop.1;
+      too_long = o.told.too_long;
+      most = o.told.most;
+      bad = o.told.bad;
+      first = o.told.first;
+      bad_guard = o.bad_guard;
+      faultless = o.told.faultless;
+      failed = o.told.failed;
+      counted = c.read_scenario.ensures.counted;
+    }
+
 -- Its guards are those that were handed in.
-pub returns-clause-opening : goal.returns-clause-opening
-returns-clause-opening g c =
+pub returns : goal.returns
+returns g c =
+    let source : Used g.row.S.Denot = record { bytes = g.S.Source.left; faults = g.S.Source.faults; before = c.args.source.now; after = c.read_scenario.new.source } in
+    let caps = map g.G.Guard.cap c.args.guards.items in
+    let scenario = c.in_ok-scenario.scenario in
+    let room = c.in_ok-room.room in
     let len : c.args.guards.len ≡ length c.args.guards.items = omega (arith, c.args.guards.ok.0) in
-    c.in_ok-room.ensures.opening
-    ∙ ap (opening_with c.in_ok-scenario.scenario)
-    (count_on_bench c.in_ok-guards.guards.guards c.items.result.now c.args.guards.len c.in_ok-guards.ensures.taught
-    ∙ len
-    ∙ sym (length-map c.args.guards.items g.G.Guard.cap))
-
-pub returns-clause-taught : goal.returns-clause-taught
-returns-clause-taught g c = ap (first_bad (map g.G.Guard.cap c.args.guards.items)) (sym c.items.ensures) ∙ c.in_ok-guards.ensures.all
-
--- What was read is one thing.
-not_both : {T E : Type 0} (read : Result T E) (value : T) (error : E) → read ≡ Ok value → read ≡ Err error → ⊥
-not_both read value error is other = cc
-
-neither : {T E : Type 0} (read : Result T E) (value : T) (one other : E) {A : Type 0} → read ≡ Ok value → (read ≡ Err one) ⊎ (read ≡ Err other) → A
-neither read value one other is (inl first) = absurd (not_both read value one is first)
-neither read value one other is (inr second) = absurd (not_both read value other is second)
-
-same_error : {T E : Type 0} (read : Result T E) (one other : E) → read ≡ Err one → read ≡ Err other → one ≡ other
-same_error read one other is too = cc
-
-pub returns-in_err-scenario-clause-bad : goal.returns-in_err-scenario-clause-bad
-returns-in_err-scenario-clause-bad g c line kind e =
-    let stop = err_from_is_err_and c.from_residual.result c.from_residual.ensures.1 in
-    c.read_scenario.ensures.bad line kind (c.in_err-scenario.was ∙ ap Err (sym stop.2 ∙ same_error c.from_residual.result stop.0 (BadScenario line kind) stop.1 e))
-
-pub returns-in_err-scenario-clause-first : goal.returns-in_err-scenario-clause-first
-returns-in_err-scenario-clause-first g c bytes line kind told fits bad calm =
-    let stop = err_from_is_err_and c.from_residual.result c.from_residual.ensures.1 in
-    let same = same_error c.read_scenario.result c.in_err-scenario.field-0.0 in
-    let was = c.in_err-scenario.was in
-    elim (c.read_scenario.ensures.first bytes line kind told fits bad (λ e. calm (stop.1 ∙ ap Err (stop.2 ∙ same ReadFault was e)))) [
-      | inl found ↦ inl (stop.1 ∙ ap Err (stop.2 ∙ same (BadScenario line kind) was found))
-      | inr memory ↦ inr (stop.1 ∙ ap Err (stop.2 ∙ same OutOfMemory was memory))
-    ]
-
-pub returns-in_err-guards-clause-first : goal.returns-in_err-guards-clause-first
-returns-in_err-guards-clause-first g c bytes line kind told fits bad calm =
-    neither c.read_scenario.result c.in_ok-scenario.scenario _ _ c.in_ok-scenario.was
-    (c.read_scenario.ensures.first bytes line kind told fits bad (not_both c.read_scenario.result c.in_ok-scenario.scenario _ c.in_ok-scenario.was))
-
-pub returns-clause-first : goal.returns-clause-first
-returns-clause-first g c bytes line kind told fits bad calm =
-    neither c.read_scenario.result c.in_ok-scenario.scenario _ _ c.in_ok-scenario.was
-    (c.read_scenario.ensures.first bytes line kind told fits bad (not_both c.read_scenario.result c.in_ok-scenario.scenario _ c.in_ok-scenario.was))
+    let o = is_opened caps source c.read_scenario.result (Ok (scenario, room)) scenario (scenario, room)
+    (record {
+      too_long = c.read_scenario.ensures.too_long;
+      most = c.read_scenario.ensures.most;
+      bad = c.read_scenario.ensures.bad;
+      first = c.read_scenario.ensures.first;
+      faultless = c.read_scenario.ensures.faultless;
+      failed = c.read_scenario.ensures.failed;
+    })
+    c.in_ok-scenario.was refl in
+    record {
+      reads = c.in_ok-scenario.ensures.reads;
+      taught = ap (first_bad caps) (sym c.items.ensures) ∙ c.in_ok-guards.ensures.all;
+      opening = c.in_ok-room.ensures.opening
+          ∙ ap (opening_with scenario)
+          (count_on_bench c.in_ok-guards.guards.guards c.items.result.now c.args.guards.len c.in_ok-guards.ensures.taught
+          ∙ len
+          ∙ sym (length-map c.args.guards.items g.G.Guard.cap));
+      empty = c.in_ok-room.ensures.empty;
+      spare = c.in_ok-room.ensures.spare;
+      too_long = o.told.too_long;
+      most = o.told.most;
+      bad = o.told.bad;
+      first = o.told.first;
+      bad_guard = o.bad_guard;
+      faultless = o.told.faultless;
+      failed = o.told.failed;
+      counted = c.read_scenario.ensures.counted;
+    }
