@@ -19,17 +19,17 @@ pub ends_drilled : {K : Type 0} (seed : ℕ) (sink : Used K) (opening : Opening)
     steps ≡ (drill_scenario seed).steps → sink.faults sink.before < 2 ^ 64 - 1 → WritesDrill seed opening steps sink ended → EndsAsDrill seed sink ended
 ends_drilled seed sink opening steps ended is valid all few writes =
     record {
-      either = elim drill.either [
+      either = elim drill.written.either [
         | inl done ↦ inl done
         | inr fault ↦ inr (inl fault)
       ];
-      done = λ e. record { run = drill.run; outcome = outcome; writes = drill.whole e };
-      write_fault = λ e. (omega (arith, drill.failed e, few), record { run = drill.run; outcome = outcome; writes = drill.prefix });
-      faultless = λ other. elim drill.either [
-        | inl done ↦ drill.faultless done
+      done = λ e. record { run = drill.run; outcome = outcome; writes = drill.written.whole e };
+      write_fault = λ e. (omega (arith, drill.written.failed e, few), record { run = drill.run; outcome = outcome; writes = drill.written.prefix });
+      faultless = λ other. elim drill.written.either [
+        | inl done ↦ drill.written.faultless done
         | inr fault ↦ absurd (other fault)
       ];
-      unwritten = λ e. elim drill.either [
+      unwritten = λ e. elim drill.written.either [
         | inl done ↦ let wrong : status.OutOfMemory ≡ status.Done = sym e ∙ done in absurd cc
         | inr fault ↦ let wrong : status.OutOfMemory ≡ status.WriteFault = sym e ∙ fault in absurd cc
       ];

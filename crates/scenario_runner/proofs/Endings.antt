@@ -25,7 +25,7 @@ use Rattle.scenario_input.proofs.Completes.{stop_complete}
 use Rattle.cs_types.specs.Room.{Opening}
 use Rattle.cs_types.specs.History.{History}
 use Rattle.scenario_runner.specs.Outcomes.{opened_with, Outputs, BreaksOff}
-use Rattle.scenario_runner.specs.Written.{IsWritten, IsShort}
+use Rattle.scenario_runner.specs.Written.{WritesOutput, IsShort}
 use Rattle.scenario_runner.specs.Ends.{Used, Failed, IsFaultless, IsBadGuard, EndsAs}
 
 -- ---- what is known once the input was read, or was not
@@ -153,23 +153,23 @@ ends_write_fault IsOutcome caps source sink read value has is failed scenario br
 pub ends_written : {S K T : Type 0} (IsOutcome : Opening → History → Type 0) (caps : List ℕ) (source : Used S) (sink : Used K) (read : Result T Stop) (value : T) (ended : Status) →
     HasRead caps source read → read ≡ Ok value → (scenario : Scenario) → first_bad caps scenario.teaches ≡ None →
     Reads scenario (source.bytes source.before) (source.bytes source.after) → (run : History) → IsOutcome (opened_with caps scenario) run →
-    AreMade run → sink.faults sink.before < 2 ^ 64 - 1 → IsWritten sink (opened_with caps scenario) run ended →
+    AreMade run → sink.faults sink.before < 2 ^ 64 - 1 → WritesOutput sink (opened_with caps scenario) run ended →
     EndsAs IsOutcome caps source sink ended
-ends_written IsOutcome caps source sink read value ended has is scenario taught reads run outcome made few written =
-    elim written.either [
+ends_written IsOutcome caps source sink read value ended has is scenario taught reads run outcome made few output =
+    elim output.written.either [
       | inl done ↦
           rw done
-          (ends_done IsOutcome caps source sink read value has is (written.faultless done) scenario
-          (record { reads = reads; run = run; outcome = outcome; writes = written.whole done; spelled = spelled done }) taught)
+          (ends_done IsOutcome caps source sink read value has is (output.written.faultless done) scenario
+          (record { reads = reads; run = run; outcome = outcome; writes = output.written.whole done; spelled = spelled done }) taught)
       | inr fault ↦
           rw fault
-          (ends_write_fault IsOutcome caps source sink read value has is (omega (arith, written.failed fault, few)) scenario
-          (record { reads = reads; run = run; outcome = outcome; writes = written.prefix }) taught)
+          (ends_write_fault IsOutcome caps source sink read value has is (omega (arith, output.written.failed fault, few)) scenario
+          (record { reads = reads; run = run; outcome = outcome; writes = output.written.prefix }) taught)
     ] where
       spelled : ended ≡ status.Done → (begun : Opening) (other : History) → All IsEntry other →
           output_text begun other ≡ output_text (opened_with caps scenario) run → other ≡ run
       spelled done begun other is same =
-          written.one begun other is (λ k d lt. record { made = made k d lt; reply = written.numbers done k d lt }) same
+          output.one begun other is (λ k d lt. record { made = made k d lt; reply = output.numbers done k d lt }) same
 
 pub ends_stopped : {S K T : Type 0} (IsOutcome : Opening → History → Type 0) (caps : List ℕ) (source : Used S) (sink : Used K) (read : Result T Stop) (stop : Stop) →
     HasRead caps source read → read ≡ Err stop → sink.after ≡ sink.before →

@@ -5,3 +5,4 @@ pub mod Drills
 mod Runs
 mod Outputs
 mod Openings
+pub mod Writes

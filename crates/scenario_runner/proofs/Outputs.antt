@@ -33,7 +33,7 @@ ends_replayed caps source sink read value scenario opening steps ended has is op
     let drained = subst (λ (s : List Step). IsDrained of (history_of of s) played.run) all played.drained in
     let playable = valid_playable scenario opened.reads.valid in
     ends_written IsReplayHistory caps source sink read value ended has is scenario opened.taught opened.reads played.run (replay_history of played.run playable drained)
-    (replay_made of played.run playable drained) few played.written
+    (replay_made of played.run playable drained) few played.output
 
 -- its actors made their scripts beside each other, or there was no memory for that
 pub ends_raced : {S K T : Type 0} (caps : List ℕ) (source : Used S) (sink : Used K) (read : Result T Stop) (value : T) (scenario : Scenario) (opening : Opening) (ended : Status) →
@@ -45,4 +45,4 @@ ends_raced caps source sink read value scenario opening ended has is opened few 
     let raced = subst (λ (o : Opening). WritesRace o sink ended) opened.begins writes in
     let playable = valid_playable scenario opened.reads.valid in
     ends_written IsRaceHistory caps source sink read value ended has is scenario opened.taught opened.reads raced.run (race_history of raced.run playable raced.raced)
-    (race_made of raced.run playable raced.raced) few raced.written
+    (race_made of raced.run playable raced.raced) few raced.output

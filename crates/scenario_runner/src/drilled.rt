@@ -1,13 +1,12 @@
 //! The command `drill`, once its words are read.
 
-ghost use Rattle.std.specs.Prelude.{◌≡◌, ◌⊎◌, ◌+◌, ◌-◌, ◌*◌, ◌^◌, ◌<◌, ◌≤◌, [], length, All, IfOk};
+ghost use Rattle.std.specs.Prelude.{◌≡◌, ◌+◌, ◌-◌, ◌*◌, ◌^◌, ◌<◌, ◌≤◌, [], length, All, IfOk};
 ghost use Rattle.cs_types.specs.Scenario.{IsEvent, IsValid};
-ghost use Rattle.cs_outside.specs.Device.{Rose, appended, WritesPrefix};
 ghost use Rattle.room_drill.specs.Drill.{drill_scenario};
 ghost use Rattle.room_drill.specs.Summary.{summary_text};
 ghost use Rattle.scenario_runner.specs.Outcomes.{drill_opening};
 ghost use Rattle.scenario_runner.specs.Ends.{EndsAsDrill};
-ghost use Rattle.scenario_runner.specs.Written.{WritesDrill};
+ghost use Rattle.scenario_runner.specs.Written.{IsWritten, WritesDrill};
 
 use core_state::CoreState;
 use cs_outside::{NullGuard, Sink};
@@ -34,11 +33,8 @@ fn opened(alloc: Global, seed: u32) -> Result<(Scenario, CoreState<NullGuard>), 
 
 /// Writes the summary and the report, and says how that ended.
 fn write_summary<R: Room, K: Sink>(seed: u32, room: &R, sink: &mut K) -> Status
-    ensures either { (result ≡ Status.Done) ⊎ (result ≡ Status.WriteFault) }
-    ensures whole { result ≡ Status.Done → K.written sink.new ≡ appended (K.written sink.old) (summary_text seed (R.opening room.now) (R.history room.now)) }
-    ensures prefix { WritesPrefix (K.written sink.old) (summary_text seed (R.opening room.now) (R.history room.now)) (K.written sink.new) }
-    ensures faultless { result ≡ Status.Done → K.faults sink.new ≡ K.faults sink.old }
-    ensures failed { result ≡ Status.WriteFault → Rose (K.faults sink.old) (K.faults sink.new) }
+    ensures { IsWritten (record { bytes = K.written; faults = K.faults; before = sink.old; after = sink.new })
+        (summary_text seed (R.opening room.now) (R.history room.now)) result }
 {
     match summary(seed, room, sink) {
         Ok(()) => Status::Done,

@@ -1,18 +1,14 @@
 //! The commands that play an input, once their words are read.
 
 ghost use Rattle.std.specs.Prelude.{◌≡◌, ◌≢◌, ◌⊎◌, ◌↔◌, ◌+◌, ◌-◌, ◌*◌, ◌^◌, ◌<◌, ◌≤◌, [], length, map, All, Err, None, IfOk, IfSome, vec_len};
-ghost use Rattle.cs_types.specs.Room.{Opening};
 ghost use Rattle.cs_types.specs.Scenario.{IsEvent, IsPlayable};
-ghost use Rattle.cs_types.specs.History.{History};
-ghost use Rattle.cs_outside.specs.Device.{Rose, appended, WritesPrefix};
-ghost use Rattle.scenario_text.specs.Entry.{FitsReply, IsEntry};
-ghost use Rattle.room_report.specs.Report.{output_text};
+ghost use Rattle.cs_outside.specs.Device.{Rose};
 ghost use Rattle.scenario_text.specs.Faults.{lines_in, IsFirstBad};
 ghost use Rattle.scenario_input.specs.Input.{Reads, IsBad, input_limit, count_read};
 ghost use Rattle.scenario_input.specs.Teaching.{first_bad};
 ghost use Rattle.scenario_runner.specs.Outcomes.{opened_with};
 ghost use Rattle.scenario_runner.specs.Ends.{IsBadGuard, EndsAsReplay, EndsAsRace};
-ghost use Rattle.scenario_runner.specs.Written.{WritesReplay, MayWriteRace};
+ghost use Rattle.scenario_runner.specs.Written.{WritesOutput, WritesReplay, MayWriteRace};
 
 use core_events::CoreRoom;
 use core_lanes::SiblingQueue;
@@ -66,18 +62,8 @@ pub fn opened<Q: SiblingQueue, S: Source, G: Guard>(
 
 /// Writes the line of each entry and the report, and says how that ended.
 fn write_output<R: Room, K: Sink>(room: &R, sink: &mut K) -> Status
-    ensures either { (result ≡ Status.Done) ⊎ (result ≡ Status.WriteFault) }
-    ensures whole { result ≡ Status.Done → K.written sink.new ≡ appended (K.written sink.old) (output_text (R.opening room.now) (R.history room.now)) }
-    ensures prefix { WritesPrefix (K.written sink.old) (output_text (R.opening room.now) (R.history room.now)) (K.written sink.new) }
-
-    ensures faultless { result ≡ Status.Done → K.faults sink.new ≡ K.faults sink.old }
-    ensures failed { result ≡ Status.WriteFault → Rose (K.faults sink.old) (K.faults sink.new) }
-
-    // No other history has this text.
-    ensures one { (opening : Opening) (history : History) → All IsEntry history → All IsEntry (R.history room.now) →
-        output_text opening history ≡ output_text (R.opening room.now) (R.history room.now) →
-        history ≡ R.history room.now }
-    ensures numbers { result ≡ Status.Done → All (λ entry. FitsReply entry.reply) (R.history room.now) }
+    ensures { WritesOutput (record { bytes = K.written; faults = K.faults; before = sink.old; after = sink.new })
+        (R.opening room.now) (R.history room.now) result }
 {
     match output(room, sink) {
         Ok(()) => Status::Done,

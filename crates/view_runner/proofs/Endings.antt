@@ -22,7 +22,9 @@ use Rattle.scenario_runner.specs.Outcomes.{opened_with, IsReplayHistory}
 use Rattle.scenario_runner.specs.Ends.{Used, IsFaultless}
 use Rattle.scenario_runner.proofs.Endings.{HasRead, ends_stopped, ends_short}
 use Rattle.view_runner.specs.Ends.{IsTimed, EndsAsSummary, EndsAsShown}
-use Rattle.view_runner.specs.Written.{IsWritten, WritesSummary, MayWriteSummary}
+use Rattle.scenario_runner.specs.Written.{IsWritten}
+use Rattle.times_report.specs.Summary.{summary_text}
+use Rattle.view_runner.specs.Written.{WritesSummary, MayWriteSummary}
 
 -- ---- what was read
 
@@ -64,7 +66,7 @@ is_timed caps source sink read value scenario steps ended has is opened all writ
 
 -- the summary was written, or the sink failed
 ends_written : {S K : Type 0} (caps : List ℕ) (source : Used S) (sink : Used K) (summary : Summary) (ended : Status) → IsTimed caps source summary → sink.faults sink.before < 2 ^ 64 - 1 →
-    IsWritten sink summary ended → EndsAsSummary caps source sink ended
+    IsWritten sink (summary_text summary) ended → EndsAsSummary caps source sink ended
 ends_written caps source sink summary ended timed few written =
     record {
       done = λ e. (written.faultless e, (summary, timed, written.whole e));

@@ -1,24 +1,14 @@
 -- Written: what is so once the summary of a run was written, or the sink failed.
-use Rattle.std.specs.Prelude.{◌≡◌, ◌⊎◌, List}
+use Rattle.std.specs.Prelude.{◌⊎◌, List}
 use Rattle.cs_types.specs.declared.event.Step.{Step}
 use Rattle.cs_types.specs.Room.{Opening}
 use Rattle.cs_types.specs.History.{History, history_of}
 use Rattle.cs_types.specs.Drain.{IsDrained}
-use Rattle.cs_outside.specs.Device.{Rose, appended, WritesPrefix}
 use Rattle.run_summary.specs.Summaries.{Summary, IsSummaryOf}
 use Rattle.times_report.specs.Summary.{summary_text}
 use Rattle.scenario_input.specs.declared.status.Status.{Status}
-use Rattle.scenario_input.specs.declared.status.Status.TheVariants.{Done, WriteFault}
-use Rattle.scenario_runner.specs.Written.{IsShort}
-use Rattle.scenario_runner.specs.Ends.{Used, IsFaultless}
-
--- the summary was written, or the sink failed
-pub record IsWritten {K : Type 0} (sink : Used K) (summary : Summary) (ended : Status) : Type 0 where
-  pub either : (ended ≡ Done) ⊎ (ended ≡ WriteFault)
-  pub whole : ended ≡ Done → sink.bytes sink.after ≡ appended (sink.bytes sink.before) (summary_text summary)
-  pub prefix : WritesPrefix (sink.bytes sink.before) (summary_text summary) (sink.bytes sink.after)
-  pub faultless : ended ≡ Done → IsFaultless sink
-  pub failed : ended ≡ WriteFault → Rose (sink.faults sink.before) (sink.faults sink.after)
+use Rattle.scenario_runner.specs.Ends.{Used}
+use Rattle.scenario_runner.specs.Written.{IsWritten, IsShort}
 
 -- The steps were made, in their order, and then the entries of the end, and the summary of that run was written.
 pub record WritesSummary {K : Type 0} (opening : Opening) (steps : List Step) (sink : Used K) (ended : Status) : Type 0 where
@@ -26,7 +16,7 @@ pub record WritesSummary {K : Type 0} (opening : Opening) (steps : List Step) (s
   pub drained : IsDrained opening (history_of opening steps) run
   pub summary : Summary
   pub of_run : IsSummaryOf opening run summary
-  pub written : IsWritten sink summary ended
+  pub written : IsWritten sink (summary_text summary) ended
 
 -- it was, or there was no memory for it and nothing was written
 abbrev pub MayWriteSummary : {K : Type 0} → Opening → List Step → Used K → Status → Type 0

@@ -1,9 +1,9 @@
 //! The command that tells the summary of a run, once its words are read.
 
-ghost use Rattle.std.specs.Prelude.{◌≡◌, ◌⊎◌, ◌+◌, ◌-◌, ◌*◌, ◌^◌, ◌<◌, ◌≤◌, [], length, map, All, vec_len};
+ghost use Rattle.std.specs.Prelude.{◌≡◌, ◌+◌, ◌-◌, ◌*◌, ◌^◌, ◌<◌, ◌≤◌, [], length, map, All, vec_len};
 ghost use Rattle.cs_types.specs.Scenario.{IsEvent};
-ghost use Rattle.cs_outside.specs.Device.{Rose, appended, WritesPrefix};
 ghost use Rattle.times_report.specs.Summary.{summary_text};
+ghost use Rattle.scenario_runner.specs.Written.{IsWritten};
 ghost use Rattle.view_runner.specs.Ends.{EndsAsSummary};
 ghost use Rattle.view_runner.specs.Written.{MayWriteSummary};
 
@@ -18,12 +18,8 @@ use times_report::summary;
 
 /// Writes the summary, and says how that ended.
 fn write_summary<K: Sink>(told: &RunSummary, sink: &mut K) -> Status
-    ensures either { (result ≡ Status.Done) ⊎ (result ≡ Status.WriteFault) }
-    ensures whole { result ≡ Status.Done → K.written sink.new ≡ appended (K.written sink.old) (summary_text told.now) }
-    ensures prefix { WritesPrefix (K.written sink.old) (summary_text told.now) (K.written sink.new) }
-
-    ensures faultless { result ≡ Status.Done → K.faults sink.new ≡ K.faults sink.old }
-    ensures failed { result ≡ Status.WriteFault → Rose (K.faults sink.old) (K.faults sink.new) }
+    ensures { IsWritten (record { bytes = K.written; faults = K.faults; before = sink.old; after = sink.new })
+        (summary_text told.now) result }
 {
     match summary(told, sink) {
         Ok(()) => Status::Done,

@@ -1,7 +1,7 @@
 use Rattle.std.proofs.Common.{subst, inl, inr, refl}
 use Rattle.cs_types.specs.Room.{Opening}
 use Rattle.scenario_runner.specs.Ends.{Used}
-use Rattle.scenario_runner.specs.Written.{IsWritten}
+use Rattle.scenario_runner.specs.Written.{WritesOutput}
 use Rattle.scenario_runner.proofs.played.write_race.Goals as goal
 
 pub returns-in-Ok : goal.returns-in-Ok
@@ -12,17 +12,7 @@ returns-in-Ok g c =
     (record {
       run = run;
       raced = c.in-Ok.ensures.raced;
-      written =
-          subst (λ (o : Opening). IsWritten sink o run c.write_output.result) c.in-Ok.ensures.opening
-          (record {
-            either = c.write_output.ensures.either;
-            whole = c.write_output.ensures.whole;
-            prefix = c.write_output.ensures.prefix;
-            one = c.write_output.ensures.one;
-            numbers = c.write_output.ensures.numbers;
-            faultless = c.write_output.ensures.faultless;
-            failed = c.write_output.ensures.failed;
-          });
+      output = subst (λ (o : Opening). WritesOutput sink o run c.write_output.result) c.in-Ok.ensures.opening c.write_output.ensures;
     })
 
 pub returns-in-Err : goal.returns-in-Err

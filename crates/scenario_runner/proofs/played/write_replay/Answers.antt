@@ -1,7 +1,7 @@
 use Rattle.std.proofs.Common.{◌∙◌, subst}
 use Rattle.cs_types.specs.Room.{Opening}
 use Rattle.scenario_runner.specs.Ends.{Used}
-use Rattle.scenario_runner.specs.Written.{IsWritten}
+use Rattle.scenario_runner.specs.Written.{WritesOutput}
 use Rattle.scenario_runner.proofs.Runs.{drained_of}
 use Rattle.scenario_runner.proofs.played.write_replay.Goals as goal
 
@@ -12,15 +12,5 @@ returns g c =
     record {
       run = run;
       drained = drained_of _ _ c.args.steps.now _ run c.play.ensures.opening c.play.ensures.history c.drain.ensures.entries;
-      written =
-          subst (λ (o : Opening). IsWritten sink o run c.write_output.result) (c.drain.ensures.opening ∙ c.play.ensures.opening)
-          (record {
-            either = c.write_output.ensures.either;
-            whole = c.write_output.ensures.whole;
-            prefix = c.write_output.ensures.prefix;
-            one = c.write_output.ensures.one;
-            numbers = c.write_output.ensures.numbers;
-            faultless = c.write_output.ensures.faultless;
-            failed = c.write_output.ensures.failed;
-          });
+      output = subst (λ (o : Opening). WritesOutput sink o run c.write_output.result) (c.drain.ensures.opening ∙ c.play.ensures.opening) c.write_output.ensures;
     }

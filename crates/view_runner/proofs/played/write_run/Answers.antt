@@ -12,13 +12,7 @@ returns-in-Ok g c =
       drained = c.in-Ok.ensures.history;
       summary = c.in-Ok.told;
       of_run = subst (λ (o : Opening). IsSummaryOf o run c.in-Ok.told) c.summarized_run.ensures.opening c.in-Ok.ensures.summary;
-      written = record {
-        either = c.write_summary.ensures.either;
-        whole = c.write_summary.ensures.whole;
-        prefix = c.write_summary.ensures.prefix;
-        faultless = c.write_summary.ensures.faultless;
-        failed = c.write_summary.ensures.failed;
-      };
+      written = c.write_summary.ensures;
     })
 
 pub returns : goal.returns
