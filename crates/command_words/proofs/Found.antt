@@ -1,8 +1,9 @@
 -- Found: the command that is found in words is the one that they ask for, and no other.
-use Rattle.std.proofs.Common.{◌≡◌, ◌↔◌, ◌∙◌, sym, List, Option, Some, None}
+use Rattle.std.proofs.Common.{◌≡◌, ◌↔◌, ◌∙◌, sym, ℕ, true, false, List, Option, Some, None}
 use Rattle.std.specs.Prelude.{◌≢◌, String}
 use Rattle.std.specs.declared.alloc.Global.{Global}
 use Rattle.command_words.specs.declared.command.Command.{Command}
+use Rattle.command_words.specs.declared.command.Command.TheVariants.{Replay, Race, Drill}
 use Rattle.command_words.specs.Asks.{Asks}
 
 -- what is found in words: the command that they ask for, or nothing
@@ -17,3 +18,22 @@ not_asked found words mine command finds is other asks = other (only found words
 
 pub none_asked : (found : Option Command) (words : List (String Global)) → Finds found words → found ≡ None → (command : Command) → ¬ Asks command words
 none_asked found words finds is command asks = let wrong : None ≡ Some command = sym is ∙ (finds command).1 asks in cc
+
+-- what differs by its form alone
+pub no_truth : ¬ (false ≡ true)
+no_truth e = cc
+
+pub no_seed : (seed : ℕ) → ¬ (None ≡ Some seed)
+no_seed seed e = cc
+
+pub race_is_no_replay : Race ≢ Replay
+race_is_no_replay e = cc
+
+pub drill_is_no_replay : (seed : ℕ) → Drill seed ≢ Replay
+drill_is_no_replay seed e = cc
+
+pub replay_is_no_drill : (seed : ℕ) → Replay ≢ Drill seed
+replay_is_no_drill seed e = cc
+
+pub race_is_no_drill : (seed : ℕ) → Race ≢ Drill seed
+race_is_no_drill seed e = cc

@@ -1,11 +1,11 @@
 //! The parser of the words: one program with one level of subcommands.
 
-ghost use Rattle.std.specs.Prelude.{◌≡◌, ◌↔◌, Some, IfOk};
+ghost use Rattle.std.specs.Prelude.{◌≡◌, ◌↔◌, Some, IfOk, codes};
 ghost use Rattle.std.specs.List.{list_any};
 ghost use Rattle.std.specs.String.{string_bytes};
-ghost use Rattle.clap.specs.Simple.{app_of, subcommand_rows_of};
+ghost use Rattle.clap.specs.Simple.{app_of, new_app, new_shape, on_top, subcommand_rows_of, with_subcommand};
 ghost use Rattle.command_words.specs.Asks.{Asks};
-ghost use Rattle.command_words.specs.Program.{IsMet, is_option, program};
+ghost use Rattle.command_words.specs.Program.{IsMet, is_option, program, strict};
 
 use crate::command::Command;
 use crate::seed::canonical;
@@ -14,21 +14,37 @@ use clap::{Arg, ArgMatches};
 use cs_types::OutOfMemory;
 use std::alloc::{AllocError, Global};
 
-/// The program's grammar: `replay`, `race`, and `drill` with one value.
-fn grammar<'a>(alloc: Global) -> Result<clap::Command<'a>, AllocError>
-    ensures { IfOk result (λ command. app_of command ≡ program) }
+/// The program with no command: all words are its own, none asks for help or for a version, and a command has to
+/// be named.
+fn bare<'a>(alloc: Global) -> clap::Command<'a>
+    ensures { app_of result ≡ on_top strict (new_app (codes "coresched")) }
 {
-    let seed = Arg::new(alloc, "seed").required(true);
-    let drill = clap::Command::new(alloc, "drill").arg(seed)?;
     clap::Command::new(alloc, "coresched")
         .no_binary_name(true)
         .disable_help_flag(true)
         .disable_help_subcommand(true)
         .disable_version_flag(true)
         .subcommand_required(true)
+}
+
+/// The program with `replay` and `race`, which take no value.
+fn plays<'a>(alloc: Global) -> Result<clap::Command<'a>, AllocError>
+    ensures { IfOk result (λ command. app_of command
+        ≡ with_subcommand (with_subcommand (on_top strict (new_app (codes "coresched"))) (new_shape (codes "replay")))
+        (new_shape (codes "race"))) }
+{
+    bare(alloc)
         .subcommand(clap::Command::new(alloc, "replay"))?
-        .subcommand(clap::Command::new(alloc, "race"))?
-        .subcommand(drill)
+        .subcommand(clap::Command::new(alloc, "race"))
+}
+
+/// The program's grammar: `replay`, `race`, and `drill` with one value.
+fn grammar<'a>(alloc: Global) -> Result<clap::Command<'a>, AllocError>
+    ensures { IfOk result (λ command. app_of command ≡ program) }
+{
+    let seed = Arg::new(alloc, "seed").required(true);
+    let drill = clap::Command::new(alloc, "drill").arg(seed)?;
+    plays(alloc)?.subcommand(drill)
 }
 
 /// The command of these matches.

@@ -1,6 +1,6 @@
 use Rattle.std.proofs.Common.{◌≡◌, ◌∙◌, ap, Some}
 use Rattle.command_words.specs.declared.command.Command.TheVariants.{Replay, Race, Drill}
-use Rattle.command_words.proofs.Found.{none_asked, not_asked, only}
+use Rattle.command_words.proofs.Found.{no_seed, none_asked, not_asked, only, race_is_no_drill, replay_is_no_drill}
 use Rattle.command_words.proofs.command.drill_seed.Goals as goal
 
 pub returns-in-Some-Drill : goal.returns-in-Some-Drill
@@ -14,16 +14,16 @@ returns-in-Some-Drill c =
 pub returns-in-Some-Replay : goal.returns-in-Some-Replay
 returns-in-Some-Replay c =
     λ seed. (
-      λ e. absurd cc,
-      λ asks. absurd (not_asked c.command_of.result c.args.words.now Replay (Drill seed) c.command_of.ensures.asked (c.in-Some-Replay.is ∙ ap Some c.in-Some-Replay.field-0-is) (λ e. cc) asks),
+      λ e. absurd (no_seed seed e),
+      λ asks. absurd (not_asked c.command_of.result c.args.words.now Replay (Drill seed) c.command_of.ensures.asked (c.in-Some-Replay.is ∙ ap Some c.in-Some-Replay.field-0-is) (replay_is_no_drill seed) asks),
     )
 
 pub returns-in-Some-Race : goal.returns-in-Some-Race
 returns-in-Some-Race c =
     λ seed. (
-      λ e. absurd cc,
-      λ asks. absurd (not_asked c.command_of.result c.args.words.now Race (Drill seed) c.command_of.ensures.asked (c.in-Some-Race.is ∙ ap Some c.in-Some-Race.field-0-is) (λ e. cc) asks),
+      λ e. absurd (no_seed seed e),
+      λ asks. absurd (not_asked c.command_of.result c.args.words.now Race (Drill seed) c.command_of.ensures.asked (c.in-Some-Race.is ∙ ap Some c.in-Some-Race.field-0-is) (race_is_no_drill seed) asks),
     )
 
 pub returns-in-None : goal.returns-in-None
-returns-in-None c = λ seed. (λ e. absurd cc, λ asks. absurd (none_asked c.command_of.result c.args.words.now c.command_of.ensures.asked c.in-None.is (Drill seed) asks))
+returns-in-None c = λ seed. (λ e. absurd (no_seed seed e), λ asks. absurd (none_asked c.command_of.result c.args.words.now c.command_of.ensures.asked c.in-None.is (Drill seed) asks))
