@@ -335,7 +335,8 @@ impl TaskTable {
     }
 
     /// The task with the pid, if there is one, is at home on this sibling, with this stamp. Its virtual time, in ns, is as far
-    /// ahead of `to` as it was of `from`. Nothing else changes.
+    /// ahead of `to` as it was of `from`, or `to` itself where it was behind `from`, and at most 2^128 - 1. Nothing else
+    /// changes.
     #[inline(always)]
     pub fn move_to(&mut self, pid: Pid, home: Cpu, from: u128, to: u128, stamp: u64)
         ensures moved { self.new ≡ record self.old {

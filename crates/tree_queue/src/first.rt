@@ -1,7 +1,7 @@
 //! The first of the tasks of a queue, which is asked for more often than it changes: it stands beside the trees. It
 //! is apart, since it knows these by their contract alone.
 
-ghost use Rattle.std.specs.Prelude.{◌≡◌, ℕ, ◌+◌, ◌≤◌, List, Some, All};
+ghost use Rattle.std.specs.Prelude.{◌≡◌, ◌+◌, ◌≤◌, List, Some, All};
 ghost use Rattle.std.specs.FinMap as map;
 ghost use Rattle.std.specs.Option.{option_map};
 ghost use Rattle.cs_types.specs.Comparisons.{most_comparisons};
