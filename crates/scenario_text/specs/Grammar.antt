@@ -91,6 +91,16 @@ pid = number 1 9999
 abbrev pub named_pid : Field
 named_pid = number 1 999999
 
+-- numbers of 32 bits, without a sign and with one, and of 64 bits
+abbrev pub u32 : Field
+u32 = number 0 4294967295
+
+abbrev pub i32 : Field
+i32 = signed 2147483648 2147483647
+
+abbrev pub u64 : Field
+u64 = number 0 18446744073709551615
+
 -- a user or a group
 abbrev pub id : Field
 id = number 0 65535
@@ -157,29 +167,47 @@ teach_form = keyword (codes "teach") ∷ guard ∷ id ∷ id ∷ []
 abbrev pub end_form : Form
 end_form = keyword (codes "end") ∷ []
 
--- what a sibling does, to itself
+-- what a sibling does, to itself: its name alone
+abbrev pub alone : Word → Form
+alone name = keyword name ∷ []
+
 abbrev pub sibling_events : List Form
 sibling_events =
-    (keyword (codes "turn") ∷ [])
-    ∷ (keyword (codes "resched") ∷ [])
-    ∷ (keyword (codes "block") ∷ [])
-    ∷ (keyword (codes "exit") ∷ [])
-    ∷ (keyword (codes "tick") ∷ [])
-    ∷ []
+    alone (codes "turn") ∷ alone (codes "resched") ∷ alone (codes "block") ∷ alone (codes "exit") ∷ alone (codes "tick") ∷ []
 
--- what a caller does, in a core with this number of siblings
+-- what a caller does: `wake` PID
+abbrev pub wake_form : Form
+wake_form = keyword (codes "wake") ∷ named_pid ∷ []
+
+-- `advance` DELTA
+abbrev pub advance_form : Form
+advance_form = keyword (codes "advance") ∷ number 1 1000000000 ∷ []
+
+-- `fork` CALLER, and `thread` or `process`
+abbrev pub fork_form : Form
+fork_form = keyword (codes "fork") ∷ named_pid ∷ child ∷ []
+
+-- `prctl` CALLER CMD TARGET SCOPE ADDR
+abbrev pub prctl_form : Form
+prctl_form = keyword (codes "prctl") ∷ named_pid ∷ u32 ∷ i32 ∷ u32 ∷ u64 ∷ []
+
+-- `setsched` PID POLICY
+abbrev pub setsched_form : Form
+setsched_form = keyword (codes "setsched") ∷ named_pid ∷ policy ∷ []
+
+-- `offline` SIBLING or `online` SIBLING, in a core with this number of siblings
+abbrev pub cpu_form : Word → ℕ → Form
+cpu_form name siblings = keyword name ∷ sibling siblings ∷ []
+
+-- `load` GUARD or `unload` GUARD
+abbrev pub guard_form : Word → Form
+guard_form name = keyword name ∷ guard ∷ []
+
 abbrev pub caller_events : ℕ → List Form
 caller_events siblings =
-    (keyword (codes "wake") ∷ named_pid ∷ [])
-    ∷ (keyword (codes "advance") ∷ number 1 1000000000 ∷ [])
-    ∷ (keyword (codes "fork") ∷ named_pid ∷ child ∷ [])
-    ∷ (keyword (codes "prctl") ∷ named_pid ∷ number 0 4294967295 ∷ signed 2147483648 2147483647 ∷ number 0 4294967295 ∷ number 0 18446744073709551615 ∷ [])
-    ∷ (keyword (codes "setsched") ∷ named_pid ∷ policy ∷ [])
-    ∷ (keyword (codes "offline") ∷ sibling siblings ∷ [])
-    ∷ (keyword (codes "online") ∷ sibling siblings ∷ [])
-    ∷ (keyword (codes "load") ∷ guard ∷ [])
-    ∷ (keyword (codes "unload") ∷ guard ∷ [])
-    ∷ []
+    wake_form ∷ advance_form ∷ fork_form ∷ prctl_form ∷ setsched_form
+    ∷ cpu_form (codes "offline") siblings ∷ cpu_form (codes "online") siblings
+    ∷ guard_form (codes "load") ∷ guard_form (codes "unload") ∷ []
 
 -- `step`, an actor and an event
 abbrev pub step_form : Field → Form → Form

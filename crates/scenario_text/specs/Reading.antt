@@ -27,7 +27,7 @@ use Rattle.scenario_text.specs.Words.{Word, policy_word, task_words, teach_words
 use Rattle.scenario_text.specs.Text.{line, version_words, step_words, end_words, scenario_lines}
 use Rattle.scenario_text.specs.Faults.{kind_of}
 use Rattle.scenario_text.specs.Reader.{Tells}
-use Rattle.scenario_text.specs.Grammar.{is_word, begins, behind, has_minus, value, is_number, is_signed, keyword, number, signed, sibling, named_pid, guard, child, policy, Form, version_form, siblings_form, limits_form, task_form, teach_form}
+use Rattle.scenario_text.specs.Grammar.{is_word, begins, behind, has_minus, value, is_number, u32, i32, u64, Form, version_form, siblings_form, limits_form, task_form, teach_form, alone, wake_form, advance_form, fork_form, prctl_form, setsched_form, cpu_form, guard_form}
 
 -- words, as a pattern sees them: how many there are, and the word at each place from 0
 pub record Parts : Type 0 where
@@ -127,34 +127,30 @@ ask_value words = ask_said (words.at 2) (words.at 3) (words.at 4) (words.at 5)
 
 -- whether they are right
 abbrev pub is_ask : Word → Word → Word → Word → Bool
-is_ask cmd target scope addr =
-    is_number 0 4294967295 cmd
-    && is_signed 2147483648 2147483647 target
-    && is_number 0 4294967295 scope
-    && is_number 0 18446744073709551615 addr
+is_ask cmd target scope addr = u32.is_right cmd && i32.is_right target && u32.is_right scope && u64.is_right addr
 
 -- the forms of events, with what each says
 
 abbrev pub sibling_readings : Readings (ℕ → Event)
 sibling_readings =
-    (keyword (codes "turn") ∷ [], λ words. Turn)
-    ∷ (keyword (codes "resched") ∷ [], λ words. Resched)
-    ∷ (keyword (codes "block") ∷ [], λ words. Block)
-    ∷ (keyword (codes "exit") ∷ [], λ words. Exit)
-    ∷ (keyword (codes "tick") ∷ [], λ words. Tick)
+    (alone (codes "turn"), λ words. Turn)
+    ∷ (alone (codes "resched"), λ words. Resched)
+    ∷ (alone (codes "block"), λ words. Block)
+    ∷ (alone (codes "exit"), λ words. Exit)
+    ∷ (alone (codes "tick"), λ words. Tick)
     ∷ []
 
 abbrev pub caller_readings : ℕ → Readings Event
 caller_readings siblings =
-    (keyword (codes "wake") ∷ named_pid ∷ [], λ words. Wake (value (words.at 1)))
-    ∷ (keyword (codes "advance") ∷ number 1 1000000000 ∷ [], λ words. Advance (value (words.at 1)))
-    ∷ (keyword (codes "fork") ∷ named_pid ∷ child ∷ [], λ words. Fork (value (words.at 1)) (is_word (words.at 2) (codes "thread")))
-    ∷ (keyword (codes "prctl") ∷ named_pid ∷ number 0 4294967295 ∷ signed 2147483648 2147483647 ∷ number 0 4294967295 ∷ number 0 18446744073709551615 ∷ [], λ words. Prctl (value (words.at 1)) (ask_value words))
-    ∷ (keyword (codes "setsched") ∷ named_pid ∷ policy ∷ [], λ words. SetSched (value (words.at 1)) (policy_value (words.at 2)))
-    ∷ (keyword (codes "offline") ∷ sibling siblings ∷ [], λ words. Offline (value (words.at 1)))
-    ∷ (keyword (codes "online") ∷ sibling siblings ∷ [], λ words. Online (value (words.at 1)))
-    ∷ (keyword (codes "load") ∷ guard ∷ [], λ words. Load (value (words.at 1)))
-    ∷ (keyword (codes "unload") ∷ guard ∷ [], λ words. Unload (value (words.at 1)))
+    (wake_form, λ words. Wake (value (words.at 1)))
+    ∷ (advance_form, λ words. Advance (value (words.at 1)))
+    ∷ (fork_form, λ words. Fork (value (words.at 1)) (is_word (words.at 2) (codes "thread")))
+    ∷ (prctl_form, λ words. Prctl (value (words.at 1)) (ask_value words))
+    ∷ (setsched_form, λ words. SetSched (value (words.at 1)) (policy_value (words.at 2)))
+    ∷ (cpu_form (codes "offline") siblings, λ words. Offline (value (words.at 1)))
+    ∷ (cpu_form (codes "online") siblings, λ words. Online (value (words.at 1)))
+    ∷ (guard_form (codes "load"), λ words. Load (value (words.at 1)))
+    ∷ (guard_form (codes "unload"), λ words. Unload (value (words.at 1)))
     ∷ []
 
 -- what is read, where a number besides is right
