@@ -1,11 +1,11 @@
 -- Cuts: where bytes are cut at separators, a text into lines and a line into words.
-use Rattle.std.proofs.Common.{◌≡◌, ◌≢◌, ℕ, ◌+◌, ◌-◌, ◌≤◌, Bool, true, false, cond, eqb, ltb, leb, List, [], ◌∷◌, ◌++◌, length, take, drop, Option, Some, None, Ok, Err, refl, sym, ap, ◌∙◌, arith, inl, inr, ◌⊎◌, append_assoc, take_all, suc, map, slice_set, zero-le}
+use Rattle.std.proofs.Common.{◌≡◌, ◌≢◌, ℕ, ◌+◌, ◌-◌, ◌≤◌, Bool, true, false, cond, eqb, ltb, leb, List, [], ◌∷◌, ◌++◌, length, take, drop, Option, Some, None, Ok, Err, refl, sym, ap, ◌∙◌, arith, inl, inr, ◌⊎◌, append_assoc, take_all, suc, map, zero-le}
 use Rattle.std.specs.Borrow.{Bor}
-use Rattle.std.specs.Prelude.{◌&&◌, not, codes}
+use Rattle.std.specs.Prelude.{◌&&◌, not}
 use Rattle.std.specs.List.{position_or_len, slice_split, onto_first, list_any}
 use Rattle.std.proofs.Math.ListN.{get_or-map}
 use Rattle.std.proofs.lemmas.Bool.{false_from_ne_true, ne_eqb, lt-leb, cases_lt, lt-ltb, le-ltb, le-leb, eq-eqb, cond-true, cond-false}
-use Rattle.std.proofs.lemmas.List.{length-drop, take-append-drop, get_or-drop, length-map, length-append, map-append, append-nil}
+use Rattle.std.proofs.lemmas.List.{length-drop, get_or-drop, length-map, length-append, map-append, append-nil}
 use Rattle.std.proofs.lemmas.List.Folds.{list_any-append}
 use Rattle.std.proofs.Math.Bool.{or-true}
 use Rattle.std.proofs.lemmas.List.Splits.{slice_split_none, slice_split_first}
@@ -76,22 +76,6 @@ has_piece separator (byte ∷ bytes) =
     ]
 
 -- ---- the words of a line
-
--- the first word, once it is put
-pub first_set : (words : List (Bor Word)) (word : Bor Word) → 1 ≤ length words → take 1 (slice_set words 0 word) ≡ word ∷ []
-first_set [] word some = absurd (omega arith)
-first_set (w ∷ words) word some = refl
-
--- a line that begins as a step line does
-pub step_begins : (line rest : List ℕ) → take 5 line ≡ codes "step " → rest ≡ drop 5 line → line ≡ codes "step " ++ rest
-step_begins line rest head is =
-    sym (take-append-drop 5 line)
-    ∙ ap (λ (bytes : List ℕ). bytes ++ drop 5 line) head
-    ∙ ap (λ (bytes : List ℕ). codes "step " ++ bytes) (sym is)
-
-pub step_cut : (line rest : List ℕ) → line ≡ codes "step " ++ rest → words_in line ≡ codes "step" ∷ words_in rest
-unfolding words_in pieces
-step_cut line rest is = ap words_in is
 
 abbrev pub is_empty : Word → Bool
 is_empty word = eqb (length word) 0

@@ -16,13 +16,3 @@ pub(crate) fn cut(bytes: &[u8], separator: u8) -> Option<(&[u8], &[u8])>
     let end = memchr(separator, bytes)?;
     Some((&bytes[..end], &bytes[end + 1..]))
 }
-
-/// The same, by going over the bytes one by one: for where the separator is near.
-pub(crate) fn cut_near(bytes: &[u8], separator: u8) -> Option<(&[u8], &[u8])>
-    ensures pieces { MatchOption result (pieces separator bytes.now ≡ bytes.now ∷ [])
-        (λ parts. pieces separator bytes.now ≡ parts.0.now ∷ pieces separator parts.1.now) }
-    ensures shorter { IfSome result (λ parts. length parts.1.now < length bytes.now) }
-{
-    let end = bytes.iter().position(|byte| *byte == separator)?;
-    Some((&bytes[..end], &bytes[end + 1..]))
-}

@@ -29,28 +29,12 @@ pub(crate) const MOST_TARGET_ABOVE: u32 = 2_147_483_647;
 /// The greatest advance of the clock, in ns. The least is 1.
 pub(crate) const MOST_ADVANCE: u64 = 1_000_000_000;
 
-/// The target of `prctl`.
-fn parse_target(word: &[u8]) -> Result<i32, BadKind>
-    ensures { MatchResult result (λ n. (is_signed 2147483648 2147483647 word.now ≡ true) × (n ≡ signed_value word.now))
-        (λ kind. (is_signed 2147483648 2147483647 word.now ≡ false) × (kind ≡ Number)) }
-{
-    Ok(parse_signed(word, MOST_TARGET_BELOW, MOST_TARGET_ABOVE)? as i32)
-}
-
 /// The pid of a task that a caller names.
 fn parse_named_pid(word: &[u8]) -> Result<Pid, BadKind>
     ensures { MatchResult result (λ n. (is_number 1 999999 word.now ≡ true) × (n ≡ value word.now))
         (λ kind. (is_number 1 999999 word.now ≡ false) × (kind ≡ Number)) }
 {
     Ok(parse_number(word, 1, MOST_NAMED_PID)? as u32)
-}
-
-/// How far the clock goes on, in ns.
-fn parse_advance(word: &[u8]) -> Result<u64, BadKind>
-    ensures { MatchResult result (λ n. (is_number 1 1000000000 word.now ≡ true) × (n ≡ value word.now))
-        (λ kind. (is_number 1 1000000000 word.now ≡ false) × (kind ≡ Number)) }
-{
-    parse_number(word, 1, MOST_ADVANCE)
 }
 
 /// Whether the word says what a child is to be.
@@ -91,17 +75,16 @@ fn parse_ask(cmd: &[u8], target: &[u8], scope: &[u8], addr: &[u8]) -> Result<Ask
 {
     let (Ok(cmd), Ok(pid), Ok(scope), Ok(addr)) = (
         parse_number(cmd, 0, u32::MAX as u64),
-        parse_target(target),
+        parse_signed(target, MOST_TARGET_BELOW, MOST_TARGET_ABOVE),
         parse_number(scope, 0, u32::MAX as u64),
         parse_number(addr, 0, u64::MAX),
     ) else {
         return Err(BadKind::Number);
     };
-    let (cmd, scope) = (cmd as u32, scope as u32);
     Ok(Ask {
-        cmd,
-        pid,
-        scope,
+        cmd: cmd as u32,
+        pid: pid as i32,
+        scope: scope as u32,
         addr,
     })
 }
@@ -125,26 +108,42 @@ fn parse_prctl(
     Ok(Event::Prctl { caller, ask })
 }
 
+/// What a caller does to the one task, sibling or guard, or for the one time, that it names.
+fn parse_short_call(name: &[u8], word: &[u8], siblings: u8) -> Result<Event, BadKind>
+    ensures { result ≡ read_in (caller_readings siblings) (parts (name.now ∷ word.now ∷ [])) }
+{
+    if is_word(name, "wake") {
+        parse_named_pid(word).map(Event::Wake)
+    } else if is_word(name, "advance") {
+        parse_number(word, 1, MOST_ADVANCE).map(Event::Advance)
+    } else if is_word(name, "offline") {
+        parse_cpu(word, siblings).map(Event::Offline)
+    } else if is_word(name, "online") {
+        parse_cpu(word, siblings).map(Event::Online)
+    } else if is_word(name, "load") {
+        parse_guard(word).map(Event::Load)
+    } else if is_word(name, "unload") {
+        parse_guard(word).map(Event::Unload)
+    } else {
+        Err(BadKind::Shape)
+    }
+}
+
 /// What a caller does, in a core with this number of siblings.
 fn parse_caller_event(words: &[&[u8]], siblings: u8) -> Result<Event, BadKind>
     ensures { result ≡ read_in (caller_readings siblings) (lent words.now) }
 {
     match *words {
-        [name, pid] if is_word(name, "wake") => parse_named_pid(pid).map(Event::Wake),
-        [name, delta] if is_word(name, "advance") => parse_advance(delta).map(Event::Advance),
+        [name, word] => parse_short_call(name, word, siblings),
         [name, caller, child] if is_word(name, "fork") && has_child_shape(child) => {
             parse_fork(caller, child)
-        }
-        [name, caller, cmd, target, scope, addr] if is_word(name, "prctl") => {
-            parse_prctl(caller, cmd, target, scope, addr)
         }
         [name, pid, policy] if is_word(name, "setsched") && has_policy_shape(policy) => {
             parse_setsched(pid, policy)
         }
-        [name, cpu] if is_word(name, "offline") => parse_cpu(cpu, siblings).map(Event::Offline),
-        [name, cpu] if is_word(name, "online") => parse_cpu(cpu, siblings).map(Event::Online),
-        [name, index] if is_word(name, "load") => parse_guard(index).map(Event::Load),
-        [name, index] if is_word(name, "unload") => parse_guard(index).map(Event::Unload),
+        [name, caller, cmd, target, scope, addr] if is_word(name, "prctl") => {
+            parse_prctl(caller, cmd, target, scope, addr)
+        }
         _ => Err(BadKind::Shape),
     }
 }

@@ -10,7 +10,7 @@ ghost use Rattle.scenario_text.specs.Text.{line};
 ghost use Rattle.scenario_text.specs.Reading.{BeginsStep, BeginsActor, BeginsEvent, BeginsCall, BeginsAsk, BeginsPolicy, BeginsNumber, BeginsTarget};
 
 use crate::number::{first_digits, is_canonical};
-use crate::pieces::cut_near;
+use crate::pieces::cut;
 use crate::step::{
     MOST_ADVANCE, MOST_CALLER, MOST_NAMED_PID, MOST_TARGET_ABOVE, MOST_TARGET_BELOW,
 };
@@ -194,7 +194,7 @@ fn prctl_event(text: &[u8]) -> Option<(Event, &[u8])>
 fn last_policy(text: &[u8]) -> Option<(Policy, &[u8])>
     ensures { IfSome result (λ read. BeginsPolicy text.now read.0 read.1.now) }
 {
-    let (word, rest) = cut_near(text, b'\n')?;
+    let (word, rest) = cut(text, b'\n')?;
     let policy = parse_policy(word).ok()?;
     Some((policy, rest))
 }

@@ -1,14 +1,13 @@
 //! The words of a line, cut before any of them is looked at, since a line's form is told by them all.
 
-ghost use Rattle.std.specs.Prelude.{◌≡◌, ◌≢◌, ◌⊎◌, ◌+◌, ◌<◌, ◌≤◌, ◌==◌, false, [], ◌∷◌, ◌++◌, length, take, MatchResult};
-ghost use Rattle.std.specs.List.{list_any};
+ghost use Rattle.std.specs.Prelude.{◌≡◌, ◌≢◌, ◌⊎◌, ◌+◌, ◌<◌, ◌≤◌, [], ◌∷◌, ◌++◌, length, take, MatchResult};
 ghost use Rattle.scenario_text.specs.declared.fault.BadKind.TheVariants.{Shape};
 ghost use Rattle.scenario_text.specs.Faults.{words_in};
 ghost use Rattle.scenario_text.specs.Grammar.{is_word};
 ghost use Rattle.scenario_text.specs.Reading.{texts, Reads, used};
 
 use crate::fault::BadKind;
-use crate::pieces::cut_near;
+use crate::pieces::cut;
 
 /// How many words a line has at most: as many as the longest form, a task.
 const MOST_WORDS: usize = 15;
@@ -36,23 +35,6 @@ fn put<'a>(slots: &mut Slots<'a>, count: usize, word: &'a [u8]) -> Result<(), Ba
     Ok(())
 }
 
-/// Puts the first word of a step line, without a search for its end: most lines are step lines. The answer is how many
-/// words are put, and what stands behind them.
-fn known_words<'a>(line: &'a [u8], slots: &mut Slots<'a>) -> (usize, &'a [u8])
-    ensures cut { words_in line.now ≡ texts (take result.0 slots.new) ++ words_in result.1.now }
-    ensures some { list_any (λ word. length word == 0) (texts (take result.0 slots.new)) ≡ false }
-    ensures count { length (take result.0 slots.new) ≡ result.0 }
-    ensures few { result.0 ≤ 1 }
-{
-    match line.strip_prefix(b"step ") {
-        Some(rest) => {
-            slots[0] = &line[..4];
-            (1, rest)
-        }
-        None => (0, line),
-    }
-}
-
 /// The words of the line, between which single spaces stand. They are put into the slots, in place of another
 /// line's.
 #[inline(always)]
@@ -62,8 +44,8 @@ pub(crate) fn words_of<'r, 'a>(
 ) -> Result<&'r [&'a [u8]], BadKind>
     ensures { Reads (λ words. texts words.now) result (used (words_in line.now)) }
 {
-    let (mut count, mut rest) = known_words(line, slots);
-    while let Some((word, more)) = cut_near(rest, b' ') {
+    let (mut count, mut rest) = (0, line);
+    while let Some((word, more)) = cut(rest, b' ') {
         put(slots, count, word)?;
         count += 1;
         rest = more;
