@@ -92,7 +92,7 @@ fn last_cpu(text: &[u8], siblings: u8) -> Option<(Cpu, &[u8])>
 /// The `wake` that the text begins with, and what stands behind its line.
 #[inline(always)]
 fn wake_event(text: &[u8]) -> Option<(Event, &[u8])>
-    ensures { IfSome result (λ read. (siblings : ℕ) → BeginsCall siblings text.now read.0 read.1.now) }
+    ensures { (siblings : ℕ) → IfSome result (λ read. BeginsCall siblings text.now read.0 read.1.now) }
 {
     let (pid, rest) = number_before(behind(text, b"wake ")?, b'\n', 1, MOST_NAMED_PID)?;
     Some((Event::Wake(pid as u32), rest))
@@ -101,7 +101,7 @@ fn wake_event(text: &[u8]) -> Option<(Event, &[u8])>
 /// The `advance` that the text begins with, and what stands behind its line.
 #[inline(always)]
 fn advance_event(text: &[u8]) -> Option<(Event, &[u8])>
-    ensures { IfSome result (λ read. (siblings : ℕ) → BeginsCall siblings text.now read.0 read.1.now) }
+    ensures { (siblings : ℕ) → IfSome result (λ read. BeginsCall siblings text.now read.0 read.1.now) }
 {
     let (delta, rest) = number_before(behind(text, b"advance ")?, b'\n', 1, MOST_ADVANCE)?;
     Some((Event::Advance(delta), rest))
@@ -138,7 +138,7 @@ fn last_child(text: &[u8]) -> Option<(bool, &[u8])>
 /// The `fork` that the text begins with, and what stands behind its line.
 #[inline(always)]
 fn fork_event(text: &[u8]) -> Option<(Event, &[u8])>
-    ensures { IfSome result (λ read. (siblings : ℕ) → BeginsCall siblings text.now read.0 read.1.now) }
+    ensures { (siblings : ℕ) → IfSome result (λ read. BeginsCall siblings text.now read.0 read.1.now) }
 {
     let (caller, child) = number_before(behind(text, b"fork ")?, b' ', 1, MOST_NAMED_PID)?;
     let (thread, rest) = last_child(child)?;
@@ -181,7 +181,7 @@ fn last_ask(text: &[u8]) -> Option<(Ask, &[u8])>
 /// The `prctl` that the text begins with, and what stands behind its line.
 #[inline(always)]
 fn prctl_event(text: &[u8]) -> Option<(Event, &[u8])>
-    ensures { IfSome result (λ read. (siblings : ℕ) → BeginsCall siblings text.now read.0 read.1.now) }
+    ensures { (siblings : ℕ) → IfSome result (λ read. BeginsCall siblings text.now read.0 read.1.now) }
 {
     let (caller, asked) = number_before(behind(text, b"prctl ")?, b' ', 1, MOST_NAMED_PID)?;
     let (ask, rest) = last_ask(asked)?;
@@ -202,7 +202,7 @@ fn last_policy(text: &[u8]) -> Option<(Policy, &[u8])>
 /// The `setsched` that the text begins with, and what stands behind its line.
 #[inline(always)]
 fn setsched_event(text: &[u8]) -> Option<(Event, &[u8])>
-    ensures { IfSome result (λ read. (siblings : ℕ) → BeginsCall siblings text.now read.0 read.1.now) }
+    ensures { (siblings : ℕ) → IfSome result (λ read. BeginsCall siblings text.now read.0 read.1.now) }
 {
     let (pid, said) = number_before(behind(text, b"setsched ")?, b' ', 1, MOST_NAMED_PID)?;
     let (policy, rest) = last_policy(said)?;
