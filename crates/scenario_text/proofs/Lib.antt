@@ -2,6 +2,7 @@ pub mod Numbers
 pub mod Cuts
 pub mod Texts
 pub mod Fields
+pub mod Policies
 pub mod Judging
 pub mod Said
 pub mod Heads

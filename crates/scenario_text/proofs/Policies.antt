@@ -1,0 +1,20 @@
+-- Policies: the word of a policy, as the code reads it.
+use Rattle.std.proofs.Common.{◌≡◌, ℕ, Bool, true, false, List, Ok, Err, refl, sym, ap, ◌∙◌}
+use Rattle.std.specs.Prelude.{ℤ, codes, MatchResult}
+use Rattle.std.specs.Result.{IsOkAnd}
+use Rattle.cs_types.specs.declared.task.Policy.{Policy}
+use Rattle.scenario_text.specs.declared.fault.BadKind.TheVariants.{Number}
+use Rattle.scenario_text.specs.Words.{Word}
+use Rattle.scenario_text.specs.Grammar.{is_word, begins, behind, policy}
+use Rattle.scenario_text.specs.Reading.{Read, policy_value}
+
+-- a reading of a word
+abbrev pub Reads : {A : Type 0} → Read A → Bool → A → Type 0
+Reads read right value = MatchResult read (λ said. (right ≡ true) × (said ≡ value)) (λ kind. (right ≡ false) × (kind ≡ Number))
+
+-- what is made of what a word says
+pub made : {A B : Type 0} (read : Read A) (said : Read B) (right : Bool) (value : A) (make : A → B) → Reads read right value →
+    MatchResult read (λ x. IsOkAnd said (λ y. y ≡ make x)) (λ kind. said ≡ Err kind) → Reads said right (make value)
+made (Ok x) (Ok y) right value make reads maps = (reads.0, maps ∙ ap make reads.1)
+made (Ok x) (Err kind) right value make reads maps = absurd maps
+made (Err kind) said right value make reads maps = rw maps reads
