@@ -1,11 +1,14 @@
 -- UsualLines: a text that begins with the line of a step, put together from what was found at its front.
-use Rattle.std.proofs.Common.{◌≡◌, ℕ, ◌≤◌, ◌<◌, ◌+◌, ◌-◌, ◌^◌, true, eqb, List, [], ◌∷◌, ◌++◌, length, take, drop, get_or, Some, Ok, Err, false, refl, sym, ap, subst, ◌∙◌, append_assoc, take_all, take-suc, zero-le, arith}
+use Rattle.std.proofs.Common.{w32, w64, FitsSigned, ℤ, pos, negsuc, zero, suc, ◌-ℤ◌, ◌≡◌, ℕ, ◌≤◌, ◌<◌, ◌+◌, ◌-◌, ◌^◌, true, eqb, List, [], ◌∷◌, ◌++◌, length, take, drop, get_or, Some, Ok, Err, false, refl, sym, ap, subst, ◌∙◌, append_assoc, take_all, take-suc, zero-le, arith}
 use native.Mathlib.Numerals.{unary_clauses}
+use mir.Val.{to_z, of_z}
 use Rattle.std.specs.Prelude.{codes, decimal, MatchResult}
+use Rattle.std.specs.Fmt.{signed_decimal}
 use Rattle.std.specs.List.{AllByRecursion, join_with_byte}
 use Rattle.std.specs.Str.{all_ascii_digits}
 use Rattle.std.specs.Result.{result_ok}
 use Rattle.std.proofs.lemmas.Fmt.{decimal_digit}
+use Rattle.std.proofs.lemmas.Int.{to_z-of_z, to_z_pos}
 use Rattle.std.proofs.lemmas.List.{length-drop, take-append-drop}
 use Rattle.std.proofs.lemmas.List.Splits.{slice_split_at, join_with_byte-slice_split}
 use Rattle.cs_types.specs.declared.event.Actor.{Actor}
@@ -14,7 +17,7 @@ use Rattle.cs_types.specs.declared.task.Policy.{Policy}
 use Rattle.cs_types.specs.declared.event.Event.{Event}
 use Rattle.cs_types.specs.declared.event.Event.TheVariants.{Turn, Resched, Block, Exit, Tick, Wake, Advance, Fork, Prctl, SetSched, Offline, Online, Load, Unload}
 use Rattle.cs_types.specs.declared.event.Step.{Step}
-use Rattle.cs_types.specs.Scenario.{IsWithin, IsPolicy, IsStep}
+use Rattle.cs_types.specs.Scenario.{IsWithin, IsPid, IsPolicy, IsStep}
 use Rattle.scenario_text.specs.declared.fault.BadKind.TheVariants.{Number}
 use Rattle.scenario_text.specs.declared.head.Head.{Head}
 use Rattle.scenario_text.specs.declared.line.ScenarioLine.TheVariants as forms
@@ -22,9 +25,9 @@ use Rattle.scenario_text.specs.Words.{Word, policy_word, actor_word, made_words,
 use Rattle.scenario_text.specs.Text.{spaced, line, step_words}
 use Rattle.scenario_text.specs.Grammar.{value, is_canonical, policy}
 use Rattle.scenario_text.specs.Faults.{pieces, lines_in}
-use Rattle.scenario_text.specs.Reading.{◌>>=◌, Contents, place_after, Read, line_at, line_check, next_of, usable, IsHead, BeginsStep, BeginsActor, BeginsEvent, BeginsPolicy, BeginsNumber, policy_value}
-use Rattle.scenario_text.proofs.Numbers.{digits_are}
-use Rattle.scenario_text.proofs.Fields.{policy_is}
+use Rattle.scenario_text.specs.Reading.{◌>>=◌, Contents, place_after, Read, line_at, line_check, next_of, usable, IsHead, BeginsStep, BeginsActor, BeginsEvent, BeginsCall, BeginsAsk, BeginsPolicy, BeginsNumber, BeginsTarget, policy_value}
+use Rattle.scenario_text.proofs.Numbers.{digits_are, negated}
+use Rattle.scenario_text.proofs.Fields.{behind_first, policy_is}
 use Rattle.scenario_text.proofs.Cuts.{has_piece, line_at-lines_in}
 use Rattle.scenario_text.proofs.Texts.{IsPlain, words_in-spaced, spaced_lacks, all_lack}
 use Rattle.scenario_text.proofs.Forms.{line_again}
@@ -105,10 +108,7 @@ pub last_digit_is : (high n : ℕ) (text rest : List ℕ) → n < 10 → n ≤ h
 last_digit_is high n text rest small most is =
     record { within = (zero-le, most); spelled = is ∙ ap (λ (w : List ℕ). w ++ 10 ∷ rest) (sym (decimal_digit n small)) }
 
--- what stands behind the first bytes of a text, as a pattern lends it
-abbrev pub behind_first : ℕ → List ℕ → List ℕ
-behind_first n text = take (length text - n) (drop n text)
-
+-- what stands behind the first bytes of a text is all of it
 whole : (n : ℕ) (text : List ℕ) → drop n text ≡ behind_first n text
 whole n text = sym (take_all (length text - n) (drop n text) (omega (arith, length-drop n text)))
 
@@ -180,3 +180,54 @@ step_is siblings (Caller j) event text front behind rest begins acts found =
     let some = event_some event in
     record { is = found.is; spelled = step_text (actor_word (Caller j)) (event_words event) some.0 some.1 text front behind rest some.2 begins acts.spelled found.spelled }
 step_is siblings End event text front behind rest begins acts found = absurd acts.is
+
+-- ---- what a caller does
+
+-- a word before words that end the line
+word_before : (word tail text behind rest : List ℕ) → text ≡ word ++ 32 ∷ behind → behind ≡ tail ++ 10 ∷ rest → text ≡ (word ++ 32 ∷ tail) ++ 10 ∷ rest
+word_before word tail text behind rest is ends =
+    is ∙ ap (λ (bytes : List ℕ). word ++ 32 ∷ bytes) ends ∙ sym (append_assoc word (32 ∷ tail) (10 ∷ rest))
+
+-- a target fits 32 bits
+target_fits : (target : ℤ) → IsPid target → FitsSigned w32 target
+target_fits (pos n) is = record { sfits = omega (arith, is) }
+target_fits (negsuc n) is = record { sfits = omega (arith, is) }
+
+-- a target below 0, or from 0 on, before a space
+pub below_is : (text digits rest : List ℕ) (n : ℕ) → text ≡ 45 ∷ digits → BeginsNumber 1 2147483648 digits n 32 rest → BeginsTarget text (to_z w32 (of_z w32 (to_z w64 (of_z w64 (pos 0 -ℤ to_z w64 n))))) rest
+below_is text digits rest zero is found = absurd (omega (arith, found.within.0))
+below_is text digits rest (suc n) is found =
+    let fits : IsPid (negsuc n) = omega (arith, found.within.1) in
+    let same = negated (suc n) found.within.0 (omega (arith, found.within.1)) in
+    let whole : suc n - 1 ≡ n = omega arith in
+    rw (same, whole, to_z-of_z w32 (negsuc n) (target_fits (negsuc n) fits)) (record { is = fits; spelled = is ∙ ap (λ (bytes : List ℕ). 45 ∷ bytes) found.spelled })
+
+pub above_is : (text rest : List ℕ) (n : ℕ) → BeginsNumber 0 2147483647 text n 32 rest → BeginsTarget text (to_z w32 n) rest
+above_is text rest n found =
+    let small : n < 2 ^ 31 = omega (arith, found.within.1) in
+    rw (to_z_pos w32 n small) (record { is = small; spelled = found.spelled })
+
+-- the arguments of a call, which end the line
+pub ask_is : (cmd scope addr : ℕ) (target : ℤ) (text asked aimed scoped rest : List ℕ) → BeginsNumber 0 4294967295 text cmd 32 asked → BeginsTarget asked target aimed → BeginsNumber 0 4294967295 aimed scope 32 scoped →
+    BeginsNumber 0 18446744073709551615 scoped addr 10 rest → BeginsAsk text (record { cmd = cmd; pid = to_z w32 (of_z w32 target); scope = scope; addr = addr }) rest
+ask_is cmd scope addr target text asked aimed scoped rest first second third fourth =
+    let last = decimal scope ++ 32 ∷ decimal addr in
+    let later = signed_decimal target ++ 32 ∷ last in
+    let ends = word_before (decimal cmd) later text asked rest first.spelled (word_before (signed_decimal target) last asked aimed rest second.spelled (word_before (decimal scope) (decimal addr) aimed scoped rest third.spelled fourth.spelled)) in
+    rw (to_z-of_z w32 target (target_fits target second.is)) (record {
+      is = record { cmd = omega (arith, first.within.1); pid = second.is; scope = omega (arith, third.within.1); addr = omega (arith, fourth.within.1) };
+      spelled = ends ∙ sym (append_assoc (decimal cmd ++ 32 ∷ later) (10 ∷ []) rest);
+    })
+
+-- a sibling that ends the line behind a word
+behind_word : (word text front rest : List ℕ) (cpu : ℕ) → text ≡ word ++ 32 ∷ front → front ≡ decimal cpu ++ 10 ∷ rest → text ≡ line (word ∷ decimal cpu ∷ []) ++ rest
+behind_word word text front rest cpu is ends =
+    word_before word (decimal cpu) text front rest is ends ∙ sym (append_assoc (word ++ 32 ∷ decimal cpu) (10 ∷ []) rest)
+
+pub offline_is : (siblings cpu : ℕ) (text front rest : List ℕ) → 1 ≤ siblings → text ≡ codes "offline " ++ front → BeginsNumber 0 (siblings - 1) front cpu 10 rest → BeginsCall siblings text (Offline cpu) rest
+offline_is siblings cpu text front rest some is found j caller =
+    record { is = record { event = omega (arith, found.within.1); actor = caller }; spelled = behind_word (codes "offline") text front rest cpu is found.spelled }
+
+pub online_is : (siblings cpu : ℕ) (text front rest : List ℕ) → 1 ≤ siblings → text ≡ codes "online " ++ front → BeginsNumber 0 (siblings - 1) front cpu 10 rest → BeginsCall siblings text (Online cpu) rest
+online_is siblings cpu text front rest some is found j caller =
+    record { is = record { event = omega (arith, found.within.1); actor = caller }; spelled = behind_word (codes "online") text front rest cpu is found.spelled }
