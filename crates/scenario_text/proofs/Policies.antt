@@ -1,12 +1,9 @@
 -- Policies: the word of a policy, as the code reads it.
-use Rattle.std.proofs.Common.{◌≡◌, ℕ, Bool, true, false, List, Ok, Err, refl, sym, ap, ◌∙◌}
-use Rattle.std.specs.Prelude.{ℤ, codes, MatchResult}
+use Rattle.std.proofs.Common.{◌≡◌, Bool, true, false, Ok, Err, ap, ◌∙◌}
+use Rattle.std.specs.Prelude.{MatchResult}
 use Rattle.std.specs.Result.{IsOkAnd}
-use Rattle.cs_types.specs.declared.task.Policy.{Policy}
 use Rattle.scenario_text.specs.declared.fault.BadKind.TheVariants.{Number}
-use Rattle.scenario_text.specs.Words.{Word}
-use Rattle.scenario_text.specs.Grammar.{is_word, begins, behind, policy}
-use Rattle.scenario_text.specs.Reading.{Read, policy_value}
+use Rattle.scenario_text.specs.Reading.{Read}
 
 -- a reading of a word
 abbrev pub Reads : {A : Type 0} → Read A → Bool → A → Type 0

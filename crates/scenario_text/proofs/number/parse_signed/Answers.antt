@@ -1,4 +1,4 @@
-use Rattle.std.proofs.Common.{◌∙◌, ◌-◌, ◌≤◌, ℕ, w64, length, get_or, sym, ap, pos, negsuc, arith}
+use Rattle.std.proofs.Common.{◌∙◌, ◌-◌, ℕ, sym, ap, negsuc, arith}
 use Rattle.scenario_text.proofs.Numbers.{negated}
 use Rattle.scenario_text.proofs.Fields.{below_0}
 use Rattle.scenario_text.proofs.number.parse_signed.Goals as goal
