@@ -1,5 +1,6 @@
 -- Forms: what is read from a line after the head is spelled by its words, and what is spelled so is read.
 use Rattle.std.proofs.Common.{◌≡◌, ℕ, ◌≤◌, ◌<◌, Bool, true, false, cond, eqb, List, [], ◌∷◌, length, Ok, Err, refl, sym, subst, arith}
+use Rattle.std.specs.Borrow.{Bor}
 use Rattle.std.specs.Prelude.{◌||◌, codes}
 use Rattle.std.proofs.lemmas.Bool.{eqb-true, or_parts}
 use Rattle.cs_types.specs.Scenario.{IsTask, IsTeach, IsStep}
@@ -10,7 +11,7 @@ use Rattle.scenario_text.specs.declared.line.ScenarioLine.TheVariants as forms
 use Rattle.scenario_text.specs.Words.{Word, task_words, teach_words}
 use Rattle.scenario_text.specs.Text.{step_words, end_words}
 use Rattle.scenario_text.specs.Grammar.{is_word, task_form, teach_form}
-use Rattle.scenario_text.specs.Reading.{◌>>=◌, parts, Read, read_in, task_value, teach_value, step_line, line_of}
+use Rattle.scenario_text.specs.Reading.{◌>>=◌, parts, lent, Read, read_in, task_value, teach_value, step_line, line_of}
 use Rattle.scenario_text.proofs.Fields.{word_is}
 use Rattle.scenario_text.proofs.Tasks.{task_is, task_again, teach_is, teach_again}
 use Rattle.scenario_text.proofs.Steps.{step_is, step_again}
@@ -28,6 +29,12 @@ IsLine siblings place (forms.Task task) = IsTask siblings task × (place.is_afte
 IsLine siblings place (forms.Teach teach) = IsTeach teach × (teach.line ≡ place.number) × (place.is_after_step ≡ false)
 IsLine siblings place (forms.Step step) = IsStep siblings step
 IsLine siblings place forms.End = Unit {0}
+
+-- a line of no words has no form
+pub empty_line : (siblings : ℕ) (place : Place) (words : List (Bor Word)) → length words < 1 → Err Shape ≡ line_of siblings place (lent words)
+unfolding line_of
+empty_line siblings place [] none = refl
+empty_line siblings place (word ∷ words) none = absurd (omega arith)
 
 -- what is read after another reading
 bound : {A B : Type 0} (r : Read A) (f : A → B) (y : B) → (r >>= λ x. Ok (f x)) ≡ Ok y → (x : A) × (r ≡ Ok x) × (f x ≡ y)

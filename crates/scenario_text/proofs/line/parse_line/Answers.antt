@@ -1,7 +1,9 @@
 use Rattle.std.proofs.Common.{◌∙◌, refl, sym}
-use Rattle.std.proofs.lemmas.Bool.{eq-eqb}
+use Rattle.std.proofs.lemmas.Bool.{eq-eqb, ne_eqb}
 use Rattle.scenario_text.specs.Reading.{line_of}
+use Rattle.scenario_text.proofs.Forms.{empty_line}
 use Rattle.scenario_text.proofs.line.parse_line.Goals as goal
+use Rattle.scenario_text.proofs.line.parse_line.Goals.{else-is_word-4-via-then-is_word-4+else-words-eq1, else-is_word-4-via-else-is_word-4}
 
 pub returns-then-is_word-2 : goal.returns-then-is_word-2
 unfolding line_of
@@ -23,3 +25,15 @@ returns-then-words-eq1 c =
       sym c.if-is_word-4.ensures,
       eq-eqb _ 1 c.if-words-eq1.true,
     ) refl
+
+pub returns-in_default : goal.returns-in_default
+returns-in_default c = empty_line c.args.siblings c.args.place c.args.words.now c.in_default.len_below
+
+pub returns-else-is_word-4 : goal.returns-else-is_word-4
+unfolding line_of
+returns-else-is_word-4 c =
+    rw (sym c.if-is_word.ensures, sym c.if-is_word-2.ensures, sym c.if-is_word-3.ensures)
+    (elim c.else-is_word-4.branch [
+      | else-is_word-4-via-then-is_word-4+else-words-eq1 w ↦ rw (sym w.if-is_word-4.ensures, ne_eqb _ 1 w.if-words-eq1.false) refl
+      | else-is_word-4-via-else-is_word-4 w ↦ rw (sym w.if-is_word-4.ensures) refl
+    ])
