@@ -2,6 +2,7 @@
 use Rattle.std.proofs.Common.{w32, w64, FitsSigned, ℤ, pos, negsuc, zero, suc, ◌-ℤ◌, ◌≡◌, ℕ, ◌≤◌, ◌<◌, ◌+◌, ◌-◌, ◌^◌, true, eqb, List, [], ◌∷◌, ◌++◌, length, take, drop, get_or, Some, Ok, Err, false, refl, sym, ap, subst, ◌∙◌, append_assoc, take_all, take-suc, zero-le, arith}
 use native.Mathlib.Numerals.{unary_clauses}
 use mir.Val.{to_z, of_z}
+use Rattle.std.specs.Borrow.{Bor}
 use Rattle.std.specs.Prelude.{codes, decimal, MatchResult}
 use Rattle.std.specs.Fmt.{signed_decimal}
 use Rattle.std.specs.List.{AllByRecursion, join_with_byte}
@@ -18,17 +19,20 @@ use Rattle.cs_types.specs.declared.event.Event.{Event}
 use Rattle.cs_types.specs.declared.event.Event.TheVariants.{Turn, Resched, Block, Exit, Tick, Wake, Advance, Fork, Prctl, SetSched, Offline, Online, Load, Unload}
 use Rattle.cs_types.specs.declared.event.Step.{Step}
 use Rattle.cs_types.specs.Scenario.{IsWithin, IsPid, IsPolicy, IsStep}
+use Rattle.scenario_text.specs.declared.fault.BadKind.{BadKind}
 use Rattle.scenario_text.specs.declared.fault.BadKind.TheVariants.{Number}
 use Rattle.scenario_text.specs.declared.head.Head.{Head}
+use Rattle.scenario_text.specs.declared.line.Place.{Place}
+use Rattle.scenario_text.specs.declared.line.ScenarioLine.{ScenarioLine}
 use Rattle.scenario_text.specs.declared.line.ScenarioLine.TheVariants as forms
 use Rattle.scenario_text.specs.Words.{Word, policy_word, actor_word, made_words, event_words}
 use Rattle.scenario_text.specs.Text.{spaced, line, step_words}
 use Rattle.scenario_text.specs.Grammar.{value, is_canonical, policy}
 use Rattle.scenario_text.specs.Faults.{pieces, lines_in}
-use Rattle.scenario_text.specs.Reading.{◌>>=◌, Contents, place_after, Read, line_at, line_check, next_of, usable, IsHead, BeginsStep, BeginsActor, BeginsEvent, BeginsCall, BeginsAsk, BeginsPolicy, BeginsNumber, BeginsTarget, policy_value}
+use Rattle.scenario_text.specs.Reading.{◌>>=◌, Contents, place_after, Read, line_at, line_check, next_of, usable, IsHead, BeginsStep, BeginsActor, BeginsEvent, BeginsCall, BeginsAsk, BeginsPolicy, BeginsNumber, BeginsTarget, policy_value, lent, texts, line_of}
 use Rattle.scenario_text.proofs.Numbers.{digits_are, negated}
 use Rattle.scenario_text.proofs.Fields.{behind_first, policy_is}
-use Rattle.scenario_text.proofs.Cuts.{has_piece, line_at-lines_in}
+use Rattle.scenario_text.proofs.Cuts.{has_piece, line_at-lines_in, lent_is}
 use Rattle.scenario_text.proofs.Texts.{IsPlain, words_in-spaced, spaced_lacks, all_lack}
 use Rattle.scenario_text.proofs.Forms.{line_again}
 use Rattle.scenario_text.proofs.Steps.{by}
@@ -59,6 +63,22 @@ pub next_checked : (head : Head) → IsHead head → (plan : Contents) (lines re
 unfolding next_of
 next_checked head is plan lines rest step fits taken checked by =
     rw (taken, line_again head.siblings (place_after plan) (forms.Step step) (let most = is.siblings in omega arith) fits, by) refl
+
+-- a line that is not usual: it is none, it has no form, or it is checked
+module _ (head : Head) (plan : Contents) (lines rest : List (List Word)) where
+  pub untaken : (kind : BadKind) → line_at lines ≡ Err kind → next_of head plan lines ≡ Err kind
+  unfolding next_of
+  untaken kind e = rw e refl
+
+  module _ (words : List (Bor Word)) (taken : line_at lines ≡ Ok (texts words, rest)) (place : Place) (there : place ≡ place_after plan) where
+    pub formless : (kind : BadKind) → Err kind ≡ line_of head.siblings place (lent words) → next_of head plan lines ≡ Err kind
+    unfolding next_of
+    formless kind e = rw (taken, sym there, sym (e ∙ ap (line_of head.siblings place) (lent_is words))) refl
+
+    pub line_checked : (line : ScenarioLine) → Ok line ≡ line_of head.siblings place (lent words) →
+        (checked : Read (Unit {0})) → checked ≡ line_check head.task_limit line plan → next_of head plan lines ≡ (checked >>= λ follows. Ok (line, rest))
+    unfolding next_of
+    line_checked line e checked by = rw (taken, sym there, sym (e ∙ ap (line_of head.siblings place) (lent_is words)), by) refl
 
 -- ---- as the code finds it
 

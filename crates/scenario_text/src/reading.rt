@@ -17,7 +17,6 @@ use std::alloc::Global;
 
 /// The next line, which may follow those of the plan. Its words are put into the slots, in place of
 /// another line's, but for the step of a sibling.
-#[tactic(auto, using(crate::proofs::Cuts::lent_is), unfolding(crate::specs::Reading::next_of))]
 fn next_line<'a>(
     lines: &mut Lines<'a>,
     slots: &mut Slots<'a>,
