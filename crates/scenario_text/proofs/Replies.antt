@@ -154,3 +154,61 @@ reply-reply_words NoGuard fits = refl
 -- So two replies with the same words are one.
 pub one_reply : (a b : Reply) → FitsReply a → FitsReply b → reply_words a ≡ reply_words b → a ≡ b
 one_reply a b fits others same = sym (reply-reply_words a fits) ∙ ap reply_of same ∙ reply-reply_words b others
+
+-- ---- replies of one word
+
+-- a reply that names nothing is one word
+pub one_word : (reply : Reply) → ((pick : Pick) → reply ≡ Picked pick → ⊥) → ((pid from : ℕ) → reply ≡ Stole pid from → ⊥) → ((cpu : ℕ) → reply ≡ Missed cpu → ⊥) → ((pid : ℕ) (pick : Pick) → reply ≡ Slept pid pick → ⊥) → ((pid : ℕ) (pick : Pick) → reply ≡ Ended pid pick → ⊥) → ((cpu : ℕ) → reply ≡ Woken cpu → ⊥) → ((clock : ℕ) → reply ≡ Now clock → ⊥) → ((asked : Bool) → reply ≡ Ticked asked → ⊥) → ((pid : ℕ) → reply ≡ Child pid → ⊥) → ((cookie : ℕ) → reply ≡ Value cookie → ⊥) → (word : Word) × (reply_words reply ≡ word ∷ [])
+one_word (Picked pick) none _ _ _ _ _ _ _ _ _ = absurd (none pick refl)
+one_word (Stole pid from) _ none _ _ _ _ _ _ _ _ = absurd (none pid from refl)
+one_word (Missed cpu) _ _ none _ _ _ _ _ _ _ = absurd (none cpu refl)
+one_word (Slept pid pick) _ _ _ none _ _ _ _ _ _ = absurd (none pid pick refl)
+one_word (Ended pid pick) _ _ _ _ none _ _ _ _ _ = absurd (none pid pick refl)
+one_word (Woken cpu) _ _ _ _ _ none _ _ _ _ = absurd (none cpu refl)
+one_word (Now clock) _ _ _ _ _ _ none _ _ _ = absurd (none clock refl)
+one_word (Ticked asked) _ _ _ _ _ _ _ none _ _ = absurd (none asked refl)
+one_word (Child pid) _ _ _ _ _ _ _ _ none _ = absurd (none pid refl)
+one_word (Value cookie) _ _ _ _ _ _ _ _ _ none = absurd (none cookie refl)
+one_word Nothing _ _ _ _ _ _ _ _ _ _ = (_, refl)
+one_word answer.Offline _ _ _ _ _ _ _ _ _ _ = (_, refl)
+one_word Idle _ _ _ _ _ _ _ _ _ _ = (_, refl)
+one_word HasThreads _ _ _ _ _ _ _ _ _ _ = (_, refl)
+one_word Awake _ _ _ _ _ _ _ _ _ _ = (_, refl)
+one_word NoTask _ _ _ _ _ _ _ _ _ _ = (_, refl)
+one_word Zero _ _ _ _ _ _ _ _ _ _ = (_, refl)
+one_word Set _ _ _ _ _ _ _ _ _ _ = (_, refl)
+one_word Done _ _ _ _ _ _ _ _ _ _ = (_, refl)
+one_word Already _ _ _ _ _ _ _ _ _ _ = (_, refl)
+one_word (Refused errno) _ _ _ _ _ _ _ _ _ _ = (_, refl)
+one_word NoCaller _ _ _ _ _ _ _ _ _ _ = (_, refl)
+one_word Loaded _ _ _ _ _ _ _ _ _ _ = (_, refl)
+one_word Dropped _ _ _ _ _ _ _ _ _ _ = (_, refl)
+one_word NoGuard _ _ _ _ _ _ _ _ _ _ = (_, refl)
+
+-- a reply that is none of these is more words
+pub more_words : (reply : Reply) (word : Word) → (reply ≡ Nothing → ⊥) → (reply ≡ answer.Offline → ⊥) → (reply ≡ Idle → ⊥) → (reply ≡ HasThreads → ⊥) → (reply ≡ Awake → ⊥) → (reply ≡ NoTask → ⊥) → (reply ≡ Zero → ⊥) → (reply ≡ Set → ⊥) → (reply ≡ Done → ⊥) → (reply ≡ Already → ⊥) → ((errno : Errno) → reply ≡ Refused errno → ⊥) → (reply ≡ NoCaller → ⊥) → (reply ≡ Loaded → ⊥) → (reply ≡ Dropped → ⊥) → (reply ≡ NoGuard → ⊥) → reply_words reply ≡ word ∷ [] → ⊥
+more_words Nothing _ none _ _ _ _ _ _ _ _ _ _ _ _ _ _ _ = none refl
+more_words answer.Offline _ _ none _ _ _ _ _ _ _ _ _ _ _ _ _ _ = none refl
+more_words Idle _ _ _ none _ _ _ _ _ _ _ _ _ _ _ _ _ = none refl
+more_words HasThreads _ _ _ _ none _ _ _ _ _ _ _ _ _ _ _ _ = none refl
+more_words Awake _ _ _ _ _ none _ _ _ _ _ _ _ _ _ _ _ = none refl
+more_words NoTask _ _ _ _ _ _ none _ _ _ _ _ _ _ _ _ _ = none refl
+more_words Zero _ _ _ _ _ _ _ none _ _ _ _ _ _ _ _ _ = none refl
+more_words Set _ _ _ _ _ _ _ _ none _ _ _ _ _ _ _ _ = none refl
+more_words Done _ _ _ _ _ _ _ _ _ none _ _ _ _ _ _ _ = none refl
+more_words Already _ _ _ _ _ _ _ _ _ _ none _ _ _ _ _ _ = none refl
+more_words (Refused errno) _ _ _ _ _ _ _ _ _ _ _ none _ _ _ _ _ = none errno refl
+more_words NoCaller _ _ _ _ _ _ _ _ _ _ _ _ none _ _ _ _ = none refl
+more_words Loaded _ _ _ _ _ _ _ _ _ _ _ _ _ none _ _ _ = none refl
+more_words Dropped _ _ _ _ _ _ _ _ _ _ _ _ _ _ none _ _ = none refl
+more_words NoGuard _ _ _ _ _ _ _ _ _ _ _ _ _ _ _ none _ = none refl
+more_words (Picked pick) _ _ _ _ _ _ _ _ _ _ _ _ _ _ _ _ e = absurd cc
+more_words (Stole pid from) _ _ _ _ _ _ _ _ _ _ _ _ _ _ _ _ e = absurd cc
+more_words (Missed cpu) _ _ _ _ _ _ _ _ _ _ _ _ _ _ _ _ e = absurd cc
+more_words (Slept pid pick) _ _ _ _ _ _ _ _ _ _ _ _ _ _ _ _ e = absurd cc
+more_words (Ended pid pick) _ _ _ _ _ _ _ _ _ _ _ _ _ _ _ _ e = absurd cc
+more_words (Woken cpu) _ _ _ _ _ _ _ _ _ _ _ _ _ _ _ _ e = absurd cc
+more_words (Now clock) _ _ _ _ _ _ _ _ _ _ _ _ _ _ _ _ e = absurd cc
+more_words (Ticked asked) _ _ _ _ _ _ _ _ _ _ _ _ _ _ _ _ e = absurd cc
+more_words (Child pid) _ _ _ _ _ _ _ _ _ _ _ _ _ _ _ _ e = absurd cc
+more_words (Value cookie) _ _ _ _ _ _ _ _ _ _ _ _ _ _ _ _ e = absurd cc

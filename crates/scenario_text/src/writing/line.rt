@@ -1,7 +1,7 @@
 //! A line while it is put together. It lies on the stack and can take the longest entry, so it
 //! takes no memory and cannot fail, and a sink is given it whole.
 
-ghost use Rattle.std.specs.Prelude.{◌≡◌, ◌+◌, ◌<◌, ◌≤◌, [], ◌∷◌, ◌++◌, length, codes, decimal};
+ghost use Rattle.std.specs.Prelude.{ℕ, List, ◌≡◌, ◌+◌, ◌<◌, ◌≤◌, [], ◌∷◌, ◌++◌, length, codes, decimal};
 ghost use Rattle.scenario_text.specs.Words.{policy_word, flag_word, creds_words, made_words, actor_word, ask_words, child_word, event_words, deed_words, reply_words, pick_words, kind_word, run_word, errno_word};
 ghost use Rattle.scenario_text.specs.Text.{line_room, spaced, entry_text};
 
@@ -41,6 +41,31 @@ fn errno_word(errno: Errno) -> &'static str
         Errno::Enodev => "ENODEV",
         Errno::Einval => "EINVAL",
         Errno::Ebusy => "EBUSY",
+    }
+}
+
+/// The word of a reply that is one word.
+fn lone_word(reply: &Reply) -> &'static str
+    ensures word { (word : List ℕ) → reply_words reply.now ≡ word ∷ [] → result.now ≡ word }
+    ensures longest { length result.now ≤ 10 }
+{
+    match *reply {
+        Reply::Nothing => "Nothing",
+        Reply::Offline => "Offline",
+        Reply::Idle => "Idle",
+        Reply::HasThreads => "HasThreads",
+        Reply::Awake => "Awake",
+        Reply::NoTask => "NoTask",
+        Reply::Zero => "0",
+        Reply::Set => "Set",
+        Reply::Done => "Done",
+        Reply::Already => "Already",
+        Reply::Refused(errno) => errno_word(errno),
+        Reply::NoCaller => "NoCaller",
+        Reply::Loaded => "Loaded",
+        Reply::Dropped => "Dropped",
+        Reply::NoGuard => "NoGuard",
+        _ => "",
     }
 }
 
@@ -248,10 +273,8 @@ impl Line {
     {
         match *reply {
             Reply::Picked(ref pick) => self.pick(pick),
-            Reply::Nothing => self.text("Nothing"),
             Reply::Stole { pid, from } => self.stolen(pid, from),
             Reply::Missed(cpu) => self.indexed("Missed", cpu),
-            Reply::Offline => self.text("Offline"),
             Reply::Slept { pid, ref pick } => {
                 self.text("Slept ");
                 self.task_and_pick(pid, pick);
@@ -260,25 +283,12 @@ impl Line {
                 self.text("Ended ");
                 self.task_and_pick(pid, pick);
             }
-            Reply::Idle => self.text("Idle"),
-            Reply::HasThreads => self.text("HasThreads"),
             Reply::Woken(cpu) => self.indexed("Woken", cpu),
-            Reply::Awake => self.text("Awake"),
-            Reply::NoTask => self.text("NoTask"),
             Reply::Now(clock) => self.named("Now", clock),
-            Reply::Ticked(true) => self.text("Ticked yes"),
-            Reply::Ticked(false) => self.text("Ticked no"),
+            Reply::Ticked(asked) => self.text(if asked { "Ticked yes" } else { "Ticked no" }),
             Reply::Child(pid) => self.named("Child", pid),
-            Reply::Zero => self.text("0"),
             Reply::Value(cookie) => self.named("0 value", cookie),
-            Reply::Set => self.text("Set"),
-            Reply::Done => self.text("Done"),
-            Reply::Already => self.text("Already"),
-            Reply::Refused(errno) => self.text(errno_word(errno)),
-            Reply::NoCaller => self.text("NoCaller"),
-            Reply::Loaded => self.text("Loaded"),
-            Reply::Dropped => self.text("Dropped"),
-            Reply::NoGuard => self.text("NoGuard"),
+            _ => self.text(lone_word(reply)),
         }
     }
 

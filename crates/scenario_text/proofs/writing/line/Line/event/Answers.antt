@@ -1,5 +1,8 @@
-use Rattle.std.proofs.Common.{arith}
-use Rattle.scenario_text.proofs.Joined.{within}
+use Rattle.std.proofs.Common.{◌∙◌, ◌++◌, arith}
+use Rattle.std.specs.Prelude.{codes, decimal}
+use Rattle.scenario_text.specs.Words.{child_word, ask_words}
+use Rattle.scenario_text.specs.Text.{spaced}
+use Rattle.scenario_text.proofs.Joined.{put, both, within, two_words}
 use Rattle.scenario_text.proofs.writing.line.Line.event.Goals as goal
 
 pub returns-in-Turn-clause-text : goal.returns-in-Turn-clause-text
@@ -31,3 +34,69 @@ returns-in-Tick-clause-text c = rw c.in-Tick.is c.text-in-Tick.ensures.text
 
 pub returns-in-Tick-clause-longest : goal.returns-in-Tick-clause-longest
 returns-in-Tick-clause-longest c = within _ _ _ 71 c.text-in-Tick.ensures.text (omega arith)
+
+pub returns-in-Offline-clause-text : goal.returns-in-Offline-clause-text
+returns-in-Offline-clause-text c = rw c.in-Offline.is c.indexed.ensures.text
+
+pub returns-in-Offline-clause-longest : goal.returns-in-Offline-clause-longest
+returns-in-Offline-clause-longest c = omega (arith, c.indexed.ensures.longest)
+
+pub returns-in-Online-clause-text : goal.returns-in-Online-clause-text
+returns-in-Online-clause-text c = rw c.in-Online.is c.indexed-in-Online.ensures.text
+
+pub returns-in-Online-clause-longest : goal.returns-in-Online-clause-longest
+returns-in-Online-clause-longest c = omega (arith, c.indexed-in-Online.ensures.longest)
+
+pub returns-in-Load-clause-text : goal.returns-in-Load-clause-text
+returns-in-Load-clause-text c = rw c.in-Load.is c.indexed-in-Load.ensures.text
+
+pub returns-in-Load-clause-longest : goal.returns-in-Load-clause-longest
+returns-in-Load-clause-longest c = omega (arith, c.indexed-in-Load.ensures.longest)
+
+pub returns-in-Unload-clause-text : goal.returns-in-Unload-clause-text
+returns-in-Unload-clause-text c = rw c.in-Unload.is c.indexed-in-Unload.ensures.text
+
+pub returns-in-Unload-clause-longest : goal.returns-in-Unload-clause-longest
+returns-in-Unload-clause-longest c = omega (arith, c.indexed-in-Unload.ensures.longest)
+
+pub returns-in-Advance-clause-text : goal.returns-in-Advance-clause-text
+returns-in-Advance-clause-text c = rw c.in-Advance.is c.named.ensures.text
+
+pub returns-in-Advance-clause-longest : goal.returns-in-Advance-clause-longest
+returns-in-Advance-clause-longest c = omega (arith, c.named.ensures.longest)
+
+pub returns-in-Wake-clause-text : goal.returns-in-Wake-clause-text
+returns-in-Wake-clause-text c = rw c.in-Wake.is (both _ _ _ _ _ c.text-in-Wake.ensures.text c.medium.ensures.text)
+
+pub returns-in-Wake-clause-longest : goal.returns-in-Wake-clause-longest
+returns-in-Wake-clause-longest c = omega (arith, c.text-in-Wake.ensures.len, c.medium.ensures.longest)
+
+pub returns-in-Fork-clause-text : goal.returns-in-Fork-clause-text
+returns-in-Fork-clause-text c =
+    let caller = both c.args.self.now _ _ (codes "fork ") (decimal c.in-Fork.caller) c.text-in-Fork.ensures.text c.medium-in-Fork.ensures.text in
+    rw c.in-Fork.is
+    (put _ _ _ _ (put _ _ _ _ caller c.text-in-Fork-2.ensures.text) c.child.ensures.text
+    ∙ two_words c.args.self.now (codes "fork " ++ decimal c.in-Fork.caller) (child_word c.in-Fork.thread))
+
+pub returns-in-Fork-clause-longest : goal.returns-in-Fork-clause-longest
+returns-in-Fork-clause-longest c =
+    omega (arith, c.text-in-Fork.ensures.len, c.medium-in-Fork.ensures.longest, c.text-in-Fork-2.ensures.len, c.child.ensures.longest)
+
+pub returns-in-Prctl-clause-text : goal.returns-in-Prctl-clause-text
+returns-in-Prctl-clause-text c =
+    let caller = both c.args.self.now _ _ (codes "prctl ") (decimal c.in-Prctl.caller) c.text-in-Prctl.ensures.text c.medium-in-Prctl.ensures.text in
+    rw c.in-Prctl.is
+    (put _ _ _ _ (put _ _ _ _ caller c.text-in-Prctl-2.ensures.text) c.ask.ensures.text
+    ∙ two_words c.args.self.now (codes "prctl " ++ decimal c.in-Prctl.caller) (spaced (ask_words c.in-Prctl.ask)))
+
+pub returns-in-Prctl-clause-longest : goal.returns-in-Prctl-clause-longest
+returns-in-Prctl-clause-longest c =
+    omega (arith, c.text-in-Prctl.ensures.len, c.medium-in-Prctl.ensures.longest, c.text-in-Prctl-2.ensures.len, c.ask.ensures.longest)
+
+pub returns-in-SetSched-clause-text : goal.returns-in-SetSched-clause-text
+returns-in-SetSched-clause-text c =
+    rw c.in-SetSched.is (put _ _ _ _ (put _ _ _ _ c.named-in-SetSched.ensures.text c.text-in-SetSched.ensures.text) c.policy.ensures.text ∙ two_words _ _ _)
+
+pub returns-in-SetSched-clause-longest : goal.returns-in-SetSched-clause-longest
+returns-in-SetSched-clause-longest c =
+    omega (arith, c.named-in-SetSched.ensures.longest, c.text-in-SetSched.ensures.len, c.policy.ensures.longest)

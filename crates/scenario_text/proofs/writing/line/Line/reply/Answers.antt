@@ -1,87 +1,42 @@
-use Rattle.std.proofs.Common.{arith}
+use Rattle.std.proofs.Common.{◌∙◌, ◌++◌, List, ℕ, ap, arith}
 use Rattle.scenario_text.proofs.Joined.{within}
+use Rattle.scenario_text.proofs.Replies.{one_word}
 use Rattle.scenario_text.proofs.writing.line.Line.reply.Goals as goal
 
-pub returns-in-Nothing-clause-text : goal.returns-in-Nothing-clause-text
-returns-in-Nothing-clause-text c = rw c.in-Nothing.is c.text.ensures.text
+pub returns-in_default-clause-text : goal.returns-in_default-clause-text
+returns-in_default-clause-text c =
+    let one = one_word c.args.reply.now c.in_default.not-Picked c.in_default.not-Stole c.in_default.not-Missed c.in_default.not-Slept c.in_default.not-Ended c.in_default.not-Woken c.in_default.not-Now c.in_default.not-Ticked c.in_default.not-Child c.in_default.not-Value in
+    rw (one.1) (c.text-in_default.ensures.text ∙ ap (λ (text : List ℕ). c.args.self.now ++ text) (c.lone_word.ensures.word _ one.1))
 
-pub returns-in-Nothing-clause-longest : goal.returns-in-Nothing-clause-longest
-returns-in-Nothing-clause-longest c = within _ _ _ 73 c.text.ensures.text (omega arith)
+pub returns-in_default-clause-longest : goal.returns-in_default-clause-longest
+returns-in_default-clause-longest c = within _ _ _ 73 c.text-in_default.ensures.text (omega (arith, c.lone_word.ensures.longest))
 
-pub returns-in-Offline-clause-text : goal.returns-in-Offline-clause-text
-returns-in-Offline-clause-text c = rw c.in-Offline.is c.text-in-Offline.ensures.text
+pub returns-in-Missed-clause-text : goal.returns-in-Missed-clause-text
+returns-in-Missed-clause-text c = rw c.in-Missed.is c.indexed.ensures.text
 
-pub returns-in-Offline-clause-longest : goal.returns-in-Offline-clause-longest
-returns-in-Offline-clause-longest c = within _ _ _ 73 c.text-in-Offline.ensures.text (omega arith)
+pub returns-in-Missed-clause-longest : goal.returns-in-Missed-clause-longest
+returns-in-Missed-clause-longest c = omega (arith, c.indexed.ensures.longest)
 
-pub returns-in-Idle-clause-text : goal.returns-in-Idle-clause-text
-returns-in-Idle-clause-text c = rw c.in-Idle.is c.text-in-Idle.ensures.text
+pub returns-in-Woken-clause-text : goal.returns-in-Woken-clause-text
+returns-in-Woken-clause-text c = rw c.in-Woken.is c.indexed-in-Woken.ensures.text
 
-pub returns-in-Idle-clause-longest : goal.returns-in-Idle-clause-longest
-returns-in-Idle-clause-longest c = within _ _ _ 73 c.text-in-Idle.ensures.text (omega arith)
+pub returns-in-Woken-clause-longest : goal.returns-in-Woken-clause-longest
+returns-in-Woken-clause-longest c = omega (arith, c.indexed-in-Woken.ensures.longest)
 
-pub returns-in-HasThreads-clause-text : goal.returns-in-HasThreads-clause-text
-returns-in-HasThreads-clause-text c = rw c.in-HasThreads.is c.text-in-HasThreads.ensures.text
+pub returns-in-Now-clause-text : goal.returns-in-Now-clause-text
+returns-in-Now-clause-text c = rw c.in-Now.is c.named.ensures.text
 
-pub returns-in-HasThreads-clause-longest : goal.returns-in-HasThreads-clause-longest
-returns-in-HasThreads-clause-longest c = within _ _ _ 73 c.text-in-HasThreads.ensures.text (omega arith)
+pub returns-in-Now-clause-longest : goal.returns-in-Now-clause-longest
+returns-in-Now-clause-longest c = omega (arith, c.named.ensures.longest)
 
-pub returns-in-Awake-clause-text : goal.returns-in-Awake-clause-text
-returns-in-Awake-clause-text c = rw c.in-Awake.is c.text-in-Awake.ensures.text
+pub returns-in-Child-clause-text : goal.returns-in-Child-clause-text
+returns-in-Child-clause-text c = rw c.in-Child.is c.named-in-Child.ensures.text
 
-pub returns-in-Awake-clause-longest : goal.returns-in-Awake-clause-longest
-returns-in-Awake-clause-longest c = within _ _ _ 73 c.text-in-Awake.ensures.text (omega arith)
+pub returns-in-Child-clause-longest : goal.returns-in-Child-clause-longest
+returns-in-Child-clause-longest c = omega (arith, c.named-in-Child.ensures.longest)
 
-pub returns-in-NoTask-clause-text : goal.returns-in-NoTask-clause-text
-returns-in-NoTask-clause-text c = rw c.in-NoTask.is c.text-in-NoTask.ensures.text
+pub returns-in-Value-clause-text : goal.returns-in-Value-clause-text
+returns-in-Value-clause-text c = rw c.in-Value.is c.named-in-Value.ensures.text
 
-pub returns-in-NoTask-clause-longest : goal.returns-in-NoTask-clause-longest
-returns-in-NoTask-clause-longest c = within _ _ _ 73 c.text-in-NoTask.ensures.text (omega arith)
-
-pub returns-in-Zero-clause-text : goal.returns-in-Zero-clause-text
-returns-in-Zero-clause-text c = rw c.in-Zero.is c.text-in-Zero.ensures.text
-
-pub returns-in-Zero-clause-longest : goal.returns-in-Zero-clause-longest
-returns-in-Zero-clause-longest c = within _ _ _ 73 c.text-in-Zero.ensures.text (omega arith)
-
-pub returns-in-Set-clause-text : goal.returns-in-Set-clause-text
-returns-in-Set-clause-text c = rw c.in-Set.is c.text-in-Set.ensures.text
-
-pub returns-in-Set-clause-longest : goal.returns-in-Set-clause-longest
-returns-in-Set-clause-longest c = within _ _ _ 73 c.text-in-Set.ensures.text (omega arith)
-
-pub returns-in-Done-clause-text : goal.returns-in-Done-clause-text
-returns-in-Done-clause-text c = rw c.in-Done.is c.text-in-Done.ensures.text
-
-pub returns-in-Done-clause-longest : goal.returns-in-Done-clause-longest
-returns-in-Done-clause-longest c = within _ _ _ 73 c.text-in-Done.ensures.text (omega arith)
-
-pub returns-in-Already-clause-text : goal.returns-in-Already-clause-text
-returns-in-Already-clause-text c = rw c.in-Already.is c.text-in-Already.ensures.text
-
-pub returns-in-Already-clause-longest : goal.returns-in-Already-clause-longest
-returns-in-Already-clause-longest c = within _ _ _ 73 c.text-in-Already.ensures.text (omega arith)
-
-pub returns-in-NoCaller-clause-text : goal.returns-in-NoCaller-clause-text
-returns-in-NoCaller-clause-text c = rw c.in-NoCaller.is c.text-in-NoCaller.ensures.text
-
-pub returns-in-NoCaller-clause-longest : goal.returns-in-NoCaller-clause-longest
-returns-in-NoCaller-clause-longest c = within _ _ _ 73 c.text-in-NoCaller.ensures.text (omega arith)
-
-pub returns-in-Loaded-clause-text : goal.returns-in-Loaded-clause-text
-returns-in-Loaded-clause-text c = rw c.in-Loaded.is c.text-in-Loaded.ensures.text
-
-pub returns-in-Loaded-clause-longest : goal.returns-in-Loaded-clause-longest
-returns-in-Loaded-clause-longest c = within _ _ _ 73 c.text-in-Loaded.ensures.text (omega arith)
-
-pub returns-in-Dropped-clause-text : goal.returns-in-Dropped-clause-text
-returns-in-Dropped-clause-text c = rw c.in-Dropped.is c.text-in-Dropped.ensures.text
-
-pub returns-in-Dropped-clause-longest : goal.returns-in-Dropped-clause-longest
-returns-in-Dropped-clause-longest c = within _ _ _ 73 c.text-in-Dropped.ensures.text (omega arith)
-
-pub returns-in-NoGuard-clause-text : goal.returns-in-NoGuard-clause-text
-returns-in-NoGuard-clause-text c = rw c.in-NoGuard.is c.text-in-NoGuard.ensures.text
-
-pub returns-in-NoGuard-clause-longest : goal.returns-in-NoGuard-clause-longest
-returns-in-NoGuard-clause-longest c = within _ _ _ 73 c.text-in-NoGuard.ensures.text (omega arith)
+pub returns-in-Value-clause-longest : goal.returns-in-Value-clause-longest
+returns-in-Value-clause-longest c = omega (arith, c.named-in-Value.ensures.longest)
