@@ -1,7 +1,8 @@
 //! A line while it is put together. It lies on the stack and can take the longest entry, so it
 //! takes no memory and cannot fail, and a sink is given it whole.
 
-ghost use Rattle.std.specs.Prelude.{ℕ, List, ◌≡◌, ◌+◌, ◌<◌, ◌≤◌, [], ◌∷◌, ◌++◌, length, codes, decimal};
+ghost use Rattle.std.specs.Prelude.{ℕ, List, ◌≡◌, ◌≢◌, ◌+◌, ◌<◌, ◌≤◌, [], ◌∷◌, ◌++◌, length, codes, decimal};
+ghost use Rattle.cs_types.specs.declared.reply.Reply.TheVariants.{Nothing};
 ghost use Rattle.scenario_text.specs.Words.{policy_word, flag_word, creds_words, made_words, actor_word, ask_words, child_word, event_words, deed_words, reply_words, pick_words, kind_word, run_word, errno_word};
 ghost use Rattle.scenario_text.specs.Text.{line_room, spaced, entry_text};
 
@@ -44,13 +45,12 @@ fn errno_word(errno: Errno) -> &'static str
     }
 }
 
-/// The word of a reply that is one word.
+/// The word of a reply that is one word, but `Nothing`.
 fn lone_word(reply: &Reply) -> &'static str
-    ensures word { (word : List ℕ) → reply_words reply.now ≡ word ∷ [] → result.now ≡ word }
+    ensures word { (word : List ℕ) → reply.now ≢ Nothing → reply_words reply.now ≡ word ∷ [] → result.now ≡ word }
     ensures longest { length result.now ≤ 10 }
 {
     match *reply {
-        Reply::Nothing => "Nothing",
         Reply::Offline => "Offline",
         Reply::Idle => "Idle",
         Reply::HasThreads => "HasThreads",
@@ -272,7 +272,9 @@ impl Line {
         ensures longest { length self.new ≤ length self.old + 73 }
     {
         match *reply {
+            // Most replies are one of these two.
             Reply::Picked(ref pick) => self.pick(pick),
+            Reply::Nothing => self.text("Nothing"),
             Reply::Stole { pid, from } => self.stolen(pid, from),
             Reply::Missed(cpu) => self.indexed("Missed", cpu),
             Reply::Slept { pid, ref pick } => {

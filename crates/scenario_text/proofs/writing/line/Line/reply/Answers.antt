@@ -6,7 +6,7 @@ use Rattle.scenario_text.proofs.writing.line.Line.reply.Goals as goal
 pub returns-in_default-clause-text : goal.returns-in_default-clause-text
 returns-in_default-clause-text c =
     let one = one_word c.args.reply.now c.in_default.not-Picked c.in_default.not-Stole c.in_default.not-Missed c.in_default.not-Slept c.in_default.not-Ended c.in_default.not-Woken c.in_default.not-Now c.in_default.not-Ticked c.in_default.not-Child c.in_default.not-Value in
-    rw (one.1) (c.text-in_default.ensures.text ∙ ap (λ (text : List ℕ). c.args.self.now ++ text) (c.lone_word.ensures.word _ one.1))
+    rw (one.1) (c.text-in_default.ensures.text ∙ ap (λ (text : List ℕ). c.args.self.now ++ text) (c.lone_word.ensures.word _ c.in_default.not-Nothing one.1))
 
 pub returns-in_default-clause-longest : goal.returns-in_default-clause-longest
 returns-in_default-clause-longest c = within _ _ _ 73 c.text-in_default.ensures.text (omega (arith, c.lone_word.ensures.longest))
@@ -40,3 +40,9 @@ returns-in-Value-clause-text c = rw c.in-Value.is c.named-in-Value.ensures.text
 
 pub returns-in-Value-clause-longest : goal.returns-in-Value-clause-longest
 returns-in-Value-clause-longest c = omega (arith, c.named-in-Value.ensures.longest)
+
+pub returns-in-Nothing-clause-text : goal.returns-in-Nothing-clause-text
+returns-in-Nothing-clause-text c = rw c.in-Nothing.is c.text.ensures.text
+
+pub returns-in-Nothing-clause-longest : goal.returns-in-Nothing-clause-longest
+returns-in-Nothing-clause-longest c = within _ _ _ 73 c.text.ensures.text (omega arith)
