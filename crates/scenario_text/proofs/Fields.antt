@@ -1,5 +1,5 @@
 -- Fields: a word that is right in a field spells what the field says, and what a value spells is right and says it.
-use Rattle.std.proofs.Common.{◌≡◌, ℕ, suc, ◌^◌, ◌<◌, ◌↔◌, Bool, true, false, cond, eqb, List, [], ◌∷◌, ◌++◌, length, get_or, take, map, refl, sym, ap, subst, ◌∙◌, ◌+◌, zero, arith, zero-le, inl, inr, take-append-drop, take_all, drop, ◌≤◌}
+use Rattle.std.proofs.Common.{◌≡◌, ℕ, suc, ◌^◌, ◌<◌, ◌↔◌, Bool, true, false, cond, eqb, List, [], ◌∷◌, ◌++◌, length, get_or, take, map, refl, sym, ap, subst, ◌∙◌, ◌+◌, zero, arith, zero-le, inl, inr, take-append-drop, drop}
 use Rattle.std.specs.Prelude.{decimal, codes, ℤ, pos, negsuc, ◌-◌}
 use Rattle.std.specs.Fmt.{signed_decimal}
 use Rattle.std.specs.List.{range_with_len}
@@ -62,14 +62,6 @@ module _ (below above : ℕ) (small : (below < 2 ^ 64) × (above < 2 ^ 64)) wher
 -- what stands behind the first bytes, as a pattern lends it
 abbrev pub behind_first : ℕ → List ℕ → List ℕ
 behind_first n bytes = take (length bytes - n) (drop n bytes)
-
--- a word that begins with `-`
-pub below_0 : (below above : ℕ) (word : Word) → 1 ≤ length word → get_or word 0 0 ≡ 45 → (is_signed below above word ≡ is_number 1 below (behind_first 1 word)) × (signed_value word ≡ negsuc (value (behind_first 1 word) - 1))
-unfolding is_signed
-below_0 below above [] some is = absurd (omega arith)
-below_0 below above (first ∷ digits) some is =
-    let all : take (suc (length digits) - 1) digits ≡ digits = take_all (suc (length digits) - 1) digits (omega arith) in
-    rw (is, all) (refl, refl)
 
 -- ---- flags and children
 

@@ -29,7 +29,7 @@ use Rattle.scenario_text.specs.Words.{Word, policy_word, actor_word, made_words,
 use Rattle.scenario_text.specs.Text.{spaced, line, step_words}
 use Rattle.scenario_text.specs.Grammar.{value, is_canonical, policy}
 use Rattle.scenario_text.specs.Faults.{pieces, lines_in}
-use Rattle.scenario_text.specs.Reading.{◌>>=◌, Contents, place_after, Read, line_at, line_check, next_of, usable, IsHead, BeginsStep, BeginsActor, BeginsEvent, BeginsCall, BeginsAsk, BeginsPolicy, BeginsNumber, BeginsTarget, policy_value, lent, texts, line_of}
+use Rattle.scenario_text.specs.Reading.{◌>>=◌, Contents, place_after, Read, line_at, line_check, next_of, usable, IsHead, BeginsStep, BeginsActor, BeginsEvent, BeginsAsk, BeginsPolicy, BeginsNumber, BeginsTarget, policy_value, lent, texts, line_of}
 use Rattle.scenario_text.proofs.Numbers.{digits_are, negated}
 use Rattle.scenario_text.proofs.Fields.{behind_first, policy_is}
 use Rattle.scenario_text.proofs.Cuts.{has_piece, line_at-lines_in, lent_is}
@@ -239,15 +239,7 @@ ask_is cmd scope addr target text asked aimed scoped rest first second third fou
       spelled = ends ∙ sym (append_assoc (decimal cmd ++ 32 ∷ later) (10 ∷ []) rest);
     })
 
--- a sibling that ends the line behind a word
-behind_word : (word text front rest : List ℕ) (cpu : ℕ) → text ≡ word ++ 32 ∷ front → front ≡ decimal cpu ++ 10 ∷ rest → text ≡ line (word ∷ decimal cpu ∷ []) ++ rest
-behind_word word text front rest cpu is ends =
-    word_before word (decimal cpu) text front rest is ends ∙ sym (append_assoc (word ++ 32 ∷ decimal cpu) (10 ∷ []) rest)
-
-pub offline_is : (siblings cpu : ℕ) (text front rest : List ℕ) → 1 ≤ siblings → text ≡ codes "offline " ++ front → BeginsNumber 0 (siblings - 1) front cpu 10 rest → BeginsCall siblings text (Offline cpu) rest
-offline_is siblings cpu text front rest some is found j caller =
-    record { is = record { event = omega (arith, found.within.1); actor = caller }; spelled = behind_word (codes "offline") text front rest cpu is found.spelled }
-
-pub online_is : (siblings cpu : ℕ) (text front rest : List ℕ) → 1 ≤ siblings → text ≡ codes "online " ++ front → BeginsNumber 0 (siblings - 1) front cpu 10 rest → BeginsCall siblings text (Online cpu) rest
-online_is siblings cpu text front rest some is found j caller =
-    record { is = record { event = omega (arith, found.within.1); actor = caller }; spelled = behind_word (codes "online") text front rest cpu is found.spelled }
+-- a number that ends the line behind a word
+pub behind_word : (word text front rest : List ℕ) (n : ℕ) → text ≡ word ++ 32 ∷ front → front ≡ decimal n ++ 10 ∷ rest → text ≡ line (word ∷ decimal n ∷ []) ++ rest
+behind_word word text front rest n is ends =
+    word_before word (decimal n) text front rest is ends ∙ sym (append_assoc (word ++ 32 ∷ decimal n) (10 ∷ []) rest)
