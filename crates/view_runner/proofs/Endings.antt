@@ -24,7 +24,7 @@ use Rattle.scenario_runner.proofs.Endings.{HasRead, ends_stopped, ends_short}
 use Rattle.view_runner.specs.Ends.{IsTimed, EndsAsSummary, EndsAsShown}
 use Rattle.scenario_runner.specs.Written.{IsWritten}
 use Rattle.times_report.specs.Summary.{summary_text}
-use Rattle.view_runner.specs.Written.{WritesSummary, MayWriteSummary}
+use Rattle.view_runner.specs.Written.{WritesSummary, MayWriteSummary, IsShown}
 
 -- ---- what was read
 
@@ -111,21 +111,24 @@ ends_refused caps source sink read stop has is same =
 
 -- ---- how it ends that shows a run
 
--- what is known once it was written what the run shows, or the sink failed, or there was no memory
-pub record IsShown {K : Type 0} (sink : Used K) (ended : Status) : Type 0 where
-  pub either : (ended ≡ status.Done) ⊎ ((ended ≡ status.WriteFault) ⊎ (ended ≡ status.OutOfMemory))
-  pub faultless : ended ≡ status.Done → IsFaultless sink
-  pub failed : ended ≡ status.WriteFault → Rose (sink.faults sink.before) (sink.faults sink.after)
-  pub unwritten : ended ≡ status.OutOfMemory → sink.after ≡ sink.before
-  pub few : sink.faults sink.before < 2 ^ 64 - 1
+-- all of it was written, or the sink failed
+pub all_shown : {K : Type 0} (sink : Used K) → IsFaultless sink → IsShown sink status.Done
+all_shown sink none = record { either = inl refl; faultless = λ e. none; failed = λ e. absurd cc; unwritten = λ e. absurd cc }
+
+pub part_shown : {K : Type 0} (sink : Used K) → Rose (sink.faults sink.before) (sink.faults sink.after) → IsShown sink status.WriteFault
+part_shown sink rose = record { either = inr (inl refl); faultless = λ e. absurd cc; failed = λ e. rose; unwritten = λ e. absurd cc }
+
+-- there was no memory for it
+pub unshown : {K : Type 0} (sink : Used K) → sink.after ≡ sink.before → IsShown sink status.OutOfMemory
+unshown sink same = record { either = inr (inr refl); faultless = λ e. absurd cc; failed = λ e. absurd cc; unwritten = λ e. same }
 
 -- the input was played
 pub ends_shown : {S K T : Type 0} (caps : List ℕ) (source : Used S) (sink : Used K) (read : Result T Stop) (value : T) (ended : Status) →
-    HasRead caps source read → read ≡ Ok value → IsShown sink ended → EndsAsShown caps source sink ended
-ends_shown caps source sink read value ended has is shown =
+    HasRead caps source read → read ≡ Ok value → sink.faults sink.before < 2 ^ 64 - 1 → IsShown sink ended → EndsAsShown caps source sink ended
+ends_shown caps source sink read value ended has is few shown =
     record {
       done = shown.faultless;
-      write_fault = λ e. omega (arith, shown.failed e, shown.few);
+      write_fault = λ e. omega (arith, shown.failed e, few);
       good_words = λ bad. elim shown.either [
         | inl done ↦ let wrong : status.BadWords ≡ status.Done = sym bad ∙ done in absurd cc
         | inr (inl fault) ↦ let wrong : status.BadWords ≡ status.WriteFault = sym bad ∙ fault in absurd cc

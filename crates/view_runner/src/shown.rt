@@ -1,9 +1,9 @@
 //! The commands that show a run over time, once their words are read.
 
-ghost use Rattle.std.specs.Prelude.{◌≡◌, ◌⊎◌, ◌+◌, ◌-◌, ◌*◌, ◌^◌, ◌<◌, ◌≤◌, [], length, map, All, vec_len};
+ghost use Rattle.std.specs.Prelude.{◌≡◌, ◌+◌, ◌-◌, ◌*◌, ◌^◌, ◌<◌, ◌≤◌, [], length, map, All, vec_len};
 ghost use Rattle.cs_types.specs.Scenario.{IsEvent};
-ghost use Rattle.cs_outside.specs.Device.{Rose};
 ghost use Rattle.view_runner.specs.Ends.{EndsAsShown};
+ghost use Rattle.view_runner.specs.Written.{IsShown};
 
 use core_lanes::SiblingQueue;
 use cs_outside::{Guard, Sink, Source, write_all};
@@ -28,9 +28,7 @@ pub(crate) enum Form {
 
 /// Writes the table, and says how that ended.
 fn write_table<K: Sink>(run: &RunStretches, sink: &mut K) -> Status
-    ensures either { (result ≡ Status.Done) ⊎ (result ≡ Status.WriteFault) }
-    ensures faultless { result ≡ Status.Done → K.faults sink.new ≡ K.faults sink.old }
-    ensures failed { result ≡ Status.WriteFault → Rose (K.faults sink.old) (K.faults sink.new) }
+    ensures { IsShown (record { bytes = K.written; faults = K.faults; before = sink.old; after = sink.new }) result }
 {
     match segments(run, sink) {
         Ok(()) => Status::Done,
@@ -40,9 +38,7 @@ fn write_table<K: Sink>(run: &RunStretches, sink: &mut K) -> Status
 
 /// Writes the picture, and says how that ended.
 fn drawn<K: Sink>(run: &RunStretches, sink: &mut K) -> Status
-    ensures either { (result ≡ Status.Done) ⊎ (result ≡ Status.WriteFault) }
-    ensures faultless { result ≡ Status.Done → K.faults sink.new ≡ K.faults sink.old }
-    ensures failed { result ≡ Status.WriteFault → Rose (K.faults sink.old) (K.faults sink.new) }
+    ensures { IsShown (record { bytes = K.written; faults = K.faults; before = sink.old; after = sink.new }) result }
 {
     match picture(run, sink) {
         Ok(()) => Status::Done,
@@ -52,10 +48,7 @@ fn drawn<K: Sink>(run: &RunStretches, sink: &mut K) -> Status
 
 /// Writes the lines of JSON, and says how that ended.
 fn write_json<K: Sink>(alloc: Global, run: &RunStretches, sink: &mut K) -> Status
-    ensures either { (result ≡ Status.Done) ⊎ ((result ≡ Status.WriteFault) ⊎ (result ≡ Status.OutOfMemory)) }
-    ensures faultless { result ≡ Status.Done → K.faults sink.new ≡ K.faults sink.old }
-    ensures failed { result ≡ Status.WriteFault → Rose (K.faults sink.old) (K.faults sink.new) }
-    ensures unwritten { result ≡ Status.OutOfMemory → sink.new ≡ sink.old }
+    ensures { IsShown (record { bytes = K.written; faults = K.faults; before = sink.old; after = sink.new }) result }
 {
     let Ok(text) = segments_json(alloc, run) else {
         return Status::OutOfMemory;
@@ -68,10 +61,7 @@ fn write_json<K: Sink>(alloc: Global, run: &RunStretches, sink: &mut K) -> Statu
 
 /// Writes what a run shows over time, in this form, and says how that ended.
 fn write_form<K: Sink>(alloc: Global, form: Form, run: &RunStretches, sink: &mut K) -> Status
-    ensures either { (result ≡ Status.Done) ⊎ ((result ≡ Status.WriteFault) ⊎ (result ≡ Status.OutOfMemory)) }
-    ensures faultless { result ≡ Status.Done → K.faults sink.new ≡ K.faults sink.old }
-    ensures failed { result ≡ Status.WriteFault → Rose (K.faults sink.old) (K.faults sink.new) }
-    ensures unwritten { result ≡ Status.OutOfMemory → sink.new ≡ sink.old }
+    ensures { IsShown (record { bytes = K.written; faults = K.faults; before = sink.old; after = sink.new }) result }
 {
     match form {
         Form::Table => write_table(run, sink),
@@ -82,7 +72,7 @@ fn write_form<K: Sink>(alloc: Global, form: Form, run: &RunStretches, sink: &mut
 
 /// Makes the steps, in their order, in a room that has made none, and then the entries of the end, and writes what the run
 /// shows over time.
-fn write_run<R: Room, K: Sink>(
+fn write_shown<R: Room, K: Sink>(
     alloc: Global,
     form: Form,
     mut room: R,
@@ -93,10 +83,7 @@ fn write_run<R: Room, K: Sink>(
         ≤ R.spare room }
     requires events { All (λ step. IsEvent (R.opening room).scenario.siblings step.event) steps.now }
 
-    ensures either { (result ≡ Status.Done) ⊎ ((result ≡ Status.WriteFault) ⊎ (result ≡ Status.OutOfMemory)) }
-    ensures faultless { result ≡ Status.Done → K.faults sink.new ≡ K.faults sink.old }
-    ensures failed { result ≡ Status.WriteFault → Rose (K.faults sink.old) (K.faults sink.new) }
-    ensures unwritten { result ≡ Status.OutOfMemory → sink.new ≡ sink.old }
+    ensures { IsShown (record { bytes = K.written; faults = K.faults; before = sink.old; after = sink.new }) result }
 {
     match recorded_run(alloc, &mut room, steps) {
         Ok(run) => write_form(alloc, form, &run, sink),
@@ -124,7 +111,7 @@ pub(crate) fn shown<Q: SiblingQueue, S: Source, K: Sink, G: Guard>(
         (record { bytes = K.written; faults = K.faults; before = sink.old; after = sink.new }) result }
 {
     match opened::<Q, S, G>(alloc, source, guards) {
-        Ok((scenario, room)) => write_run(alloc, form, room, scenario.steps.items(), sink),
+        Ok((scenario, room)) => write_shown(alloc, form, room, scenario.steps.items(), sink),
         Err(stop) => Status::from(stop),
     }
 }

@@ -4,7 +4,7 @@ use Rattle.view_runner.proofs.shown.shown.Goals as goal
 
 pub returns-in-Ok : goal.returns-in-Ok
 returns-in-Ok g c =
-    ends_shown _ _ _ c.opened.result _ c.write_run.result
+    ends_shown _ _ _ c.opened.result _ c.write_shown.result
     (record {
       faultless = c.opened.ensures.faultless;
       failed = c.opened.ensures.failed;
@@ -16,13 +16,8 @@ returns-in-Ok g c =
       bad_guard = c.opened.ensures.bad_guard;
     })
     c.in-Ok.is
-    (record {
-      either = c.write_run.ensures.either;
-      faultless = c.write_run.ensures.faultless;
-      failed = c.write_run.ensures.failed;
-      unwritten = c.write_run.ensures.unwritten;
-      few = c.requires.sink;
-    })
+    c.requires.sink
+    c.write_shown.ensures
 
 pub returns-in-Err : goal.returns-in-Err
 returns-in-Err g c =
