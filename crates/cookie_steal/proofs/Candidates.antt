@@ -1,14 +1,14 @@
 -- Candidates: the tasks that a thief looks through, of which no two tie.
-use Rattle.std.proofs.Common.{◌≡◌, ℕ, zero, suc, ◌+◌, ◌<◌, ◌≤◌, Bool, true, false, ltb, List, [], ◌∷◌, length, get_or, sym, ap, ◌∙◌, Some, arith}
+use Rattle.std.proofs.Common.{◌≡◌, ℕ, Bool, true, false, ltb, List, sym, ap, ◌∙◌, Some, arith}
 use Rattle.std.specs.Prelude.{◌&&◌, ◌||◌, ◌==◌, not, find, Contains}
-use Rattle.std.proofs.lemmas.Bool.{cond-true, cond-false, and_parts, eqb-true, eq-eqb, ne_eqb}
+use Rattle.std.proofs.lemmas.Bool.{and_parts, eqb-true}
 use Rattle.std.proofs.lemmas.Bool.Decides.{nat_tests}
 use Rattle.cs_types.specs.declared.task.Task.{Task}
 use Rattle.cs_types.specs.Room.{has_pid}
 use Rattle.cs_types.specs.Order.{goes_before, is_higher_here}
 use Rattle.cs_types.proofs.Filtered.{Contains-filter_parts}
-use Rattle.task_table.specs.Table.{Rises, RisesFrom}
-use Rattle.core_lanes.specs.Queued.{queued_among, with_cookie, IsOf, AreStamped}
+use Rattle.task_table.specs.Table.{Rises}
+use Rattle.core_lanes.specs.Queued.{queued_among, with_cookie, AreStamped}
 use Rattle.core_lanes.proofs.Queues.{is_of}
 
 -- the tasks queued on the source with the cookie

@@ -1,20 +1,22 @@
 -- Moments: what is asked of a core and its table, and made of them, where the clock is read or goes on.
-use Rattle.std.specs.Prelude.{◌≡◌, ℕ, ◌+◌, ◌^◌, ◌<◌}
+use Rattle.std.specs.Prelude.{◌≡◌, ℕ, Bool, ◌+◌, ◌^◌, ◌<◌}
+use Rattle.cs_types.specs.declared.reply.Reply.TheVariants.{Ticked}
 use Rattle.cs_types.specs.declared.task.Task.{Task}
-use Rattle.cs_types.specs.Room.{RoomState}
+use Rattle.cs_types.specs.Room.{RoomState, running_on}
 use Rattle.cs_types.specs.Time.{advanced}
+use Rattle.cs_types.specs.Step.{tick}
 use Rattle.task_table.specs.Table.{Table}
 use Rattle.core_lanes.specs.declared.queue.SiblingQueue.{Ghosts}
 use Rattle.core_lanes.specs.declared.lanes.Core.{Core}
 use Rattle.core_lanes.specs.Queued.{IsOf}
-use Rattle.core_lanes.specs.Lanes.{Beside, at, room_of, Agree, AgreesAt, KnowsApart}
+use Rattle.core_lanes.specs.Lanes.{Beside, at, room_of, AgreesAt, KnowsApart}
 use Rattle.core_lanes.specs.Numbers.{numbers_of, touched}
 use Rattle.core_lanes.specs.Changes.{Stays}
+use Rattle.core_charge.specs.Charges.{IsPaid, Charges}
 
--- the task is known to the core, and may be queued at its home at this moment, where the queues are touched this number of times
+-- the task is known to the core, with which its table agrees, and may be queued at its home at this moment, where the queues are touched this number of times
 pub record MayQueue {Q : Type 0} {g : Ghosts Q} (now count : ℕ) (both : Core Q g × Table) (task : Task) : Type 0 where
   pub knows : KnowsApart both task
-  pub agree : Agree both
   pub clock : now + 1000000000 < 2 ^ 56
   pub stamp : both.0.next_stamp + 1 < 2 ^ 64
   pub touches : both.0.task_number + count < 2 ^ 64
@@ -24,11 +26,22 @@ pub record MayAsk {Q : Type 0} {g : Ghosts Q} (cpu : ℕ) (both : Core Q g × Ta
   pub at : AgreesAt cpu both
   pub there : IsOf both.1.tasks task
 
+-- the timer of the sibling may tick at this moment: the open interval may be charged, and the next stamp does not overflow
+pub record MayTick {Q : Type 0} {g : Ghosts Q} (now cpu : ℕ) (both : Core Q g × Table) : Type 0 where
+  pub at : AgreesAt cpu both
+  pub paid : IsPaid now both
+  pub stamp : both.0.next_stamp + 1 < 2 ^ 64
+
 -- the new room is the old one after this change at this moment, where the queues were touched this number of times
 pub record TouchesAt {Q : Type 0} {g : Ghosts Q} (now count : ℕ) (old new : Core Q g × Table) (change : RoomState → RoomState) : Type 0 where
   pub room : (beside : Beside) → room_of (at now beside) new ≡ change (room_of (at now beside) old)
   pub numbers : numbers_of new ≡ touched count (numbers_of old)
   pub stays : Stays old new
+
+-- the new room and the answer are those of a tick of the sibling at this moment, which charges the open interval
+pub record Ticks {Q : Type 0} {g : Ghosts Q} (now : ℕ) (old new : Core Q g × Table) (cpu : ℕ) (answer : Bool) : Type 0 where
+  pub asks : (beside : Beside) → let room = room_of (at now beside) old in Ticked answer ≡ (tick room cpu (running_on room cpu)).reply
+  pub charges : Charges now old new (λ room. (tick room cpu (running_on room cpu)).room)
 
 -- the new room is the old one once the clock went on from this moment by delta ns, with the same numbers
 pub record Advances {Q : Type 0} {g : Ghosts Q} (now delta : ℕ) (old new : Core Q g × Table) : Type 0 where

@@ -1,6 +1,7 @@
 -- Time: what an advance asks of a core and its table, and how it ages the siblings.
-use Rattle.std.specs.Prelude.{◌≡◌, ℕ, ◌+◌, ◌^◌, ◌<◌, ◌≤◌, All, IfSome, IsSomeAnd, map}
+use Rattle.std.specs.Prelude.{◌≡◌, ℕ, List, ◌+◌, ◌*◌, ◌^◌, ◌<◌, ◌≤◌, All, IfSome, IsSomeAnd, map}
 use Rattle.std.specs.Option.{option_map_or}
+use Rattle.cs_types.specs.declared.task.Task.{Task}
 use Rattle.cs_types.specs.Room.{RoomState, SiblingState, task_of, sibling_of, running_on, with_task}
 use Rattle.cs_types.specs.Time.{grown_by}
 use Rattle.task_table.specs.Table.{Table}
@@ -24,6 +25,18 @@ pub record MayAdvance {Q : Type 0} {g : Ghosts Q} (now : ℕ) (both : Core Q g �
   pub clock : now + 1000000000 < 2 ^ 56
   pub used : All (λ task. task.used ≤ now) both.1.tasks
   pub ran : All (λ sibling. sibling.ran ≤ now) (map lane_state both.0.lanes.items)
+
+-- the running tasks may grow by less than a second: no task is run by two siblings, and the times are far from overflow
+pub record MayGrow {Q : Type 0} {g : Ghosts Q} (both : Core Q g × Table) : Type 0 where
+  pub agree : Agree both
+  pub own : RunTheirOwn both
+  pub used : All (λ task. task.used < 2 ^ 56) both.1.tasks
+  pub vtimes : All (λ task. task.vtime < 2 ^ 100) both.1.tasks
+
+-- the times of tasks do not overflow where these are delta ns later
+pub record CanGrow (delta : ℕ) (tasks : List Task) : Type 0 where
+  pub used : All (λ task. task.used + delta < 2 ^ 64) tasks
+  pub vtimes : All (λ task. task.vtime + 69 * delta < 2 ^ 128) tasks
 
 -- ---- what is made of them
 

@@ -1,12 +1,11 @@
 //! How a task comes to the queue of its home. It is apart since a wake, a fork and a new policy all queue
 //! a task there.
 
-ghost use Rattle.std.specs.Prelude.{◌≡◌, ◌+◌, ◌^◌, ◌<◌, length, map, All};
-ghost use Rattle.cs_types.specs.Scenario.{IsPolicy};
+ghost use Rattle.std.specs.Prelude.{◌≡◌, ◌+◌, ◌^◌, ◌<◌, length};
 ghost use Rattle.cs_types.specs.Room.{lowest_online};
 ghost use Rattle.cs_types.specs.Queueing.{online_home, rehomed, preempts, refreshed, queue_at_home};
 ghost use Rattle.task_table.specs.Table.{Table};
-ghost use Rattle.core_lanes.specs.Lanes.{Beside, at, lane_state, room_of};
+ghost use Rattle.core_lanes.specs.Lanes.{Beside, at, room_of, IsFit, CanMove};
 ghost use Rattle.core_clock.specs.Moments.{MayQueue, TouchesAt};
 
 use core_lanes::{Core, SiblingQueue, is_higher};
@@ -43,9 +42,7 @@ pub fn online_home<Q: SiblingQueue>(core: &Core<Q>, cpu: Cpu) -> Cpu
 
 /// The task as it is where its home is online: there, or moved to another sibling.
 pub fn rehomed<Q: SiblingQueue>(core: &Core<Q>, task: Task) -> Task
-    requires home { task.home < length core.now.lanes.items }
-    requires vtime { task.vtime < 2 ^ 100 }
-    requires leasts { All (λ sibling. sibling.least < 2 ^ 100) (map lane_state core.now.lanes.items) }
+    requires { CanMove core.now task }
     ensures rehomed { (beside : Beside) (table : Table) → result ≡ rehomed (room_of beside (core.now, table)) task }
     ensures within { result.home < length core.now.lanes.items }
 {
@@ -70,8 +67,7 @@ fn preempts<Q: SiblingQueue>(core: &Core<Q>, table: &TaskTable, task: &Task) -> 
 /// The task as it is queued anew: a deadline task has its next deadline, and a fair one is pulled up to
 /// the least virtual time of its queue.
 fn refreshed<Q: SiblingQueue>(core: &Core<Q>, task: Task, now: u64) -> Task
-    requires home { task.home < length core.now.lanes.items }
-    requires policy { IsPolicy task.spec.policy }
+    requires fits { IsFit (length core.now.lanes.items) task }
     requires clock { now + 1000000000 < 2 ^ 56 }
     ensures { (beside : Beside) (table : Table) → result ≡ refreshed (room_of (at now beside) (core.now, table)) task }
 {

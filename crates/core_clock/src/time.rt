@@ -1,18 +1,15 @@
 //! What an advance of the clock and a tick of a sibling's timer do. It is a file of its own since these
 //! alone move time.
 
-ghost use Rattle.std.specs.Prelude.{◌≡◌, ℕ, ◌+◌, ◌*◌, ◌^◌, ◌<◌, ◌≤◌, ◌||◌, map, All, find, Some, IsSome};
-ghost use Rattle.cs_types.specs.declared.reply.Reply.TheVariants.{Ticked};
+ghost use Rattle.std.specs.Prelude.{◌≡◌, ℕ, ◌+◌, ◌^◌, ◌<◌, ◌≤◌, map, All, find, Some, IsSome};
 ghost use Rattle.cs_types.specs.declared.task.Task.{Task as SomeTask};
-ghost use Rattle.cs_types.specs.Room.{has_pid, running_on};
-ghost use Rattle.cs_types.specs.Step.{tick};
+ghost use Rattle.cs_types.specs.Room.{has_pid};
 ghost use Rattle.cs_types.specs.Time as time;
 ghost use Rattle.cs_types.specs.Time.{grown, with_leasts, has_used_slice, rotates, is_overtaken, is_to_yield, asks_at_tick, begin_slice};
-ghost use Rattle.core_lanes.specs.Lanes.{Beside, at, lane_state, room_of, Agree, AgreesAt};
+ghost use Rattle.core_lanes.specs.Lanes.{Beside, lane_state, room_of, Agree, AgreesAt};
 ghost use Rattle.core_lanes.specs.Changes.{Changes};
-ghost use Rattle.core_charge.specs.Charges.{IsPaid, Charges};
-ghost use Rattle.core_clock.specs.Moments.{MayAsk, Advances};
-ghost use Rattle.core_clock.specs.Time.{RunTheirOwn, MayAdvance, with_grown, with_ages};
+ghost use Rattle.core_clock.specs.Moments.{MayAsk, MayTick, Ticks, Advances};
+ghost use Rattle.core_clock.specs.Time.{MayAdvance, MayGrow, CanGrow, with_grown, with_ages};
 
 use core_charge::charge;
 use core_lanes::{Core, SiblingQueue, is_fair, task_of};
@@ -38,8 +35,7 @@ fn grow_on<Q: SiblingQueue, L: Ledger>(
     steps: &mut Steps<L>,
 )
     requires at { AgreesAt cpu (core.old, table.old) }
-    requires used { All (λ task. task.used + delta < 2 ^ 64) table.old.tasks }
-    requires vtimes { All (λ task. task.vtime + 69 * delta < 2 ^ 128) table.old.tasks }
+    requires can { CanGrow delta table.old.tasks }
     ensures { Changes (core.old, table.old) (core.new, table.new) (with_grown cpu delta) }
 {
     let Some(task) = core.runner(table, cpu) else {
@@ -66,11 +62,8 @@ fn grow_tasks<Q: SiblingQueue, L: Ledger>(
     delta: u64,
     steps: &mut Steps<L>,
 )
-    requires agree { Agree (core.old, table.old) }
-    requires own { RunTheirOwn (core.old, table.old) }
+    requires may { MayGrow (core.old, table.old) }
     requires delta { delta ≤ 1000000000 }
-    requires used { All (λ task. task.used < 2 ^ 56) table.old.tasks }
-    requires vtimes { All (λ task. task.vtime < 2 ^ 100) table.old.tasks }
     ensures { Changes (core.old, table.old) (core.new, table.new) (λ room. record room { tasks = map (grown room delta) room.tasks }) }
 {
     for cpu in 0..core.lanes.len() {
@@ -186,21 +179,6 @@ fn is_to_yield<Q: SiblingQueue, L: Ledger>(
         && !lane.queue.has_peer(task, table, cpu, steps)
 }
 
-/// Whether the running task is asked to leave as a fair one: it is overtaken, or is to yield.
-fn is_asked<Q: SiblingQueue, L: Ledger>(
-    core: &Core<Q>,
-    table: &TaskTable,
-    cpu: Cpu,
-    task: &Task,
-    steps: &mut Steps<L>,
-) -> bool
-    requires { MayAsk cpu (core.now, table.now) task.now }
-    ensures { (beside : Beside) → let room = room_of beside (core.now, table.now) in
-        result ≡ (is_overtaken room cpu task.now || is_to_yield room cpu task.now) }
-{
-    is_overtaken(core, table, cpu, task, steps) || is_to_yield(core, table, cpu, task, steps)
-}
-
 /// Whether the tick asks for a reschedule, where the test says whether the running task goes behind the
 /// others of its priority.
 fn asks_at_tick<Q: SiblingQueue, L: Ledger>(
@@ -215,7 +193,10 @@ fn asks_at_tick<Q: SiblingQueue, L: Ledger>(
     requires rotates { (beside : Beside) → rotates ≡ time.rotates (room_of beside (core.now, table.now)) cpu task.now }
     ensures { (beside : Beside) → result ≡ asks_at_tick (room_of beside (core.now, table.now)) cpu task.now }
 {
-    rotates || is_asked(core, table, cpu, task, steps)
+    if rotates {
+        return true;
+    }
+    is_overtaken(core, table, cpu, task, steps) || is_to_yield(core, table, cpu, task, steps)
 }
 
 /// The task with the pid, where it is an RR one that has used its slice, begins a new one, with the next stamp where it
@@ -259,12 +240,8 @@ pub fn tick<Q: SiblingQueue, L: Ledger>(
     now: u64,
     steps: &mut Steps<L>,
 ) -> bool
-    requires at { AgreesAt cpu (core.old, table.old) }
-    requires paid { IsPaid now (core.old, table.old) }
-    requires stamp { core.old.next_stamp + 1 < 2 ^ 64 }
-    ensures asks { (beside : Beside) → let room = room_of (at now beside) (core.old, table.old) in
-        Ticked result ≡ (tick room cpu (running_on room cpu)).reply }
-    ensures charges { Charges now (core.old, table.old) (core.new, table.new) (λ room. (tick room cpu (running_on room cpu)).room) }
+    requires { MayTick now cpu (core.old, table.old) }
+    ensures { Ticks now (core.old, table.old) (core.new, table.new) cpu result }
 {
     charge(core, table, now);
     let Some(task) = core.runner(table, cpu) else {

@@ -91,10 +91,10 @@ pub fits_found : {Q : Type 0} {g : Ghosts Q} (pair : Core Q g × Table) (pid : �
 fits_found pair pid task agree found = found_in (IsFit (length pair.0.lanes.items)) pid pair.1.tasks task agree.tasks found
 
 -- one that has the spec but for the policy, and the cookie, of one of the table is known, where it fits
-pub knows_as : {Q : Type 0} {g : Ghosts Q} (pair : Core Q g × Table) (task old : Task) → task.spec.pid ≡ old.spec.pid → task.cookie ≡ old.cookie → IsOf pair.1.tasks old →
+pub knows_as : {Q : Type 0} {g : Ghosts Q} (pair : Core Q g × Table) (task old : Task) → Agree pair → task.spec.pid ≡ old.spec.pid → task.cookie ≡ old.cookie → IsOf pair.1.tasks old →
     IsFit (length pair.0.lanes.items) task → KnowsApart pair task
-knows_as pair task old pid cookie there fits = record {
-  apart = record { old = old; there = subst (λ n. find (has_pid n) pair.1.tasks ≡ Some old) (sym pid) there; fits = fits };
+knows_as pair task old agree pid cookie there fits = record {
+  apart = record { agree = agree; old = old; there = subst (λ n. find (has_pid n) pair.1.tasks ≡ Some old) (sym pid) there; fits = fits };
   cookie = cookie;
 }
 

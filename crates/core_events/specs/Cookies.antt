@@ -1,5 +1,5 @@
 -- Cookies: what a setting makes of the state.
-use Rattle.std.specs.Prelude.{◌≡◌, ◌≢◌, ℕ, ◌||◌, List, Some, false, slice_index_or}
+use Rattle.std.specs.Prelude.{◌≡◌, ◌≢◌, ℕ, ◌+◌, ◌^◌, ◌<◌, ◌||◌, List, Some, false, slice_index_or}
 use Rattle.cs_types.specs.declared.task.Task.{Task}
 use Rattle.cs_types.specs.Room.{SiblingState, absent}
 use Rattle.cs_types.specs.Selection.{is_run}
@@ -8,7 +8,8 @@ use Rattle.cs_types.specs.Touches.{setting_touches}
 use Rattle.core_lanes.specs.declared.queue.SiblingQueue.{Ghosts}
 use Rattle.core_lanes.specs.Numbers.{touched}
 use Rattle.core_events.specs.declared.state.State.{State}
-use Rattle.core_events.specs.State.{state_numbers, StaysBut}
+use Rattle.core_clock.specs.Time.{RunTheirOwn}
+use Rattle.core_events.specs.State.{both, state_numbers, IsSoundBut, StaysBut}
 use Rattle.core_events.specs.Steps.{Becomes}
 
 -- these tasks get the cookie
@@ -22,6 +23,12 @@ flagged_for pid sibling = record sibling { pending = sibling.pending || is_run s
 -- no other of these siblings runs the task with the pid
 abbrev pub RunsAtMostAt : ℕ → ℕ → List SiblingState → Type 0
 RunsAtMostAt home pid siblings = (cpu : ℕ) → cpu ≢ home → is_run (slice_index_or siblings cpu absent).run (Some pid) ≡ false
+
+-- tasks may get the cookie, with which the queues are touched this number of times at most
+pub record MaySet {Q G : Type 0} {g : Ghosts Q} (cookie count : ℕ) (state : State Q G g) : Type 0 where
+  pub sound : IsSoundBut state cookie
+  pub own : RunTheirOwn (both state)
+  pub touches : state.core.task_number + count < 2 ^ 64
 
 -- the new state is the old one once these tasks got the cookie
 pub record SetsCookies {Q G : Type 0} {g : Ghosts Q} (old new : State Q G g) (tasks : List Task) (cookie : ℕ) : Type 0 where

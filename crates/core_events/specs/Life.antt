@@ -1,17 +1,25 @@
--- Life: what the making of a child leaves.
-use Rattle.std.specs.Prelude.{◌≡◌, ℕ, Bool, true, false, ◌==◌, ◌||◌, length, find, Some, None, Result, Ok, Err}
+-- Life: what an end asks, and what the making of a child leaves.
+use Rattle.std.specs.Prelude.{◌≡◌, ℕ, ◌+◌, ◌^◌, ◌<◌, Bool, true, false, ◌==◌, ◌||◌, List, length, vec_len, vec_capacity, find, Some, None, Result, Ok, Err}
 use Rattle.cs_types.specs.declared.task.Task.{Task}
-use Rattle.cs_types.specs.Room.{has_pid}
+use Rattle.cs_types.specs.Room.{Interval, has_pid}
 use Rattle.cs_types.specs.Order.{deadline_class, class_of}
-use Rattle.cs_types.specs.Step.{child_of, with_child}
+use Rattle.cs_types.specs.Step.{child_of, with_child, has_threads}
 use Rattle.fork_inherit.specs.declared.forking.ForkFault.{ForkFault}
 use Rattle.fork_inherit.specs.declared.forking.ForkFault.TheVariants.{NoCaller, Eagain}
 use Rattle.task_table.specs.Table.{Table}
 use Rattle.core_lanes.specs.declared.queue.SiblingQueue.{Ghosts}
 use Rattle.core_lanes.specs.Queued.{IsOf}
 use Rattle.core_events.specs.declared.state.State.{State}
-use Rattle.core_events.specs.State.{state_numbers, Stays}
+use Rattle.core_events.specs.State.{room_with, state_numbers, IsSound, Stays}
 use Rattle.core_events.specs.Steps.{Becomes}
+
+-- the task may end: it lives and leads no other, and a touch and a place among the ended are left
+pub record MayEnd {Q G : Type 0} {g : Ghosts Q} (task : Task) (state : State Q G g) : Type 0 where
+  pub there : IsOf state.tasks.tasks task
+  pub sound : IsSound state
+  pub alone : (intervals : List Interval) → has_threads (room_with intervals state) task ≡ false
+  pub touches : state.core.task_number + 1 < 2 ^ 64
+  pub spare : vec_len state.ended < vec_capacity state.ended
 
 -- whether a fork by the task is refused
 abbrev pub may_not_fork_in : Table → Task → Bool

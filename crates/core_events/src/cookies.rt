@@ -1,16 +1,16 @@
 //! Cookies: what a plan of `prctl` sets. It is a file of its own since no other event sets one.
 
-ghost use Rattle.std.specs.Prelude.{◌≡◌, ◌+◌, ◌*◌, ◌^◌, ◌<◌, ◌≤◌, ◌∷◌, [], length, map};
+ghost use Rattle.std.specs.Prelude.{◌≡◌, ◌+◌, ◌*◌, ◌<◌, ◌≤◌, ◌∷◌, [], length, map};
 ghost use Rattle.cs_types.specs.declared.event.Event.TheVariants.{Prctl};
 ghost use Rattle.cs_types.specs.Touches.{cookie_touches};
 ghost use Rattle.task_table.specs.Group.{group_above};
 ghost use Rattle.prctl_core.specs.Plan.{named};
 ghost use Rattle.core_lanes.specs.Queued.{IsOf};
 ghost use Rattle.core_lanes.specs.Lanes.{lane_state};
-ghost use Rattle.core_events.specs.State.{both, IsSoundBut, IsReady};
-ghost use Rattle.core_clock.specs.Time.{RunTheirOwn};
+ghost use Rattle.core_lanes.specs.Changes.{ChangesLanes};
+ghost use Rattle.core_events.specs.State.{IsReady};
 ghost use Rattle.core_events.specs.Steps.{Makes};
-ghost use Rattle.core_events.specs.Cookies.{flagged_for, RunsAtMostAt, SetsCookies};
+ghost use Rattle.core_events.specs.Cookies.{flagged_for, RunsAtMostAt, MaySet, SetsCookies};
 
 use crate::state::State;
 use core_lanes::{Lane, SiblingQueue, task_of};
@@ -25,9 +25,7 @@ use task_table::Group;
 fn flag_home<Q: Drop>(lanes: &mut [Lane<Q>], home: Cpu, pid: Pid)
     requires home { home < length lanes.old }
     requires alone { RunsAtMostAt home pid (map lane_state lanes.old) }
-    ensures states { map lane_state lanes.new ≡ map (flagged_for pid) (map lane_state lanes.old) }
-    ensures numbers { map (λ lane. lane.number) lanes.new ≡ map (λ lane. lane.number) lanes.old }
-    ensures queues { map (λ lane. lane.queue) lanes.new ≡ map (λ lane. lane.queue) lanes.old }
+    ensures { ChangesLanes lanes.old lanes.new (map (flagged_for pid)) }
 {
     let lane = &mut lanes[home as usize];
     lane.pending |= lane.runs(pid);
@@ -49,10 +47,8 @@ impl<Q: SiblingQueue, G: Guard> State<Q, G> {
     /// pending.
     #[inline(always)]
     fn set_cookie<L: Ledger>(&mut self, task: &Task, cookie: Cookie, steps: &mut Steps<L>)
-        requires sound { IsSoundBut self.old cookie }
-        requires own { RunTheirOwn (both self.old) }
+        requires may { MaySet cookie 2 self.old }
         requires there { IsOf self.old.tasks.tasks task.now }
-        requires touches { self.old.core.task_number + 2 < 2 ^ 64 }
         ensures { SetsCookies self.old self.new (task.now ∷ []) cookie }
     {
         self.refs.get(cookie);
@@ -64,9 +60,7 @@ impl<Q: SiblingQueue, G: Guard> State<Q, G> {
 
     /// The members of the group have the cookie, by rising pid.
     fn set_group<L: Ledger>(&mut self, group: Group, cookie: Cookie, steps: &mut Steps<L>)
-        requires sound { IsSoundBut self.old cookie }
-        requires own { RunTheirOwn (both self.old) }
-        requires touches { self.old.core.task_number + 2 * length self.old.tasks.tasks + 2 < 2 ^ 64 }
+        requires { MaySet cookie (2 * length self.old.tasks.tasks + 2) self.old }
         ensures { SetsCookies self.old self.new (group_above group 0 self.old.tasks.tasks) cookie }
     {
         let mut after = self.tasks.below(group);
@@ -81,9 +75,7 @@ impl<Q: SiblingQueue, G: Guard> State<Q, G> {
 
     /// The tasks that the target names have the cookie.
     fn set_cookies<L: Ledger>(&mut self, to: Target, cookie: Cookie, steps: &mut Steps<L>)
-        requires sound { IsSoundBut self.old cookie }
-        requires own { RunTheirOwn (both self.old) }
-        requires touches { self.old.core.task_number + 2 * length self.old.tasks.tasks + 2 < 2 ^ 64 }
+        requires { MaySet cookie (2 * length self.old.tasks.tasks + 2) self.old }
         ensures { SetsCookies self.old self.new (named to self.old.tasks.tasks) cookie }
     {
         match to {

@@ -1,12 +1,10 @@
 //! How a task comes and goes. It is a file of its own since nothing else changes who lives.
 
-ghost use Rattle.std.specs.Prelude.{◌≡◌, ◌+◌, ◌^◌, ◌<◌, List, false, vec_len, vec_capacity};
-ghost use Rattle.cs_types.specs.Room.{Interval};
-ghost use Rattle.cs_types.specs.Step.{has_threads, without};
-ghost use Rattle.core_lanes.specs.Queued.{IsOf};
-ghost use Rattle.core_events.specs.State.{room_with, IsSound};
+ghost use Rattle.std.specs.Prelude.{◌+◌, ◌^◌, ◌<◌};
+ghost use Rattle.cs_types.specs.Step.{without};
+ghost use Rattle.core_events.specs.State.{IsSound};
 ghost use Rattle.core_events.specs.Steps.{Touches};
-ghost use Rattle.core_events.specs.Life.{MakesChild};
+ghost use Rattle.core_events.specs.Life.{MayEnd, MakesChild};
 
 use crate::state::State;
 use core_lanes::{SiblingQueue, task_of};
@@ -18,11 +16,7 @@ use std::sync::ledger::Ledger;
 impl<Q: SiblingQueue, G: Guard> State<Q, G> {
     /// The task is no longer among the living, and is the last of the ended, with what it was charged.
     pub fn end<L: Ledger>(&mut self, task: Task, steps: &mut Steps<L>)
-        requires there { IsOf self.old.tasks.tasks task }
-        requires sound { IsSound self.old }
-        requires alone { (intervals : List Interval) → has_threads (room_with intervals self.old) task ≡ false }
-        requires touches { self.old.core.task_number + 1 < 2 ^ 64 }
-        requires spare { vec_len self.old.ended < vec_capacity self.old.ended }
+        requires { MayEnd task self.old }
         ensures { Touches 1 self.old self.new (λ room. without room task) }
     {
         self.core.dequeue(&mut self.tasks, task, steps);

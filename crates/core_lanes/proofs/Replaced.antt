@@ -1,16 +1,19 @@
 -- Replaced: a task in the place of the one with its pid.
-use Rattle.std.proofs.Common.{◌≡◌, ◌⊎◌, inl, inr, ℕ, ◌+◌, ◌<◌, ◌≤◌, true, false, cond, List, [], ◌∷◌, map, arith, refl, subst, sym, ap, ◌∙◌, Some}
-use Rattle.std.specs.Prelude.{find, ◌==◌, All, IsTrue}
+use Rattle.std.proofs.Common.{◌≡◌, ◌⊎◌, inl, inr, ℕ, ◌+◌, ◌<◌, ◌≤◌, true, false, List, [], ◌∷◌, map, arith, refl, subst, sym, ap, ◌∙◌, Some}
+use Rattle.std.specs.Prelude.{find, ◌==◌, All, IsTrue, length}
 use Rattle.std.proofs.lemmas.Bool.{cond_both, cond-true, cond-false, cases_Bool, eqb-true, eq-eqb, ne_eqb}
-use Rattle.task_table.specs.Table.{Rises, RisesFrom}
+use Rattle.task_table.specs.Table.{Table, IsSound as IsTable, Rises, RisesFrom}
 use Rattle.std.proofs.lemmas.List.Elements.{All-map, All-weaker}
 use Rattle.cs_types.specs.declared.task.Task.{Task}
 use Rattle.cs_types.specs.Room.{has_pid}
 use Rattle.cs_types.proofs.Spots.{replaced_by, find-replaced}
 use Rattle.core_lanes.specs.Queued.{queued_at, IsOf, HasOwnStamp, AreStamped}
-use Rattle.core_lanes.specs.Lanes.{MayStamp}
+use Rattle.core_lanes.specs.declared.queue.SiblingQueue.{Ghosts}
+use Rattle.core_lanes.specs.declared.lanes.Core.{Core}
+use Rattle.core_lanes.specs.Lanes.{BareCore, bare, Agree, AreHeld, IsFit, MayStamp, FitsIn}
 use Rattle.core_lanes.specs.Changes.{identity_of}
 use Rattle.core_lanes.proofs.Queues.{is_on, absent_from, others-replaced}
+use Rattle.core_lanes.proofs.Stays.{as_many_bare}
 
 -- what holds of all, and of the one that takes a place
 pub All-replaced : (P : Task → Type 0) (task : Task) (tasks : List Task) → P task → All P tasks → All P (map (replaced_by task) tasks)
@@ -134,3 +137,21 @@ identities-replaced task old tasks rises there cookie = go 0 tasks rises there w
             let rest = go (t.spec.pid + 1) ts rises.1 (sym (cond-false _ (Some t) (find (has_pid task.spec.pid) ts) other) ∙ found) in
             (λ i. identity_of (cond-false (has_pid task.spec.pid t) task t other i) ∷ rest i)
       ]
+
+-- a core and a table agree still where a task that fits takes the place of the one with its pid, and the queues hold it so
+pub agree-replaced : {Q : Type 0} {g : Ghosts Q} (old new : Core Q g) (before now : Table) (task : Task) → FitsIn (old, before) task → bare new ≡ bare old →
+    now ≡ record before { tasks = map (replaced_by task) before.tasks } → IsTable now → AreHeld (new, now) → Agree (new, now)
+agree-replaced old new before now task fits same changed sound held =
+    let apart = fits.apart in
+    let after : Table = record before { tasks = map (replaced_by task) before.tasks } in
+    record {
+      table = sound;
+      few_tasks = subst (λ (t : Table). t.limit ≤ 256) (sym changed) apart.agree.few_tasks;
+      tasks = subst (λ (t : Table). All (IsFit (length new.lanes.items)) t.tasks) (sym changed)
+          (subst (λ n. All (IsFit n) after.tasks) (sym (as_many_bare old new same))
+          (All-replaced (IsFit (length old.lanes.items)) task before.tasks apart.fits apart.agree.tasks));
+      stamped = subst (λ (t : Table). AreStamped new.next_stamp t.tasks) (sym changed)
+          (subst (λ (core : BareCore). AreStamped core.next_stamp after.tasks) (sym same)
+          (stamped-replaced task apart.old before.tasks apart.there old.next_stamp fits.stamp apart.agree.stamped));
+      held = held;
+    }

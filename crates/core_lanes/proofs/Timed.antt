@@ -39,6 +39,7 @@ knows-alike both task old agree there keeps =
     record {
       known = record {
         apart = record {
+          agree = agree;
           old = old;
           there = subst (λ (spec : TaskSpec). find (has_pid spec.pid) both.1.tasks ≡ Some old) (sym keeps.spec) there;
           fits = record {

@@ -1,11 +1,13 @@
 -- Changes: how one core and its table become others.
-use Rattle.std.specs.Prelude.{◌≡◌, ℕ, List, length, map}
+use Rattle.std.specs.Prelude.{◌≡◌, ℕ, List, length, map, find, Some}
 use Rattle.cs_types.specs.declared.task.Task.{Task}
-use Rattle.cs_types.specs.Room.{RoomState}
+use Rattle.cs_types.specs.Room.{RoomState, SiblingState, has_pid}
+use Rattle.cs_types.specs.Queueing.{moved}
 use Rattle.task_table.specs.Table.{Table}
 use Rattle.core_lanes.specs.declared.queue.SiblingQueue.{Ghosts}
 use Rattle.core_lanes.specs.declared.lanes.Core.{Core}
-use Rattle.core_lanes.specs.Lanes.{Beside, at, beside_after, room_of, Agree}
+use Rattle.core_lanes.specs.declared.lane.Lane.{Lane}
+use Rattle.core_lanes.specs.Lanes.{lane_state, Beside, at, beside_after, room_of, AgreeBy, Agree, AreHeldAway}
 use Rattle.core_lanes.specs.Numbers.{numbers_of, numbers_in, booked, touched}
 
 -- ---- what stays
@@ -36,6 +38,12 @@ pub record Stays {Q : Type 0} {g : Ghosts Q} (old new : Core Q g × Table) : Typ
 
 -- ---- changes
 
+-- siblings are others after this change, each with its own number and its queue
+pub record ChangesLanes {Q : Type 0} (old new : List (Lane Q)) (change : List SiblingState → List SiblingState) : Type 0 where
+  pub states : map lane_state new ≡ change (map lane_state old)
+  pub numbers : map (λ lane. lane.number) new ≡ map (λ lane. lane.number) old
+  pub queues : map (λ lane. lane.queue) new ≡ map (λ lane. lane.queue) old
+
 -- the new room is the old one after this change, whatever is beside it
 abbrev pub Becomes : {Q : Type 0} {g : Ghosts Q} → Core Q g × Table → Core Q g × Table → (RoomState → RoomState) → Type 0
 Becomes old new change = (beside : Beside) → room_of beside new ≡ change (room_of beside old)
@@ -60,3 +68,20 @@ BecomesCharged now old new change =
 -- the books are those of the room's recorded intervals
 abbrev pub IsBooked : {Q : Type 0} {g : Ghosts Q} → Beside → Core Q g × Table → Type 0
 IsBooked beside both = numbers_in beside both ≡ booked (room_of beside both) (numbers_in beside both)
+
+-- ---- moves
+
+-- the task with the pid moved to the sibling, with the next stamp and two touches
+pub record MovesBy {Q : Type 0} {g : Ghosts Q} (Held : Type 0) (pid to : ℕ) (old new : Core Q g × Table) : Type 0 where
+  pub room : (task : Task) → find (has_pid pid) old.1.tasks ≡ Some task → Becomes old new (λ room. moved room to task)
+  pub numbers : numbers_of new ≡ touched 2 (numbers_of old)
+  pub kept : kept_of new ≡ kept_of old
+  pub agree : AgreeBy Held new
+
+-- whatever the queues hold
+abbrev pub Places : {Q : Type 0} {g : Ghosts Q} → ℕ → ℕ → Core Q g × Table → Core Q g × Table → Type 0
+Places pid to old new = MovesBy (Unit {0}) pid to old new
+
+-- or into the queue there, where that of the sibling that it leaves is empty
+abbrev pub Enters : {Q : Type 0} {g : Ghosts Q} → ℕ → ℕ → ℕ → Core Q g × Table → Core Q g × Table → Type 0
+Enters pid from to old new = MovesBy (AreHeldAway from new) pid to old new

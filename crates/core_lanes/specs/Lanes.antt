@@ -185,19 +185,32 @@ pub record AgreesAt {Q : Type 0} {g : Ghosts Q} (sibling : ℕ) (both : Core Q g
   pub cpu : sibling < length both.0.lanes.items
   pub agree : Agree both
 
--- the task is one of a table, and its home is a sibling
-pub record IsAtHome {Q : Type 0} {g : Ghosts Q} (both : Core Q g × Table) (task : Task) : Type 0 where
+-- the task is one of a table, its home is a sibling, and the queues hold what they are to hold
+pub record IsAtHome {Q : Type 0} {g : Ghosts Q} (Held : Type 0) (both : Core Q g × Table) (task : Task) : Type 0 where
   pub table : IsTable both.1
   pub there : IsOf both.1.tasks task
   pub home : task.home < length both.0.lanes.items
+  pub held : Held
+
+-- of a core only the queues changed, and they hold what they are to hold
+pub record ChangesQueues {Q : Type 0} {g : Ghosts Q} (old new : Core Q g) (Held : Type 0) : Type 0 where
+  pub bare : bare new ≡ bare old
+  pub held : Held
+
+-- the task stands in the place of the one with its pid, in the table and in the queues, and nothing else changed
+pub record Replaces {Q : Type 0} {g : Ghosts Q} (task : Task) (old new : Core Q g × Table) : Type 0 where
+  pub table : new.1 ≡ record old.1 { tasks = map (λ other. if has_pid task.spec.pid other then task else other) old.1.tasks }
+  pub bare : bare new.0 ≡ bare old.0
+  pub agree : Agree new
 
 -- a stamp that a queued task may have
 pub record MayStamp (next : ℕ) (tasks : List Task) (task : Task) : Type 0 where
   pub below : task.stamp < next
   pub own : HasOwnStamp tasks task
 
--- the table has a task with this one's pid, in whose place this one fits but for its stamp
+-- a core and a table agree, and the table has a task with this one's pid, in whose place this one fits but for its stamp
 pub record FitsApart {Q : Type 0} {g : Ghosts Q} (both : Core Q g × Table) (task : Task) : Type 0 where
+  pub agree : Agree both
   pub old : Task
   pub there : find (has_pid task.spec.pid) both.1.tasks ≡ Some old
   pub fits : IsFit (length both.0.lanes.items) task
@@ -216,6 +229,12 @@ pub record KnowsApart {Q : Type 0} {g : Ghosts Q} (both : Core Q g × Table) (ta
 pub record Knows {Q : Type 0} {g : Ghosts Q} (both : Core Q g × Table) (task : Task) : Type 0 where
   pub known : KnowsApart both task
   pub stamp : IsTrue task.queued → MayStamp both.0.next_stamp both.1.tasks task
+
+-- a task can move from its home: its virtual time and the least ones are far from overflow
+pub record CanMove {Q : Type 0} {g : Ghosts Q} (core : Core Q g) (task : Task) : Type 0 where
+  pub home : task.home < length core.lanes.items
+  pub vtime : task.vtime < 2 ^ 100
+  pub leasts : All (λ sibling. sibling.least < 2 ^ 100) (map lane_state core.lanes.items)
 
 -- The task with the pid is queued on the one sibling, and may move to the other: its virtual time and the least ones are far from
 -- overflow, and the next stamp and two touches do not overflow.

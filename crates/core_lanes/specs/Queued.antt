@@ -84,6 +84,11 @@ pub record MayBePut (Held : Type 0) (cpu : ℕ) (all : Table) (task : Task) : Ty
 abbrev pub HavePolicies : List Task → Type 0
 HavePolicies tasks = All (λ task. IsPolicy task.spec.policy) tasks
 
+-- A queue may be searched: it holds what it is to hold, and the policies of the tasks keep their limits.
+pub record MaySearch (Held : Type 0) (tasks : List Task) : Type 0 where
+  pub policies : HavePolicies tasks
+  pub holds : Held
+
 -- ---- what is asked of it
 
 -- the tasks with a cookie

@@ -9,7 +9,7 @@ ghost use Rattle.cs_types.specs.Queue.{queued_of};
 ghost use Rattle.cs_types.specs.Selection.{first_on};
 ghost use Rattle.cs_types.specs.Step.{run_idle};
 ghost use Rattle.cs_types.specs.Steal.{set_place};
-ghost use Rattle.cs_types.specs.Queueing.{enqueue, dequeue, moved_to, moved};
+ghost use Rattle.cs_types.specs.Queueing.{enqueue, dequeue, moved_to};
 ghost use Rattle.task_table.specs.Table.{Table, IsSound as IsTable};
 ghost use Rattle.core_lanes.specs.Queued.{IsOf, queued_among, queued_at, mover_of, AreTold, others, given_cookie, given_vtime, is_alike};
 
@@ -56,10 +56,10 @@ pub struct Core<Q: SiblingQueue> {
 }
 
 impl<Q: SiblingQueue> Core<Q> {
-    ghost use Rattle.core_lanes.specs.Queued.{HasOwnStamp};
-    ghost use Rattle.core_lanes.specs.Lanes.{Beside, lane_state, bare_start, queues_of, room_of, bare, Agree, AgreeAway, AgreesAt, AreHeld, AreHeldBut, AreHeldAway, AreHeldAwayBut, FitsIn, Knows, KnowsApart, IsAtHome, MayEnter};
-    ghost use Rattle.core_lanes.specs.Numbers.{numbers_of, is_fresh_by, touched};
-    ghost use Rattle.core_lanes.specs.Changes.{Becomes, kept_of, Changes, Touches};
+    ghost use Rattle.core_lanes.specs.Queued.{HasOwnStamp, MayBePut};
+    ghost use Rattle.core_lanes.specs.Lanes.{Beside, bare_start, queues_of, room_of, bare, Agree, AgreeAway, AgreesAt, AreHeld, AreHeldBut, AreHeldAway, AreHeldAwayBut, ChangesQueues, Replaces, FitsIn, Knows, KnowsApart, IsAtHome, CanMove, MayEnter};
+    ghost use Rattle.core_lanes.specs.Numbers.{numbers_of, is_fresh_by};
+    ghost use Rattle.core_lanes.specs.Changes.{Changes, Touches, Enters};
 
     /// The siblings, which are 1 to 16, before the first step: each is online and runs idle, and no number is
     /// above 0. Each queue can take `tasks`, a count. This call alone takes memory.
@@ -174,10 +174,8 @@ impl<Q: SiblingQueue> Core<Q> {
 
     /// The queue that the task stands in, if one, has it no longer.
     fn take<L: Ledger>(&mut self, table: &TaskTable, task: &Task, steps: &mut Steps<L>)
-        requires home { IsAtHome (self.old, table.now) task.now }
-        requires held { AreHeld (self.old, table.now) }
-        ensures bare { bare self.new ≡ bare self.old }
-        ensures held { AreHeldBut task.now.spec.pid (self.new, table.now) }
+        requires { IsAtHome (AreHeld (self.old, table.now)) (self.old, table.now) task.now }
+        ensures { ChangesQueues self.old self.new (AreHeldBut task.now.spec.pid (self.new, table.now)) }
     {
         if task.queued {
             self.lanes[task.home as usize]
@@ -188,11 +186,9 @@ impl<Q: SiblingQueue> Core<Q> {
 
     /// The queue that the task belongs into, if one, has it.
     fn put<L: Ledger>(&mut self, table: &TaskTable, task: &Task, steps: &mut Steps<L>)
-        requires home { IsAtHome (self.old, table.now) task.now }
+        requires home { IsAtHome (AreHeldBut task.now.spec.pid (self.old, table.now)) (self.old, table.now) task.now }
         requires stamp { IsTrue task.now.queued → HasOwnStamp table.now.tasks task.now }
-        requires held { AreHeldBut task.now.spec.pid (self.old, table.now) }
-        ensures bare { bare self.new ≡ bare self.old }
-        ensures held { AreHeld (self.new, table.now) }
+        ensures { ChangesQueues self.old self.new (AreHeld (self.new, table.now)) }
     {
         if task.queued {
             self.lanes[task.home as usize]
@@ -203,44 +199,26 @@ impl<Q: SiblingQueue> Core<Q> {
 
     /// The queue of the task's home has it, where the tasks of another sibling leave.
     fn put_away<L: Ledger>(&mut self, table: &TaskTable, task: &Task, steps: &mut Steps<L>)
-        requires home { IsAtHome (self.old, table.now) task.now }
-        requires queued { IsTrue task.now.queued }
-        requires stamp { HasOwnStamp table.now.tasks task.now }
-        requires held { (queue : _) → slice_get (queues_of self.old) task.now.home ≡ Some queue →
-            Q.holds queue table.now.limit (others task.now.spec.pid (queued_at table.now.tasks task.now.home)) }
-        ensures bare { bare self.new ≡ bare self.old }
-        ensures held { (leaving : ℕ) → task.now.home ≢ leaving → AreHeldAwayBut leaving task.now.spec.pid (self.old, table.now) →
-            AreHeldAway leaving (self.new, table.now) }
+        requires cpu { task.now.home < length self.old.lanes.items }
+        requires may { (queue : _) → slice_get (queues_of self.old) task.now.home ≡ Some queue →
+            MayBePut (Q.holds queue table.now.limit (others task.now.spec.pid (queued_at table.now.tasks task.now.home))) task.now.home table.now task.now }
+        ensures { ChangesQueues self.old self.new ((leaving : ℕ) → task.now.home ≢ leaving →
+            AreHeldAwayBut leaving task.now.spec.pid (self.old, table.now) → AreHeldAway leaving (self.new, table.now)) }
     {
         self.lanes[task.home as usize]
             .queue
             .put(table, task.home, task, steps);
     }
 
-    /// The task in the place of the one with its pid, which the queues have alike, in the table.
-    fn replace_alike(&self, table: &mut TaskTable, old: &Task, task: Task)
-        requires there { find (has_pid task.spec.pid) table.old.tasks ≡ Some old.now }
-        requires alike { IsTrue (is_alike old.now task) }
-        requires fits { FitsIn (self.now, table.old) task }
-        requires agree { Agree (self.now, table.old) }
-        ensures table { table.new ≡ record table.old { tasks = map (λ other. if has_pid task.spec.pid other then task else other) table.old.tasks } }
-        ensures agree { Agree (self.now, table.new) }
-    {
-        table.change(task);
-    }
-
     /// The task in the place of the one with its pid, in the table and in the queues.
     #[inline(always)]
     pub fn replace<L: Ledger>(&mut self, table: &mut TaskTable, task: Task, steps: &mut Steps<L>)
-        requires fits { FitsIn (self.old, table.old) task }
-        requires agree { Agree (self.old, table.old) }
-        ensures table { table.new ≡ record table.old { tasks = map (λ other. if has_pid task.spec.pid other then task else other) table.old.tasks } }
-        ensures bare { bare self.new ≡ bare self.old }
-        ensures agree { Agree (self.new, table.new) }
+        requires { FitsIn (self.old, table.old) task }
+        ensures { Replaces task (self.old, table.old) (self.new, table.new) }
     {
         let old = task_of(table, task.spec.pid).unwrap();
         if is_alike(&old, &task) {
-            self.replace_alike(table, &old, task);
+            table.change(task);
             return;
         }
         self.take(table, &old, steps);
@@ -256,10 +234,8 @@ impl<Q: SiblingQueue> Core<Q> {
         cookie: Cookie,
         steps: &mut Steps<L>,
     )
-        requires home { IsAtHome (self.old, table.now) task.now }
-        requires held { AreHeld (self.old, table.now) }
-        ensures bare { bare self.new ≡ bare self.old }
-        ensures held { AreHeld (self.new, record table.now { tasks = given_cookie task.now cookie table.now.tasks }) }
+        requires { IsAtHome (AreHeld (self.old, table.now)) (self.old, table.now) task.now }
+        ensures { ChangesQueues self.old self.new (AreHeld (self.new, record table.now { tasks = given_cookie task.now cookie table.now.tasks })) }
     {
         if task.queued {
             self.lanes[task.home as usize]
@@ -278,9 +254,7 @@ impl<Q: SiblingQueue> Core<Q> {
     )
         requires there { IsOf table.old.tasks task.now }
         requires agree { Agree (self.old, table.old) }
-        ensures table { table.new ≡ record table.old { tasks = given_cookie task.now cookie table.old.tasks } }
-        ensures bare { bare self.new ≡ bare self.old }
-        ensures agree { Agree (self.new, table.new) }
+        ensures { Replaces (record task.now { cookie = cookie }) (self.old, table.old) (self.new, table.new) }
     {
         if task.cookie == cookie {
             return;
@@ -299,10 +273,8 @@ impl<Q: SiblingQueue> Core<Q> {
         steps: &mut Steps<L>,
     )
         requires fair { IsTrue (is_fair task.now) }
-        requires home { IsAtHome (self.old, table.now) task.now }
-        requires held { AreHeld (self.old, table.now) }
-        ensures bare { bare self.new ≡ bare self.old }
-        ensures held { AreHeld (self.new, record table.now { tasks = given_vtime task.now vtime table.now.tasks }) }
+        requires home { IsAtHome (AreHeld (self.old, table.now)) (self.old, table.now) task.now }
+        ensures { ChangesQueues self.old self.new (AreHeld (self.new, record table.now { tasks = given_vtime task.now vtime table.now.tasks })) }
     {
         if task.queued {
             self.lanes[task.home as usize]
@@ -344,11 +316,9 @@ impl<Q: SiblingQueue> Core<Q> {
     /// The queue of a sibling, whose tasks are about to leave, is empty. The list, which has none yet, tells them
     /// by rising stamp.
     pub fn empty_queue(&mut self, table: &TaskTable, leaving: Cpu, movers: &mut Movers)
-        requires cpu { leaving < length self.old.lanes.items }
-        requires agree { Agree (self.old, table.now) }
+        requires agree { AgreesAt leaving (self.old, table.now) }
         requires none { movers.old.items ≡ [] }
-        ensures bare { bare self.new ≡ bare self.old }
-        ensures away { AgreeAway leaving (self.new, table.now) }
+        ensures away { ChangesQueues self.old self.new (AgreeAway leaving (self.new, table.now)) }
         ensures told { AreTold (map mover_of (queued_among table.now.tasks leaving)) movers.new.items }
     {
         self.tell_queued(table, leaving, movers);
@@ -367,11 +337,7 @@ impl<Q: SiblingQueue> Core<Q> {
         steps: &mut Steps<L>,
     )
         requires { MayEnter pid from to (self.old, table.old) }
-        ensures room { (task : SomeTask) → find (has_pid pid) table.old.tasks ≡ Some task →
-            Becomes (self.old, table.old) (self.new, table.new) (λ room. moved room to task) }
-        ensures numbers { numbers_of (self.new, table.new) ≡ touched 2 (numbers_of (self.old, table.old)) }
-        ensures kept { kept_of (self.new, table.new) ≡ kept_of (self.old, table.old) }
-        ensures away { AgreeAway from (self.new, table.new) }
+        ensures { Enters pid from to (self.old, table.old) (self.new, table.new) }
     {
         self.place(table, pid, from, to);
         let entered = table.find(pid).unwrap();
@@ -381,8 +347,7 @@ impl<Q: SiblingQueue> Core<Q> {
     /// The task's numbers are these now.
     #[inline(always)]
     pub fn change<L: Ledger>(&mut self, table: &mut TaskTable, task: Task, steps: &mut Steps<L>)
-        requires knows { Knows (self.old, table.old) task }
-        requires agree { Agree (self.old, table.old) }
+        requires { Knows (self.old, table.old) task }
         ensures { Changes (self.old, table.old) (self.new, table.new) (λ room. with_task room task) }
     {
         self.replace(table, task, steps);
@@ -391,7 +356,6 @@ impl<Q: SiblingQueue> Core<Q> {
     /// The task is asleep (`dequeue_task`).
     pub fn dequeue<L: Ledger>(&mut self, table: &mut TaskTable, task: Task, steps: &mut Steps<L>)
         requires knows { KnowsApart (self.old, table.old) task }
-        requires agree { Agree (self.old, table.old) }
         requires touches { self.old.task_number + 1 < 2 ^ 64 }
         ensures { Touches 1 (self.old, table.old) (self.new, table.new) (λ room. dequeue room task) }
     {
@@ -406,7 +370,6 @@ impl<Q: SiblingQueue> Core<Q> {
     /// The task is queued, with the next stamp (`enqueue_task`).
     pub fn enqueue<L: Ledger>(&mut self, table: &mut TaskTable, task: Task, steps: &mut Steps<L>)
         requires knows { KnowsApart (self.old, table.old) task }
-        requires agree { Agree (self.old, table.old) }
         requires stamp { self.old.next_stamp + 1 < 2 ^ 64 }
         requires touches { self.old.task_number + 1 < 2 ^ 64 }
         ensures { Touches 1 (self.old, table.old) (self.new, table.new) (λ room. enqueue room task) }
@@ -427,9 +390,7 @@ impl<Q: SiblingQueue> Core<Q> {
     #[inline(always)]
     pub fn moved_to(&self, cpu: Cpu, task: Task) -> Task
         requires cpu { cpu < length self.now.lanes.items }
-        requires home { task.home < length self.now.lanes.items }
-        requires vtime { task.vtime < 2 ^ 100 }
-        requires leasts { All (λ sibling. sibling.least < 2 ^ 100) (map lane_state self.now.lanes.items) }
+        requires can { CanMove self.now task }
         ensures { (beside : Beside) (table : Table) → result ≡ moved_to (room_of beside (self.now, table)) cpu task }
     {
         let ahead = task

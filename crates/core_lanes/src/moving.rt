@@ -1,11 +1,9 @@
 //! How a queue comes to another sibling with all its tasks. It is apart, since it alone leaves tasks and queues
 //! for a moment as they do not agree.
 
-ghost use Rattle.std.specs.Prelude.{◌≡◌, ◌≢◌, ℕ, [], ◌+◌, ◌<◌, length, map, find, slice_get, Some};
-ghost use Rattle.cs_types.specs.declared.task.Task.{Task as SomeTask};
-ghost use Rattle.cs_types.specs.Room.{has_pid};
+ghost use Rattle.std.specs.Prelude.{◌≡◌, ◌≢◌, [], ◌<◌, length, map};
 ghost use Rattle.core_lanes.specs.Queued.{queued_among, mover_of, AreTold};
-ghost use Rattle.core_lanes.specs.Lanes.{lane_state};
+ghost use Rattle.core_lanes.specs.Exchanges.{Exchange};
 
 use crate::lane::Lane;
 use crate::lanes::Core;
@@ -19,11 +17,7 @@ use task_table::TaskTable;
 fn swap_queues_up<Q: Drop>(lanes: &mut [Lane<Q>], low: usize, high: usize)
     requires rising { low < high }
     requires within { high < length lanes.old }
-    ensures states { map lane_state lanes.new ≡ map lane_state lanes.old }
-    ensures numbers { map (λ lane. lane.number) lanes.new ≡ map (λ lane. lane.number) lanes.old }
-    ensures low { slice_get (map (λ lane. lane.queue) lanes.new) low ≡ slice_get (map (λ lane. lane.queue) lanes.old) high }
-    ensures high { slice_get (map (λ lane. lane.queue) lanes.new) high ≡ slice_get (map (λ lane. lane.queue) lanes.old) low }
-    ensures rest { (cpu : ℕ) → cpu ≢ low → cpu ≢ high → slice_get (map (λ lane. lane.queue) lanes.new) cpu ≡ slice_get (map (λ lane. lane.queue) lanes.old) cpu }
+    ensures { Exchange low high lanes.old lanes.new }
 {
     let (front, back) = lanes.split_at_mut(high);
     mem::swap(&mut front[low].queue, &mut back[0].queue);
@@ -33,11 +27,7 @@ fn swap_queues_up<Q: Drop>(lanes: &mut [Lane<Q>], low: usize, high: usize)
 fn swap_queues<Q: Drop>(lanes: &mut [Lane<Q>], one: usize, other: usize)
     requires two { one ≢ other }
     requires within { (one < length lanes.old) × (other < length lanes.old) }
-    ensures states { map lane_state lanes.new ≡ map lane_state lanes.old }
-    ensures numbers { map (λ lane. lane.number) lanes.new ≡ map (λ lane. lane.number) lanes.old }
-    ensures one { slice_get (map (λ lane. lane.queue) lanes.new) one ≡ slice_get (map (λ lane. lane.queue) lanes.old) other }
-    ensures other { slice_get (map (λ lane. lane.queue) lanes.new) other ≡ slice_get (map (λ lane. lane.queue) lanes.old) one }
-    ensures rest { (cpu : ℕ) → cpu ≢ one → cpu ≢ other → slice_get (map (λ lane. lane.queue) lanes.new) cpu ≡ slice_get (map (λ lane. lane.queue) lanes.old) cpu }
+    ensures { Exchange one other lanes.old lanes.new }
 {
     if one < other {
         swap_queues_up(lanes, one, other);
@@ -47,11 +37,9 @@ fn swap_queues<Q: Drop>(lanes: &mut [Lane<Q>], one: usize, other: usize)
 }
 
 impl<Q: SiblingQueue> Core<Q> {
-    ghost use Rattle.core_lanes.specs.Exchanges.{AgreeApart, MayPlace, MayExchange};
-    ghost use Rattle.core_lanes.specs.Lanes.{bare, room_of, AgreesAt, AreHeld};
-    ghost use Rattle.core_lanes.specs.Numbers.{numbers_of, touched};
-    ghost use Rattle.core_lanes.specs.Changes.{Becomes, kept_of};
-    ghost use Rattle.cs_types.specs.Queueing.{moved};
+    ghost use Rattle.core_lanes.specs.Exchanges.{MayPlace, MayExchange};
+    ghost use Rattle.core_lanes.specs.Lanes.{AgreesAt, AreHeld, ChangesQueues};
+    ghost use Rattle.core_lanes.specs.Changes.{Places};
 
     /// Tells the tasks queued on the sibling by their pids, in a list that has none yet, by rising stamp.
     pub fn tell_queued(&self, table: &TaskTable, cpu: Cpu, movers: &mut Movers)
@@ -67,11 +55,7 @@ impl<Q: SiblingQueue> Core<Q> {
     #[inline(always)]
     pub fn place(&mut self, table: &mut TaskTable, pid: Pid, from: Cpu, to: Cpu)
         requires { MayPlace pid from to (self.old, table.old) }
-        ensures room { (task : SomeTask) → find (has_pid pid) table.old.tasks ≡ Some task →
-            Becomes (self.old, table.old) (self.new, table.new) (λ room. moved room to task) }
-        ensures numbers { numbers_of (self.new, table.new) ≡ touched 2 (numbers_of (self.old, table.old)) }
-        ensures kept { kept_of (self.new, table.new) ≡ kept_of (self.old, table.old) }
-        ensures apart { AgreeApart (self.new, table.new) }
+        ensures placed { Places pid to (self.old, table.old) (self.new, table.new) }
         ensures lanes { self.new.lanes ≡ self.old.lanes }
     {
         let behind = self.lanes[from as usize].least;
@@ -92,8 +76,7 @@ impl<Q: SiblingQueue> Core<Q> {
         steps: &mut Steps<L>,
     )
         requires { MayExchange from to (self.old, table.now) }
-        ensures bare { bare self.new ≡ bare self.old }
-        ensures held { AreHeld (self.new, table.now) }
+        ensures { ChangesQueues self.old self.new (AreHeld (self.new, table.now)) }
     {
         swap_queues(&mut self.lanes, from as usize, to as usize);
         self.lanes[to as usize]

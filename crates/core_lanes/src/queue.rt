@@ -6,7 +6,7 @@ ghost use Rattle.cs_types.specs.declared.queue.Queued.{Queued as SomeQueued, Que
 ghost use Rattle.cs_types.specs.Order.{first_of};
 ghost use Rattle.cs_types.specs.Queue.{queued_of};
 ghost use Rattle.cs_types.specs.Scenario.{IsPolicy};
-ghost use Rattle.core_lanes.specs.Queued.{queued_among, queued_at, mover_of, AreTold, others, given_cookie, given_vtime, IsOf, IsQueuedOn, IsFairOn, MayBePut, with_cookie, behind, smallest_vtime, has_peer, HavePolicies};
+ghost use Rattle.core_lanes.specs.Queued.{queued_among, queued_at, mover_of, AreTold, others, given_cookie, given_vtime, IsOf, IsQueuedOn, IsFairOn, MayBePut, with_cookie, behind, smallest_vtime, has_peer, MaySearch};
 ghost use Rattle.core_lanes.specs.Moved.{MayRenew};
 ghost use Rattle.task_table.specs.Table.{IsSound as IsTable};
 
@@ -107,8 +107,7 @@ pub trait SiblingQueue: Drop {
 
     /// The first task, `None` where there is none (`pick_task`).
     fn first<L: Ledger>(&self, table: &TaskTable, cpu: Cpu, steps: &mut Steps<L>) -> Option<Queued>
-        requires policies { HavePolicies table.now.tasks }
-        requires holds { holds self.now table.now.limit (queued_at table.now.tasks cpu) }
+        requires { MaySearch (holds self.now table.now.limit (queued_at table.now.tasks cpu)) table.now.tasks }
         ensures first { result ≡ option_map queued_of (first_of (queued_among table.now.tasks cpu)) }
         ensures counted { steps.new ≤ steps.old + most_compared (length (queued_among table.now.tasks cpu)) };
 
@@ -121,8 +120,7 @@ pub trait SiblingQueue: Drop {
         steps: &mut Steps<L>,
     ) -> Option<Task>
         requires cookie { cookie ≢ 0 }
-        requires policies { HavePolicies table.now.tasks }
-        requires holds { holds self.now table.now.limit (queued_at table.now.tasks cpu) }
+        requires search { MaySearch (holds self.now table.now.limit (queued_at table.now.tasks cpu)) table.now.tasks }
         ensures first { result ≡ first_of (with_cookie cookie (queued_among table.now.tasks cpu)) }
         ensures counted { steps.new ≤ steps.old + most_compared (length (queued_among table.now.tasks cpu)) };
 
@@ -136,8 +134,7 @@ pub trait SiblingQueue: Drop {
     ) -> Option<Task>
         requires cookie { task.now.cookie ≢ 0 }
         requires policy { IsPolicy task.now.spec.policy }
-        requires policies { HavePolicies table.now.tasks }
-        requires holds { holds self.now table.now.limit (queued_at table.now.tasks cpu) }
+        requires search { MaySearch (holds self.now table.now.limit (queued_at table.now.tasks cpu)) table.now.tasks }
         ensures next { result ≡ first_of (behind task.now (with_cookie task.now.cookie (queued_among table.now.tasks cpu))) }
         ensures counted { steps.new ≤ steps.old + most_compared (length (queued_among table.now.tasks cpu)) };
 
@@ -148,8 +145,7 @@ pub trait SiblingQueue: Drop {
         cpu: Cpu,
         steps: &mut Steps<L>,
     ) -> Option<u128>
-        requires policies { HavePolicies table.now.tasks }
-        requires holds { holds self.now table.now.limit (queued_at table.now.tasks cpu) }
+        requires { MaySearch (holds self.now table.now.limit (queued_at table.now.tasks cpu)) table.now.tasks }
         ensures smallest { result ≡ smallest_vtime (queued_among table.now.tasks cpu) }
         ensures counted { steps.new ≤ steps.old + most_compared (length (queued_among table.now.tasks cpu)) };
 
@@ -163,8 +159,7 @@ pub trait SiblingQueue: Drop {
     ) -> bool
         requires table { IsTable table.now }
         requires there { IsOf table.now.tasks task.now }
-        requires policies { HavePolicies table.now.tasks }
-        requires holds { holds self.now table.now.limit (queued_at table.now.tasks cpu) }
+        requires search { MaySearch (holds self.now table.now.limit (queued_at table.now.tasks cpu)) table.now.tasks }
         ensures peer { result ≡ has_peer task.now (queued_among table.now.tasks cpu) }
         ensures counted { steps.new ≤ steps.old + most_compared (length (queued_among table.now.tasks cpu)) };
 

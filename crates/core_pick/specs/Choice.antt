@@ -1,11 +1,13 @@
 -- Choice: what the lead and the choices of a selection are made of, and what the choices make of tasks.
-use Rattle.std.specs.Prelude.{◌≡◌, ℕ, ◌+◌, ◌-◌, ◌^◌, Bool, false, ◌==◌, ◌&&◌, ◌||◌, nat_lt, if◌then◌else◌, List, length, map, Option, Some, None, is_some, unwrap_or}
+use Rattle.std.specs.Prelude.{◌≡◌, ℕ, ◌+◌, ◌-◌, ◌^◌, ◌<◌, Bool, false, ◌==◌, ◌&&◌, ◌||◌, nat_lt, if◌then◌else◌, List, length, map, Option, Some, None, is_some, unwrap_or}
 use Rattle.std.specs.List.{range_with_len}
 use Rattle.std.specs.Option.{option_and_then}
 use Rattle.cs_types.specs.Room.{RoomState, is_online}
 use Rattle.cs_types.specs.Order.{fair_class, idle_class, foremost, outranks}
-use Rattle.cs_types.specs.Selection.{first_on, snapshot_of, is_run, pid_of, cookie_of, choice, is_forced, forced_count, occupation_of, renews_snapshots}
+use Rattle.cs_types.specs.Selection.{first_on, snapshot_of, is_run, pid_of, cookie_of, choice, is_forced, forced_count, occupation_of, renews_snapshots, select_for, task_after_selection}
+use Rattle.task_table.specs.Table.{Table}
 use Rattle.core_lanes.specs.declared.lane.Lane.{Lane}
+use Rattle.core_lanes.specs.Lanes.{lane_state}
 use Rattle.sibling_priority.specs.Offers.{class_of_first, rank_of_first, snapshot_of_first}
 use Rattle.core_pick.specs.declared.choice.Choice.{Choice}
 use Rattle.core_pick.specs.declared.choice.Counts.{Counts}
@@ -79,10 +81,20 @@ gets_none room core cpu = is_online room cpu && is_forced room core cpu
 abbrev pub gets_task : RoomState → ℕ → ℕ → Bool
 gets_task room core cpu = is_online room cpu && is_some (choice room core cpu)
 
+-- one more sibling may be counted
+pub record MayCount (counts : Counts) : Type 0 where
+  pub forced : counts.forced < 255
+  pub occupation : counts.occupation < 255
+
 -- the counts once a sibling is counted
 pub record IsCounted (room : RoomState) (core cpu : ℕ) (before now : Counts) : Type 0 where
   pub forced : now.forced ≡ before.forced + (if gets_none room core cpu then 1 else 0)
   pub occupation : now.occupation ≡ before.occupation + (if gets_task room core cpu then 1 else 0)
+
+-- a sibling gets its choice for a core cookie, and is counted with it
+pub record Settles (room : RoomState) (core cpu : ℕ) (before now : Counts) (given : Choice) : Type 0 where
+  pub gets : given ≡ choice_of (choice room core cpu)
+  pub counts : IsCounted room core cpu before now
 
 -- how many siblings are forced idle in a selection for a core cookie, and for how many a task is chosen
 pub record AreCountsOf (room : RoomState) (core : ℕ) (counts : Counts) : Type 0 where
@@ -94,6 +106,12 @@ pub record IsPlan (room : RoomState) (core : ℕ) (choices : List Choice) (occup
   pub each : choices ≡ choices_of room core
   pub occupied : occupation ≡ occupation_of room core
   pub renewed : renews ≡ renews_snapshots room core
+
+-- each sibling of the room gets its choice in a selection for the core that the selector makes, and each task that is chosen
+-- remembers the occupation
+pub record HandsOut {Q : Type 0} (room : RoomState) (selector core : ℕ) (lanes : List (Lane Q)) (old new : Table) : Type 0 where
+  pub states : map lane_state lanes ≡ (select_for room selector core).siblings
+  pub tasks : new ≡ record old { tasks = map (task_after_selection room core) old.tasks }
 
 -- what a selection for the core leaves as it is in a sibling: its own number and its queue
 abbrev pub own_of : {Q : Type 0} → Lane Q → ℕ × Q

@@ -9,7 +9,7 @@ use Rattle.task_table.specs.Table.{Table}
 use Rattle.core_lanes.specs.declared.queue.SiblingQueue.{Ghosts}
 use Rattle.core_lanes.specs.declared.lanes.Core.{Core}
 use Rattle.core_lanes.specs.Lanes.{Beside, at, room_of, Agree, AgreesAt, HasLowTimes}
-use Rattle.core_lanes.specs.Numbers.{Numbers, numbers_of, numbers_in, booked, touched, took}
+use Rattle.core_lanes.specs.Numbers.{Numbers, numbers_of, numbers_in, booked, took}
 use Rattle.core_lanes.specs.Changes.{Stays, BecomesCharged, IsBooked}
 use Rattle.core_charge.specs.Charges.{IsPaid}
 use Rattle.core_pick.specs.declared.choice.Choice.{Choice}

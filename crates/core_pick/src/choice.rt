@@ -1,13 +1,12 @@
 //! What each sibling gets in a selection for the core. It is a file of its own since the selection
 //! counts the choices before it changes siblings and tasks by them.
 
-ghost use Rattle.std.specs.Prelude.{◌≡◌, ℕ, ◌+◌, ◌<◌, ◌≤◌, ◌==◌, None, length, map, if◌then◌else◌};
+ghost use Rattle.std.specs.Prelude.{◌≡◌, ℕ, ◌+◌, ◌≤◌, ◌==◌, None, length, map, if◌then◌else◌};
 ghost use Rattle.cs_types.specs.Room.{RoomState};
 ghost use Rattle.cs_types.specs.Order.{fair_class, idle_class};
-ghost use Rattle.cs_types.specs.Selection.{select_for, task_after_selection};
 ghost use Rattle.task_table.specs.Table.{IsSound as IsTable};
 ghost use Rattle.core_lanes.specs.Lanes.{lane_state};
-ghost use Rattle.core_pick.specs.Choice.{IsPlan, choice_of, own_of, run_of, task_after_choice};
+ghost use Rattle.core_pick.specs.Choice.{IsPlan, MayCount, HandsOut, choice_of, own_of, run_of, task_after_choice};
 
 use crate::sibling::hand;
 use arrayvec::ArrayVec;
@@ -88,8 +87,7 @@ pub struct Counts {
 impl Counts {
     /// The counts with this choice of a sibling that has a task.
     pub fn with(self, choice: &Choice) -> Counts
-        requires forced { self.forced < 255 }
-        requires occupation { self.occupation < 255 }
+        requires { MayCount self }
         ensures { result ≡ (if choice.now.class == idle_class
             then record self { forced = self.forced + 1 }
             else record self { occupation = self.occupation + 1 }) }
@@ -132,12 +130,9 @@ pub fn update<Q: Drop>(
     requires each { length choices.now ≡ length lanes.old }
     requires few { length lanes.old ≤ 16 }
     requires table { IsTable tasks.old }
-    ensures states { (room : RoomState) (cookie : ℕ) → room.siblings ≡ map lane_state lanes.old →
-        IsPlan room cookie choices.now occupation renews → map lane_state lanes.new ≡ (select_for room selector cookie).siblings }
+    ensures hands { (room : RoomState) (cookie : ℕ) → room.siblings ≡ map lane_state lanes.old →
+        IsPlan room cookie choices.now occupation renews → HandsOut room selector cookie lanes.new tasks.old tasks.new }
     ensures own { map own_of lanes.new ≡ map own_of lanes.old }
-    ensures tasks { (room : RoomState) (cookie : ℕ) → room.siblings ≡ map lane_state lanes.old →
-        IsPlan room cookie choices.now occupation renews →
-        tasks.new ≡ record tasks.old { tasks = map (task_after_selection room cookie) tasks.old.tasks } }
     ensures sound { IsTable tasks.new }
 {
     for (cpu, lane) in lanes.iter_mut().enumerate() {

@@ -9,7 +9,7 @@ ghost use Rattle.cs_types.specs.Selection.{first_on, cookie_of, lead_from, choic
 ghost use Rattle.task_table.specs.Table.{Table};
 ghost use Rattle.core_lanes.specs.Queued.{queued_among};
 ghost use Rattle.core_lanes.specs.Lanes.{Beside, room_of, Agree, AgreesAt};
-ghost use Rattle.core_pick.specs.Choice.{choice_of, kept_in, firsts_of, offered, lead_in, choices_of, IsCounted, AreCountsOf};
+ghost use Rattle.core_pick.specs.Choice.{choice_of, kept_in, firsts_of, offered, lead_in, choices_of, MayCount, Settles, AreCountsOf};
 ghost use Rattle.core_pick.specs.Comparisons.{Compares};
 ghost use Rattle.core_pick.specs.Schedules.{MayAsk};
 
@@ -71,12 +71,9 @@ fn settle<Q: SiblingQueue, L: Ledger>(
     steps: &mut Steps<L>,
 ) -> Counts
     requires at { AgreesAt cpu (core.now, table.now) }
-    requires forced { counts.forced < 255 }
-    requires occupation { counts.occupation < 255 }
-    ensures gets { (beside : Beside) → let room = room_of beside (core.now, table.now) in
-        given.old ≡ choice_of (first_on room cpu) → given.new ≡ choice_of (choice room cookie cpu) }
-    ensures counts { (beside : Beside) → let room = room_of beside (core.now, table.now) in
-        given.old ≡ choice_of (first_on room cpu) → IsCounted room cookie cpu counts result }
+    requires may { MayCount counts }
+    ensures settles { (beside : Beside) → let room = room_of beside (core.now, table.now) in
+        given.old ≡ choice_of (first_on room cpu) → Settles room cookie cpu counts result given.new }
     ensures counted { steps.new ≤ steps.old + Q.most_compared (length (queued_among table.now.tasks cpu)) }
 {
     if given.is_idle() {

@@ -1,5 +1,5 @@
 -- Hotplugs: what an ask that a sibling leaves the core, or comes back, makes of a core and its table.
-use Rattle.std.specs.Prelude.{◌≡◌, ◌≢◌, ℕ, ◌+◌, ◌*◌, ◌^◌, ◌<◌, length}
+use Rattle.std.specs.Prelude.{◌≡◌, ◌≢◌, ℕ, ◌*◌, length}
 use Rattle.cs_types.specs.declared.reply.Reply.{Reply}
 use Rattle.cs_types.specs.declared.reply.Reply.TheVariants as answer
 use Rattle.cs_types.specs.declared.reply.Errno.TheVariants.{Ebusy}
@@ -8,21 +8,18 @@ use Rattle.task_table.specs.Table.{Table}
 use Rattle.core_lanes.specs.declared.queue.SiblingQueue.{Ghosts}
 use Rattle.core_lanes.specs.declared.lanes.Core.{Core}
 use Rattle.core_lanes.specs.Queued.{queued_among}
-use Rattle.core_lanes.specs.Lanes.{Beside, at, room_of, Agree, HasLowTimes}
+use Rattle.core_lanes.specs.Lanes.{Beside, at, room_of}
 use Rattle.core_lanes.specs.Numbers.{numbers_of, numbers_in, booked, touched}
 use Rattle.core_lanes.specs.Changes.{Stays, Becomes, BecomesCharged, IsBooked}
 use Rattle.core_charge.specs.Charges.{IsPaid}
+use Rattle.cpu_hotplug.specs.Leaves.{MayMove}
 use Rattle.cpu_hotplug.specs.declared.hotplug.Hotplug.{Hotplug}
 use Rattle.cpu_hotplug.specs.declared.hotplug.Hotplug.TheVariants.{Done, Busy, Already}
 
--- the sibling may leave at this moment: the open interval may be charged, and no stamp and no touch overflows where its tasks move
+-- the sibling may leave at this moment: its tasks may move, and the open interval may be charged
 pub record MayLeave {Q : Type 0} {g : Ghosts Q} (now sibling : ℕ) (both : Core Q g × Table) : Type 0 where
-  pub cpu : sibling < length both.0.lanes.items
-  pub agree : Agree both
-  pub low : HasLowTimes both
+  pub moves : MayMove sibling both
   pub paid : IsPaid now both
-  pub stamp : both.0.next_stamp + length both.1.tasks < 2 ^ 64
-  pub touches : both.0.task_number + 2 * length both.1.tasks < 2 ^ 64
 
 -- what a machine answers
 abbrev pub reply_of : Hotplug → Reply

@@ -1,11 +1,15 @@
 -- Leaves: what the leaving of a sibling makes of the siblings and of the tasks, each by itself.
-use Rattle.std.specs.Prelude.{◌≡◌, ℕ, ◌+◌, ◌≤◌, ◌==◌, ◌||◌, if◌then◌else◌, List, map, length, All, IsTrue}
+use Rattle.std.specs.Prelude.{◌≡◌, ◌≢◌, ℕ, ◌+◌, ◌*◌, ◌^◌, ◌<◌, ◌≤◌, ◌==◌, ◌||◌, if◌then◌else◌, List, [], map, length, All, IsTrue}
 use Rattle.cs_types.specs.declared.task.Task.{Task}
 use Rattle.cs_types.specs.Order.{is_fair}
-use Rattle.cs_types.specs.Room.{RoomState, SiblingState, queued_on}
-use Rattle.cs_types.specs.Hotplug.{away, moved_off}
+use Rattle.cs_types.specs.Room.{RoomState, SiblingState, queued_on, sibling_of}
+use Rattle.cs_types.specs.Hotplug.{away, moved_off, lowest_other}
+use Rattle.task_table.specs.Table.{Table}
+use Rattle.core_lanes.specs.declared.queue.SiblingQueue.{Ghosts}
 use Rattle.core_lanes.specs.declared.lane.Lane.{Lane}
-use Rattle.core_lanes.specs.Lanes.{lane_state}
+use Rattle.core_lanes.specs.declared.lanes.Core.{Core}
+use Rattle.core_lanes.specs.Queued.{queued_among}
+use Rattle.core_lanes.specs.Lanes.{Beside, lane_state, room_of, Agree, HasLowTimes}
 
 -- a sibling becomes pending where it is online, since another leaves
 abbrev pub beside_one_that_leaves : SiblingState → SiblingState
@@ -32,3 +36,23 @@ move_off room cpu =
 -- no fair task of the list is behind this virtual time
 abbrev pub NoneBehind : ℕ → List Task → Type 0
 NoneBehind least tasks = All (λ task. IsTrue (is_fair task) → least ≤ task.vtime) tasks
+
+-- all tasks queued on the sibling may move, and no stamp and no touch overflows
+pub record MayMove {Q : Type 0} {g : Ghosts Q} (sibling : ℕ) (both : Core Q g × Table) : Type 0 where
+  pub cpu : sibling < length both.0.lanes.items
+  pub agree : Agree both
+  pub low : HasLowTimes both
+  pub stamp : both.0.next_stamp + length both.1.tasks < 2 ^ 64
+  pub touches : both.0.task_number + 2 * length both.1.tasks < 2 ^ 64
+
+-- they may move to this sibling, which is the lowest other online one
+pub record MayMoveTo {Q : Type 0} {g : Ghosts Q} (sibling to : ℕ) (both : Core Q g × Table) : Type 0 where
+  pub may : MayMove sibling both
+  pub another : (beside : Beside) → lowest_other (room_of beside both) sibling ≢ sibling
+  pub lowest : (beside : Beside) (tasks : Table) → to ≡ lowest_other (room_of beside (both.0, tasks)) sibling
+  pub within : to < length both.0.lanes.items
+
+-- their queue may move as it is: none is queued on the other sibling, and no fair task is behind the least virtual time of its own
+pub record MovesWhole {Q : Type 0} {g : Ghosts Q} (sibling to : ℕ) (both : Core Q g × Table) : Type 0 where
+  pub empty : queued_among both.1.tasks to ≡ []
+  pub ahead : (beside : Beside) → NoneBehind (sibling_of (room_of beside both) sibling).least (queued_among both.1.tasks sibling)

@@ -6,7 +6,8 @@ ghost use Rattle.std.specs.List.{enumerate_from};
 ghost use Rattle.cs_types.specs.Room.{online as siblings_online};
 ghost use Rattle.cs_types.specs.Hotplug.{lowest_other, away, back};
 ghost use Rattle.task_table.specs.Table.{Table};
-ghost use Rattle.core_lanes.specs.Lanes.{Beside, lane_state, room_of};
+ghost use Rattle.core_lanes.specs.Lanes.{Beside, room_of};
+ghost use Rattle.core_lanes.specs.Changes.{ChangesLanes};
 ghost use Rattle.cpu_hotplug.specs.Leaves.{beside_one_that_leaves, left, ChangesLane};
 
 use core_lanes::{Core, Lane, SiblingQueue};
@@ -60,9 +61,7 @@ fn stand_by<Q: Drop>(lane: &mut Lane<Q>)
 /// The sibling is away, and each other online one is pending.
 pub fn set_one_away<Q: Drop>(lanes: &mut [Lane<Q>], cpu: Cpu)
     requires few { length lanes.old ≤ 16 }
-    ensures states { map lane_state lanes.new ≡ map (left cpu) (enumerate_from 0 (map lane_state lanes.old)) }
-    ensures numbers { map (λ lane. lane.number) lanes.new ≡ map (λ lane. lane.number) lanes.old }
-    ensures queues { map (λ lane. lane.queue) lanes.new ≡ map (λ lane. lane.queue) lanes.old }
+    ensures { ChangesLanes lanes.old lanes.new (λ siblings. map (left cpu) (enumerate_from 0 siblings)) }
 {
     for (other, lane) in lanes.iter_mut().enumerate() {
         if other == cpu as usize {

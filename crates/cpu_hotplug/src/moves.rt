@@ -1,13 +1,11 @@
 //! How the tasks of a sibling that leaves come to another. It is apart, since it alone gives them new stamps.
 
-ghost use Rattle.std.specs.Prelude.{◌≡◌, ◌≢◌, ◌+◌, ◌*◌, ◌^◌, ◌<◌, ◌≤◌, [], length, IsTrue};
+ghost use Rattle.std.specs.Prelude.{◌≢◌, ◌*◌, ◌<◌, length, IsTrue};
 ghost use Rattle.core_lanes.specs.Queued.{queued_among};
-ghost use Rattle.cs_types.specs.Room.{sibling_of};
 ghost use Rattle.cs_types.specs.Hotplug.{lowest_other};
-ghost use Rattle.task_table.specs.Table.{Table};
-ghost use Rattle.core_lanes.specs.Lanes.{Beside, room_of, Agree, HasLowTimes};
+ghost use Rattle.core_lanes.specs.Lanes.{Beside, room_of, AgreesAt};
 ghost use Rattle.core_lanes.specs.Changes.{Touches};
-ghost use Rattle.cpu_hotplug.specs.Leaves.{move_off, NoneBehind};
+ghost use Rattle.cpu_hotplug.specs.Leaves.{move_off, MayMove, MayMoveTo, MovesWhole};
 
 use crate::away::lowest_other;
 use core_lanes::{Core, Movers, SiblingQueue};
@@ -25,12 +23,8 @@ pub fn move_off<Q: SiblingQueue, L: Ledger>(
     cpu: Cpu,
     steps: &mut Steps<L>,
 )
-    requires cpu { cpu < length core.old.lanes.items }
+    requires may { MayMove cpu (core.old, table.old) }
     requires another { (beside : Beside) → lowest_other (room_of beside (core.old, table.old)) cpu ≢ cpu }
-    requires agree { Agree (core.old, table.old) }
-    requires low { HasLowTimes (core.old, table.old) }
-    requires stamp { core.old.next_stamp + length table.old.tasks < 2 ^ 64 }
-    requires touches { core.old.task_number + 2 * length table.old.tasks < 2 ^ 64 }
     ensures { Touches (2 * length (queued_among table.old.tasks cpu)) (core.old, table.old) (core.new, table.new) (λ room. move_off room cpu) }
 {
     let count = core.lanes[cpu as usize].queue.count(table, cpu);
@@ -54,11 +48,9 @@ fn may_exchange<Q: SiblingQueue, L: Ledger>(
     to: Cpu,
     steps: &mut Steps<L>,
 ) -> bool
-    requires cpu { cpu < length core.now.lanes.items }
+    requires at { AgreesAt cpu (core.now, table.now) }
     requires other { to < length core.now.lanes.items }
-    requires agree { Agree (core.now, table.now) }
-    ensures empty { IsTrue result → queued_among table.now.tasks to ≡ [] }
-    ensures ahead { (beside : Beside) → IsTrue result → NoneBehind (sibling_of (room_of beside (core.now, table.now)) cpu).least (queued_among table.now.tasks cpu) }
+    ensures { IsTrue result → MovesWhole cpu to (core.now, table.now) }
 {
     if core.lanes[to as usize].queue.count(table, to) > 0 {
         return false;
@@ -78,16 +70,8 @@ fn move_queue<Q: SiblingQueue, L: Ledger>(
     to: Cpu,
     steps: &mut Steps<L>,
 )
-    requires cpu { cpu < length core.old.lanes.items }
-    requires another { (beside : Beside) → lowest_other (room_of beside (core.old, table.old)) cpu ≢ cpu }
-    requires lowest { (beside : Beside) (tasks : Table) → to ≡ lowest_other (room_of beside (core.old, tasks)) cpu }
-    requires within { to < length core.old.lanes.items }
-    requires empty { queued_among table.old.tasks to ≡ [] }
-    requires ahead { (beside : Beside) → NoneBehind (sibling_of (room_of beside (core.old, table.old)) cpu).least (queued_among table.old.tasks cpu) }
-    requires agree { Agree (core.old, table.old) }
-    requires low { HasLowTimes (core.old, table.old) }
-    requires stamp { core.old.next_stamp + length table.old.tasks < 2 ^ 64 }
-    requires touches { core.old.task_number + 2 * length table.old.tasks < 2 ^ 64 }
+    requires to { MayMoveTo cpu to (core.old, table.old) }
+    requires whole { MovesWhole cpu to (core.old, table.old) }
     ensures { Touches (2 * length (queued_among table.old.tasks cpu)) (core.old, table.old) (core.new, table.new) (λ room. move_off room cpu) }
 {
     let mut movers = Movers::new();
@@ -106,14 +90,7 @@ fn move_each<Q: SiblingQueue, L: Ledger>(
     to: Cpu,
     steps: &mut Steps<L>,
 )
-    requires cpu { cpu < length core.old.lanes.items }
-    requires another { (beside : Beside) → lowest_other (room_of beside (core.old, table.old)) cpu ≢ cpu }
-    requires lowest { (beside : Beside) (tasks : Table) → to ≡ lowest_other (room_of beside (core.old, tasks)) cpu }
-    requires within { to < length core.old.lanes.items }
-    requires agree { Agree (core.old, table.old) }
-    requires low { HasLowTimes (core.old, table.old) }
-    requires stamp { core.old.next_stamp + length table.old.tasks < 2 ^ 64 }
-    requires touches { core.old.task_number + 2 * length table.old.tasks < 2 ^ 64 }
+    requires { MayMoveTo cpu to (core.old, table.old) }
     ensures { Touches (2 * length (queued_among table.old.tasks cpu)) (core.old, table.old) (core.new, table.new) (λ room. move_off room cpu) }
 {
     let mut movers = Movers::new();

@@ -54,11 +54,14 @@ next_with-next-requires-clause-cookie g c =
     let left = subst (IsLeft goes_before (candidates core.cookie c.args.source tasks) may) c.in-Some.is c.loop-next.invariant in
     λ zero. c.requires.cookie (sym (candidate_parts core.cookie c.args.source tasks c.in-Some.task left.0).2 ∙ zero)
 
-pub first_with-next-requires-clause-policies : goal.first_with-next-requires-clause-policies
-first_with-next-requires-clause-policies g c = policies_of (c.args.core.now, c.args.table.now) c.requires.source.at.agree
-
-pub next_with-next-requires-clause-policies : goal.next_with-next-requires-clause-policies
-next_with-next-requires-clause-policies g c = policies_of (c.args.core.now, c.args.table.now) c.requires.source.at.agree
+pub first_with-next-requires-clause-search : goal.first_with-next-requires-clause-search
+first_with-next-requires-clause-search g c =
+    let from = c.index-from.result.now in
+    let agree = c.requires.source.at.agree in
+    record {
+      policies = policies_of (c.args.core.now, c.args.table.now) agree;
+      holds = agree.held c.args.source from.queue (queue_at c.args.core.now.lanes.items c.args.source from c.requires.source.within c.index-from.ensures);
+    }
 
 pub next_with-next-requires-clause-policy : goal.next_with-next-requires-clause-policy
 next_with-next-requires-clause-policy g c =
@@ -70,10 +73,14 @@ next_with-next-requires-clause-policy g c =
     found_in (λ (t : Task). IsPolicy t.spec.policy) task.spec.pid table.tasks task (policies_of (core, table) c.requires.source.at.agree)
     (is_of table.tasks task c.requires.source.at.agree.table.rising (candidate_parts core.cookie c.args.source table.tasks task left.0).0)
 
-pub next_with-next-requires-clause-holds : goal.next_with-next-requires-clause-holds
-next_with-next-requires-clause-holds g c =
+pub next_with-next-requires-clause-search : goal.next_with-next-requires-clause-search
+next_with-next-requires-clause-search g c =
     let from = c.index-from.result.now in
-    c.requires.source.at.agree.held c.args.source from.queue (queue_at c.args.core.now.lanes.items c.args.source from c.requires.source.within c.index-from.ensures)
+    let agree = c.requires.source.at.agree in
+    record {
+      policies = policies_of (c.args.core.now, c.args.table.now) agree;
+      holds = agree.held c.args.source from.queue (queue_at c.args.core.now.lanes.items c.args.source from c.requires.source.within c.index-from.ensures);
+    }
 
 pub loop-next-smaller : goal.loop-next-smaller
 loop-next-smaller g c =

@@ -11,16 +11,15 @@ use Rattle.core_lanes.proofs.Stays.{some_beside, both_stay, found_in}
 use Rattle.cookie_steal.proofs.Steals.{is_left}
 use Rattle.cookie_steal.proofs.steal.steal.Goals as goal
 
-pub moved_to-moved-requires-clause-home : goal.moved_to-moved-requires-clause-home
-moved_to-moved-requires-clause-home g c =
-    (found_in (IsFit (length c.args.core.now.lanes.items)) c.args.task.spec.pid c.args.table.now.tasks c.args.task c.requires.may.at.agree.tasks c.requires.there).home
-
-pub moved_to-moved-requires-clause-vtime : goal.moved_to-moved-requires-clause-vtime
-moved_to-moved-requires-clause-vtime g c =
-    found_in (λ (task : Task). task.vtime < 2 ^ 100) c.args.task.spec.pid c.args.table.now.tasks c.args.task c.requires.may.low.vtimes c.requires.there
-
-pub moved_to-moved-requires-clause-leasts : goal.moved_to-moved-requires-clause-leasts
-moved_to-moved-requires-clause-leasts g c = c.requires.may.low.leasts
+pub moved_to-moved-requires-clause-can : goal.moved_to-moved-requires-clause-can
+moved_to-moved-requires-clause-can g c =
+    let pid = c.args.task.spec.pid in
+    let tasks = c.args.table.now.tasks in
+    record {
+      home = (found_in (IsFit (length c.args.core.now.lanes.items)) pid tasks c.args.task c.requires.may.at.agree.tasks c.requires.there).home;
+      vtime = found_in (λ (task : Task). task.vtime < 2 ^ 100) pid tasks c.args.task c.requires.may.low.vtimes c.requires.there;
+      leasts = c.requires.may.low.leasts;
+    }
 
 pub enqueue-requires-clause-knows : goal.enqueue-requires-clause-knows
 enqueue-requires-clause-knows g c =
@@ -31,7 +30,7 @@ enqueue-requires-clause-knows g c =
     let many : length c.touch.new.self.lanes.items ≡ length core.lanes.items = ap (λ (kept : Kept). kept.siblings) (c.touch.ensures table).stays.kept in
     let knows : KnowsApart (c.touch.new.self, table) (moved_to (room_of some_beside (core, table)) c.args.thief task) =
     record {
-      apart = record { old = task; there = c.requires.there; fits = record { home = subst (λ n. c.args.thief < n) (sym many) c.requires.may.at.cpu; policy = fit.policy } };
+      apart = record { agree = (c.touch.ensures table).stays.agree c.requires.may.at.agree; old = task; there = c.requires.there; fits = record { home = subst (λ n. c.args.thief < n) (sym many) c.requires.may.at.cpu; policy = fit.policy } };
       cookie = refl;
     } in
     subst (KnowsApart (c.touch.new.self, table)) (sym (c.moved_to-moved.ensures some_beside table)) knows
@@ -40,9 +39,6 @@ pub enqueue-requires-clause-stamp : goal.enqueue-requires-clause-stamp
 enqueue-requires-clause-stamp g c =
     let same : c.touch.new.self.next_stamp ≡ c.args.core.now.next_stamp = ap (λ (room : RoomState). room.next_stamp) ((c.touch.ensures c.args.table.now).room some_beside) in
     omega (arith, same, c.requires.may.stamp)
-
-pub enqueue-requires-clause-agree : goal.enqueue-requires-clause-agree
-enqueue-requires-clause-agree g c = (c.touch.ensures c.args.table.now).stays.agree c.requires.may.at.agree
 
 pub enqueue-requires-clause-touches : goal.enqueue-requires-clause-touches
 enqueue-requires-clause-touches g c = omega (arith, ap (λ (numbers : Numbers). numbers.task) (c.touch.ensures c.args.table.now).numbers, c.requires.may.touches)

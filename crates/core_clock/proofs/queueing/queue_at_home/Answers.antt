@@ -43,6 +43,7 @@ enqueue-requires-clause-knows g c =
     let fresh = keeps (c.args.core.now, c.args.table.now) c.args.now c.args.task c.refreshed-fresh.result (c.refreshed-fresh.ensures some_beside c.args.table.now) in
     record {
       apart = record {
+        agree = apart.agree;
         old = apart.old;
         there = subst (λ (spec : TaskSpec). find (has_pid spec.pid) c.args.table.now.tasks ≡ Some apart.old) (sym fresh.0) apart.there;
         fits = record {

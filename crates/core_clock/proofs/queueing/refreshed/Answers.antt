@@ -10,7 +10,7 @@ use Rattle.core_clock.proofs.queueing.refreshed.Goals as goal
 pub returns-in-Fair : goal.returns-in-Fair
 returns-in-Fair g c beside table =
     let task = c.args.task in
-    let lane = lane_at c.args.core.now.lanes.items task.home c.index.result.now c.requires.home c.index.ensures in
+    let lane = lane_at c.args.core.now.lanes.items task.home c.index.result.now c.requires.fits.home c.index.ensures in
     ap (λ (n : ℕ). let later : Task = record task { vtime = n } in later)
     (c.max.ensures ∙ ap (λ (sibling : SiblingState). max task.vtime sibling.least) (sym lane))
     ∙ ap (λ (policy : Policy). refreshed_by (room_of (at c.args.now beside) (c.args.core.now, table)) policy task) (sym c.in-Fair.is)

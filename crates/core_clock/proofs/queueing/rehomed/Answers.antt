@@ -7,7 +7,7 @@ use Rattle.core_lanes.proofs.Stays.{some_beside}
 use Rattle.core_clock.proofs.queueing.rehomed.Goals as goal
 
 pub moved_to-requires : goal.moved_to-requires
-moved_to-requires g c = record { cpu = c.lowest_online.ensures.within; home = c.requires.home; vtime = c.requires.vtime; leasts = c.requires.leasts }
+moved_to-requires g c = record { cpu = c.lowest_online.ensures.within; can = c.requires }
 
 pub returns-then-is_online-clause-rehomed : goal.returns-then-is_online-clause-rehomed
 returns-then-is_online-clause-rehomed g c beside table =

@@ -11,11 +11,13 @@ use Rattle.core_clock.proofs.time.advance.Goals as goal
 
 pub grow_tasks-requires : goal.grow_tasks-requires
 grow_tasks-requires g c = record {
-  agree = c.requires.may.agree;
-  own = c.requires.may.own;
+  may = record {
+    agree = c.requires.may.agree;
+    own = c.requires.may.own;
+    used = All-weaker (λ (task : Task). task.used ≤ c.args.now) (λ (task : Task). task.used < 2 ^ 56) (λ task is. omega (arith, is, c.requires.may.clock)) c.args.table.now.tasks c.requires.may.used;
+    vtimes = c.requires.may.low.vtimes;
+  };
   delta = c.requires.delta;
-  used = All-weaker (λ (task : Task). task.used ≤ c.args.now) (λ (task : Task). task.used < 2 ^ 56) (λ task is. omega (arith, is, c.requires.may.clock)) c.args.table.now.tasks c.requires.may.used;
-  vtimes = c.requires.may.low.vtimes;
 }
 
 pub renew_siblings-requires : goal.renew_siblings-requires

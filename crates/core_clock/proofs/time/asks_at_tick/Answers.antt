@@ -8,10 +8,18 @@ pub returns-then-rotates : goal.returns-then-rotates
 returns-then-rotates g c beside =
     let room = room_of beside (c.args.core.now, c.args.table.now) in
     let behind = sym (c.requires.rotates beside) ∙ c.if-rotates.true in
-    c.if-rotates.true ∙ sym (λ i. behind i || is_overtaken room c.args.cpu c.args.task.now || is_to_yield room c.args.cpu c.args.task.now)
+    sym (λ i. behind i || is_overtaken room c.args.cpu c.args.task.now || is_to_yield room c.args.cpu c.args.task.now)
 
-pub returns-else-rotates : goal.returns-else-rotates
-returns-else-rotates g c beside =
+pub returns-then-is_overtaken : goal.returns-then-is_overtaken
+returns-then-is_overtaken g c beside =
     let room = room_of beside (c.args.core.now, c.args.table.now) in
     let behind = sym (c.requires.rotates beside) ∙ c.if-rotates.false in
-    c.is_asked.ensures beside ∙ sym (λ i. behind i || is_overtaken room c.args.cpu c.args.task.now || is_to_yield room c.args.cpu c.args.task.now)
+    let overtaken = sym (c.is_overtaken.ensures beside) ∙ c.if-is_overtaken.true in
+    c.if-is_overtaken.true ∙ sym (λ i. overtaken i || is_to_yield room c.args.cpu c.args.task.now) ∙ sym (λ i. behind i || is_overtaken room c.args.cpu c.args.task.now || is_to_yield room c.args.cpu c.args.task.now)
+
+pub returns-else-is_overtaken : goal.returns-else-is_overtaken
+returns-else-is_overtaken g c beside =
+    let room = room_of beside (c.args.core.now, c.args.table.now) in
+    let behind = sym (c.requires.rotates beside) ∙ c.if-rotates.false in
+    let overtaken = sym (c.is_overtaken.ensures beside) ∙ c.if-is_overtaken.false in
+    c.is_to_yield.ensures beside ∙ sym (λ i. overtaken i || is_to_yield room c.args.cpu c.args.task.now) ∙ sym (λ i. behind i || is_overtaken room c.args.cpu c.args.task.now || is_to_yield room c.args.cpu c.args.task.now)

@@ -11,9 +11,10 @@ use Rattle.core_clock.proofs.Changes.{changes_as}
 use Rattle.core_clock.proofs.Clocks.{sliced_is, sliced_not}
 use Rattle.core_clock.proofs.time.begin_slice.Goals as goal
 
-pub change-requires-clause-knows : goal.change-requires-clause-knows
-change-requires-clause-knows g c =
+pub change-requires : goal.change-requires
+change-requires g c =
     let next = c.args.core.now.next_stamp in
+    let later : next ≤ next + 1 = omega arith in
     let tasks = c.args.table.now.tasks in
     let task = c.unwrap-task.result in
     let there = found_again c.args.pid tasks task (sym c.task_of.ensures.task ∙ c.unwrap-task.ensures) in
@@ -22,6 +23,7 @@ change-requires-clause-knows g c =
     record {
       known = record {
         apart = record {
+          agree = (stamped_later c.args.core.now _ c.args.table.now refl later).agree c.requires.agree;
           old = task;
           there = there;
           fits = record { home = known.known.apart.fits.home; policy = known.known.apart.fits.policy };
@@ -30,12 +32,6 @@ change-requires-clause-knows g c =
       };
       stamp = λ queued. stamp_next next tasks _ refl c.requires.agree.stamped;
     }
-
-pub change-requires-clause-agree : goal.change-requires-clause-agree
-change-requires-clause-agree g c =
-    let next = c.args.core.now.next_stamp in
-    let later : next ≤ next + 1 = omega arith in
-    (stamped_later c.args.core.now _ c.args.table.now refl later).agree c.requires.agree
 
 pub returns-then-rotates : goal.returns-then-rotates
 returns-then-rotates g c cpu task found is_used is =

@@ -31,7 +31,7 @@ returns-in_default g c = record {
 pub overflow_add-used : goal.overflow_add-used
 overflow_add-used g c =
     Fits-of_lt
-    (found_in (λ (task : Task). task.used + c.args.delta < 2 ^ 64) c.in-Some.task.now.spec.pid c.args.table.now.tasks c.in-Some.task.now c.requires.used c.in-Some.ensures.there)
+    (found_in (λ (task : Task). task.used + c.args.delta < 2 ^ 64) c.in-Some.task.now.spec.pid c.args.table.now.tasks c.in-Some.task.now c.requires.can.used c.in-Some.ensures.there)
 
 -- a nice value fits 8 bits
 nice_fits : (nice : ℤ) → IsNice nice → FitsSigned w8 nice
@@ -47,7 +47,7 @@ grow-requires g c =
 pub overflow_add-vtime : goal.overflow_add-vtime
 overflow_add-vtime g c =
     let low : c.grow.result ≤ 69 * c.args.delta = subst (λ n. n ≤ 69 * c.args.delta) (sym c.grow.ensures) (growth-le c.args.delta _) in
-    let was = found_in (λ (task : Task). task.vtime + 69 * c.args.delta < 2 ^ 128) c.in-Some.task.now.spec.pid c.args.table.now.tasks c.in-Some.task.now c.requires.vtimes c.in-Some.ensures.there in
+    let was = found_in (λ (task : Task). task.vtime + 69 * c.args.delta < 2 ^ 128) c.in-Some.task.now.spec.pid c.args.table.now.tasks c.in-Some.task.now c.requires.can.vtimes c.in-Some.ensures.there in
     omega (arith, was, low)
 
 pub returns-in-Rr : goal.returns-in-Rr

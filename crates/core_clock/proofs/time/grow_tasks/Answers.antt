@@ -27,22 +27,21 @@ loop-cpu-init g c = record {
 pub grow_on-requires-clause-at : goal.grow_on-requires-clause-at
 grow_on-requires-clause-at g c = record {
   cpu = still_below c.loop-cpu.invariant.changes.stays (omega (arith, c.loop-cpu-test.true, c.len-cpu-end.ensures, c.args.core.now.lanes.ok.0));
-  agree = c.loop-cpu.invariant.changes.stays.agree c.requires.agree;
+  agree = c.loop-cpu.invariant.changes.stays.agree c.requires.may.agree;
 }
 
-pub grow_on-requires-clause-used : goal.grow_on-requires-clause-used
-grow_on-requires-clause-used g c =
-    let after : Task → Type 0 = λ task. task.used + c.args.delta < 2 ^ 64 in
-    subst (All after) (sym (ap (λ (room : RoomState). room.tasks) (c.loop-cpu.invariant.changes.room some_beside)))
-    (all_grown (λ task. task.used < 2 ^ 56) after (take c.loop-cpu.cpu (map lane_state c.args.core.now.lanes.items)) c.args.delta c.args.table.now.tasks
-    (λ old new grows low. omega (arith, grows.used, low, c.requires.delta)) c.requires.used)
-
-pub grow_on-requires-clause-vtimes : goal.grow_on-requires-clause-vtimes
-grow_on-requires-clause-vtimes g c =
-    let after : Task → Type 0 = λ task. task.vtime + 69 * c.args.delta < 2 ^ 128 in
-    subst (All after) (sym (ap (λ (room : RoomState). room.tasks) (c.loop-cpu.invariant.changes.room some_beside)))
-    (all_grown (λ task. task.vtime < 2 ^ 100) after (take c.loop-cpu.cpu (map lane_state c.args.core.now.lanes.items)) c.args.delta c.args.table.now.tasks
-    (λ old new grows low. omega (arith, grows.vtime, low, c.requires.delta)) c.requires.vtimes)
+pub grow_on-requires-clause-can : goal.grow_on-requires-clause-can
+grow_on-requires-clause-can g c =
+    let used : Task → Type 0 = λ task. task.used + c.args.delta < 2 ^ 64 in
+    let vtime : Task → Type 0 = λ task. task.vtime + 69 * c.args.delta < 2 ^ 128 in
+    let lower = take c.loop-cpu.cpu (map lane_state c.args.core.now.lanes.items) in
+    let are = sym (ap (λ (room : RoomState). room.tasks) (c.loop-cpu.invariant.changes.room some_beside)) in
+    record {
+      used = subst (All used) are (all_grown (λ task. task.used < 2 ^ 56) used lower c.args.delta c.args.table.now.tasks
+          (λ old new grows low. omega (arith, grows.used, low, c.requires.delta)) c.requires.may.used);
+      vtimes = subst (All vtime) are (all_grown (λ task. task.vtime < 2 ^ 100) vtime lower c.args.delta c.args.table.now.tasks
+          (λ old new grows low. omega (arith, grows.vtime, low, c.requires.delta)) c.requires.may.vtimes);
+    }
 
 -- the growth of the task that a sibling runs, once those of the lower ones have grown, is the growth with one sibling more
 more_grown : {Q : Type 0} {g : Ghosts Q} (old mid new : Core Q g × Table) (delta cpu : ℕ) → cpu < length old.0.lanes.items →
@@ -73,8 +72,8 @@ loop-cpu-preserved g c =
       changes = more_grown old mid _ c.args.delta cpu below changes
           (changes_as (λ beside.
           let room = room_of beside mid in
-          grown_alone room cpu c.args.delta (changes.stays.agree c.requires.agree).table.rising
-          (λ task runs. alone old mid c.args.delta cpu task beside below c.requires.own changes runs)) c.grow_on.ensures);
+          grown_alone room cpu c.args.delta (changes.stays.agree c.requires.may.agree).table.rising
+          (λ task runs. alone old mid c.args.delta cpu task beside below c.requires.may.own changes runs)) c.grow_on.ensures);
     }
 
 pub returns : goal.returns

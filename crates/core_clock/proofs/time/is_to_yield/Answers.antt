@@ -12,7 +12,7 @@ use Rattle.core_clock.proofs.Changes.{held_at}
 use Rattle.core_clock.proofs.time.is_to_yield.Goals as goal
 
 pub has_peer-requires : goal.has_peer-requires
-has_peer-requires g c = record { table = c.requires.at.agree.table; there = c.requires.there; policies = policies_of (c.args.core.now, c.args.table.now) c.requires.at.agree; holds = held_at (c.args.core.now, c.args.table.now) c.args.cpu c.index-lane.result.now c.requires.at.agree c.requires.at.cpu c.index-lane.ensures }
+has_peer-requires g c = record { table = c.requires.at.agree.table; there = c.requires.there; search = record { policies = policies_of (c.args.core.now, c.args.table.now) c.requires.at.agree; holds = held_at (c.args.core.now, c.args.table.now) c.args.cpu c.index-lane.result.now c.requires.at.agree c.requires.at.cpu c.index-lane.ensures } }
 
 -- a fair task that has run so long while a sibling is forced idle is to yield where no other fair one is there
 where_alone : (room : RoomState) (cpu : ℕ) (task : Task) → is_fair task ≡ true → (room.forced == 0) ≡ false → ltb (sibling_of room cpu).ran patience ≡ false →

@@ -9,7 +9,7 @@ use Rattle.core_clock.proofs.Changes.{held_at}
 use Rattle.core_clock.proofs.time.rotates.Goals as goal
 
 pub has_peer-requires : goal.has_peer-requires
-has_peer-requires g c = record { table = c.requires.at.agree.table; there = c.requires.there; policies = policies_of (c.args.core.now, c.args.table.now) c.requires.at.agree; holds = held_at (c.args.core.now, c.args.table.now) c.args.cpu c.index.result.now c.requires.at.agree c.requires.at.cpu c.index.ensures }
+has_peer-requires g c = record { table = c.requires.at.agree.table; there = c.requires.there; search = record { policies = policies_of (c.args.core.now, c.args.table.now) c.requires.at.agree; holds = held_at (c.args.core.now, c.args.table.now) c.args.cpu c.index.result.now c.requires.at.agree c.requires.at.cpu c.index.ensures } }
 
 pub returns-else-has_used_slice : goal.returns-else-has_used_slice
 returns-else-has_used_slice g c beside =

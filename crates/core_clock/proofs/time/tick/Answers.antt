@@ -47,17 +47,8 @@ flag-requires g c = still_below (both_stay c.charge.ensures.charges.stays (c.beg
 stands : {Q : Type 0} {g : Ghosts Q} (beside : Beside) (both : Core Q g × Table) (room : RoomState) → room_of beside both ≡ room → room_of (beside_after beside room) both ≡ room
 stands beside both room is = subst (λ (r : RoomState). room_of (beside_after beside r) both ≡ r) is refl
 
-pub returns-in_default-clause-asks : goal.returns-in_default-clause-asks
-returns-in_default-clause-asks g c beside =
-    let room = room_of (at c.args.now beside) (c.args.core.now, c.args.table.now) in
-    let cpu = c.args.cpu in
-    let paid = beside_after (at c.args.now beside) (charge room) in
-    let charged = c.charge.ensures.charges.room beside in
-    let found : None ≡ running_on room cpu = c.in_default.ensures.task paid ∙ ap (λ (now : RoomState). running_on now cpu) charged in
-    ap (λ (found : Option Task). (tick room cpu found).reply) found
-
-pub returns-in_default-clause-charges : goal.returns-in_default-clause-charges
-returns-in_default-clause-charges g c =
+pub returns-in_default : goal.returns-in_default
+returns-in_default g c =
     let cpu = c.args.cpu in
     let made : (beside : Beside) → let room = room_of (at c.args.now beside) (c.args.core.now, c.args.table.now) in charge room ≡ (tick room cpu (running_on room cpu)).room =
     λ beside.
@@ -66,50 +57,56 @@ returns-in_default-clause-charges g c =
     let charged = c.charge.ensures.charges.room beside in
     ap (λ (found : Option Task). (tick room cpu found).room) (c.in_default.ensures.task paid ∙ ap (λ (now : RoomState). running_on now cpu) charged) in
     record {
-      room = λ beside. subst (λ (room : RoomState). room_of (beside_after (at c.args.now beside) room) (c.charge.new.core, c.charge.new.table) ≡ room) (made beside)
-          (c.charge.ensures.charges.room beside);
-      numbers = λ beside kept. c.charge.ensures.charges.numbers beside kept ∙ ap (λ (room : RoomState). booked room (numbers_in beside (c.args.core.now, c.args.table.now))) (made beside);
-      stays = c.charge.ensures.charges.stays;
+      asks = λ beside.
+          let room = room_of (at c.args.now beside) (c.args.core.now, c.args.table.now) in
+          let paid = beside_after (at c.args.now beside) (charge room) in
+          let charged = c.charge.ensures.charges.room beside in
+          let found : None ≡ running_on room cpu = c.in_default.ensures.task paid ∙ ap (λ (now : RoomState). running_on now cpu) charged in
+          ap (λ (found : Option Task). (tick room cpu found).reply) found;
+      charges = record {
+        room = λ beside. subst (λ (room : RoomState). room_of (beside_after (at c.args.now beside) room) (c.charge.new.core, c.charge.new.table) ≡ room) (made beside)
+            (c.charge.ensures.charges.room beside);
+        numbers = λ beside kept. c.charge.ensures.charges.numbers beside kept ∙ ap (λ (room : RoomState). booked room (numbers_in beside (c.args.core.now, c.args.table.now))) (made beside);
+        stays = c.charge.ensures.charges.stays;
+      };
     }
 
-pub returns-clause-asks : goal.returns-clause-asks
-returns-clause-asks g c beside =
-    let room = room_of (at c.args.now beside) (c.args.core.now, c.args.table.now) in
-    let cpu = c.args.cpu in
-    let task = c.in-Some.task.now in
-    let paid = beside_after (at c.args.now beside) (charge room) in
-    let charged = c.charge.ensures.charges.room beside in
-    let found : Some task ≡ running_on room cpu = c.in-Some.ensures.task paid ∙ ap (λ (now : RoomState). running_on now cpu) charged in
-    let asks : c.asks_at_tick-asks.result ≡ asks_at_tick room cpu task =
-    c.asks_at_tick-asks.ensures paid ∙ ap (λ (now : RoomState). asks_at_tick now cpu task) charged in
-    ap Ticked asks ∙ ap (λ (found : Option Task). (tick room cpu found).reply) found
-
-pub returns-clause-charges : goal.returns-clause-charges
-returns-clause-charges g c =
+pub returns : goal.returns
+returns g c =
     let cpu = c.args.cpu in
     let task = c.in-Some.task.now in
     let table = c.begin_slice.new.table in
     let slice = c.begin_slice.ensures cpu task c.in-Some.ensures.there c.has_used_slice-used.ensures c.rotates-rotates.ensures in
     let raised = c.flag.ensures table in
     record {
-      room = λ beside.
+      asks = λ beside.
           let room = room_of (at c.args.now beside) (c.args.core.now, c.args.table.now) in
           let paid = beside_after (at c.args.now beside) (charge room) in
           let charged = c.charge.ensures.charges.room beside in
           let found : Some task ≡ running_on room cpu = c.in-Some.ensures.task paid ∙ ap (λ (now : RoomState). running_on now cpu) charged in
           let asks : c.asks_at_tick-asks.result ≡ asks_at_tick room cpu task =
           c.asks_at_tick-asks.ensures paid ∙ ap (λ (now : RoomState). asks_at_tick now cpu task) charged in
-          stands paid (c.flag.new.self, table) (tick room cpu (running_on room cpu)).room
-          (raised.room paid
-          ∙ ap (λ (now : RoomState). flag now cpu c.asks_at_tick-asks.result) (slice.room paid ∙ ap (λ (now : RoomState). begin_slice now cpu task) charged)
-          ∙ ap (flag (begin_slice (charge room) cpu task) cpu) asks
-          ∙ ap (λ (found : Option Task). (tick room cpu found).room) found);
-      numbers = λ beside kept.
-          let room = room_of (at c.args.now beside) (c.args.core.now, c.args.table.now) in
-          let paid = beside_after (at c.args.now beside) (charge room) in
-          let charged = c.charge.ensures.charges.room beside in
-          let found : Some task ≡ running_on room cpu = c.in-Some.ensures.task paid ∙ ap (λ (now : RoomState). running_on now cpu) charged in
-          ap (with_ended beside.ended) (raised.numbers ∙ slice.numbers) ∙ c.charge.ensures.charges.numbers beside kept
-          ∙ ap (λ (found : Option Task). booked (tick room cpu found).room (numbers_in beside (c.args.core.now, c.args.table.now))) found;
-      stays = both_stay c.charge.ensures.charges.stays (both_stay slice.stays raised.stays);
+          ap Ticked asks ∙ ap (λ (found : Option Task). (tick room cpu found).reply) found;
+      charges = record {
+        room = λ beside.
+            let room = room_of (at c.args.now beside) (c.args.core.now, c.args.table.now) in
+            let paid = beside_after (at c.args.now beside) (charge room) in
+            let charged = c.charge.ensures.charges.room beside in
+            let found : Some task ≡ running_on room cpu = c.in-Some.ensures.task paid ∙ ap (λ (now : RoomState). running_on now cpu) charged in
+            let asks : c.asks_at_tick-asks.result ≡ asks_at_tick room cpu task =
+            c.asks_at_tick-asks.ensures paid ∙ ap (λ (now : RoomState). asks_at_tick now cpu task) charged in
+            stands paid (c.flag.new.self, table) (tick room cpu (running_on room cpu)).room
+            (raised.room paid
+            ∙ ap (λ (now : RoomState). flag now cpu c.asks_at_tick-asks.result) (slice.room paid ∙ ap (λ (now : RoomState). begin_slice now cpu task) charged)
+            ∙ ap (flag (begin_slice (charge room) cpu task) cpu) asks
+            ∙ ap (λ (found : Option Task). (tick room cpu found).room) found);
+        numbers = λ beside kept.
+            let room = room_of (at c.args.now beside) (c.args.core.now, c.args.table.now) in
+            let paid = beside_after (at c.args.now beside) (charge room) in
+            let charged = c.charge.ensures.charges.room beside in
+            let found : Some task ≡ running_on room cpu = c.in-Some.ensures.task paid ∙ ap (λ (now : RoomState). running_on now cpu) charged in
+            ap (with_ended beside.ended) (raised.numbers ∙ slice.numbers) ∙ c.charge.ensures.charges.numbers beside kept
+            ∙ ap (λ (found : Option Task). booked (tick room cpu found).room (numbers_in beside (c.args.core.now, c.args.table.now))) found;
+        stays = both_stay c.charge.ensures.charges.stays (both_stay slice.stays raised.stays);
+      };
     }

@@ -9,8 +9,8 @@ use Rattle.core_events.specs.Cookies.{flagged_for}
 use Rattle.core_events.proofs.Runners.{changed_at, flagged_nothing}
 use Rattle.core_events.proofs.cookies.flag_home.Goals as goal
 
-pub returns-clause-states : goal.returns-clause-states
-returns-clause-states g c =
+pub returns : goal.returns
+returns g c =
     let lanes = c.args.lanes.now in
     let home = c.args.home in
     let states = map lane_state lanes in
@@ -21,11 +21,9 @@ returns-clause-states g c =
     let is : lane_state after ≡ flagged_for c.args.pid (get_or states home absent) =
     (λ j. let state : SiblingState = record (lane_state now) { pending = now.pending || c.runs.ensures j } in state)
     ∙ ap (flagged_for c.args.pid) (sym (get_or-map lane_state lanes home lane absent c.requires.home)) in
-    map-set lane_state lanes home after ∙ ap (set states home) is
-    ∙ changed_at (flagged_for c.args.pid) absent states home within (λ k differs. flagged_nothing c.args.pid (get_or states k absent) (c.requires.alone k differs))
-
-pub returns-clause-numbers : goal.returns-clause-numbers
-returns-clause-numbers g c = map-set_same number_of c.args.lanes.now c.args.home _ c.index-lanes-home.result refl
-
-pub returns-clause-queues : goal.returns-clause-queues
-returns-clause-queues g c = map-set_same queue_of c.args.lanes.now c.args.home _ c.index-lanes-home.result refl
+    record {
+      states = map-set lane_state lanes home after ∙ ap (set states home) is
+          ∙ changed_at (flagged_for c.args.pid) absent states home within (λ k differs. flagged_nothing c.args.pid (get_or states k absent) (c.requires.alone k differs));
+      numbers = map-set_same number_of lanes home _ lane refl;
+      queues = map-set_same queue_of lanes home _ lane refl;
+    }

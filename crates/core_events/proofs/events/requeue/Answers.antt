@@ -19,10 +19,9 @@ queue_at_home-requires g c =
     let asleep : Task = record task { queued = false } in
     let there = is_of asleep apart.old c.args.table.now.tasks apart.there in
     record {
-      knows = knows_as (c.dequeue.new.self, c.dequeue.new.table) task asleep refl refl
+      knows = knows_as (c.dequeue.new.self, c.dequeue.new.table) task asleep (c.dequeue.ensures.stays.agree apart.agree) refl refl
           (subst (λ (room : RoomState). IsOf room.tasks asleep) (sym (c.dequeue.ensures.room some_beside)) there)
           (record { home = still_below c.dequeue.ensures.stays apart.fits.home; policy = apart.fits.policy });
-      agree = c.dequeue.ensures.stays.agree c.requires.agree;
       clock = c.requires.clock;
       stamp = omega (arith, ap (λ (room : RoomState). room.next_stamp) (c.dequeue.ensures.room some_beside), c.requires.stamp);
       touches = omega (arith, ap (λ (numbers : Numbers). numbers.task) c.dequeue.ensures.numbers, c.requires.touches);

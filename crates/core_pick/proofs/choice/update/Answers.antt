@@ -104,21 +104,19 @@ loop-cpu-preserved g c =
       }
     ]
 
-pub returns-clause-states : goal.returns-clause-states
+pub returns-clause-hands : goal.returns-clause-hands
 unfolding select_for
-returns-clause-states g c room core is plan =
+returns-clause-hands g c room core is plan =
     let states = map lane_state c.args.lanes.now in
     let all : c.loop-cpu.cpu ≡ length states = omega (arith, length-map c.args.lanes.now lane_state, c.loop-cpu-test.false, c.loop-cpu.auto.cpu-end) in
     let after = numbered_after_selection room core c.args.selector in
-    c.loop-cpu.invariant.states room core is plan
-    ∙ ap (λ n. map after (enumerate_from 0 (take n states)) ++ drop n states) all
-    ∙ (λ i. map after (enumerate_from 0 (take-length states i)) ++ drop-length states i)
-    ∙ append-nil (map after (enumerate_from 0 states)) ∙ ap (λ siblings. map after (enumerate_from 0 siblings)) (sym is)
-
-pub returns-clause-tasks : goal.returns-clause-tasks
-returns-clause-tasks g c room core is plan =
     let tasks = c.args.tasks.now.tasks in
-    let all : c.loop-cpu.cpu ≡ length room.siblings = omega (arith, length-map c.args.lanes.now lane_state, ap length is, c.loop-cpu-test.false, c.loop-cpu.auto.cpu-end) in
-    c.loop-cpu.invariant.so_far room core is plan
-    ∙ ap (λ (tasks : List Task). let table : Table = record c.args.tasks.now { tasks = tasks } in table)
-    (ap (λ n. map (remembering (hits room core) c.args.occupation n) tasks) all ∙ map-remembering_all room core c.args.occupation tasks plan.occupied)
+    record {
+      states = c.loop-cpu.invariant.states room core is plan
+          ∙ ap (λ n. map after (enumerate_from 0 (take n states)) ++ drop n states) all
+          ∙ (λ i. map after (enumerate_from 0 (take-length states i)) ++ drop-length states i)
+          ∙ append-nil (map after (enumerate_from 0 states)) ∙ ap (λ siblings. map after (enumerate_from 0 siblings)) (sym is);
+      tasks = c.loop-cpu.invariant.so_far room core is plan
+          ∙ ap (λ (tasks : List Task). let table : Table = record c.args.tasks.now { tasks = tasks } in table)
+          (ap (λ n. map (remembering (hits room core) c.args.occupation n) tasks) (all ∙ ap length (sym is)) ∙ map-remembering_all room core c.args.occupation tasks plan.occupied);
+    }

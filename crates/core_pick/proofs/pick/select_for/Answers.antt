@@ -59,7 +59,7 @@ plan g c beside =
 tasks_are : (g : Over) (c : goal.After-run g) (beside : Beside) →
     c.update.new.tasks ≡ record c.args.table.now { tasks = map (task_after_selection (room_of (at c.args.now beside) (c.args.core.now, c.args.table.now)) c.args.cookie) c.args.table.now.tasks }
 tasks_are g c beside =
-    c.update.ensures.tasks (room_of (at c.args.now beside) (c.args.core.now, c.args.table.now)) c.args.cookie (sym (ap (map lane_state) c.deref_mut.ensures.value)) (plan g c beside)
+    (c.update.ensures.hands (room_of (at c.args.now beside) (c.args.core.now, c.args.table.now)) c.args.cookie (sym (ap (map lane_state) c.deref_mut.ensures.value)) (plan g c beside)).tasks
 
 pub returns-clause-selects : goal.returns-clause-selects
 unfolding select_for
@@ -74,7 +74,7 @@ returns-clause-selects g c = record {
       let started = c.begin.ensures.started ∙ ap (λ n. cond ((n == 0) || (c.args.cookie == 0)) None (Some c.args.now)) forced in
       let kept_lanes = items-as_many c.args.core.now.lanes c.update.new.lanes (c.update.auto.lanes ∙ ap length c.deref_mut.ensures.value) in
       let siblings = ap (map lane_state) kept_lanes
-      ∙ c.update.ensures.states room c.args.cookie (sym (ap (map lane_state) c.deref_mut.ensures.value)) (plan g c beside) in
+      ∙ (c.update.ensures.hands room c.args.cookie (sym (ap (map lane_state) c.deref_mut.ensures.value)) (plan g c beside)).states in
       let table = tasks_are g c beside in
       λ i. record room {
         task_limit = (table i).limit;

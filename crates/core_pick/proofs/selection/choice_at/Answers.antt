@@ -34,14 +34,14 @@ returns-then-cookie-eq0-clause-choice g c beside is =
     ∙ ap choice_of (sym (choice_searched room c.args.cookie c.args.cpu other
     ∙ cond-true (c.args.cookie == 0) None (first_of (queued_with room c.args.cookie c.args.cpu)) (eq-eqb c.args.cookie 0 c.if-cookie-eq0.true)))
 
-pub first_with-requires-clause-holds : goal.first_with-requires-clause-holds
-first_with-requires-clause-holds g c =
+pub first_with-requires-clause-search : goal.first_with-requires-clause-search
+first_with-requires-clause-search g c =
     let lanes = c.args.core.now.lanes.items in
-    c.requires.agree.held c.args.cpu c.index.result.now.queue
-    (slice_get-map queue_of lanes c.args.cpu ∙ ap (option_map queue_of) (slice_get_read lanes (length lanes) c.args.cpu c.index.result.now refl c.requires.cpu c.index.ensures))
-
-pub first_with-requires-clause-policies : goal.first_with-requires-clause-policies
-first_with-requires-clause-policies g c = policies_of (c.args.core.now, c.args.table.now) c.requires.agree
+    record {
+      policies = policies_of (c.args.core.now, c.args.table.now) c.requires.agree;
+      holds = c.requires.agree.held c.args.cpu c.index.result.now.queue
+          (slice_get-map queue_of lanes c.args.cpu ∙ ap (option_map queue_of) (slice_get_read lanes (length lanes) c.args.cpu c.index.result.now refl c.requires.cpu c.index.ensures));
+    }
 
 pub returns-in-Some-clause-choice : goal.returns-in-Some-clause-choice
 returns-in-Some-clause-choice g c beside is =

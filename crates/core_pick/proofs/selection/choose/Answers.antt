@@ -34,15 +34,14 @@ pub settle-counts-requires-clause-at : goal.settle-counts-requires-clause-at
 settle-counts-requires-clause-at g c =
     record { cpu = omega (arith, c.loop-cpu-test.true, many g (goal.at.settle-counts-requires-clause-at g c).Start); agree = c.requires.agree }
 
-pub settle-counts-requires-clause-forced : goal.settle-counts-requires-clause-forced
-settle-counts-requires-clause-forced g c =
+pub settle-counts-requires-clause-may : goal.settle-counts-requires-clause-may
+settle-counts-requires-clause-may g c =
     let room = room_of some_beside (c.args.core.now, c.args.table.now) in
-    omega (arith, c.loop-cpu.invariant.forced some_beside, few_counted (gets_none room c.args.cookie) c.loop-cpu.cpu, c.loop-cpu-test.true, many g (goal.at.settle-counts-requires-clause-forced g c).Start, c.args.core.now.few)
-
-pub settle-counts-requires-clause-occupation : goal.settle-counts-requires-clause-occupation
-settle-counts-requires-clause-occupation g c =
-    let room = room_of some_beside (c.args.core.now, c.args.table.now) in
-    omega (arith, c.loop-cpu.invariant.occupation some_beside, few_counted (gets_task room c.args.cookie) c.loop-cpu.cpu, c.loop-cpu-test.true, many g (goal.at.settle-counts-requires-clause-occupation g c).Start, c.args.core.now.few)
+    let all = many g (goal.at.settle-counts-requires-clause-may g c).Start in
+    record {
+      forced = omega (arith, c.loop-cpu.invariant.forced some_beside, few_counted (gets_none room c.args.cookie) c.loop-cpu.cpu, c.loop-cpu-test.true, all, c.args.core.now.few);
+      occupation = omega (arith, c.loop-cpu.invariant.occupation some_beside, few_counted (gets_task room c.args.cookie) c.loop-cpu.cpu, c.loop-cpu-test.true, all, c.args.core.now.few);
+    }
 
 pub loop-cpu-preserved : goal.loop-cpu-preserved
 loop-cpu-preserved g c =
@@ -62,13 +61,13 @@ loop-cpu-preserved g c =
           let room = room_of beside (c.args.core.now, c.args.table.now) in
           let gets : ℕ × Choice → Choice = λ numbered. choice_of (choice room core numbered.0) in
           placed_more gets c.args.choices.now c.loop-cpu.choices cpu c.settle-counts.new.given no_choice c.loop-cpu-test.true (c.loop-cpu.invariant.made beside)
-          (c.settle-counts.ensures.gets beside (was beside));
+          (c.settle-counts.ensures.settles beside (was beside)).gets;
       forced = λ beside.
           let p = gets_none (room_of beside (c.args.core.now, c.args.table.now)) core in
-          (c.settle-counts.ensures.counts beside (was beside)).forced ∙ ap (λ n. n + cond (p cpu) 1 0) (c.loop-cpu.invariant.forced beside) ∙ sym (count_more p cpu);
+          (c.settle-counts.ensures.settles beside (was beside)).counts.forced ∙ ap (λ n. n + cond (p cpu) 1 0) (c.loop-cpu.invariant.forced beside) ∙ sym (count_more p cpu);
       occupation = λ beside.
           let p = gets_task (room_of beside (c.args.core.now, c.args.table.now)) core in
-          (c.settle-counts.ensures.counts beside (was beside)).occupation ∙ ap (λ n. n + cond (p cpu) 1 0) (c.loop-cpu.invariant.occupation beside) ∙ sym (count_more p cpu);
+          (c.settle-counts.ensures.settles beside (was beside)).counts.occupation ∙ ap (λ n. n + cond (p cpu) 1 0) (c.loop-cpu.invariant.occupation beside) ∙ sym (count_more p cpu);
       asked = λ longest longer.
           let rises = g.met.Q.SiblingQueue.rises _ _ (longer cpu below) in
           one_more _ _ _ cpu _ (c.loop-cpu.invariant.asked longest longer) (omega (arith, c.settle-counts.ensures.counted, rises));

@@ -52,17 +52,15 @@ loop-other-preserved g c =
           }
     ]
 
-pub returns-clause-states : goal.returns-clause-states
-returns-clause-states g c =
+pub returns : goal.returns
+returns g c =
     let states = map lane_state c.args.lanes.now in
     let all : c.loop-other.other ≡ length states = omega (arith, length-map c.args.lanes.now lane_state, c.loop-other-test.false, c.loop-other.auto.other-end) in
-    c.loop-other.invariant.states
-    ∙ (λ k. map (left c.args.cpu) (enumerate_from 0 (take (all k) states)) ++ drop (all k) states)
-    ∙ (λ k. map (left c.args.cpu) (enumerate_from 0 (take-length states k)) ++ drop-length states k)
-    ∙ append-nil (map (left c.args.cpu) (enumerate_from 0 states))
-
-pub returns-clause-numbers : goal.returns-clause-numbers
-returns-clause-numbers g c = c.loop-other.invariant.numbers
-
-pub returns-clause-queues : goal.returns-clause-queues
-returns-clause-queues g c = c.loop-other.invariant.queues
+    record {
+      states = c.loop-other.invariant.states
+          ∙ (λ k. map (left c.args.cpu) (enumerate_from 0 (take (all k) states)) ++ drop (all k) states)
+          ∙ (λ k. map (left c.args.cpu) (enumerate_from 0 (take-length states k)) ++ drop-length states k)
+          ∙ append-nil (map (left c.args.cpu) (enumerate_from 0 states));
+      numbers = c.loop-other.invariant.numbers;
+      queues = c.loop-other.invariant.queues;
+    }

@@ -35,7 +35,7 @@ pub leave-requires-clause-another : goal.leave-requires-clause-another
 leave-requires-clause-another g c beside =
     let core = c.args.core.now in
     let table = c.args.table.now in
-    another (room_of beside (core, table)) c.args.cpu (omega (arith, c.requires.cpu, length-map core.lanes.items lane_state))
+    another (room_of beside (core, table)) c.args.cpu (omega (arith, c.requires.moves.cpu, length-map core.lanes.items lane_state))
     (sym (c.is_online.ensures beside table) ∙ c.if-not-is_online.false)
     (λ alone. c.if-online_count-eq1.false (c.online_count.ensures beside table ∙ alone))
 

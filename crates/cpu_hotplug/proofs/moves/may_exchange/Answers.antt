@@ -1,4 +1,5 @@
-use Rattle.std.proofs.Common.{ap, sym, subst}
+use Rattle.std.proofs.Common.{ap, sym, subst, arith}
+use Rattle.std.proofs.lemmas.List.{nil_from_length}
 use Rattle.std.proofs.lemmas.Bool.{leb-true}
 use Rattle.cs_types.specs.Room.{SiblingState, sibling_of}
 use Rattle.core_lanes.specs.Queued.{queued_among}
@@ -8,15 +9,22 @@ use Rattle.cpu_hotplug.specs.Leaves.{NoneBehind}
 use Rattle.cpu_hotplug.proofs.Moving.{ahead_some, ahead_none}
 use Rattle.cpu_hotplug.proofs.moves.may_exchange.Goals as goal
 
-pub returns-in-Some-clause-ahead : goal.returns-in-Some-clause-ahead
-returns-in-Some-clause-ahead g c beside below =
+pub returns-in-Some : goal.returns-in-Some
+returns-in-Some g c below =
     let lane = c.index-lane.result.now in
     let tasks = queued_among c.args.table.now.tasks c.args.cpu in
-    let is = lane_at c.args.core.now.lanes.items c.args.cpu lane c.requires.cpu c.index-lane.ensures in
-    subst (λ n. NoneBehind n tasks) (ap (λ (sibling : SiblingState). sibling.least) (sym is))
-    (ahead_some lane.least c.in-Some.smallest tasks (sym c.in-Some.ensures.smallest) (leb-true lane.least c.in-Some.smallest below))
+    let is = lane_at c.args.core.now.lanes.items c.args.cpu lane c.requires.at.cpu c.index-lane.ensures in
+    record {
+      empty = nil_from_length _ (omega (arith, c.count.ensures, c.if-count-gt0.false));
+      ahead = λ beside.
+          subst (λ n. NoneBehind n tasks) (ap (λ (sibling : SiblingState). sibling.least) (sym is))
+          (ahead_some lane.least c.in-Some.smallest tasks (sym c.in-Some.ensures.smallest) (leb-true lane.least c.in-Some.smallest below));
+    }
 
-pub returns-in-None-clause-ahead : goal.returns-in-None-clause-ahead
-returns-in-None-clause-ahead g c beside is =
+pub returns-in-None : goal.returns-in-None
+returns-in-None g c is =
     let tasks = queued_among c.args.table.now.tasks c.args.cpu in
-    ahead_none (sibling_of (room_of beside (c.args.core.now, c.args.table.now)) c.args.cpu).least tasks (sym c.in-None.ensures.smallest)
+    record {
+      empty = nil_from_length _ (omega (arith, c.count.ensures, c.if-count-gt0.false));
+      ahead = λ beside. ahead_none (sibling_of (room_of beside (c.args.core.now, c.args.table.now)) c.args.cpu).least tasks (sym c.in-None.ensures.smallest);
+    }

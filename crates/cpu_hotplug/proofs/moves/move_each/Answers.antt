@@ -23,7 +23,7 @@ pub loop-mover-init : goal.loop-mover-init
 loop-mover-init g c =
     let core = c.args.core.now in
     let table = c.args.table.now in
-    let same = c.empty_queue.ensures.bare in
+    let same = c.empty_queue.ensures.away.bare in
     let many =
     sym (length-map c.empty_queue.new.self.lanes.items lane_state) ∙ ap (λ (one : BareCore). length one.siblings) same
     ∙ length-map core.lanes.items lane_state in
@@ -35,7 +35,7 @@ loop-mover-init g c =
           (λ i. room_by beside (same i) table) ∙ (λ i. let first : RoomState = record room { tasks = tasks i; next_stamp = next i } in first);
       numbers = (λ i. numbers_by (same i) table) ∙ ap (λ n. let first : Numbers = record (numbers_of (core, table)) { task = n } in first) (omega arith);
       kept = λ i. record { siblings = many i; limit = table.limit; identities = map identity_of table.tasks };
-      away = c.empty_queue.ensures.away;
+      away = c.empty_queue.ensures.away.held;
     }
 
 -- no more move than there are
@@ -55,11 +55,11 @@ enter-requires g c =
     let pids = c.deref-mover-items.result.now in
     let told = subst (AreTold (map mover_of (queued_among table.tasks cpu))) (sym list_is) c.empty_queue.ensures.told in
     let are = ap (λ (one : RoomState). one.tasks) (c.loop-mover.invariant.room some_beside) in
-    let found = next_found room cpu c.requires.agree.table.rising c.requires.agree.stamped pids told c.loop-mover.mover-index c.loop-mover-test.true now.tasks are in
+    let found = next_found room cpu c.requires.may.agree.table.rising c.requires.may.agree.stamped pids told c.loop-mover.mover-index c.loop-mover-test.true now.tasks are in
     let task = found.0 in
     let next = found.2 in
     let many : length c.loop-mover.core.lanes.items ≡ length core.lanes.items = ap (λ (kept : Kept). kept.siblings) c.loop-mover.invariant.kept in
-    let movers_are = length-told room cpu c.requires.agree.table.rising c.requires.agree.stamped pids told in
+    let movers_are = length-told room cpu c.requires.may.agree.table.rising c.requires.may.agree.stamped pids told in
     let invariant = c.loop-mover.invariant in
     let on = and_parts task.queued (task.home == cpu) next.on in
     record {
@@ -70,11 +70,11 @@ enter-requires g c =
       other = omega (arith, c.requires.within, many);
       elsewhere = λ here. c.requires.another some_beside (sym (c.requires.lowest some_beside table) ∙ here);
       agree = invariant.away;
-      vtime = found_in (λ (one : Task). one.vtime < 2 ^ 100) task.spec.pid table.tasks task c.requires.low.vtimes next.there;
+      vtime = found_in (λ (one : Task). one.vtime < 2 ^ 100) task.spec.pid table.tasks task c.requires.may.low.vtimes next.there;
       leasts = subst (λ (siblings : List SiblingState). All (λ (sibling : SiblingState). sibling.least < 2 ^ 100) siblings)
-          (sym (ap (λ (room : RoomState). room.siblings) (invariant.room some_beside))) c.requires.low.leasts;
-      stamp = omega (arith, ap (λ (one : RoomState). one.next_stamp) (invariant.room some_beside), c.loop-mover-test.true, movers_are, few table.tasks cpu, c.requires.stamp);
-      touches = omega (arith, ap (λ (numbers : Numbers). numbers.task) invariant.numbers, c.loop-mover-test.true, movers_are, few table.tasks cpu, c.requires.touches);
+          (sym (ap (λ (room : RoomState). room.siblings) (invariant.room some_beside))) c.requires.may.low.leasts;
+      stamp = omega (arith, ap (λ (one : RoomState). one.next_stamp) (invariant.room some_beside), c.loop-mover-test.true, movers_are, few table.tasks cpu, c.requires.may.stamp);
+      touches = omega (arith, ap (λ (numbers : Numbers). numbers.task) invariant.numbers, c.loop-mover-test.true, movers_are, few table.tasks cpu, c.requires.may.touches);
     }
 
 two_more : (n i : ℕ) → n + 2 * i + 2 ≡ n + 2 * (i + 1)
@@ -91,7 +91,7 @@ loop-mover-preserved g c =
     let pids = c.deref-mover-items.result.now in
     let told = subst (AreTold (map mover_of (queued_among table.tasks cpu))) (sym list_is) c.empty_queue.ensures.told in
     let are = ap (λ (one : RoomState). one.tasks) (c.loop-mover.invariant.room some_beside) in
-    let found = next_found room cpu c.requires.agree.table.rising c.requires.agree.stamped pids told c.loop-mover.mover-index c.loop-mover-test.true now.tasks are in
+    let found = next_found room cpu c.requires.may.agree.table.rising c.requires.may.agree.stamped pids told c.loop-mover.mover-index c.loop-mover-test.true now.tasks are in
     let task = found.0 in
     let next = found.2 in
     let i = c.loop-mover.mover-index in
@@ -110,7 +110,7 @@ loop-mover-preserved g c =
           (ap (λ (one : RoomState). one.siblings) invariant) (c.requires.lowest beside table) refl on
           (stamps ∙ ap (λ n. core.next_stamp + n) (sym next.rank)) in
           let more = ap (map (replaced_by done)) are
-          ∙ one_more was cpu c.requires.agree.stamped i task next.there on next.rank done is table.tasks (each_of table.tasks c.requires.agree.table.rising) in
+          ∙ one_more was cpu c.requires.may.agree.stamped i task next.there on next.rank done is table.tasks (each_of table.tasks c.requires.may.agree.table.rising) in
           let stamp : c.loop-mover.core.next_stamp + 1 ≡ core.next_stamp + (i + 1) = omega (arith, stamps) in
           c.enter.ensures.room task found.1 beside ∙ (λ j. let after : RoomState = record (invariant j) { tasks = more j; next_stamp = stamp j } in after);
       numbers =
@@ -118,7 +118,7 @@ loop-mover-preserved g c =
           ∙ ap (touched 2) c.loop-mover.invariant.numbers
           ∙ ap (λ n. let after : Numbers = record (numbers_of (core, table)) { task = n } in after) (two_more core.task_number i);
       kept = c.enter.ensures.kept ∙ c.loop-mover.invariant.kept;
-      away = c.enter.ensures.away;
+      away = c.enter.ensures.agree;
     }
 
 -- ---- all tasks
@@ -135,9 +135,9 @@ returns g c =
     let told = subst (AreTold (map mover_of (queued_among table.tasks cpu))) (sym list_is) c.empty_queue.ensures.told in
     let are = ap (λ (one : RoomState). one.tasks) (c.loop-mover.invariant.room some_beside) in
     let i = c.loop-mover.mover-index in
-    let many = length-told room cpu c.requires.agree.table.rising c.requires.agree.stamped pids told in
+    let many = length-told room cpu c.requires.may.agree.table.rising c.requires.may.agree.stamped pids told in
     let all : i ≡ length (queued_among table.tasks cpu) = omega (arith, many, c.loop-mover-test.false, c.loop-mover.auto.mover-index-end) in
-    let moved = all_moved room cpu table.tasks (each_of table.tasks c.requires.agree.table.rising) in
+    let moved = all_moved room cpu table.tasks (each_of table.tasks c.requires.may.agree.table.rising) in
     record {
       room = λ beside.
           let was = room_of beside (core, table) in

@@ -26,5 +26,23 @@ returns-then-count-eq0 g c =
 
 -- ---- where they move with their queue
 
-pub move_queue-requires-clause-ahead : goal.move_queue-requires-clause-ahead
-move_queue-requires-clause-ahead g c beside = c.may_exchange.ensures.ahead beside c.if-may_exchange.true
+pub move_queue-requires : goal.move_queue-requires
+move_queue-requires g c = record {
+  to = record {
+    may = c.requires.may;
+    another = c.requires.another;
+    lowest = λ beside table. c.lowest_other-to.ensures.lowest beside table;
+    within = c.lowest_other-to.ensures.within;
+  };
+  whole = c.may_exchange.ensures c.if-may_exchange.true;
+}
+
+-- ---- or one by one
+
+pub move_each-requires : goal.move_each-requires
+move_each-requires g c = record {
+  may = c.requires.may;
+  another = c.requires.another;
+  lowest = λ beside table. c.lowest_other-to.ensures.lowest beside table;
+  within = c.lowest_other-to.ensures.within;
+}

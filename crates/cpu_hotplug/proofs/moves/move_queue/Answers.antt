@@ -38,7 +38,7 @@ pub loop-mover-init : goal.loop-mover-init
 loop-mover-init g c =
     let core = c.args.core.now in
     let table = c.args.table.now in
-    let agree = c.requires.agree in
+    let agree = c.requires.to.may.agree in
     record {
       room = λ beside.
           let room = room_of beside (core, table) in
@@ -68,11 +68,11 @@ place-requires g c =
     let pids = c.deref-mover-items.result.now in
     let told = subst (AreTold (map mover_of (queued_among table.tasks cpu))) (sym list_is) c.tell_queued.ensures.told in
     let are = ap (λ (one : RoomState). one.tasks) (c.loop-mover.invariant.room some_beside) in
-    let found = next_found room cpu c.requires.agree.table.rising c.requires.agree.stamped pids told c.loop-mover.mover-index c.loop-mover-test.true now.tasks are in
+    let found = next_found room cpu c.requires.to.may.agree.table.rising c.requires.to.may.agree.stamped pids told c.loop-mover.mover-index c.loop-mover-test.true now.tasks are in
     let task = found.0 in
     let next = found.2 in
     let many : length c.loop-mover.core.lanes.items ≡ length core.lanes.items = ap (λ (kept : Kept). kept.siblings) c.loop-mover.invariant.kept in
-    let movers_are = length-told room cpu c.requires.agree.table.rising c.requires.agree.stamped pids told in
+    let movers_are = length-told room cpu c.requires.to.may.agree.table.rising c.requires.to.may.agree.stamped pids told in
     let invariant = c.loop-mover.invariant in
     let on = and_parts task.queued (task.home == cpu) next.on in
     record {
@@ -80,14 +80,14 @@ place-requires g c =
       there = found.1;
       queued = on.0;
       home = eqb-true task.home cpu on.1;
-      other = omega (arith, c.requires.within, many);
-      elsewhere = λ here. c.requires.another some_beside (sym (c.requires.lowest some_beside table) ∙ here);
+      other = omega (arith, c.requires.to.within, many);
+      elsewhere = λ here. c.requires.to.another some_beside (sym (c.requires.to.lowest some_beside table) ∙ here);
       agree = invariant.apart;
-      vtime = found_in (λ (one : Task). one.vtime < 2 ^ 100) task.spec.pid table.tasks task c.requires.low.vtimes next.there;
+      vtime = found_in (λ (one : Task). one.vtime < 2 ^ 100) task.spec.pid table.tasks task c.requires.to.may.low.vtimes next.there;
       leasts = subst (λ (siblings : List SiblingState). All (λ (sibling : SiblingState). sibling.least < 2 ^ 100) siblings)
-          (sym (ap (λ (room : RoomState). room.siblings) (invariant.room some_beside))) c.requires.low.leasts;
-      stamp = omega (arith, ap (λ (one : RoomState). one.next_stamp) (invariant.room some_beside), c.loop-mover-test.true, movers_are, few table.tasks cpu, c.requires.stamp);
-      touches = omega (arith, ap (λ (numbers : Numbers). numbers.task) invariant.numbers, c.loop-mover-test.true, movers_are, few table.tasks cpu, c.requires.touches);
+          (sym (ap (λ (room : RoomState). room.siblings) (invariant.room some_beside))) c.requires.to.may.low.leasts;
+      stamp = omega (arith, ap (λ (one : RoomState). one.next_stamp) (invariant.room some_beside), c.loop-mover-test.true, movers_are, few table.tasks cpu, c.requires.to.may.stamp);
+      touches = omega (arith, ap (λ (numbers : Numbers). numbers.task) invariant.numbers, c.loop-mover-test.true, movers_are, few table.tasks cpu, c.requires.to.may.touches);
     }
 
 two_more : (n i : ℕ) → n + 2 * i + 2 ≡ n + 2 * (i + 1)
@@ -104,7 +104,7 @@ loop-mover-preserved g c =
     let pids = c.deref-mover-items.result.now in
     let told = subst (AreTold (map mover_of (queued_among table.tasks cpu))) (sym list_is) c.tell_queued.ensures.told in
     let are = ap (λ (one : RoomState). one.tasks) (c.loop-mover.invariant.room some_beside) in
-    let found = next_found room cpu c.requires.agree.table.rising c.requires.agree.stamped pids told c.loop-mover.mover-index c.loop-mover-test.true now.tasks are in
+    let found = next_found room cpu c.requires.to.may.agree.table.rising c.requires.to.may.agree.stamped pids told c.loop-mover.mover-index c.loop-mover-test.true now.tasks are in
     let task = found.0 in
     let next = found.2 in
     let i = c.loop-mover.mover-index in
@@ -120,18 +120,18 @@ loop-mover-preserved g c =
           let invariant = c.loop-mover.invariant.room beside in
           let is = ap (λ b. let one : Task = record moved { queued = b; stamp = stamp } in one) (sym queued)
           ∙ moved_is was (room_of beside (c.loop-mover.core, now)) cpu c.args.to c.loop-mover.core.next_stamp task moved
-          (ap (λ (one : RoomState). one.siblings) invariant) (c.requires.lowest beside table) refl on
+          (ap (λ (one : RoomState). one.siblings) invariant) (c.requires.to.lowest beside table) refl on
           (stamps ∙ ap (λ n. core.next_stamp + n) (sym next.rank)) in
           let more = ap (map (replaced_by done)) are
-          ∙ one_more was cpu c.requires.agree.stamped i task next.there on next.rank done is table.tasks (each_of table.tasks c.requires.agree.table.rising) in
+          ∙ one_more was cpu c.requires.to.may.agree.stamped i task next.there on next.rank done is table.tasks (each_of table.tasks c.requires.to.may.agree.table.rising) in
           let stamp : c.loop-mover.core.next_stamp + 1 ≡ core.next_stamp + (i + 1) = omega (arith, stamps) in
-          c.place.ensures.room task found.1 beside ∙ (λ j. let after : RoomState = record (invariant j) { tasks = more j; next_stamp = stamp j } in after);
+          c.place.ensures.placed.room task found.1 beside ∙ (λ j. let after : RoomState = record (invariant j) { tasks = more j; next_stamp = stamp j } in after);
       numbers =
-          c.place.ensures.numbers
+          c.place.ensures.placed.numbers
           ∙ ap (touched 2) c.loop-mover.invariant.numbers
           ∙ ap (λ n. let after : Numbers = record (numbers_of (core, table)) { task = n } in after) (two_more core.task_number i);
-      kept = c.place.ensures.kept ∙ c.loop-mover.invariant.kept;
-      apart = c.place.ensures.apart;
+      kept = c.place.ensures.placed.kept ∙ c.loop-mover.invariant.kept;
+      apart = c.place.ensures.placed.agree;
       lanes = c.place.ensures.lanes ∙ c.loop-mover.invariant.lanes;
     }
 
@@ -204,13 +204,13 @@ exchange-requires g c =
     let told = subst (AreTold (map mover_of (queued_among table.tasks cpu))) (sym list_is) c.tell_queued.ensures.told in
     let are = ap (λ (one : RoomState). one.tasks) (c.loop-mover.invariant.room some_beside) in
     let i = c.loop-mover.mover-index in
-    let many = length-told room cpu c.requires.agree.table.rising c.requires.agree.stamped pids told in
+    let many = length-told room cpu c.requires.to.may.agree.table.rising c.requires.to.may.agree.stamped pids told in
     let all : i ≡ length (queued_among table.tasks cpu) = omega (arith, many, c.loop-mover-test.false, c.loop-mover.auto.mover-index-end) in
-    let moved = all_moved room cpu table.tasks (each_of table.tasks c.requires.agree.table.rising) in
-    may_exchange core c.loop-mover.core table c.loop-mover.table cpu c.args.to c.requires.agree c.loop-mover.invariant.apart c.loop-mover.invariant.lanes
-    (ap (λ (kept : Kept). kept.limit) c.loop-mover.invariant.kept) (c.requires.lowest some_beside table)
-    (are ∙ (λ j. (so_far room cpu (all j)).tasks) ∙ moved) c.requires.cpu c.requires.within
-    (λ is. c.requires.another some_beside (sym (c.requires.lowest some_beside table) ∙ sym is)) c.requires.empty (c.requires.ahead some_beside)
+    let moved = all_moved room cpu table.tasks (each_of table.tasks c.requires.to.may.agree.table.rising) in
+    may_exchange core c.loop-mover.core table c.loop-mover.table cpu c.args.to c.requires.to.may.agree c.loop-mover.invariant.apart c.loop-mover.invariant.lanes
+    (ap (λ (kept : Kept). kept.limit) c.loop-mover.invariant.kept) (c.requires.to.lowest some_beside table)
+    (are ∙ (λ j. (so_far room cpu (all j)).tasks) ∙ moved) c.requires.to.may.cpu c.requires.to.within
+    (λ is. c.requires.to.another some_beside (sym (c.requires.to.lowest some_beside table) ∙ sym is)) c.requires.whole.empty (c.requires.whole.ahead some_beside)
 
 pub returns : goal.returns
 returns g c =
@@ -222,9 +222,9 @@ returns g c =
     let pids = c.deref-mover-items.result.now in
     let told = subst (AreTold (map mover_of (queued_among table.tasks cpu))) (sym list_is) c.tell_queued.ensures.told in
     let i = c.loop-mover.mover-index in
-    let many = length-told room cpu c.requires.agree.table.rising c.requires.agree.stamped pids told in
+    let many = length-told room cpu c.requires.to.may.agree.table.rising c.requires.to.may.agree.stamped pids told in
     let all : i ≡ length (queued_among table.tasks cpu) = omega (arith, many, c.loop-mover-test.false, c.loop-mover.auto.mover-index-end) in
-    let moved = all_moved room cpu table.tasks (each_of table.tasks c.requires.agree.table.rising) in
+    let moved = all_moved room cpu table.tasks (each_of table.tasks c.requires.to.may.agree.table.rising) in
     let bare_is = c.exchange.ensures.bare in
     record {
       room = λ beside.

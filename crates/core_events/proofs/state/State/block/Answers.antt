@@ -35,10 +35,7 @@ dequeue-requires-clause-knows g c =
     let table = c.charge.new.table in
     let there = subst (λ (table : Table). IsOf table.tasks task) (sym c.charge.ensures.table) c.in-Some.ensures.there in
     let agree = c.charge.ensures.charges.stays.agree c.requires.ready.sound.agree in
-    knows_as (c.charge.new.core, table) task task refl refl there (fits_found (c.charge.new.core, table) task.spec.pid task agree there)
-
-pub dequeue-requires-clause-agree : goal.dequeue-requires-clause-agree
-dequeue-requires-clause-agree g c = c.charge.ensures.charges.stays.agree c.requires.ready.sound.agree
+    knows_as (c.charge.new.core, table) task task agree refl refl there (fits_found (c.charge.new.core, table) task.spec.pid task agree there)
 
 pub pick_and_balance-requires : goal.pick_and_balance-requires
 pick_and_balance-requires g c =

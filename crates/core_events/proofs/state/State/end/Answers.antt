@@ -40,6 +40,7 @@ dequeue-requires-clause-knows g c =
     let there = c.requires.there in
     record {
       apart = record {
+        agree = c.requires.sound.agree;
         old = task;
         there = there;
         fits = found_in (IsFit (length old.core.lanes.items)) task.spec.pid old.tasks.tasks task c.requires.sound.agree.tasks there;

@@ -25,20 +25,16 @@ use Rattle.core_lanes.specs.Queued.{IsOf}
 pub run_idle-requires : goal.run_idle-requires
 run_idle-requires g c = subst (λ n. c.args.cpu < n) (sym c.end.ensures.stays.siblings) (still_below c.charge.ensures.charges.stays c.requires.cpu)
 
-pub end-requires-clause-there : goal.end-requires-clause-there
-end-requires-clause-there g c = subst (λ (table : Table). IsOf table.tasks c.in-Some.task) (sym c.charge.ensures.table) c.in-Some.ensures.there
-
-pub end-requires-clause-sound : goal.end-requires-clause-sound
-end-requires-clause-sound g c = (lifted c.args.self.now (c.charge.new.core, c.charge.new.table) c.charge.ensures.charges.stays).sound c.requires.ready.sound
-
-pub end-requires-clause-alone : goal.end-requires-clause-alone
-end-requires-clause-alone g c intervals =
-    sym (c.has_threads.ensures (room_of (beside_of intervals c.args.self.now) (c.charge.new.core, c.charge.new.table)) (ap (λ (table : Table). table.tasks) c.charge.ensures.table))
-    ∙ c.if-has_threads.false
-
-pub end-requires-clause-touches : goal.end-requires-clause-touches
-end-requires-clause-touches g c =
-    subst (λ n. n + 1 < 2 ^ 64) (sym (ap (λ (b : BareCore). b.task_number) c.charge.ensures.core)) (may_pick c.args.self.now c.args.cpu c.requires.cpu c.requires.ready).touches
+pub end-requires : goal.end-requires
+end-requires g c = record {
+  there = subst (λ (table : Table). IsOf table.tasks c.in-Some.task) (sym c.charge.ensures.table) c.in-Some.ensures.there;
+  sound = (lifted c.args.self.now (c.charge.new.core, c.charge.new.table) c.charge.ensures.charges.stays).sound c.requires.ready.sound;
+  alone = λ intervals.
+      sym (c.has_threads.ensures (room_of (beside_of intervals c.args.self.now) (c.charge.new.core, c.charge.new.table)) (ap (λ (table : Table). table.tasks) c.charge.ensures.table))
+      ∙ c.if-has_threads.false;
+  touches = subst (λ n. n + 1 < 2 ^ 64) (sym (ap (λ (b : BareCore). b.task_number) c.charge.ensures.core)) (may_pick c.args.self.now c.args.cpu c.requires.cpu c.requires.ready).touches;
+  spare = c.requires.ready.spares.ended;
+}
 
 pub pick_and_balance-requires : goal.pick_and_balance-requires
 pick_and_balance-requires g c =

@@ -37,13 +37,12 @@ queue_at_home-requires g c =
     let fit = fits_found (both c.args.self.now) c.args.caller makes.0 c.requires.ready.sound.agree makes.1 in
     let is = c.child_at_home-task.ensures.child_at_home some_beside after.tasks in
     record {
-      knows = knows_as (both after) c.child_at_home-task.result c.in-Ok.child
+      knows = knows_as (both after) c.child_at_home-task.result c.in-Ok.child (born.stays.sound c.requires.ready.sound).agree
           (ap (λ (task : Task). task.spec.pid) is) (ap (λ (task : Task). task.cookie) is) born.there
           (record {
             home = c.child_at_home-task.ensures.within;
             policy = subst (λ (task : Task). IsPolicy task.spec.policy) (sym is) (subst (λ (task : Task). IsPolicy task.spec.policy) (sym born.is) fit.policy);
           });
-      agree = (born.stays.sound c.requires.ready.sound).agree;
       clock = omega (arith, ap (λ (room : RoomState). room.clock) (born.room []), c.requires.ready.time.clock);
       stamp = omega (arith, ap (λ (room : RoomState). room.next_stamp) (born.room []), c.requires.ready.spares.stamps);
       touches = omega (arith, ap (λ (numbers : Numbers). numbers.task) born.numbers, c.requires.ready.spares.touches);

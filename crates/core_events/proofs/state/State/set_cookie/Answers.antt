@@ -23,7 +23,7 @@ use Rattle.std.proofs.lemmas.List.Elements.{All-weaker}
 
 pub get-requires-clause-few : goal.get-requires-clause-few
 get-requires-clause-few g c =
-    let sound = c.requires.sound in
+    let sound = c.requires.may.sound in
     omega (arith, sound.agree.table.few, sound.agree.few_tasks, count_of-le c.args.self.now.refs c.args.self.now.tasks.tasks c.args.cookie sound.refs c.args.cookie)
 
 pub put-requires : goal.put-requires
@@ -31,7 +31,7 @@ put-requires g c own =
     omega (
       arith,
       c.get.ensures.counts c.args.task.now.cookie,
-      own_cookie_is_live c.args.self.now.refs c.args.self.now.tasks.tasks c.args.cookie c.args.task.now.spec.pid c.args.task.now c.requires.there c.requires.sound.refs own,
+      own_cookie_is_live c.args.self.now.refs c.args.self.now.tasks.tasks c.args.cookie c.args.task.now.spec.pid c.args.task.now c.requires.there c.requires.may.sound.refs own,
     )
 
 pub returns : goal.returns
@@ -62,7 +62,7 @@ returns g c =
     record {
       room = λ intervals.
           sets_one (beside_of intervals old) c.put.new.self.limit c.put.new.self.next touches (bare old.core) core old.tasks c.set_cookie.new.table c.args.task.now c.args.cookie
-          c.requires.sound.agree.table.rising there table (c.put.ensures.limit ∙ c.get.ensures.limit) (c.put.ensures.next ∙ c.get.ensures.next) is;
+          c.requires.may.sound.agree.table.rising there table (c.put.ensures.limit ∙ c.get.ensures.limit) (c.put.ensures.next ∙ c.get.ensures.next) is;
       numbers = (λ i. with_ended old.ended.items (numbers_by (is i) (table i))) ∙ ap (λ n. touched n (state_numbers old)) (touches_alone c.args.task.now c.args.cookie touches c.touches.ensures.touches);
       stays = record {
         sound = λ sound. record {
@@ -90,13 +90,13 @@ returns g c =
     }
 
 pub set_cookie-requires-clause-agree : goal.set_cookie-requires-clause-agree
-set_cookie-requires-clause-agree g c = c.requires.sound.agree
+set_cookie-requires-clause-agree g c = c.requires.may.sound.agree
 
 pub get-requires-clause-live : goal.get-requires-clause-live
-get-requires-clause-live g c = held_cookie_is_live c.args.self.now.refs c.args.self.now.tasks.tasks c.args.cookie c.requires.sound.refs
+get-requires-clause-live g c = held_cookie_is_live c.args.self.now.refs c.args.self.now.tasks.tasks c.args.cookie c.requires.may.sound.refs
 
 pub overflow_add-self : goal.overflow_add-self
-overflow_add-self g c = omega (arith, ap (λ (b : BareCore). b.task_number) c.set_cookie.ensures.bare, c.requires.touches, c.touches.ensures.few)
+overflow_add-self g c = omega (arith, ap (λ (b : BareCore). b.task_number) c.set_cookie.ensures.bare, c.requires.may.touches, c.touches.ensures.few)
 
 pub invariant_of-self : goal.invariant_of-self
 invariant_of-self g c = record { few = c.set_cookie.new.self.few }
@@ -106,7 +106,7 @@ flag_home-requires-clause-home g c =
     let old = c.args.self.now in
     omega (
       arith,
-      (fits_found (both old) c.args.task.now.spec.pid c.args.task.now c.requires.sound.agree c.requires.there).home,
+      (fits_found (both old) c.args.task.now.spec.pid c.args.task.now c.requires.may.sound.agree c.requires.there).home,
       as_many_bare old.core c.set_cookie.new.self c.set_cookie.ensures.bare,
       ap length c.deref_mut.ensures.value,
     )
@@ -115,4 +115,4 @@ pub flag_home-requires-clause-alone : goal.flag_home-requires-clause-alone
 flag_home-requires-clause-alone g c =
     let same = ap (map lane_state) c.deref_mut.ensures.value ∙ ap (λ (core : BareCore). core.siblings) c.set_cookie.ensures.bare in
     subst (RunsAtMostAt c.args.task.now.home c.args.task.now.spec.pid) (sym same)
-    (runs_at_home (both c.args.self.now) c.args.task.now c.requires.own c.requires.there)
+    (runs_at_home (both c.args.self.now) c.args.task.now c.requires.may.own c.requires.there)

@@ -28,22 +28,21 @@ requeue-requires g c =
     let fit = fits_found (both old) c.args.pid task c.requires.ready.sound.agree (sym c.in-Some.ensures.task) in
     record {
       knows = subst (KnowsApart (both old)) (sym c.with_policy-changed.ensures)
-          (knows_as (both old) (with_policy c.args.policy task) task refl refl c.in-Some.ensures.there (record { home = fit.home; policy = c.requires.policy }));
-      agree = c.requires.ready.sound.agree;
+          (knows_as (both old) (with_policy c.args.policy task) task c.requires.ready.sound.agree refl refl c.in-Some.ensures.there (record { home = fit.home; policy = c.requires.policy }));
       clock = c.requires.ready.time.clock;
       stamp = omega (arith, c.requires.ready.spares.stamps);
       touches = omega (arith, c.requires.ready.spares.touches);
     }
 
-pub change-requires-clause-knows : goal.change-requires-clause-knows
-change-requires-clause-knows g c =
+pub change-requires : goal.change-requires
+change-requires g c =
     let old = c.args.self.now in
     let task = c.in-Some.task in
     let fit = fits_found (both old) c.args.pid task c.requires.ready.sound.agree (sym c.in-Some.ensures.task) in
     let asleep : task.queued ≡ false = c.if-task.false in
     subst (Knows (both old)) (sym c.with_policy-changed.ensures)
     (record {
-      known = knows_as (both old) (with_policy c.args.policy task) task refl refl c.in-Some.ensures.there (record { home = fit.home; policy = c.requires.policy });
+      known = knows_as (both old) (with_policy c.args.policy task) task c.requires.ready.sound.agree refl refl c.in-Some.ensures.there (record { home = fit.home; policy = c.requires.policy });
       stamp = λ queued. let bad : false ≡ true = sym asleep ∙ queued in absurd cc;
     })
 

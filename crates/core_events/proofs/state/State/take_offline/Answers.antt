@@ -12,12 +12,14 @@ pub offline-requires : goal.offline-requires
 offline-requires g c =
     let ready = c.requires.ready in
     record {
-      cpu = c.requires.cpu;
-      agree = ready.sound.agree;
-      low = low_times c.args.self.now ready.time;
+      moves = record {
+        cpu = c.requires.cpu;
+        agree = ready.sound.agree;
+        low = low_times c.args.self.now ready.time;
+        stamp = omega (arith, ready.spares.stamps);
+        touches = omega (arith, ready.spares.touches);
+      };
       paid = ready.paid;
-      stamp = omega (arith, ready.spares.stamps);
-      touches = omega (arith, ready.spares.touches);
     }
 
 pub returns : goal.returns

@@ -1,4 +1,4 @@
-use Rattle.std.proofs.Common.{◌∙◌, sym, subst}
+use Rattle.std.proofs.Common.{arith, ◌∙◌, sym, subst}
 use Rattle.cs_types.specs.declared.event.Event.TheVariants.{Tick}
 use Rattle.cs_types.specs.declared.reply.Reply.TheVariants.{Offline}
 use Rattle.cs_types.specs.Room.{running_on}
@@ -14,6 +14,11 @@ pub returns-then-not-is_online : goal.returns-then-not-is_online
 returns-then-not-is_online g c = leaves_all c.args.self.now (Tick c.args.cpu) Offline (λ intervals. untouched (state_numbers c.args.self.now)) (λ intervals.
     let room = room_with intervals c.args.self.now in
     when_offline room c.args.cpu (tick room c.args.cpu (running_on room c.args.cpu)) (sym (c.is_online.ensures (beside_of intervals c.args.self.now) c.args.self.now.tasks) ∙ c.if-not-is_online.true))
+
+pub tick-requires : goal.tick-requires
+tick-requires g c =
+    let ready = c.requires.ready in
+    record { at = record { cpu = c.requires.cpu; agree = ready.sound.agree }; paid = ready.paid; stamp = omega (arith, ready.spares.stamps) }
 
 pub returns : goal.returns
 returns g c =

@@ -18,16 +18,15 @@ use Rattle.core_events.proofs.Onlines.{untouched}
 use Rattle.core_lanes.specs.Numbers.{with_ended}
 use Rattle.core_events.proofs.state.State.wake.Goals as goal
 
-pub rehomed-task-requires-clause-home : goal.rehomed-task-requires-clause-home
-rehomed-task-requires-clause-home g c =
-    (fits_found (both c.args.self.now) c.args.pid c.in-Some.task c.requires.ready.sound.agree (sym c.in-Some.ensures.task)).home
-
-pub rehomed-task-requires-clause-vtime : goal.rehomed-task-requires-clause-vtime
-rehomed-task-requires-clause-vtime g c =
-    found_in (λ (t : Task). t.vtime < 2 ^ 100) c.args.pid c.args.self.now.tasks.tasks c.in-Some.task (low_times c.args.self.now c.requires.ready.time).vtimes (sym c.in-Some.ensures.task)
-
-pub rehomed-task-requires-clause-leasts : goal.rehomed-task-requires-clause-leasts
-rehomed-task-requires-clause-leasts g c = (low_times c.args.self.now c.requires.ready.time).leasts
+pub rehomed-task-requires : goal.rehomed-task-requires
+rehomed-task-requires g c =
+    let low = low_times c.args.self.now c.requires.ready.time in
+    let found = sym c.in-Some.ensures.task in
+    record {
+      home = (fits_found (both c.args.self.now) c.args.pid c.in-Some.task c.requires.ready.sound.agree found).home;
+      vtime = found_in (λ (t : Task). t.vtime < 2 ^ 100) c.args.pid c.args.self.now.tasks.tasks c.in-Some.task low.vtimes found;
+      leasts = low.leasts;
+    }
 
 -- a task at another home has its pid, its policy and its cookie still
 kept : (room : RoomState) (task : Task) → ((rehomed room task).spec ≡ task.spec) × ((rehomed room task).cookie ≡ task.cookie)
@@ -44,9 +43,8 @@ queue_at_home-requires g c =
     let spec = ap (λ (t : Task). t.spec) is ∙ same.0 in
     let fit = fits_found (both state) c.args.pid task c.requires.ready.sound.agree (sym c.in-Some.ensures.task) in
     record {
-      knows = knows_as (both state) c.rehomed-task.result task (ap (λ (s : TaskSpec). s.pid) spec) (ap (λ (t : Task). t.cookie) is ∙ same.1) c.in-Some.ensures.there
+      knows = knows_as (both state) c.rehomed-task.result task c.requires.ready.sound.agree (ap (λ (s : TaskSpec). s.pid) spec) (ap (λ (t : Task). t.cookie) is ∙ same.1) c.in-Some.ensures.there
           (record { home = c.rehomed-task.ensures.within; policy = subst (λ (s : TaskSpec). IsPolicy s.policy) (sym spec) fit.policy });
-      agree = c.requires.ready.sound.agree;
       clock = c.requires.ready.time.clock;
       stamp = omega (arith, c.requires.ready.spares.stamps);
       touches = omega (arith, c.requires.ready.spares.touches);

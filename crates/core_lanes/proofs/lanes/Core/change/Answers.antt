@@ -8,7 +8,7 @@ use Rattle.core_lanes.proofs.lanes.Core.change.Goals as goal
 
 pub returns : goal.returns
 returns g c =
-    let known = c.requires.knows.known in
+    let known = c.requires.known in
     let same = c.replace.ensures.bare in
     record {
       room = λ beside i. room_by beside (same i) (c.replace.ensures.table i);
@@ -24,6 +24,6 @@ returns g c =
               siblings = length c.args.self.now.lanes.items;
               limit = c.args.table.now.limit;
               identities = identities;
-            } in kept) (identities-replaced c.args.task known.apart.old c.args.table.now.tasks c.requires.agree.table.rising known.apart.there known.cookie);
+            } in kept) (identities-replaced c.args.task known.apart.old c.args.table.now.tasks known.apart.agree.table.rising known.apart.there known.cookie);
       };
     }

@@ -3,12 +3,12 @@ use Rattle.core_lanes.specs.Numbers.{touched}
 use Rattle.core_lanes.proofs.Stays.{both_stay}
 use Rattle.core_lanes.proofs.lanes.Core.dequeue.Goals as goal
 
-pub change-requires-clause-knows : goal.change-requires-clause-knows
-change-requires-clause-knows g c =
+pub change-requires : goal.change-requires
+change-requires g c =
     let known = c.requires.knows in
     record {
       known = record {
-        apart = record { old = known.apart.old; there = known.apart.there; fits = record { home = known.apart.fits.home; policy = known.apart.fits.policy } };
+        apart = record { agree = known.apart.agree; old = known.apart.old; there = known.apart.there; fits = record { home = known.apart.fits.home; policy = known.apart.fits.policy } };
         cookie = known.cookie;
       };
       stamp = λ queued. absurd cc;

@@ -12,42 +12,38 @@ use Rattle.core_lanes.proofs.lanes.Core.empty_queue.Goals as goal
 -- ---- the call
 
 pub tell_queued-requires : goal.tell_queued-requires
-tell_queued-requires g c = record { agree = record { cpu = c.requires.cpu; agree = c.requires.agree }; none = c.requires.none }
+tell_queued-requires g c = record { agree = c.requires.agree; none = c.requires.none }
 
 pub clear-requires : goal.clear-requires
 clear-requires g c =
     let leaving = c.args.leaving in
     let lane = c.index_mut.result.now in
-    c.requires.agree.held leaving lane.queue (queue_at c.args.self.now.lanes.items leaving lane c.requires.cpu c.index_mut.ensures.value)
+    c.requires.agree.agree.held leaving lane.queue (queue_at c.args.self.now.lanes.items leaving lane c.requires.agree.cpu c.index_mut.ensures.value)
 
 -- ---- the siblings
-
-pub returns-clause-bare : goal.returns-clause-bare
-returns-clause-bare g c =
-    let lanes = c.args.self.now.lanes.items in
-    let lane = c.index_mut.result.now in
-    let after = record lane { queue = c.clear.new.self } in
-    rw (map-set_same lane_state lanes c.args.leaving after lane (ap lane_state c.index_mut.ensures.value), map-set_same number_of lanes c.args.leaving after lane (ap number_of c.index_mut.ensures.value)) refl
 
 pub returns-clause-away : goal.returns-clause-away
 returns-clause-away g c =
     let table = c.args.table.now in
-    let agree = c.requires.agree in
+    let agree = c.requires.agree.agree in
     let leaving = c.args.leaving in
     let lanes = c.args.self.now.lanes.items in
     let lane = c.index_mut.result.now in
     let after = record lane { queue = c.clear.new.self } in
     record {
-      table = agree.table;
-      few_tasks = agree.few_tasks;
-      tasks = subst (λ n. All (IsFit n) table.tasks) (sym (length-set lanes leaving after)) agree.tasks;
-      stamped = agree.stamped;
-      held = rw (map-set queue_of lanes leaving after)
-          (held-set (λ cpu x. g.Q.SiblingQueue.holds x table.limit (queued_at table.tasks cpu))
-          (λ cpu x. g.Q.SiblingQueue.holds x table.limit (cond (cpu == leaving) [] (queued_at table.tasks cpu))) (queues_of c.args.self.now) leaving c.clear.new.self
-          (λ cpu x other held.
-          subst (λ qs. g.Q.SiblingQueue.holds x table.limit qs) (sym (cond-false (cpu == leaving) [] (queued_at table.tasks cpu) (ne_eqb cpu leaving other))) held)
-          agree.held
-          (subst (λ qs. g.Q.SiblingQueue.holds c.clear.new.self table.limit qs) (sym (cond-true (leaving == leaving) [] (queued_at table.tasks leaving) (eq-eqb leaving leaving refl)))
-          c.clear.ensures));
+      bare = rw (map-set_same lane_state lanes c.args.leaving after lane (ap lane_state c.index_mut.ensures.value), map-set_same number_of lanes c.args.leaving after lane (ap number_of c.index_mut.ensures.value)) refl;
+      held = record {
+        table = agree.table;
+        few_tasks = agree.few_tasks;
+        tasks = subst (λ n. All (IsFit n) table.tasks) (sym (length-set lanes leaving after)) agree.tasks;
+        stamped = agree.stamped;
+        held = rw (map-set queue_of lanes leaving after)
+            (held-set (λ cpu x. g.Q.SiblingQueue.holds x table.limit (queued_at table.tasks cpu))
+            (λ cpu x. g.Q.SiblingQueue.holds x table.limit (cond (cpu == leaving) [] (queued_at table.tasks cpu))) (queues_of c.args.self.now) leaving c.clear.new.self
+            (λ cpu x other held.
+            subst (λ qs. g.Q.SiblingQueue.holds x table.limit qs) (sym (cond-false (cpu == leaving) [] (queued_at table.tasks cpu) (ne_eqb cpu leaving other))) held)
+            agree.held
+            (subst (λ qs. g.Q.SiblingQueue.holds c.clear.new.self table.limit qs) (sym (cond-true (leaving == leaving) [] (queued_at table.tasks leaving) (eq-eqb leaving leaving refl)))
+            c.clear.ensures));
+      };
     }

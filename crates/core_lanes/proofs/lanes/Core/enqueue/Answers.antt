@@ -3,22 +3,18 @@ use Rattle.core_lanes.specs.Numbers.{touched}
 use Rattle.core_lanes.proofs.Stays.{both_stay, stamp_next, stamped_later}
 use Rattle.core_lanes.proofs.lanes.Core.enqueue.Goals as goal
 
-pub change-requires-clause-knows : goal.change-requires-clause-knows
-change-requires-clause-knows g c =
+pub change-requires : goal.change-requires
+change-requires g c =
     let known = c.requires.knows in
-    record {
-      known = record {
-        apart = record { old = known.apart.old; there = known.apart.there; fits = record { home = known.apart.fits.home; policy = known.apart.fits.policy } };
-        cookie = known.cookie;
-      };
-      stamp = λ queued. stamp_next c.args.self.now.next_stamp c.args.table.now.tasks _ refl c.requires.agree.stamped;
-    }
-
-pub change-requires-clause-agree : goal.change-requires-clause-agree
-change-requires-clause-agree g c =
     let next = c.args.self.now.next_stamp in
     let later : next ≤ next + 1 = omega arith in
-    (stamped_later c.args.self.now _ c.args.table.now refl later).agree c.requires.agree
+    record {
+      known = record {
+        apart = record { agree = (stamped_later c.args.self.now _ c.args.table.now refl later).agree known.apart.agree; old = known.apart.old; there = known.apart.there; fits = record { home = known.apart.fits.home; policy = known.apart.fits.policy } };
+        cookie = known.cookie;
+      };
+      stamp = λ queued. stamp_next c.args.self.now.next_stamp c.args.table.now.tasks _ refl known.apart.agree.stamped;
+    }
 
 pub returns : goal.returns
 returns g c =

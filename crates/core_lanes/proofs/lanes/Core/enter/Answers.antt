@@ -14,7 +14,8 @@ use Rattle.core_lanes.specs.Queued.{queued_at, others, IsOf, HasOwnStamp, AreSta
 use Rattle.core_lanes.specs.declared.lane.Lane.{Lane}
 use Rattle.core_lanes.specs.declared.queue.SiblingQueue.{Ghosts}
 use Rattle.core_lanes.specs.declared.lanes.Core.{Core}
-use Rattle.core_lanes.specs.Lanes.{BareCore, bare, room_of, queues_of, AreHeldAwayBut, AgreeAway, IsFit, MayEnter}
+use Rattle.core_lanes.specs.Numbers.{numbers_by}
+use Rattle.core_lanes.specs.Lanes.{BareCore, bare, room_by, room_of, queues_of, AreHeldAwayBut, AgreeAway, IsFit, MayEnter}
 use Rattle.core_lanes.specs.Changes.{Kept, kept_of}
 use Rattle.core_lanes.proofs.Queues.{others-replaced, absent_from, off_elsewhere}
 use Rattle.core_lanes.proofs.Replaced.{is_of, own_stamp}
@@ -149,47 +150,49 @@ place-requires g c =
 
 pub unwrap-entered-requires : goal.unwrap-entered-requires
 unwrap-entered-requires g c =
-    let is = c.place.ensures.room c.requires.task c.requires.there some_beside in
-    let placed = is_placed c.args.self.now c.args.table.now c.args.pid c.args.from c.args.to c.requires c.place.new.self c.place.new.table is c.place.ensures.kept c.place.ensures.lanes in
+    let is = c.place.ensures.placed.room c.requires.task c.requires.there some_beside in
+    let placed = is_placed c.args.self.now c.args.table.now c.args.pid c.args.from c.args.to c.requires c.place.new.self c.place.new.table is c.place.ensures.placed.kept c.place.ensures.lanes in
     is_there c.find.result _ (c.find.ensures.task ∙ placed.found)
 
 -- ---- it enters the queue
 
-pub put_away-requires-clause-home : goal.put_away-requires-clause-home
-put_away-requires-clause-home g c =
+pub put_away-requires-clause-cpu : goal.put_away-requires-clause-cpu
+put_away-requires-clause-cpu g c =
     let one = found_placed c.args.self.now c.args.table.now c.args.pid c.args.from c.args.to c.requires c.place.new.self c.place.new.table
-    (c.place.ensures.room c.requires.task c.requires.there some_beside) c.place.ensures.kept c.place.ensures.lanes c.find.result c.unwrap-entered.result c.find.ensures.task c.unwrap-entered.ensures in
-    record { table = c.place.ensures.apart.table; there = one.there; home = one.home }
+    (c.place.ensures.placed.room c.requires.task c.requires.there some_beside) c.place.ensures.placed.kept c.place.ensures.lanes c.find.result c.unwrap-entered.result c.find.ensures.task c.unwrap-entered.ensures in
+    one.home
 
-pub put_away-requires-clause-queued : goal.put_away-requires-clause-queued
-put_away-requires-clause-queued g c =
+pub put_away-requires-clause-may : goal.put_away-requires-clause-may
+put_away-requires-clause-may g c queue at =
     let one = found_placed c.args.self.now c.args.table.now c.args.pid c.args.from c.args.to c.requires c.place.new.self c.place.new.table
-    (c.place.ensures.room c.requires.task c.requires.there some_beside) c.place.ensures.kept c.place.ensures.lanes c.find.result c.unwrap-entered.result c.find.ensures.task c.unwrap-entered.ensures in
-    one.queued
-
-pub put_away-requires-clause-stamp : goal.put_away-requires-clause-stamp
-put_away-requires-clause-stamp g c =
-    let one = found_placed c.args.self.now c.args.table.now c.args.pid c.args.from c.args.to c.requires c.place.new.self c.place.new.table
-    (c.place.ensures.room c.requires.task c.requires.there some_beside) c.place.ensures.kept c.place.ensures.lanes c.find.result c.unwrap-entered.result c.find.ensures.task c.unwrap-entered.ensures in
-    one.own
-
-pub put_away-requires-clause-held : goal.put_away-requires-clause-held
-put_away-requires-clause-held g c =
-    let one = found_placed c.args.self.now c.args.table.now c.args.pid c.args.from c.args.to c.requires c.place.new.self c.place.new.table
-    (c.place.ensures.room c.requires.task c.requires.there some_beside) c.place.ensures.kept c.place.ensures.lanes c.find.result c.unwrap-entered.result c.find.ensures.task c.unwrap-entered.ensures in
-    one.here_but
-
-pub returns-clause-away : goal.returns-clause-away
-returns-clause-away g c =
-    let one = found_placed c.args.self.now c.args.table.now c.args.pid c.args.from c.args.to c.requires c.place.new.self c.place.new.table
-    (c.place.ensures.room c.requires.task c.requires.there some_beside) c.place.ensures.kept c.place.ensures.lanes c.find.result c.unwrap-entered.result c.find.ensures.task c.unwrap-entered.ensures in
-    let apart = c.place.ensures.apart in
-    let same : bare c.put_away.new.self ≡ bare c.place.new.self = c.put_away.ensures.bare in
-    let many = as_many_bare c.place.new.self c.put_away.new.self same in
+    (c.place.ensures.placed.room c.requires.task c.requires.there some_beside) c.place.ensures.placed.kept c.place.ensures.lanes c.find.result c.unwrap-entered.result c.find.ensures.task c.unwrap-entered.ensures in
     record {
-      table = apart.table;
-      few_tasks = apart.few_tasks;
-      tasks = subst (λ n. All (IsFit n) c.place.new.table.tasks) (sym many) apart.tasks;
-      stamped = subst (λ (core : BareCore). AreStamped core.next_stamp c.place.new.table.tasks) (sym same) apart.stamped;
-      held = c.put_away.ensures.held c.args.from one.elsewhere one.away_but;
+      table = c.place.ensures.placed.agree.table;
+      there = one.there;
+      queued = one.queued;
+      home = refl;
+      stamp = one.own;
+      holds = one.here_but queue at;
+    }
+
+pub returns : goal.returns
+returns g c =
+    let one = found_placed c.args.self.now c.args.table.now c.args.pid c.args.from c.args.to c.requires c.place.new.self c.place.new.table
+    (c.place.ensures.placed.room c.requires.task c.requires.there some_beside) c.place.ensures.placed.kept c.place.ensures.lanes c.find.result c.unwrap-entered.result c.find.ensures.task c.unwrap-entered.ensures in
+    let placed = c.place.ensures.placed in
+    let apart = placed.agree in
+    let then = c.place.new.self in
+    let same : bare c.put_away.new.self ≡ bare then = c.put_away.ensures.bare in
+    let many = as_many_bare then c.put_away.new.self same in
+    record {
+      room = λ task found beside. (λ i. room_by beside (same i) c.place.new.table) ∙ placed.room task found beside;
+      numbers = (λ i. numbers_by (same i) c.place.new.table) ∙ placed.numbers;
+      kept = (λ i. let kept : Kept = record (kept_of (then, c.place.new.table)) { siblings = many i } in kept) ∙ placed.kept;
+      agree = record {
+        table = apart.table;
+        few_tasks = apart.few_tasks;
+        tasks = subst (λ n. All (IsFit n) c.place.new.table.tasks) (sym many) apart.tasks;
+        stamped = subst (λ (core : BareCore). AreStamped core.next_stamp c.place.new.table.tasks) (sym same) apart.stamped;
+        held = c.put_away.ensures.held c.args.from one.elsewhere one.away_but;
+      };
     }

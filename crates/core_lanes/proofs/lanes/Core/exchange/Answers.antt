@@ -29,11 +29,12 @@ renew-requires g c =
     let lane = c.index_mut.result.now in
     c.requires.full lane.queue
     (ap (λ ls. slice_get (map queue_of ls) c.args.from) (sym was)
-    ∙ sym swap.other ∙ ap (λ ls. slice_get (map queue_of ls) c.args.to) (sym is)
+    ∙ sym swap.second ∙ ap (λ ls. slice_get (map queue_of ls) c.args.to) (sym is)
     ∙ queue_at lanes c.args.to lane (omega (arith, many, c.requires.other)) c.index_mut.ensures.value)
 
-pub returns-clause-bare : goal.returns-clause-bare
-returns-clause-bare g c =
+pub returns : goal.returns
+returns g c =
+    let table = c.args.table.now in
     let swap = c.swap_queues.ensures in
     let was = c.deref_mut.ensures.value in
     let is = written c.args.self.now.lanes c.deref_mut.result.now c.swap_queues.new.lanes was swap.states in
@@ -44,40 +45,32 @@ returns-clause-bare g c =
     ∙ ap (map lane_state) is ∙ swap.states ∙ ap (map lane_state) was in
     let numbers = map-set_same number_of lanes c.args.to after lane (ap number_of c.index_mut.ensures.value)
     ∙ ap (map number_of) is ∙ swap.numbers ∙ ap (map number_of) was in
-    λ i. record {
-      cookie = c.args.self.now.cookie;
-      task_number = c.args.self.now.task_number;
-      pick_number = c.args.self.now.pick_number;
-      next_stamp = c.args.self.now.next_stamp;
-      account = c.args.self.now.account;
-      siblings = states i;
-      own = numbers i;
+    record {
+      bare = λ i. record {
+        cookie = c.args.self.now.cookie;
+        task_number = c.args.self.now.task_number;
+        pick_number = c.args.self.now.pick_number;
+        next_stamp = c.args.self.now.next_stamp;
+        account = c.args.self.now.account;
+        siblings = states i;
+        own = numbers i;
+      };
+      held = rw (map-set queue_of lanes c.args.to after)
+          (held-set (λ cpu x. cpu ≢ c.args.to → g.Q.SiblingQueue.holds x table.limit (queued_at table.tasks cpu))
+          (λ cpu x. g.Q.SiblingQueue.holds x table.limit (queued_at table.tasks cpu)) (map queue_of lanes) c.args.to c.renew.new.self
+          (λ cpu x other held. held other)
+          (λ cpu x at other. elim (cases_Bool (cpu == c.args.from)) [
+            | inl here ↦
+                let home = eqb-true cpu c.args.from here in
+                subst (λ n. g.Q.SiblingQueue.holds x table.limit (queued_at table.tasks n)) (sym home)
+                (c.requires.empty x
+                (ap (λ ls. slice_get (map queue_of ls) c.args.to) (sym was)
+                ∙ sym swap.first ∙ ap (λ ls. slice_get (map queue_of ls) c.args.from) (sym is) ∙ ap (slice_get (map queue_of lanes)) (sym home) ∙ at))
+            | inr apart ↦
+                let not_from = eqb-false cpu c.args.from apart in
+                c.requires.rest cpu x not_from other
+                (ap (λ ls. slice_get (map queue_of ls) cpu) (sym was)
+                ∙ sym (swap.rest cpu not_from other) ∙ ap (λ ls. slice_get (map queue_of ls) cpu) (sym is) ∙ at)
+          ])
+          c.renew.ensures.holds);
     }
-
-pub returns-clause-held : goal.returns-clause-held
-returns-clause-held g c =
-    let table = c.args.table.now in
-    let swap = c.swap_queues.ensures in
-    let was = c.deref_mut.ensures.value in
-    let is = written c.args.self.now.lanes c.deref_mut.result.now c.swap_queues.new.lanes was swap.states in
-    let lanes = (with_items c.args.self.now.lanes c.swap_queues.new.lanes).items in
-    let lane = c.index_mut.result.now in
-    let after = record lane { queue = c.renew.new.self } in
-    rw (map-set queue_of lanes c.args.to after)
-    (held-set (λ cpu x. cpu ≢ c.args.to → g.Q.SiblingQueue.holds x table.limit (queued_at table.tasks cpu))
-    (λ cpu x. g.Q.SiblingQueue.holds x table.limit (queued_at table.tasks cpu)) (map queue_of lanes) c.args.to c.renew.new.self
-    (λ cpu x other held. held other)
-    (λ cpu x at other. elim (cases_Bool (cpu == c.args.from)) [
-      | inl here ↦
-          let home = eqb-true cpu c.args.from here in
-          subst (λ n. g.Q.SiblingQueue.holds x table.limit (queued_at table.tasks n)) (sym home)
-          (c.requires.empty x
-          (ap (λ ls. slice_get (map queue_of ls) c.args.to) (sym was)
-          ∙ sym swap.one ∙ ap (λ ls. slice_get (map queue_of ls) c.args.from) (sym is) ∙ ap (slice_get (map queue_of lanes)) (sym home) ∙ at))
-      | inr apart ↦
-          let not_from = eqb-false cpu c.args.from apart in
-          c.requires.rest cpu x not_from other
-          (ap (λ ls. slice_get (map queue_of ls) cpu) (sym was)
-          ∙ sym (swap.rest cpu not_from other) ∙ ap (λ ls. slice_get (map queue_of ls) cpu) (sym is) ∙ at)
-    ])
-    c.renew.ensures.holds)

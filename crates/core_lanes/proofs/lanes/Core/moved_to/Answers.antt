@@ -11,5 +11,5 @@ overflow_add-result g c =
     let lane = c.index-2.result.now in
     let low : lane.least < 2 ^ 100 =
     subst (λ (sibling : SiblingState). sibling.least < 2 ^ 100) (lane_at lanes c.args.cpu lane c.requires.cpu c.index-2.ensures)
-    (c.requires.leasts c.args.cpu absent (omega (arith, length-map lanes lane_state, c.requires.cpu))) in
-    omega (arith, low, c.requires.vtime, c.saturating_sub-ahead.ensures)
+    (c.requires.can.leasts c.args.cpu absent (omega (arith, length-map lanes lane_state, c.requires.cpu))) in
+    omega (arith, low, c.requires.can.vtime, c.saturating_sub-ahead.ensures)

@@ -15,6 +15,7 @@ use Rattle.core_lanes.specs.declared.queue.SiblingQueue.{Ghosts}
 use Rattle.core_lanes.specs.declared.lanes.Core.{Core}
 use Rattle.core_lanes.specs.Exchanges.{MayPlace}
 use Rattle.core_lanes.specs.Lanes.{lane_state, bare, room_by, room_of, IsFit, MayStamp}
+use Rattle.core_lanes.specs.Numbers.{numbers_by}
 use Rattle.core_lanes.specs.Changes.{Kept, identity_of}
 use Rattle.core_lanes.proofs.Replaced.{stamped-replaced, All-replaced, identities-replaced}
 use Rattle.core_lanes.proofs.Stays.{some_beside, found_in, stamped-later, stamp_next, lane_at}
@@ -80,33 +81,8 @@ placed g c =
     let least = ap (λ (sibling : SiblingState). sibling.least) (sym (lane_at lanes c.args.to c.index-2.result.now may.other c.index-2.ensures)) in
     after core c.args.table.now c.args.pid c.args.from c.args.to may c.index.result.now.least c.index-2.result.now.least behind least c.move_to.new.self c.move_to.ensures.moved
 
-pub returns-clause-room : goal.returns-clause-room
-returns-clause-room g c task found beside =
-    let core = c.args.self.now in
-    let before = c.args.table.now in
-    let may = c.requires in
-    let one : Some may.task ≡ Some task = sym may.there ∙ found in
-    let is : may.task ≡ task = cc in
-    let went = done core before c.args.pid c.args.from c.args.to may in
-    (λ i. room_by beside (bare (counted core)) (placed g c i))
-    ∙ ap (λ b. let queued : Task = record went { queued = b } in room_by beside (bare (counted core)) (with before queued)) may.queued
-    ∙ ap (moved (room_of beside (core, before)) c.args.to) is
-
-pub returns-clause-kept : goal.returns-clause-kept
-returns-clause-kept g c =
-    let core = c.args.self.now in
-    let before = c.args.table.now in
-    let may = c.requires in
-    let went = done core before c.args.pid c.args.from c.args.to may in
-    (λ i. record { siblings = length core.lanes.items; limit = (placed g c i).limit; identities = map identity_of (placed g c i).tasks })
-    ∙ ap (λ (identities : List (ℕ × ℕ)). let kept : Kept = record {
-      siblings = length core.lanes.items;
-      limit = before.limit;
-      identities = identities;
-    } in kept) (identities-replaced went may.task before.tasks may.agree.table.rising (there core before c.args.pid c.args.from c.args.to may) refl)
-
-pub returns-clause-apart : goal.returns-clause-apart
-returns-clause-apart g c =
+pub returns-clause-placed : goal.returns-clause-placed
+returns-clause-placed g c =
     let core = c.args.self.now in
     let before = c.args.table.now in
     let may = c.requires in
@@ -116,12 +92,27 @@ returns-clause-apart g c =
     let fit : IsFit (length core.lanes.items) went = record { home = may.other; policy = fits.policy } in
     let changed = placed g c in
     record {
-      table = c.move_to.ensures.sound;
-      few_tasks = subst (λ (t : Table). t.limit ≤ 256) (sym changed) may.agree.few_tasks;
-      tasks = subst (λ (t : Table). All (IsFit (length core.lanes.items)) t.tasks) (sym changed)
-          (All-replaced (IsFit (length core.lanes.items)) went before.tasks fit may.agree.tasks);
-      stamped = subst (λ (t : Table). AreStamped (core.next_stamp + 1) t.tasks) (sym changed)
-          (stamped-replaced went may.task before.tasks found (core.next_stamp + 1) (λ queued. may_stamp core before c.args.pid c.args.from c.args.to may)
-          (stamped-later (omega arith) may.agree.stamped));
-      held = tt;
+      room = λ task told beside.
+          let one : Some may.task ≡ Some task = sym may.there ∙ told in
+          let is : may.task ≡ task = cc in
+          (λ i. room_by beside (bare (counted core)) (changed i))
+          ∙ ap (λ b. let queued : Task = record went { queued = b } in room_by beside (bare (counted core)) (with before queued)) may.queued
+          ∙ ap (moved (room_of beside (core, before)) c.args.to) is;
+      numbers = λ i. numbers_by (bare (counted core)) (changed i);
+      kept = (λ i. record { siblings = length core.lanes.items; limit = (changed i).limit; identities = map identity_of (changed i).tasks })
+          ∙ ap (λ (identities : List (ℕ × ℕ)). let kept : Kept = record {
+            siblings = length core.lanes.items;
+            limit = before.limit;
+            identities = identities;
+          } in kept) (identities-replaced went may.task before.tasks may.agree.table.rising found refl);
+      agree = record {
+        table = c.move_to.ensures.sound;
+        few_tasks = subst (λ (t : Table). t.limit ≤ 256) (sym changed) may.agree.few_tasks;
+        tasks = subst (λ (t : Table). All (IsFit (length core.lanes.items)) t.tasks) (sym changed)
+            (All-replaced (IsFit (length core.lanes.items)) went before.tasks fit may.agree.tasks);
+        stamped = subst (λ (t : Table). AreStamped (core.next_stamp + 1) t.tasks) (sym changed)
+            (stamped-replaced went may.task before.tasks found (core.next_stamp + 1) (λ queued. may_stamp core before c.args.pid c.args.from c.args.to may)
+            (stamped-later (omega arith) may.agree.stamped));
+        held = tt;
+      };
     }

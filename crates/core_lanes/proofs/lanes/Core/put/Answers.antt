@@ -17,34 +17,34 @@ put-requires g c =
       queued = c.if-task.true;
       home = refl;
       stamp = c.requires.stamp c.if-task.true;
-      holds = c.requires.held home lane.queue (queue_at c.args.self.now.lanes.items home lane c.requires.home.home c.index_mut.ensures.value);
+      holds = c.requires.home.held home lane.queue (queue_at c.args.self.now.lanes.items home lane c.requires.home.home c.index_mut.ensures.value);
     }
 
-pub returns-then-task-clause-bare : goal.returns-then-task-clause-bare
-returns-then-task-clause-bare g c =
-    let lanes = c.args.self.now.lanes.items in
-    let lane = c.index_mut.result.now in
-    let after = record lane { queue = c.put.new.self } in
-    rw (map-set_same lane_state lanes c.args.task.now.home after lane (ap lane_state c.index_mut.ensures.value), map-set_same number_of lanes c.args.task.now.home after lane (ap number_of c.index_mut.ensures.value)) refl
-
-pub returns-then-task-clause-held : goal.returns-then-task-clause-held
-returns-then-task-clause-held g c =
+pub returns-then-task : goal.returns-then-task
+returns-then-task g c =
     let task = c.args.task.now in
     let tasks = c.args.table.now.tasks in
     let limit = c.args.table.now.limit in
     let pid = task.spec.pid in
     let lane = c.index_mut.result.now in
     let after = record lane { queue = c.put.new.self } in
-    rw (map-set queue_of c.args.self.now.lanes.items task.home after)
-    (held-set (λ cpu x. g.Q.SiblingQueue.holds x limit (others pid (queued_at tasks cpu))) (λ cpu x. g.Q.SiblingQueue.holds x limit (queued_at tasks cpu)) (queues_of c.args.self.now) task.home c.put.new.self
-    (λ cpu x other held. let off = λ (n : ℕ). off_elsewhere task cpu other in subst (λ qs. g.Q.SiblingQueue.holds x limit qs) (others-absent tasks task cpu c.requires.home.table.rising c.requires.home.there (off cpu)) held)
-    c.requires.held c.put.ensures.holds)
+    let lanes = c.args.self.now.lanes.items in
+    record {
+      bare = rw (map-set_same lane_state lanes c.args.task.now.home after lane (ap lane_state c.index_mut.ensures.value), map-set_same number_of lanes c.args.task.now.home after lane (ap number_of c.index_mut.ensures.value)) refl;
+      held = rw (map-set queue_of c.args.self.now.lanes.items task.home after)
+          (held-set (λ cpu x. g.Q.SiblingQueue.holds x limit (others pid (queued_at tasks cpu))) (λ cpu x. g.Q.SiblingQueue.holds x limit (queued_at tasks cpu)) (queues_of c.args.self.now) task.home c.put.new.self
+          (λ cpu x other held. let off = λ (n : ℕ). off_elsewhere task cpu other in subst (λ qs. g.Q.SiblingQueue.holds x limit qs) (others-absent tasks task cpu c.requires.home.table.rising c.requires.home.there (off cpu)) held)
+          c.requires.home.held c.put.ensures.holds);
+    }
 
-pub returns-else-task-clause-held : goal.returns-else-task-clause-held
-returns-else-task-clause-held g c cpu x at =
+pub returns-else-task : goal.returns-else-task
+returns-else-task g c =
     let task = c.args.task.now in
     let tasks = c.args.table.now.tasks in
     let limit = c.args.table.now.limit in
-    let off = λ (n : ℕ). off_asleep task cpu c.if-task.false in
-    let held = c.requires.held cpu x at in
-    subst (λ qs. g.Q.SiblingQueue.holds x limit qs) (others-absent tasks task cpu c.requires.home.table.rising c.requires.home.there (off cpu)) held
+    record {
+      bare = refl;
+      held = λ cpu x at.
+          let off = off_asleep task cpu c.if-task.false in
+          subst (λ qs. g.Q.SiblingQueue.holds x limit qs) (others-absent tasks task cpu c.requires.home.table.rising c.requires.home.there off) (c.requires.home.held cpu x at);
+    }

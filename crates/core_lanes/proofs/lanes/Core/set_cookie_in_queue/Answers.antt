@@ -14,41 +14,41 @@ set_cookie-requires g c =
     let home = c.args.task.now.home in
     let lane = c.index_mut.result.now in
     record {
-      table = c.requires.home.table;
-      there = c.requires.home.there;
+      table = c.requires.table;
+      there = c.requires.there;
       queued = c.if-task.true;
       home = refl;
-      holds = c.requires.held home lane.queue (queue_at c.args.self.now.lanes.items home lane c.requires.home.home c.index_mut.ensures.value);
+      holds = c.requires.held home lane.queue (queue_at c.args.self.now.lanes.items home lane c.requires.home c.index_mut.ensures.value);
     }
 
-pub returns-then-task-clause-bare : goal.returns-then-task-clause-bare
-returns-then-task-clause-bare g c =
+pub returns-then-task : goal.returns-then-task
+returns-then-task g c =
+    let task = c.args.task.now in
+    let now : Task = record task { cookie = c.args.cookie } in
+    let tasks = c.args.table.now.tasks in
+    let limit = c.args.table.now.limit in
+    let lane = c.index_mut.result.now in
+    let after = record lane { queue = c.set_cookie.new.self } in
     let lanes = c.args.self.now.lanes.items in
-    let lane = c.index_mut.result.now in
-    let after = record lane { queue = c.set_cookie.new.self } in
-    rw (map-set_same lane_state lanes c.args.task.now.home after lane (ap lane_state c.index_mut.ensures.value), map-set_same number_of lanes c.args.task.now.home after lane (ap number_of c.index_mut.ensures.value)) refl
+    record {
+      bare = rw (map-set_same lane_state lanes c.args.task.now.home after lane (ap lane_state c.index_mut.ensures.value), map-set_same number_of lanes c.args.task.now.home after lane (ap number_of c.index_mut.ensures.value)) refl;
+      held = rw (map-set queue_of c.args.self.now.lanes.items task.home after)
+          (held-set (λ cpu x. g.Q.SiblingQueue.holds x limit (queued_at tasks cpu)) (λ cpu x. g.Q.SiblingQueue.holds x limit (queued_at (given_cookie task c.args.cookie tasks) cpu)) (queues_of c.args.self.now) task.home c.set_cookie.new.self
+          (λ cpu x other held.
+          let off = off_elsewhere task cpu other in
+          subst (λ qs. g.Q.SiblingQueue.holds x limit qs) (sym (queued_at-replaced now task tasks cpu c.requires.table.rising c.requires.there off off)) held)
+          c.requires.held c.set_cookie.ensures.holds);
+    }
 
-pub returns-then-task-clause-held : goal.returns-then-task-clause-held
-returns-then-task-clause-held g c =
+pub returns-else-task : goal.returns-else-task
+returns-else-task g c =
     let task = c.args.task.now in
     let now : Task = record task { cookie = c.args.cookie } in
     let tasks = c.args.table.now.tasks in
     let limit = c.args.table.now.limit in
-    let lane = c.index_mut.result.now in
-    let after = record lane { queue = c.set_cookie.new.self } in
-    rw (map-set queue_of c.args.self.now.lanes.items task.home after)
-    (held-set (λ cpu x. g.Q.SiblingQueue.holds x limit (queued_at tasks cpu)) (λ cpu x. g.Q.SiblingQueue.holds x limit (queued_at (given_cookie task c.args.cookie tasks) cpu)) (queues_of c.args.self.now) task.home c.set_cookie.new.self
-    (λ cpu x other held.
-    let off = off_elsewhere task cpu other in
-    subst (λ qs. g.Q.SiblingQueue.holds x limit qs) (sym (queued_at-replaced now task tasks cpu c.requires.home.table.rising c.requires.home.there off off)) held)
-    c.requires.held c.set_cookie.ensures.holds)
-
-pub returns-else-task-clause-held : goal.returns-else-task-clause-held
-returns-else-task-clause-held g c cpu x at =
-    let task = c.args.task.now in
-    let now : Task = record task { cookie = c.args.cookie } in
-    let tasks = c.args.table.now.tasks in
-    let limit = c.args.table.now.limit in
-    let off = off_asleep task cpu c.if-task.false in
-    let held = c.requires.held cpu x at in
-    subst (λ qs. g.Q.SiblingQueue.holds x limit qs) (sym (queued_at-replaced now task tasks cpu c.requires.home.table.rising c.requires.home.there off off)) held
+    record {
+      bare = refl;
+      held = λ cpu x at.
+          let off = off_asleep task cpu c.if-task.false in
+          subst (λ qs. g.Q.SiblingQueue.holds x limit qs) (sym (queued_at-replaced now task tasks cpu c.requires.table.rising c.requires.there off off)) (c.requires.held cpu x at);
+    }

@@ -20,6 +20,7 @@ set_vtime_in_queue-requires-clause-home g c =
       table = c.find.ensures.sound;
       there = found_again pid tasks was found;
       home = (found_in (IsFit (length c.args.self.now.lanes.items)) pid tasks was c.requires.agree.tasks found).home;
+      held = c.requires.agree.held;
     }
 
 pub returns : goal.returns

@@ -14,35 +14,35 @@ pub returns-then-self-lot_of-eq0-clause-first : goal.returns-then-self-lot_of-eq
 returns-then-self-lot_of-eq0-clause-first g c =
     let tasks = c.args.table.now.tasks in
     let all = queued_at tasks c.args._cpu in
-    let counted = ap (λ (lot : ℕ). count_of lot_of lot all) (sym c.lot_of.ensures.lot) ∙ sym (c.requires.holds.by_lot.each c.lot_of.result c.lot_of.ensures.few) ∙ c.if-self-lot_of-eq0.true in
+    let counted = ap (λ (lot : ℕ). count_of lot_of lot all) (sym c.lot_of.ensures.lot) ∙ sym (c.requires.search.holds.by_lot.each c.lot_of.result c.lot_of.ensures.few) ∙ c.if-self-lot_of-eq0.true in
     sym (ap first_of (none_with (queued_among tasks c.args._cpu) c.args.cookie counted))
 
 pub returns-in_err-first_of-clause-first : goal.returns-in_err-first_of-clause-first
 returns-in_err-first_of-clause-first g c =
     let tasks = c.args.table.now.tasks in
     let queued = queued_among tasks c.args._cpu in
-    let low = recursion_from_All IsLow queued (low_among tasks c.args._cpu c.requires.policies) in
+    let low = recursion_from_All IsLow queued (low_among tasks c.args._cpu c.requires.search.policies) in
     c.from_residual.ensures
     ∙ none_of (first_of (with_cookie c.args.cookie queued))
-    (sym c.in_err-first_of.was ∙ c.first_of.ensures.first ∙ ap (λ (spots : Spots). first_with spots c.args.cookie) c.requires.holds.trees.spots
+    (sym c.in_err-first_of.was ∙ c.first_of.ensures.first ∙ ap (λ (spots : Spots). first_with spots c.args.cookie) c.requires.search.holds.trees.spots
     ∙ first_with-spotted queued low c.args.cookie c.requires.cookie)
 
 pub returns-clause-first : goal.returns-clause-first
 returns-clause-first g c =
     let tasks = c.args.table.now.tasks in
     let queued = queued_among tasks c.args._cpu in
-    let low = recursion_from_All IsLow queued (low_among tasks c.args._cpu c.requires.policies) in
+    let low = recursion_from_All IsLow queued (low_among tasks c.args._cpu c.requires.search.policies) in
     let first = first_of (with_cookie c.args.cookie queued) in
     c.task_of.ensures.task
     ∙ some_by tasks c.in_ok-first_of.field-0.pid first (found_first tasks c.args._cpu (λ task. task.cookie == c.args.cookie) c.task_of.ensures.sound.rising)
     (pid_of_some c.in_ok-first_of.field-0 first
-    (sym c.in_ok-first_of.was ∙ c.first_of.ensures.first ∙ ap (λ (spots : Spots). first_with spots c.args.cookie) c.requires.holds.trees.spots
+    (sym c.in_ok-first_of.was ∙ c.first_of.ensures.first ∙ ap (λ (spots : Spots). first_with spots c.args.cookie) c.requires.search.holds.trees.spots
     ∙ first_with-spotted queued low c.args.cookie c.requires.cookie))
 
 pub returns-in_err-first_of-clause-counted : goal.returns-in_err-first_of-clause-counted
 returns-in_err-first_of-clause-counted g c =
-    omega (arith, c.first_of.ensures.counted, few_of_all c.args.self.now.run c.args.table.now.limit c.args.table.now.tasks c.args._cpu c.requires.holds.trees)
+    omega (arith, c.first_of.ensures.counted, few_of_all c.args.self.now.run c.args.table.now.limit c.args.table.now.tasks c.args._cpu c.requires.search.holds.trees)
 
 pub returns-clause-counted : goal.returns-clause-counted
 returns-clause-counted g c =
-    omega (arith, c.first_of.ensures.counted, few_of_all c.args.self.now.run c.args.table.now.limit c.args.table.now.tasks c.args._cpu c.requires.holds.trees)
+    omega (arith, c.first_of.ensures.counted, few_of_all c.args.self.now.run c.args.table.now.limit c.args.table.now.tasks c.args._cpu c.requires.search.holds.trees)

@@ -15,7 +15,7 @@ pub returns-clause-peer : goal.returns-clause-peer
 returns-clause-peer g c =
     let task = c.args.task.now in
     let tasks = c.args._table.now.tasks in
-    let policy = found_in (λ (t : Task). IsPolicy t.spec.policy) task.spec.pid tasks task c.requires.policies c.requires.there in
+    let policy = found_in (λ (t : Task). IsPolicy t.spec.policy) task.spec.pid tasks task c.requires.search.policies c.requires.there in
     ap (λ (own : ℕ). ltb own (get_or c.args.self.now.kinds c.kind_of.result 0)) (c.from-own.ensures ∙ byte_is c.is_on.result ∙ ap (λ (b : Bool). cond b 1 0) c.is_on.ensures)
-    ∙ has_peer-counted tasks c.args.cpu task c.requires.table.rising c.requires.there c.requires.policies (low_priority task.spec.policy policy)
-    c.args.self.now.kinds c.kind_of.result c.kind_of.ensures.kind c.kind_of.ensures.few c.requires.holds.by_kind
+    ∙ has_peer-counted tasks c.args.cpu task c.requires.table.rising c.requires.there c.requires.search.policies (low_priority task.spec.policy policy)
+    c.args.self.now.kinds c.kind_of.result c.kind_of.ensures.kind c.kind_of.ensures.few c.requires.search.holds.by_kind

@@ -16,11 +16,11 @@ returns-in_err-next_of-clause-next g c =
     let task = c.args.task.now in
     let tasks = c.args.table.now.tasks in
     let queued = queued_among tasks c.args._cpu in
-    let low = recursion_from_All IsLow queued (low_among tasks c.args._cpu c.requires.policies) in
+    let low = recursion_from_All IsLow queued (low_among tasks c.args._cpu c.requires.search.policies) in
     c.from_residual.ensures
     ∙ none_of (first_of (behind task (with_cookie task.cookie queued)))
     (sym c.in_err-next_of.was ∙ c.next_of.ensures.next
-    ∙ (λ i. next_with (c.requires.holds.trees.spots i) (c.queued_of.ensures i))
+    ∙ (λ i. next_with (c.requires.search.holds.trees.spots i) (c.queued_of.ensures i))
     ∙ next_with-spotted queued low task (low_priority task.spec.policy c.requires.policy) c.requires.cookie)
 
 pub returns-clause-next : goal.returns-clause-next
@@ -28,19 +28,19 @@ returns-clause-next g c =
     let task = c.args.task.now in
     let tasks = c.args.table.now.tasks in
     let queued = queued_among tasks c.args._cpu in
-    let low = recursion_from_All IsLow queued (low_among tasks c.args._cpu c.requires.policies) in
+    let low = recursion_from_All IsLow queued (low_among tasks c.args._cpu c.requires.search.policies) in
     let first = first_of (behind task (with_cookie task.cookie queued)) in
     c.task_of.ensures.task
     ∙ some_by tasks c.in_ok-next_of.field-0.pid first (found_behind tasks c.args._cpu task c.task_of.ensures.sound.rising)
     (pid_of_some c.in_ok-next_of.field-0 first
     (sym c.in_ok-next_of.was ∙ c.next_of.ensures.next
-    ∙ (λ i. next_with (c.requires.holds.trees.spots i) (c.queued_of.ensures i))
+    ∙ (λ i. next_with (c.requires.search.holds.trees.spots i) (c.queued_of.ensures i))
     ∙ next_with-spotted queued low task (low_priority task.spec.policy c.requires.policy) c.requires.cookie))
 
 pub returns-in_err-next_of-clause-counted : goal.returns-in_err-next_of-clause-counted
 returns-in_err-next_of-clause-counted g c =
-    omega (arith, c.next_of.ensures.counted, few_of_all c.args.self.now.run c.args.table.now.limit c.args.table.now.tasks c.args._cpu c.requires.holds.trees)
+    omega (arith, c.next_of.ensures.counted, few_of_all c.args.self.now.run c.args.table.now.limit c.args.table.now.tasks c.args._cpu c.requires.search.holds.trees)
 
 pub returns-clause-counted : goal.returns-clause-counted
 returns-clause-counted g c =
-    omega (arith, c.next_of.ensures.counted, few_of_all c.args.self.now.run c.args.table.now.limit c.args.table.now.tasks c.args._cpu c.requires.holds.trees)
+    omega (arith, c.next_of.ensures.counted, few_of_all c.args.self.now.run c.args.table.now.limit c.args.table.now.tasks c.args._cpu c.requires.search.holds.trees)
