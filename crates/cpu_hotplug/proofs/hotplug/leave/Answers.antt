@@ -23,7 +23,7 @@ move_off-requires-clause-may g c = record {
   cpu = omega (arith, c.requires.may.moves.cpu, ap (λ (kept : Kept). kept.siblings) c.charge.ensures.charges.stays.kept);
   agree = (alike_stays _ _ refl refl refl).agree (c.charge.ensures.charges.stays.agree c.requires.may.moves.agree);
   low = subst (λ (table : Table). AreLow (bare c.charge.new.core).siblings table.tasks) (sym c.charge.ensures.table)
-    (subst (λ (core : BareCore). AreLow core.siblings c.args.table.now.tasks) (sym c.charge.ensures.core) c.requires.may.moves.low);
+      (subst (λ (core : BareCore). AreLow core.siblings c.args.table.now.tasks) (sym c.charge.ensures.core) c.requires.may.moves.low);
   stamp = omega (arith, c.requires.may.moves.stamp, ap (λ (core : BareCore). core.next_stamp) c.charge.ensures.core, ap (λ (table : Table). length table.tasks) c.charge.ensures.table);
   touches = omega (arith, c.requires.may.moves.touches, ap (λ (core : BareCore). core.task_number) c.charge.ensures.core, ap (λ (table : Table). length table.tasks) c.charge.ensures.table);
 }
