@@ -1,4 +1,4 @@
-use Rattle.std.proofs.Common.{◌≡◌, ℕ, List, ◌++◌, map, length, ap, ◌∙◌, subst, arith, rules}
+use Rattle.std.proofs.Common.{◌≡◌, ℕ, List, ◌++◌, map, length, ap, ◌∙◌, subst, arith}
 use Rattle.core_lanes.specs.Queued.{queued_among, mover_of, AreTold}
 use Rattle.plain_room.proofs.walk.WalkSiblingQueue.tell_into.Goals as goal
 
