@@ -12,13 +12,13 @@ use Rattle.core_lanes.specs.Lanes.{Beside, at, room_of}
 use Rattle.core_lanes.specs.Numbers.{numbers_of, numbers_in, booked, touched}
 use Rattle.core_lanes.specs.Changes.{Stays, Becomes, BecomesCharged, IsBooked}
 use Rattle.core_charge.specs.Charges.{IsPaid}
-use Rattle.cpu_hotplug.specs.Leaves.{MayMove}
+use Rattle.cpu_hotplug.specs.Leaves.{MayMoveAll}
 use Rattle.cpu_hotplug.specs.declared.hotplug.Hotplug.{Hotplug}
 use Rattle.cpu_hotplug.specs.declared.hotplug.Hotplug.TheVariants.{Done, Busy, Already}
 
 -- the sibling may leave at this moment: its tasks may move, and the open interval may be charged
 pub record MayLeave {Q : Type 0} {g : Ghosts Q} (now sibling : ℕ) (both : Core Q g × Table) : Type 0 where
-  pub moves : MayMove sibling both
+  pub moves : MayMoveAll sibling both
   pub paid : IsPaid now both
 
 -- what a machine answers

@@ -38,7 +38,7 @@ abbrev pub NoneBehind : ℕ → List Task → Type 0
 NoneBehind least tasks = All (λ task. IsTrue (is_fair task) → least ≤ task.vtime) tasks
 
 -- all tasks queued on the sibling may move, and no stamp and no touch overflows
-pub record MayMove {Q : Type 0} {g : Ghosts Q} (sibling : ℕ) (both : Core Q g × Table) : Type 0 where
+pub record MayMoveAll {Q : Type 0} {g : Ghosts Q} (sibling : ℕ) (both : Core Q g × Table) : Type 0 where
   pub cpu : sibling < length both.0.lanes.items
   pub agree : Agree both
   pub low : HasLowTimes both
@@ -46,8 +46,8 @@ pub record MayMove {Q : Type 0} {g : Ghosts Q} (sibling : ℕ) (both : Core Q g 
   pub touches : both.0.task_number + 2 * length both.1.tasks < 2 ^ 64
 
 -- they may move to this sibling, which is the lowest other online one
-pub record MayMoveTo {Q : Type 0} {g : Ghosts Q} (sibling to : ℕ) (both : Core Q g × Table) : Type 0 where
-  pub may : MayMove sibling both
+pub record MayMoveAllTo {Q : Type 0} {g : Ghosts Q} (sibling to : ℕ) (both : Core Q g × Table) : Type 0 where
+  pub may : MayMoveAll sibling both
   pub another : (beside : Beside) → lowest_other (room_of beside both) sibling ≢ sibling
   pub lowest : (beside : Beside) (tasks : Table) → to ≡ lowest_other (room_of beside (both.0, tasks)) sibling
   pub within : to < length both.0.lanes.items

@@ -5,7 +5,7 @@ ghost use Rattle.core_lanes.specs.Queued.{queued_among};
 ghost use Rattle.cs_types.specs.Hotplug.{lowest_other};
 ghost use Rattle.core_lanes.specs.Lanes.{Beside, room_of, AgreesAt};
 ghost use Rattle.core_lanes.specs.Changes.{Touches};
-ghost use Rattle.cpu_hotplug.specs.Leaves.{move_off, MayMove, MayMoveTo, MovesWhole};
+ghost use Rattle.cpu_hotplug.specs.Leaves.{move_off, MayMoveAll, MayMoveAllTo, MovesWhole};
 
 use crate::away::lowest_other;
 use core_lanes::{Core, Movers, SiblingQueue};
@@ -23,7 +23,7 @@ pub fn move_off<Q: SiblingQueue, L: Ledger>(
     cpu: Cpu,
     steps: &mut Steps<L>,
 )
-    requires may { MayMove cpu (core.old, table.old) }
+    requires may { MayMoveAll cpu (core.old, table.old) }
     requires another { (beside : Beside) → lowest_other (room_of beside (core.old, table.old)) cpu ≢ cpu }
     ensures { Touches (2 * length (queued_among table.old.tasks cpu)) (core.old, table.old) (core.new, table.new) (λ room. move_off room cpu) }
 {
@@ -70,7 +70,7 @@ fn move_queue<Q: SiblingQueue, L: Ledger>(
     to: Cpu,
     steps: &mut Steps<L>,
 )
-    requires to { MayMoveTo cpu to (core.old, table.old) }
+    requires to { MayMoveAllTo cpu to (core.old, table.old) }
     requires whole { MovesWhole cpu to (core.old, table.old) }
     ensures { Touches (2 * length (queued_among table.old.tasks cpu)) (core.old, table.old) (core.new, table.new) (λ room. move_off room cpu) }
 {
@@ -90,7 +90,7 @@ fn move_each<Q: SiblingQueue, L: Ledger>(
     to: Cpu,
     steps: &mut Steps<L>,
 )
-    requires { MayMoveTo cpu to (core.old, table.old) }
+    requires { MayMoveAllTo cpu to (core.old, table.old) }
     ensures { Touches (2 * length (queued_among table.old.tasks cpu)) (core.old, table.old) (core.new, table.new) (λ room. move_off room cpu) }
 {
     let mut movers = Movers::new();
