@@ -111,17 +111,6 @@ ends_refused caps source sink read stop has is same =
 
 -- ---- how it ends that shows a run
 
--- all of it was written, or the sink failed
-pub all_shown : {K : Type 0} (sink : Used K) → IsFaultless sink → IsShown sink status.Done
-all_shown sink none = record { either = inl refl; faultless = λ e. none; failed = λ e. absurd cc; unwritten = λ e. absurd cc }
-
-pub part_shown : {K : Type 0} (sink : Used K) → Rose (sink.faults sink.before) (sink.faults sink.after) → IsShown sink status.WriteFault
-part_shown sink rose = record { either = inr (inl refl); faultless = λ e. absurd cc; failed = λ e. rose; unwritten = λ e. absurd cc }
-
--- there was no memory for it
-pub unshown : {K : Type 0} (sink : Used K) → sink.after ≡ sink.before → IsShown sink status.OutOfMemory
-unshown sink same = record { either = inr (inr refl); faultless = λ e. absurd cc; failed = λ e. absurd cc; unwritten = λ e. same }
-
 -- the input was played
 pub ends_shown : {S K T : Type 0} (caps : List ℕ) (source : Used S) (sink : Used K) (read : Result T Stop) (value : T) (ended : Status) →
     HasRead caps source read → read ≡ Ok value → sink.faults sink.before < 2 ^ 64 - 1 → IsShown sink ended → EndsAsShown caps source sink ended
