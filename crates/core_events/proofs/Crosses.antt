@@ -5,7 +5,7 @@ use denote.Struct.Declared.{shape}
 use denote.Param.Send.{IsSend, struct_send, recorded_send, view_send, sendable}
 use Rattle.core_lanes.specs.declared.queue.SiblingQueue as SiblingQueue
 use Rattle.cs_outside.specs.declared.guard.Guard as Guard
-use Rattle.core_events.proofs.state.State.TheSendSync as state
+use Rattle.core_tasks.proofs.state.State.TheSendSync as state
 use Rattle.core_events.specs.contracts.room.CoreRoom as CoreRoom
 use Rattle.core_events.specs.contracts.room.CoreRoom.TheInside as Inside
 

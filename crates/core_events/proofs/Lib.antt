@@ -1,5 +1,3 @@
-pub mod States
-pub mod Starts
 pub mod Onlines
 pub mod Sleeps
 pub mod Lows
@@ -7,9 +5,5 @@ pub mod Readies
 pub mod Machines
 pub mod Views
 pub mod Playable
-pub mod Pending
 pub mod Ends
-pub mod Settings
-pub mod Lives
-pub mod Runners
 pub mod Crosses

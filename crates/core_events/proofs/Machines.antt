@@ -27,12 +27,12 @@ use Rattle.core_lanes.specs.declared.lane.Lane.{Lane}
 use Rattle.core_lanes.specs.Lanes.{lane_state}
 use Rattle.core_lanes.specs.Numbers.{booked, is_fresh_by}
 use Rattle.core_lanes.specs.Changes.{IsBooked}
-use Rattle.core_events.specs.State.{room_with, state_numbers, both, beside_of}
-use Rattle.core_events.specs.Steps.{numbers_at, numbers_after, own_after, MakesWith}
-use Rattle.core_events.specs.Drain.{next_by}
+use Rattle.core_tasks.specs.State.{room_with, state_numbers, both, beside_of}
+use Rattle.core_tasks.specs.Steps.{numbers_at, numbers_after, own_after, MakesWith}
+use Rattle.core_tasks.specs.Drain.{next_by}
 use Rattle.core_events.specs.Inside.{opening_of, steps_of, IsFold}
 use Rattle.core_events.specs.declared.room.CoreRoom.TheInside.{Inside}
-use Rattle.core_events.specs.declared.state.State.{State}
+use Rattle.core_tasks.specs.declared.state.State.{State}
 
 -- ---- the entries
 

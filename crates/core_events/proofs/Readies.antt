@@ -1,35 +1,48 @@
 -- Readies: what the events of a state have in common.
-use Rattle.std.proofs.Common.{◌≡◌, ℕ, ◌+◌, ◌^◌, ◌<◌, Bool, true, false, cond, refl, subst, sym, ap, ◌∙◌, arith, length, Option, Some, None}
-use Rattle.std.specs.Prelude.{find, IfSome, nat_lt, not, ◌==◌, ◌&&◌}
+use Rattle.std.proofs.Common.{◌≡◌, ℕ, ◌+◌, ◌^◌, ◌<◌, Bool, true, false, cond, [], map, refl, subst, sym, ap, ◌∙◌, arith, length, Option, Some, None}
+use Rattle.std.specs.Prelude.{IfSome, nat_lt, not, ◌==◌, ◌&&◌}
 use Rattle.std.proofs.lemmas.Bool.{eqb-true, lt-ltb}
+use Rattle.std.proofs.lemmas.List.Elements.{All-weaker}
 use Rattle.cs_types.specs.declared.event.Event.TheVariants.{Turn, Resched, Offline, Online}
 use Rattle.cs_types.specs.declared.reply.Pick.{Pick}
 use Rattle.cs_types.specs.declared.reply.Reply.{Reply}
 use Rattle.cs_types.specs.declared.reply.Reply.TheVariants.{Picked}
 use Rattle.cs_types.specs.declared.task.Task.{Task}
-use Rattle.cs_types.specs.Room.{RoomState, Waiting, has_pid, sibling_of, queued_on}
+use Rattle.cs_types.specs.Room.{RoomState, SiblingState, Waiting, sibling_of, queued_on}
 use Rattle.cs_types.specs.Selection.{schedule, balance, pick_anew, adopt_or_pick_anew}
 use Rattle.cs_types.specs.Accounting.{charge}
+use Rattle.cs_types.proofs.Times.{vtimes_bounded, siblings_bounded}
 use Rattle.cs_types.proofs.Accounts.{account_of, charged_up_to, charge-again}
 use Rattle.core_lanes.specs.declared.queue.SiblingQueue.{Ghosts}
-use Rattle.core_lanes.specs.declared.lanes.Core.{Core}
-use Rattle.task_table.specs.Table.{Table}
-use Rattle.core_lanes.specs.Queued.{IsOf}
-use Rattle.core_lanes.specs.Lanes.{Agree, IsFit, KnowsApart}
+use Rattle.core_lanes.specs.Lanes.{HasLowTimes, lane_state}
 use Rattle.core_lanes.specs.Numbers.{Numbers, touched, is_fresh_by}
-use Rattle.core_lanes.proofs.Stays.{found_in}
 use Rattle.core_pick.specs.Schedules.{own_of, may_adopt_by, MayPick, MaySchedule}
-use Rattle.core_events.specs.declared.state.State.{State}
-use Rattle.core_events.specs.State.{both, IsReady}
-use Rattle.core_events.specs.Steps.{numbers_after}
+use Rattle.core_tasks.specs.declared.state.State.{State}
+use Rattle.core_tasks.specs.State.{both, room_with}
+use Rattle.core_tasks.specs.Steps.{numbers_after}
+use Rattle.core_events.specs.Ready.{IsOnTime, IsReady}
 use Rattle.cookie_steal.specs.Tries.{reply_of, steal_touches}
 use Rattle.cookie_steal.specs.declared.steal.Try.{Try}
 use Rattle.cookie_steal.specs.declared.steal.Try.TheVariants.{Stole, Missed, NoBalance}
 use Rattle.cpu_hotplug.specs.Hotplugs.{leave_touches, reply_of as hotplug_reply}
 use Rattle.cpu_hotplug.specs.declared.hotplug.Hotplug.{Hotplug}
 use Rattle.cpu_hotplug.specs.declared.hotplug.Hotplug.TheVariants.{Done, Busy, Already}
-use Rattle.core_events.proofs.States.{low_times}
 use Rattle.core_events.proofs.Onlines.{untouched}
+
+-- a state that is on time has low times
+pub low_times : {Q G : Type 0} {g : Ghosts Q} (state : State Q G g) → IsOnTime state → HasLowTimes (both state)
+low_times state time =
+    let room = room_with [] state in
+    let clock : state.clock < 2 ^ 56 = omega (arith, time.clock) in
+    let siblings = siblings_bounded time.entries room (time.timely []) time.few clock in
+    record {
+      vtimes = All-weaker (λ (task : Task). task.vtime < 2 ^ 80) (λ (task : Task). task.vtime < 2 ^ 100) (λ task low. omega (arith, low)) state.tasks.tasks
+          (vtimes_bounded time.entries room (time.timely []) time.few clock);
+      leasts = All-weaker (λ (sibling : SiblingState). (sibling.least < 2 ^ 80) × (sibling.snapshot < 2 ^ 80)) (λ (sibling : SiblingState). sibling.least < 2 ^ 100)
+          (λ sibling low. omega (arith, low.0)) (map lane_state state.core.lanes.items) siblings;
+      snapshots = All-weaker (λ (sibling : SiblingState). (sibling.least < 2 ^ 80) × (sibling.snapshot < 2 ^ 80)) (λ (sibling : SiblingState). sibling.snapshot < 2 ^ 100)
+          (λ sibling low. omega (arith, low.1)) (map lane_state state.core.lanes.items) siblings;
+    }
 
 -- a state that is ready may schedule
 pub may_pick : {Q G : Type 0} {g : Ghosts Q} (state : State Q G g) (cpu : ℕ) → cpu < length state.core.lanes.items → IsReady state → MayPick state.clock cpu (both state)
@@ -83,20 +96,6 @@ pub turn_touches : (room : RoomState) (cpu : ℕ) (numbers : Numbers) (made : Tr
 turn_touches room cpu numbers (Stole pid from) = refl
 turn_touches room cpu numbers (Missed from) = refl
 turn_touches room cpu numbers NoBalance = refl
-
--- ---- tasks
-
--- a task of the table fits the core
-pub fits_found : {Q : Type 0} {g : Ghosts Q} (pair : Core Q g × Table) (pid : ℕ) (task : Task) → Agree pair → find (has_pid pid) pair.1.tasks ≡ Some task → IsFit (length pair.0.lanes.items) task
-fits_found pair pid task agree found = found_in (IsFit (length pair.0.lanes.items)) pid pair.1.tasks task agree.tasks found
-
--- one that has the spec but for the policy, and the cookie, of one of the table is known, where it fits
-pub knows_as : {Q : Type 0} {g : Ghosts Q} (pair : Core Q g × Table) (task old : Task) → Agree pair → task.spec.pid ≡ old.spec.pid → task.cookie ≡ old.cookie → IsOf pair.1.tasks old →
-    IsFit (length pair.0.lanes.items) task → KnowsApart pair task
-knows_as pair task old agree pid cookie there fits = record {
-  apart = record { agree = agree; old = old; there = subst (λ n. find (has_pid n) pair.1.tasks ≡ Some old) (sym pid) there; fits = fits };
-  cookie = cookie;
-}
 
 -- ---- a pick that adopts nothing
 

@@ -7,7 +7,7 @@ use Rattle.cs_types.specs.declared.reply.Pick.{Pick}
 use Rattle.cs_types.specs.declared.reply.Reply.TheVariants.{Picked, Slept}
 use Rattle.cs_types.specs.Room.{RoomState}
 use Rattle.core_lanes.specs.Numbers.{Numbers, touched, took}
-use Rattle.core_events.specs.Steps.{numbers_after}
+use Rattle.core_tasks.specs.Steps.{numbers_after}
 
 -- a dequeue touched once, and then a pick was taken, as where the task ended
 pub took-touched : (room : RoomState) (cpu pid : ℕ) (pick : Pick) (numbers : Numbers) →

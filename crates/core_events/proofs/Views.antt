@@ -5,7 +5,7 @@ use Rattle.std.specs.Option.{option_map}
 use Rattle.std.proofs.lemmas.List.Elements.{All-head, All-tail, All-weaker}
 use Rattle.cs_types.specs.declared.view.EndView.{EndView}
 use Rattle.task_table.specs.Table.{total_among, total_in}
-use Rattle.core_events.proofs.Lives.{unused, total-living}
+use Rattle.core_tasks.proofs.Lives.{unused, total-living}
 use Rattle.std.proofs.lemmas.List.{length-map, get_or-map}
 use Rattle.std.proofs.lemmas.List.FromFn.{get_or-map-range_with_len}
 use Rattle.std.proofs.lemmas.Option.{slice_get_past, slice_get_read}
@@ -25,9 +25,9 @@ use Rattle.core_lanes.specs.Lanes.{lane_state, lane_view}
 use Rattle.core_lanes.specs.Numbers.{Numbers}
 use Rattle.core_pick.specs.Schedules.{own_of}
 use Rattle.core_lanes.proofs.Stays.{lane_at}
-use Rattle.core_events.specs.State.{both, room_with, state_numbers, IsSound, IsGone}
+use Rattle.core_tasks.specs.State.{both, room_with, state_numbers, IsSound, IsGone}
 use Rattle.core_clock.specs.Time.{RunTheirOwn}
-use Rattle.core_events.specs.declared.state.State.{State}
+use Rattle.core_tasks.specs.declared.state.State.{State}
 use Rattle.cs_types.specs.declared.task.Task.{Task}
 use Rattle.core_events.proofs.Machines.{Folds}
 

@@ -7,8 +7,8 @@ use Rattle.cs_types.specs.Scenario.{IsPlayable}
 use Rattle.cs_types.specs.Room.{Opening}
 use Rattle.cs_types.specs.History.{AreEvents, moment_of, fold_of, history_of}
 use Rattle.core_lanes.specs.declared.queue.SiblingQueue.{Ghosts}
-use Rattle.core_events.specs.State.{room_with, state_numbers, IsSound}
-use Rattle.core_events.specs.Steps.{numbers_at}
+use Rattle.core_tasks.specs.State.{room_with, state_numbers, IsSound}
+use Rattle.core_tasks.specs.Steps.{numbers_at}
 use Rattle.core_events.specs.Machine.{Machine}
 use Rattle.core_events.specs.declared.room.CoreRoom.TheInside.{Inside}
 

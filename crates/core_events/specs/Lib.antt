@@ -1,8 +1,3 @@
-pub mod State
-pub mod Steps
-pub mod Start
-pub mod Life
-pub mod Cookies
-pub mod Drain
+pub mod Ready
 pub mod Machine
 pub mod Inside

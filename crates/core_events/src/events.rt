@@ -8,18 +8,19 @@ ghost use Rattle.core_lanes.specs.Lanes.{Beside, at, room_of};
 ghost use Rattle.core_clock.specs.Moments.{MayQueue, TouchesAt};
 ghost use Rattle.cookie_steal.specs.Tries.{reply_of as steal_reply};
 ghost use Rattle.cpu_hotplug.specs.Hotplugs.{reply_of as hotplug_reply};
+ghost use Rattle.core_tasks.specs.Steps.{Makes};
+ghost use Rattle.core_events.specs.Ready.{IsReady, IsReadyAt, IsReadyFor};
 
-use crate::state::State;
 use cookie_steal::{Try, try_steal};
 use core_charge::charge;
-use core_clock::{advance, online_home, queue_at_home, rehomed, tick};
+use core_clock::{online_home, queue_at_home, rehomed};
 use core_lanes::{Core, SiblingQueue, task_of};
 use core_pick::{pick_and_balance, schedule};
-use cpu_hotplug::{Hotplug, offline, online};
+use core_tasks::State;
+use cpu_hotplug::{Hotplug, offline, online, online_count};
 use cs_outside::Guard;
-use cs_types::{Cpu, Errno, Event, Pid, Policy, Reply, Steps, Task, TaskSpec};
+use cs_types::{Ask, Cpu, Errno, Event, Pid, Policy, Reply, Steps, Task, TaskSpec};
 use fork_inherit::{ForkFault, has_threads};
-use ptrace_check::{LoadAnswer, UnloadAnswer};
 use std::sync::ledger::Ledger;
 use task_table::TaskTable;
 
@@ -91,208 +92,192 @@ fn requeue<Q: SiblingQueue, L: Ledger>(
     core.flag(task.home, runs);
 }
 
-impl<Q: SiblingQueue, G: Guard> State<Q, G> {
-    ghost use Rattle.core_events.specs.State.{IsReady, IsReadyAt, IsReadyFor};
-    ghost use Rattle.core_events.specs.Steps.{Makes};
-
-    /// The sibling schedules.
-    fn resched<L: Ledger>(&mut self, cpu: Cpu, steps: &mut Steps<L>) -> Reply
-        requires { IsReadyAt cpu self.old }
-        ensures { Makes self.old self.new (Event.Resched cpu) result }
-    {
-        match schedule(&mut self.core, &mut self.tasks, cpu, self.clock, steps) {
-            Some(pick) => Reply::Picked(pick),
-            None => Reply::Offline,
-        }
+/// The sibling schedules.
+fn resched<Q: SiblingQueue, G: Guard, L: Ledger>(state: &mut State<Q, G>, cpu: Cpu, steps: &mut Steps<L>) -> Reply
+    requires { IsReadyAt cpu state.old }
+    ensures { Makes state.old state.new (Event.Resched cpu) result }
+{
+    match schedule(&mut state.core, &mut state.tasks, cpu, state.clock, steps) {
+        Some(pick) => Reply::Picked(pick),
+        None => Reply::Offline,
     }
+}
 
-    /// A pending reschedule is taken. Else the sibling tries to steal, where it is to.
-    fn turn<L: Ledger>(&mut self, cpu: Cpu, steps: &mut Steps<L>) -> Reply
-        requires { IsReadyAt cpu self.old }
-        ensures { Makes self.old self.new (Event.Turn cpu) result }
-    {
-        if !self.core.is_online(cpu) {
-            return Reply::Offline;
-        }
-        if self.core.lanes[cpu as usize].pending {
-            return self.resched(cpu, steps);
-        }
-        steal_reply(try_steal(&mut self.core, &mut self.tasks, cpu, steps))
+/// A pending reschedule is taken. Else the sibling tries to steal, where it is to.
+fn turn<Q: SiblingQueue, G: Guard, L: Ledger>(state: &mut State<Q, G>, cpu: Cpu, steps: &mut Steps<L>) -> Reply
+    requires { IsReadyAt cpu state.old }
+    ensures { Makes state.old state.new (Event.Turn cpu) result }
+{
+    if !state.core.is_online(cpu) {
+        return Reply::Offline;
     }
-
-    /// The running task goes to sleep, and its sibling takes the next. The open interval is charged while the
-    /// task still runs. The charge of a schedule, at the same moment, would record nothing, so the sibling only
-    /// picks anew.
-    fn block<L: Ledger>(&mut self, cpu: Cpu, steps: &mut Steps<L>) -> Reply
-        requires { IsReadyAt cpu self.old }
-        ensures { Makes self.old self.new (Event.Block cpu) result }
-    {
-        if !self.core.is_online(cpu) {
-            return Reply::Offline;
-        }
-        let Some(task) = self.core.running_on(&self.tasks, cpu) else {
-            return Reply::Idle;
-        };
-        charge(&mut self.core, &mut self.tasks, self.clock);
-        self.core.dequeue(&mut self.tasks, task, steps);
-        self.core.run_idle(cpu);
-        Reply::Slept {
-            pid: task.spec.pid,
-            pick: pick_and_balance(&mut self.core, &mut self.tasks, cpu, self.clock, steps),
-        }
+    if state.core.lanes[cpu as usize].pending {
+        return resched(state, cpu, steps);
     }
+    steal_reply(try_steal(&mut state.core, &mut state.tasks, cpu, steps))
+}
 
-    /// The running task ends, unless it leads others, and its sibling takes the next. The open interval is
-    /// charged as at a block.
-    fn exit<L: Ledger>(&mut self, cpu: Cpu, steps: &mut Steps<L>) -> Reply
-        requires { IsReadyAt cpu self.old }
-        ensures { Makes self.old self.new (Event.Exit cpu) result }
-    {
-        if !self.core.is_online(cpu) {
-            return Reply::Offline;
-        }
-        let Some(task) = self.core.running_on(&self.tasks, cpu) else {
-            return Reply::Idle;
-        };
-        if has_threads(&self.tasks, &task) {
-            return Reply::HasThreads;
-        }
-        charge(&mut self.core, &mut self.tasks, self.clock);
-        self.end(task, steps);
-        self.core.run_idle(cpu);
-        Reply::Ended {
-            pid: task.spec.pid,
-            pick: pick_and_balance(&mut self.core, &mut self.tasks, cpu, self.clock, steps),
-        }
+/// The running task goes to sleep, and its sibling takes the next. The open interval is charged while the
+/// task still runs. The charge of a schedule, at the same moment, would record nothing, so the sibling only
+/// picks anew.
+fn block<Q: SiblingQueue, G: Guard, L: Ledger>(state: &mut State<Q, G>, cpu: Cpu, steps: &mut Steps<L>) -> Reply
+    requires { IsReadyAt cpu state.old }
+    ensures { Makes state.old state.new (Event.Block cpu) result }
+{
+    if !state.core.is_online(cpu) {
+        return Reply::Offline;
     }
+    let Some(task) = state.core.running_on(&state.tasks, cpu) else {
+        return Reply::Idle;
+    };
+    charge(&mut state.core, &mut state.tasks, state.clock);
+    state.core.dequeue(&mut state.tasks, task, steps);
+    state.core.run_idle(cpu);
+    Reply::Slept {
+        pid: task.spec.pid,
+        pick: pick_and_balance(&mut state.core, &mut state.tasks, cpu, state.clock, steps),
+    }
+}
 
-    /// The sibling's timer ticks. The open interval is charged first.
-    fn tick<L: Ledger>(&mut self, cpu: Cpu, steps: &mut Steps<L>) -> Reply
-        requires { IsReadyAt cpu self.old }
-        ensures { Makes self.old self.new (Event.Tick cpu) result }
-    {
-        if !self.core.is_online(cpu) {
-            return Reply::Offline;
+/// The running task ends, unless it leads others, and its sibling takes the next. The open interval is
+/// charged as at a block.
+fn exit<Q: SiblingQueue, G: Guard, L: Ledger>(state: &mut State<Q, G>, cpu: Cpu, steps: &mut Steps<L>) -> Reply
+    requires { IsReadyAt cpu state.old }
+    ensures { Makes state.old state.new (Event.Exit cpu) result }
+{
+    if !state.core.is_online(cpu) {
+        return Reply::Offline;
+    }
+    let Some(task) = state.core.running_on(&state.tasks, cpu) else {
+        return Reply::Idle;
+    };
+    if has_threads(&state.tasks, &task) {
+        return Reply::HasThreads;
+    }
+    charge(&mut state.core, &mut state.tasks, state.clock);
+    state.end(task, steps);
+    state.core.run_idle(cpu);
+    Reply::Ended {
+        pid: task.spec.pid,
+        pick: pick_and_balance(&mut state.core, &mut state.tasks, cpu, state.clock, steps),
+    }
+}
+
+/// The sibling's timer ticks. The open interval is charged first.
+fn tick<Q: SiblingQueue, G: Guard, L: Ledger>(state: &mut State<Q, G>, cpu: Cpu, steps: &mut Steps<L>) -> Reply
+    requires { IsReadyAt cpu state.old }
+    ensures { Makes state.old state.new (Event.Tick cpu) result }
+{
+    if !state.core.is_online(cpu) {
+        return Reply::Offline;
+    }
+    Reply::Ticked(core_clock::tick(&mut state.core, &mut state.tasks, cpu, state.clock, steps))
+}
+
+/// A sleeping task is queued at its home.
+fn wake<Q: SiblingQueue, G: Guard, L: Ledger>(state: &mut State<Q, G>, pid: Pid, steps: &mut Steps<L>) -> Reply
+    requires ready { IsReady state.old }
+    ensures { Makes state.old state.new (Event.Wake pid) result }
+{
+    let Some(task) = task_of(&state.tasks, pid) else {
+        return Reply::NoTask;
+    };
+    if task.queued {
+        return Reply::Awake;
+    }
+    let task = rehomed(&state.core, task);
+    queue_at_home(&mut state.core, &mut state.tasks, task, state.clock, steps);
+    Reply::Woken(task.home)
+}
+
+/// The clock goes on by `delta` ns.
+fn advance<Q: SiblingQueue, G: Guard, L: Ledger>(state: &mut State<Q, G>, delta: u64, steps: &mut Steps<L>) -> Reply
+    requires ready { IsReady state.old }
+    requires delta { delta ≤ 1000000000 }
+    ensures { Makes state.old state.new (Event.Advance delta) result }
+{
+    state.clock = core_clock::advance(&mut state.core, &mut state.tasks, delta, state.clock, steps);
+    Reply::Now(state.clock)
+}
+
+/// A task makes a child, which is queued at its home.
+fn fork<Q: SiblingQueue, G: Guard, L: Ledger>(state: &mut State<Q, G>, caller: Pid, thread: bool, steps: &mut Steps<L>) -> Reply
+    requires ready { IsReady state.old }
+    ensures { Makes state.old state.new (Event.Fork caller thread) result }
+{
+    match state.make_child(caller, thread) {
+        Ok(child) => {
+            let task = child_at_home(&state.core, child);
+            queue_at_home(&mut state.core, &mut state.tasks, task, state.clock, steps);
+            Reply::Child(child.spec.pid)
         }
-        Reply::Ticked(tick(&mut self.core, &mut self.tasks, cpu, self.clock, steps))
+        Err(ForkFault::NoCaller) => Reply::NoCaller,
+        Err(ForkFault::Eagain) => Reply::Refused(Errno::Eagain),
     }
+}
 
-    /// A sleeping task is queued at its home.
-    fn wake<L: Ledger>(&mut self, pid: Pid, steps: &mut Steps<L>) -> Reply
-        requires ready { IsReady self.old }
-        ensures { Makes self.old self.new (Event.Wake pid) result }
-    {
-        let Some(task) = task_of(&self.tasks, pid) else {
-            return Reply::NoTask;
-        };
-        if task.queued {
-            return Reply::Awake;
-        }
-        let task = rehomed(&self.core, task);
-        queue_at_home(&mut self.core, &mut self.tasks, task, self.clock, steps);
-        Reply::Woken(task.home)
+/// A task gets another policy, and has used nothing of its slice.
+fn set_policy<Q: SiblingQueue, G: Guard, L: Ledger>(state: &mut State<Q, G>, pid: Pid, policy: Policy, steps: &mut Steps<L>) -> Reply
+    requires policy { IsPolicy policy }
+    requires ready { IsReady state.old }
+    ensures { Makes state.old state.new (Event.SetSched pid policy) result }
+{
+    let Some(task) = task_of(&state.tasks, pid) else {
+        return Reply::NoTask;
+    };
+    let changed = with_policy(policy, task);
+    if task.queued {
+        requeue(&mut state.core, &mut state.tasks, changed, state.clock, steps);
+    } else {
+        state.core.change(&mut state.tasks, changed, steps);
     }
+    Reply::Set
+}
 
-    /// The clock goes on by `delta` ns.
-    fn advance<L: Ledger>(&mut self, delta: u64, steps: &mut Steps<L>) -> Reply
-        requires ready { IsReady self.old }
-        requires delta { delta ≤ 1000000000 }
-        ensures { Makes self.old self.new (Event.Advance delta) result }
-    {
-        self.clock = advance(&mut self.core, &mut self.tasks, delta, self.clock, steps);
-        Reply::Now(self.clock)
-    }
+/// The sibling leaves the core, unless it is offline already or the last.
+fn take_offline<Q: SiblingQueue, G: Guard, L: Ledger>(state: &mut State<Q, G>, cpu: Cpu, steps: &mut Steps<L>) -> Reply
+    requires { IsReadyAt cpu state.old }
+    ensures { Makes state.old state.new (Event.Offline cpu) result }
+{
+    hotplug_reply(offline(&mut state.core, &mut state.tasks, cpu, state.clock, steps))
+}
 
-    /// A task makes a child, which is queued at its home.
-    fn fork<L: Ledger>(&mut self, caller: Pid, thread: bool, steps: &mut Steps<L>) -> Reply
-        requires ready { IsReady self.old }
-        ensures { Makes self.old self.new (Event.Fork caller thread) result }
-    {
-        match self.make_child(caller, thread) {
-            Ok(child) => {
-                let task = child_at_home(&self.core, child);
-                queue_at_home(&mut self.core, &mut self.tasks, task, self.clock, steps);
-                Reply::Child(child.spec.pid)
-            }
-            Err(ForkFault::NoCaller) => Reply::NoCaller,
-            Err(ForkFault::Eagain) => Reply::Refused(Errno::Eagain),
-        }
-    }
+/// The sibling comes back, unless it is online already.
+fn bring_online<Q: SiblingQueue, G: Guard>(state: &mut State<Q, G>, cpu: Cpu) -> Reply
+    requires cpu { cpu < length state.old.core.lanes.items }
+    ensures { Makes state.old state.new (Event.Online cpu) result }
+{
+    hotplug_reply(online(&mut state.core, cpu))
+}
 
-    /// A task gets another policy, and has used nothing of its slice.
-    fn set_policy<L: Ledger>(&mut self, pid: Pid, policy: Policy, steps: &mut Steps<L>) -> Reply
-        requires policy { IsPolicy policy }
-        requires ready { IsReady self.old }
-        ensures { Makes self.old self.new (Event.SetSched pid policy) result }
-    {
-        let Some(task) = task_of(&self.tasks, pid) else {
-            return Reply::NoTask;
-        };
-        let changed = with_policy(policy, task);
-        if task.queued {
-            requeue(&mut self.core, &mut self.tasks, changed, self.clock, steps);
-        } else {
-            self.core.change(&mut self.tasks, changed, steps);
-        }
-        Reply::Set
-    }
+/// A call of `prctl(PR_SCHED_CORE, ..)` by the task with the pid.
+fn prctl<Q: SiblingQueue, G: Guard, L: Ledger>(state: &mut State<Q, G>, pid: Pid, ask: Ask, steps: &mut Steps<L>) -> Reply
+    requires ready { IsReady state.old }
+    ensures { Makes state.old state.new (Event.Prctl pid ask) result }
+{
+    let online = online_count(&state.core);
+    state.prctl(online, pid, ask, steps)
+}
 
-    /// The sibling leaves the core, unless it is offline already or the last.
-    fn take_offline<L: Ledger>(&mut self, cpu: Cpu, steps: &mut Steps<L>) -> Reply
-        requires { IsReadyAt cpu self.old }
-        ensures { Makes self.old self.new (Event.Offline cpu) result }
-    {
-        hotplug_reply(offline(&mut self.core, &mut self.tasks, cpu, self.clock, steps))
-    }
-
-    /// The sibling comes back, unless it is online already.
-    fn bring_online(&mut self, cpu: Cpu) -> Reply
-        requires cpu { cpu < length self.old.core.lanes.items }
-        ensures { Makes self.old self.new (Event.Online cpu) result }
-    {
-        hotplug_reply(online(&mut self.core, cpu))
-    }
-
-    /// The guard leaves the bench and is asked from now on, after those that are active.
-    fn load(&mut self, index: u8) -> Reply
-        ensures { Makes self.old self.new (Event.Load index) result }
-    {
-        match self.guards.load(index) {
-            LoadAnswer::Loaded => Reply::Loaded,
-            LoadAnswer::NoGuard => Reply::NoGuard,
-        }
-    }
-
-    /// The guard is dropped and asked no more.
-    fn unload(&mut self, index: u8) -> Reply
-        ensures { Makes self.old self.new (Event.Unload index) result }
-    {
-        match self.guards.unload(index) {
-            UnloadAnswer::Dropped => Reply::Dropped,
-            UnloadAnswer::NoGuard => Reply::NoGuard,
-        }
-    }
-
-    /// Makes the step of an event, and answers what the rules answer.
-    pub fn apply<L: Ledger>(&mut self, event: Event, steps: &mut Steps<L>) -> Reply
-        requires { IsReadyFor event self.old }
-        ensures { Makes self.old self.new event result }
-    {
-        match event {
-            Event::Turn(cpu) => self.turn(cpu, steps),
-            Event::Resched(cpu) => self.resched(cpu, steps),
-            Event::Block(cpu) => self.block(cpu, steps),
-            Event::Exit(cpu) => self.exit(cpu, steps),
-            Event::Tick(cpu) => self.tick(cpu, steps),
-            Event::Wake(pid) => self.wake(pid, steps),
-            Event::Advance(delta) => self.advance(delta, steps),
-            Event::Fork { caller, thread } => self.fork(caller, thread, steps),
-            Event::Prctl { caller, ask } => self.prctl(caller, ask, steps),
-            Event::SetSched { pid, policy } => self.set_policy(pid, policy, steps),
-            Event::Offline(cpu) => self.take_offline(cpu, steps),
-            Event::Online(cpu) => self.bring_online(cpu),
-            Event::Load(index) => self.load(index),
-            Event::Unload(index) => self.unload(index),
-        }
+/// Makes the step of an event, and answers what the rules answer.
+pub fn apply<Q: SiblingQueue, G: Guard, L: Ledger>(state: &mut State<Q, G>, event: Event, steps: &mut Steps<L>) -> Reply
+    requires { IsReadyFor event state.old }
+    ensures { Makes state.old state.new event result }
+{
+    match event {
+        Event::Turn(cpu) => turn(state, cpu, steps),
+        Event::Resched(cpu) => resched(state, cpu, steps),
+        Event::Block(cpu) => block(state, cpu, steps),
+        Event::Exit(cpu) => exit(state, cpu, steps),
+        Event::Tick(cpu) => tick(state, cpu, steps),
+        Event::Wake(pid) => wake(state, pid, steps),
+        Event::Advance(delta) => advance(state, delta, steps),
+        Event::Fork { caller, thread } => fork(state, caller, thread, steps),
+        Event::Prctl { caller, ask } => prctl(state, caller, ask, steps),
+        Event::SetSched { pid, policy } => set_policy(state, pid, policy, steps),
+        Event::Offline(cpu) => take_offline(state, cpu, steps),
+        Event::Online(cpu) => bring_online(state, cpu),
+        Event::Load(index) => state.load(index),
+        Event::Unload(index) => state.unload(index),
     }
 }

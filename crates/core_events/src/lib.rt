@@ -1,12 +1,8 @@
-//! The events of a core and its tasks, over any queue of a sibling: what both machines share.
+//! The events of a core and its tasks, over any queue of a sibling, and the machine that they make: what both machines
+//! share.
 #![tactic(auto)]
 
-mod cookies;
-mod drain;
 mod events;
-mod life;
 mod room;
-mod start;
-mod state;
 
 pub use room::CoreRoom;

@@ -5,14 +5,15 @@ ghost use Rattle.std.specs.Prelude.{◌≡◌, ◌+◌, ◌*◌, ◌<◌, [], Li
 ghost use Rattle.cs_types.specs.Scenario.{IsPlayable};
 ghost use Rattle.cs_types.specs.Room.{RoomState, Interval};
 ghost use Rattle.cs_types.specs.View.{task_after, task_view, forced_of};
-ghost use Rattle.core_events.specs.State.{room_with, IsReadyFor};
-ghost use Rattle.core_events.specs.Steps.{Makes};
-ghost use Rattle.core_events.specs.Machine.{opened};
+ghost use Rattle.core_tasks.specs.State.{room_with};
+ghost use Rattle.core_tasks.specs.Steps.{Makes};
+ghost use Rattle.core_tasks.specs.Start.{opened};
+ghost use Rattle.core_events.specs.Ready.{IsReadyFor};
 ghost use Rattle.cs_types.specs.Guards.{guards_on_bench};
 
-use crate::drain::next_to_schedule;
-use crate::state::State;
+use crate::events::apply;
 use core_lanes::SiblingQueue;
+use core_tasks::{State, next_to_schedule};
 use cs_outside::Guard;
 use cs_types::{
     Actor, CoreView, Cpu, CpuView, EndView, Entry, Event, GuardView, OutOfMemory, Pid, Reply, Room,
@@ -94,7 +95,7 @@ fn counted<Q: SiblingQueue, G: Guard, L: Ledger>(
     ensures { Makes state.old state.new event result }
 {
     let mut steps = Steps::<L>::start(blank);
-    state.apply(event, &mut steps)
+    apply(state, event, &mut steps)
 }
 
 impl<Q: SiblingQueue, G: Guard> CoreRoom<Q, G> {

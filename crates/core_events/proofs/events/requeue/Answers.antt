@@ -8,7 +8,7 @@ use Rattle.core_lanes.specs.Lanes.{at, room_of}
 use Rattle.core_lanes.specs.Numbers.{Numbers, numbers_of, touched}
 use Rattle.core_lanes.proofs.Stays.{both_stay, lane_at, some_beside}
 use Rattle.core_lanes.proofs.Replaced.{is_of}
-use Rattle.core_events.proofs.Readies.{knows_as}
+use Rattle.core_tasks.proofs.Known.{knows_as}
 use Rattle.core_clock.proofs.Changes.{still_below}
 use Rattle.core_events.proofs.events.requeue.Goals as goal
 

@@ -22,7 +22,7 @@ use Rattle.core_events.proofs.Views.{total_kept, behind_of, own_run}
 use Rattle.cs_types.proofs.Timely.{IsTimely}
 use Rattle.core_lanes.specs.declared.lane.Lane.{Lane}
 use Rattle.core_lanes.specs.Numbers.{Numbers, is_fresh_by}
-use Rattle.core_events.specs.State.{room_with, state_numbers}
+use Rattle.core_tasks.specs.State.{room_with, state_numbers}
 use Rattle.core_events.specs.Machine.{Machine}
 use Rattle.core_events.proofs.Playable.{most_entries-le, first_pid-low}
 use Rattle.core_events.proofs.Machines.{folds_of, timely_with, of_states, history_more, reply_more, folds_more}

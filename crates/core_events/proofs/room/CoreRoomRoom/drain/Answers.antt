@@ -10,12 +10,12 @@ use Rattle.cs_types.specs.Drain.{next_to_schedule, IsDrained}
 use Rattle.cs_types.proofs.Histories.{IsLegal-history_of}
 use Rattle.core_events.specs.Machine.{Machine}
 use Rattle.core_events.specs.Inside.{opening_of, machine_of, IsFold}
-use Rattle.core_events.specs.Drain.{next_by}
+use Rattle.core_tasks.specs.Drain.{next_by}
 use Rattle.task_table.specs.Table.{Table}
 use Rattle.core_lanes.specs.declared.queue.SiblingQueue.{Ghosts}
 use Rattle.core_lanes.specs.Lanes.{Beside, room_of}
 use Rattle.core_lanes.specs.Numbers.{is_fresh_by}
-use Rattle.core_events.specs.State.{beside_of, state_numbers}
+use Rattle.core_tasks.specs.State.{beside_of, state_numbers}
 use Rattle.core_events.specs.declared.room.CoreRoom.TheInside.{Inside}
 use Rattle.core_events.proofs.Machines.{folds_of, next_of}
 use Rattle.core_events.proofs.Playable.{playable_of, events_of}

@@ -1,0 +1,94 @@
+use Rattle.std.proofs.Common.{◌≡◌, ap, ◌∙◌, sym, subst, ◌<◌, length, arith, []}
+use Rattle.std.proofs.lemmas.Bool.{cond-false, cond-true}
+use Rattle.std.specs.Prelude.{Some}
+use Rattle.cs_types.specs.declared.reply.Reply.TheVariants.{Child, NoCaller, Refused}
+use Rattle.cs_types.specs.declared.task.Task.{Task}
+use Rattle.cs_types.specs.Scenario.{IsPolicy}
+use Rattle.cs_types.specs.Room.{RoomState}
+use Rattle.cs_types.specs.Queueing.{queue_at_home}
+use Rattle.cs_types.specs.Step.{Stepped, fork, child_at_home, child_of, with_child}
+use Rattle.core_lanes.specs.Numbers.{Numbers, touched, with_ended}
+use Rattle.core_lanes.proofs.Stays.{some_beside}
+use Rattle.core_tasks.specs.State.{beside_of, both, room_with, state_numbers}
+use Rattle.core_tasks.proofs.States.{uncharged, lifted, both_stay, leaves_all}
+use Rattle.core_tasks.proofs.Known.{fits_found, knows_as}
+use Rattle.cs_types.specs.declared.event.Event.TheVariants.{Fork}
+use Rattle.cs_types.specs.declared.reply.Errno.TheVariants.{Eagain}
+use Rattle.core_tasks.specs.declared.state.State.{State}
+use Rattle.core_tasks.specs.Steps.{Makes}
+use Rattle.core_events.proofs.Onlines.{untouched}
+use Rattle.core_events.proofs.events.fork.Goals as goal
+
+pub child_at_home-task-requires : goal.child_at_home-task-requires
+child_at_home-task-requires g c =
+    let makes = c.in-Ok.ensures in
+    let born = makes.2 in
+    let fit = fits_found (both c.args.state.now) c.args.caller makes.0 c.requires.ready.sound.agree makes.1 in
+    let after = c.make_child.new.self in
+    subst (λ (task : Task). task.home < length after.core.lanes.items) (sym born.is)
+    (subst (λ count. makes.0.home < count) (sym born.stays.siblings) fit.home)
+
+-- the child at home is the child but for its home and its virtual time
+pub queue_at_home-requires : goal.queue_at_home-requires
+queue_at_home-requires g c =
+    let makes = c.in-Ok.ensures in
+    let born = makes.2 in
+    let after = c.make_child.new.self in
+    let fit = fits_found (both c.args.state.now) c.args.caller makes.0 c.requires.ready.sound.agree makes.1 in
+    let is = c.child_at_home-task.ensures.child_at_home some_beside after.tasks in
+    record {
+      knows = knows_as (both after) c.child_at_home-task.result c.in-Ok.child (born.stays.sound c.requires.ready.sound).agree
+          (ap (λ (task : Task). task.spec.pid) is) (ap (λ (task : Task). task.cookie) is) born.there
+          (record {
+            home = c.child_at_home-task.ensures.within;
+            policy = subst (λ (task : Task). IsPolicy task.spec.policy) (sym is) (subst (λ (task : Task). IsPolicy task.spec.policy) (sym born.is) fit.policy);
+          });
+      clock = omega (arith, ap (λ (room : RoomState). room.clock) (born.room []), c.requires.ready.time.clock);
+      stamp = omega (arith, ap (λ (room : RoomState). room.next_stamp) (born.room []), c.requires.ready.spares.stamps);
+      touches = omega (arith, ap (λ (numbers : Numbers). numbers.task) born.numbers, c.requires.ready.spares.touches);
+    }
+
+pub returns-in-Ok : goal.returns-in-Ok
+returns-in-Ok g c =
+    let old = c.args.state.now in
+    let after = c.make_child.new.self in
+    let makes = c.in-Ok.ensures in
+    let born = makes.2 in
+    let child = c.in-Ok.child in
+    let queued = c.queue_at_home.ensures in
+    record {
+      step = λ intervals.
+          let room = room_with intervals old in
+          let beside = beside_of intervals after in
+          let made : Task → Stepped = λ task. record { reply = Child task.spec.pid; room = queue_at_home (with_child room task) (child_at_home room task) } in
+          let is : made child ≡ fork room c.args.thread (Some makes.0) =
+          ap made born.is ∙ sym (cond-false _ _ (made (child_of makes.0 c.args.thread room.next_pid)) born.allowed) in
+          let whole = is ∙ ap (fork room c.args.thread) (sym makes.1) in
+          uncharged (record {
+            reply = ap (λ (m : Stepped). m.reply) whole;
+            room = queued.room beside
+                ∙ ap (λ (now : RoomState). queue_at_home now c.child_at_home-task.result) (born.room intervals)
+                ∙ ap (queue_at_home (with_child room child))
+                (c.child_at_home-task.ensures.child_at_home beside after.tasks ∙ ap (λ (now : RoomState). child_at_home now child) (born.room intervals))
+                ∙ ap (λ (m : Stepped). m.room) whole;
+            numbers = ap (with_ended after.ended.items) queued.numbers ∙ ap (λ (numbers : Numbers). touched 1 numbers) born.numbers;
+          });
+      stays = both_stay born.stays (lifted after (c.queue_at_home.new.core, c.queue_at_home.new.table) queued.stays);
+    }
+
+pub returns-in-Err-NoCaller : goal.returns-in-Err-NoCaller
+returns-in-Err-NoCaller g c =
+    let old = c.args.state.now in
+    let makes = rw c.in-Err-NoCaller.field-0-is at c.in-Err-NoCaller.ensures in
+    subst (λ (new : State _ _ _). Makes old new (Fork c.args.caller c.args.thread) NoCaller) (sym makes.1)
+    (leaves_all old (Fork c.args.caller c.args.thread) NoCaller (λ intervals. untouched (state_numbers old)) (λ intervals.
+    ap (fork (room_with intervals old) c.args.thread) (sym makes.0)))
+
+pub returns-in-Err-Eagain : goal.returns-in-Err-Eagain
+returns-in-Err-Eagain g c =
+    let old = c.args.state.now in
+    let makes = rw c.in-Err-Eagain.field-0-is at c.in-Err-Eagain.ensures in
+    subst (λ (new : State _ _ _). Makes old new (Fork c.args.caller c.args.thread) (Refused Eagain)) (sym makes.3)
+    (leaves_all old (Fork c.args.caller c.args.thread) (Refused Eagain) (λ intervals. untouched (state_numbers old)) (λ intervals.
+    let room = room_with intervals old in
+    sym (cond-true _ (record { reply = Refused Eagain; room = room }) _ makes.2) ∙ ap (fork room c.args.thread) (sym makes.1)))

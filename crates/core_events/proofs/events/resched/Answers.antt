@@ -1,0 +1,53 @@
+use Rattle.std.proofs.Common.{◌≡◌, ◌∙◌, ap, sym, subst}
+use Rattle.cs_types.specs.declared.event.Event.TheVariants.{Resched}
+use Rattle.cs_types.specs.declared.reply.Reply.TheVariants.{Picked, Offline}
+use Rattle.cs_types.specs.Selection.{Scheduled, schedule}
+use Rattle.cs_types.specs.Step.{picked}
+use Rattle.core_lanes.specs.Lanes.{at, beside_after, room_of}
+use Rattle.core_lanes.specs.Numbers.{booked, took, is_fresh_by}
+use Rattle.core_tasks.specs.declared.state.State.{State}
+use Rattle.core_tasks.specs.State.{beside_of, room_with, state_numbers}
+use Rattle.core_tasks.specs.Steps.{MakesStep, Makes}
+use Rattle.core_tasks.proofs.States.{lifted, leaves_all}
+use Rattle.core_events.proofs.Onlines.{untouched, when_online, when_offline}
+use Rattle.core_events.proofs.Sleeps.{took-resched}
+use Rattle.core_events.proofs.Readies.{may_schedule, same_schedule}
+use Rattle.core_events.proofs.events.resched.Goals as goal
+
+pub schedule-requires : goal.schedule-requires
+schedule-requires g c = may_schedule c.args.state.now c.args.cpu c.requires.cpu c.requires.ready
+
+pub returns-in-Some : goal.returns-in-Some
+returns-in-Some g c =
+    let old = c.args.state.now in
+    let cpu = c.args.cpu in
+    let pick = c.in-Some.pick in
+    let schedules = c.in-Some.ensures.schedules in
+    let fresh = is_fresh_by (state_numbers old) in
+    record {
+      step = λ intervals.
+          let beside = beside_of intervals old in
+          let room = room_with intervals old in
+          let made = when_online room cpu (picked Picked (schedule room fresh cpu)) (sym (c.in-Some.ensures.online beside)) in
+          let same = same_schedule (state_numbers old) room cpu (c.requires.ready.behind cpu c.requires.cpu) in
+          subst (MakesStep intervals old _ (Resched cpu) (Picked pick)) made (record {
+            reply = ap Picked (schedules.pick beside ∙ ap (λ (scheduled : Scheduled). scheduled.pick) same);
+            room = subst (λ (scheduled : Scheduled). room_of (beside_after (at old.clock beside) scheduled.room) (c.schedule.new.core, c.schedule.new.table) ≡ scheduled.room) same
+                (schedules.room beside);
+            numbers = λ kept. schedules.numbers beside kept
+                ∙ ap (λ (scheduled : Scheduled). took cpu pick (booked scheduled.room (state_numbers old))) same
+                ∙ took-resched room cpu pick (booked (schedule room fresh cpu).room (state_numbers old));
+          });
+      stays = lifted old (c.schedule.new.core, c.schedule.new.table) schedules.stays;
+    }
+
+pub returns-in-None : goal.returns-in-None
+returns-in-None g c =
+    let old = c.args.state.now in
+    let cpu = c.args.cpu in
+    let fresh = is_fresh_by (state_numbers old) in
+    subst (λ (state : State g.row.Q.Denot g.row.G.Denot g.Q.SiblingQueue). Makes old state (Resched cpu) Offline)
+    (λ i. record old { core = sym c.in-None.ensures.core i; tasks = sym c.in-None.ensures.table i })
+    (leaves_all old (Resched cpu) Offline (λ intervals. untouched (state_numbers old)) (λ intervals.
+    let room = room_with intervals old in
+    when_offline room cpu (picked Picked (schedule room fresh cpu)) (sym (c.in-None.ensures.online (beside_of intervals old)))))

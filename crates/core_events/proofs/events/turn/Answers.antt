@@ -1,0 +1,85 @@
+use Rattle.std.proofs.Common.{◌≡◌, ◌∙◌, ap, sym, subst, Bool, cond, true, false, eqb, ℕ, arith}
+use Rattle.cs_types.specs.declared.event.Event.TheVariants.{Turn, Resched}
+use Rattle.cs_types.specs.declared.reply.Reply.TheVariants.{Picked, Nothing, Offline}
+use Rattle.cs_types.specs.Room.{RoomState, SiblingState, sibling_of}
+use Rattle.cs_types.specs.Selection.{schedule}
+use Rattle.cs_types.specs.Steal.{stolen}
+use Rattle.cs_types.specs.Step.{Stepped, step, turn, try_steal, picked, unless_offline}
+use Rattle.core_lanes.specs.Numbers.{booked, is_fresh_by, with_ended}
+use Rattle.core_lanes.proofs.Stays.{lane_at}
+use Rattle.core_tasks.specs.State.{beside_of, room_with, state_numbers}
+use Rattle.core_tasks.specs.Steps.{numbers_after}
+use Rattle.core_tasks.proofs.States.{uncharged, lifted, leaves_all}
+use Rattle.core_events.proofs.Onlines.{untouched, when_online, when_offline}
+use Rattle.core_events.proofs.Readies.{low_times, turn_as_resched, turn_touches}
+use Rattle.core_events.proofs.events.turn.Goals as goal
+
+pub try_steal-requires : goal.try_steal-requires
+try_steal-requires g c = record {
+  at = record { cpu = c.requires.cpu; agree = c.requires.ready.sound.agree };
+  low = low_times c.args.state.now c.requires.ready.time;
+  places = c.requires.ready.spares.places;
+  stamp = omega (arith, c.requires.ready.spares.stamps);
+  touches = omega (arith, c.requires.ready.spares.touches);
+}
+
+-- what a turn does, by whether its sibling is pending
+abbrev turn_by : RoomState → Bool → ℕ → Bool → Stepped
+turn_by room fresh cpu pending =
+    cond pending (picked Picked (schedule room fresh cpu))
+    (cond (eqb (sibling_of room cpu).place 0) (record { reply = Nothing; room = room }) (try_steal room cpu (stolen room cpu)))
+
+pub returns-then-not-is_online : goal.returns-then-not-is_online
+returns-then-not-is_online g c = leaves_all c.args.state.now (Turn c.args.cpu) Offline (λ intervals. untouched (state_numbers c.args.state.now)) (λ intervals.
+    let room = room_with intervals c.args.state.now in
+    when_offline room c.args.cpu (turn room (is_fresh_by (state_numbers c.args.state.now)) c.args.cpu)
+    (sym (c.is_online.ensures (beside_of intervals c.args.state.now) c.args.state.now.tasks) ∙ c.if-not-is_online.true))
+
+pub returns-then-index : goal.returns-then-index
+returns-then-index g c =
+    let old = c.args.state.now in
+    let cpu = c.args.cpu in
+    let fresh = is_fresh_by (state_numbers old) in
+    let made = c.resched.ensures in
+    record {
+      step = λ intervals.
+          let room = room_with intervals old in
+          let at = lane_at old.core.lanes.items cpu c.index.result.now c.requires.cpu c.index.ensures in
+          let pends : (sibling_of room cpu).pending ≡ true = ap (λ (s : SiblingState). s.pending) at ∙ c.if-index.true in
+          let is : picked Picked (schedule room fresh cpu) ≡ turn room fresh cpu = ap (turn_by room fresh cpu) (sym pends) in
+          let same : step room fresh (Resched cpu) ≡ step room fresh (Turn cpu) = ap (unless_offline room cpu) is in
+          let here = made.step intervals in
+          let up = when_online room cpu (picked Picked (schedule room fresh cpu)) (sym (c.is_online.ensures (beside_of intervals old) old.tasks) ∙ c.if-not-is_online.false) in
+          let answer : c.resched.result ≡ Picked (schedule room fresh cpu).pick = here.reply ∙ ap (λ (m : Stepped). m.reply) (sym up) in
+          record {
+            reply = here.reply ∙ ap (λ (m : Stepped). m.reply) same;
+            room = subst (λ (m : Stepped). room_with m.room.intervals c.resched.new.state ≡ m.room) same here.room;
+            numbers = λ kept. here.numbers kept
+                ∙ turn_as_resched room cpu c.resched.result (schedule room fresh cpu).pick _ answer
+                ∙ ap (λ (m : Stepped). numbers_after room (Turn cpu) c.resched.result (booked m.room (state_numbers old))) same;
+          };
+      stays = made.stays;
+    }
+
+pub returns : goal.returns
+returns g c =
+    let old = c.args.state.now in
+    let cpu = c.args.cpu in
+    let fresh = is_fresh_by (state_numbers old) in
+    let tried = c.try_steal.ensures in
+    record {
+      step = λ intervals.
+          let room = room_with intervals old in
+          let beside = beside_of intervals old in
+          let at = lane_at old.core.lanes.items cpu c.index.result.now c.requires.cpu c.index.ensures in
+          let idle : (sibling_of room cpu).pending ≡ false = ap (λ (s : SiblingState). s.pending) at ∙ c.if-index.false in
+          let made = ap (turn_by room fresh cpu) (sym idle)
+          ∙ when_online room cpu (turn room fresh cpu) (sym (c.is_online.ensures beside old.tasks) ∙ c.if-not-is_online.false) in
+          uncharged (record {
+            reply = c.steal_reply.ensures ∙ tried.reply beside ∙ ap (λ (m : Stepped). m.reply) made;
+            room = tried.room beside ∙ ap (λ (m : Stepped). m.room) made;
+            numbers = ap (with_ended old.ended.items) tried.numbers ∙ turn_touches room cpu (state_numbers old) c.try_steal.result
+                ∙ ap (λ r. numbers_after room (Turn cpu) r (state_numbers old)) (sym c.steal_reply.ensures);
+          });
+      stays = lifted old (c.try_steal.new.core, c.try_steal.new.table) tried.stays;
+    }

@@ -1,0 +1,81 @@
+use Rattle.std.proofs.Common.{◌≡◌, ◌<◌, ◌^◌, ◌∙◌, ap, sym, subst, refl, arith}
+use Rattle.std.proofs.lemmas.Bool.{cond-false, cond_both, cond-true}
+use Rattle.std.specs.Prelude.{Some}
+use Rattle.cs_types.specs.declared.task.Task.{Task}
+use Rattle.cs_types.specs.declared.task.TaskSpec.{TaskSpec}
+use Rattle.cs_types.specs.declared.reply.Reply.TheVariants.{Woken, NoTask, Awake}
+use Rattle.cs_types.specs.Scenario.{IsPolicy}
+use Rattle.cs_types.specs.Room.{RoomState, is_online, lowest_online}
+use Rattle.cs_types.specs.Queueing.{moved_to, rehomed, queue_at_home}
+use Rattle.cs_types.specs.Step.{Stepped, wake}
+use Rattle.core_lanes.specs.Lanes.{room_of}
+use Rattle.core_lanes.proofs.Stays.{found_in, some_beside}
+use Rattle.core_tasks.specs.State.{beside_of, both, room_with, state_numbers}
+use Rattle.core_tasks.proofs.States.{uncharged, lifted, leaves_all}
+use Rattle.core_events.proofs.Readies.{low_times}
+use Rattle.core_tasks.proofs.Known.{fits_found, knows_as}
+use Rattle.cs_types.specs.declared.event.Event.TheVariants.{Wake}
+use Rattle.core_events.proofs.Onlines.{untouched}
+use Rattle.core_lanes.specs.Numbers.{with_ended}
+use Rattle.core_events.proofs.events.wake.Goals as goal
+
+pub rehomed-task-requires : goal.rehomed-task-requires
+rehomed-task-requires g c =
+    let low = low_times c.args.state.now c.requires.ready.time in
+    let found = sym c.in-Some.ensures.task in
+    record {
+      home = (fits_found (both c.args.state.now) c.args.pid c.in-Some.task c.requires.ready.sound.agree found).home;
+      vtime = found_in (λ (t : Task). t.vtime < 2 ^ 100) c.args.pid c.args.state.now.tasks.tasks c.in-Some.task low.vtimes found;
+      leasts = low.leasts;
+    }
+
+-- a task at another home has its pid, its policy and its cookie still
+kept : (room : RoomState) (task : Task) → ((rehomed room task).spec ≡ task.spec) × ((rehomed room task).cookie ≡ task.cookie)
+kept room task =
+    let moved = moved_to room (lowest_online room) task in
+    cond_both (is_online room task.home) task moved (λ (t : Task). (t.spec ≡ task.spec) × (t.cookie ≡ task.cookie)) (λ _. (refl, refl)) (λ _. (refl, refl))
+
+pub queue_at_home-requires : goal.queue_at_home-requires
+queue_at_home-requires g c =
+    let state = c.args.state.now in
+    let task = c.in-Some.task in
+    let is = c.rehomed-task.ensures.rehomed some_beside state.tasks in
+    let same = kept (room_of some_beside (both state)) task in
+    let spec = ap (λ (t : Task). t.spec) is ∙ same.0 in
+    let fit = fits_found (both state) c.args.pid task c.requires.ready.sound.agree (sym c.in-Some.ensures.task) in
+    record {
+      knows = knows_as (both state) c.rehomed-task.result task c.requires.ready.sound.agree (ap (λ (s : TaskSpec). s.pid) spec) (ap (λ (t : Task). t.cookie) is ∙ same.1) c.in-Some.ensures.there
+          (record { home = c.rehomed-task.ensures.within; policy = subst (λ (s : TaskSpec). IsPolicy s.policy) (sym spec) fit.policy });
+      clock = c.requires.ready.time.clock;
+      stamp = omega (arith, c.requires.ready.spares.stamps);
+      touches = omega (arith, c.requires.ready.spares.touches);
+    }
+
+pub returns : goal.returns
+returns g c =
+    let old = c.args.state.now in
+    let task = c.in-Some.task in
+    let queued = c.queue_at_home.ensures in
+    record {
+      step = λ intervals.
+          let room = room_with intervals old in
+          let beside = beside_of intervals old in
+          let made : Task → Stepped = λ moved. record { reply = Woken moved.home; room = queue_at_home room moved } in
+          let is : made c.rehomed-task.result ≡ wake room (Some task) =
+          ap made (c.rehomed-task.ensures.rehomed beside old.tasks) ∙ sym (cond-false task.queued _ (made (rehomed room task)) c.if-task.false) in
+          uncharged (record {
+            reply = ap (λ (m : Stepped). m.reply) is ∙ ap (λ found. (wake room found).reply) c.in-Some.ensures.task;
+            room = queued.room beside ∙ ap (λ (m : Stepped). m.room) is ∙ ap (λ found. (wake room found).room) c.in-Some.ensures.task;
+            numbers = ap (with_ended old.ended.items) queued.numbers;
+          });
+      stays = lifted old (c.queue_at_home.new.core, c.queue_at_home.new.table) queued.stays;
+    }
+
+pub returns-in_default : goal.returns-in_default
+returns-in_default g c = leaves_all c.args.state.now (Wake c.args.pid) NoTask (λ intervals. untouched (state_numbers c.args.state.now)) (λ intervals.
+    ap (wake (room_with intervals c.args.state.now)) c.in_default.ensures.task)
+
+pub returns-then-task : goal.returns-then-task
+returns-then-task g c = leaves_all c.args.state.now (Wake c.args.pid) Awake (λ intervals. untouched (state_numbers c.args.state.now)) (λ intervals.
+    let room = room_with intervals c.args.state.now in
+    sym (cond-true c.in-Some.task.queued (record { reply = Awake; room = room }) _ c.if-task.true) ∙ ap (wake room) c.in-Some.ensures.task)

@@ -1,0 +1,44 @@
+//! Who schedules next at the end of a run. It is a file of its own since it reads the core alone.
+
+ghost use Rattle.std.specs.Prelude.{◌≡◌, ◌||◌, not, is_some, filter};
+ghost use Rattle.cs_types.specs.Room.{sibling_of};
+ghost use Rattle.cs_types.specs.Drain.{lowest, pending};
+ghost use Rattle.task_table.specs.Table.{Table};
+ghost use Rattle.core_lanes.specs.Lanes.{Beside, lane_state, room_of};
+ghost use Rattle.core_lanes.specs.Numbers.{numbers_of, is_fresh_by};
+ghost use Rattle.core_tasks.specs.Drain.{is_due, next_by};
+
+use core_lanes::{Core, Lane, SiblingQueue};
+use cs_types::Cpu;
+
+/// Whether a sibling is online and pending, and where the test asks for it, something waits for it.
+fn is_due<Q: Drop>(lane: &Lane<Q>, has_waiting: bool) -> bool
+    ensures { result ≡ is_due has_waiting (lane_state lane.now) }
+{
+    lane.online && lane.pending && (!has_waiting || lane.waiting.is_some())
+}
+
+/// The lowest online sibling that is pending, and for which something waits where the test asks for it.
+fn lowest_pending<Q: SiblingQueue>(core: &Core<Q>, has_waiting: bool) -> Option<Cpu>
+    ensures { (beside : Beside) (table : Table) → result ≡ lowest (filter
+        (λ cpu. not has_waiting || is_some (sibling_of (room_of beside (core.now, table)) cpu).waiting) (pending (room_of beside (core.now, table)))) }
+{
+    for cpu in 0..core.lanes.len() {
+        if is_due(&core.lanes[cpu], has_waiting) {
+            return Some(cpu as u8);
+        }
+    }
+    None
+}
+
+/// Who schedules next at the end of a run: the lowest pending sibling whose schedule would be an
+/// adoption, and where there is none, the lowest pending one.
+pub fn next_to_schedule<Q: SiblingQueue>(core: &Core<Q>) -> Option<Cpu>
+    ensures { (beside : Beside) (table : Table) → result ≡ next_by (room_of beside (core.now, table)) (is_fresh_by (numbers_of (core.now, table))) }
+{
+    if core.is_fresh() {
+        lowest_pending(core, true).or(lowest_pending(core, false))
+    } else {
+        lowest_pending(core, false)
+    }
+}

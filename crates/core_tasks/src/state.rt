@@ -1,0 +1,66 @@
+//! The state of the core, and how it starts. It is a file of its own so that each event has its whole contract,
+//! whatever the machine keeps beside.
+
+ghost use Rattle.std.specs.Prelude.{◌≡◌, length, IfOk};
+ghost use Rattle.cs_types.specs.Scenario.{IsPlayable};
+ghost use Rattle.cs_types.specs.Guards.{guards_on_bench};
+ghost use Rattle.core_tasks.specs.Start.{opened};
+
+use crate::start::{core_and_tasks, first_pid};
+use cookie_refs::CookieRefs;
+use core_lanes::{Core, SiblingQueue};
+use cs_outside::Guard;
+use cs_types::{OutOfMemory, Pid, Scenario};
+use ptrace_check::Guards;
+use std::alloc::Global;
+use task_table::TaskTable;
+
+/// The core and its tasks, and what else the events keep.
+#[derive(Drop)]
+pub struct State<Q: SiblingQueue, G: Guard> {
+    pub core: Core<Q>,
+    pub tasks: TaskTable,
+    pub refs: CookieRefs,
+    pub guards: Guards<G>,
+    /// How many tasks may live at once, 1 to 256.
+    pub task_limit: u16,
+    /// The end of the user addresses, in bytes (`TASK_SIZE_MAX`).
+    pub user_top: u64,
+    /// The tasks that ended, in the order of their ends, each with what it was charged for forced idle, in ns.
+    pub ended: Vec<(Pid, u64)>,
+    /// The pid of the next child (this project's). None is given twice.
+    pub next_pid: Pid,
+    /// The time since the start, in ns (`rq->clock`).
+    pub clock: u64,
+}
+
+impl<Q: SiblingQueue, G: Guard> State<Q, G> {
+    ghost use Rattle.core_tasks.specs.Start.{IsFirstState};
+
+    /// The start of a scenario: all tasks asleep at home, all siblings idle. It can take `most` entries.
+    pub fn start(
+        alloc: Global,
+        scenario: &Scenario,
+        most: usize,
+        guards: Guards<G>,
+    ) -> Result<State<Q, G>, OutOfMemory>
+        requires playable { IsPlayable scenario.now }
+        requires guards { guards.guards ≡ guards_on_bench scenario.now.teaches (length guards.guards.all) }
+        ensures { IfOk result (IsFirstState (opened scenario.now guards) most) }
+    {
+        let ended = Vec::with_capacity(alloc, most)?;
+        let refs = CookieRefs::with_limit(alloc, scenario.cookie_limit)?;
+        let (core, tasks) = core_and_tasks(alloc, scenario)?;
+        Ok(State {
+            core,
+            tasks,
+            refs,
+            guards,
+            task_limit: scenario.task_limit,
+            user_top: scenario.user_top,
+            ended,
+            next_pid: first_pid(scenario.tasks.items()),
+            clock: 0,
+        })
+    }
+}
