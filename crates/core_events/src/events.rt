@@ -93,7 +93,11 @@ fn requeue<Q: SiblingQueue, L: Ledger>(
 }
 
 /// The sibling schedules.
-fn resched<Q: SiblingQueue, G: Guard, L: Ledger>(state: &mut State<Q, G>, cpu: Cpu, steps: &mut Steps<L>) -> Reply
+fn resched<Q: SiblingQueue, G: Guard, L: Ledger>(
+    state: &mut State<Q, G>,
+    cpu: Cpu,
+    steps: &mut Steps<L>,
+) -> Reply
     requires { IsReadyAt cpu state.old }
     ensures { Makes state.old state.new (Event.Resched cpu) result }
 {
@@ -104,7 +108,11 @@ fn resched<Q: SiblingQueue, G: Guard, L: Ledger>(state: &mut State<Q, G>, cpu: C
 }
 
 /// A pending reschedule is taken. Else the sibling tries to steal, where it is to.
-fn turn<Q: SiblingQueue, G: Guard, L: Ledger>(state: &mut State<Q, G>, cpu: Cpu, steps: &mut Steps<L>) -> Reply
+fn turn<Q: SiblingQueue, G: Guard, L: Ledger>(
+    state: &mut State<Q, G>,
+    cpu: Cpu,
+    steps: &mut Steps<L>,
+) -> Reply
     requires { IsReadyAt cpu state.old }
     ensures { Makes state.old state.new (Event.Turn cpu) result }
 {
@@ -120,7 +128,11 @@ fn turn<Q: SiblingQueue, G: Guard, L: Ledger>(state: &mut State<Q, G>, cpu: Cpu,
 /// The running task goes to sleep, and its sibling takes the next. The open interval is charged while the
 /// task still runs. The charge of a schedule, at the same moment, would record nothing, so the sibling only
 /// picks anew.
-fn block<Q: SiblingQueue, G: Guard, L: Ledger>(state: &mut State<Q, G>, cpu: Cpu, steps: &mut Steps<L>) -> Reply
+fn block<Q: SiblingQueue, G: Guard, L: Ledger>(
+    state: &mut State<Q, G>,
+    cpu: Cpu,
+    steps: &mut Steps<L>,
+) -> Reply
     requires { IsReadyAt cpu state.old }
     ensures { Makes state.old state.new (Event.Block cpu) result }
 {
@@ -141,7 +153,11 @@ fn block<Q: SiblingQueue, G: Guard, L: Ledger>(state: &mut State<Q, G>, cpu: Cpu
 
 /// The running task ends, unless it leads others, and its sibling takes the next. The open interval is
 /// charged as at a block.
-fn exit<Q: SiblingQueue, G: Guard, L: Ledger>(state: &mut State<Q, G>, cpu: Cpu, steps: &mut Steps<L>) -> Reply
+fn exit<Q: SiblingQueue, G: Guard, L: Ledger>(
+    state: &mut State<Q, G>,
+    cpu: Cpu,
+    steps: &mut Steps<L>,
+) -> Reply
     requires { IsReadyAt cpu state.old }
     ensures { Makes state.old state.new (Event.Exit cpu) result }
 {
@@ -164,7 +180,11 @@ fn exit<Q: SiblingQueue, G: Guard, L: Ledger>(state: &mut State<Q, G>, cpu: Cpu,
 }
 
 /// The sibling's timer ticks. The open interval is charged first.
-fn tick<Q: SiblingQueue, G: Guard, L: Ledger>(state: &mut State<Q, G>, cpu: Cpu, steps: &mut Steps<L>) -> Reply
+fn tick<Q: SiblingQueue, G: Guard, L: Ledger>(
+    state: &mut State<Q, G>,
+    cpu: Cpu,
+    steps: &mut Steps<L>,
+) -> Reply
     requires { IsReadyAt cpu state.old }
     ensures { Makes state.old state.new (Event.Tick cpu) result }
 {
@@ -175,7 +195,11 @@ fn tick<Q: SiblingQueue, G: Guard, L: Ledger>(state: &mut State<Q, G>, cpu: Cpu,
 }
 
 /// A sleeping task is queued at its home.
-fn wake<Q: SiblingQueue, G: Guard, L: Ledger>(state: &mut State<Q, G>, pid: Pid, steps: &mut Steps<L>) -> Reply
+fn wake<Q: SiblingQueue, G: Guard, L: Ledger>(
+    state: &mut State<Q, G>,
+    pid: Pid,
+    steps: &mut Steps<L>,
+) -> Reply
     requires ready { IsReady state.old }
     ensures { Makes state.old state.new (Event.Wake pid) result }
 {
@@ -191,7 +215,11 @@ fn wake<Q: SiblingQueue, G: Guard, L: Ledger>(state: &mut State<Q, G>, pid: Pid,
 }
 
 /// The clock goes on by `delta` ns.
-fn advance<Q: SiblingQueue, G: Guard, L: Ledger>(state: &mut State<Q, G>, delta: u64, steps: &mut Steps<L>) -> Reply
+fn advance<Q: SiblingQueue, G: Guard, L: Ledger>(
+    state: &mut State<Q, G>,
+    delta: u64,
+    steps: &mut Steps<L>,
+) -> Reply
     requires ready { IsReady state.old }
     requires delta { delta ≤ 1000000000 }
     ensures { Makes state.old state.new (Event.Advance delta) result }
@@ -201,7 +229,12 @@ fn advance<Q: SiblingQueue, G: Guard, L: Ledger>(state: &mut State<Q, G>, delta:
 }
 
 /// A task makes a child, which is queued at its home.
-fn fork<Q: SiblingQueue, G: Guard, L: Ledger>(state: &mut State<Q, G>, caller: Pid, thread: bool, steps: &mut Steps<L>) -> Reply
+fn fork<Q: SiblingQueue, G: Guard, L: Ledger>(
+    state: &mut State<Q, G>,
+    caller: Pid,
+    thread: bool,
+    steps: &mut Steps<L>,
+) -> Reply
     requires ready { IsReady state.old }
     ensures { Makes state.old state.new (Event.Fork caller thread) result }
 {
@@ -217,7 +250,12 @@ fn fork<Q: SiblingQueue, G: Guard, L: Ledger>(state: &mut State<Q, G>, caller: P
 }
 
 /// A task gets another policy, and has used nothing of its slice.
-fn set_policy<Q: SiblingQueue, G: Guard, L: Ledger>(state: &mut State<Q, G>, pid: Pid, policy: Policy, steps: &mut Steps<L>) -> Reply
+fn set_policy<Q: SiblingQueue, G: Guard, L: Ledger>(
+    state: &mut State<Q, G>,
+    pid: Pid,
+    policy: Policy,
+    steps: &mut Steps<L>,
+) -> Reply
     requires policy { IsPolicy policy }
     requires ready { IsReady state.old }
     ensures { Makes state.old state.new (Event.SetSched pid policy) result }
@@ -227,7 +265,13 @@ fn set_policy<Q: SiblingQueue, G: Guard, L: Ledger>(state: &mut State<Q, G>, pid
     };
     let changed = with_policy(policy, task);
     if task.queued {
-        requeue(&mut state.core, &mut state.tasks, changed, state.clock, steps);
+        requeue(
+            &mut state.core,
+            &mut state.tasks,
+            changed,
+            state.clock,
+            steps,
+        );
     } else {
         state.core.change(&mut state.tasks, changed, steps);
     }
@@ -235,7 +279,11 @@ fn set_policy<Q: SiblingQueue, G: Guard, L: Ledger>(state: &mut State<Q, G>, pid
 }
 
 /// The sibling leaves the core, unless it is offline already or the last.
-fn take_offline<Q: SiblingQueue, G: Guard, L: Ledger>(state: &mut State<Q, G>, cpu: Cpu, steps: &mut Steps<L>) -> Reply
+fn take_offline<Q: SiblingQueue, G: Guard, L: Ledger>(
+    state: &mut State<Q, G>,
+    cpu: Cpu,
+    steps: &mut Steps<L>,
+) -> Reply
     requires { IsReadyAt cpu state.old }
     ensures { Makes state.old state.new (Event.Offline cpu) result }
 {
@@ -251,7 +299,12 @@ fn bring_online<Q: SiblingQueue, G: Guard>(state: &mut State<Q, G>, cpu: Cpu) ->
 }
 
 /// A call of `prctl(PR_SCHED_CORE, ..)` by the task with the pid.
-fn prctl<Q: SiblingQueue, G: Guard, L: Ledger>(state: &mut State<Q, G>, pid: Pid, ask: Ask, steps: &mut Steps<L>) -> Reply
+fn prctl<Q: SiblingQueue, G: Guard, L: Ledger>(
+    state: &mut State<Q, G>,
+    pid: Pid,
+    ask: Ask,
+    steps: &mut Steps<L>,
+) -> Reply
     requires ready { IsReady state.old }
     ensures { Makes state.old state.new (Event.Prctl pid ask) result }
 {
@@ -260,7 +313,11 @@ fn prctl<Q: SiblingQueue, G: Guard, L: Ledger>(state: &mut State<Q, G>, pid: Pid
 }
 
 /// Makes the step of an event, and answers what the rules answer.
-pub fn apply<Q: SiblingQueue, G: Guard, L: Ledger>(state: &mut State<Q, G>, event: Event, steps: &mut Steps<L>) -> Reply
+pub fn apply<Q: SiblingQueue, G: Guard, L: Ledger>(
+    state: &mut State<Q, G>,
+    event: Event,
+    steps: &mut Steps<L>,
+) -> Reply
     requires { IsReadyFor event state.old }
     ensures { Makes state.old state.new event result }
 {
