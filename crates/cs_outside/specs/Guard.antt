@@ -1,5 +1,5 @@
 -- Guards, as they stand between two calls, and what keeps a pair from being taught.
-use Rattle.std.specs.Prelude.{◌≡◌, ◌<◌, ℕ, List, []}
+use Rattle.std.specs.Prelude.{◌≡◌, ℕ, List, []}
 use Rattle.cs_outside.specs.declared.guard.TeachFault.{TeachFault}
 use Rattle.cs_outside.specs.declared.guard.TeachFault.TheVariants.{Full, OutOfMemory}
 
@@ -16,13 +16,6 @@ pub record PairGuardState : Type 0 where
 abbrev pub fresh : PairGuardState
 fresh = record { pairs = []; asked = 0 }
 
--- a guard that takes memory for its pairs: the pairs that it refuses, how many it can be taught, and how often it was
--- asked
-pub record ListGuardState : Type 0 where
-  pub pairs : List (ℕ × ℕ)
-  pub cap : ℕ
-  pub asked : ℕ
-
 -- a guard that refuses nobody: how often it was asked
 pub record NullGuardState : Type 0 where
   pub asked : ℕ
@@ -31,9 +24,3 @@ pub record NullGuardState : Type 0 where
 abbrev pub FullOnlyAt : ℕ → ℕ → TeachFault → Type 0
 FullOnlyAt cap count (Full named) = (named ≡ cap) × (count ≡ cap)
 FullOnlyAt cap count OutOfMemory = Unit {0}
-
--- `Full` comes where a guard has as many pairs as its cap, which it names, and the want of memory only where it has
--- fewer
-abbrev pub FullExactlyAt : ℕ → ℕ → TeachFault → Type 0
-FullExactlyAt cap count (Full named) = (named ≡ cap) × (count ≡ cap)
-FullExactlyAt cap count OutOfMemory = count < cap

@@ -1,4 +1,3 @@
 pub mod Device
 pub mod Guard
-pub mod Memory
 pub mod Stream

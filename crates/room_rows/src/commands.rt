@@ -5,7 +5,8 @@ ghost use Rattle.std.specs.Prelude.{◌≡◌, ◌<◌};
 
 use crate::scenarios::{STEP, text_of_lines};
 use command_words::{Command, command_of, drill_seed, is_replay};
-use cs_outside::{MemSink, MemSource, NoGate, PairGuard};
+use cs_outside::{NoGate, PairGuard};
+use memory_outside::{MemSink, MemSource};
 use scenario_runner::{Status, drill, replay, run};
 use scenario_text::BadKind;
 use std::alloc::{AllocError, Global};

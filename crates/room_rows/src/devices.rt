@@ -3,9 +3,8 @@
 
 ghost use Rattle.std.specs.Prelude.{◌≤◌, IfOk};
 
-use cs_outside::{
-    MemSink, MemSource, Sink, Source, StdSink, StdSource, read_some, write_all, write_some,
-};
+use cs_outside::{Sink, Source, StdSink, StdSource, read_some, write_all, write_some};
+use memory_outside::{MemSink, MemSource};
 use std::alloc::Global;
 use std::io;
 use std::io::{ErrorKind, Read, Write};

@@ -5,8 +5,9 @@ ghost use Rattle.std.specs.Prelude.{◌≡◌, ◌≤◌, [], All, vec_len};
 
 use crate::commands::{joined, sink_of, source_of, words_of};
 use crate::strangers::LongGuard;
-use cs_outside::{Guard, ListGuard, NullGuard, PairGuard, TeachFault};
+use cs_outside::{Guard, NullGuard, PairGuard, TeachFault};
 use cs_types::GuardPlace;
+use memory_outside::ListGuard;
 use ptrace_check::{Guards, LoadAnswer, TeachAnswer, UnloadAnswer};
 use scenario_runner::{GuardKind, Status, replay};
 use std::alloc::Global;

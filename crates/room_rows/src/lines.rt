@@ -1,8 +1,8 @@
 //! The lines of entries: whole, in one piece, and up to a fault.
 
 use crate::commands::{only, sink_of};
-use cs_outside::MemSink;
 use cs_types::{Actor, Ask, Entry, Errno, Event, Kind, Pick, Reply};
+use memory_outside::MemSink;
 use scenario_text::{Line, entry_text};
 use std::process::Abort;
 

@@ -6,8 +6,9 @@ ghost use Rattle.std.specs.Prelude.{◌≡◌};
 
 use crate::commands::{sink_of, source_of, words_of};
 use crate::examples::opened;
-use cs_outside::{Gate, MemSink, NoGate, PairGuard};
+use cs_outside::{Gate, NoGate, PairGuard};
 use cs_types::{Actor, Entry, Event, Reply, Room};
+use memory_outside::MemSink;
 use scenario_runner::{Status, run};
 use sibling_workers::race;
 use std::process::Abort;

@@ -1,6 +1,6 @@
 use Rattle.std.proofs.Common.{◌+◌, ◌≤◌, ◌++◌, length, take, drop, slice_range, sym, ◌∙◌, ap, arith}
-use Rattle.cs_outside.proofs.Pieces.{left_in_pieces}
-use Rattle.cs_outside.proofs.memory_source.MemSourceSource.read.Goals as goal
+use Rattle.memory_outside.proofs.Pieces.{left_in_pieces}
+use Rattle.memory_outside.proofs.memory_source.MemSourceSource.read.Goals as goal
 
 pub returns-clause-taken : goal.returns-clause-taken
 returns-clause-taken c =

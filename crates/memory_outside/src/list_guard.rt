@@ -3,10 +3,9 @@
 ghost use Rattle.std.specs.Prelude.{◌≡◌, ◌+◌, ◌<◌, ◌^◌, [], ◌∷◌, ◌++◌, length, not, OnOk, OnErr, IfErr};
 ghost use Rattle.std.specs.List.{list_any};
 ghost use Rattle.cs_types.specs.Guards.{is_pair};
-ghost use Rattle.cs_outside.specs.Guard.{FullExactlyAt};
+ghost use Rattle.memory_outside.specs.Guard.{FullExactlyAt};
 
-use crate::guard::{Guard, TeachFault};
-use crate::pairs::lists;
+use cs_outside::{Guard, TeachFault, lists};
 use std::alloc::Global;
 use std::marker::Model;
 
@@ -20,7 +19,7 @@ pub struct ListGuard {
 
 impl Model for ListGuard {
     ghost use Rattle.std.specs.Prelude.{◌≤◌, vec_len};
-    ghost use Rattle.cs_outside.specs.Guard.{ListGuardState};
+    ghost use Rattle.memory_outside.specs.Guard.{ListGuardState};
 
     ghost Value = { ListGuardState };
 

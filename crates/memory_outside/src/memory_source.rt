@@ -3,8 +3,7 @@
 ghost use Rattle.std.specs.Prelude.{◌≡◌, ◌<◌, ◌≤◌, ◌↔◌, ◌++◌, [], length, min, take, drop, Contains, Some, IsErr, IfOk, OnErr};
 ghost use Rattle.cs_outside.specs.Device.{raised, Rose};
 
-use crate::fault::Failed;
-use crate::source::Source;
+use cs_outside::{Failed, Source};
 use std::marker::Model;
 
 /// Bytes that are read in pieces of a length of their own. Its calls are counted from 1, and those
@@ -21,7 +20,7 @@ pub struct MemSource {
 
 impl Model for MemSource {
     ghost use Rattle.std.specs.Prelude.{◌<◌, ◌≤◌, length, drop};
-    ghost use Rattle.cs_outside.specs.Memory.{SourceState};
+    ghost use Rattle.memory_outside.specs.Memory.{SourceState};
 
     ghost Value = { SourceState };
 

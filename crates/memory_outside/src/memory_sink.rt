@@ -3,8 +3,7 @@
 ghost use Rattle.std.specs.Prelude.{◌≡◌, ◌⊎◌, ◌-◌, ◌<◌, ◌≤◌, ◌↔◌, ◌++◌, [], length, min, take, Contains, Some, IsOk, IsErr, IfOk, OnErr};
 ghost use Rattle.cs_outside.specs.Device.{raised, Rose};
 
-use crate::fault::Failed;
-use crate::sink::Sink;
+use cs_outside::{Failed, Sink};
 use cs_types::OutOfMemory;
 use std::alloc::Global;
 use std::marker::Model;
@@ -23,7 +22,7 @@ pub struct MemSink {
 
 impl Model for MemSink {
     ghost use Rattle.std.specs.Prelude.{◌+◌, ◌<◌, ◌≤◌, vec_len, vec_capacity};
-    ghost use Rattle.cs_outside.specs.Memory.{SinkState};
+    ghost use Rattle.memory_outside.specs.Memory.{SinkState};
 
     ghost Value = { SinkState };
 

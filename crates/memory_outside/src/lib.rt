@@ -1,0 +1,11 @@
+//! The outside in memory: a source and a sink that fail where they are told to, and a guard that takes memory for
+//! its pairs. No program uses it. Who calls the product from other code can, as its tests do.
+#![tactic(auto)]
+
+mod list_guard;
+mod memory_sink;
+mod memory_source;
+
+pub use list_guard::ListGuard;
+pub use memory_sink::MemSink;
+pub use memory_source::MemSource;
