@@ -9,7 +9,7 @@ use cs_types::Room;
 use memory_outside::MemSink;
 use room_drill::{generate, summary};
 use scenario_runner::{Status, drill, run};
-use scenario_text::scenario_text;
+use scenario_writer::scenario_text;
 use std::process::Abort;
 use std::sync::Wait;
 use std::thread::Threads;

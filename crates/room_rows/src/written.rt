@@ -3,7 +3,8 @@
 
 use crate::commands::{joined, only, sink_of};
 use cs_types::{Actor, Ask, Creds, Event, List, Policy, Scenario, Step, TaskSpec, Teach};
-use scenario_text::{read, scenario_text};
+use scenario_text::read;
+use scenario_writer::scenario_text;
 use std::process::Abort;
 
 /// The lines of a scenario without tasks and steps.

@@ -219,11 +219,6 @@ pub one_scenario : (bytes : List ℕ) → HasOneScenario bytes
 one_scenario bytes s t is is' =
     same_scenario s t is.valid is'.valid (sym (whole_is s) ∙ sym (text_lines bytes s is) ∙ text_lines bytes t is' ∙ whole_is t)
 
--- the text of a valid scenario is that of no other
-pub text_is_its_own : (scenario : Scenario) → IsValid scenario → (other : Scenario) → IsTextOf (scenario_text scenario) other → other ≡ scenario
-text_is_its_own scenario valid other is =
-    one_scenario (scenario_text scenario) other scenario is (record { valid = valid; text = refl })
-
 -- ---- the reader
 
 -- a text with a bad line is no scenario's

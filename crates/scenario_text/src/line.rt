@@ -3,7 +3,7 @@
 
 ghost use Rattle.std.specs.Prelude.{◌≡◌, true, codes};
 ghost use Rattle.scenario_text.specs.Grammar.{is_word};
-ghost use Rattle.scenario_text.specs.Reading.{lent, task_line, teach_line, step_line, line_of};
+ghost use Rattle.scenario_text.specs.Reading.{lent, task_line, teach_line, line_of};
 
 use crate::fault::BadKind;
 use crate::step::parse_step;

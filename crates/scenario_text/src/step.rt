@@ -4,8 +4,8 @@
 ghost use Rattle.std.specs.Prelude.{◌≡◌, ◌&&◌, [], ◌∷◌, true, false, codes, MatchResult};
 ghost use Rattle.cs_types.specs.declared.event.Event.TheVariants.{Fork, Prctl, SetSched};
 ghost use Rattle.scenario_text.specs.declared.fault.BadKind.TheVariants.{Number};
-ghost use Rattle.scenario_text.specs.Grammar.{is_word, is_number, is_signed, value, named_pid, child, policy};
-ghost use Rattle.scenario_text.specs.Reading.{parts, lent, read_in, signed_value, policy_value, is_ask, ask_said, joined, sibling_readings, caller_readings, sibling_step, caller_step, step_line};
+ghost use Rattle.scenario_text.specs.Grammar.{is_word, is_number, value, named_pid, child, policy};
+ghost use Rattle.scenario_text.specs.Reading.{parts, lent, read_in, policy_value, is_ask, ask_said, joined, sibling_readings, caller_readings, sibling_step, caller_step, step_line};
 
 use crate::fault::BadKind;
 use crate::number::{parse_cpu, parse_number, parse_signed};

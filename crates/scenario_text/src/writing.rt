@@ -1,17 +1,16 @@
-//! What goes to a sink: the line of an entry, and the text of a scenario (`scenario.rt`). A line is put
-//! together without the sink (`line.rt`), so that only the sink can fail, and gets the line whole.
+//! What goes to a sink: the line of an entry. It is put together without the sink (`line.rt`), so that only the
+//! sink can fail, and gets the line whole.
 
 ghost use Rattle.std.specs.Prelude.{◌≡◌, ◌≤◌, OnOk, OnErr};
 ghost use Rattle.cs_outside.specs.Device.{appended, Rose, WritesPrefix};
 ghost use Rattle.scenario_text.specs.Text.{entry_text};
 
 mod line;
-mod scenario;
+mod replies;
 
 use cs_outside::{Failed, Sink, write_all};
 use cs_types::Entry;
 pub use line::Line;
-pub use scenario::scenario_text;
 
 /// Writes the line of an entry to the sink, with its line feed, in one piece, and again with the rest
 /// where the sink took only a part. It takes no memory: the entry is put on `line`, in place of what is there.

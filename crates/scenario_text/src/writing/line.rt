@@ -1,13 +1,13 @@
 //! A line while it is put together. It lies on the stack and can take the longest entry, so it
 //! takes no memory and cannot fail, and a sink is given it whole.
 
-ghost use Rattle.std.specs.Prelude.{ℕ, List, ◌≡◌, ◌≢◌, ◌+◌, ◌<◌, ◌≤◌, [], ◌∷◌, ◌++◌, length, codes, decimal};
-ghost use Rattle.cs_types.specs.declared.reply.Reply.TheVariants.{Nothing};
-ghost use Rattle.scenario_text.specs.Words.{policy_word, flag_word, creds_words, made_words, actor_word, ask_words, child_word, event_words, deed_words, reply_words, pick_words, kind_word, run_word, errno_word};
+ghost use Rattle.std.specs.Prelude.{◌≡◌, ◌+◌, ◌<◌, ◌≤◌, [], ◌∷◌, ◌++◌, length, codes, decimal};
+ghost use Rattle.scenario_text.specs.Words.{policy_word, made_words, actor_word, ask_words, child_word, event_words, deed_words, reply_words, pick_words, kind_word, run_word};
 ghost use Rattle.scenario_text.specs.Text.{line_room, spaced, entry_text};
 
+use super::replies::lone_word;
 use arrayvec::ArrayString;
-use cs_types::{Actor, Ask, Cpu, Creds, Entry, Errno, Event, Kind, Pick, Pid, Policy, Reply};
+use cs_types::{Actor, Ask, Cpu, Entry, Event, Kind, Pick, Pid, Policy, Reply};
 use itoa::{Buffer, Integer};
 use std::marker::Model;
 
@@ -26,47 +26,6 @@ impl Model for Line {
     ghost Value = { List ℕ };
 
     ghost view = { λ line. line.text.bytes };
-}
-
-/// The name of an error.
-fn errno_word(errno: Errno) -> &'static str
-    ensures word { result.now ≡ errno_word errno }
-    ensures longest { length result.now ≤ 6 }
-{
-    match errno {
-        Errno::Eperm => "EPERM",
-        Errno::Esrch => "ESRCH",
-        Errno::Eagain => "EAGAIN",
-        Errno::Enomem => "ENOMEM",
-        Errno::Efault => "EFAULT",
-        Errno::Enodev => "ENODEV",
-        Errno::Einval => "EINVAL",
-        Errno::Ebusy => "EBUSY",
-    }
-}
-
-/// The word of a reply that is one word, but `Nothing`.
-fn lone_word(reply: &Reply) -> &'static str
-    ensures word { (word : List ℕ) → reply.now ≢ Nothing → reply_words reply.now ≡ word ∷ [] → result.now ≡ word }
-    ensures longest { length result.now ≤ 10 }
-{
-    match *reply {
-        Reply::Offline => "Offline",
-        Reply::Idle => "Idle",
-        Reply::HasThreads => "HasThreads",
-        Reply::Awake => "Awake",
-        Reply::NoTask => "NoTask",
-        Reply::Zero => "0",
-        Reply::Set => "Set",
-        Reply::Done => "Done",
-        Reply::Already => "Already",
-        Reply::Refused(errno) => errno_word(errno),
-        Reply::NoCaller => "NoCaller",
-        Reply::Loaded => "Loaded",
-        Reply::Dropped => "Dropped",
-        Reply::NoGuard => "NoGuard",
-        _ => "",
-    }
 }
 
 impl Line {
@@ -107,7 +66,7 @@ impl Line {
     }
 
     /// Who makes a step, and what is done.
-    pub(crate) fn made(&mut self, actor: Actor, event: &Event)
+    pub fn made(&mut self, actor: Actor, event: &Event)
         requires { length self.old + 76 ≤ line_room }
         ensures text { self.new ≡ self.old ++ spaced (made_words actor event.now) }
         ensures longest { length self.new ≤ length self.old + 76 }
@@ -188,7 +147,7 @@ impl Line {
     }
 
     /// A policy.
-    pub(crate) fn policy(&mut self, policy: Policy)
+    pub fn policy(&mut self, policy: Policy)
         requires { length self.old + 23 ≤ line_room }
         ensures text { self.new ≡ self.old ++ policy_word policy }
         ensures longest { length self.new ≤ length self.old + 23 }
@@ -212,32 +171,6 @@ impl Line {
                 self.number(nice);
             }
         }
-    }
-
-    /// A task's credentials.
-    pub(crate) fn creds(&mut self, creds: Creds)
-        requires { length self.old + 71 ≤ line_room }
-        ensures text { self.new ≡ self.old ++ spaced (creds_words creds) }
-        ensures longest { length self.new ≤ length self.old + 71 }
-    {
-        self.number(creds.ruid);
-        self.further(creds.euid);
-        self.further(creds.suid);
-        self.further(creds.rgid);
-        self.further(creds.egid);
-        self.further(creds.sgid);
-        self.flag(creds.cap);
-        self.flag(creds.mm);
-        self.flag(creds.dumpable);
-    }
-
-    /// A space, and 1 for yes, 0 for no.
-    fn flag(&mut self, flag: bool)
-        requires { length self.old + 2 ≤ line_room }
-        ensures text { self.new ≡ self.old ++ (codes " " ++ flag_word flag) }
-        ensures longest { length self.new ≤ length self.old + 2 }
-    {
-        self.text(if flag { " 1" } else { " 0" });
     }
 
     fn child(&mut self, is_thread: bool)
@@ -375,16 +308,6 @@ impl Line {
         self.text(name);
         self.text(" ");
         self.short(number);
-    }
-
-    /// A space, and one more number.
-    pub(crate) fn further<N: Integer>(&mut self, number: N)
-        requires { length self.old + 1 + N.MAX_STR_LEN ≤ line_room }
-        ensures text { self.new ≡ self.old ++ (codes " " ++ N.text number) }
-        ensures longest { length self.new ≤ length self.old + 1 + N.MAX_STR_LEN }
-    {
-        self.text(" ");
-        self.number(number);
     }
 
     /// A number, in decimal.
