@@ -12,7 +12,7 @@ use Rattle.core_lanes.specs.Queued.{IsOf}
 use Rattle.core_lanes.specs.Lanes.{Beside, at, room_of, AgreesAt, KnowsApart}
 use Rattle.core_lanes.specs.Numbers.{numbers_of, touched}
 use Rattle.core_lanes.specs.Changes.{Stays}
-use Rattle.core_charge.specs.Charges.{IsPaid, Charges}
+use Rattle.core_lanes.specs.Charges.{IsPaid, Charges}
 
 -- the task is known to the core, with which its table agrees, and may be queued at its home at this moment, where the queues are touched this number of times
 pub record MayQueue {Q : Type 0} {g : Ghosts Q} (now count : ℕ) (both : Core Q g × Table) (task : Task) : Type 0 where

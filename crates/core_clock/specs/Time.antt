@@ -7,14 +7,9 @@ use Rattle.cs_types.specs.Time.{grown_by}
 use Rattle.task_table.specs.Table.{Table}
 use Rattle.core_lanes.specs.declared.queue.SiblingQueue.{Ghosts}
 use Rattle.core_lanes.specs.declared.lanes.Core.{Core}
-use Rattle.core_lanes.specs.Lanes.{Beside, lane_state, room_of, Agree, HasLowTimes}
+use Rattle.core_lanes.specs.Lanes.{Beside, lane_state, room_of, Agree, HasLowTimes, RunTheirOwn}
 
 -- ---- what is asked
-
--- each sibling runs idle, or a living task that is at home there
-abbrev pub RunTheirOwn : {Q : Type 0} {g : Ghosts Q} → Core Q g × Table → Type 0
-RunTheirOwn both = (beside : Beside) (cpu : ℕ) → let room = room_of beside both in
-    IfSome (sibling_of room cpu).run (λ pid. IsSomeAnd (task_of room pid) (λ task. task.home ≡ cpu))
 
 -- The clock may go on: no task is run by two siblings; and none has used more than the clock, nor has a sibling run for longer
 -- since its last schedule, so that no time overflows.

@@ -11,8 +11,7 @@ ghost use Rattle.core_lanes.specs.Changes.{Changes};
 ghost use Rattle.core_clock.specs.Moments.{MayAsk, MayTick, Ticks, Advances};
 ghost use Rattle.core_clock.specs.Time.{MayAdvance, MayGrow, CanGrow, with_grown, with_ages};
 
-use core_charge::charge;
-use core_lanes::{Core, SiblingQueue, is_fair, task_of};
+use core_lanes::{Core, SiblingQueue, charge, is_fair, task_of};
 use cs_types::{Cpu, Pid, Policy, Steps, Task};
 use fair_queue::grow;
 use std::sync::ledger::Ledger;

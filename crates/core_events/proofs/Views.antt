@@ -21,12 +21,11 @@ use Rattle.cs_types.proofs.Fits.{IsAt}
 use Rattle.cs_types.proofs.Trust.{holds-moment_of}
 use Rattle.core_lanes.specs.declared.queue.SiblingQueue.{Ghosts}
 use Rattle.core_lanes.specs.declared.lane.Lane.{Lane}
-use Rattle.core_lanes.specs.Lanes.{lane_state, lane_view}
+use Rattle.core_lanes.specs.Lanes.{lane_state, lane_view, RunTheirOwn}
 use Rattle.core_lanes.specs.Numbers.{Numbers}
 use Rattle.core_pick.specs.Schedules.{own_of}
 use Rattle.core_lanes.proofs.Stays.{lane_at}
 use Rattle.core_tasks.specs.State.{both, room_with, state_numbers, IsSound, IsGone}
-use Rattle.core_clock.specs.Time.{RunTheirOwn}
 use Rattle.core_tasks.specs.declared.state.State.{State}
 use Rattle.cs_types.specs.declared.task.Task.{Task}
 use Rattle.core_events.proofs.Machines.{Folds}

@@ -5,9 +5,9 @@ use Rattle.cs_types.specs.declared.event.Event.{Event}
 use Rattle.cs_types.specs.Room.{Interval, sibling_of}
 use Rattle.cs_types.proofs.Timely.{IsTimely}
 use Rattle.core_lanes.specs.declared.queue.SiblingQueue.{Ghosts}
-use Rattle.core_charge.specs.Charges.{IsPaid}
+use Rattle.core_lanes.specs.Charges.{IsPaid}
 use Rattle.core_pick.specs.Schedules.{own_of}
-use Rattle.core_clock.specs.Time.{RunTheirOwn}
+use Rattle.core_lanes.specs.Lanes.{RunTheirOwn}
 use Rattle.core_tasks.specs.declared.state.State.{State}
 use Rattle.core_tasks.specs.State.{both, room_with, state_numbers, IsSound}
 

@@ -12,9 +12,8 @@ ghost use Rattle.core_tasks.specs.Steps.{Makes};
 ghost use Rattle.core_events.specs.Ready.{IsReady, IsReadyAt, IsReadyFor};
 
 use cookie_steal::{Try, try_steal};
-use core_charge::charge;
 use core_clock::{online_home, queue_at_home, rehomed};
-use core_lanes::{Core, SiblingQueue, task_of};
+use core_lanes::{Core, SiblingQueue, charge, task_of};
 use core_pick::{pick_and_balance, schedule};
 use core_tasks::State;
 use cpu_hotplug::{Hotplug, offline, online, online_count};

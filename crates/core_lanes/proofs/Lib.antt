@@ -8,3 +8,4 @@ pub mod Timed
 pub mod Exchanged
 pub mod Onlines
 pub mod Movers
+pub mod Accounts

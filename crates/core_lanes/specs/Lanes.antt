@@ -1,9 +1,9 @@
 -- Lanes: the room that a core and a table stand for, and that these agree.
-use Rattle.std.specs.Prelude.{◌≡◌, ◌≢◌, ℕ, ◌+◌, ◌^◌, ◌<◌, ◌≤◌, ◌==◌, if◌then◌else◌, List, [], length, map, find, replicate, Some, None, true, false, All, IsTrue, slice_get, unwrap_or}
+use Rattle.std.specs.Prelude.{◌≡◌, ◌≢◌, ℕ, ◌+◌, ◌^◌, ◌<◌, ◌≤◌, ◌==◌, if◌then◌else◌, List, [], length, map, find, replicate, Some, None, true, false, All, IsTrue, slice_get, unwrap_or, IfSome, IsSomeAnd}
 use Rattle.cs_types.specs.declared.task.Task.{Task}
 use Rattle.cs_types.specs.declared.view.CpuView.{CpuView}
 use Rattle.cs_types.specs.Scenario.{IsPolicy}
-use Rattle.cs_types.specs.Room.{SiblingState, idle, RoomState, Interval, has_pid}
+use Rattle.cs_types.specs.Room.{SiblingState, idle, RoomState, Interval, has_pid, sibling_of, task_of}
 use Rattle.cs_types.specs.Guards.{GuardList}
 use Rattle.forceidle_account.specs.Account.{Account}
 use Rattle.task_table.specs.Table.{Table, IsSound as IsTable}
@@ -129,6 +129,11 @@ room_by beside core table =
 
 abbrev pub room_of : {Q : Type 0} {g : Ghosts Q} → Beside → Core Q g × Table → RoomState
 room_of beside both = room_by beside (bare both.0) both.1
+
+-- each sibling runs idle, or a living task that is at home there
+abbrev pub RunTheirOwn : {Q : Type 0} {g : Ghosts Q} → Core Q g × Table → Type 0
+RunTheirOwn both = (beside : Beside) (cpu : ℕ) → let room = room_of beside both in
+    IfSome (sibling_of room cpu).run (λ pid. IsSomeAnd (task_of room pid) (λ task. task.home ≡ cpu))
 
 -- ---- that they agree
 

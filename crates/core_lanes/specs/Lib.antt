@@ -4,3 +4,5 @@ pub mod Lanes
 pub mod Exchanges
 pub mod Numbers
 pub mod Changes
+pub mod Account
+pub mod Charges

@@ -1,7 +1,8 @@
 //! The siblings of a core, each with its queue, and the small changes that a schedule and the other events are
-//! made of. The queue is a parameter, so that one text serves every kind of it.
+//! made of, the charge for forced idle among them. The queue is a parameter, so that one text serves every kind of it.
 #![tactic(auto)]
 
+mod account;
 mod lane;
 mod lanes;
 mod moving;
@@ -10,6 +11,7 @@ mod queue;
 mod queued;
 mod told;
 
+pub use account::charge;
 pub use lane::Lane;
 pub use lanes::{Core, MOST_SIBLINGS, task_of};
 pub use order::{goes_before, is_fair, is_higher, priority_of};

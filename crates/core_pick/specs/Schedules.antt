@@ -11,7 +11,7 @@ use Rattle.core_lanes.specs.declared.lanes.Core.{Core}
 use Rattle.core_lanes.specs.Lanes.{Beside, at, room_of, Agree, AgreesAt, HasLowTimes}
 use Rattle.core_lanes.specs.Numbers.{Numbers, numbers_of, numbers_in, booked, took}
 use Rattle.core_lanes.specs.Changes.{Stays, BecomesCharged, IsBooked}
-use Rattle.core_charge.specs.Charges.{IsPaid}
+use Rattle.core_lanes.specs.Charges.{IsPaid}
 use Rattle.core_pick.specs.declared.choice.Choice.{Choice}
 use Rattle.core_pick.specs.Choice.{firsts_of}
 

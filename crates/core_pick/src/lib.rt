@@ -9,5 +9,5 @@ mod pick;
 mod selection;
 mod sibling;
 
-pub use core_charge::charge;
+pub use core_lanes::charge;
 pub use pick::{pick_and_balance, schedule};

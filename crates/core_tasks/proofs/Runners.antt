@@ -12,11 +12,11 @@ use Rattle.task_table.specs.Table.{Table}
 use Rattle.core_lanes.specs.declared.queue.SiblingQueue.{Ghosts}
 use Rattle.core_lanes.specs.declared.lanes.Core.{Core}
 use Rattle.core_lanes.specs.Queued.{IsOf}
-use Rattle.core_lanes.specs.Lanes.{lane_state, room_of}
+use Rattle.core_lanes.specs.Lanes.{lane_state, room_of, RunTheirOwn}
 use Rattle.core_lanes.proofs.Stays.{some_beside}
 use Rattle.core_tasks.specs.declared.state.State.{State}
 use Rattle.core_tasks.specs.State.{both, room_with}
-use Rattle.core_tasks.specs.Cookies.{flagged_for, RunsAtMostAt, RunTheirOwn}
+use Rattle.core_tasks.specs.Cookies.{flagged_for, RunsAtMostAt}
 
 -- ---- a change that leaves all of a list but one alone
 

@@ -8,7 +8,7 @@ use Rattle.cs_types.specs.Touches.{setting_touches}
 use Rattle.task_table.specs.Table.{Table}
 use Rattle.core_lanes.specs.declared.queue.SiblingQueue.{Ghosts}
 use Rattle.core_lanes.specs.declared.lanes.Core.{Core}
-use Rattle.core_lanes.specs.Lanes.{Beside, room_of}
+use Rattle.core_lanes.specs.Lanes.{RunTheirOwn}
 use Rattle.core_lanes.specs.Numbers.{touched}
 use Rattle.core_tasks.specs.declared.state.State.{State}
 use Rattle.core_tasks.specs.State.{both, room_with, state_numbers, IsSound, IsSoundBut, StaysBut}
@@ -25,11 +25,6 @@ flagged_for pid sibling = record sibling { pending = sibling.pending || is_run s
 -- no other of these siblings runs the task with the pid
 abbrev pub RunsAtMostAt : ℕ → ℕ → List SiblingState → Type 0
 RunsAtMostAt home pid siblings = (cpu : ℕ) → cpu ≢ home → is_run (slice_index_or siblings cpu absent).run (Some pid) ≡ false
-
--- each sibling runs idle, or a living task that is at home there
-abbrev pub RunTheirOwn : {Q : Type 0} {g : Ghosts Q} → Core Q g × Table → Type 0
-RunTheirOwn both = (beside : Beside) (cpu : ℕ) → let room = room_of beside both in
-    IfSome (sibling_of room cpu).run (λ pid. IsSomeAnd (task_of room pid) (λ task. task.home ≡ cpu))
 
 -- tasks may get the cookie, with which the queues are touched this number of times at most
 pub record MaySet {Q G : Type 0} {g : Ghosts Q} (cookie count : ℕ) (state : State Q G g) : Type 0 where

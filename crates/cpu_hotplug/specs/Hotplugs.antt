@@ -11,7 +11,7 @@ use Rattle.core_lanes.specs.Queued.{queued_among}
 use Rattle.core_lanes.specs.Lanes.{Beside, at, room_of}
 use Rattle.core_lanes.specs.Numbers.{numbers_of, numbers_in, booked, touched}
 use Rattle.core_lanes.specs.Changes.{Stays, Becomes, BecomesCharged, IsBooked}
-use Rattle.core_charge.specs.Charges.{IsPaid}
+use Rattle.core_lanes.specs.Charges.{IsPaid}
 use Rattle.cpu_hotplug.specs.Leaves.{MayMoveAll}
 use Rattle.cpu_hotplug.specs.declared.hotplug.Hotplug.{Hotplug}
 use Rattle.cpu_hotplug.specs.declared.hotplug.Hotplug.TheVariants.{Done, Busy, Already}

@@ -6,13 +6,12 @@ ghost use Rattle.cs_types.specs.Hotplug.{lowest_other, leave};
 ghost use Rattle.task_table.specs.Table.{Table};
 ghost use Rattle.core_lanes.specs.Queued.{queued_among};
 ghost use Rattle.core_lanes.specs.Lanes.{Beside, room_of};
-ghost use Rattle.core_charge.specs.Charges.{ChargesAndTouches};
+ghost use Rattle.core_lanes.specs.Charges.{ChargesAndTouches};
 ghost use Rattle.cpu_hotplug.specs.Hotplugs.{MayLeave, TakesOffline, BringsOnline};
 
 use crate::away::{online_count, set_back, set_one_away};
 use crate::moves::move_off;
-use core_charge::charge;
-use core_lanes::{Core, SiblingQueue};
+use core_lanes::{Core, SiblingQueue, charge};
 use cs_types::{Cpu, Steps};
 use std::sync::ledger::Ledger;
 use task_table::TaskTable;

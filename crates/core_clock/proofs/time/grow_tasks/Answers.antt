@@ -5,12 +5,11 @@ use Rattle.cs_types.specs.declared.task.Task.{Task}
 use Rattle.cs_types.specs.Room.{RoomState, SiblingState, absent, running_on}
 use Rattle.cs_types.proofs.Homes.{running_is_found}
 use Rattle.core_lanes.specs.declared.queue.SiblingQueue.{Ghosts}
-use Rattle.core_lanes.specs.Lanes.{Beside, lane_state, room_of}
+use Rattle.core_lanes.specs.Lanes.{Beside, lane_state, room_of, RunTheirOwn}
 use Rattle.core_lanes.specs.declared.lanes.Core.{Core}
 use Rattle.core_lanes.specs.Changes.{Changes}
 use Rattle.task_table.specs.Table.{Table}
 use Rattle.core_lanes.proofs.Stays.{some_beside, same_stays}
-use Rattle.core_clock.specs.Time.{RunTheirOwn}
 use Rattle.core_clock.proofs.Changes.{both_change, changes_as, still_below}
 use Rattle.core_clock.proofs.Growth.{is_run_by, with_growth_on, grown_alone, runs_alone, grown_with_first, grown_with_none, grown_with_more, grown_with_all, all_grown}
 use Rattle.core_clock.proofs.time.grow_tasks.Goals as goal

@@ -5,7 +5,8 @@ use Rattle.cs_types.specs.Touches.{setting_touches}
 use Rattle.task_table.specs.Group.{group_above}
 use Rattle.core_lanes.specs.Numbers.{touched}
 use Rattle.core_tasks.specs.State.{both, room_with, StaysBut, state_numbers}
-use Rattle.core_tasks.specs.Cookies.{setting, RunTheirOwn}
+use Rattle.core_tasks.specs.Cookies.{setting}
+use Rattle.core_lanes.specs.Lanes.{RunTheirOwn}
 use Rattle.core_tasks.proofs.state.State.set_group.Given as goal
 
 abbrev pub invariant-loop : goal.invariant-loop

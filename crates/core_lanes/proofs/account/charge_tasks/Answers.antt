@@ -1,8 +1,8 @@
 use Rattle.std.proofs.Common.{ℕ, ◌∙◌, sym, subst}
 use Rattle.std.specs.Prelude.{List, IsSome, All, find}
 use Rattle.cs_types.specs.Room.{has_pid}
-use Rattle.core_charge.specs.Account.{Owes}
-use Rattle.core_charge.proofs.account.charge_tasks.Goals as goal
+use Rattle.core_lanes.specs.Account.{Owes}
+use Rattle.core_lanes.proofs.account.charge_tasks.Goals as goal
 
 pub charge_each-requires : goal.charge_each-requires
 charge_each-requires g c = record {

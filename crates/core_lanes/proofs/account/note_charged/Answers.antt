@@ -8,11 +8,11 @@ use Rattle.arrayvec.specs.ArrayVec.{array_vec_len}
 use Rattle.cs_types.specs.declared.task.Task.{Task}
 use Rattle.cs_types.specs.Room.{has_pid}
 use Rattle.core_lanes.specs.Lanes.{lane_state, room_of}
-use Rattle.core_charge.specs.Account.{charged_at}
-use Rattle.core_charge.proofs.Accounts.{charged_each, charged_more}
-use Rattle.core_charge.proofs.account.note_charged.Given.{Over}
-use Rattle.core_charge.proofs.account.note_charged.Goals as goal
-use Rattle.core_charge.proofs.account.note_charged.Goals.{in-Some, in_default}
+use Rattle.core_lanes.specs.Account.{charged_at}
+use Rattle.core_lanes.proofs.Accounts.{charged_each, charged_more}
+use Rattle.core_lanes.proofs.account.note_charged.Given.{Over}
+use Rattle.core_lanes.proofs.account.note_charged.Goals as goal
+use Rattle.core_lanes.proofs.account.note_charged.Goals.{in-Some, in_default}
 
 -- a task with the pid lives
 abbrev Lives : List Task → ℕ → Type 0

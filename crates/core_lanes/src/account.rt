@@ -8,11 +8,12 @@ ghost use Rattle.cs_types.specs.Accounting.{with_cookie, charged, charge};
 ghost use Rattle.task_table.specs.Table.{total_in, IsSound as IsTable};
 ghost use Rattle.core_lanes.specs.Queued.{IsOf};
 ghost use Rattle.core_lanes.specs.Lanes.{Beside, room_of, queues_of, bare, Agree};
-ghost use Rattle.core_charge.specs.Account.{charged_at, MayOwe, Owes};
-ghost use Rattle.core_charge.specs.Charges.{IsPaid, Charges};
+ghost use Rattle.core_lanes.specs.Account.{charged_at, MayOwe, Owes};
+ghost use Rattle.core_lanes.specs.Charges.{IsPaid, Charges};
 
+use crate::lanes::{Core, MOST_SIBLINGS};
+use crate::queue::SiblingQueue;
 use arrayvec::ArrayVec;
-use core_lanes::{Core, MOST_SIBLINGS, SiblingQueue};
 use cs_types::{Cpu, Pid};
 use task_table::TaskTable;
 

@@ -2,7 +2,7 @@ use Rattle.std.proofs.Common.{◌≡◌, ℕ, ◌+◌, cond, take}
 use Rattle.std.specs.Prelude.{◌==◌}
 use Rattle.std.specs.List.{list_any}
 use Rattle.task_table.specs.Table.{total_in, IsSound as IsTable}
-use Rattle.core_charge.proofs.account.charge_each.Given as goal
+use Rattle.core_lanes.proofs.account.charge_each.Given as goal
 
 abbrev pub invariant-loop-index : goal.invariant-loop-index
 invariant-loop-index l = record {

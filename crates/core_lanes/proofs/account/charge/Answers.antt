@@ -10,10 +10,10 @@ use Rattle.task_table.specs.Table.{Table, total_among, total_in}
 use Rattle.core_lanes.specs.Lanes.{Beside, at, room_of, bare}
 use Rattle.core_lanes.specs.Numbers.{Numbers, numbers_in, numbers_by, booked, with_ended}
 use Rattle.core_lanes.proofs.Stays.{some_beside, kept_stays, alike_stays}
-use Rattle.core_charge.specs.Account.{Owes}
-use Rattle.core_charge.proofs.Accounts.{charged_in}
-use Rattle.core_charge.proofs.account.charge.Given.{Over}
-use Rattle.core_charge.proofs.account.charge.Goals as goal
+use Rattle.core_lanes.specs.Account.{Owes}
+use Rattle.core_lanes.proofs.Accounts.{charged_in}
+use Rattle.core_lanes.proofs.account.charge.Given.{Over}
+use Rattle.core_lanes.proofs.account.charge.Goals as goal
 
 pub charge_tasks-requires-clause-low : goal.charge_tasks-requires-clause-low
 charge_tasks-requires-clause-low g c pid =

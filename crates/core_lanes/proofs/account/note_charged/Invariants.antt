@@ -5,8 +5,8 @@ use Rattle.std.specs.Option.{IsSome}
 use Rattle.arrayvec.specs.ArrayVec.{array_vec_len}
 use Rattle.cs_types.specs.Room.{has_pid}
 use Rattle.core_lanes.specs.Lanes.{Beside, room_of}
-use Rattle.core_charge.specs.Account.{charged_at}
-use Rattle.core_charge.proofs.account.note_charged.Given as goal
+use Rattle.core_lanes.specs.Account.{charged_at}
+use Rattle.core_lanes.proofs.account.note_charged.Given as goal
 
 abbrev pub invariant-loop-cpu : goal.invariant-loop-cpu
 invariant-loop-cpu g l = record {
