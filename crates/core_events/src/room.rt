@@ -7,7 +7,7 @@ ghost use Rattle.cs_types.specs.Room.{RoomState, Interval};
 ghost use Rattle.cs_types.specs.View.{task_after, task_view, forced_of};
 ghost use Rattle.core_tasks.specs.State.{room_with};
 ghost use Rattle.core_tasks.specs.Steps.{Makes};
-ghost use Rattle.core_tasks.specs.Start.{opened};
+ghost use Rattle.room_start.specs.Opened.{opened};
 ghost use Rattle.core_events.specs.Ready.{IsReadyFor};
 ghost use Rattle.cs_types.specs.Guards.{guards_on_bench};
 
@@ -20,6 +20,7 @@ use cs_types::{
     Scenario, Steps, Task, TaskView,
 };
 use ptrace_check::Guards;
+use room_start::FromScenario;
 use std::alloc::Global;
 use std::marker::{Brand, Model};
 use std::snapshot::Snapshot;
@@ -226,4 +227,23 @@ impl<Q: SiblingQueue, G: Guard> Room for CoreRoom<Q, G> {
 
     ghost settled = { λ room playable events. settled-moment_of room.opening
         (history_of room.opening room.steps) playable events (IsLegal-history_of room.opening room.steps) };
+}
+
+impl<Q: SiblingQueue, G: Guard> FromScenario<Guards<G>> for CoreRoom<Q, G> {
+    ghost use Rattle.cs_types.specs.History.{history_of};
+
+    fn from_scenario(
+        alloc: Global,
+        scenario: &Scenario,
+        guards: Guards<G>,
+    ) -> Result<CoreRoom<Q, G>, OutOfMemory>
+        requires playable { IsPlayable scenario.now }
+        requires guards { guards.guards ≡ guards_on_bench scenario.now.teaches (length guards.guards.all) }
+        ensures opening { IfOk result (λ room. room.opening ≡ opened scenario.now guards) }
+        ensures empty { IfOk result (λ room. history_of room.opening room.steps ≡ []) }
+        ensures spare { IfOk result (λ room. room.spare ≡
+            length scenario.now.steps + scenario.now.siblings * scenario.now.siblings) }
+    {
+        CoreRoom::start(alloc, scenario, guards)
+    }
 }

@@ -4,7 +4,6 @@ use Rattle.cs_types.specs.declared.task.TaskSpec.{TaskSpec}
 use Rattle.cs_types.specs.declared.scenario.Scenario.{Scenario}
 use Rattle.cs_types.specs.Room.{Opening, asleep_tasks, start}
 use Rattle.cs_types.specs.History.{beginning}
-use Rattle.ptrace_check.specs.Guards.{Guarded}
 use Rattle.task_table.specs.Table.{Table, total_in, IsSound as IsTable}
 use Rattle.core_lanes.specs.declared.queue.SiblingQueue.{Ghosts}
 use Rattle.core_lanes.specs.declared.lanes.Core.{Core}
@@ -26,10 +25,6 @@ pub record IsStartOf {Q : Type 0} {g : Ghosts Q} (scenario : Scenario) (both : C
   pub tasks : both.1 ≡ record { tasks = asleep_tasks scenario.tasks; totals = both.1.totals; limit = scenario.task_limit }
   pub totals : (pid : ℕ) → total_in both.1 pid ≡ 0
   pub agree : Agree both
-
--- what a machine begins with that is handed a scenario and these guards
-abbrev pub opened : Scenario → Guarded → Opening
-opened scenario guards = record { scenario = scenario; guards = length guards.guards.all }
 
 -- the state is that of what a machine begins with, before the first step, and so many tasks may end
 pub record IsFirstState {Q G : Type 0} {g : Ghosts Q} (opening : Opening) (most : ℕ) (state : State Q G g) : Type 0 where

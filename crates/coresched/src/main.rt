@@ -5,7 +5,8 @@
 ghost use Rattle.std.specs.Prelude.{◌≡◌, [], ◌∷◌, IfOk};
 ghost use Rattle.cs_outside.specs.Guard.{fresh};
 
-use cs_outside::{NoGate, PairGuard, StdSink, StdSource};
+use core_state::CoreState;
+use cs_outside::{NoGate, NullGuard, PairGuard, StdSink, StdSource};
 use scenario_runner::{Status, run};
 use std::env;
 use std::io::ErrorKind;
@@ -53,7 +54,16 @@ fn execute<R: Threads + Wait + AllocGlobal + Sync>(
         Ok(guards) => guards,
         Err(status) => return status,
     };
-    match run(rt, words, source, sink, &NoGate, guards) {
+    match run::<
+        CoreState<PairGuard>,
+        CoreState<NullGuard>,
+        R,
+        StdSource,
+        StdSink,
+        NoGate,
+        PairGuard,
+    >(rt, words, source, sink, &NoGate, guards)
+    {
         Status::Done if sink.flush().is_err() => Status::WriteFault,
         status => status,
     }

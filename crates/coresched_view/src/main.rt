@@ -5,6 +5,7 @@
 ghost use Rattle.std.specs.Prelude.{◌≡◌, [], ◌∷◌, IfOk};
 ghost use Rattle.cs_outside.specs.Guard.{fresh};
 
+use core_state::CoreState;
 use cs_outside::{PairGuard, StdSink, StdSource};
 use std::env;
 use std::io::ErrorKind;
@@ -51,7 +52,13 @@ fn execute<R: AllocGlobal>(
         Ok(guards) => guards,
         Err(status) => return status,
     };
-    match run(rt.alloc(), words, source, sink, guards) {
+    match run::<CoreState<PairGuard>, StdSource, StdSink, PairGuard>(
+        rt.alloc(),
+        words,
+        source,
+        sink,
+        guards,
+    ) {
         Status::Done if sink.flush().is_err() => Status::WriteFault,
         status => status,
     }

@@ -1,12 +1,14 @@
 //! The commands: the stored run, words and texts that are refused, the limit of the input on both
 //! sides, and a device that fails at each of its calls.
 
-ghost use Rattle.std.specs.Prelude.{◌≡◌, ◌<◌};
+ghost use Rattle.std.specs.Prelude.{◌≡◌, ◌<◌, ◌≤◌, [], All, vec_len};
 
 use crate::scenarios::{STEP, text_of_lines};
 use command_words::{Command, command_of, drill_seed, is_replay};
-use cs_outside::{NoGate, PairGuard};
+use core_state::CoreState;
+use cs_outside::{Gate, Guard, NoGate, NullGuard, PairGuard};
 use memory_outside::{MemSink, MemSource};
+use plain_room::PlainRoom;
 use scenario_runner::{Status, drill, replay, run};
 use scenario_text::BadKind;
 use std::alloc::{AllocError, Global};
@@ -99,6 +101,26 @@ pub fn sink_of<R: AllocGlobal + Abort>(rt: &R, most: usize, fails: Vec<u64>) -> 
     MemSink::of(rt.alloc(), 4096, most, fails).expect(rt, "room")
 }
 
+/// How `run` ends over the machine that the program plays.
+pub fn run_over_trees<T: Threads + Wait + AllocGlobal + Sync, P: Gate + Sync, G: Guard + Send>(
+    rt: &T,
+    words: &[String],
+    source: &mut MemSource,
+    sink: &mut MemSink,
+    gate: &P,
+    guards: Vec<G>,
+) -> Status
+    requires source { source.old.faults ≡ 0 }
+    requires sink { sink.old.faults ≡ 0 }
+    requires few { vec_len guards ≤ 16 }
+    requires untaught { All (λ guard. G.pairs guard ≡ []) guards.items }
+    requires unasked { All (λ guard. G.asked guard ≡ 0) guards.items }
+{
+    run::<CoreState<G>, CoreState<NullGuard>, T, MemSource, MemSink, P, G>(
+        rt, words, source, sink, gate, guards,
+    )
+}
+
 /// Expects that `run` without guards ends so over this text, and writes these bytes. The source gives so many bytes
 /// at once, and the sink takes so many. They fail at these calls, where they come to them. It returns how often each
 /// of them was called.
@@ -118,12 +140,12 @@ fn expect_run<R: Threads + Wait + AllocGlobal + Sync + Abort>(
     let mut source = source_of(rt, text, most.0, only(rt, fails.0));
     let mut sink = sink_of(rt, most.1, only(rt, fails.1));
     let guards = Vec::<PairGuard>::new(rt.alloc());
-    assert!(rt; run(rt, &words, &mut source, &mut sink, &NoGate, guards) == wanted);
+    assert!(rt; run_over_trees(rt, &words, &mut source, &mut sink, &NoGate, guards) == wanted);
     assert!(rt; sink.bytes() == output);
     (source.calls(), sink.calls())
 }
 
-/// The same of `replay`.
+/// The same of `replay`, over the plain machine.
 fn expect_replay<R: AllocGlobal + Abort>(
     rt: &R,
     texts: &[&str],
@@ -140,7 +162,14 @@ fn expect_replay<R: AllocGlobal + Abort>(
     let mut source = source_of(rt, text, most.0, only(rt, fails.0));
     let mut sink = sink_of(rt, most.1, only(rt, fails.1));
     let guards = Vec::<PairGuard>::new(rt.alloc());
-    assert!(rt; replay(rt.alloc(), &words, &mut source, &mut sink, guards) == wanted);
+    let status = replay::<PlainRoom<PairGuard>, MemSource, MemSink, PairGuard>(
+        rt.alloc(),
+        &words,
+        &mut source,
+        &mut sink,
+        guards,
+    );
+    assert!(rt; status == wanted);
     assert!(rt; sink.bytes() == output);
     (source.calls(), sink.calls())
 }
@@ -236,7 +265,8 @@ const OTHER_WORDS: [&'static [&'static str]; 15] = [
 fn expect_no_drill<R: AllocGlobal + Abort>(rt: &R, texts: &[&str]) {
     let words = words_of(rt.alloc(), texts).expect(rt, "room");
     let mut sink = sink_of(rt, 4096, Vec::new(rt.alloc()));
-    assert!(rt; drill(rt.alloc(), &words, &mut sink) == Status::BadWords && sink.calls() == 0);
+    let status = drill::<CoreState<NullGuard>, MemSink>(rt.alloc(), &words, &mut sink);
+    assert!(rt; status == Status::BadWords && sink.calls() == 0);
 }
 
 /// Expects that the words ask for this command.

@@ -1,14 +1,15 @@
 //! The drill: the scenarios of some seeds, by the lines of their texts, and the summaries of worked examples.
 
-use crate::commands::{joined, only, sink_of, source_of, words_of};
+use crate::commands::{joined, only, run_over_trees, sink_of, source_of, words_of};
 use crate::examples::{FORK_AND_EXIT, played};
 use crate::moves::{LAST_TASK_STOLEN, STEAL};
 use crate::scripts::{FORCED_IDLE, Script};
-use cs_outside::{NoGate, PairGuard};
+use core_state::CoreState;
+use cs_outside::{NoGate, NullGuard, PairGuard};
 use cs_types::Room;
 use memory_outside::MemSink;
 use room_drill::{generate, summary};
-use scenario_runner::{Status, drill, run};
+use scenario_runner::{Status, drill};
 use scenario_writer::scenario_text;
 use std::process::Abort;
 use std::sync::Wait;
@@ -211,7 +212,7 @@ fn drilled<R: Threads + Wait + AllocGlobal + Sync + Abort>(
     let guards = Vec::<PairGuard>::new(rt.alloc());
     let mut source = source_of(rt, b"coresched 1\n", 4096, Vec::new(rt.alloc()));
     let mut sink = MemSink::of(rt.alloc(), 16_384, 4096, only(rt, fails)).expect(rt, "room");
-    assert!(rt; run(rt, &words, &mut source, &mut sink, &NoGate, guards) == wanted);
+    assert!(rt; run_over_trees(rt, &words, &mut source, &mut sink, &NoGate, guards) == wanted);
     assert!(rt; source.calls() == 0);
     sink
 }
@@ -227,7 +228,8 @@ fn command_drill(rt: HostRuntime) {
     assert!(rt; again.bytes() == first.bytes());
     let words = words_of(rt.alloc(), &["drill", "1"]).expect(&rt, "room");
     let mut sink = MemSink::of(rt.alloc(), 16_384, 7, Vec::new(rt.alloc())).expect(&rt, "room");
-    assert!(rt; drill(rt.alloc(), &words, &mut sink) == Status::Done);
+    let status = drill::<CoreState<NullGuard>, MemSink>(rt.alloc(), &words, &mut sink);
+    assert!(rt; status == Status::Done);
     assert!(rt; sink.bytes() == first.bytes());
     let last = drilled(&rt, "4294967295", 0, Status::Done);
     assert!(rt;

@@ -3,12 +3,13 @@
 
 ghost use Rattle.std.specs.Prelude.{◌≡◌, ◌≤◌, [], All, vec_len};
 
-use crate::commands::{only, sink_of, source_of, words_of};
+use crate::commands::{only, run_over_trees, sink_of, source_of, words_of};
 use crate::guards::{WORKED, counter, expect_drops, two_long};
-use crate::strangers::PoorGuard;
+use crate::strangers::{LongGuard, PoorGuard};
+use core_state::CoreState;
 use cs_outside::{Guard, NoGate};
-use memory_outside::MemSource;
-use scenario_runner::{GuardKind, Status, replay, run};
+use memory_outside::{MemSink, MemSource};
+use scenario_runner::{GuardKind, Status, replay};
 use scenario_text::BadKind;
 use std::alloc::Global;
 use std::process::Abort;
@@ -84,7 +85,7 @@ fn expect_end<R: Threads + Wait + AllocGlobal + Sync + Abort, G: Guard + Send>(
     let words = words_of(rt.alloc(), texts).expect(rt, "room");
     let mut source = source_of(rt, end.text.as_bytes(), 65_536, only(rt, end.read));
     let mut sink = sink_of(rt, 4096, only(rt, end.write));
-    assert!(rt; run(rt, &words, &mut source, &mut sink, &NoGate, guards) == end.status);
+    assert!(rt; run_over_trees(rt, &words, &mut source, &mut sink, &NoGate, guards) == end.status);
 }
 
 /// Expects that two guards are let go once each where `run` with these words ends so.
@@ -121,7 +122,14 @@ fn guards_at_bad_words(rt: HostRuntime) {
     let mut source = source_of(&rt, end.text.as_bytes(), 65_536, only(&rt, 0));
     let mut sink = sink_of(&rt, 4096, only(&rt, 0));
     let guards = two_long(&rt, &drops);
-    assert!(rt; replay(rt.alloc(), &words, &mut source, &mut sink, guards) == end.status);
+    let status = replay::<CoreState<LongGuard>, MemSource, MemSink, LongGuard>(
+        rt.alloc(),
+        &words,
+        &mut source,
+        &mut sink,
+        guards,
+    );
+    assert!(rt; status == end.status);
     expect_drops(&rt, &drops, 2);
 }
 
@@ -133,7 +141,9 @@ fn expect_let_go_of_long<R: Threads + Wait + AllocGlobal + Sync + Abort>(rt: &R,
     let mut source = MemSource::of(text, 65_536, only(rt, 0));
     let mut sink = sink_of(rt, 4096, only(rt, 0));
     let guards = two_long(rt, &drops);
-    assert!(rt; run(rt, &words, &mut source, &mut sink, &NoGate, guards) == Status::TooLong);
+    assert!(rt;
+        run_over_trees(rt, &words, &mut source, &mut sink, &NoGate, guards) == Status::TooLong
+    );
     expect_drops(rt, &drops, 2);
 }
 

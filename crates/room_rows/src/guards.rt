@@ -5,6 +5,7 @@ ghost use Rattle.std.specs.Prelude.{◌≡◌, ◌≤◌, [], All, vec_len};
 
 use crate::commands::{joined, sink_of, source_of, words_of};
 use crate::strangers::LongGuard;
+use core_state::CoreState;
 use cs_outside::{Guard, NullGuard, PairGuard, TeachFault};
 use cs_types::GuardPlace;
 use memory_outside::ListGuard;
@@ -45,7 +46,14 @@ fn expect_guarded<R: AllocGlobal + Abort, G: Guard>(
     let mut source = source_of(rt, text, 65_536, Vec::new(rt.alloc()));
     let mut sink = sink_of(rt, 4096, Vec::new(rt.alloc()));
     let words = words_of(rt.alloc(), &["replay"]).expect(rt, "room");
-    assert!(rt; replay(rt.alloc(), &words, &mut source, &mut sink, guards) == wanted);
+    let status = replay::<CoreState<G>, MemSource, MemSink, G>(
+        rt.alloc(),
+        &words,
+        &mut source,
+        &mut sink,
+        guards,
+    );
+    assert!(rt; status == wanted);
     assert!(rt; sink.bytes() == joined(rt.alloc(), output).expect(rt, "room").as_slice());
 }
 

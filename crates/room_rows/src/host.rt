@@ -3,12 +3,12 @@
 
 ghost use Rattle.std.specs.Prelude.{◌≡◌};
 
-use crate::commands::{source_of, words_of};
+use crate::commands::{run_over_trees, source_of, words_of};
 use crate::passes::expect_lines;
 use crate::races::parts_of;
 use cs_outside::{NoGate, PairGuard};
 use memory_outside::{MemSink, MemSource};
-use scenario_runner::{Status, run};
+use scenario_runner::Status;
 use std::alloc::{AllocError, Global};
 use std::process::Abort;
 use std::sync::Wait;
@@ -86,7 +86,7 @@ fn expect_done<R: Threads + Wait + AllocGlobal + Sync + Abort>(
 {
     let words = words_of(rt.alloc(), &[word]).expect(rt, "room");
     let guards = Vec::<PairGuard>::new(rt.alloc());
-    assert!(rt; run(rt, &words, source, sink, &NoGate, guards) == Status::Done);
+    assert!(rt; run_over_trees(rt, &words, source, sink, &NoGate, guards) == Status::Done);
 }
 
 /// The sink of the command of this word, after the host's text.

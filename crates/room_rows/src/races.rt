@@ -4,12 +4,12 @@
 
 ghost use Rattle.std.specs.Prelude.{◌≡◌};
 
-use crate::commands::{sink_of, source_of, words_of};
+use crate::commands::{run_over_trees, sink_of, source_of, words_of};
 use crate::examples::opened;
 use cs_outside::{Gate, NoGate, PairGuard};
 use cs_types::{Actor, Entry, Event, Reply, Room};
 use memory_outside::MemSink;
-use scenario_runner::{Status, run};
+use scenario_runner::Status;
 use sibling_workers::race;
 use std::process::Abort;
 use std::sync::Wait;
@@ -63,7 +63,7 @@ fn raced<R: Threads + Wait + AllocGlobal + Sync + Abort, G: Gate + Sync>(
     let mut sink = sink_of(rt, 4096, Vec::new(rt.alloc()));
     let words = words_of(rt.alloc(), &["race"]).expect(rt, "room");
     let guards = Vec::<PairGuard>::new(rt.alloc());
-    assert!(rt; run(rt, &words, &mut source, &mut sink, gate, guards) == Status::Done);
+    assert!(rt; run_over_trees(rt, &words, &mut source, &mut sink, gate, guards) == Status::Done);
     sink
 }
 

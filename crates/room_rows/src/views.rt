@@ -3,7 +3,8 @@
 //! under another cookie. And its words and faults.
 
 use crate::commands::{sink_of, source_of, words_of};
-use cs_outside::PairGuard;
+use core_state::CoreState;
+use cs_outside::{MemSink, MemSource, PairGuard};
 use scenario_text::BadKind;
 use std::process::Abort;
 use view_runner::{Status, run};
@@ -20,7 +21,14 @@ fn expect_view<R: AllocGlobal + Abort>(
     let mut source = source_of(rt, text.as_bytes(), 4096, Vec::new(rt.alloc()));
     let mut sink = sink_of(rt, 4096, Vec::new(rt.alloc()));
     let guards = Vec::<PairGuard>::new(rt.alloc());
-    assert!(rt; run(rt.alloc(), &words, &mut source, &mut sink, guards) == wanted);
+    let status = run::<CoreState<PairGuard>, MemSource, MemSink, PairGuard>(
+        rt.alloc(),
+        &words,
+        &mut source,
+        &mut sink,
+        guards,
+    );
+    assert!(rt; status == wanted);
     assert!(rt; sink.bytes() == output.as_bytes());
 }
 

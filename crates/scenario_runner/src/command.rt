@@ -9,8 +9,9 @@ ghost use Rattle.scenario_runner.specs.Ends.{EndsAsReplay, EndsAsDrill, EndsBy};
 use crate::drilled::drilled;
 use crate::played::{raced, replayed};
 use command_words::{Command, command_of, drill_seed, is_replay};
-use core_state::TreeQueue;
-use cs_outside::{Gate, Guard, Sink, Source};
+use cs_outside::{Gate, Guard, NullGuard, Sink, Source};
+use ptrace_check::Guards;
+use room_start::FromScenario;
 use scenario_input::Status;
 use std::alloc::Global;
 use std::sync::Wait;
@@ -21,8 +22,8 @@ use std::thread::Threads;
 ///
 /// The word is `replay`; other words are refused. Both counts of faults have to be below 2^64 - 1. At most 16 guards are
 /// handed in, which refuse nobody yet and were never asked. The scenario teaches them before it is played, and they are
-/// dropped at the end.
-pub fn replay<S: Source, K: Sink, G: Guard>(
+/// dropped at the end. `R` is the machine that plays it.
+pub fn replay<R: FromScenario<Guards<G>>, S: Source, K: Sink, G: Guard>(
     alloc: Global,
     words: &[String],
     source: &mut S,
@@ -48,7 +49,7 @@ pub fn replay<S: Source, K: Sink, G: Guard>(
     if !is_replay(alloc, words) {
         return Status::BadWords;
     }
-    replayed::<TreeQueue, S, K, G>(alloc, source, sink, guards)
+    replayed::<R, S, K, G>(alloc, source, sink, guards)
 }
 
 /// Draws the scenario of a seed, makes its steps in their order and then the entries of the end, and writes how many
@@ -56,8 +57,12 @@ pub fn replay<S: Source, K: Sink, G: Guard>(
 /// and always returns.
 ///
 /// The words are `drill` and the seed, a decimal number from 0 to 4294967295 with no sign and no leading 0 but in `0`
-/// itself; other words are refused. The sink's count of faults has to be below 2^64 - 1.
-pub fn drill<K: Sink>(alloc: Global, words: &[String], sink: &mut K) -> Status
+/// itself; other words are refused. The sink's count of faults has to be below 2^64 - 1. `R` is the machine that plays it.
+pub fn drill<R: FromScenario<Guards<NullGuard>>, K: Sink>(
+    alloc: Global,
+    words: &[String],
+    sink: &mut K,
+) -> Status
     requires sink { K.faults sink.old < 2 ^ 64 - 1 }
 
     // When each status comes, and what was written.
@@ -69,7 +74,7 @@ pub fn drill<K: Sink>(alloc: Global, words: &[String], sink: &mut K) -> Status
     ensures unwritten { result ≡ Status.BadWords → sink.new ≡ sink.old }
 {
     match drill_seed(alloc, words) {
-        Some(seed) => drilled(alloc, seed, sink),
+        Some(seed) => drilled::<R, K>(alloc, seed, sink),
         None => Status::BadWords,
     }
 }
@@ -80,13 +85,16 @@ pub fn drill<K: Sink>(alloc: Global, words: &[String], sink: &mut K) -> Status
 /// passes the gate before each of its turns, also before the one that finds its script made. Other words are no
 /// command's.
 ///
-/// Else it asks for what `replay` asks for. With the word `race` it may wait, so its return is not promised.
+/// Else it asks for what `replay` asks for. With the word `race` it may wait, so its return is not promised. `R` is the
+/// machine that plays a scenario that is read, and `D` the one that plays a drill, which has no guards.
 pub fn run<
+    R: FromScenario<Guards<G>> + Send,
+    D: FromScenario<Guards<NullGuard>>,
     T: Threads + Wait + AllocGlobal + Sync,
     S: Source,
     K: Sink,
     P: Gate + Sync,
-    G: Guard + Send,
+    G: Guard,
 >(rt: &T, words: &[String], source: &mut S, sink: &mut K, gate: &P, guards: Vec<G>) -> Status
     requires source { S.faults source.old < 2 ^ 64 - 1 }
     requires sink { K.faults sink.old < 2 ^ 64 - 1 }
@@ -105,9 +113,9 @@ pub fn run<
     ensures unwritten { result ≡ Status.BadWords → sink.new ≡ sink.old }
 {
     match command_of(rt.alloc(), words) {
-        Some(Command::Replay) => replayed::<TreeQueue, S, K, G>(rt.alloc(), source, sink, guards),
-        Some(Command::Race) => raced::<TreeQueue, T, S, K, P, G>(rt, source, sink, gate, guards),
-        Some(Command::Drill { seed }) => drilled(rt.alloc(), seed, sink),
+        Some(Command::Replay) => replayed::<R, S, K, G>(rt.alloc(), source, sink, guards),
+        Some(Command::Race) => raced::<R, T, S, K, P, G>(rt, source, sink, gate, guards),
+        Some(Command::Drill { seed }) => drilled::<D, K>(rt.alloc(), seed, sink),
         None => Status::BadWords,
     }
 }

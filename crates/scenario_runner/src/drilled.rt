@@ -8,26 +8,29 @@ ghost use Rattle.scenario_runner.specs.Outcomes.{drill_opening};
 ghost use Rattle.scenario_runner.specs.Ends.{EndsAsDrill};
 ghost use Rattle.scenario_runner.specs.Written.{IsWritten, WritesDrill};
 
-use core_state::CoreState;
 use cs_outside::{NullGuard, Sink};
 use cs_types::{OutOfMemory, Room, Scenario, Step};
 use ptrace_check::Guards;
 use room_drill::{generate, summary};
+use room_start::FromScenario;
 use scenario_input::{Status, play};
 use std::alloc::Global;
 
 /// The scenario of the seed, and the room of it before its first step. No guard is handed in.
-fn opened(alloc: Global, seed: u32) -> Result<(Scenario, CoreState<NullGuard>), OutOfMemory>
+fn opened<R: FromScenario<Guards<NullGuard>>>(
+    alloc: Global,
+    seed: u32,
+) -> Result<(Scenario, R), OutOfMemory>
     ensures scenario { IfOk result (λ opened. opened.0 ≡ drill_scenario seed) }
     ensures valid { IfOk result (λ opened. IsValid opened.0) }
-    ensures opening { IfOk result (λ opened. opened.1.opening ≡ drill_opening seed) }
-    ensures empty { IfOk result (λ opened. opened.1.steps ≡ []) }
+    ensures opening { IfOk result (λ opened. R.opening opened.1 ≡ drill_opening seed) }
+    ensures empty { IfOk result (λ opened. R.history opened.1 ≡ []) }
     ensures spare { IfOk result (λ opened.
-        opened.1.spare ≡ length opened.0.steps + opened.0.siblings * opened.0.siblings) }
+        R.spare opened.1 ≡ length opened.0.steps + opened.0.siblings * opened.0.siblings) }
 {
     let scenario = generate(alloc, seed)?;
     let guards = Guards::of(alloc, Vec::new(alloc))?;
-    let room = CoreState::start(alloc, &scenario, guards)?;
+    let room = R::from_scenario(alloc, &scenario, guards)?;
     Ok((scenario, room))
 }
 
@@ -60,11 +63,15 @@ fn write_drill<R: Room, K: Sink>(seed: u32, mut room: R, steps: &[Step], sink: &
 
 /// Plays the seed's scenario in the order of its steps, and then the entries of the end, and writes the summary and
 /// the report.
-pub(crate) fn drilled<K: Sink>(alloc: Global, seed: u32, sink: &mut K) -> Status
+pub(crate) fn drilled<R: FromScenario<Guards<NullGuard>>, K: Sink>(
+    alloc: Global,
+    seed: u32,
+    sink: &mut K,
+) -> Status
     requires sink { K.faults sink.old < 2 ^ 64 - 1 }
     ensures { EndsAsDrill seed (record { bytes = K.written; faults = K.faults; before = sink.old; after = sink.new }) result }
 {
-    match opened(alloc, seed) {
+    match opened::<R>(alloc, seed) {
         Ok((scenario, room)) => write_drill(seed, room, scenario.steps.items(), sink),
         Err(_) => Status::OutOfMemory,
     }

@@ -10,34 +10,34 @@ ghost use Rattle.scenario_runner.specs.Outcomes.{opened_with};
 ghost use Rattle.scenario_runner.specs.Ends.{IsBadGuard, EndsAsReplay, EndsAsRace};
 ghost use Rattle.scenario_runner.specs.Written.{WritesOutput, WritesReplay, MayWriteRace};
 
-use core_events::CoreRoom;
-use core_lanes::SiblingQueue;
 use cs_outside::{Gate, Guard, Sink, Source};
 use cs_types::{Room, Scenario, Step};
+use ptrace_check::Guards;
 use room_report::output;
+use room_start::FromScenario;
 use scenario_input::{Status, Stop, play, read_scenario, taught};
 use std::alloc::Global;
 use std::sync::Wait;
 use std::thread::Threads;
 
-/// The scenario that the input spells, and the room of it before its first step, over queues of one kind, with the guards that it
+/// The scenario that the input spells, and the room of it before its first step, in a machine of one kind, with the guards that it
 /// teaches. At most 16 guards are handed in, which refuse nobody yet and were never asked. At an `Err` it is told why the
 /// input is not played.
-pub fn opened<Q: SiblingQueue, S: Source, G: Guard>(
+pub fn opened<R: FromScenario<Guards<G>>, S: Source, G: Guard>(
     alloc: Global,
     source: &mut S,
     guards: Vec<G>,
-) -> Result<(Scenario, CoreRoom<Q, G>), Stop>
+) -> Result<(Scenario, R), Stop>
     requires few { vec_len guards ≤ 16 }
     requires untaught { All (λ guard. G.pairs guard ≡ []) guards.items }
     requires unasked { All (λ guard. G.asked guard ≡ 0) guards.items }
 
     ensures reads { IfOk result (λ opened. Reads opened.0 (S.left source.old) (S.left source.new)) }
     ensures taught { IfOk result (λ opened. first_bad (map G.cap guards.items) opened.0.teaches ≡ None) }
-    ensures opening { IfOk result (λ opened. opened.1.opening ≡ opened_with (map G.cap guards.items) opened.0) }
-    ensures empty { IfOk result (λ opened. opened.1.steps ≡ []) }
+    ensures opening { IfOk result (λ opened. R.opening opened.1 ≡ opened_with (map G.cap guards.items) opened.0) }
+    ensures empty { IfOk result (λ opened. R.history opened.1 ≡ []) }
     ensures spare { IfOk result (λ opened.
-        opened.1.spare ≡ length opened.0.steps + opened.0.siblings * opened.0.siblings) }
+        R.spare opened.1 ≡ length opened.0.steps + opened.0.siblings * opened.0.siblings) }
 
     ensures too_long { IfSome (S.left source.old) (λ _.
         (result ≡ Err Stop.TooLong) ↔ (input_limit < count_read (S.left source.old) (S.left source.new))) }
@@ -56,7 +56,7 @@ pub fn opened<Q: SiblingQueue, S: Source, G: Guard>(
 {
     let scenario = read_scenario(alloc, source)?;
     let guards = taught(alloc, guards, scenario.teaches.items())?;
-    let room = CoreRoom::start(alloc, &scenario, guards)?;
+    let room = R::from_scenario(alloc, &scenario, guards)?;
     Ok((scenario, room))
 }
 
@@ -89,7 +89,7 @@ fn write_replay<R: Room, K: Sink>(mut room: R, steps: &[Step], sink: &mut K) -> 
 
 /// Reads a scenario to its end, makes its steps in the order of their lines and then the entries of the end, and
 /// writes the line of each entry and the report.
-pub(crate) fn replayed<Q: SiblingQueue, S: Source, K: Sink, G: Guard>(
+pub(crate) fn replayed<R: FromScenario<Guards<G>>, S: Source, K: Sink, G: Guard>(
     alloc: Global,
     source: &mut S,
     sink: &mut K,
@@ -105,7 +105,7 @@ pub(crate) fn replayed<Q: SiblingQueue, S: Source, K: Sink, G: Guard>(
         (record { bytes = S.left; faults = S.faults; before = source.old; after = source.new })
         (record { bytes = K.written; faults = K.faults; before = sink.old; after = sink.new }) result }
 {
-    match opened::<Q, S, G>(alloc, source, guards) {
+    match opened::<R, S, G>(alloc, source, guards) {
         Ok((scenario, room)) => write_replay(room, scenario.steps.items(), sink),
         Err(stop) => Status::from(stop),
     }
@@ -138,12 +138,12 @@ fn write_race<R: Room + Send, T: Threads + Wait + AllocGlobal + Sync, K: Sink, P
 /// that passes the gate before each of its turns, makes the entries of the end, and writes what a replay writes.
 /// It may wait for the room, and where the gate does.
 pub(crate) fn raced<
-    Q: SiblingQueue + Send,
+    R: FromScenario<Guards<G>> + Send,
     T: Threads + Wait + AllocGlobal + Sync,
     S: Source,
     K: Sink,
     P: Gate + Sync,
-    G: Guard + Send,
+    G: Guard,
 >(rt: &T, source: &mut S, sink: &mut K, gate: &P, guards: Vec<G>) -> Status
     requires source { S.faults source.old < 2 ^ 64 - 1 }
     requires sink { K.faults sink.old < 2 ^ 64 - 1 }
@@ -155,7 +155,7 @@ pub(crate) fn raced<
         (record { bytes = S.left; faults = S.faults; before = source.old; after = source.new })
         (record { bytes = K.written; faults = K.faults; before = sink.old; after = sink.new }) result }
 {
-    match opened::<Q, S, G>(rt.alloc(), source, guards) {
+    match opened::<R, S, G>(rt.alloc(), source, guards) {
         Ok((scenario, room)) => write_race(rt, room, &scenario, sink, gate),
         Err(stop) => Status::from(stop),
     }

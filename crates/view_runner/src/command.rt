@@ -7,8 +7,9 @@ ghost use Rattle.view_runner.specs.Ends.{EndsBy};
 
 use crate::played::summarized;
 use crate::shown::{Form, shown};
-use core_state::TreeQueue;
 use cs_outside::{Guard, Sink, Source};
+use ptrace_check::Guards;
+use room_start::FromScenario;
 use scenario_input::Status;
 use std::alloc::Global;
 use view_words::{Command, command_of};
@@ -20,8 +21,9 @@ use view_words::{Command, command_of};
 /// With the word `summary` it writes for how long what was so, with `segments` and `segments-json` what each sibling did
 /// in each stretch of time, as a table and as lines of JSON, and with `picture` the same, drawn. Other words are refused.
 /// Both counts of faults have to be below 2^64 - 1. At most 16 guards are handed in, which refuse nobody yet and were never
-/// asked. The scenario teaches them before it is played, and they are dropped at the end.
-pub fn run<S: Source, K: Sink, G: Guard>(
+/// asked. The scenario teaches them before it is played, and they are dropped at the end. `R` is the machine that plays
+/// it.
+pub fn run<R: FromScenario<Guards<G>>, S: Source, K: Sink, G: Guard>(
     alloc: Global,
     words: &[String],
     source: &mut S,
@@ -45,15 +47,13 @@ pub fn run<S: Source, K: Sink, G: Guard>(
     ensures unwritten { result ≡ Status.BadWords → sink.new ≡ sink.old }
 {
     match command_of(alloc, words) {
-        Some(Command::Summary) => summarized::<TreeQueue, S, K, G>(alloc, source, sink, guards),
-        Some(Command::Segments) => {
-            shown::<TreeQueue, S, K, G>(alloc, Form::Table, source, sink, guards)
-        }
+        Some(Command::Summary) => summarized::<R, S, K, G>(alloc, source, sink, guards),
+        Some(Command::Segments) => { shown::<R, S, K, G>(alloc, Form::Table, source, sink, guards) }
         Some(Command::SegmentsJson) => {
-            shown::<TreeQueue, S, K, G>(alloc, Form::Json, source, sink, guards)
+            shown::<R, S, K, G>(alloc, Form::Json, source, sink, guards)
         }
         Some(Command::Picture) => {
-            shown::<TreeQueue, S, K, G>(alloc, Form::Picture, source, sink, guards)
+            shown::<R, S, K, G>(alloc, Form::Picture, source, sink, guards)
         }
         None => Status::BadWords,
     }

@@ -7,9 +7,10 @@ ghost use Rattle.scenario_runner.specs.Written.{IsWritten};
 ghost use Rattle.view_runner.specs.Ends.{EndsAsSummary};
 ghost use Rattle.view_runner.specs.Written.{MayWriteSummary};
 
-use core_lanes::SiblingQueue;
 use cs_outside::{Guard, Sink, Source};
 use cs_types::{Room, Step};
+use ptrace_check::Guards;
+use room_start::FromScenario;
 use run_summary::{RunSummary, summarized_run};
 use scenario_input::Status;
 use scenario_runner::opened;
@@ -47,7 +48,7 @@ fn write_run<R: Room, K: Sink>(alloc: Global, mut room: R, steps: &[Step], sink:
 
 /// Reads a scenario to its end, makes its steps in the order of their lines and then the entries of the end, and
 /// writes the summary of that run.
-pub(crate) fn summarized<Q: SiblingQueue, S: Source, K: Sink, G: Guard>(
+pub(crate) fn summarized<R: FromScenario<Guards<G>>, S: Source, K: Sink, G: Guard>(
     alloc: Global,
     source: &mut S,
     sink: &mut K,
@@ -63,7 +64,7 @@ pub(crate) fn summarized<Q: SiblingQueue, S: Source, K: Sink, G: Guard>(
         (record { bytes = S.left; faults = S.faults; before = source.old; after = source.new })
         (record { bytes = K.written; faults = K.faults; before = sink.old; after = sink.new }) result }
 {
-    match opened::<Q, S, G>(alloc, source, guards) {
+    match opened::<R, S, G>(alloc, source, guards) {
         Ok((scenario, room)) => write_run(alloc, room, scenario.steps.items(), sink),
         Err(stop) => Status::from(stop),
     }

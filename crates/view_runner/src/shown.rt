@@ -5,9 +5,10 @@ ghost use Rattle.cs_types.specs.Scenario.{IsEvent};
 ghost use Rattle.view_runner.specs.Ends.{EndsAsShown};
 ghost use Rattle.view_runner.specs.Written.{IsShown};
 
-use core_lanes::SiblingQueue;
 use cs_outside::{Guard, Sink, Source, write_all};
 use cs_types::{Room, Step};
+use ptrace_check::Guards;
+use room_start::FromScenario;
 use run_picture::picture;
 use run_stretches::{RunStretches, recorded_run};
 use scenario_input::Status;
@@ -93,7 +94,7 @@ fn write_shown<R: Room, K: Sink>(
 
 /// Reads a scenario to its end, makes its steps in the order of their lines and then the entries of the end, and
 /// writes what the run shows over time.
-pub(crate) fn shown<Q: SiblingQueue, S: Source, K: Sink, G: Guard>(
+pub(crate) fn shown<R: FromScenario<Guards<G>>, S: Source, K: Sink, G: Guard>(
     alloc: Global,
     form: Form,
     source: &mut S,
@@ -110,7 +111,7 @@ pub(crate) fn shown<Q: SiblingQueue, S: Source, K: Sink, G: Guard>(
         (record { bytes = S.left; faults = S.faults; before = source.old; after = source.new })
         (record { bytes = K.written; faults = K.faults; before = sink.old; after = sink.new }) result }
 {
-    match opened::<Q, S, G>(alloc, source, guards) {
+    match opened::<R, S, G>(alloc, source, guards) {
         Ok((scenario, room)) => write_shown(alloc, form, room, scenario.steps.items(), sink),
         Err(stop) => Status::from(stop),
     }

@@ -1,14 +1,7 @@
 use Rattle.std.proofs.Common.{◌∙◌, ap, Some}
 use Rattle.command_words.specs.declared.command.Command.TheVariants.{Replay, Race, Drill}
-use Rattle.std.proofs.Crossing as std
-use denote.Param.Send.{sendable}
-use Rattle.tree_queue.proofs.Crosses.{TreeQueue-send}
 use Rattle.scenario_runner.proofs.Asked.{drill_words, known_words}
 use Rattle.scenario_runner.proofs.command.run.Goals as goal
-
--- a queue with trees may go to another thread
-pub raced-requires-send-Q : goal.raced-requires-send-Q
-raced-requires-send-Q g c κs within = search (sendable, std.crosses, TreeQueue-send) depth 40 fits 20000
 
 pub returns-in-Some-Replay-clause-bad_words : goal.returns-in-Some-Replay-clause-bad_words
 returns-in-Some-Replay-clause-bad_words g c =

@@ -6,7 +6,7 @@ use Rattle.scenario_runner.proofs.drilled.drilled.Goals as goal
 
 pub returns-in-Ok : goal.returns-in-Ok
 returns-in-Ok g c =
-    ends_drilled c.args.seed _ c.in-Ok.room.opening c.items.result.now c.write_drill.result c.in-Ok.ensures.opening
+    ends_drilled c.args.seed _ (g.R.Room.opening c.in-Ok.room) c.items.result.now c.write_drill.result c.in-Ok.ensures.opening
     (subst IsValid c.in-Ok.ensures.scenario c.in-Ok.ensures.valid) (c.items.ensures ∙ ap (λ (s : Scenario). s.steps) c.in-Ok.ensures.scenario)
     c.requires.sink c.write_drill.ensures
 

@@ -1,18 +1,12 @@
 use Rattle.std.proofs.Common.{refl}
-use denote.Param.Send.{sendable}
-use Rattle.core_events.proofs.Crosses.{CoreRoom-send}
 use Rattle.scenario_runner.specs.Outcomes.{IsRaceHistory}
 use Rattle.scenario_runner.proofs.Endings.{ends_stopped}
 use Rattle.scenario_runner.proofs.Outputs.{ends_raced}
 use Rattle.scenario_runner.proofs.played.raced.Goals as goal
 
--- a room may go to another thread where its queues and its guards may
-pub write_race-requires-send-R : goal.write_race-requires-send-R
-write_race-requires-send-R g c κs within = search (sendable, CoreRoom-send) depth 40
-
 pub returns-in-Ok : goal.returns-in-Ok
 returns-in-Ok g c =
-    ends_raced _ _ _ c.opened.result (c.in-Ok.scenario, c.in-Ok.room) c.in-Ok.scenario c.in-Ok.room.opening c.write_race.result
+    ends_raced _ _ _ c.opened.result (c.in-Ok.scenario, c.in-Ok.room) c.in-Ok.scenario (g.R.Room.opening c.in-Ok.room) c.write_race.result
     (record {
       faultless = c.opened.ensures.faultless;
       failed = c.opened.ensures.failed;

@@ -6,7 +6,7 @@ use Rattle.scenario_runner.proofs.played.replayed.Goals as goal
 
 pub returns-in-Ok : goal.returns-in-Ok
 returns-in-Ok g c =
-    ends_replayed _ _ _ c.opened.result (c.in-Ok.scenario, c.in-Ok.room) c.in-Ok.scenario c.in-Ok.room.opening c.items.result.now c.write_replay.result
+    ends_replayed _ _ _ c.opened.result (c.in-Ok.scenario, c.in-Ok.room) c.in-Ok.scenario (g.R.Room.opening c.in-Ok.room) c.items.result.now c.write_replay.result
     (record {
       faultless = c.opened.ensures.faultless;
       failed = c.opened.ensures.failed;

@@ -4,7 +4,7 @@ use Rattle.view_runner.proofs.played.summarized.Goals as goal
 
 pub returns-in-Ok : goal.returns-in-Ok
 returns-in-Ok g c =
-    ends_summarized _ _ _ c.opened.result (c.in-Ok.scenario, c.in-Ok.room) c.in-Ok.scenario c.in-Ok.room.opening c.items.result.now c.write_run.result
+    ends_summarized _ _ _ c.opened.result (c.in-Ok.scenario, c.in-Ok.room) c.in-Ok.scenario (g.R.Room.opening c.in-Ok.room) c.items.result.now c.write_run.result
     (record {
       faultless = c.opened.ensures.faultless;
       failed = c.opened.ensures.failed;

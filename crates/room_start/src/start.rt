@@ -1,0 +1,38 @@
+//! The contract of the start of a machine.
+
+ghost use Rattle.std.specs.Prelude.{◌≡◌, ◌+◌, ◌*◌, [], length, IfOk};
+ghost use Rattle.cs_types.specs.Scenario.{IsPlayable};
+ghost use Rattle.cs_types.specs.Guards.{guards_on_bench};
+ghost use Rattle.ptrace_check.specs.Guards.{Guarded};
+ghost use Rattle.room_start.specs.Opened.{opened};
+
+use cs_outside::Guard;
+use cs_types::{OutOfMemory, Room, Scenario};
+use ptrace_check::Guards;
+use std::alloc::Global;
+
+/// The guards that a machine is started with, whatever their type. `Guards` is the one kind of them.
+pub trait Bench {
+    /// These guards as clauses see them.
+    ghost guarded: { Self → Guarded };
+}
+
+impl<G: Guard> Bench for Guards<G> {
+    ghost guarded = { λ guards. guards };
+}
+
+/// A machine that can be started on a scenario, with guards of this type.
+pub trait FromScenario<B: Bench>: Room {
+    /// The room of a scenario before its first step. The guards were taught what its lines teach, and none
+    /// was loaded or asked yet. It takes memory for as many entries as the
+    /// scenario has steps, and for those of the end, and no later call takes any. The core has 1 to 16
+    /// siblings.
+    fn from_scenario(alloc: Global, scenario: &Scenario, guards: B) -> Result<Self, OutOfMemory>
+        requires playable { IsPlayable scenario.now }
+        requires guards { (B.guarded guards).guards ≡
+            guards_on_bench scenario.now.teaches (length (B.guarded guards).guards.all) }
+        ensures opening { IfOk result (λ room. Self.opening room ≡ opened scenario.now (B.guarded guards)) }
+        ensures empty { IfOk result (λ room. Self.history room ≡ []) }
+        ensures spare { IfOk result (λ room. Self.spare room ≡
+            length scenario.now.steps + scenario.now.siblings * scenario.now.siblings) };
+}
