@@ -5,7 +5,7 @@
 ghost use Rattle.std.specs.Prelude.{◌≡◌, [], ◌∷◌, IfOk};
 ghost use Rattle.cs_outside.specs.Guard.{fresh};
 
-use core_state::CoreState;
+use core_events::CoreRoom;
 use cs_outside::{NoGate, NullGuard, PairGuard, StdSink, StdSource};
 use scenario_runner::{Status, run};
 use std::env;
@@ -14,6 +14,11 @@ use std::process::ExitCode;
 use std::rt::Env;
 use std::sync::Wait;
 use std::thread::Threads;
+use tree_queue::TreeQueue;
+
+/// The machine that is played: the one over trees. It is named by its parts, so that the program waits for no crate that
+/// names it.
+type Machine<G> = CoreRoom<TreeQueue, G>;
 
 /// The words of the command line, without the program's name. Words that are no text are no command's.
 fn words<R: Env + AllocGlobal>(rt: &R) -> Result<Vec<String>, Status> {
@@ -55,8 +60,8 @@ fn execute<R: Threads + Wait + AllocGlobal + Sync>(
         Err(status) => return status,
     };
     match run::<
-        CoreState<PairGuard>,
-        CoreState<NullGuard>,
+        Machine<PairGuard>,
+        Machine<NullGuard>,
         R,
         StdSource,
         StdSink,

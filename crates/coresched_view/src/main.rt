@@ -5,13 +5,18 @@
 ghost use Rattle.std.specs.Prelude.{◌≡◌, [], ◌∷◌, IfOk};
 ghost use Rattle.cs_outside.specs.Guard.{fresh};
 
-use core_state::CoreState;
+use core_events::CoreRoom;
 use cs_outside::{PairGuard, StdSink, StdSource};
 use std::env;
 use std::io::ErrorKind;
 use std::process::ExitCode;
 use std::rt::Env;
+use tree_queue::TreeQueue;
 use view_runner::{Status, run};
+
+/// The machine that is played: the one over trees. It is named by its parts, so that the program waits for no crate that
+/// names it.
+type Machine<G> = CoreRoom<TreeQueue, G>;
 
 /// The words of the command line, without the program's name. Words that are no text are no command's.
 fn words<R: Env + AllocGlobal>(rt: &R) -> Result<Vec<String>, Status> {
@@ -52,7 +57,7 @@ fn execute<R: AllocGlobal>(
         Ok(guards) => guards,
         Err(status) => return status,
     };
-    match run::<CoreState<PairGuard>, StdSource, StdSink, PairGuard>(
+    match run::<Machine<PairGuard>, StdSource, StdSink, PairGuard>(
         rt.alloc(),
         words,
         source,
