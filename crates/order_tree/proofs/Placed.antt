@@ -205,6 +205,10 @@ module _ {whole left : Branch} {entry : Entry} {right : Branch} (root : IsRoot w
           ap (sought key at) root.entries
           ∙ find_passes-right key_total key (reaches at) left.entries entry right.entries root.fork.sides.rising refl refl fail
 
+-- so a call for a side falls below the tree's measure
+pub falls : (side whole measure : ℕ) → side < whole → 2 * (whole + 1) + 0 ≡ measure → 2 * (side + 1) + 0 < measure
+falls side whole measure short is = omega arith
+
 -- what stands first where the left side is not empty
 pub first-joined : (left right : List Entry) (entry : Entry) → (left ≡ [] → ⊥) → slice_get (left ++ entry ∷ right) 0 ≡ slice_get left 0
 first-joined [] right entry some = absurd (some refl)

@@ -8,7 +8,7 @@ use Rattle.order_tree.specs.Branch.{without}
 use Rattle.order_tree.specs.Recent.{renewed}
 use Rattle.order_tree.specs.declared.key.Key.{Key}
 use Rattle.order_tree.specs.declared.tree.Node.{Node}
-use Rattle.order_tree.proofs.Heights.{height-le}
+use Rattle.order_tree.proofs.Heights.{height-le, no_more}
 use Rattle.order_tree.proofs.Placed.{IsCut-from}
 use Rattle.order_tree.proofs.Members.{map_of-without, contains_key-map_of, length-without, within, first-without, without-none}
 use Rattle.order_tree.proofs.order.OrderTree.remove.Goals as goal
@@ -27,6 +27,12 @@ counted : (es : List Entry) → is_sorted key_cmp es ≡ true → (key : Key) (a
 counted es rising key after taken is found =
     (λ i. cond ((some-pid taken ∙ ap is_some found) i) 1 0 + length (is i))
     ∙ length-without es rising key
+
+-- one less where a node came out
+one-out : {node : Box Node Global} (es : List Entry) → is_sorted key_cmp es ≡ true → (key : Key) (after : List Entry) (taken : Option (Box Node Global)) →
+    taken ≡ Some node → after ≡ without key es → pid_in taken ≡ find key_cmp key es → 1 + length after ≡ length es
+one-out es rising key after taken some is found =
+    sym (ap (λ (o : Option (Box Node Global)). cond (is_some o) 1 0 + length after) some) ∙ counted es rising key after taken is found
 
 -- ---- where the key was not there
 
@@ -74,9 +80,7 @@ invariant_of-self-2 g c =
     let cut = IsCut-from es c.args.key.now _ sound.rising c.remove.ensures.entries in
     let found = sym c.remove.ensures.taken ∙ ap pid_in c.in-Some.is in
     let pid : c.pid.result ≡ c.in-Some.node.value.pid = c.pid.ensures ∙ ap (λ (n : Node). n.pid) c.deref.ensures in
-    let count =
-    sym (ap (λ (o : Option (Box Node Global)). cond (is_some o) 1 0 + length c.remove.new.self.entries) c.in-Some.is)
-    ∙ counted es sound.rising c.args.key.now c.remove.new.self.entries c.remove.new.taken cut.entries c.remove.ensures.taken in
+    let count = one-out es sound.rising c.args.key.now c.remove.new.self.entries c.remove.new.taken c.in-Some.is cut.entries c.remove.ensures.taken in
     let items = rw c.unwrap.ensures at c.push.ensures.items in
     let nodes = ap length items ∙ length_push c.self.inside.nodes.items c.in-Some.node in
     let capacity = c.push.ensures.capacity in record {
@@ -109,3 +113,29 @@ returns-clause-counted g c =
     rw (← c.self.view_is)
     (within c.self.inside.tree.entries c.self.invariant.rising _ _ c.self.inside.tree.height c.remove.ensures.counted
     (height-le _ _ c.remove.ensures.many_before))
+
+-- ---- the counts
+
+pub returns-in_default-clause-spare : goal.returns-in_default-clause-spare
+returns-in_default-clause-spare g c = no_more _ _ (ap (λ (o : Ordered). o.spare) c.self.view_is)
+
+pub returns-clause-spare : goal.returns-clause-spare
+returns-clause-spare g c = ap (λ (o : Ordered). o.spare + 1) c.self.view_is
+
+pub unwrap-requires : goal.unwrap-requires
+unwrap-requires g c =
+    let sound = c.self.invariant in
+    let count = one-out c.self.inside.tree.entries sound.rising c.args.key.now _ c.remove.new.taken c.in-Some.is c.remove.ensures.entries c.remove.ensures.taken in
+    c.push.ensures.succeeds (omega (arith, count, sound.counted, sound.places))
+
+pub overflow_sub-self : goal.overflow_sub-self
+overflow_sub-self g c =
+    let sound = c.self.invariant in
+    let count = one-out c.self.inside.tree.entries sound.rising c.args.key.now _ c.remove.new.taken c.in-Some.is c.remove.ensures.entries c.remove.ensures.taken in
+    omega (arith, count, sound.counted)
+
+pub overflow_add-self : goal.overflow_add-self
+overflow_add-self g c =
+    let sound = c.self.invariant in
+    let count = one-out c.self.inside.tree.entries sound.rising c.args.key.now _ c.remove.new.taken c.in-Some.is c.remove.ensures.entries c.remove.ensures.taken in
+    omega (arith, count, sound.counted, sound.few)

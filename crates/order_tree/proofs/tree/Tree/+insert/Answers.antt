@@ -1,7 +1,7 @@
-use Rattle.std.proofs.Common.{rules, ◌≡◌, ◌+◌, max, None, sym, ap, ◌∙◌, arith}
+use Rattle.std.proofs.Common.{◌≡◌, ◌+◌, max, None, sym, ap, ◌∙◌, arith}
 use Rattle.std.specs.FinMap.{find}
 use Rattle.order_tree.specs.Order.{key_cmp}
-use Rattle.order_tree.proofs.Placed.{below, not_below_root, sides_shorter, left-free, right-free, IsNode-from, IsPut-left, IsPut-right, sides-left, sides-right, leans-left, leans-right, tilts-left, tilts-right, many_of, many-balanced}
+use Rattle.order_tree.proofs.Placed.{below, not_below_root, sides_shorter, falls, left-free, right-free, IsNode-from, IsPut-left, IsPut-right, sides-left, sides-right, leans-left, leans-right, tilts-left, tilts-right, many_of, many-balanced}
 use Rattle.order_tree.proofs.Forks.{IsEven-from}
 use Rattle.order_tree.proofs.Heights.{no_more, raised-left, raised-right, counted-left, counted-right}
 use Rattle.order_tree.proofs.tree.Tree.+insert.Goals as goal
@@ -14,8 +14,7 @@ insert-requires g t c κs within =
     let less = below c.deref_mut.result.now c.deref.ensures c.is_below.ensures c.if-is_below.true in
     let free : find key_cmp c.args.node.value.key c.deref_mut.result.now.left.entries ≡ None =
     left-free at.root c.args.node.value.key less c.requires.free in
-    let short = sides_shorter at.root in
-    search rules
+    (falls _ _ _ (sides_shorter at.root).0 c.decreases, (within, free))
 
 pub invariant_of-self-then-not-insert : goal.invariant_of-self-then-not-insert
 invariant_of-self-then-not-insert g t c =
@@ -59,8 +58,7 @@ insert-requires-2 g t c κs within =
     let more = not_below_root at c.deref.ensures c.is_below.ensures c.if-is_below.false c.requires.free in
     let free : find key_cmp c.args.node.value.key c.deref_mut.result.now.right.entries ≡ None =
     right-free at.root c.args.node.value.key more c.requires.free in
-    let short = sides_shorter at.root in
-    search rules
+    (falls _ _ _ (sides_shorter at.root).1 c.decreases, (within, free))
 
 pub invariant_of-self-then-not-insert-2 : goal.invariant_of-self-then-not-insert-2
 invariant_of-self-then-not-insert-2 g t c =

@@ -1,11 +1,11 @@
-use Rattle.std.proofs.Common.{rules, ◌+◌, max, None, Option, Box, Global, sym, ap, ◌∙◌, subst}
+use Rattle.std.proofs.Common.{◌+◌, max, None, Option, Box, Global, sym, ap, ◌∙◌, subst}
 use Rattle.std.specs.FinMap.{find}
 use Rattle.std.specs.Option.{option_map}
 use Rattle.order_tree.specs.Order.{key_cmp}
 use Rattle.order_tree.specs.Branch.{Branch, without}
 use Rattle.order_tree.specs.Balance.{branch_of, HasMany}
 use Rattle.order_tree.specs.declared.tree.Node.{Node}
-use Rattle.order_tree.proofs.Placed.{left-found, right-found, root-found, IsNode-from, IsCut-left, IsCut-right, IsCut-root, sides-left, sides-right, leans-left, leans-right, sinks-left, sinks-right, left_of, left-height, sides_shorter, many_of, many-balanced, no_root}
+use Rattle.order_tree.proofs.Placed.{left-found, right-found, root-found, IsNode-from, IsCut-left, IsCut-right, IsCut-root, sides-left, sides-right, leans-left, leans-right, sinks-left, sinks-right, left_of, left-height, sides_shorter, falls, many_of, many-balanced, no_root}
 use Rattle.order_tree.proofs.Forks.{IsEven-from}
 use Rattle.order_tree.proofs.Heights.{level_kept, level_lost, lowered, no_more, counted-root, counted-left, counted-right}
 use Rattle.order_tree.proofs.tree.Tree.+remove.Goals as goal
@@ -136,14 +136,12 @@ returns-in_default-clause-many_before g t c =
 pub remove-requires : goal.remove-requires
 remove-requires g t c κs within =
     let at = IsNode-from c.self.view_is c.self.invariant c.in-Some.is c.deref_mut.ensures.value in
-    let short = sides_shorter at.root in
-    search rules
+    (falls _ _ _ (sides_shorter at.root).0 c.decreases, (within, c.requires.none))
 
 pub remove-requires-in-Greater : goal.remove-requires-in-Greater
 remove-requires-in-Greater g t c κs within =
     let at = IsNode-from c.self.view_is c.self.invariant c.in-Some.is c.deref_mut.ensures.value in
-    let short = sides_shorter at.root in
-    search rules
+    (falls _ _ _ (sides_shorter at.root).1 c.decreases, (within, c.requires.none))
 
 pub uproot-requires-clause-some : goal.uproot-requires-clause-some
 uproot-requires-clause-some g t c =
