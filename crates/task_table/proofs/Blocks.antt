@@ -12,7 +12,7 @@ module _ {X : Type 0} (p : X → Bool) where
   passed n (suc k) [] none = refl
   passed n (suc k) (x ∷ xs) none =
       elim (cases_Bool (p x)) [
-        | inl passes ↦ absurd (grind (arith, none, passes))
+        | inl passes ↦ let bad = rw passes at none in absurd cc
         | inr fails ↦
             cond-false (p x) (Some n) (position_from p (n + 1) xs) fails
             ∙ passed (n + 1) k xs (rw fails at none)

@@ -7,7 +7,7 @@ use Rattle.std.specs.Ordering.{nat_cmp, ordering_index}
 use Rattle.std.proofs.lemmas.Cmp.{ranked}
 use Rattle.std.proofs.lemmas.List.{get_or_default}
 use Rattle.std.proofs.lemmas.List.Sorted.{IsPartitionedBy-leb}
-use Rattle.std.proofs.lemmas.Bool.{ne_eqb, lt-ltb, le-ltb, cases_Bool, cond-true, cond-false}
+use Rattle.std.proofs.lemmas.Bool.{ne_eqb, lt-ltb, le-ltb, ltb-true, cases_Bool, cond-true, cond-false}
 use Rattle.std.proofs.lemmas.Bool.Decides.{nat_tests}
 use Rattle.cs_types.specs.declared.task.Task.{Task}
 use Rattle.cs_types.specs.Room.{has_pid, inserted}
@@ -342,7 +342,7 @@ filter_next p pid low (task ∷ tasks) first rest rises kept =
     ]
   where
     passed_above : (a : Bool) (m n : ℕ) → (a && ltb m n) ≡ true → m < n
-    passed_above true m n pass = grind (arith, nat_tests)
+    passed_above true m n pass = ltb-true m n pass
     passed_above false m n pass = absurd cc
 
 -- a search finds the first that a filter keeps

@@ -1,8 +1,16 @@
-use Rattle.std.proofs.Common.{◌∙◌, length, arith}
+use Rattle.std.proofs.Common.{ℕ, ◌≡◌, ◌∙◌, length, ap, arith}
+use Rattle.std.proofs.lemmas.List.{with_items_is}
 use Rattle.task_table.proofs.places.Places.note.Goals as goal
 
 pub bounds-noted-entry : goal.bounds-noted-entry
 bounds-noted-entry c = omega (arith, c.loop-entry.auto.noted, c.deref_mut.ensures.len, c.args.self.now.all)
 
 pub invariant_of-self : goal.invariant_of-self
-invariant_of-self c = record { all = c.loop-entry.auto.noted ∙ c.deref_mut.ensures.len ∙ c.args.self.now.all; each = c.args.self.now.each }
+invariant_of-self c =
+    let places = c.args.self.now in
+    let old : ◌≡◌ {A = ℕ} (length places.noted.items) 8192 = places.all in
+    record {
+      all = ap length (with_items_is places.noted c.loop-entry.noted (c.loop-entry.auto.noted ∙ c.deref_mut.ensures.len))
+          ∙ c.loop-entry.auto.noted ∙ ap length c.deref_mut.ensures.value ∙ old;
+      each = places.each;
+    }
