@@ -1,5 +1,5 @@
 -- Asked: what a run queue answers, as a question of the tasks that it holds.
-use Rattle.std.proofs.Common.{◌≡◌, ◌≢◌, ℕ, ◌≤◌, Bool, true, false, cond, not, List, [], ◌∷◌, map, Option, None, Some, inl, inr, refl, sym, ap, ◌∙◌}
+use Rattle.std.proofs.Common.{◌≡◌, ◌≢◌, ℕ, ◌≤◌, Bool, true, cond, not, List, [], ◌∷◌, map, Option, None, Some, inl, inr, refl, sym, ap, ◌∙◌}
 use Rattle.std.specs.Prelude.{◌==◌, ◌&&◌, find, filter, All, IfSome}
 use Rattle.std.specs.List.{AllByRecursion}
 use Rattle.std.specs.Option.{option_map}
@@ -9,6 +9,8 @@ use Rattle.std.specs.declared.cmp.Ordering.{Ordering}
 use Rattle.std.specs.FinMap.{entries}
 use Rattle.std.proofs.lemmas.Bool.{cases_Bool, ne_eqb, eqb-true, and_parts}
 use Rattle.std.proofs.lemmas.List.Elements.{All-filter, All-weaker}
+use Rattle.std.proofs.ByRecursion.{all_kept_by, kept_by_passes}
+use Rattle.cs_types.proofs.Selections.{each_both}
 use Rattle.cs_types.specs.declared.task.Task.{Task}
 use Rattle.cs_types.specs.declared.queue.Queued.{Queued}
 use Rattle.cs_types.specs.Order.{priority_of, goes_before, first_of, foremost}
@@ -38,12 +40,7 @@ filter_alike {X} P p q alike (x ∷ xs) all =
     ap (λ b. cond b (x ∷ filter p xs) (filter p xs)) (alike x all.0) ∙ ap (λ (ys : List X). cond (q x) (x ∷ ys) ys) (filter_alike P p q alike xs all.1)
 
 kept_by : {X : Type 0} (P : X → Type 0) (p : X → Bool) (xs : List X) → AllByRecursion P xs → AllByRecursion (λ x. P x × (p x ≡ true)) (filter p xs)
-kept_by P p [] all = tt
-kept_by {X} P p (x ∷ xs) all =
-    elim (p x) as (λ b. p x ≡ b → AllByRecursion (λ (y : X). P y × (p y ≡ true)) (cond b (x ∷ filter p xs) (filter p xs))) [
-      | true ↦ λ pass. ((all.0, pass), kept_by P p xs all.1)
-      | false ↦ λ fail. kept_by P p xs all.1
-    ] refl
+kept_by P p xs all = each_both P (λ x. p x ≡ true) _ (filter p xs) (λ x has pass. (has, pass)) (all_kept_by p P xs all) (kept_by_passes p xs)
 
 -- ---- the first that passes
 
@@ -163,22 +160,13 @@ found_behind tasks cpu task rises =
     (All-filter (goes_before task) (IsOf tasks) (with_cookie task.cookie (queued_among tasks cpu))
     (All-filter (λ t. t.cookie == task.cookie) (IsOf tasks) (queued_among tasks cpu) (All-filter (is_on cpu) (IsOf tasks) tasks (each_is_of tasks rises))))
 
--- what has no place in a queue is none
-pub none_of : (first : Option Task) → None ≡ option_map queued_of first → None ≡ first
-none_of None is = refl
-none_of (Some task) is = absurd cc
+-- what has no place in a queue, or no pid, is none
+pub none_of : {X Y : Type 0} (f : X → Y) (first : Option X) → None ≡ option_map f first → None ≡ first
+none_of f None is = refl
+none_of f (Some x) is = absurd cc
 
--- the pid of a task in a queue
-pub pid_of_some : (queued : Queued) (first : Option Task) → Some queued ≡ option_map queued_of first → Some queued.pid ≡ option_map pid_at first
-pid_of_some queued None is = absurd cc
-pid_of_some queued (Some task) is = let same : queued ≡ queued_of task = cc in ap (λ (q : Queued). Some q.pid) same
-
--- what has no pid is none
-pub none_by : (first : Option Task) → None ≡ option_map pid_at first → None ≡ first
-none_by None is = refl
-none_by (Some task) is = absurd cc
-
--- what has this pid is the task that is found by it
-pub some_by : (tasks : List Task) (pid : ℕ) (first : Option Task) → IfSome first (IsOf tasks) → Some pid ≡ option_map pid_at first → find (has_pid pid) tasks ≡ first
-some_by tasks pid None there is = absurd cc
-some_by tasks pid (Some task) there is = let same : pid ≡ task.spec.pid = cc in ap (λ n. find (has_pid n) tasks) same ∙ there
+-- what a queue has of a task is found by its pid
+pub found_queued : (tasks : List Task) (queued : Queued) (first : Option Task) → IfSome first (IsOf tasks) → Some queued ≡ option_map queued_of first →
+    find (has_pid queued.pid) tasks ≡ first
+found_queued tasks queued None there is = absurd cc
+found_queued tasks queued (Some task) there is = let same : queued ≡ queued_of task = cc in ap (λ (q : Queued). find (has_pid q.pid) tasks) same ∙ there

@@ -22,6 +22,7 @@ use Rattle.core_lanes.proofs.Lists.{filter-map, filter-filter}
 use Rattle.core_lanes.proofs.Queues.{is_on}
 use Rattle.tree_queue.specs.Kinds.{kind_of, lot_of, count_of, AreCounted}
 use Rattle.tree_queue.proofs.Splits.{IsSplit, length-split}
+use Rattle.tree_queue.proofs.Tasks.{class_fits}
 use Rattle.tree_queue.proofs.Asked.{IsLow, low_among, filter_alike}
 
 -- ---- a task that comes or goes
@@ -29,7 +30,19 @@ use Rattle.tree_queue.proofs.Asked.{IsLow, low_among, filter_alike}
 exchanged : (a b n : ℕ) → a + (b + n) ≡ b + (a + n)
 exchanged a b n = omega arith
 
-module _ (number : Queued → ℕ) (task : Queued) (all rest : List Queued) (split : IsSplit task all rest) where
+-- the number of one kind is another, and those of the other kinds stay
+counted-set : (number : Queued → ℕ) {numbers one many : ℕ} {counts : List ℕ} {before now : List Queued} → one < numbers → many ≡ count_of number one now →
+    AreCounted number numbers counts before → ((other : ℕ) → other ≢ one → count_of number other before ≡ count_of number other now) → AreCounted number numbers (set counts one many) now
+counted-set number {one = one} {many} {counts} {now = now} few is counted stay = record {
+  many = length-set counts one many ∙ counted.many;
+  each = λ other below.
+      elim (cases_eq other one) [
+        | inl same ↦ get_or-set_at counts one other many 0 same (omega (arith, few, counted.many)) ∙ is ∙ ap (λ (n : ℕ). count_of number n now) (sym same)
+        | inr differs ↦ get_or-set_other counts one other many 0 differs ∙ counted.each other below ∙ stay other differs
+      ];
+}
+
+module _ (number : Queued → ℕ) {task : Queued} {all rest : List Queued} (split : IsSplit task all rest) where
   count-split : (one : ℕ) → count_of number one all ≡ cond (number task == one) 1 0 + count_of number one rest
   count-split one =
       ap (count_of number one) split.whole ∙ amid split.before ∙ ap (λ (ts : List Queued). cond (number task == one) 1 0 + count_of number one ts) (sym split.left) where
@@ -49,57 +62,32 @@ module _ (number : Queued → ℕ) (task : Queued) (all rest : List Queued) (spl
       let more = count-split one ∙ ap (λ (b : Bool). cond b 1 0 + count_of number one rest) (ne_eqb (number task) one (λ is. other (sym is))) in
       omega (arith, more)
 
-  module _ (numbers : ℕ) (counts : List ℕ) (one : ℕ) (is : one ≡ number task) (few : one < numbers) where
+  module _ {numbers : ℕ} {counts : List ℕ} {one : ℕ} (is : one ≡ number task) (few : one < numbers) where
     pub counted-put : AreCounted number numbers counts rest → AreCounted number numbers (set counts one (get_or counts one 0 + 1)) all
-    counted-put counted = record {
-      many = length-set counts one (get_or counts one 0 + 1) ∙ counted.many;
-      each = λ other below.
-          elim (cases_eq other one) [
-            | inl same ↦
-                let now = get_or-set_at counts one other (get_or counts one 0 + 1) 0 same (omega (arith, few, counted.many)) in
-                let more = ap (λ (n : ℕ). count_of number n all) same ∙ of_its_number one is in
-                let was = counted.each one few in
-                omega (arith, now, more, was)
-            | inr differs ↦
-                get_or-set_other counts one other (get_or counts one 0 + 1) 0 differs
-                ∙ counted.each other below ∙ sym (of_another other (λ same. differs (same ∙ sym is)))
-          ];
-    }
+    counted-put counted =
+        counted-set number few (omega (arith, counted.each one few, of_its_number one is)) counted (λ other differs. sym (of_another other (λ same. differs (same ∙ sym is))))
 
     pub counted-take : AreCounted number numbers counts all → AreCounted number numbers (set counts one (get_or counts one 0 - 1)) rest
-    counted-take counted = record {
-      many = length-set counts one (get_or counts one 0 - 1) ∙ counted.many;
-      each = λ other below.
-          elim (cases_eq other one) [
-            | inl same ↦
-                let now = get_or-set_at counts one other (get_or counts one 0 - 1) 0 same (omega (arith, few, counted.many)) in
-                let more = of_its_number one is in
-                let alike = ap (λ (n : ℕ). count_of number n rest) same in
-                let was = counted.each one few in
-                omega (arith, now, more, was, alike)
-            | inr differs ↦
-                get_or-set_other counts one other (get_or counts one 0 - 1) 0 differs
-                ∙ counted.each other below ∙ of_another other (λ same. differs (same ∙ sym is))
-          ];
-    }
+    counted-take counted =
+        counted-set number few (omega (arith, counted.each one few, of_its_number one is)) counted (λ other differs. of_another other (λ same. differs (same ∙ sym is)))
 
     pub few-put : AreCounted number numbers counts rest → get_or counts one 0 + 1 ≤ length all
-    few-put counted = omega (arith, counted.each one few, count_by-le-length (λ (t : Queued). number t == one) rest, length-split task all rest split)
+    few-put counted = omega (arith, counted.each one few, count_by-le-length (λ (t : Queued). number t == one) rest, length-split split)
 
     pub some-take : AreCounted number numbers counts all → 1 ≤ get_or counts one 0
     some-take counted = omega (arith, counted.each one few, of_its_number one is)
 
 -- ---- a task that stays, and changes nothing that its number reads
 
-pub counted-stay : (number : Queued → ℕ) (task now : Queued) (all then rest : List Queued) → IsSplit task all rest → IsSplit now then rest → number now ≡ number task →
-    (numbers : ℕ) (counts : List ℕ) → AreCounted number numbers counts all → AreCounted number numbers counts then
-counted-stay number task now all then rest split split_now same numbers counts counted = record {
+pub counted-stay : (number : Queued → ℕ) {task now : Queued} {all then rest : List Queued} → IsSplit task all rest → IsSplit now then rest → number now ≡ number task →
+    {numbers : ℕ} {counts : List ℕ} → AreCounted number numbers counts all → AreCounted number numbers counts then
+counted-stay number {rest = rest} split split_now same counted = record {
   many = counted.many;
   each = λ one below.
       counted.each one below
-      ∙ count-split number task all rest split one
+      ∙ count-split number split one
       ∙ ap (λ (k : ℕ). cond (k == one) 1 0 + count_of number one rest) (sym same)
-      ∙ sym (count-split number now then rest split_now one);
+      ∙ sym (count-split number split_now one);
 }
 
 -- ---- peers
@@ -117,13 +105,6 @@ real_time_rank (Deadline relative) deadline vtime is = absurd (omega (arith, is)
 real_time_rank (Fifo priority) deadline vtime is = refl
 real_time_rank (Rr priority) deadline vtime is = refl
 real_time_rank (Fair nice) deadline vtime is = absurd (omega (arith, is))
-
-class_low : (policy : Policy) → class_of policy ≤ 3
-class_low Stop = omega arith
-class_low (Deadline relative) = omega arith
-class_low (Fifo priority) = omega arith
-class_low (Rr priority) = omega arith
-class_low (Fair nice) = omega arith
 
 by_numbers : (c d p q r s : ℕ) → c ≤ 3 → d ≤ 3 → p ≤ 99 → q ≤ 99 → (c ≢ 2 → p ≡ 0) → (d ≢ 2 → q ≡ 0) → (c ≡ 2 → r ≡ 99 - p) → (d ≡ 2 → s ≡ 99 - q) →
     (eqb c d && eqb p q) ≡ eqb (cond (eqb c 2) (4 + r) c) (cond (eqb d 2) (4 + s) d)
@@ -143,7 +124,7 @@ by_numbers c d p q r s low_c low_d low_p low_q plain_p plain_q rank_r rank_s =
 peer_kind : (task other : Task) → IsLow task → IsLow other → is_peer_of task other ≡ (kind_of (queued_of other) == kind_of (queued_of task))
 peer_kind task other low_task low_other =
     by_numbers (class_of other.spec.policy) (class_of task.spec.policy) (priority_of other.spec.policy) (priority_of task.spec.policy) _ _
-    (class_low other.spec.policy) (class_low task.spec.policy) low_other low_task (plain_priority other.spec.policy) (plain_priority task.spec.policy)
+    (class_fits other.spec.policy) (class_fits task.spec.policy) low_other low_task (plain_priority other.spec.policy) (plain_priority task.spec.policy)
     (real_time_rank other.spec.policy other.deadline other.vtime) (real_time_rank task.spec.policy task.deadline task.vtime)
 
 more_or_less : (m n : ℕ) (is pass : Bool) → m ≤ n → (((not is && pass) || ltb m n) ≡ ltb (cond (is && pass) 1 0 + m) (cond pass 1 0 + n)) × (cond (is && pass) 1 0 + m ≤ cond pass 1 0 + n)

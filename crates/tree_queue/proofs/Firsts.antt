@@ -24,7 +24,7 @@ use Rattle.core_lanes.proofs.Replaced.{is_of as is_of_after, rises-replaced}
 use Rattle.tree_queue.specs.Held.{AreApart, is_before, earlier, first_among, is_of, given_cookie, seated, IsIn, IsInBut}
 use Rattle.tree_queue.proofs.Asked.{IsLow}
 use Rattle.tree_queue.proofs.Found.{found_has}
-use Rattle.tree_queue.proofs.Splits.{IsSplit, each_is_of}
+use Rattle.tree_queue.proofs.Splits.{IsParted, each_is_of}
 
 -- ---- the order
 
@@ -53,6 +53,13 @@ swapped-two a b apart = by_test (is_before b a) (is_before a b) (one_before a b 
   by_test false true is = refl
   by_test false false is = absurd cc
 
+-- what is not before one, and is before another, tells that the one is before the other
+between : (a b c : Queued) → is_before c a ≡ true → is_before c b ≡ false → is_before b a ≡ true
+between a b c past later = elim (cases_Bool (is_before b a)) [
+  | inl is ↦ is
+  | inr is_not ↦ absurd (both_ways (is_before c a) (is_before_is_order.chain c b a later is_not) past)
+]
+
 swapped : (a b : Queued) (rest : Option Queued) → AreApart a b → earlier a (Some (earlier b rest)) ≡ earlier b (Some (earlier a rest))
 swapped a b None apart = swapped-two a b apart
 swapped a b (Some c) apart =
@@ -62,23 +69,13 @@ swapped a b (Some c) apart =
             ap (λ x. earlier a (Some x)) (cond-true _ c b past_b) ∙ cond-true _ c a past_a
             ∙ sym (ap (λ x. earlier b (Some x)) (cond-true _ c a past_a) ∙ cond-true _ c b past_b)
         | inr not_b ↦
-            let here : is_before b a ≡ true =
-            elim (cases_Bool (is_before b a)) [
-              | inl is ↦ is
-              | inr is_not ↦ absurd (both_ways (is_before c a) (is_before_is_order.chain c b a not_b is_not) past_a)
-            ] in
-            ap (λ x. earlier a (Some x)) (cond-false _ c b not_b) ∙ cond-true _ b a here
+            ap (λ x. earlier a (Some x)) (cond-false _ c b not_b) ∙ cond-true _ b a (between a b c past_a not_b)
             ∙ sym (ap (λ x. earlier b (Some x)) (cond-true _ c a past_a) ∙ cond-false _ c b not_b)
       ]
       | inr not_a ↦ elim (cases_Bool (is_before c b)) [
         | inl past_b ↦
-            let here : is_before a b ≡ true =
-            elim (cases_Bool (is_before a b)) [
-              | inl is ↦ is
-              | inr is_not ↦ absurd (both_ways (is_before c b) (is_before_is_order.chain c a b not_a is_not) past_b)
-            ] in
             ap (λ x. earlier a (Some x)) (cond-true _ c b past_b) ∙ cond-false _ c a not_a
-            ∙ sym (ap (λ x. earlier b (Some x)) (cond-false _ c a not_a) ∙ cond-true _ a b here)
+            ∙ sym (ap (λ x. earlier b (Some x)) (cond-false _ c a not_a) ∙ cond-true _ a b (between b a c past_b not_a))
         | inr not_b ↦
             ap (λ x. earlier a (Some x)) (cond-false _ c b not_b)
             ∙ swapped-two a b apart
@@ -96,16 +93,15 @@ first-amid (first ∷ before) after task apart =
     ∙ ap (λ (rest : Option Queued). Some (earlier task rest)) (sym (foremost-cons is_before is_before_is_order first (before ++ after)))
 
 -- the first of some tasks is the earlier of one of them and the first of the others
-pub first-split : (task : Queued) (all rest : List Queued) → IsSplit task all rest → AllByRecursion (AreApart task) rest →
-    first_among all ≡ Some (earlier task (first_among rest))
-first-split task all rest split apart =
-    ap first_among split.whole
-    ∙ first-amid split.before split.after task (subst (AllByRecursion (AreApart task)) split.left apart)
-    ∙ ap (λ (tasks : List Queued). Some (earlier task (first_among tasks))) (sym split.left)
+pub first-split : {task : Queued} {all rest : List Queued} → IsParted task all rest → first_among all ≡ Some (earlier task (first_among rest))
+first-split {task} parted =
+    ap first_among parted.split.whole
+    ∙ first-amid parted.split.before parted.split.after task (subst (AllByRecursion (AreApart task)) parted.split.left parted.apart)
+    ∙ ap (λ (tasks : List Queued). Some (earlier task (first_among tasks))) (sym parted.split.left)
 
 -- So where the first is another task, it is the first without this one too.
-pub first_stays : (task : Queued) (kept rest : Option Queued) → kept ≡ Some (earlier task rest) → is_of task.pid kept ≡ false → kept ≡ rest
-first_stays task kept rest is other = is ∙ go rest (ap (is_of task.pid) (sym is) ∙ other) where
+pub first_stays : (task : Queued) {kept rest : Option Queued} → kept ≡ Some (earlier task rest) → is_of task.pid kept ≡ false → kept ≡ rest
+first_stays task {rest = rest} is other = is ∙ go rest (ap (is_of task.pid) (sym is) ∙ other) where
   go : (rest : Option Queued) → ((earlier task rest).pid == task.pid) ≡ false → Some (earlier task rest) ≡ rest
   go None differs = absurd (both_ways (task.pid == task.pid) differs (eq-eqb task.pid task.pid refl))
   go (Some one) differs =
@@ -156,11 +152,7 @@ pub told_first : (seats : Seats) (first : Option ℕ) (tasks : List Queued) → 
     first ≡ option_map (λ (task : Queued). task.pid) (first_among tasks)
 told_first seats first tasks is same = is ∙ ap top_of same ∙ top-first tasks
 
--- what has no pid is none, and what has this one is what the table has by it
-pub none_first : (first : Option Queued) → None ≡ option_map (λ (task : Queued). task.pid) first → None ≡ first
-none_first None is = refl
-none_first (Some task) is = absurd cc
-
+-- what has this pid is what the table has by it
 pub found_first_by : (tasks : List Task) (pid : ℕ) (first : Option Queued) → IfSome first (IsIn tasks) → Some pid ≡ option_map (λ (task : Queued). task.pid) first →
     option_map queued_of (find (has_pid pid) tasks) ≡ first
 found_first_by tasks pid None there is = absurd cc

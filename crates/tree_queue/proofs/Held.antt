@@ -1,5 +1,5 @@
 -- Held: what a run queue holds once a task is put in or taken out.
-use Rattle.std.proofs.Common.{◌≡◌, ℕ, ◌+◌, true, false, cond, not, List, [], ◌∷◌, ◌++◌, map, length, Option, None, Some, inl, inr, refl, sym, ap, ◌∙◌, subst, arith}
+use Rattle.std.proofs.Common.{◌≡◌, ℕ, ◌+◌, true, false, not, List, [], ◌∷◌, map, length, Option, None, Some, inl, inr, refl, sym, ap, ◌∙◌, subst, arith}
 use Rattle.std.specs.Prelude.{◌==◌, filter, IsTrue, IfSome, is_some}
 use Rattle.std.specs.List.{AllByRecursion}
 use Rattle.std.specs.FinMap as fin
@@ -9,7 +9,6 @@ use Rattle.std.specs.Ordering.{is_eq}
 use Rattle.std.proofs.lemmas.Bool.{cases_Bool, cond-true, cond-false}
 use Rattle.std.specs.List.Sorted.{IsPermutation}
 use Rattle.std.proofs.lemmas.List.{nil_from_length}
-use Rattle.std.proofs.lemmas.List.Elements.{filter-append}
 use Rattle.std.proofs.lemmas.List.Sorted.{IsPermutation-refl, IsPermutation-trans, IsPermutation-cons}
 use Rattle.cs_types.specs.declared.queue.Queued.{Queued}
 use Rattle.cs_types.specs.Queue.{RunQueued, Seat, Seats, Spot, Spots, seat_cmp, spot_cmp, seat_of, spot_of}
@@ -19,7 +18,8 @@ use Rattle.run_queue.specs.Run.{without, including}
 use Rattle.run_queue.proofs.Ties.{has-insert, had-insert, longer-insert}
 use Rattle.tree_queue.specs.Held.{AreApart, AreDistinct, Holds, has_cookie, seated, spotted}
 use Rattle.tree_queue.proofs.Made.{free_at, made-put, made-take}
-use Rattle.tree_queue.proofs.Splits.{IsSplit, length-split, all_filter, distinct_in, distinct_out, split-pass, split-fail}
+use Rattle.tree_queue.proofs.Splits.{IsParted, length-split, distinct_in, distinct_out, parted-pass, split-fail}
+use Rattle.std.proofs.ByRecursion.{all_kept_by}
 
 -- a seat and a spot have the stamp of their task
 pub seat_stamp : (a b : Queued) → seat_of a ≡ seat_of b → a.stamp ≡ b.stamp
@@ -28,71 +28,48 @@ seat_stamp a b same = ap (λ (seat : Seat). seat.1.1) same
 pub spot_stamp : (a b : Queued) → spot_of a ≡ spot_of b → a.stamp ≡ b.stamp
 spot_stamp a b same = ap (λ (spot : Spot). spot.1.1.1) same
 
-module _ (task : Queued) (all rest : List Queued) (split : IsSplit task all rest) (apart : AllByRecursion (AreApart task) rest) where
-  abbrev front : List Queued
-  front = split.before
+-- what is left while a task is out
+abbrev pub without_one : RunQueued → Queued → RunQueued
+without_one run task = record { tasks = fin.remove run.tasks (seat_of task); cookies = without task run.cookies; spare = run.spare + 1 }
 
-  abbrev back : List Queued
-  back = split.after
-
-  apart_from : AllByRecursion (AreApart task) (front ++ back)
-  apart_from = subst (AllByRecursion (AreApart task)) split.left apart
-
+module _ {task : Queued} {all rest : List Queued} (parted : IsParted task all rest) where
   pub free_seat : fin.get (seated rest) (seat_of task) ≡ None
-  free_seat = free_at seat_total seat_cmp-IsAntisymmetric seat_of seat_stamp task rest apart
+  free_seat = free_at seat_total seat_cmp-IsAntisymmetric seat_of seat_stamp task rest parted.apart
 
   seated-put : seated all ≡ fin.insert (seated rest) (seat_of task) task.pid
-  seated-put =
-      ap seated split.whole
-      ∙ made-put seat_total seat_cmp-IsAntisymmetric seat_of seat_stamp task back front apart_from
-      ∙ ap (λ (ts : List Queued). fin.insert (seated ts) (seat_of task) task.pid) (sym split.left)
+  seated-put = made-put seat_total seat_cmp-IsAntisymmetric seat_of seat_stamp parted
 
   seated-take : fin.remove (seated all) (seat_of task) ≡ seated rest
-  seated-take =
-      ap (λ (ts : List Queued). fin.remove (seated ts) (seat_of task)) split.whole
-      ∙ made-take seat_total seat_cmp-IsAntisymmetric seat_of seat_stamp task back front apart_from
-      ∙ ap seated (sym split.left)
+  seated-take = made-take seat_total seat_cmp-IsAntisymmetric seat_of seat_stamp parted
 
-  -- those with a cookie, where the task has one
-  module _ (some : has_cookie task ≡ true) where
-    parted : filter has_cookie (front ++ back) ≡ filter has_cookie front ++ filter has_cookie back
-    parted = filter-append has_cookie front back
+  spotted-put : has_cookie task ≡ true → spotted all ≡ fin.insert (spotted rest) (spot_of task) task.pid
+  spotted-put some = made-put spot_total spot_cmp-IsAntisymmetric spot_of spot_stamp (parted-pass has_cookie parted some)
 
-    apart_some : AllByRecursion (AreApart task) (filter has_cookie front ++ filter has_cookie back)
-    apart_some = subst (AllByRecursion (AreApart task)) parted (all_filter (AreApart task) has_cookie (front ++ back) apart_from)
-
-    whole_some : filter has_cookie all ≡ filter has_cookie front ++ task ∷ filter has_cookie back
-    whole_some = ap (filter has_cookie) split.whole ∙ split-pass has_cookie task front back some
-
-    left_some : filter has_cookie rest ≡ filter has_cookie front ++ filter has_cookie back
-    left_some = ap (filter has_cookie) split.left ∙ parted
-
-    abbrev at_spots : List Queued → Spots
-    at_spots tasks = fin.from_entries (map (λ (t : Queued). (spot_of t, t.pid)) tasks)
-
-    spotted-put : spotted all ≡ fin.insert (spotted rest) (spot_of task) task.pid
-    spotted-put =
-        ap at_spots whole_some
-        ∙ made-put spot_total spot_cmp-IsAntisymmetric spot_of spot_stamp task (filter has_cookie back) (filter has_cookie front) apart_some
-        ∙ ap (λ (ts : List Queued). fin.insert (at_spots ts) (spot_of task) task.pid) (sym left_some)
-
-    spotted-take : fin.remove (spotted all) (spot_of task) ≡ spotted rest
-    spotted-take =
-        ap (λ (ts : List Queued). fin.remove (at_spots ts) (spot_of task)) whole_some
-        ∙ made-take spot_total spot_cmp-IsAntisymmetric spot_of spot_stamp task (filter has_cookie back) (filter has_cookie front) apart_some
-        ∙ ap at_spots (sym left_some)
-
-  -- and where it has none
+  -- where it has no cookie
   spotted-none : has_cookie task ≡ false → spotted all ≡ spotted rest
-  spotted-none none =
-      ap (λ (ts : List Queued). fin.from_entries {R = spot_cmp} (map (λ (t : Queued). (spot_of t, t.pid)) ts))
-      (ap (filter has_cookie) split.whole ∙ split-fail has_cookie task front back none ∙ ap (filter has_cookie) (sym split.left))
+  spotted-none none = ap (λ (ts : List Queued). fin.from_entries {R = spot_cmp} (map (λ (t : Queued). (spot_of t, t.pid)) ts)) (split-fail has_cookie parted.split none)
+
+  spotted-including : including task (spotted rest) ≡ spotted all
+  spotted-including =
+      elim (cases_Bool (task.cookie == 0)) [
+        | inl none ↦ cond-true _ (spotted rest) _ none ∙ sym (spotted-none (ap not none))
+        | inr some ↦ cond-false _ (spotted rest) _ some ∙ sym (spotted-put (ap not some))
+      ]
+
+  spotted-without : without task (spotted all) ≡ spotted rest
+  spotted-without =
+      elim (cases_Bool (task.cookie == 0)) [
+        | inl none ↦ cond-true _ (spotted all) _ none ∙ spotted-none (ap not none)
+        | inr some ↦
+            cond-false _ (spotted all) _ some
+            ∙ made-take spot_total spot_cmp-IsAntisymmetric spot_of spot_stamp (parted-pass has_cookie parted (ap not some))
+      ]
 
   -- no other is at its seat, whatever the cookie
   nothing : (cookie : ℕ) → fin.get (spotted rest) (cookie, seat_of task) ≡ None
   nothing cookie =
       let other : Queued = record task { cookie = cookie } in
-      free_at spot_total spot_cmp-IsAntisymmetric spot_of spot_stamp other (filter has_cookie rest) (all_filter (AreApart other) has_cookie rest apart)
+      free_at spot_total spot_cmp-IsAntisymmetric spot_of spot_stamp other (filter has_cookie rest) (all_kept_by has_cookie (AreApart other) rest parted.apart)
 
   pub own_seat : IsTrue (fin.contains_key (seated all) (seat_of task))
   own_seat =
@@ -108,8 +85,7 @@ module _ (task : Queued) (all rest : List Queued) (split : IsSplit task all rest
             ∙ cond-true _ (Some task.pid) _ (ap is_eq (tied_itself spot_total (spot_of task))) in
             subst (λ (o : Option ℕ). IfSome o (λ pid. pid ≡ task.pid)) (sym found) refl
         | inr none ↦
-            let found : fin.get (spotted all) (spot_of task) ≡ None =
-            ap (λ (m : Spots). fin.get m (spot_of task)) (spotted-none none) ∙ nothing task.cookie in
+            let found = ap (λ (m : Spots). fin.get m (spot_of task)) (spotted-none none) ∙ nothing task.cookie in
             subst (λ (o : Option ℕ). IfSome o (λ pid. pid ≡ task.pid)) (sym found) tt
       ]
 
@@ -133,53 +109,39 @@ module _ (task : Queued) (all rest : List Queued) (split : IsSplit task all rest
         bad is = let both : true ≡ false = sym is ∙ ap is_some (nothing cookie) in absurd cc
 
   -- The task is put in.
-  pub Holds-put : (old new : RunQueued) (most : ℕ) → Holds old most rest → new.tasks ≡ fin.insert old.tasks (seat_of task) task.pid →
-      new.cookies ≡ cond (task.cookie == 0) old.cookies (fin.insert old.cookies (spot_of task) task.pid) → new.spare + 1 ≡ old.spare → Holds new most all
-  Holds-put old new most held tasks cookies spare = record {
-    seats = tasks ∙ ap (λ (m : Seats). fin.insert m (seat_of task) task.pid) held.seats ∙ sym seated-put;
-    spots = cookies ∙ elim (cases_Bool (task.cookie == 0)) [
-      | inl none ↦ cond-true _ old.cookies _ none ∙ held.spots ∙ sym (spotted-none (ap not none))
-      | inr some ↦
-          cond-false _ old.cookies _ some
-          ∙ ap (λ (m : Spots). fin.insert m (spot_of task) task.pid) held.spots
-          ∙ sym (spotted-put (ap not some))
-    ];
-    distinct = subst AreDistinct (sym split.whole) (distinct_in front back task apart_from (subst AreDistinct split.left held.distinct));
-    room = let long = length-split task all rest split in let before = held.room in omega arith;
-  }
+  pub Holds-put : {old new : RunQueued} {most : ℕ} {queued : Queued} → queued ≡ task → Holds old most rest → new.tasks ≡ fin.insert old.tasks (seat_of queued) queued.pid →
+      new.cookies ≡ including queued old.cookies → new.spare + 1 ≡ old.spare → Holds new most all
+  Holds-put same held tasks cookies spare =
+      let split = parted.split in
+      record {
+        seats = tasks ∙ (λ i. fin.insert (held.seats i) (seat_of (same i)) (same i).pid) ∙ sym seated-put;
+        spots = cookies ∙ (λ i. including (same i) (held.spots i)) ∙ spotted-including;
+        distinct = subst AreDistinct (sym split.whole)
+            (distinct_in split.before split.after task (subst (AllByRecursion (AreApart task)) split.left parted.apart) (subst AreDistinct split.left held.distinct));
+        room = omega (arith, length-split split, held.room, spare);
+      }
 
   -- It is taken out.
-  pub Holds-take : (old new : RunQueued) (most : ℕ) → Holds old most all → new.tasks ≡ fin.remove old.tasks (seat_of task) →
-      new.cookies ≡ cond (task.cookie == 0) old.cookies (fin.remove old.cookies (spot_of task)) → new.spare ≡ old.spare + 1 → Holds new most rest
-  Holds-take old new most held tasks cookies spare = record {
-    seats = tasks ∙ ap (λ (m : Seats). fin.remove m (seat_of task)) held.seats ∙ seated-take;
-    spots = cookies ∙ elim (cases_Bool (task.cookie == 0)) [
-      | inl none ↦ cond-true _ old.cookies _ none ∙ held.spots ∙ spotted-none (ap not none)
-      | inr some ↦
-          cond-false _ old.cookies _ some
-          ∙ ap (λ (m : Spots). fin.remove m (spot_of task)) held.spots
-          ∙ spotted-take (ap not some)
-    ];
-    distinct = subst AreDistinct (sym split.left) (distinct_out front back task (subst AreDistinct split.whole held.distinct)).1;
-    room = let long = length-split task all rest split in let before = held.room in omega arith;
-  }
+  pub Holds-take : {old new : RunQueued} {most : ℕ} {queued : Queued} → queued ≡ task → Holds old most all → new.tasks ≡ fin.remove old.tasks (seat_of queued) →
+      new.cookies ≡ without queued old.cookies → new.spare ≡ old.spare + 1 → Holds new most rest
+  Holds-take same held tasks cookies spare =
+      let split = parted.split in
+      record {
+        seats = tasks ∙ (λ i. fin.remove (held.seats i) (seat_of (same i))) ∙ seated-take;
+        spots = cookies ∙ (λ i. without (same i) (held.spots i)) ∙ spotted-without;
+        distinct = subst AreDistinct (sym split.left) (distinct_out split.before split.after task (subst AreDistinct split.whole held.distinct)).1;
+        room = omega (arith, length-split split, held.room, spare);
+      }
 
--- A task stays, and has another cookie.
-pub Holds-set_cookie : (task : Queued) (cookie : ℕ) (all then rest : List Queued) → IsSplit task all rest → IsSplit (record task { cookie = cookie }) then rest →
-    AllByRecursion (AreApart task) rest → (old new : RunQueued) (most : ℕ) → Holds old most all → new.tasks ≡ old.tasks →
-    new.cookies ≡ including (record task { cookie = cookie }) (without task old.cookies) → new.spare ≡ old.spare → Holds new most then
-Holds-set_cookie task cookie all then rest split split_now apart old new most held tasks cookies spare =
-    let now : Queued = record task { cookie = cookie } in
-    let mid : RunQueued = record { tasks = fin.remove old.tasks (seat_of task); cookies = without task old.cookies; spare = old.spare + 1 } in
-    let less = Holds-take task all rest split apart old mid most held refl refl refl in
-    Holds-put now then rest split_now apart mid new most less
-    (tasks ∙ held.seats ∙ seated-put task all rest split apart ∙ ap (λ (m : Seats). fin.insert m (seat_of task) task.pid) (sym less.seats))
-    cookies (ap (λ n. n + 1) spare)
+  pub Holds-without : {old : RunQueued} {most : ℕ} {queued : Queued} → queued ≡ task → Holds old most all → Holds (without_one old queued) most rest
+  Holds-without same held = Holds-take same held refl refl refl
 
--- the others there are apart from a task of a queue
-pub apart_others : (run : RunQueued) (most : ℕ) (task : Queued) (all rest : List Queued) → IsSplit task all rest → Holds run most all → AllByRecursion (AreApart task) rest
-apart_others run most task all rest split held =
-    subst (AllByRecursion (AreApart task)) (sym split.left) (distinct_out split.before split.after task (subst AreDistinct split.whole held.distinct)).0
+  -- It stays.
+  pub seats_stay : {old : RunQueued} {most : ℕ} {queued : Queued} → queued ≡ task → Holds old most all →
+      old.tasks ≡ fin.insert (fin.remove old.tasks (seat_of queued)) (seat_of queued) queued.pid
+  seats_stay same held =
+      held.seats ∙ seated-put ∙ ap (λ (m : Seats). fin.insert m (seat_of task) task.pid) (sym seated-take)
+      ∙ (λ i. fin.insert (fin.remove (sym held.seats i) (seat_of (sym same i))) (seat_of (sym same i)) (sym same i).pid)
 
 -- it has as many tasks as these
 pub len-seated : (tasks : List Queued) → AreDistinct tasks → fin.len (seated tasks) ≡ length tasks

@@ -10,4 +10,5 @@ pub mod Crosses
 pub mod Compared
 pub mod Firsts
 pub mod Moved
+pub mod Parts
 pub mod Told

@@ -1,5 +1,5 @@
 -- Made: a map that is made of some tasks, once one of them is put in or taken out.
-use Rattle.std.proofs.Common.{◌≡◌, ℕ, Bool, true, false, cond, List, [], ◌∷◌, ◌++◌, map, None, Some, inl, inr, refl, sym, ap, ◌∙◌}
+use Rattle.std.proofs.Common.{◌≡◌, ℕ, Bool, true, false, cond, List, [], ◌∷◌, ◌++◌, map, None, Some, inl, inr, refl, sym, ap, ◌∙◌, subst}
 use Rattle.std.specs.List.{AllByRecursion}
 use Rattle.std.specs.Cmp.{IsTotalOrder}
 use Rattle.std.specs.Ordering.{eq_by_cmp}
@@ -10,6 +10,7 @@ use Rattle.std.proofs.lemmas.Bool.{cases_Bool, cond-true, cond-false}
 use Rattle.cs_types.specs.declared.queue.Queued.{Queued}
 use Rattle.order_tree.proofs.Entries.{equal_by}
 use Rattle.tree_queue.specs.Held.{AreApart}
+use Rattle.tree_queue.proofs.Splits.{IsParted}
 
 -- two choices of which at most one is made
 swapped : {A : Type 0} (p q : Bool) (x y z : A) → (p ≡ true → q ≡ true → ⊥) → cond p x (cond q y z) ≡ cond q y (cond p x z)
@@ -53,32 +54,30 @@ module _ {K : Type 0} {R : K → K → Ordering} (o : IsTotalOrder R) (only : Is
         ∙ swapped (eq_by_cmp R query (key first)) (eq_by_cmp R query (key task)) (Some first.pid) (Some task.pid) (find R query (map entry (before ++ after)))
         (λ here there. apart.0.1 (stamps task first (sym (only query (key task) (equal_by _ there)) ∙ only query (key first) (equal_by _ here))))
 
+  module _ {task : Queued} {all rest : List Queued} (parted : IsParted task all rest) where
     -- it is put in
-    pub made-put : (before : List Queued) → AllByRecursion (AreApart task) (before ++ after) →
-        made (before ++ task ∷ after) ≡ fin.insert (made (before ++ after)) (key task) task.pid
-    made-put before apart =
+    pub made-put : made all ≡ fin.insert (made rest) (key task) task.pid
+    made-put =
+        let split = parted.split in
         same_map o only _ _ (λ query.
-        get-from_entries o (map entry (before ++ task ∷ after)) query
-        ∙ find_amid before apart query
-        ∙ ap (cond (eq_by_cmp R query (key task)) (Some task.pid)) (sym (get-from_entries o (map entry (before ++ after)) query))
-        ∙ sym (get-insert o (made (before ++ after)) (key task) task.pid query))
+        get-from_entries o (map entry all) query
+        ∙ ap (λ (ts : List Queued). find R query (map entry ts)) split.whole
+        ∙ find_amid task split.after split.before (subst (AllByRecursion (AreApart task)) split.left parted.apart) query
+        ∙ ap (λ (ts : List Queued). cond (eq_by_cmp R query (key task)) (Some task.pid) (find R query (map entry ts))) (sym split.left)
+        ∙ ap (cond (eq_by_cmp R query (key task)) (Some task.pid)) (sym (get-from_entries o (map entry rest) query))
+        ∙ sym (get-insert o (made rest) (key task) task.pid query))
 
     -- and taken out
-    pub made-take : (before : List Queued) → AllByRecursion (AreApart task) (before ++ after) →
-        fin.remove (made (before ++ task ∷ after)) (key task) ≡ made (before ++ after)
-    made-take before apart =
-        let rest = made (before ++ after) in
-        ap (λ (m : FinMap R ℕ). fin.remove m (key task)) (made-put before apart)
+    pub made-take : fin.remove (made all) (key task) ≡ made rest
+    made-take =
+        ap (λ (m : FinMap R ℕ). fin.remove m (key task)) made-put
         ∙ same_map o only _ _ (λ query.
-        get-remove o (fin.insert rest (key task) task.pid) (key task) query
-        ∙ ap (cond (eq_by_cmp R query (key task)) None) (get-insert o rest (key task) task.pid query)
+        get-remove o (fin.insert (made rest) (key task) task.pid) (key task) query
+        ∙ ap (cond (eq_by_cmp R query (key task)) None) (get-insert o (made rest) (key task) task.pid query)
         ∙ gone query) where
-          gone : (query : K) → cond (eq_by_cmp R query (key task)) None (cond (eq_by_cmp R query (key task)) (Some task.pid) (get (made (before ++ after)) query))
-              ≡ get (made (before ++ after)) query
+          gone : (query : K) → cond (eq_by_cmp R query (key task)) None (cond (eq_by_cmp R query (key task)) (Some task.pid) (get (made rest) query)) ≡ get (made rest) query
           gone query =
               elim (cases_Bool (eq_by_cmp R query (key task))) [
-                | inl tie ↦
-                    cond-true _ None _ tie
-                    ∙ sym (ap (get (made (before ++ after))) (only query (key task) (equal_by _ tie)) ∙ free_at task (before ++ after) apart)
-                | inr differs ↦ cond-false _ None _ differs ∙ cond-false _ (Some task.pid) (get (made (before ++ after)) query) differs
+                | inl tie ↦ cond-true _ None _ tie ∙ sym (ap (get (made rest)) (only query (key task) (equal_by _ tie)) ∙ free_at task rest parted.apart)
+                | inr differs ↦ cond-false _ None _ differs ∙ cond-false _ (Some task.pid) (get (made rest) query) differs
               ]

@@ -1,5 +1,5 @@
 -- Moved: what a run queue holds once all its tasks moved to another sibling, where they stand in the same order.
-use Rattle.std.proofs.Common.{◌≡◌, ◌≢◌, ℕ, ◌+◌, ◌-◌, ◌<◌, ◌≤◌, Bool, true, false, cond, not, ltb, List, [], ◌∷◌, map, get_or, inl, inr, refl, sym, ap, ◌∙◌, subst, arith}
+use Rattle.std.proofs.Common.{◌≡◌, ℕ, ◌+◌, ◌-◌, ◌<◌, ◌≤◌, Bool, true, false, cond, not, ltb, List, [], ◌∷◌, map, inl, inr, refl, sym, ap, ◌∙◌, subst, arith}
 use Rattle.std.specs.Prelude.{◌==◌, filter, count_by, Contains}
 use Rattle.std.specs.List.{AllByRecursion}
 use Rattle.std.specs.Option.{option_map_or}
@@ -12,29 +12,32 @@ use Rattle.std.specs.FinMap.{FinMap, IsAntisymmetric, entries, entries-insert, f
 use Rattle.std.specs.FinMap.Entries.{by_order}
 use Rattle.std.proofs.lemmas.Bool.{cases_Bool, cases_order, cond-true, cond-false, eqb-true, eqb-false, ne_eqb, lt-ltb}
 use Rattle.std.proofs.lemmas.Bool.Decides.{nat_tests}
-use Rattle.std.proofs.lemmas.List.{nil_from_length, get_or_default}
+use Rattle.std.proofs.lemmas.List.{nil_from_length}
 use Rattle.std.proofs.lemmas.List.Sums.{length-filter, sum_by-cons}
-use Rattle.std.proofs.lemmas.List.Elements.{recursion_from_All, All-contains_itself}
+use Rattle.std.proofs.lemmas.List.Elements.{recursion_from_All}
 use Rattle.cs_types.specs.declared.task.Task.{Task}
 use Rattle.cs_types.specs.declared.queue.Queued.{Queued}
 use Rattle.cs_types.specs.Order.{fair_class, real_time_class}
-use Rattle.cs_types.specs.Queue.{Seat, Spot, Spots, seat_cmp, spot_cmp, seat_of, spot_of, queued_of}
+use Rattle.cs_types.specs.Queue.{Seat, Spot, seat_cmp, spot_cmp, seat_of, spot_of, queued_of}
 use Rattle.cs_types.proofs.Queues.{seat_total, seat_cmp-IsAntisymmetric, spot_total, spot_cmp-IsAntisymmetric}
 use Rattle.task_table.specs.Table.{Rises}
 use Rattle.core_lanes.specs.Queued.{queued_among, queued_at, IsOf}
 use Rattle.core_lanes.specs.Moved.{again}
 use Rattle.core_lanes.proofs.Lists.{fewer, filter-map}
-use Rattle.core_lanes.proofs.Queues.{is_on, is_of}
+use Rattle.core_lanes.proofs.Queues.{is_on}
 use Rattle.cookie_queue.specs.Anew.{respotted}
 use Rattle.run_queue.specs.Anew.{reseated}
 use Rattle.run_queue.specs.Run.{IsTied}
 use Rattle.run_queue.proofs.Ties.{IsTied-empty, IsTied-plain, IsTied-cookie}
 use Rattle.tree_queue.specs.Held.{AreApart, AreDistinct, has_cookie, seated, spotted}
-use Rattle.tree_queue.specs.Kinds.{kind_of, lot_of, count_of, AreCounted}
+use Rattle.tree_queue.specs.Kinds.{kind_of, count_of, AreCounted}
 use Rattle.tree_queue.specs.Renewed.{key_in}
 use Rattle.tree_queue.proofs.Made.{free_at}
 use Rattle.tree_queue.proofs.Held.{seat_stamp, spot_stamp}
-use Rattle.tree_queue.proofs.Splits.{all_filter}
+use Rattle.tree_queue.proofs.Splits.{each_is_of}
+use Rattle.std.proofs.ByRecursion.{All-weaker, all_kept_by}
+use Rattle.cs_types.proofs.Times.{all_map}
+use Rattle.cs_types.proofs.Selections.{each_both}
 
 -- ---- comparisons that stay
 
@@ -52,14 +55,6 @@ not_below_itself n = grind (arith, nat_tests)
 below_still : (k m n : ℕ) → m < n → ltb k m ≡ true → ltb k n ≡ true
 below_still k m n less lower = grind (arith, nat_tests)
 
-all_both : {X : Type 0} (P P' : X → Type 0) (xs : List X) → AllByRecursion P xs → AllByRecursion P' xs → AllByRecursion (λ x. P x × P' x) xs
-all_both P P' [] one other = tt
-all_both P P' (x ∷ xs) one other = ((one.0, other.0), all_both P P' xs one.1 other.1)
-
-all_by : {X : Type 0} (P P' : X → Type 0) → ((x : X) → P x → P' x) → (xs : List X) → AllByRecursion P xs → AllByRecursion P' xs
-all_by P P' each [] all = tt
-all_by P P' each (x ∷ xs) all = (each x all.0, all_by P P' each xs all.1)
-
 -- ---- a map whose keys are renewed
 
 module _ {K : Type 0} {R : K → K → Ordering} (o : IsTotalOrder R) (only : IsAntisymmetric R) (f : K × ℕ → K) where
@@ -73,29 +68,22 @@ module _ {K : Type 0} {R : K → K → Ordering} (o : IsTotalOrder R) (only : Is
 
   put-renewed : (e : K × ℕ) (es : List (K × ℕ)) → AllByRecursion (Stands e) es → map renewed (put R e.0 e.1 es) ≡ put R (f e) e.1 (map renewed es)
   put-renewed e [] all = refl
-  put-renewed e (x ∷ xs) all = by_cases (put-renewed e xs all.1) (R e.0 x.0) refl where
-    before : Ordering → List (K × ℕ)
-    before r = map renewed (by_order r (e ∷ x ∷ xs) ((x.0, e.1) ∷ xs) (x ∷ put R e.0 e.1 xs))
-
-    after : Ordering → List (K × ℕ)
-    after r = by_order r ((f e, e.1) ∷ renewed x ∷ map renewed xs) ((f x, e.1) ∷ map renewed xs) (renewed x ∷ put R (f e) e.1 (map renewed xs))
-
-    by_cases : map renewed (put R e.0 e.1 xs) ≡ put R (f e) e.1 (map renewed xs) → (r : Ordering) → R e.0 x.0 ≡ r → before (R e.0 x.0) ≡ after (R (f e) (f x))
-    by_cases rest Less is = ap before is ∙ ap after (sym is ∙ sym all.0.0)
-    by_cases rest Equal is = absurd (all.0.1 is)
-    by_cases rest Greater is = ap before is ∙ ap (λ (more : List (K × ℕ)). renewed x ∷ more) rest ∙ ap after (sym is ∙ sym all.0.0)
+  put-renewed e (x ∷ xs) all =
+      let after : Ordering → List (K × ℕ) = λ r. by_order r (renewed e ∷ renewed x ∷ map renewed xs) ((f x, e.1) ∷ map renewed xs) (renewed x ∷ put R (f e) e.1 (map renewed xs)) in
+      elim (R e.0 x.0) as (λ r. R e.0 x.0 ≡ r → map renewed (by_order r (e ∷ x ∷ xs) ((x.0, e.1) ∷ xs) (x ∷ put R e.0 e.1 xs)) ≡ after (R (f e) (f x))) [
+        | Less ↦ λ is. ap after (sym is ∙ sym all.0.0)
+        | Equal ↦ λ is. absurd (all.0.1 is)
+        | Greater ↦ λ is. ap (λ (more : List (K × ℕ)). renewed x ∷ more) (put-renewed e xs all.1) ∙ ap after (sym is ∙ sym all.0.0)
+      ] refl
 
   all_put : (P : K × ℕ → Type 0) (e : K × ℕ) (es : List (K × ℕ)) → P e → AllByRecursion P es → AllByRecursion P (put R e.0 e.1 es)
   all_put P e [] here all = (here, tt)
-  all_put P e (x ∷ xs) here all = by_cases (all_put P e xs here all.1) (R e.0 x.0) refl where
-    by_cases : AllByRecursion P (put R e.0 e.1 xs) → (r : Ordering) → R e.0 x.0 ≡ r →
-        AllByRecursion P (by_order (R e.0 x.0) (e ∷ x ∷ xs) ((x.0, e.1) ∷ xs) (x ∷ put R e.0 e.1 xs))
-    by_cases rest Less is = subst (λ r. AllByRecursion P (by_order r (e ∷ x ∷ xs) ((x.0, e.1) ∷ xs) (x ∷ put R e.0 e.1 xs))) (sym is) (here, all)
-    by_cases rest Equal is =
-        subst (λ r. AllByRecursion P (by_order r (e ∷ x ∷ xs) ((x.0, e.1) ∷ xs) (x ∷ put R e.0 e.1 xs))) (sym is)
-        (subst (λ k. P (k, e.1)) (only e.0 x.0 is) here, all.1)
-    by_cases rest Greater is =
-        subst (λ r. AllByRecursion P (by_order r (e ∷ x ∷ xs) ((x.0, e.1) ∷ xs) (x ∷ put R e.0 e.1 xs))) (sym is) (all.0, rest)
+  all_put P e (x ∷ xs) here all =
+      elim (R e.0 x.0) as (λ r. R e.0 x.0 ≡ r → AllByRecursion P (by_order r (e ∷ x ∷ xs) ((x.0, e.1) ∷ xs) (x ∷ put R e.0 e.1 xs))) [
+        | Less ↦ λ is. (here, all)
+        | Equal ↦ λ is. (subst (λ k. P (k, e.1)) (only e.0 x.0 is) here, all.1)
+        | Greater ↦ λ is. (all.0, all_put P e xs here all.1)
+      ] refl
 
   module _ (key : Queued → K) (new : Queued → Queued) where
     abbrev entry : Queued → K × ℕ
@@ -117,24 +105,22 @@ module _ {K : Type 0} {R : K → K → Ordering} (o : IsTotalOrder R) (only : Is
     abbrev IsAgain : Queued → Type 0
     IsAgain task = (f (entry task) ≡ key (new task)) × ((new task).pid ≡ task.pid)
 
-    -- each task compares anew with those behind it as before
+    -- a task compares anew with another as before
+    abbrev Stays : Queued → Queued → Type 0
+    Stays task other = (R (key (new task)) (key (new other)) ≡ R (key task) (key other)) × (R (key task) (key other) ≡ Equal → ⊥)
+
+    -- and so each with those behind it
     abbrev pub AreInOrder : List Queued → Type 0
     AreInOrder [] = Unit {0}
-    AreInOrder (task ∷ tasks) =
-        AllByRecursion (λ (other : Queued). (R (key (new task)) (key (new other)) ≡ R (key task) (key other)) × (R (key task) (key other) ≡ Equal → ⊥)) tasks × AreInOrder tasks
-
-    stand : (task : Queued) → IsAgain task → (tasks : List Queued) → AllByRecursion IsAgain tasks →
-        AllByRecursion (λ (other : Queued). (R (key (new task)) (key (new other)) ≡ R (key task) (key other)) × (R (key task) (key other) ≡ Equal → ⊥)) tasks →
-        AllByRecursion (λ (other : Queued). Stands (entry task) (entry other)) tasks
-    stand task is [] each all = tt
-    stand task is (other ∷ tasks) each all = (((λ i. R (is.0 i) (each.0.0 i)) ∙ all.0.0, all.0.1), stand task is tasks each.1 all.1)
+    AreInOrder (task ∷ tasks) = AllByRecursion (Stays task) tasks × AreInOrder tasks
 
     pub entries-renewed : (tasks : List Queued) → AllByRecursion IsAgain tasks → AreInOrder tasks → entries (made (map new tasks)) ≡ map renewed (entries (made tasks))
     entries-renewed [] each order = none ∙ ap (map renewed) (sym none)
     entries-renewed (task ∷ tasks) each order =
         entries-insert o (made (map new tasks)) (key (new task)) (new task).pid
         ∙ (λ i. put R (sym each.0.0 i) (each.0.1 i) (entries-renewed tasks each.1 order.1 i))
-        ∙ sym (put-renewed (entry task) (entries (made tasks)) (all_made (Stands (entry task)) tasks (stand task each.0 tasks each.1 order.0)))
+        ∙ sym (put-renewed (entry task) (entries (made tasks)) (all_made (Stands (entry task)) tasks
+        (each_both IsAgain (Stays task) _ tasks (λ other its stays. ((λ i. R (each.0.0 i) (its.0 i)) ∙ stays.0, stays.1)) each.1 order.0)))
         ∙ ap (map renewed) (sym (entries-insert o (made tasks) (key task) task.pid))
 
 -- ---- tasks that moved
@@ -178,18 +164,14 @@ module _ (from to next : ℕ) (was : List Queued) where
   seats a b here there =
       elim (cases_order a.class b.class) [
         | inl same ↦ λ i. ordering_then (nat_cmp a.class b.class) (ordering_then (ranks a b here there same i) (stamps a b here there i))
-        | inr (inl less) ↦ by_class Less refl refl (sym (nat_cmp_is a.class b.class Less less))
-        | inr (inr more) ↦ by_class Greater refl refl (sym (nat_cmp_is a.class b.class Greater more))
+        | inr (inl less) ↦ subst (λ r. ordering_then r now ≡ ordering_then r then) (nat_cmp_is a.class b.class Less less) refl
+        | inr (inr more) ↦ subst (λ r. ordering_then r now ≡ ordering_then r then) (nat_cmp_is a.class b.class Greater more) refl
       ] where
         now : Ordering
         now = ordering_then (nat_cmp (new a).rank (new b).rank) (nat_cmp (new a).stamp (new b).stamp)
 
         then : Ordering
         then = ordering_then (nat_cmp a.rank b.rank) (nat_cmp a.stamp b.stamp)
-
-        by_class : (r : Ordering) → ordering_then r now ≡ r → ordering_then r then ≡ r → nat_cmp a.class b.class ≡ r →
-            ordering_then (nat_cmp a.class b.class) now ≡ ordering_then (nat_cmp a.class b.class) then
-        by_class r first second is = ap (λ c. ordering_then c now) is ∙ first ∙ sym second ∙ ap (λ c. ordering_then c then) (sym is)
 
   spots : (a b : Queued) → IsHere a → IsHere b → spot_cmp (spot_of (new a)) (spot_of (new b)) ≡ spot_cmp (spot_of a) (spot_of b)
   spots a b here there = ap (ordering_then (nat_cmp a.cookie b.cookie)) (seats a b here there)
@@ -205,32 +187,23 @@ module _ (from to next : ℕ) (was : List Queued) where
     ],
   )
 
-  all_apart : (task : Queued) → IsHere task → (tasks : List Queued) → AllByRecursion IsHere tasks → AllByRecursion (AreApart task) tasks →
-      AllByRecursion (AreApart (new task)) (map new tasks)
-  all_apart task here [] each apart = tt
-  all_apart task here (other ∷ tasks) each apart = (apart_again task other here each.0 apart.0, all_apart task here tasks each.1 apart.1)
-
   pub distinct_again : (tasks : List Queued) → AllByRecursion IsHere tasks → AreDistinct tasks → AreDistinct (map new tasks)
   distinct_again [] each distinct = tt
-  distinct_again (task ∷ tasks) each distinct = (all_apart task each.0 tasks each.1 distinct.0, distinct_again tasks each.1 distinct.1)
+  distinct_again (task ∷ tasks) each distinct = (
+    all_map (AreApart (new task)) new tasks (each_both IsHere (AreApart task) _ tasks (λ other there. apart_again task other each.0 there) each.1 distinct.0),
+    distinct_again tasks each.1 distinct.1,
+  )
 
   -- ---- by their seats and spots
 
-  seats_behind : (task : Queued) → IsHere task → (tasks : List Queued) → AllByRecursion IsHere tasks → AllByRecursion (AreApart task) tasks →
-      AllByRecursion (λ (other : Queued). (seat_cmp (seat_of (new task)) (seat_of (new other)) ≡ seat_cmp (seat_of task) (seat_of other)) × (seat_cmp (seat_of task) (seat_of other) ≡ Equal → ⊥)) tasks
-  seats_behind task here [] each apart = tt
-  seats_behind task here (other ∷ tasks) each apart = (
-    (seats task other here each.0, λ tie. apart.0.1 (seat_stamp task other (seat_cmp-IsAntisymmetric (seat_of task) (seat_of other) tie))),
-    seats_behind task here tasks each.1 apart.1,
-  )
-
-  spots_behind : (task : Queued) → IsHere task → (tasks : List Queued) → AllByRecursion IsHere tasks → AllByRecursion (AreApart task) tasks →
-      AllByRecursion (λ (other : Queued). (spot_cmp (spot_of (new task)) (spot_of (new other)) ≡ spot_cmp (spot_of task) (spot_of other)) × (spot_cmp (spot_of task) (spot_of other) ≡ Equal → ⊥)) tasks
-  spots_behind task here [] each apart = tt
-  spots_behind task here (other ∷ tasks) each apart = (
-    (spots task other here each.0, λ tie. apart.0.1 (spot_stamp task other (spot_cmp-IsAntisymmetric (spot_of task) (spot_of other) tie))),
-    spots_behind task here tasks each.1 apart.1,
-  )
+  module _ {K : Type 0} {R : K → K → Ordering} (o : IsTotalOrder R) (only : IsAntisymmetric R) (f : K × ℕ → K) (key : Queued → K)
+      (of_stamp : (a b : Queued) → key a ≡ key b → a.stamp ≡ b.stamp) (same : (a b : Queued) → IsHere a → IsHere b → R (key (new a)) (key (new b)) ≡ R (key a) (key b)) where
+    in_order : (tasks : List Queued) → AllByRecursion IsHere tasks → AreDistinct tasks → AreInOrder o only f key new tasks
+    in_order [] each distinct = tt
+    in_order (task ∷ tasks) each distinct = (
+      each_both IsHere (AreApart task) _ tasks (λ other there apart. (same task other each.0 there, λ tie. apart.1 (of_stamp task other (only (key task) (key other) tie)))) each.1 distinct.0,
+      in_order tasks each.1 distinct.1,
+    )
 
   module _ (at : ℕ → ℕ × ℕ) where
     -- what is told of a task by its pid is what it has now
@@ -243,27 +216,19 @@ module _ (from to next : ℕ) (was : List Queued) where
     abbrev spot_at : Spot × ℕ → Spot
     spot_at e = (e.0.0, (e.0.1.0, at e.1))
 
-    seats_in_order : (tasks : List Queued) → AllByRecursion IsHere tasks → AreDistinct tasks → AreInOrder seat_total seat_cmp-IsAntisymmetric seat_at seat_of new tasks
-    seats_in_order [] each distinct = tt
-    seats_in_order (task ∷ tasks) each distinct = (seats_behind task each.0 tasks each.1 distinct.0, seats_in_order tasks each.1 distinct.1)
-
-    spots_in_order : (tasks : List Queued) → AllByRecursion IsHere tasks → AreDistinct tasks → AreInOrder spot_total spot_cmp-IsAntisymmetric spot_at spot_of new tasks
-    spots_in_order [] each distinct = tt
-    spots_in_order (task ∷ tasks) each distinct = (spots_behind task each.0 tasks each.1 distinct.0, spots_in_order tasks each.1 distinct.1)
-
     pub seated_again : (tasks : List Queued) → AllByRecursion IsHere tasks → AreDistinct tasks → AllByRecursion IsTold tasks →
         entries (seated (map new tasks)) ≡ map (reseated at) (entries (seated tasks))
     seated_again tasks each distinct told =
         entries-renewed seat_total seat_cmp-IsAntisymmetric seat_at seat_of new tasks
-        (all_by IsTold (IsAgain seat_total seat_cmp-IsAntisymmetric seat_at seat_of new) (λ task is. (ap (λ (k : ℕ × ℕ). (task.class, k)) is, refl)) tasks told)
-        (seats_in_order tasks each distinct)
+        (All-weaker IsTold (IsAgain seat_total seat_cmp-IsAntisymmetric seat_at seat_of new) (λ task is. (ap (λ (k : ℕ × ℕ). (task.class, k)) is, refl)) tasks told)
+        (in_order seat_total seat_cmp-IsAntisymmetric seat_at seat_of seat_stamp seats tasks each distinct)
 
     distinct_filter : (tasks : List Queued) → AreDistinct tasks → AreDistinct (filter has_cookie tasks)
     distinct_filter [] distinct = tt
     distinct_filter (task ∷ tasks) distinct =
         let rest = distinct_filter tasks distinct.1 in
         elim (has_cookie task) as (λ b. AreDistinct (cond b (task ∷ filter has_cookie tasks) (filter has_cookie tasks))) [
-          | true ↦ (all_filter (AreApart task) has_cookie tasks distinct.0, rest)
+          | true ↦ (all_kept_by has_cookie (AreApart task) tasks distinct.0, rest)
           | false ↦ rest
         ]
 
@@ -272,9 +237,9 @@ module _ (from to next : ℕ) (was : List Queued) where
     spotted_again tasks each distinct told =
         ap (λ (ts : List Queued). entries (from_entries {R = spot_cmp} (map (λ (t : Queued). (spot_of t, t.pid)) ts))) (filter-map new has_cookie tasks)
         ∙ entries-renewed spot_total spot_cmp-IsAntisymmetric spot_at spot_of new (filter has_cookie tasks)
-        (all_by IsTold (IsAgain spot_total spot_cmp-IsAntisymmetric spot_at spot_of new) (λ task is. (ap (λ (k : ℕ × ℕ). (task.cookie, (task.class, k))) is, refl))
-        (filter has_cookie tasks) (all_filter IsTold has_cookie tasks told))
-        (spots_in_order (filter has_cookie tasks) (all_filter IsHere has_cookie tasks each) (distinct_filter tasks distinct))
+        (All-weaker IsTold (IsAgain spot_total spot_cmp-IsAntisymmetric spot_at spot_of new) (λ task is. (ap (λ (k : ℕ × ℕ). (task.cookie, (task.class, k))) is, refl))
+        (filter has_cookie tasks) (all_kept_by has_cookie IsTold tasks told))
+        (in_order spot_total spot_cmp-IsAntisymmetric spot_at spot_of spot_stamp spots (filter has_cookie tasks) (all_kept_by has_cookie IsHere tasks each) (distinct_filter tasks distinct))
 
   -- ---- their counts
 
@@ -286,12 +251,12 @@ module _ (from to next : ℕ) (was : List Queued) where
       ∙ (λ i. cond (same task i == one) 1 0 + counted_by number same one tasks i)
       ∙ sym (sum_by-cons (λ (t : Queued). cond (number t == one) 1 0) task tasks)
 
-  counted_again : (number : Queued → ℕ) → ((task : Queued) → number (new task) ≡ number task) → (numbers : ℕ) (counts : List ℕ) (tasks : List Queued) →
+  pub counted_again : (number : Queued → ℕ) → ((task : Queued) → number (new task) ≡ number task) → {numbers : ℕ} {counts : List ℕ} (tasks : List Queued) →
       AreCounted number numbers counts tasks → AreCounted number numbers counts (map new tasks)
-  counted_again number same numbers counts tasks counted =
+  counted_again number same tasks counted =
       record { many = counted.many; each = λ one below. counted.each one below ∙ sym (counted_by number same one tasks) }
 
-  same_kind : (task : Queued) → kind_of (new task) ≡ kind_of task
+  pub same_kind : (task : Queued) → kind_of (new task) ≡ kind_of task
   same_kind task =
       elim (cases_Bool (task.class == real_time_class)) [
         | inl is ↦
@@ -303,12 +268,6 @@ module _ (from to next : ℕ) (was : List Queued) where
             ∙ sym (cond-false (task.class == real_time_class) (4 + task.rank) task.class other)
       ]
 
-  pub kinds_again : (counts : List ℕ) (tasks : List Queued) → AreCounted kind_of 104 counts tasks → AreCounted kind_of 104 counts (map new tasks)
-  kinds_again counts tasks counted = counted_again kind_of same_kind 104 counts tasks counted
-
-  pub lots_again : (counts : List ℕ) (tasks : List Queued) → AreCounted lot_of 256 counts tasks → AreCounted lot_of 256 counts (map new tasks)
-  lots_again counts tasks counted = counted_again lot_of (λ task. refl) 256 counts tasks counted
-
 -- ---- those with cookies are theirs
 
 pub tied_held : (tasks : List Queued) → AreDistinct tasks → IsTied (seated tasks) (spotted tasks)
@@ -316,43 +275,16 @@ tied_held [] distinct = IsTied-empty (seated []) (spotted []) refl
 tied_held (task ∷ tasks) distinct =
     let rest = tied_held tasks distinct.1 in
     let free = free_at seat_total seat_cmp-IsAntisymmetric seat_of seat_stamp task tasks distinct.0 in
-    let made : List Queued → Spots = λ ts. from_entries (map (λ (t : Queued). (spot_of t, t.pid)) ts) in
-    elim (cases_Bool (task.cookie == 0)) [
-      | inl none ↦
-          subst (IsTied (seated (task ∷ tasks))) (ap made (sym (cond-false (has_cookie task) (task ∷ filter has_cookie tasks) (filter has_cookie tasks) (ap not none))))
-          (IsTied-plain (seated tasks) (spotted tasks) rest (seat_of task) task.pid free)
-      | inr some ↦
-          subst (IsTied (seated (task ∷ tasks))) (ap made (sym (cond-true (has_cookie task) (task ∷ filter has_cookie tasks) (filter has_cookie tasks) (ap not some))))
-          (IsTied-cookie (seated tasks) (spotted tasks) rest (seat_of task) task.pid free task.cookie (eqb-false-of task.cookie some))
-    ] where
-      eqb-false-of : (n : ℕ) → (n == 0) ≡ false → n ≢ 0
-      eqb-false-of n h = eqb-false n 0 h
+    elim (task.cookie == 0) as (λ b. (task.cookie == 0) ≡ b →
+    IsTied (seated (task ∷ tasks)) (from_entries (map (λ (t : Queued). (spot_of t, t.pid)) (cond (not b) (task ∷ filter has_cookie tasks) (filter has_cookie tasks))))) [
+      | true ↦ λ none. IsTied-plain (seated tasks) (spotted tasks) rest (seat_of task) task.pid free
+      | false ↦ λ some. IsTied-cookie (seated tasks) (spotted tasks) rest (seat_of task) task.pid free task.cookie (eqb-false task.cookie 0 some)
+    ] refl
 
 -- ---- what a table tells of its tasks
 
-module _ (tasks : List Task) (rising : Rises tasks) where
-  each_of : AllByRecursion (IsOf tasks) tasks
-  each_of = recursion_from_All (IsOf tasks) tasks (λ k d below. is_of tasks (get_or tasks k d) rising (k, below, get_or_default tasks k (get_or tasks k d) d below))
-
-  told_among : (cpu : ℕ) (some : List Task) → AllByRecursion (IsOf tasks) some →
-      AllByRecursion (λ (q : Queued). key_in tasks q.pid ≡ (q.rank, q.stamp)) (queued_at some cpu)
-  told_among cpu [] each = tt
-  told_among cpu (task ∷ some) each =
-      let rest = told_among cpu some each.1 in
-      elim (is_on cpu task) as (λ b. AllByRecursion (λ (q : Queued). key_in tasks q.pid ≡ (q.rank, q.stamp)) (map queued_of (cond b (task ∷ queued_among some cpu) (queued_among some cpu)))) [
-        | true ↦ (ap (λ found. option_map_or (λ (t : Task). ((queued_of t).rank, t.stamp)) found (0, 0)) each.0, rest)
-        | false ↦ rest
-      ]
-
-  pub told_at : (cpu : ℕ) → AllByRecursion (λ (q : Queued). key_in tasks q.pid ≡ (q.rank, q.stamp)) (queued_at tasks cpu)
-  told_at cpu = told_among cpu tasks each_of
-
-pub told_was : (at : ℕ → ℕ × ℕ) (new : Queued → Queued) (tasks : List Queued) → AllByRecursion (λ (q : Queued). at q.pid ≡ (q.rank, q.stamp)) (map new tasks) →
-    AllByRecursion (λ (q : Queued). at (new q).pid ≡ ((new q).rank, (new q).stamp)) tasks
-told_was at new [] all = tt
-told_was at new (task ∷ tasks) all = (all.0, told_was at new tasks all.1)
-
--- each task of a queue is there, and is not behind
-pub here_each : (from : ℕ) (was : List Queued) → AllByRecursion (λ (task : Queued). task.class ≡ fair_class → from ≤ task.rank) was →
-    AllByRecursion (λ (task : Queued). Contains was task × (task.class ≡ fair_class → from ≤ task.rank)) was
-here_each from was ahead = all_both (Contains was) _ was (recursion_from_All (Contains was) was (All-contains_itself was)) ahead
+pub told_at : (tasks : List Task) (cpu : ℕ) → Rises tasks → AllByRecursion (λ (q : Queued). key_in tasks q.pid ≡ (q.rank, q.stamp)) (queued_at tasks cpu)
+told_at tasks cpu rising =
+    all_map (λ (q : Queued). key_in tasks q.pid ≡ (q.rank, q.stamp)) queued_of (queued_among tasks cpu)
+    (All-weaker (IsOf tasks) _ (λ task there. ap (λ found. option_map_or (λ (t : Task). ((queued_of t).rank, t.stamp)) found (0, 0)) there) (queued_among tasks cpu)
+    (all_kept_by (is_on cpu) (IsOf tasks) tasks (recursion_from_All (IsOf tasks) tasks (each_is_of tasks rising))))

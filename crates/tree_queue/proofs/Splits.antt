@@ -2,10 +2,14 @@
 use Rattle.std.proofs.Common.{◌≡◌, ℕ, ◌+◌, ◌≤◌, Bool, true, false, cond, not, List, [], ◌∷◌, ◌++◌, map, length, length-append, sym, ap, ◌∙◌, subst, Some, inl, inr, arith}
 use Rattle.std.specs.Prelude.{◌==◌, ◌&&◌, find, filter, All, Contains}
 use Rattle.std.specs.List.{AllByRecursion}
-use Rattle.std.proofs.lemmas.Bool.{cases_Bool, cond-true, cond-false, eqb-true, eqb-false, eq-eqb, and_parts}
+use Rattle.std.proofs.lemmas.Bool.{cases_Bool, cond-true, cond-false, eqb-true, eqb-false, eq-eqb, and_parts, not-true}
 use Rattle.std.proofs.lemmas.List.Elements.{filter-append, recursion_from_All, All-weaker, All-contains_itself}
 use Rattle.std.proofs.lemmas.List.{length-map}
 use Rattle.std.proofs.lemmas.List.Sums.{length-filter, count_by-le-length}
+use Rattle.std.proofs.ByRecursion.{all_kept_by, kept_by_passes}
+use Rattle.cs_types.proofs.Times.{all_map}
+use Rattle.cs_types.proofs.Selections.{each_both}
+use Rattle.core_lanes.proofs.Lists.{filter-map, filter-filter}
 use Rattle.cs_types.specs.declared.task.Task.{Task}
 use Rattle.cs_types.specs.declared.queue.Queued.{Queued}
 use Rattle.cs_types.specs.Queue.{queued_of}
@@ -22,18 +26,14 @@ pub record IsSplit (task : Queued) (all rest : List Queued) : Type 0 where
   pub whole : all ≡ before ++ task ∷ after
   pub left : rest ≡ before ++ after
 
--- one more in front of both
-more : (first task : Queued) (all rest : List Queued) → IsSplit task all rest → IsSplit task (first ∷ all) (first ∷ rest)
-more first task all rest split = record {
-  before = first ∷ split.before;
-  after = split.after;
-  whole = ap (λ (ts : List Queued). first ∷ ts) split.whole;
-  left = ap (λ (ts : List Queued). first ∷ ts) split.left;
-}
+-- and the others are apart from this one
+pub record IsParted (task : Queued) (all rest : List Queued) : Type 0 where
+  pub split : IsSplit task all rest
+  pub apart : AllByRecursion (AreApart task) rest
 
 -- it has one more
-pub length-split : (task : Queued) (all rest : List Queued) → IsSplit task all rest → length all ≡ length rest + 1
-length-split task all rest split =
+pub length-split : {task : Queued} {all rest : List Queued} → IsSplit task all rest → length all ≡ length rest + 1
+length-split {task} split =
     let whole = ap length split.whole ∙ length-append split.before (task ∷ split.after) in
     let left = ap length split.left ∙ length-append split.before split.after in
     omega arith
@@ -65,27 +65,37 @@ distinct_in [] after task apart distinct = (apart, distinct)
 distinct_in (first ∷ before) after task apart distinct =
     (all_in (AreApart first) before after task (turned task first apart.0) distinct.0, distinct_in before after task apart.1 distinct.1)
 
-pub all_filter : (P : Queued → Type 0) (p : Queued → Bool) (tasks : List Queued) → AllByRecursion P tasks → AllByRecursion P (filter p tasks)
-all_filter P p [] all = tt
-all_filter P p (task ∷ tasks) all =
-    elim (p task) as (λ b. AllByRecursion P (cond b (task ∷ filter p tasks) (filter p tasks))) [
-      | true ↦ (all.0, all_filter P p tasks all.1)
-      | false ↦ all_filter P p tasks all.1
-    ]
+-- a task is apart from the others where no two are one
+pub parted_by : {task : Queued} {all rest : List Queued} → IsSplit task all rest → AreDistinct all → IsParted task all rest
+parted_by {task} split distinct = record {
+  split = split;
+  apart = subst (AllByRecursion (AreApart task)) (sym split.left) (distinct_out split.before split.after task (subst AreDistinct split.whole distinct)).0;
+}
 
 -- ---- of those that pass a test
 
-pub split-pass : (p : Queued → Bool) (task : Queued) (before after : List Queued) → p task ≡ true →
-    filter p (before ++ task ∷ after) ≡ filter p before ++ task ∷ filter p after
-split-pass p task before after pass =
-    filter-append p before (task ∷ after) ∙ ap (λ (ts : List Queued). filter p before ++ ts) (cond-true _ (task ∷ filter p after) (filter p after) pass)
+pub parted-pass : {task : Queued} {all rest : List Queued} (p : Queued → Bool) → IsParted task all rest → p task ≡ true → IsParted task (filter p all) (filter p rest)
+parted-pass {task} {rest = rest} p parted pass =
+    let front = parted.split.before in
+    let back = parted.split.after in
+    record {
+      split = record {
+        before = filter p front;
+        after = filter p back;
+        whole = ap (filter p) parted.split.whole
+            ∙ filter-append p front (task ∷ back)
+            ∙ ap (λ (ts : List Queued). filter p front ++ ts) (cond-true _ (task ∷ filter p back) (filter p back) pass);
+        left = ap (filter p) parted.split.left ∙ filter-append p front back;
+      };
+      apart = all_kept_by p (AreApart task) rest parted.apart;
+    }
 
-pub split-fail : (p : Queued → Bool) (task : Queued) (before after : List Queued) → p task ≡ false →
-    filter p (before ++ task ∷ after) ≡ filter p (before ++ after)
-split-fail p task before after fail =
-    filter-append p before (task ∷ after)
-    ∙ ap (λ (ts : List Queued). filter p before ++ ts) (cond-false _ (task ∷ filter p after) (filter p after) fail)
-    ∙ sym (filter-append p before after)
+pub split-fail : {task : Queued} {all rest : List Queued} (p : Queued → Bool) → IsSplit task all rest → p task ≡ false → filter p all ≡ filter p rest
+split-fail {task} p split fail =
+    ap (filter p) split.whole
+    ∙ filter-append p split.before (task ∷ split.after)
+    ∙ ap (λ (ts : List Queued). filter p split.before ++ ts) (cond-false _ (task ∷ filter p split.after) (filter p split.after) fail)
+    ∙ sym (ap (filter p) split.left ∙ filter-append p split.before split.after)
 
 -- ---- the tasks of a sibling
 
@@ -117,13 +127,13 @@ splits cpu task low (first ∷ tasks) rises there on =
           elim (is_on cpu first) as (λ b.
           IsSplit (queued_of task) (map queued_of (cond b (first ∷ queued_among tasks cpu) (queued_among tasks cpu)))
           (others pid (map queued_of (cond b (first ∷ queued_among tasks cpu) (queued_among tasks cpu))))) [
-            | true ↦
-                let split = more (queued_of first) (queued_of task) (queued_at tasks cpu) (others pid (queued_at tasks cpu)) rest in record {
-                  before = split.before;
-                  after = split.after;
-                  whole = split.whole;
-                  left = cond-true _ (queued_of first ∷ others pid (queued_at tasks cpu)) (others pid (queued_at tasks cpu)) (ap not past) ∙ split.left;
-                }
+            | true ↦ record {
+              before = queued_of first ∷ rest.before;
+              after = rest.after;
+              whole = ap (λ (ts : List Queued). queued_of first ∷ ts) rest.whole;
+              left = cond-true _ (queued_of first ∷ others pid (queued_at tasks cpu)) (others pid (queued_at tasks cpu)) (ap not past)
+                  ∙ ap (λ (ts : List Queued). queued_of first ∷ ts) rest.left;
+            }
             | false ↦ rest
           ]
     ]
@@ -147,36 +157,15 @@ each_is_of tasks rises = All-weaker (Contains tasks) (IsOf tasks) (λ task there
 -- the others there are apart from a task that has a stamp of its own
 pub others_apart : (tasks : List Task) (task : Task) (cpu : ℕ) → Rises tasks → HasOwnStamp tasks task →
     AllByRecursion (AreApart (queued_of task)) (others task.spec.pid (queued_at tasks cpu))
-others_apart tasks task cpu rises own = go (queued_among tasks cpu) (kept tasks (recursion_from_All (IsOf tasks) tasks (each_is_of tasks rises))) where
-  pid : ℕ
-  pid = task.spec.pid
-
-  apart : (other : Task) → IsOf tasks other → is_on cpu other ≡ true → (other.spec.pid == pid) ≡ false → AreApart (queued_of task) (queued_of other)
-  apart other there on differs = (
-    λ same. eqb-false other.spec.pid pid differs (sym same),
-    λ same. eqb-false other.spec.pid pid differs (own other there (and_parts other.queued (other.home == cpu) on).0 (sym same)),
-  )
-
-  kept : (ts : List Task) → AllByRecursion (IsOf tasks) ts → AllByRecursion (λ (t : Task). IsOf tasks t × (is_on cpu t ≡ true)) (queued_among ts cpu)
-  kept [] each = tt
-  kept (t ∷ ts) each =
-      elim (cases_Bool (is_on cpu t)) [
-        | inl on ↦
-            subst (AllByRecursion (λ (t : Task). IsOf tasks t × (is_on cpu t ≡ true))) (sym (cond-true _ (t ∷ queued_among ts cpu) (queued_among ts cpu) on))
-            ((each.0, on), kept ts each.1)
-        | inr off ↦
-            subst (AllByRecursion (λ (t : Task). IsOf tasks t × (is_on cpu t ≡ true))) (sym (cond-false _ (t ∷ queued_among ts cpu) (queued_among ts cpu) off))
-            (kept ts each.1)
-      ]
-
-  go : (ts : List Task) → AllByRecursion (λ (t : Task). IsOf tasks t × (is_on cpu t ≡ true)) ts →
-      AllByRecursion (AreApart (queued_of task)) (others pid (map queued_of ts))
-  go [] each = tt
-  go (t ∷ ts) each =
-      let rest = others pid (map queued_of ts) in
-      elim (cases_Bool (t.spec.pid == pid)) [
-        | inl same ↦ subst (AllByRecursion (AreApart (queued_of task))) (sym (cond-false _ (queued_of t ∷ rest) rest (ap not same))) (go ts each.1)
-        | inr differs ↦
-            subst (AllByRecursion (AreApart (queued_of task))) (sym (cond-true _ (queued_of t ∷ rest) rest (ap not differs)))
-            (apart t each.0.0 each.0.1 differs, go ts each.1)
-      ]
+others_apart tasks task cpu rises own =
+    let pid = task.spec.pid in
+    let other : Task → Bool = λ t. is_on cpu t && not (has_pid pid t) in
+    let kept = filter-map queued_of (λ (q : Queued). not (q.pid == pid)) (queued_among tasks cpu) ∙ ap (map queued_of) (filter-filter (is_on cpu) (λ t. not (has_pid pid t)) tasks) in
+    subst (AllByRecursion (AreApart (queued_of task))) (sym kept)
+    (all_map (AreApart (queued_of task)) queued_of (filter other tasks)
+    (each_both (IsOf tasks) (λ t. other t ≡ true) (λ t. AreApart (queued_of task) (queued_of t)) (filter other tasks) (λ t there passes.
+    let parts = and_parts (is_on cpu t) (not (has_pid pid t)) passes in
+    let differs = eqb-false t.spec.pid pid (not-true (has_pid pid t) parts.1) in
+    (λ same. differs (sym same), λ same. differs (own t there (and_parts t.queued (t.home == cpu) parts.0).0 (sym same))))
+    (all_kept_by other (IsOf tasks) tasks (recursion_from_All (IsOf tasks) tasks (each_is_of tasks rises)))
+    (kept_by_passes other tasks)))

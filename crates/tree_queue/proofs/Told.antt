@@ -9,6 +9,7 @@ use Rattle.std.proofs.lemmas.List.{length-map, map-append, get_or-map}
 use Rattle.std.proofs.lemmas.List.Elements.{All-contains_itself, recursion_from_All}
 use Rattle.std.proofs.lemmas.List.Sorted.{IsPermutation-refl, IsPermutation-trans, IsPermutation-remove, IsPermutation-cons, Contains-permutation, length_permutation}
 use Rattle.std.proofs.lemmas.Map.Made.{Contains-tail}
+use Rattle.std.proofs.ByRecursion.{All-push, All-weaker}
 use Rattle.cs_types.specs.declared.task.Task.{Task}
 use Rattle.cs_types.specs.Room.{has_pid}
 use Rattle.cs_types.proofs.Filtered.{Contains-filter, each_found}
@@ -18,20 +19,11 @@ use Rattle.tree_queue.specs.Arrivals.{AreRising, AreAmong, AreBelow}
 
 -- ---- one more
 
--- each of the list and one more
-pub all_more : {X : Type 0} (P : X → Type 0) (xs : List X) (x : X) → AllByRecursion P xs → P x → AllByRecursion P (xs ++ x ∷ [])
-all_more P [] x each here = (here, tt)
-all_more P (first ∷ xs) x each here = (each.0, all_more P xs x each.1 here)
-
-pub all_weaker : {X : Type 0} (P Q : X → Type 0) → ((x : X) → P x → Q x) → (xs : List X) → AllByRecursion P xs → AllByRecursion Q xs
-all_weaker P Q weaker [] each = tt
-all_weaker P Q weaker (x ∷ xs) each = (weaker x each.0, all_weaker P Q weaker xs each.1)
-
 -- a task with a greater stamp than each comes behind them
 pub rising_more : (movers : List (ℕ × ℕ)) (mover : ℕ × ℕ) → AreRising movers → AllByRecursion (λ (other : ℕ × ℕ). other.0 < mover.0) movers → AreRising (movers ++ mover ∷ [])
 rising_more [] mover rising below = (tt, tt)
 rising_more (first ∷ movers) mover rising below =
-    (all_more (λ (other : ℕ × ℕ). first.0 < other.0) movers mover rising.0 below.0, rising_more movers mover rising.1 below.1)
+    (All-push (λ (other : ℕ × ℕ). first.0 < other.0) movers mover rising.0 below.0, rising_more movers mover rising.1 below.1)
 
 pub none_below : (tasks : List (ℕ × ℕ)) (above : ℕ) → AreBelow tasks above []
 none_below tasks above = record { among = record { movers = []; there = tt; rising = tt; are = refl }; below = tt }
@@ -41,17 +33,17 @@ pub below_more : (tasks : List (ℕ × ℕ)) (above next : ℕ) (mover : ℕ × 
     next ≡ mover.0 + 1 → above < next → AreBelow tasks next (pids ++ mover.1 ∷ [])
 below_more tasks above next mover pids was there next_is less =
     let movers = was.among.movers in
-    let lower = all_weaker (λ (other : ℕ × ℕ). other.0 < above) (λ (other : ℕ × ℕ). other.0 < mover.0)
+    let lower = All-weaker (λ (other : ℕ × ℕ). other.0 < above) (λ (other : ℕ × ℕ). other.0 < mover.0)
     (λ other smaller. omega (arith, smaller, next_is, less)) movers was.below in
     record {
       among = record {
         movers = movers ++ mover ∷ [];
-        there = all_more (Contains tasks) movers mover was.among.there there;
+        there = All-push (Contains tasks) movers mover was.among.there there;
         rising = rising_more movers mover was.among.rising lower;
         are = ap (λ (pids : List ℕ). pids ++ mover.1 ∷ []) was.among.are ∙ sym (map-append (λ (other : ℕ × ℕ). other.1) movers (mover ∷ []));
       };
-      below = all_more (λ (other : ℕ × ℕ). other.0 < next) movers mover
-          (all_weaker (λ (other : ℕ × ℕ). other.0 < mover.0) (λ (other : ℕ × ℕ). other.0 < next) (λ other smaller. omega (arith, smaller, next_is)) movers lower)
+      below = All-push (λ (other : ℕ × ℕ). other.0 < next) movers mover
+          (All-weaker (λ (other : ℕ × ℕ). other.0 < mover.0) (λ (other : ℕ × ℕ). other.0 < next) (λ other smaller. omega (arith, smaller, next_is)) movers lower)
           (omega (arith, next_is));
     }
 
@@ -59,7 +51,7 @@ below_more tasks above next mover pids was there next_is less =
 pub below_later : (tasks : List (ℕ × ℕ)) (above next : ℕ) (pids : List ℕ) → above ≤ next → AreBelow tasks above pids → AreBelow tasks next pids
 below_later tasks above next pids le was = record {
   among = was.among;
-  below = all_weaker (λ (mover : ℕ × ℕ). mover.0 < above) (λ (mover : ℕ × ℕ). mover.0 < next) (λ mover smaller. omega (arith, smaller, le)) was.among.movers was.below;
+  below = All-weaker (λ (mover : ℕ × ℕ). mover.0 < above) (λ (mover : ℕ × ℕ). mover.0 < next) (λ mover smaller. omega (arith, smaller, le)) was.among.movers was.below;
 }
 
 -- ---- a task of a sibling

@@ -3,6 +3,7 @@ use Rattle.std.proofs.Common.{◌≡◌, ℕ, ◌+◌, Bool, true, false, cond, 
 use Rattle.std.specs.Prelude.{◌==◌, ◌&&◌, ◌||◌, filter, IfSome}
 use Rattle.std.specs.List.{AllByRecursion}
 use Rattle.std.specs.Option.{option_map, option_map_or}
+use Rattle.std.proofs.ByRecursion.{kept_by_passes}
 use Rattle.std.proofs.lemmas.Bool.{eqb-true}
 use Rattle.std.proofs.lemmas.Bool.Decides.{nat_tests}
 use Rattle.std.proofs.Common.{arith}
@@ -48,17 +49,6 @@ first_vtime (task ∷ tasks) fair =
           (eqb-true (class_of b.spec.policy) 3 one) (eqb-true (class_of task.spec.policy) 3 fair.0)
           ∙ vtime_if (goes_before b task) b task)
 
-each_passes : {X : Type 0} (p : X → Bool) (xs : List X) → AllByRecursion (λ x. p x ≡ true) (filter p xs)
-each_passes p [] = tt
-each_passes {X} p (x ∷ xs) =
-    elim (p x) as (λ b. p x ≡ b → AllByRecursion (λ (y : X). p y ≡ true) (cond b (x ∷ filter p xs) (filter p xs))) [
-      | true ↦ λ pass. (pass, each_passes p xs)
-      | false ↦ λ fail. each_passes p xs
-    ] refl
-
-pub smallest-first : (tasks : List Task) → smallest_vtime tasks ≡ option_map (λ (t : Task). t.vtime) (first_of (filter is_fair tasks))
-smallest-first tasks = first_vtime (filter is_fair tasks) (each_passes is_fair tasks)
-
 -- a fair task's rank is its virtual time
 pub rank-fair : (policy : Policy) (deadline vtime : ℕ) → (class_of policy == fair_class) ≡ true → rank_by policy deadline vtime ≡ vtime
 rank-fair Stop deadline vtime fair = absurd cc
@@ -70,7 +60,7 @@ rank-fair (Fair nice) deadline vtime fair = refl
 -- so the rank of the first fair one is the smallest virtual time
 pub smallest-rank : (tasks : List Task) → smallest_vtime tasks ≡ option_map (λ (t : Task). rank_by t.spec.policy t.deadline t.vtime) (first_of (filter is_fair tasks))
 smallest-rank tasks =
-    smallest-first tasks ∙ go (first_of (filter is_fair tasks)) (found_has (λ t. is_fair t ≡ true) _ (filter is_fair tasks) (each_passes is_fair tasks)) where
+    first_vtime (filter is_fair tasks) (kept_by_passes is_fair tasks) ∙ go (first_of (filter is_fair tasks)) (found_has (λ t. is_fair t ≡ true) _ (filter is_fair tasks) (kept_by_passes is_fair tasks)) where
       go : (first : Option Task) → IfSome first (λ t. is_fair t ≡ true) →
           option_map (λ (t : Task). t.vtime) first ≡ option_map (λ (t : Task). rank_by t.spec.policy t.deadline t.vtime) first
       go None fair = refl

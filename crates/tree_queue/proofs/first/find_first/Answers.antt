@@ -1,15 +1,17 @@
 use Rattle.std.proofs.Common.{Some, ap, sym, ◌∙◌}
 use Rattle.std.specs.Prelude.{option_copied}
 use Rattle.std.specs.Option.{option_map}
+use Rattle.cs_types.specs.declared.queue.Queued.{Queued}
 use Rattle.cs_types.specs.Queue.{queued_of}
 use Rattle.core_lanes.proofs.Lists.{All-find}
 use Rattle.tree_queue.specs.Held.{first_among, IsIn}
-use Rattle.tree_queue.proofs.Firsts.{told_first, none_first, found_first_by}
+use Rattle.tree_queue.proofs.Asked.{none_of}
+use Rattle.tree_queue.proofs.Firsts.{told_first, found_first_by}
 use Rattle.tree_queue.proofs.first.find_first.Goals as goal
 
 pub returns-in_err-first-clause-first : goal.returns-in_err-first-clause-first
 returns-in_err-first-clause-first g c tasks same each =
-    c.from_residual.ensures ∙ none_first (first_among tasks) (sym c.in_err-first.was ∙ told_first _ _ tasks c.first.ensures.first same)
+    c.from_residual.ensures ∙ none_of (λ (task : Queued). task.pid) (first_among tasks) (sym c.in_err-first.was ∙ told_first _ _ tasks c.first.ensures.first same)
 
 pub returns-in_err-task-clause-first : goal.returns-in_err-task-clause-first
 returns-in_err-task-clause-first g c tasks same each =

@@ -6,7 +6,8 @@ use Rattle.cs_types.specs.declared.task.Task.{Task}
 use Rattle.cs_types.specs.Queue.{queued_of}
 use Rattle.core_lanes.proofs.Lists.{All-find}
 use Rattle.tree_queue.specs.Held.{first_among, IsInBut}
-use Rattle.tree_queue.proofs.Firsts.{told_first, none_first, found_first_by, first_known, first_in}
+use Rattle.tree_queue.proofs.Asked.{none_of}
+use Rattle.tree_queue.proofs.Firsts.{told_first, found_first_by, first_known, first_in}
 use Rattle.tree_queue.proofs.first.find_first_with.Goals as goal
 
 -- the first is known where each is
@@ -15,7 +16,7 @@ known tasks task queued each = All-find (IsInBut tasks task) _ queued each
 
 pub returns-in_err-pid-clause-first : goal.returns-in_err-pid-clause-first
 returns-in_err-pid-clause-first g c tasks same each =
-    c.from_residual.ensures ∙ none_first (first_among tasks) (sym c.in_err-pid.was ∙ told_first _ _ tasks c.first.ensures.first same)
+    c.from_residual.ensures ∙ none_of (λ (task : Queued). task.pid) (first_among tasks) (sym c.in_err-pid.was ∙ told_first _ _ tasks c.first.ensures.first same)
 
 pub returns-then-pid-task-clause-first : goal.returns-then-pid-task-clause-first
 returns-then-pid-task-clause-first g c tasks same each =

@@ -2,9 +2,9 @@ use Rattle.std.proofs.Common.{ℕ, ap, sym, ◌∙◌, arith}
 use Rattle.std.specs.Prelude.{◌==◌}
 use Rattle.std.proofs.lemmas.List.Elements.{recursion_from_All}
 use Rattle.cs_types.specs.Order.{first_of}
-use Rattle.cs_types.specs.Queue.{Spots, first_with}
+use Rattle.cs_types.specs.Queue.{Spots, first_with, queued_of}
 use Rattle.core_lanes.specs.Queued.{queued_among, queued_at, with_cookie}
-use Rattle.tree_queue.proofs.Asked.{IsLow, low_among, first_with-spotted, found_first, none_of, pid_of_some, some_by}
+use Rattle.tree_queue.proofs.Asked.{low_among, first_with-spotted, found_first, none_of, found_queued}
 use Rattle.tree_queue.specs.Kinds.{lot_of, count_of}
 use Rattle.tree_queue.proofs.Counts.{none_with}
 use Rattle.tree_queue.proofs.Compared.{few_of_all}
@@ -19,30 +19,26 @@ returns-then-self-lot_of-eq0-clause-first g c =
 
 pub returns-in_err-first_of-clause-first : goal.returns-in_err-first_of-clause-first
 returns-in_err-first_of-clause-first g c =
-    let tasks = c.args.table.now.tasks in
-    let queued = queued_among tasks c.args._cpu in
-    let low = recursion_from_All IsLow queued (low_among tasks c.args._cpu c.requires.search.policies) in
+    let queued = queued_among c.args.table.now.tasks c.args._cpu in
     c.from_residual.ensures
-    ∙ none_of (first_of (with_cookie c.args.cookie queued))
+    ∙ none_of queued_of (first_of (with_cookie c.args.cookie queued))
     (sym c.in_err-first_of.was ∙ c.first_of.ensures.first ∙ ap (λ (spots : Spots). first_with spots c.args.cookie) c.requires.search.holds.trees.spots
-    ∙ first_with-spotted queued low c.args.cookie c.requires.cookie)
+    ∙ first_with-spotted queued (recursion_from_All _ queued (low_among c.args.table.now.tasks c.args._cpu c.requires.search.policies)) c.args.cookie c.requires.cookie)
 
 pub returns-clause-first : goal.returns-clause-first
 returns-clause-first g c =
     let tasks = c.args.table.now.tasks in
     let queued = queued_among tasks c.args._cpu in
-    let low = recursion_from_All IsLow queued (low_among tasks c.args._cpu c.requires.search.policies) in
-    let first = first_of (with_cookie c.args.cookie queued) in
     c.task_of.ensures.task
-    ∙ some_by tasks c.in_ok-first_of.field-0.pid first (found_first tasks c.args._cpu (λ task. task.cookie == c.args.cookie) c.task_of.ensures.sound.rising)
-    (pid_of_some c.in_ok-first_of.field-0 first
+    ∙ found_queued tasks c.in_ok-first_of.field-0 (first_of (with_cookie c.args.cookie queued))
+    (found_first tasks c.args._cpu (λ task. task.cookie == c.args.cookie) c.task_of.ensures.sound.rising)
     (sym c.in_ok-first_of.was ∙ c.first_of.ensures.first ∙ ap (λ (spots : Spots). first_with spots c.args.cookie) c.requires.search.holds.trees.spots
-    ∙ first_with-spotted queued low c.args.cookie c.requires.cookie))
+    ∙ first_with-spotted queued (recursion_from_All _ queued (low_among tasks c.args._cpu c.requires.search.policies)) c.args.cookie c.requires.cookie)
 
 pub returns-in_err-first_of-clause-counted : goal.returns-in_err-first_of-clause-counted
 returns-in_err-first_of-clause-counted g c =
-    omega (arith, c.first_of.ensures.counted, few_of_all c.args.self.now.run c.args.table.now.limit c.args.table.now.tasks c.args._cpu c.requires.search.holds.trees)
+    omega (arith, c.first_of.ensures.counted, few_of_all (queued_among c.args.table.now.tasks c.args._cpu) c.requires.search.holds.trees)
 
 pub returns-clause-counted : goal.returns-clause-counted
 returns-clause-counted g c =
-    omega (arith, c.first_of.ensures.counted, few_of_all c.args.self.now.run c.args.table.now.limit c.args.table.now.tasks c.args._cpu c.requires.search.holds.trees)
+    omega (arith, c.first_of.ensures.counted, few_of_all (queued_among c.args.table.now.tasks c.args._cpu) c.requires.search.holds.trees)

@@ -1,15 +1,15 @@
-use Rattle.std.proofs.Common.{sym, ◌∙◌, subst, arith}
+use Rattle.std.proofs.Common.{sym, ◌∙◌, arith}
 use Rattle.std.proofs.lemmas.List.Elements.{recursion_from_All}
 use Rattle.cs_types.specs.Order.{first_of}
-use Rattle.cs_types.specs.Queue.{IsRanked, next_with}
+use Rattle.cs_types.specs.Queue.{next_with, queued_of}
 use Rattle.core_lanes.specs.Queued.{queued_among, with_cookie, behind}
-use Rattle.tree_queue.proofs.Tasks.{is_ranked, low_priority}
-use Rattle.tree_queue.proofs.Asked.{IsLow, low_among, next_with-spotted, found_behind, none_of, pid_of_some, some_by}
+use Rattle.tree_queue.proofs.Tasks.{ranked, low_priority}
+use Rattle.tree_queue.proofs.Asked.{IsLow, low_among, next_with-spotted, found_behind, none_of, found_queued}
 use Rattle.tree_queue.proofs.Compared.{few_of_all}
 use Rattle.tree_queue.proofs.queue.TreeQueueSiblingQueue.next_with.Goals as goal
 
 pub next_of-requires : goal.next_of-requires
-next_of-requires g c = subst IsRanked (sym c.queued_of.ensures) (is_ranked c.args.task.now)
+next_of-requires g c = ranked c.args.task.now c.queued_of.ensures
 
 pub returns-in_err-next_of-clause-next : goal.returns-in_err-next_of-clause-next
 returns-in_err-next_of-clause-next g c =
@@ -18,7 +18,7 @@ returns-in_err-next_of-clause-next g c =
     let queued = queued_among tasks c.args._cpu in
     let low = recursion_from_All IsLow queued (low_among tasks c.args._cpu c.requires.search.policies) in
     c.from_residual.ensures
-    ∙ none_of (first_of (behind task (with_cookie task.cookie queued)))
+    ∙ none_of queued_of (first_of (behind task (with_cookie task.cookie queued)))
     (sym c.in_err-next_of.was ∙ c.next_of.ensures.next
     ∙ (λ i. next_with (c.requires.search.holds.trees.spots i) (c.queued_of.ensures i))
     ∙ next_with-spotted queued low task (low_priority task.spec.policy c.requires.policy) c.requires.cookie)
@@ -29,18 +29,16 @@ returns-clause-next g c =
     let tasks = c.args.table.now.tasks in
     let queued = queued_among tasks c.args._cpu in
     let low = recursion_from_All IsLow queued (low_among tasks c.args._cpu c.requires.search.policies) in
-    let first = first_of (behind task (with_cookie task.cookie queued)) in
     c.task_of.ensures.task
-    ∙ some_by tasks c.in_ok-next_of.field-0.pid first (found_behind tasks c.args._cpu task c.task_of.ensures.sound.rising)
-    (pid_of_some c.in_ok-next_of.field-0 first
+    ∙ found_queued tasks c.in_ok-next_of.field-0 (first_of (behind task (with_cookie task.cookie queued))) (found_behind tasks c.args._cpu task c.task_of.ensures.sound.rising)
     (sym c.in_ok-next_of.was ∙ c.next_of.ensures.next
     ∙ (λ i. next_with (c.requires.search.holds.trees.spots i) (c.queued_of.ensures i))
-    ∙ next_with-spotted queued low task (low_priority task.spec.policy c.requires.policy) c.requires.cookie))
+    ∙ next_with-spotted queued low task (low_priority task.spec.policy c.requires.policy) c.requires.cookie)
 
 pub returns-in_err-next_of-clause-counted : goal.returns-in_err-next_of-clause-counted
 returns-in_err-next_of-clause-counted g c =
-    omega (arith, c.next_of.ensures.counted, few_of_all c.args.self.now.run c.args.table.now.limit c.args.table.now.tasks c.args._cpu c.requires.search.holds.trees)
+    omega (arith, c.next_of.ensures.counted, few_of_all (queued_among c.args.table.now.tasks c.args._cpu) c.requires.search.holds.trees)
 
 pub returns-clause-counted : goal.returns-clause-counted
 returns-clause-counted g c =
-    omega (arith, c.next_of.ensures.counted, few_of_all c.args.self.now.run c.args.table.now.limit c.args.table.now.tasks c.args._cpu c.requires.search.holds.trees)
+    omega (arith, c.next_of.ensures.counted, few_of_all (queued_among c.args.table.now.tasks c.args._cpu) c.requires.search.holds.trees)

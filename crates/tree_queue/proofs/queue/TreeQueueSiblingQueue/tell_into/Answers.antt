@@ -1,16 +1,15 @@
-use Rattle.std.proofs.Common.{◌≡◌, ℕ, List, [], ◌∷◌, map, length, refl, sym, ap, ◌∙◌, subst, arith}
-use Rattle.std.specs.FinMap.{entries, len}
+use Rattle.std.proofs.Common.{◌≡◌, ℕ, List, [], ◌∷◌, map, refl, sym, ap, ◌∙◌, subst, arith}
+use Rattle.std.specs.FinMap.{entries}
 use Rattle.std.specs.List.Sorted.{IsPermutation}
-use Rattle.std.proofs.lemmas.List.{length-map}
 use Rattle.std.proofs.lemmas.List.Sorted.{IsPermutation-map}
 use Rattle.cs_types.specs.declared.task.Task.{Task}
 use Rattle.cs_types.specs.declared.queue.Queued.{Queued}
-use Rattle.cs_types.specs.Queue.{RunQueued, Seats, queued_of, seat_of}
+use Rattle.cs_types.specs.Queue.{Seats, queued_of, seat_of}
 use Rattle.core_lanes.specs.Queued.{queued_among, mover_of}
 use Rattle.core_lanes.proofs.Movers.{told_alike}
 use Rattle.run_queue.specs.Classes.{stamped}
-use Rattle.tree_queue.specs.Held.{Holds}
-use Rattle.tree_queue.proofs.Held.{len-seated, entries-seated}
+use Rattle.tree_queue.proofs.Compared.{many_queued}
+use Rattle.tree_queue.proofs.Held.{entries-seated}
 use Rattle.tree_queue.proofs.queue.TreeQueueSiblingQueue.tell_into.Goals as goal
 
 -- tasks are told alike by their seats
@@ -18,16 +17,13 @@ told_is : (tasks : List Task) → map stamped (map (λ (t : Queued). (seat_of t,
 told_is [] = refl
 told_is (task ∷ tasks) = ap (λ (rest : List (ℕ × ℕ)). mover_of task ∷ rest) (told_is tasks)
 
-many : (run : RunQueued) (most : ℕ) (tasks : List Task) → Holds run most (map queued_of tasks) → len run.tasks ≡ length tasks
-many run most tasks trees = ap (λ (seats : Seats). len seats) trees.seats ∙ len-seated (map queued_of tasks) trees.distinct ∙ length-map tasks queued_of
-
 pub tell-requires : goal.tell-requires
 tell-requires c =
     let tasks = queued_among c.args.table.now.tasks c.args.cpu in
     record {
       none = c.requires.none;
-      count = c.count-count.ensures ∙ many c.args.self.now.run c.args.table.now.limit tasks c.requires.holds.trees;
-      few = omega (arith, c.count-count.ensures, many c.args.self.now.run c.args.table.now.limit tasks c.requires.holds.trees, c.requires.few);
+      count = c.count-count.ensures ∙ many_queued tasks c.requires.holds.trees;
+      few = omega (arith, c.count-count.ensures, many_queued tasks c.requires.holds.trees, c.requires.few);
     }
 
 pub tell_by_trees-requires : goal.tell_by_trees-requires
@@ -35,7 +31,7 @@ tell_by_trees-requires c =
     let tasks = queued_among c.args.table.now.tasks c.args.cpu in
     record {
       none = c.tell.ensures.none c.if-tell.false;
-      few = omega (arith, many c.args.self.now.run c.args.table.now.limit tasks c.requires.holds.trees, c.requires.few);
+      few = omega (arith, many_queued tasks c.requires.holds.trees, c.requires.few);
     }
 
 pub returns-then-tell : goal.returns-then-tell
