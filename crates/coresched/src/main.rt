@@ -59,16 +59,9 @@ fn execute<R: Threads + Wait + AllocGlobal + Sync>(
         Ok(guards) => guards,
         Err(status) => return status,
     };
-    match run::<
-        Machine<PairGuard>,
-        Machine<NullGuard>,
-        R,
-        StdSource,
-        StdSink,
-        NoGate,
-        PairGuard,
-    >(rt, words, source, sink, &NoGate, guards)
-    {
+    match run::<Machine<PairGuard>, Machine<NullGuard>, R, StdSource, StdSink, NoGate, PairGuard>(
+        rt, words, source, sink, &NoGate, guards,
+    ) {
         Status::Done if sink.flush().is_err() => Status::WriteFault,
         status => status,
     }
