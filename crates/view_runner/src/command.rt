@@ -48,13 +48,9 @@ pub fn run<R: FromScenario<Guards<G>>, S: Source, K: Sink, G: Guard>(
 {
     match command_of(alloc, words) {
         Some(Command::Summary) => summarized::<R, S, K, G>(alloc, source, sink, guards),
-        Some(Command::Segments) => { shown::<R, S, K, G>(alloc, Form::Table, source, sink, guards) }
-        Some(Command::SegmentsJson) => {
-            shown::<R, S, K, G>(alloc, Form::Json, source, sink, guards)
-        }
-        Some(Command::Picture) => {
-            shown::<R, S, K, G>(alloc, Form::Picture, source, sink, guards)
-        }
+        Some(Command::Segments) => shown::<R, S, K, G>(alloc, Form::Table, source, sink, guards),
+        Some(Command::SegmentsJson) => shown::<R, S, K, G>(alloc, Form::Json, source, sink, guards),
+        Some(Command::Picture) => shown::<R, S, K, G>(alloc, Form::Picture, source, sink, guards),
         None => Status::BadWords,
     }
 }
