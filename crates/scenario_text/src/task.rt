@@ -1,10 +1,10 @@
 //! Tasks, as the words of a task line spell them. What a task may not be for the sake of others is
 //! elsewhere, with the plan.
 
-ghost use Rattle.std.specs.Prelude.{◌≡◌, [], ◌∷◌, true, false, codes, MatchResult};
+ghost use Rattle.std.specs.Prelude.{◌≡◌, ◌&&◌, [], ◌∷◌, true, false, codes, MatchResult};
 ghost use Rattle.scenario_text.specs.declared.fault.BadKind.TheVariants.{Number};
-ghost use Rattle.scenario_text.specs.Grammar.{is_word, is_number, is_signed, value, policy, task_form};
-ghost use Rattle.scenario_text.specs.Reading.{lent, read_in, signed_value, policy_value, task_value};
+ghost use Rattle.scenario_text.specs.Grammar.{is_word, is_number, is_signed, value, pid, id, flag, policy, task_form};
+ghost use Rattle.scenario_text.specs.Reading.{lent, read_in, signed_value, flag_value, policy_value, task_value};
 
 use crate::fault::BadKind;
 use crate::number::{parse_cpu, parse_flag, parse_number, parse_signed};
@@ -92,6 +92,54 @@ pub(crate) fn parse_id(word: &[u8]) -> Result<u32, BadKind>
     Ok(parse_number(word, 0, MOST_ID)? as u32)
 }
 
+/// A task, its thread group and its process group.
+fn parse_pids(task: &[u8], group: &[u8], process_group: &[u8]) -> Result<(Pid, Pid, Pid), BadKind>
+    ensures { MatchResult result
+        (λ said. (pid.is_right task.now && pid.is_right group.now && pid.is_right process_group.now ≡ true)
+        × (said ≡ (value task.now, value group.now, value process_group.now)))
+        (λ kind. (pid.is_right task.now && pid.is_right group.now && pid.is_right process_group.now ≡ false) × (kind ≡ Number)) }
+{
+    let (Ok(task), Ok(group), Ok(process_group)) = (
+        parse_pid(task),
+        parse_pid(group),
+        parse_pid(process_group),
+    ) else {
+        return Err(BadKind::Number);
+    };
+    Ok((task, group, process_group))
+}
+
+/// Three users, or three groups: the real, the effective and the saved.
+fn parse_ids(real: &[u8], effective: &[u8], saved: &[u8]) -> Result<(u32, u32, u32), BadKind>
+    ensures { MatchResult result
+        (λ said. (id.is_right real.now && id.is_right effective.now && id.is_right saved.now ≡ true)
+        × (said ≡ (value real.now, value effective.now, value saved.now)))
+        (λ kind. (id.is_right real.now && id.is_right effective.now && id.is_right saved.now ≡ false) × (kind ≡ Number)) }
+{
+    let (Ok(real), Ok(effective), Ok(saved)) = (
+        parse_id(real),
+        parse_id(effective),
+        parse_id(saved),
+    ) else {
+        return Err(BadKind::Number);
+    };
+    Ok((real, effective, saved))
+}
+
+/// The three flags of a task.
+fn parse_flags(cap: &[u8], mm: &[u8], dumpable: &[u8]) -> Result<(bool, bool, bool), BadKind>
+    ensures { MatchResult result
+        (λ said. (flag.is_right cap.now && flag.is_right mm.now && flag.is_right dumpable.now ≡ true)
+        × (said ≡ (flag_value cap.now, flag_value mm.now, flag_value dumpable.now)))
+        (λ kind. (flag.is_right cap.now && flag.is_right mm.now && flag.is_right dumpable.now ≡ false) × (kind ≡ Number)) }
+{
+    let (Ok(cap), Ok(mm), Ok(dumpable)) = (parse_flag(cap), parse_flag(mm), parse_flag(dumpable))
+    else {
+        return Err(BadKind::Number);
+    };
+    Ok((cap, mm, dumpable))
+}
+
 /// The words of a task line, in a core with this number of siblings. The first of them is `task`.
 pub(crate) fn parse_task(words: &[&[u8]], siblings: u8) -> Result<TaskSpec, BadKind>
     requires { is_word ((lent words.now).at 0) (codes "task") ≡ true }
@@ -120,20 +168,18 @@ pub(crate) fn parse_task(words: &[&[u8]], siblings: u8) -> Result<TaskSpec, BadK
     if !has_policy_shape(policy) {
         return Err(BadKind::Shape);
     }
-    let (Ok(pid), Ok(tgid), Ok(pgid)) = (parse_pid(pid), parse_pid(tgid), parse_pid(pgid)) else {
+    let (Ok((pid, tgid, pgid)), Ok(cpu), Ok(policy)) = (
+        parse_pids(pid, tgid, pgid),
+        parse_cpu(cpu, siblings),
+        parse_policy(policy),
+    ) else {
         return Err(BadKind::Number);
     };
-    let (Ok(cpu), Ok(policy)) = (parse_cpu(cpu, siblings), parse_policy(policy)) else {
-        return Err(BadKind::Number);
-    };
-    let (Ok(ruid), Ok(euid), Ok(suid)) = (parse_id(ruid), parse_id(euid), parse_id(suid)) else {
-        return Err(BadKind::Number);
-    };
-    let (Ok(rgid), Ok(egid), Ok(sgid)) = (parse_id(rgid), parse_id(egid), parse_id(sgid)) else {
-        return Err(BadKind::Number);
-    };
-    let (Ok(cap), Ok(mm), Ok(dumpable)) = (parse_flag(cap), parse_flag(mm), parse_flag(dumpable))
-    else {
+    let (Ok((ruid, euid, suid)), Ok((rgid, egid, sgid)), Ok((cap, mm, dumpable))) = (
+        parse_ids(ruid, euid, suid),
+        parse_ids(rgid, egid, sgid),
+        parse_flags(cap, mm, dumpable),
+    ) else {
         return Err(BadKind::Number);
     };
     Ok(TaskSpec {
