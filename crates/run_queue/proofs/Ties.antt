@@ -1,5 +1,5 @@
 -- The tasks with cookies of a run queue: they are no more than its tasks, and a task that comes or goes keeps them so.
-use Rattle.std.proofs.Common.{◌≡◌, ◌≢◌, ℕ, ◌+◌, ◌-◌, ◌≤◌, true, false, cond, List, [], ◌∷◌, length, Option, None, Some, inl, inr, ◌⊎◌, refl, sym, ap, ◌∙◌, subst, arith}
+use Rattle.std.proofs.Common.{◌≡◌, ◌≢◌, ℕ, ◌+◌, ◌-◌, ◌≤◌, true, false, cond, eqb, eq-eqb, ne_eqb, List, [], ◌∷◌, length, Option, None, Some, inl, inr, ◌⊎◌, refl, sym, ap, ◌∙◌, subst, arith}
 use Rattle.std.specs.Prelude.{IsTrue, is_some}
 use Rattle.std.specs.List.{AllByRecursion}
 use Rattle.std.specs.Cmp.{IsTotalOrder, tied_itself}
@@ -10,13 +10,14 @@ use Rattle.std.specs.FinMap as fin
 use Rattle.std.specs.FinMap.{FinMap, IsAntisymmetric, entries, entries_sorted, is_sorted, get, contains_key, len, len-entries, empty, empty_of_len, get-empty, get-entries, get-insert, get-remove, len-insert, len-remove}
 use Rattle.std.specs.FinMap.Entries.{below_all}
 use Rattle.std.proofs.lemmas.Bool.{and_parts, cases_Bool, cond-true, cond-false}
-use Rattle.cs_types.specs.Queue.{Seat, Seats, Spot, Spots, spot_cmp}
+use Rattle.cs_types.specs.Queue.{Seat, Seats, Spot, Spots, spot_cmp, spot_of}
 use Rattle.cs_types.specs.Comparisons.{most_comparisons}
 use Rattle.cs_types.proofs.Comparisons.{most_comparisons-le}
 use Rattle.cs_types.proofs.Queues.{seat_total, seat_cmp-IsAntisymmetric, spot_total, spot_cmp-IsAntisymmetric}
 use Rattle.order_tree.proofs.Entries.{less_by, equal_by, true_by}
 use Rattle.order_tree.proofs.Renamed.{all_of_found}
-use Rattle.run_queue.specs.Run.{IsTied}
+use Rattle.cs_types.specs.declared.queue.Queued.{Queued}
+use Rattle.run_queue.specs.Run.{IsTied, without, including}
 
 -- ---- what a map has after an edit
 
@@ -260,3 +261,17 @@ IsTied-empty tasks cookies is = record {
   nothing spot there =
       let bad : true ≡ false = sym there ∙ ap (λ (m : Spots). is_some (get m spot)) is ∙ ap is_some (get-empty spot_cmp spot) in
       absurd cc
+
+-- ---- the cookie order without a task, and with it
+
+pub without-some : (task : Queued) (cookies : Spots) → task.cookie ≢ 0 → without task cookies ≡ fin.remove cookies (spot_of task)
+without-some task cookies some = cond-false (eqb task.cookie 0) _ _ (ne_eqb task.cookie 0 some)
+
+pub without-none : (task : Queued) (cookies : Spots) → task.cookie ≡ 0 → without task cookies ≡ cookies
+without-none task cookies none = cond-true (eqb task.cookie 0) _ _ (eq-eqb task.cookie 0 none)
+
+pub including-some : (task : Queued) (cookies : Spots) → task.cookie ≢ 0 → including task cookies ≡ fin.insert cookies (spot_of task) task.pid
+including-some task cookies some = cond-false (eqb task.cookie 0) _ _ (ne_eqb task.cookie 0 some)
+
+pub including-none : (task : Queued) (cookies : Spots) → task.cookie ≡ 0 → including task cookies ≡ cookies
+including-none task cookies none = cond-true (eqb task.cookie 0) _ _ (eq-eqb task.cookie 0 none)

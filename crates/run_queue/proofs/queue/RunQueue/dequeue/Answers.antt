@@ -1,9 +1,10 @@
-use Rattle.std.proofs.Common.{◌≡◌, ◌+◌, ℕ, cond, ap, ◌∙◌, arith}
+use Rattle.std.proofs.Common.{◌≡◌, ◌+◌, ℕ, cond, sym, ap, ◌∙◌, arith}
 use Rattle.std.specs.Prelude.{IsTrue}
 use Rattle.std.specs.FinMap as fin
-use Rattle.cs_types.specs.Queue.{seat_of, spot_of}
+use Rattle.cs_types.specs.Queue.{RunQueued, seat_of, spot_of}
 use Rattle.cs_types.proofs.Queues.{seat_total, seat_cmp-IsAntisymmetric, spot_total, spot_cmp-IsAntisymmetric}
-use Rattle.run_queue.proofs.Ties.{most_comparisons-cookies, shorter-remove, IsTied-remove_plain, IsTied-remove_cookie}
+use Rattle.run_queue.proofs.Ties.{most_comparisons-cookies, shorter-remove, IsTied-remove_plain, IsTied-remove_cookie, without-some, without-none}
+use Rattle.run_queue.specs.Run.{without}
 use Rattle.run_queue.proofs.queue.RunQueue.dequeue.Goals as goal
 
 pub invariant_of-self : goal.invariant_of-self
@@ -42,3 +43,12 @@ pub returns-then-task-ne0-clause-counted : goal.returns-then-task-ne0-clause-cou
 returns-then-task-ne0-clause-counted g c =
     let most = most_comparisons-cookies c.self.inside.classes.tasks c.self.inside.cookies.tasks c.self.invariant.tied in
     rw (← c.self.view_is) (omega (arith, c.dequeue-found.ensures.counted, c.take.ensures.counted))
+
+pub returns-then-task-ne0-clause-cookies : goal.returns-then-task-ne0-clause-cookies
+returns-then-task-ne0-clause-cookies g c =
+    c.take.ensures.tasks ∙ sym (without-some c.args.task.now c.self.inside.cookies.tasks c.if-task-ne0.true)
+    ∙ ap (λ (q : RunQueued). without c.args.task.now q.cookies) c.self.view_is
+
+pub returns-else-task-ne0-clause-cookies : goal.returns-else-task-ne0-clause-cookies
+returns-else-task-ne0-clause-cookies g c =
+    sym (without-none c.args.task.now c.self.inside.cookies.tasks c.if-task-ne0.false) ∙ ap (λ (q : RunQueued). without c.args.task.now q.cookies) c.self.view_is

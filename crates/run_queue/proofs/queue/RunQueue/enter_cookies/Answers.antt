@@ -1,9 +1,10 @@
-use Rattle.std.proofs.Common.{◌≡◌, ℕ, None, ap, ◌∙◌, arith}
+use Rattle.std.proofs.Common.{◌≡◌, ℕ, None, sym, ap, ◌∙◌, arith}
 use Rattle.std.specs.Prelude.{IsTrue}
 use Rattle.std.specs.FinMap as fin
-use Rattle.cs_types.specs.Queue.{seat_of, spot_of}
+use Rattle.cs_types.specs.Queue.{RunQueued, seat_of, spot_of}
 use Rattle.cs_types.proofs.Queues.{spot_total, spot_cmp-IsAntisymmetric}
-use Rattle.run_queue.proofs.Ties.{len-lt, most_comparisons-cookies, longer-insert, IsTied-including}
+use Rattle.run_queue.proofs.Ties.{len-lt, most_comparisons-cookies, longer-insert, IsTied-including, including-some, including-none}
+use Rattle.run_queue.specs.Run.{including}
 use Rattle.run_queue.proofs.queue.RunQueue.enter_cookies.Goals as goal
 
 pub put-requires-clause-spare : goal.put-requires-clause-spare
@@ -33,3 +34,11 @@ pub returns-then-task-ne0-clause-counted : goal.returns-then-task-ne0-clause-cou
 returns-then-task-ne0-clause-counted g c =
     let most = most_comparisons-cookies c.self.inside.classes.tasks c.self.inside.cookies.tasks c.self.invariant.tied in
     rw (← c.self.view_is) (omega (arith, c.put.ensures.counted))
+
+pub returns-then-task-ne0-clause-cookies : goal.returns-then-task-ne0-clause-cookies
+returns-then-task-ne0-clause-cookies g c =
+    c.put.ensures.tasks ∙ sym (including-some c.args.task c.self.inside.cookies.tasks c.if-task-ne0.true)
+    ∙ ap (λ (q : RunQueued). including c.args.task q.cookies) c.self.view_is
+
+pub returns-else-task-ne0-clause-cookies : goal.returns-else-task-ne0-clause-cookies
+returns-else-task-ne0-clause-cookies g c = sym (including-none c.args.task c.args.self.now.cookies c.if-task-ne0.false)

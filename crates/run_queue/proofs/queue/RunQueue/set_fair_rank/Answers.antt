@@ -3,10 +3,10 @@ use Rattle.std.specs.Prelude.{IsTrue}
 use Rattle.std.specs.FinMap as fin
 use Rattle.cs_types.specs.declared.queue.Queued.{Queued}
 use Rattle.cs_types.specs.Comparisons.{most_comparisons}
-use Rattle.cs_types.specs.Queue.{Seat, Seats, Spots, seat_of, spot_of}
+use Rattle.cs_types.specs.Queue.{RunQueued, Seat, Seats, Spots, seat_of, spot_of}
 use Rattle.cs_types.proofs.Queues.{seat_total, seat_cmp-IsAntisymmetric, spot_total, spot_cmp-IsAntisymmetric}
-use Rattle.run_queue.specs.Run.{IsTied}
-use Rattle.run_queue.proofs.Ties.{most_comparisons-cookies, free_spot, shorter-remove, longer-insert, IsTied-plain, IsTied-cookie, IsTied-remove_plain, IsTied-remove_cookie}
+use Rattle.run_queue.specs.Run.{IsTied, without, including}
+use Rattle.run_queue.proofs.Ties.{most_comparisons-cookies, free_spot, shorter-remove, longer-insert, IsTied-plain, IsTied-cookie, IsTied-remove_plain, IsTied-remove_cookie, without-some, without-none, including-some, including-none}
 use Rattle.run_queue.proofs.queue.RunQueue.set_fair_rank.Goals as goal
 
 -- what is tied once the task of a seat and a cookie is out of both
@@ -115,3 +115,20 @@ returns-then-task-ne0-clause-counted g c =
     let less = few_out tasks cookies tied (seat_of task) (seat_of later) task.cookie task.pid own there free (entered c.if-task-ne0.true) in
     let seat = ap (λ (n : ℕ). most_comparisons (fin.len (fin.remove tasks (n, (task.rank, task.stamp))))) c.requires.fair in
     rw (← c.self.view_is) (omega (arith, most, less, seat, c.set_fair_rank.ensures.counted, c.set_rank.ensures.counted))
+
+pub returns-then-task-ne0-clause-cookies : goal.returns-then-task-ne0-clause-cookies
+returns-then-task-ne0-clause-cookies g c =
+    let task = c.args.task.now in
+    let later : Queued = record task { rank = c.args.rank } in
+    let cookies = c.self.inside.cookies.tasks in
+    c.set_rank.ensures.tasks
+    ∙ sym (ap (including later) (without-some task cookies c.if-task-ne0.true) ∙ including-some later (fin.remove cookies (spot_of task)) c.if-task-ne0.true)
+    ∙ ap (λ (q : RunQueued). including later (without task q.cookies)) c.self.view_is
+
+pub returns-else-task-ne0-clause-cookies : goal.returns-else-task-ne0-clause-cookies
+returns-else-task-ne0-clause-cookies g c =
+    let task = c.args.task.now in
+    let later : Queued = record task { rank = c.args.rank } in
+    let cookies = c.self.inside.cookies.tasks in
+    sym (ap (including later) (without-none task cookies c.if-task-ne0.false) ∙ including-none later cookies c.if-task-ne0.false)
+    ∙ ap (λ (q : RunQueued). including later (without task q.cookies)) c.self.view_is
