@@ -8,7 +8,7 @@ use crate::strangers::LongGuard;
 use core_state::CoreState;
 use cs_outside::{Guard, NullGuard, PairGuard, TeachFault};
 use cs_types::GuardPlace;
-use memory_outside::ListGuard;
+use memory_outside::{ListGuard, MemSink, MemSource};
 use ptrace_check::{Guards, LoadAnswer, TeachAnswer, UnloadAnswer};
 use scenario_runner::{GuardKind, Status, replay};
 use std::alloc::Global;

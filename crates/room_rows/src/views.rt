@@ -4,7 +4,8 @@
 
 use crate::commands::{sink_of, source_of, words_of};
 use core_state::CoreState;
-use cs_outside::{MemSink, MemSource, PairGuard};
+use cs_outside::PairGuard;
+use memory_outside::{MemSink, MemSource};
 use scenario_text::BadKind;
 use std::process::Abort;
 use view_runner::{Status, run};
