@@ -14,6 +14,15 @@ joined-seat-requires-clause-some g c =
     let there = c.requires.numbers 0 (subst (λ (l : Lock). 0 < length l.lists) c.self.view_is c.self.invariant.2) in
     omega (arith, there.1, length-map c.args.passes (λ (pass : PassState). pass.progress.number))
 
+pub joined-seat-requires-clause-words : goal.joined-seat-requires-clause-words
+joined-seat-requires-clause-words g c = c.self.invariant.0
+
+pub joined-seat-requires-clause-table : goal.joined-seat-requires-clause-table
+joined-seat-requires-clause-table g c k d within = ap (λ (lock : Lock). lock.table) (c.requires.lock k d within ∙ sym c.self.view_is)
+
+pub close_with-closed-requires : goal.close_with-closed-requires
+close_with-closed-requires g c = c.joined-seat.ensures.table
+
 pub unwrap-room-requires : goal.unwrap-room-requires
 unwrap-room-requires g c =
     let key = c.self.inside.board.shared.key.value in
