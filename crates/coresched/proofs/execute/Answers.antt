@@ -1,4 +1,4 @@
-use Rattle.std.proofs.Crossing as std
+use Rattle.cs_outside.proofs.pair_guard.PairGuard.TheSendSync as guard
 use denote.Param.Send.{sendable}
 use Rattle.core_events.proofs.Crosses.{CoreRoom-send}
 use Rattle.tree_queue.proofs.Crosses.{TreeQueue-send}
@@ -6,4 +6,4 @@ use Rattle.coresched.proofs.execute.Goals as goal
 
 -- the machine may go to another thread
 pub run-requires-send-R : goal.run-requires-send-R
-run-requires-send-R g c κs within = search (sendable, std.crosses, CoreRoom-send, TreeQueue-send) depth 40 fits 20000
+run-requires-send-R g c κs within = search (sendable, CoreRoom-send, TreeQueue-send, guard.the_send) depth 40
