@@ -13,7 +13,7 @@ use crate::examples::opened;
 use core_lock::{Pass, Shared, Spent};
 use cs_types::{Actor, Event, Kind, List, Pick, Pid, Reply, Room, Scenario, Step};
 use room_report::output;
-use sibling_workers::{Named, Scripted, Turn};
+use scripted_room::{Named, Scripted, Turn};
 use std::marker::Brand;
 use std::process::Abort;
 use std::sync::{Mutex, Wait};

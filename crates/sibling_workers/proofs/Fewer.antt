@@ -9,9 +9,8 @@ use Rattle.cs_types.specs.declared.event.Step.{Step}
 use Rattle.cs_types.specs.declared.reply.Entry.{Entry}
 use Rattle.cs_types.specs.Scenario.{is_actor}
 use Rattle.cs_types.specs.History.{History, events_by}
-use Rattle.sibling_workers.specs.Scripts.{events_in}
-use Rattle.sibling_workers.proofs.Steps.{same_actor, events_in-append}
-use Rattle.sibling_workers.proofs.Turns.{is_actor-same}
+use Rattle.sibling_workers.specs.Race.{events_in}
+use Rattle.sibling_workers.proofs.Own.{is_actor-same, same_actor, events_in-append}
 
 -- the steps without the actor's first
 abbrev remove_first : Actor → List Step → List Step

@@ -1,5 +1,4 @@
-pub mod Steps
-pub mod Turns
+pub mod Own
 pub mod Placed
 pub mod Whole
 pub mod Workers

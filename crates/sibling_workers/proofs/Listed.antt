@@ -20,8 +20,7 @@ use Rattle.cs_types.specs.Shuffles.{IsShuffle}
 use Rattle.core_lock.specs.Lists.{IsList, AreLists, actor_of, list_at, steps_in}
 use Rattle.sibling_workers.specs.Race.{actor_at, has_step, actors_of, steps_by, lists_of}
 use Rattle.sibling_workers.specs.Working.{HasAll}
-use Rattle.sibling_workers.proofs.Steps.{same_actor}
-use Rattle.sibling_workers.proofs.Turns.{is_actor-same}
+use Rattle.sibling_workers.proofs.Own.{is_actor-same, same_actor}
 use Rattle.sibling_workers.proofs.Whole.{placed, places_apart}
 
 abbrev AreApart : Actor → Actor → Type 0

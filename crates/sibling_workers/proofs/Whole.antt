@@ -10,7 +10,7 @@ use Rattle.cs_types.specs.declared.event.Event.TheVariants.{Turn, Resched, Block
 use Rattle.cs_types.specs.declared.event.Step.{Step}
 use Rattle.cs_types.specs.declared.scenario.Scenario.{Scenario}
 use Rattle.cs_types.specs.Scenario.{is_actor, script, IsEvent, IsMadeBy, IsStep, IsPlayable}
-use Rattle.sibling_workers.specs.Scripts.{events_in}
+use Rattle.sibling_workers.specs.Race.{events_in}
 use Rattle.sibling_workers.specs.Race.{actor_at}
 
 -- a sibling that makes an event is one of the core

@@ -1,5 +1,6 @@
 -- Race: the order of the actors, and what a race leaves.
 use Rattle.std.specs.List.{list_any, range_with_len}
+use Rattle.cs_types.specs.declared.event.Event.{Event}
 use Rattle.cs_types.specs.declared.event.Step.{Step}
 use Rattle.cs_types.specs.Scenario.{is_actor}
 use Rattle.std.specs.Prelude.{Bool, List, map, filter, ℕ, ◌-◌, nat_lt, if◌then◌else◌}
@@ -25,6 +26,10 @@ actors_of steps = filter (has_step steps) (map actor_at (range_with_len 0 24))
 -- the steps of an actor, in their order
 abbrev pub steps_by : List Step → Actor → List Step
 steps_by steps actor = filter (λ made. is_actor made.actor actor) steps
+
+-- and their events
+abbrev pub events_in : Actor → List Step → List Event
+events_in actor steps = map (λ made. made.event) (steps_by steps actor)
 
 -- a list for each actor that has a step, in the order of the actors
 abbrev pub lists_of : List Step → List (List Step)

@@ -1,9 +1,9 @@
 //! The actors in their order, and the steps of each.
 
 ghost use Rattle.std.specs.Prelude.{◌≡◌, ◌<◌, IfOk};
+ghost use Rattle.cs_types.specs.Scenario.{is_actor};
 ghost use Rattle.sibling_workers.specs.Race.{actor_at, has_step, steps_by, lists_of};
 
-use crate::scripts::is_same;
 use cs_types::{Actor, List, OutOfMemory, Step};
 use std::alloc::Global;
 
@@ -12,6 +12,18 @@ const SIBLINGS: u8 = 16;
 
 /// How many actors there can be, the callers among them.
 const ACTORS: u8 = 24;
+
+/// Whether two actors are one.
+pub fn is_same(one: Actor, other: Actor) -> bool
+    ensures { result ≡ is_actor one other }
+{
+    match (one, other) {
+        (Actor::Sibling(i), Actor::Sibling(j)) => i == j,
+        (Actor::Caller(i), Actor::Caller(j)) => i == j,
+        (Actor::End, Actor::End) => true,
+        _ => false,
+    }
+}
 
 /// The actor at a place of the order, from 0.
 fn actor_at(place: u8) -> Actor

@@ -1,7 +1,0 @@
-use Rattle.std.proofs.Common.{◌≡◌, [], take}
-use Rattle.sibling_workers.specs.Scripts.{events_in, steps_left}
-use Rattle.sibling_workers.proofs.scripts.next_of.Given as goal
-
--- no script before the place has a next step of the actor
-abbrev pub invariant-loop-place : goal.invariant-loop-place
-invariant-loop-place l = events_in l.actor (steps_left (take l.place l.scripts)) ≡ []
