@@ -7,7 +7,7 @@ ghost use Rattle.cs_types.specs.Room.{RoomState, Interval};
 ghost use Rattle.cs_types.specs.View.{task_after, task_view, forced_of};
 ghost use Rattle.core_tasks.specs.State.{room_with};
 ghost use Rattle.core_tasks.specs.Steps.{Makes};
-ghost use Rattle.room_start.specs.Opened.{opened};
+ghost use Rattle.ptrace_check.specs.Opened.{opened};
 ghost use Rattle.core_events.specs.Ready.{IsReadyFor};
 ghost use Rattle.cs_types.specs.Guards.{guards_on_bench};
 
@@ -19,8 +19,7 @@ use cs_types::{
     Actor, CoreView, Cpu, CpuView, EndView, Entry, Event, GuardView, OutOfMemory, Pid, Reply, Room,
     Scenario, Steps, Task, TaskView,
 };
-use ptrace_check::Guards;
-use room_start::FromScenario;
+use ptrace_check::{FromScenario, Guards};
 use std::alloc::Global;
 use std::marker::{Brand, Model};
 use std::snapshot::Snapshot;

@@ -4,7 +4,7 @@
 ghost use Rattle.std.specs.Prelude.{◌≡◌, length, IfOk};
 ghost use Rattle.cs_types.specs.Scenario.{IsPlayable};
 ghost use Rattle.cs_types.specs.Guards.{guards_on_bench};
-ghost use Rattle.room_start.specs.Opened.{opened};
+ghost use Rattle.ptrace_check.specs.Opened.{opened};
 
 use crate::start::{core_and_tasks, first_pid};
 use cookie_refs::CookieRefs;

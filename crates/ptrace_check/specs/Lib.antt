@@ -1,3 +1,4 @@
 pub mod Answers
 pub mod Guards
 pub mod Inside
+pub mod Opened

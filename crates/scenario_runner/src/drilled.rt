@@ -10,9 +10,8 @@ ghost use Rattle.scenario_runner.specs.Written.{IsWritten, WritesDrill};
 
 use cs_outside::{NullGuard, Sink};
 use cs_types::{OutOfMemory, Room, Scenario, Step};
-use ptrace_check::Guards;
+use ptrace_check::{FromScenario, Guards};
 use room_drill::{generate, summary};
-use room_start::FromScenario;
 use scenario_input::{Status, play};
 use std::alloc::Global;
 

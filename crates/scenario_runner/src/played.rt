@@ -12,9 +12,8 @@ ghost use Rattle.scenario_runner.specs.Written.{WritesOutput, WritesReplay, MayW
 
 use cs_outside::{Gate, Guard, Sink, Source};
 use cs_types::{Room, Scenario, Step};
-use ptrace_check::Guards;
+use ptrace_check::{FromScenario, Guards};
 use room_report::output;
-use room_start::FromScenario;
 use scenario_input::{Status, Stop, play, read_scenario, taught};
 use std::alloc::Global;
 use std::sync::Wait;

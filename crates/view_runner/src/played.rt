@@ -9,8 +9,7 @@ ghost use Rattle.view_runner.specs.Written.{MayWriteSummary};
 
 use cs_outside::{Guard, Sink, Source};
 use cs_types::{Room, Step};
-use ptrace_check::Guards;
-use room_start::FromScenario;
+use ptrace_check::{FromScenario, Guards};
 use run_summary::{RunSummary, summarized_run};
 use scenario_input::Status;
 use scenario_runner::opened;

@@ -7,8 +7,7 @@ ghost use Rattle.view_runner.specs.Written.{IsShown};
 
 use cs_outside::{Guard, Sink, Source, write_all};
 use cs_types::{Room, Step};
-use ptrace_check::Guards;
-use room_start::FromScenario;
+use ptrace_check::{FromScenario, Guards};
 use run_picture::picture;
 use run_stretches::{RunStretches, recorded_run};
 use scenario_input::Status;

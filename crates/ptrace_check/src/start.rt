@@ -1,14 +1,14 @@
-//! The contract of the start of a machine.
+//! How a machine is started. What plays a scenario asks this alone, and stands on no machine.
 
 ghost use Rattle.std.specs.Prelude.{◌≡◌, ◌+◌, ◌*◌, [], length, IfOk};
 ghost use Rattle.cs_types.specs.Scenario.{IsPlayable};
 ghost use Rattle.cs_types.specs.Guards.{guards_on_bench};
 ghost use Rattle.ptrace_check.specs.Guards.{Guarded};
-ghost use Rattle.room_start.specs.Opened.{opened};
+ghost use Rattle.ptrace_check.specs.Opened.{opened};
 
+use crate::guards::Guards;
 use cs_outside::Guard;
 use cs_types::{OutOfMemory, Room, Scenario};
-use ptrace_check::Guards;
 use std::alloc::Global;
 
 /// The guards that a machine is started with, whatever their type. `Guards` is the one kind of them.
