@@ -1,5 +1,5 @@
-pub mod Subcommands
 pub mod Plain
 pub mod Parses
 pub mod Spelled
 pub mod Found
+pub mod Subcommands

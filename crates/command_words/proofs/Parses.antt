@@ -1,6 +1,6 @@
 -- Parses: which words the parser takes, and what it makes of them.
 use Rattle.std.proofs.Common.{◌≡◌, ◌⊎◌, ◌∙◌, sym, ap, refl, subst, decimal, inl, inr, ℕ, zero, suc, ◌<◌, ◌≤◌, ◌^◌, ◌==◌, ◌||◌, arith, get_or, Bool, true, false, List, [], ◌∷◌, ◌++◌, Some, None, codes}
-use Rattle.std.specs.Prelude.{fold, find, option_and_then, unwrap_or}
+use Rattle.std.specs.Prelude.{fold, find, unwrap_or}
 use Rattle.std.specs.List.{list_any}
 use Rattle.std.specs.Str.{bytes_eq}
 use Rattle.std.specs.Prelude.{◌↔◌, ◌≢◌, Result, Ok, Err, IfOk, map, String}
@@ -10,7 +10,7 @@ use Rattle.std.proofs.lemmas.Bool.Decides.{nat_tests}
 use Rattle.std.proofs.lemmas.Fmt.{decimal_digit, first_decimal}
 use Rattle.std.proofs.lemmas.Slice.Eq.{bytes_eq-Decides}
 use Rattle.std.proofs.lemmas.List.{append-nil, append_assoc}
-use Rattle.clap.specs.Walk.{Held, Names, Row, Rule, Text, Walk, answers_to, idle, first_of, finished, nothing_held, settled, subcommand_met, walk, walked}
+use Rattle.clap.specs.Walk.{Held, Names, Rule, Text, Walk, answers_to, idle, first_of, finished, nothing_held, settled, subcommand_met, walk, walked}
 use Rattle.clap.specs.Kinds.{Kinds, or_else}
 use Rattle.clap.specs.Faults.{check_fault, defaults_fault, entered_fault, fault_of, is_simple_and_free, settle_fault, turn_fault, walk_fault}
 use Rattle.clap.specs.Simple.{App, Shape, built, entered, is_simple, label_of, names_of, subcommand_of}
@@ -26,7 +26,7 @@ use Rattle.clap.proofs.OnLiterals.{clap_on_literals}
 use Rattle.command_words.specs.declared.command.Command.{Command}
 use Rattle.command_words.specs.declared.command.Command.TheVariants.{Replay, Race, Drill}
 use Rattle.command_words.specs.Asks.{Asks, HasSeed, words_of}
-use Rattle.command_words.specs.Program.{IsMet, is_option, name_of, program, seed_of}
+use Rattle.command_words.specs.Program.{Spells, is_option, program, words_by, words_met}
 use Rattle.command_words.proofs.Plain.{ready, turn_of_plain, walk_of_plain}
 
 -- ---- the grammar as it is built
@@ -166,10 +166,10 @@ drill_takes_no_second word next more plain plain_next is =
     absurd cc
 
 -- what `drill` is given is the value of its seed
-drill_rows : (word : Text) → is_option word ≡ false → option_and_then (λ (met : Text × List Row). first_of (codes "seed") met.1) (entered whole (Some (codes "drill", word ∷ []))) ≡ Some word
+drill_rows : (word : Text) → is_option word ≡ false → words_met (entered whole (Some (codes "drill", word ∷ []))) ≡ codes "drill" ∷ word ∷ []
 unfolding clap_on_literals
 drill_rows word plain =
-    ap (λ (at : Walk). first_of (codes "seed") (finished drill.rules at.held)) (first_walked word plain)
+    ap (λ (at : Walk). words_by (codes "drill") (first_of (codes "seed") (finished drill.rules at.held))) (first_walked word plain)
 
 drill_is_fine : (word : Text) → is_option word ≡ false → entered_fault whole (Some (codes "drill", word ∷ [])) ≡ []
 unfolding clap_on_literals
@@ -220,33 +220,12 @@ form_of (word ∷ rest) plain is = elim (names_one word) [
   after_drill (word ∷ next ∷ more) plain is =
       absurd (drill_takes_no_second word next more (neither _ _ plain).0 (neither _ _ (neither _ _ plain).1).0 (own_fault (codes "drill") (word ∷ next ∷ more) named_drill is))
 
--- what `drill` is given is the command of the number that it spells
-drill_met : (command : Command) (word : Text) → is_option word ≡ false → IsMet command (subcommand_of program (codes "drill" ∷ word ∷ [])) →
-    (codes "drill" ∷ word ∷ [] ≡ words_of command) × HasSeed command
-drill_met command word plain is = by_command command (subst (IsMet command) (met_with (codes "drill") (word ∷ []) named_drill) is) where
-  by_command : (command : Command) → IsMet command (entered whole (Some (codes "drill", word ∷ []))) → (codes "drill" ∷ word ∷ [] ≡ words_of command) × HasSeed command
-  by_command Replay met = absurd cc
-  by_command Race met = absurd cc
-  by_command (Drill seed) met =
-      let told : Some word ≡ Some (decimal seed) = sym (drill_rows word plain) ∙ met.1 in
-      let word_is : word ≡ decimal seed = cc in (ap (λ (text : Text). codes "drill" ∷ text ∷ []) word_is, met.2)
-
--- Where the parser finds nothing wrong, the command that it met is the one that the words spell.
-pub parse_is_sound : (words : List Text) (command : Command) → ArePlain words → fault_of program words ≡ [] → IsMet command (subcommand_of program words) →
-    (words ≡ words_of command) × HasSeed command
-parse_is_sound words command plain is met = by_form words (form_of words plain is) met where
-  by_form : (words : List Text) → Form words → IsMet command (subcommand_of program words) → (words ≡ words_of command) × HasSeed command
-  by_form _ only_replay met = as_replay command met where
-    as_replay : (command : Command) → IsMet command (subcommand_of program (codes "replay" ∷ [])) → (codes "replay" ∷ [] ≡ words_of command) × HasSeed command
-    as_replay Replay met = (refl, tt)
-    as_replay Race met = let wrong = sym (ap name_of (met_with (codes "replay") [] named_replay)) ∙ met in absurd cc
-    as_replay (Drill seed) met = let wrong = sym (ap name_of (met_with (codes "replay") [] named_replay)) ∙ met.0 in absurd cc
-  by_form _ only_race met = as_race command met where
-    as_race : (command : Command) → IsMet command (subcommand_of program (codes "race" ∷ [])) → (codes "race" ∷ [] ≡ words_of command) × HasSeed command
-    as_race Replay met = let wrong = sym (ap name_of (met_with (codes "race") [] named_race)) ∙ met in absurd cc
-    as_race Race met = (refl, tt)
-    as_race (Drill seed) met = let wrong = sym (ap name_of (met_with (codes "race") [] named_race)) ∙ met.0 in absurd cc
-  by_form _ (drill_of word is) met = drill_met command word is met
+-- The words of what it meets are the words that it was given.
+met_words : (words : List Text) → Form words → words_met (subcommand_of program words) ≡ words
+unfolding clap_on_literals
+met_words _ only_replay = ap words_met (met_with (codes "replay") [] named_replay)
+met_words _ only_race = ap words_met (met_with (codes "race") [] named_race)
+met_words _ (drill_of word plain) = ap words_met (met_with (codes "drill") (word ∷ []) named_drill) ∙ drill_rows word plain
 
 -- ---- the words of a command are taken
 
@@ -267,20 +246,17 @@ command_is_plain Replay has = refl
 command_is_plain Race has = refl
 command_is_plain (Drill seed) has = rw (plain_decimal seed has) refl
 
--- The parser finds nothing wrong with the words of a command, and meets it.
-pub parse_is_complete : (command : Command) → HasSeed command → (fault_of program (words_of command) ≡ []) × IsMet command (subcommand_of program (words_of command))
+-- The parser finds nothing wrong with the words of a command.
+form_fault : (words : List Text) → Form words → fault_of program words ≡ []
 unfolding clap_on_literals
-parse_is_complete Replay has = (refl, refl)
-parse_is_complete Race has = (refl, refl)
-parse_is_complete (Drill seed) has =
-    let plain = plain_decimal seed has in (
-      ap (λ (kinds : Kinds). or_else kinds []) (drill_is_fine (decimal seed) plain),
-      (
-        ap name_of (met_with (codes "drill") (decimal seed ∷ []) named_drill),
-        ap seed_of (met_with (codes "drill") (decimal seed ∷ []) named_drill) ∙ drill_rows (decimal seed) plain,
-        has,
-      ),
-    )
+form_fault _ only_replay = refl
+form_fault _ only_race = refl
+form_fault _ (drill_of word plain) = ap (λ (kinds : Kinds). or_else kinds []) (drill_is_fine word plain)
+
+form_of_command : (command : Command) → HasSeed command → Form (words_of command)
+form_of_command Replay has = only_replay
+form_of_command Race has = only_race
+form_of_command (Drill seed) has = drill_of (decimal seed) (plain_decimal seed has)
 
 -- ---- the answers of a parse
 
@@ -318,11 +294,10 @@ fault_is words grammar parsed has =
 
 -- Where it answers matches, their command is the one that the words ask for.
 pub parsed_ok : (words : List (String Global)) (grammar : Grammar) (parsed : Result ArgMatches Error) (matches : ArgMatches) → HasParsed words grammar parsed → parsed ≡ Ok matches →
-    (command : Command) → IsMet command (subcommand_rows_of matches) ↔ Asks command words
+    (command : Command) → Spells command (words_met (subcommand_rows_of matches)) ↔ Asks command words
 parsed_ok words grammar parsed matches has is command = (
-  λ met. let told = parse_is_sound (texts words) command (are_plain words has.plain) no_fault (subst (IsMet command) same met) in record { spelled = told.0; seed = told.1 },
-  λ asks. let done = parse_is_complete command asks.seed in
-      subst (IsMet command) (ap (subcommand_of program) (sym asks.spelled) ∙ sym same) done.1,
+  λ met. record { spelled = sym told ∙ met.0; seed = met.1 },
+  λ asks. (told ∙ asks.spelled, asks.seed),
 ) where
   of_ok : (parsed : Result ArgMatches Error) → parsed ≡ Ok matches → FailsBy (fault_of program (texts words)) parsed → fault_of program (texts words) ≡ []
   of_ok (Ok other) is fails = fails
@@ -338,13 +313,16 @@ parsed_ok words grammar parsed matches has is command = (
   same : subcommand_rows_of matches ≡ subcommand_of program (texts words)
   same = (of_matches parsed is has.matches (ap is_simple has.grammar_is ∙ simple)).1 ∙ ap (λ (a : App). subcommand_of a (texts words)) has.grammar_is
 
+  told : words_met (subcommand_rows_of matches) ≡ texts words
+  told = ap words_met same ∙ met_words (texts words) (form_of (texts words) (are_plain words has.plain) no_fault)
+
 -- Where it fails but for memory, they ask for none.
 pub parsed_err : (words : List (String Global)) (grammar : Grammar) (parsed : Result ArgMatches Error) (error : Error) → HasParsed words grammar parsed → parsed ≡ Err error → kind_of error ≢ OutOfMemory →
     (command : Command) → ¬ Asks command words
 parsed_err words grammar parsed error has is other command asks =
     of_err parsed is (fault_is words grammar parsed has) where
       no_fault : fault_of program (texts words) ≡ []
-      no_fault = ap (fault_of program) asks.spelled ∙ (parse_is_complete command asks.seed).0
+      no_fault = ap (fault_of program) asks.spelled ∙ form_fault (words_of command) (form_of_command command asks.seed)
 
       of_kinds : (kinds : Kinds) → kinds ≡ [] → HasKind kinds error → ⊥
       of_kinds [] none (inl memory) = other memory

@@ -1,4 +1,4 @@
--- Spelled: lists of one word and of two, and the command that they spell.
+-- Spelled: lists of one word and of two, and the command that words spell.
 use Rattle.std.proofs.Common.{◌≡◌, ◌↔◌, ◌∙◌, sym, ap, refl, subst, ℕ, ◌<◌, ◌≤◌, ◌^◌, List, [], ◌∷◌, map, length, get_or, Option, Some, None, option_map, codes, decimal, arith}
 use Rattle.std.specs.Prelude.{String}
 use Rattle.std.specs.declared.alloc.Global.{Global}
@@ -8,6 +8,7 @@ use Rattle.clap.specs.Walk.{Text}
 use Rattle.command_words.specs.declared.command.Command.{Command}
 use Rattle.command_words.specs.declared.command.Command.TheVariants.{Replay, Race, Drill}
 use Rattle.command_words.specs.Asks.{Asks, HasSeed, words_of}
+use Rattle.command_words.specs.Program.{Spells}
 
 pub one_word : {X : Type 0} (words : List X) (word : X) → 1 ≤ length words → length words < 2 → word ≡ get_or words 0 word → words ≡ word ∷ []
 one_word [] word some few is = absurd (omega arith)
@@ -34,22 +35,31 @@ same_command (Drill seed) (Drill number) has too e =
     let numerals : decimal seed ≡ decimal number = cc in ap Drill (decimal_injective seed number (omega (arith, has)) (omega (arith, too)) numerals)
 
 -- words that spell a command ask for it and for no other
-pub asks_alone : (words : List (String Global)) (mine : Command) → map string_bytes words ≡ words_of mine → HasSeed mine → (command : Command) → (Some mine ≡ Some command) ↔ Asks command words
-asks_alone words mine is has command = (
-  λ e. let same : mine ≡ command = cc in subst (λ (c : Command). Asks c words) same (record { spelled = is; seed = has }),
-  λ asks. ap Some (same_command mine command has asks.seed (sym is ∙ asks.spelled)),
+-- words that spell a command spell no other
+pub spells_alone : (words : List Text) (mine : Command) → Spells mine words → (command : Command) → (Some mine ≡ Some command) ↔ Spells command words
+spells_alone words mine has command = (
+  λ e. let same : mine ≡ command = cc in subst (λ (c : Command). Spells c words) same has,
+  λ spells. ap Some (same_command mine command has.1 spells.1 (sym has.0 ∙ spells.0)),
 )
 
--- `drill` and a word ask for the drill of the number that it spells
-pub asks_drill : (words : List (String Global)) (text : Text) (number : Option ℕ) → map string_bytes words ≡ codes "drill" ∷ text ∷ [] →
-    ((seed : ℕ) → (number ≡ Some seed) ↔ ((text ≡ decimal seed) × (seed < 2 ^ 32))) → (command : Command) → (option_map Drill number ≡ Some command) ↔ Asks command words
-asks_drill words text (Some seed) is spelled command =
-    let told = (spelled seed).0 refl in asks_alone words (Drill seed) (is ∙ ap (λ (t : Text). codes "drill" ∷ t ∷ []) told.0) told.1 command
-asks_drill words text None is spelled Replay = (λ e. absurd cc, λ asks. let wrong = sym is ∙ asks.spelled in absurd cc)
-asks_drill words text None is spelled Race = (λ e. absurd cc, λ asks. let wrong = sym is ∙ asks.spelled in absurd cc)
-asks_drill words text None is spelled (Drill seed) = (
+-- `drill` and a word spell the drill of the number that the word spells
+pub spells_drill : (text : Text) (number : Option ℕ) → ((seed : ℕ) → (number ≡ Some seed) ↔ ((text ≡ decimal seed) × (seed < 2 ^ 32))) →
+    (command : Command) → (option_map Drill number ≡ Some command) ↔ Spells command (codes "drill" ∷ text ∷ [])
+spells_drill text (Some seed) spelled command =
+    let told = (spelled seed).0 refl in spells_alone (codes "drill" ∷ text ∷ []) (Drill seed) (ap (λ (t : Text). codes "drill" ∷ t ∷ []) told.0, told.1) command
+spells_drill text None spelled Replay = (λ e. absurd cc, λ spells. absurd cc)
+spells_drill text None spelled Race = (λ e. absurd cc, λ spells. absurd cc)
+spells_drill text None spelled (Drill seed) = (
   λ e. absurd cc,
-  λ asks. let same = sym is ∙ asks.spelled in
+  λ spells. let same = spells.0 in
       let text_is : text ≡ decimal seed = cc in
-      let wrong = (spelled seed).1 (text_is, asks.seed) in absurd cc,
+      let wrong = (spelled seed).1 (text_is, spells.1) in absurd cc,
+)
+
+-- words that are told of an answer are asked for
+pub asks_as : (found : Option Command) (words : List (String Global)) (told : List Text) → told ≡ map string_bytes words →
+    ((command : Command) → (found ≡ Some command) ↔ Spells command told) → (command : Command) → (found ≡ Some command) ↔ Asks command words
+asks_as found words told is finds command = (
+  λ e. let spells = (finds command).0 e in record { spelled = sym is ∙ spells.0; seed = spells.1 },
+  λ asks. (finds command).1 (is ∙ asks.spelled, asks.seed),
 )

@@ -1,10 +1,10 @@
--- Program: the grammar that the parser is given, and what its matches name. It is what the functions of this crate promise
+-- Program: the grammar that the parser is given, and the words of what it met. It is what the functions of this crate promise
 -- one another.
-use Rattle.std.specs.Prelude.{◌≡◌, ◌<◌, ◌^◌, ◌==◌, Bool, true, false, List, [], ◌∷◌, Option, Some, option_map, option_and_then, codes, decimal}
+use Rattle.std.specs.Prelude.{◌≡◌, ◌==◌, Bool, true, false, List, [], ◌∷◌, Option, Some, None, codes}
 use Rattle.clap.specs.Walk.{Text, Row, Rule, first_of}
 use Rattle.clap.specs.Simple.{App, Shape, new_app, new_rule, new_shape, on_top, with_rule, with_subcommand}
 use Rattle.command_words.specs.declared.command.Command.{Command}
-use Rattle.command_words.specs.declared.command.Command.TheVariants.{Replay, Race, Drill}
+use Rattle.command_words.specs.Asks.{HasSeed, words_of}
 
 -- the one value of `drill`
 abbrev pub seed_rule : Rule
@@ -38,15 +38,16 @@ abbrev pub is_option : Text → Bool
 is_option [] = false
 is_option (byte ∷ rest) = byte == 45
 
--- the name of the subcommand that was met, and the text of its seed
-abbrev pub name_of : Option (Text × List Row) → Option Text
-name_of = option_map (λ met. met.0)
+-- the words that a name and a seed make
+abbrev pub words_by : Text → Option Text → List Text
+words_by name None = name ∷ []
+words_by name (Some seed) = name ∷ seed ∷ []
 
-abbrev pub seed_of : Option (Text × List Row) → Option Text
-seed_of = option_and_then (λ met. first_of (codes "seed") met.1)
+-- the words of the subcommand that was met
+abbrev pub words_met : Option (Text × List Row) → List Text
+words_met None = []
+words_met (Some met) = words_by met.0 (first_of (codes "seed") met.1)
 
--- the command is the one of that subcommand
-abbrev pub IsMet : Command → Option (Text × List Row) → Type 0
-IsMet Replay met = name_of met ≡ Some (codes "replay")
-IsMet Race met = name_of met ≡ Some (codes "race")
-IsMet (Drill seed) met = (name_of met ≡ Some (codes "drill")) × (seed_of met ≡ Some (decimal seed)) × (seed < 2 ^ 32)
+-- the words are the command's
+abbrev pub Spells : Command → List Text → Type 0
+Spells command words = (words ≡ words_of command) × HasSeed command

@@ -1,8 +1,9 @@
 //! The commands, each by its words.
 
-ghost use Rattle.std.specs.Prelude.{◌≡◌, ◌↔◌, ℕ, IsTrue, Some};
+ghost use Rattle.std.specs.Prelude.{◌≡◌, ◌↔◌, ℕ, IsTrue, Some, option_map};
 ghost use Rattle.command_words.specs.declared.command.Command.TheVariants.{Replay, Drill};
 ghost use Rattle.command_words.specs.Asks.{Asks};
+ghost use Rattle.command_words.specs.Program.{Spells, words_by};
 
 use crate::parser::parsed;
 use crate::seed::canonical;
@@ -19,16 +20,25 @@ pub enum Command {
     Drill { seed: u32 },
 }
 
+/// The command of this name and seed, if there is one.
+pub(crate) fn named(name: &str, seed: Option<&str>) -> Option<Command>
+    ensures { (command : Command) → (result ≡ Some command) ↔ Spells command (words_by name.now (option_map (λ text. text.now) seed.entry)) }
+{
+    match (name, seed) {
+        ("replay", None) => Some(Command::Replay),
+        ("race", None) => Some(Command::Race),
+        ("drill", Some(seed)) => canonical(seed).map(|seed| Command::Drill { seed }),
+        _ => None,
+    }
+}
+
 /// The command that the words spell letter by letter. It takes no memory.
 fn spelled(words: &[String]) -> Option<Command>
     ensures asked { (command : Command) → (result ≡ Some command) ↔ Asks command words.now }
 {
     match words {
-        [word] if word.as_str() == "replay" => Some(Command::Replay),
-        [word] if word.as_str() == "race" => Some(Command::Race),
-        [word, number] if word.as_str() == "drill" => {
-            canonical(number).map(|seed| Command::Drill { seed })
-        }
+        [name] => named(name, None),
+        [name, seed] => named(name, Some(seed)),
         _ => None,
     }
 }

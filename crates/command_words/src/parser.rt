@@ -1,14 +1,14 @@
 //! The parser of the words: one program with one level of subcommands.
 
-ghost use Rattle.std.specs.Prelude.{◌≡◌, ◌↔◌, Some, IfOk, codes};
+ghost use Rattle.std.specs.Prelude.{◌≡◌, ◌↔◌, Some, IfOk, codes, false};
 ghost use Rattle.std.specs.List.{list_any};
 ghost use Rattle.std.specs.String.{string_bytes};
+ghost use Rattle.clap.specs.declared.builder.command.Command.TheViews.{out-Command as fields_of};
 ghost use Rattle.clap.specs.Simple.{app_of, new_app, new_shape, on_top, subcommand_rows_of, with_subcommand};
 ghost use Rattle.command_words.specs.Asks.{Asks};
-ghost use Rattle.command_words.specs.Program.{IsMet, is_option, program, strict};
+ghost use Rattle.command_words.specs.Program.{Spells, drill, is_option, program, strict, words_met};
 
-use crate::command::Command;
-use crate::seed::canonical;
+use crate::command::{Command, named};
 use clap::error::ErrorKind;
 use clap::{Arg, ArgMatches};
 use cs_types::OutOfMemory;
@@ -38,26 +38,26 @@ fn plays<'a>(alloc: Global) -> Result<clap::Command<'a>, AllocError>
         .subcommand(clap::Command::new(alloc, "race"))
 }
 
+/// `drill`, with one value.
+fn drill<'a>(alloc: Global) -> Result<clap::Command<'a>, AllocError>
+    ensures { IfOk result (λ command. (app_of command ≡ drill) × ((fields_of command).has_globals ≡ false)) }
+{
+    clap::Command::new(alloc, "drill").arg(Arg::new(alloc, "seed").required(true))
+}
+
 /// The program's grammar: `replay`, `race`, and `drill` with one value.
 fn grammar<'a>(alloc: Global) -> Result<clap::Command<'a>, AllocError>
     ensures { IfOk result (λ command. app_of command ≡ program) }
 {
-    let seed = Arg::new(alloc, "seed").required(true);
-    let drill = clap::Command::new(alloc, "drill").arg(seed)?;
-    plays(alloc)?.subcommand(drill)
+    plays(alloc)?.subcommand(drill(alloc)?)
 }
 
 /// The command of these matches.
 fn matched(matches: &ArgMatches) -> Option<Command>
-    ensures { (command : Command) → (result ≡ Some command) ↔ IsMet command (subcommand_rows_of matches.now) }
+    ensures { (command : Command) → (result ≡ Some command) ↔ Spells command (words_met (subcommand_rows_of matches.now)) }
 {
     let (name, values) = matches.subcommand()?;
-    match name {
-        "replay" => Some(Command::Replay),
-        "race" => Some(Command::Race),
-        "drill" => canonical(values.get_str("seed")?).map(|seed| Command::Drill { seed }),
-        _ => None,
-    }
+    named(name, values.get_str("seed"))
 }
 
 /// Whether the word begins with `-`.
