@@ -6,7 +6,7 @@ ghost use Rattle.std.specs.Prelude.{◌≡◌, ◌<◌, ◌≤◌, [], All, vec_
 use crate::scenarios::{STEP, text_of_lines};
 use command_words::{Command, command_of, drill_seed, is_replay};
 use core_state::CoreState;
-use cs_outside::{Gate, Guard, NoGate, NullGuard, PairGuard};
+use cs_outside::{Gate, Guard, NoGate, PairGuard};
 use memory_outside::{MemSink, MemSource};
 use plain_room::PlainRoom;
 use scenario_runner::{Status, drill, replay, run};
@@ -116,7 +116,7 @@ pub fn run_over_trees<T: Threads + Wait + AllocGlobal + Sync, P: Gate + Sync, G:
     requires untaught { All (λ guard. G.pairs guard ≡ []) guards.items }
     requires unasked { All (λ guard. G.asked guard ≡ 0) guards.items }
 {
-    run::<CoreState<G>, CoreState<NullGuard>, T, MemSource, MemSink, P, G>(
+    run::<CoreState<G>, T, MemSource, MemSink, P, G>(
         rt, words, source, sink, gate, guards,
     )
 }
@@ -265,7 +265,7 @@ const OTHER_WORDS: [&'static [&'static str]; 15] = [
 fn expect_no_drill<R: AllocGlobal + Abort>(rt: &R, texts: &[&str]) {
     let words = words_of(rt.alloc(), texts).expect(rt, "room");
     let mut sink = sink_of(rt, 4096, Vec::new(rt.alloc()));
-    let status = drill::<CoreState<NullGuard>, MemSink>(rt.alloc(), &words, &mut sink);
+    let status = drill::<CoreState<PairGuard>, MemSink, PairGuard>(rt.alloc(), &words, &mut sink);
     assert!(rt; status == Status::BadWords && sink.calls() == 0);
 }
 

@@ -5,7 +5,7 @@ use crate::examples::{FORK_AND_EXIT, played};
 use crate::moves::{LAST_TASK_STOLEN, STEAL};
 use crate::scripts::{FORCED_IDLE, Script};
 use core_state::CoreState;
-use cs_outside::{NoGate, NullGuard, PairGuard};
+use cs_outside::{NoGate, PairGuard};
 use cs_types::Room;
 use memory_outside::MemSink;
 use room_drill::{generate, summary};
@@ -228,7 +228,7 @@ fn command_drill(rt: HostRuntime) {
     assert!(rt; again.bytes() == first.bytes());
     let words = words_of(rt.alloc(), &["drill", "1"]).expect(&rt, "room");
     let mut sink = MemSink::of(rt.alloc(), 16_384, 7, Vec::new(rt.alloc())).expect(&rt, "room");
-    let status = drill::<CoreState<NullGuard>, MemSink>(rt.alloc(), &words, &mut sink);
+    let status = drill::<CoreState<PairGuard>, MemSink, PairGuard>(rt.alloc(), &words, &mut sink);
     assert!(rt; status == Status::Done);
     assert!(rt; sink.bytes() == first.bytes());
     let last = drilled(&rt, "4294967295", 0, Status::Done);

@@ -1,3 +1,4 @@
 pub mod Input
 pub mod Teaching
 pub mod Stop
+pub mod Exit

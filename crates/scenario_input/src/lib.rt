@@ -4,12 +4,14 @@
 
 mod input;
 mod playing;
+mod program;
 mod status;
 mod stop;
 mod teaching;
 
 pub use input::read_scenario;
 pub use playing::play;
+pub use program::{guards, words};
 pub use status::Status;
 pub use stop::{GuardKind, Stop};
 pub use teaching::taught;

@@ -1,5 +1,8 @@
 //! How a command ends.
 
+ghost use Rattle.std.specs.Prelude.{◌≡◌};
+ghost use Rattle.scenario_input.specs.Exit.{exit_code};
+
 use crate::stop::GuardKind;
 use scenario_text::BadKind;
 use thiserror::Error;
@@ -34,4 +37,20 @@ pub enum Status {
     /// There was no memory, before the first step.
     #[error("out of memory")]
     OutOfMemory,
+}
+
+impl Status {
+    /// The exit status of a program whose command ended so, 0 to 5.
+    pub fn exit_code(self) -> u8
+        ensures { result ≡ exit_code self }
+    {
+        match self {
+            Status::Done => 0,
+            Status::BadWords => 1,
+            Status::BadScenario { .. } | Status::BadGuard { .. } | Status::TooLong => 2,
+            Status::ReadFault => 3,
+            Status::WriteFault => 4,
+            Status::OutOfMemory => 5,
+        }
+    }
 }

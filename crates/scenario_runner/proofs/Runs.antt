@@ -22,8 +22,7 @@ use Rattle.cs_types.proofs.Drains.{drained_alone, nobody_pending, IsLegal-draine
 use Rattle.cs_types.proofs.Trust.{settled-moment_of, one_cookie}
 use Rattle.cs_types.specs.Shuffles.{IsShuffle}
 use Rattle.sibling_workers.specs.Race.{IsRaced}
-use Rattle.sibling_workers.proofs.Steps.{same_actor}
-use Rattle.sibling_workers.proofs.Turns.{is_actor-same}
+use Rattle.sibling_workers.proofs.Own.{is_actor-same, same_actor}
 use Rattle.scenario_text.specs.Entry.{IsMade}
 use Rattle.scenario_runner.specs.Outcomes.{DividesIntervals, IsPlayed, IsReplayHistory, before_end, IsRaceHistory}
 use Rattle.scenario_runner.proofs.Endings.{AreMade}

@@ -9,7 +9,7 @@ ghost use Rattle.scenario_runner.specs.Ends.{EndsAsReplay, EndsAsDrill, EndsBy};
 use crate::drilled::drilled;
 use crate::played::{raced, replayed};
 use command_words::{Command, command_of, drill_seed, is_replay};
-use cs_outside::{Gate, Guard, NullGuard, Sink, Source};
+use cs_outside::{Gate, Guard, Sink, Source};
 use ptrace_check::{FromScenario, Guards};
 use scenario_input::Status;
 use std::alloc::Global;
@@ -57,7 +57,8 @@ pub fn replay<R: FromScenario<Guards<G>>, S: Source, K: Sink, G: Guard>(
 ///
 /// The words are `drill` and the seed, a decimal number from 0 to 4294967295 with no sign and no leading 0 but in `0`
 /// itself; other words are refused. The sink's count of faults has to be below 2^64 - 1. `R` is the machine that plays it.
-pub fn drill<R: FromScenario<Guards<NullGuard>>, K: Sink>(
+/// No guard is handed in; `G` is the type that they would have.
+pub fn drill<R: FromScenario<Guards<G>>, K: Sink, G: Guard>(
     alloc: Global,
     words: &[String],
     sink: &mut K,
@@ -73,7 +74,7 @@ pub fn drill<R: FromScenario<Guards<NullGuard>>, K: Sink>(
     ensures unwritten { result ≡ Status.BadWords → sink.new ≡ sink.old }
 {
     match drill_seed(alloc, words) {
-        Some(seed) => drilled::<R, K>(alloc, seed, sink),
+        Some(seed) => drilled::<R, K, G>(alloc, seed, sink),
         None => Status::BadWords,
     }
 }
@@ -85,10 +86,9 @@ pub fn drill<R: FromScenario<Guards<NullGuard>>, K: Sink>(
 /// command's.
 ///
 /// Else it asks for what `replay` asks for. With the word `race` it may wait, so its return is not promised. `R` is the
-/// machine that plays a scenario that is read, and `D` the one that plays a drill, which has no guards.
+/// machine that plays. A drill has no guards, so those that are handed in are dropped.
 pub fn run<
     R: FromScenario<Guards<G>> + Send,
-    D: FromScenario<Guards<NullGuard>>,
     T: Threads + Wait + AllocGlobal + Sync,
     S: Source,
     K: Sink,
@@ -114,7 +114,7 @@ pub fn run<
     match command_of(rt.alloc(), words) {
         Some(Command::Replay) => replayed::<R, S, K, G>(rt.alloc(), source, sink, guards),
         Some(Command::Race) => raced::<R, T, S, K, P, G>(rt, source, sink, gate, guards),
-        Some(Command::Drill { seed }) => drilled::<D, K>(rt.alloc(), seed, sink),
+        Some(Command::Drill { seed }) => drilled::<R, K, G>(rt.alloc(), seed, sink),
         None => Status::BadWords,
     }
 }

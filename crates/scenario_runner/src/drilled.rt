@@ -8,7 +8,7 @@ ghost use Rattle.scenario_runner.specs.Outcomes.{drill_opening};
 ghost use Rattle.scenario_runner.specs.Ends.{EndsAsDrill};
 ghost use Rattle.scenario_runner.specs.Written.{IsWritten, WritesDrill};
 
-use cs_outside::{NullGuard, Sink};
+use cs_outside::{Guard, Sink};
 use cs_types::{OutOfMemory, Room, Scenario, Step};
 use ptrace_check::{FromScenario, Guards};
 use room_drill::{generate, summary};
@@ -16,7 +16,7 @@ use scenario_input::{Status, play};
 use std::alloc::Global;
 
 /// The scenario of the seed, and the room of it before its first step. No guard is handed in.
-fn opened<R: FromScenario<Guards<NullGuard>>>(
+fn opened<R: FromScenario<Guards<G>>, G: Guard>(
     alloc: Global,
     seed: u32,
 ) -> Result<(Scenario, R), OutOfMemory>
@@ -28,7 +28,7 @@ fn opened<R: FromScenario<Guards<NullGuard>>>(
         R.spare opened.1 ≡ length opened.0.steps + opened.0.siblings * opened.0.siblings) }
 {
     let scenario = generate(alloc, seed)?;
-    let guards = Guards::of(alloc, Vec::new(alloc))?;
+    let guards = Guards::<G>::of(alloc, Vec::new(alloc))?;
     let room = R::from_scenario(alloc, &scenario, guards)?;
     Ok((scenario, room))
 }
@@ -62,7 +62,7 @@ fn write_drill<R: Room, K: Sink>(seed: u32, mut room: R, steps: &[Step], sink: &
 
 /// Plays the seed's scenario in the order of its steps, and then the entries of the end, and writes the summary and
 /// the report.
-pub(crate) fn drilled<R: FromScenario<Guards<NullGuard>>, K: Sink>(
+pub(crate) fn drilled<R: FromScenario<Guards<G>>, K: Sink, G: Guard>(
     alloc: Global,
     seed: u32,
     sink: &mut K,
@@ -70,7 +70,7 @@ pub(crate) fn drilled<R: FromScenario<Guards<NullGuard>>, K: Sink>(
     requires sink { K.faults sink.old < 2 ^ 64 - 1 }
     ensures { EndsAsDrill seed (record { bytes = K.written; faults = K.faults; before = sink.old; after = sink.new }) result }
 {
-    match opened::<R>(alloc, seed) {
+    match opened::<R, G>(alloc, seed) {
         Ok((scenario, room)) => write_drill(seed, room, scenario.steps.items(), sink),
         Err(_) => Status::OutOfMemory,
     }
