@@ -117,33 +117,46 @@ impl Line {
             Event::Block(_) => self.text("block"),
             Event::Exit(_) => self.text("exit"),
             Event::Tick(_) => self.text("tick"),
-            Event::Wake(pid) => {
-                self.text("wake ");
-                self.medium(pid);
-            }
+            Event::Wake(pid) => self.pid("wake ", pid),
             Event::Advance(delta) => self.named("advance", delta),
-            Event::Fork { caller, thread } => {
-                self.text("fork ");
-                self.medium(caller);
-                self.text(" ");
-                self.child(thread);
-            }
-            Event::Prctl { caller, ref ask } => {
-                self.text("prctl ");
-                self.medium(caller);
-                self.text(" ");
-                self.ask(ask);
-            }
-            Event::SetSched { pid, policy } => {
-                self.named("setsched", pid);
-                self.text(" ");
-                self.policy(policy);
-            }
+            Event::Fork { caller, thread } => self.fork(caller, thread),
+            Event::Prctl { caller, ref ask } => self.prctl(caller, ask),
+            Event::SetSched { pid, policy } => self.set_sched(pid, policy),
             Event::Offline(cpu) => self.indexed("offline", cpu),
             Event::Online(cpu) => self.indexed("online", cpu),
             Event::Load(index) => self.indexed("load", index),
             Event::Unload(index) => self.indexed("unload", index),
         }
+    }
+
+    fn fork(&mut self, caller: Pid, thread: bool)
+        requires { length self.old + 23 ≤ line_room }
+        ensures text { self.new ≡ self.old ++ spaced (event_words (Event.Fork caller thread)) }
+        ensures longest { length self.new ≤ length self.old + 23 }
+    {
+        self.pid("fork ", caller);
+        self.text(" ");
+        self.child(thread);
+    }
+
+    fn prctl(&mut self, caller: Pid, ask: &Ask)
+        requires { length self.old + 71 ≤ line_room }
+        ensures text { self.new ≡ self.old ++ spaced (event_words (Event.Prctl caller ask.now)) }
+        ensures longest { length self.new ≤ length self.old + 71 }
+    {
+        self.pid("prctl ", caller);
+        self.text(" ");
+        self.ask(ask);
+    }
+
+    fn set_sched(&mut self, pid: Pid, policy: Policy)
+        requires { length self.old + 43 ≤ line_room }
+        ensures text { self.new ≡ self.old ++ spaced (event_words (Event.SetSched pid policy)) }
+        ensures longest { length self.new ≤ length self.old + 43 }
+    {
+        self.named("setsched", pid);
+        self.text(" ");
+        self.policy(policy);
     }
 
     /// A policy.
@@ -210,14 +223,8 @@ impl Line {
             Reply::Nothing => self.text("Nothing"),
             Reply::Stole { pid, from } => self.stolen(pid, from),
             Reply::Missed(cpu) => self.indexed("Missed", cpu),
-            Reply::Slept { pid, ref pick } => {
-                self.text("Slept ");
-                self.task_and_pick(pid, pick);
-            }
-            Reply::Ended { pid, ref pick } => {
-                self.text("Ended ");
-                self.task_and_pick(pid, pick);
-            }
+            Reply::Slept { pid, ref pick } => self.left("Slept ", pid, pick),
+            Reply::Ended { pid, ref pick } => self.left("Ended ", pid, pick),
             Reply::Woken(cpu) => self.indexed("Woken", cpu),
             Reply::Now(clock) => self.named("Now", clock),
             Reply::Ticked(asked) => self.text(if asked { "Ticked yes" } else { "Ticked no" }),
@@ -238,13 +245,13 @@ impl Line {
         self.named("from", from);
     }
 
-    /// The task that left its sibling, and the pick that the sibling took.
-    fn task_and_pick(&mut self, pid: Pid, pick: &Pick)
-        requires { length self.old + 67 ≤ line_room }
-        ensures text { self.new ≡ self.old ++ spaced (decimal pid ∷ pick_words pick.now) }
-        ensures longest { length self.new ≤ length self.old + 67 }
+    /// How a task left its sibling, which task, and the pick that the sibling took.
+    fn left(&mut self, how: &str, pid: Pid, pick: &Pick)
+        requires { length self.old + length how.now + 67 ≤ line_room }
+        ensures text { self.new ≡ self.old ++ (how.now ++ spaced (decimal pid ∷ pick_words pick.now)) }
+        ensures longest { length self.new ≤ length self.old + length how.now + 67 }
     {
-        self.medium(pid);
+        self.pid(how, pid);
         self.text(" ");
         self.pick(pick);
     }
@@ -286,6 +293,17 @@ impl Line {
         } else {
             self.medium(pid);
         }
+    }
+
+    /// A word with the space behind it, and the pid that it names.
+    #[inline(always)]
+    fn pid(&mut self, word: &str, pid: Pid)
+        requires { length self.old + length word.now + 10 ≤ line_room }
+        ensures text { self.new ≡ self.old ++ (word.now ++ decimal pid) }
+        ensures longest { length self.new ≤ length self.old + length word.now + 10 }
+    {
+        self.text(word);
+        self.medium(pid);
     }
 
     /// A word, and the number that it names.

@@ -1,8 +1,5 @@
-use Rattle.std.proofs.Common.{◌∙◌, ◌++◌, arith}
-use Rattle.std.specs.Prelude.{codes, decimal}
-use Rattle.scenario_text.specs.Words.{child_word, ask_words}
-use Rattle.scenario_text.specs.Text.{spaced}
-use Rattle.scenario_text.proofs.Joined.{put, both, within, two_words}
+use Rattle.std.proofs.Common.{arith}
+use Rattle.scenario_text.proofs.Joined.{within}
 use Rattle.scenario_text.proofs.writing.line.Line.event.Goals as goal
 
 pub returns-in-Turn-clause-text : goal.returns-in-Turn-clause-text
@@ -66,37 +63,25 @@ pub returns-in-Advance-clause-longest : goal.returns-in-Advance-clause-longest
 returns-in-Advance-clause-longest c = omega (arith, c.named.ensures.longest)
 
 pub returns-in-Wake-clause-text : goal.returns-in-Wake-clause-text
-returns-in-Wake-clause-text c = rw c.in-Wake.is (both _ _ _ _ _ c.text-in-Wake.ensures.text c.medium.ensures.text)
+returns-in-Wake-clause-text c = rw c.in-Wake.is c.pid.ensures.text
 
 pub returns-in-Wake-clause-longest : goal.returns-in-Wake-clause-longest
-returns-in-Wake-clause-longest c = omega (arith, c.text-in-Wake.ensures.len, c.medium.ensures.longest)
+returns-in-Wake-clause-longest c = omega (arith, c.pid.ensures.longest)
 
 pub returns-in-Fork-clause-text : goal.returns-in-Fork-clause-text
-returns-in-Fork-clause-text c =
-    let caller = both c.args.self.now _ _ (codes "fork ") (decimal c.in-Fork.caller) c.text-in-Fork.ensures.text c.medium-in-Fork.ensures.text in
-    rw c.in-Fork.is
-    (put _ _ _ _ (put _ _ _ _ caller c.text-in-Fork-2.ensures.text) c.child.ensures.text
-    ∙ two_words c.args.self.now (codes "fork " ++ decimal c.in-Fork.caller) (child_word c.in-Fork.thread))
+returns-in-Fork-clause-text c = rw c.in-Fork.is c.fork.ensures.text
 
 pub returns-in-Fork-clause-longest : goal.returns-in-Fork-clause-longest
-returns-in-Fork-clause-longest c =
-    omega (arith, c.text-in-Fork.ensures.len, c.medium-in-Fork.ensures.longest, c.text-in-Fork-2.ensures.len, c.child.ensures.longest)
+returns-in-Fork-clause-longest c = omega (arith, c.fork.ensures.longest)
 
 pub returns-in-Prctl-clause-text : goal.returns-in-Prctl-clause-text
-returns-in-Prctl-clause-text c =
-    let caller = both c.args.self.now _ _ (codes "prctl ") (decimal c.in-Prctl.caller) c.text-in-Prctl.ensures.text c.medium-in-Prctl.ensures.text in
-    rw c.in-Prctl.is
-    (put _ _ _ _ (put _ _ _ _ caller c.text-in-Prctl-2.ensures.text) c.ask.ensures.text
-    ∙ two_words c.args.self.now (codes "prctl " ++ decimal c.in-Prctl.caller) (spaced (ask_words c.in-Prctl.ask)))
+returns-in-Prctl-clause-text c = rw c.in-Prctl.is c.prctl.ensures.text
 
 pub returns-in-Prctl-clause-longest : goal.returns-in-Prctl-clause-longest
-returns-in-Prctl-clause-longest c =
-    omega (arith, c.text-in-Prctl.ensures.len, c.medium-in-Prctl.ensures.longest, c.text-in-Prctl-2.ensures.len, c.ask.ensures.longest)
+returns-in-Prctl-clause-longest c = omega (arith, c.prctl.ensures.longest)
 
 pub returns-in-SetSched-clause-text : goal.returns-in-SetSched-clause-text
-returns-in-SetSched-clause-text c =
-    rw c.in-SetSched.is (put _ _ _ _ (put _ _ _ _ c.named-in-SetSched.ensures.text c.text-in-SetSched.ensures.text) c.policy.ensures.text ∙ two_words _ _ _)
+returns-in-SetSched-clause-text c = rw c.in-SetSched.is c.set_sched.ensures.text
 
 pub returns-in-SetSched-clause-longest : goal.returns-in-SetSched-clause-longest
-returns-in-SetSched-clause-longest c =
-    omega (arith, c.named-in-SetSched.ensures.longest, c.text-in-SetSched.ensures.len, c.policy.ensures.longest)
+returns-in-SetSched-clause-longest c = omega (arith, c.set_sched.ensures.longest)

@@ -46,3 +46,21 @@ returns-in-Nothing-clause-text c = rw c.in-Nothing.is c.text.ensures.text
 
 pub returns-in-Nothing-clause-longest : goal.returns-in-Nothing-clause-longest
 returns-in-Nothing-clause-longest c = within _ _ _ 73 c.text.ensures.text (omega arith)
+
+pub returns-in-Picked-clause-text : goal.returns-in-Picked-clause-text
+returns-in-Picked-clause-text c = rw c.in-Picked.is c.pick.ensures.text
+
+pub returns-in-Picked-clause-longest : goal.returns-in-Picked-clause-longest
+returns-in-Picked-clause-longest c = omega (arith, c.pick.ensures.longest)
+
+pub returns-in-Slept-clause-text : goal.returns-in-Slept-clause-text
+returns-in-Slept-clause-text c = rw c.in-Slept.is c.left.ensures.text
+
+pub returns-in-Slept-clause-longest : goal.returns-in-Slept-clause-longest
+returns-in-Slept-clause-longest c = omega (arith, c.left.ensures.longest)
+
+pub returns-in-Ended-clause-text : goal.returns-in-Ended-clause-text
+returns-in-Ended-clause-text c = rw c.in-Ended.is c.left-in-Ended.ensures.text
+
+pub returns-in-Ended-clause-longest : goal.returns-in-Ended-clause-longest
+returns-in-Ended-clause-longest c = omega (arith, c.left-in-Ended.ensures.longest)

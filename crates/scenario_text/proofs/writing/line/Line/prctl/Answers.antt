@@ -1,0 +1,11 @@
+use Rattle.std.proofs.Common.{◌∙◌, ◌++◌}
+use Rattle.std.specs.Prelude.{codes, decimal}
+use Rattle.scenario_text.specs.Words.{ask_words}
+use Rattle.scenario_text.specs.Text.{spaced}
+use Rattle.scenario_text.proofs.Joined.{put, two_words}
+use Rattle.scenario_text.proofs.writing.line.Line.prctl.Goals as goal
+
+pub returns-clause-text : goal.returns-clause-text
+returns-clause-text c =
+    put _ _ _ _ (put _ _ _ _ c.pid.ensures.text c.text.ensures.text) c.ask.ensures.text
+    ∙ two_words c.args.self.now (codes "prctl " ++ decimal c.args.caller) (spaced (ask_words c.args.ask.now))
