@@ -14,3 +14,8 @@ pub task_text : (pid cpu queued cookie forced vtime : Word) →
     ++ codes " forced ") ++ forced) ++ codes " vtime ") ++ vtime) ++ codes "\n"
     ≡ line (codes "task" ∷ pid ∷ codes "cpu" ∷ cpu ∷ queued ∷ codes "cookie" ∷ cookie ∷ codes "forced" ∷ forced ∷ codes "vtime" ∷ vtime ∷ [])
 task_text pid cpu queued cookie forced vtime = simp append_assoc
+
+pub cpu_text : (cpu online run number : Word) →
+    (((((((codes "cpu " ++ cpu) ++ codes " ") ++ online) ++ codes " runs ") ++ run) ++ codes " number ") ++ number) ++ codes "\n"
+    ≡ line (codes "cpu" ∷ cpu ∷ online ∷ codes "runs" ∷ run ∷ codes "number" ∷ number ∷ [])
+cpu_text cpu online run number = simp append_assoc

@@ -54,13 +54,14 @@ pub(crate) fn cpu_line(cpu: Cpu, view: CpuView) -> Line
     ensures { result ≡ line (cpu_words cpu view) }
 {
     let mut line = Line::new();
-    line.named("cpu", cpu);
+    line.text("cpu ");
+    line.number(cpu);
     line.text(" ");
     line.text(online_text(view.online));
     line.text(" runs ");
     line.run(view.run);
-    line.text(" ");
-    line.named("number", view.number);
+    line.text(" number ");
+    line.number(view.number);
     line.text("\n");
     line
 }
