@@ -1,5 +1,6 @@
 use Rattle.std.proofs.Common.{◌≡◌, ℕ, suc, ◌+◌, ◌<◌, List, [], ◌∷◌, ◌++◌, take, drop, map, length, get_or, refl, sym, ap, ◌∙◌, subst, Option, Some, None, arith}
 use Rattle.std.proofs.Math.Seq.{take-suc, drop-cons}
+use Rattle.std.proofs.lemmas.List.{take_all, drop_all, length-map}
 use Rattle.cs_types.specs.declared.scenario.Teach.{Teach}
 use Rattle.cs_types.specs.Guards.{GuardList, guards_on_bench}
 use Rattle.scenario_input.specs.declared.stop.Stop.{Stop}
@@ -75,3 +76,13 @@ loop-line-preserved g c =
     let on = goes_on (map g.G.Guard.cap c.args.list.items) c.loop-line.guards.caps c.loop-line.guards.guards c.teach.new.guards.guards c.args.teaches.now c.loop-line.line-index _
     c.loop-line-test.true c.loop-line.invariant.caps (record { known = c.loop-line.invariant.guards; rest = c.loop-line.invariant.rest }) c.in_default.ensures.taught in
     record { caps = c.teach.ensures.caps ∙ c.loop-line.invariant.caps; guards = on.known; rest = on.rest }
+
+pub returns-clause-taught : goal.returns-clause-taught
+returns-clause-taught g c =
+    c.loop-line.invariant.guards
+    ∙ (λ i. guards_on_bench (take_all c.loop-line.line-index c.args.teaches.now c.loop-line-test.false i) ((length-map c.args.list.items g.G.Guard.cap ∙ sym c.args.list.ok.0) i))
+
+pub returns-clause-all : goal.returns-clause-all
+returns-clause-all g c =
+    c.loop-line.invariant.rest
+    ∙ ap (first_bad_after (map g.G.Guard.cap c.args.list.items) (take c.loop-line.line-index c.args.teaches.now)) (drop_all c.loop-line.line-index c.args.teaches.now c.loop-line-test.false)
