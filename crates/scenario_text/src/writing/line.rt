@@ -256,6 +256,7 @@ impl Line {
         self.pick(pick);
     }
 
+    #[inline(always)]
     fn pick(&mut self, pick: &Pick)
         requires { length self.old + 56 ≤ line_room }
         ensures text { self.new ≡ self.old ++ spaced (pick_words pick.now) }
