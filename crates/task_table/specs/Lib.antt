@@ -4,3 +4,4 @@ pub mod Positions
 pub mod Grouping
 pub mod Inside
 pub mod Walk
+pub mod Edit

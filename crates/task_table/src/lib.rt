@@ -2,6 +2,7 @@
 //! rising pid. Slots are set aside once, so that no later call takes memory.
 #![tactic(auto)]
 
+mod edit;
 mod entry;
 mod fault;
 mod group;

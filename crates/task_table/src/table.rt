@@ -2,18 +2,19 @@
 
 ghost use Rattle.std.specs.Prelude.{◌≡◌, ℕ, ◌+◌, ◌-◌, ◌<◌, ◌^◌, ◌≤◌, ◌==◌, ◌&&◌, nat_lt, [], ◌∷◌, length, map, min, drop, filter, find, not, slice_set, List, IsTrue, Some, if◌then◌else◌, IfOk, IfNone, IfSome, OnOk, OnErr, MatchResult, MatchOption, option_copied, slice_get, IsSome};
 ghost use Rattle.std.specs.Option.{option_map};
-ghost use Rattle.std.specs.Fn.{FnOnceReturnsAtMut};
 ghost use Rattle.cs_types.specs.Room.{asleep, inserted, has_pid};
 ghost use Rattle.cs_types.specs.declared.task.Task.{Task as SomeTask};
 ghost use Rattle.task_table.specs.Table.{Table, total_in, Rises, IsSound, add_answer};
 ghost use Rattle.task_table.specs.Inside.{IsSlotOf, IsKept};
 ghost use Rattle.task_table.specs.declared.spans.Span.{Span as SomeSpan};
+ghost use Rattle.task_table.specs.Edit.{edited};
 ghost use Rattle.task_table.specs.Group.{is_in_group, group_above};
 ghost use Rattle.task_table.specs.Walk.{WalksInOrder};
 ghost use Rattle.std.specs.List.{AllByRecursion};
 ghost use Rattle.task_table.specs.Positions.{IsIndexOf, IsAt, IsGap, IsAbove, IsSplit};
 ghost use Rattle.task_table.specs.Grouping.{HasMember, Counts, AreSpans};
 
+use crate::edit::Edit;
 use crate::entry::{Entry, position_above, position_of};
 use crate::fault::AddFault;
 use crate::group::Group;
@@ -299,17 +300,14 @@ impl TaskTable {
         Some(old)
     }
 
-    /// The task with the pid, if there is one, is changed by the call, which leaves its line. Nothing else changes.
+    /// The task with the pid, if there is one, is edited. Nothing else changes.
     #[inline(always)]
-    fn edit<F: FnOnce(&mut Task)>(&mut self, pid: Pid, change: F)
-        requires callable { F.IsAlwaysCallable change }
-        requires line { (old new : SomeTask) → FnOnceReturnsAtMut F.FnOnce change old tt new → new.spec ≡ old.spec }
-        ensures edited { (after : SomeTask → SomeTask) → ((old new : SomeTask) → FnOnceReturnsAtMut F.FnOnce change old tt new → new ≡ after old) →
-            self.new ≡ record self.old { tasks = map (λ task. if has_pid pid task then after task else task) self.old.tasks } }
+    fn edit(&mut self, pid: Pid, edit: Edit)
+        ensures edited { self.new ≡ record self.old { tasks = map (λ task. if has_pid pid task then edited edit task else task) self.old.tasks } }
         ensures sound { IsSound self.new }
     {
         if let Some(key) = slot_of(&self.slots, &self.entries, &self.places, pid) {
-            change(&mut self.slots[key]);
+            edit.write(&mut self.slots[key]);
         }
     }
 
@@ -321,7 +319,7 @@ impl TaskTable {
         } }
         ensures sound { IsSound self.new }
     {
-        self.edit(pid, |task| task.occupation = occupation);
+        self.edit(pid, Edit::Occupation(occupation));
     }
 
     /// The task with the pid, if there is one, has this cookie. Nothing else changes.
@@ -331,7 +329,7 @@ impl TaskTable {
         } }
         ensures sound { IsSound self.new }
     {
-        self.edit(pid, |task| task.cookie = cookie);
+        self.edit(pid, Edit::Cookie(cookie));
     }
 
     /// The task with the pid, if there is one, is at home on this sibling, with this stamp. Its virtual time, in ns, is as far
@@ -344,11 +342,15 @@ impl TaskTable {
         } }
         ensures sound { IsSound self.new }
     {
-        self.edit(pid, |task| {
-            task.home = home;
-            task.vtime = to.saturating_add(task.vtime.saturating_sub(from));
-            task.stamp = stamp;
-        });
+        self.edit(
+            pid,
+            Edit::Home {
+                home,
+                from,
+                to,
+                stamp,
+            },
+        );
     }
 
     /// The task with the pid, if there is one, has this virtual time, in ns. Nothing else changes.
@@ -359,7 +361,7 @@ impl TaskTable {
         } }
         ensures sound { IsSound self.new }
     {
-        self.edit(pid, |task| task.vtime = vtime);
+        self.edit(pid, Edit::Vtime(vtime));
     }
 
     /// The task with the pid, if there is one, has used this much of its slice, in ns. Nothing else changes.
@@ -370,7 +372,7 @@ impl TaskTable {
         } }
         ensures sound { IsSound self.new }
     {
-        self.edit(pid, |task| task.used = used);
+        self.edit(pid, Edit::Used(used));
     }
 
     /// Takes the task with the pid out, and gives it and what it was charged for forced idle, in ns. `None`
@@ -407,6 +409,7 @@ impl TaskTable {
     }
 
     /// The task of the group with the least pid above `after`. `None` exactly where there is none.
+    #[inline(always)]
     pub fn next_in(&self, group: Group, after: Pid) -> Option<&Task>
         ensures next { option_copied result ≡ find (λ task. is_in_group group task && nat_lt after task.spec.pid) self.now.tasks }
         ensures rest { MatchOption result (group_above group after self.now.tasks ≡ [])

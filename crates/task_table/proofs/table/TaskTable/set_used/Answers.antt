@@ -1,6 +1,0 @@
-use Rattle.std.proofs.Common.{rules}
-use Rattle.cs_types.specs.declared.task.Task.{Task}
-use Rattle.task_table.proofs.table.TaskTable.set_used.Goals as goal
-
-pub returns-clause-given : goal.returns-clause-given
-returns-clause-given c = c.edit.ensures.edited (λ (task : Task). record task { used = c.args.used }) (search rules)
