@@ -1,4 +1,5 @@
 use Rattle.std.proofs.Common.{◌≡◌, ◌∙◌, ◌*◌, ◌<◌, ◌≤◌, List, length, sym, ap, subst, arith}
+use Rattle.std.proofs.lemmas.Result.{IfOk-from_err}
 use Rattle.cs_types.specs.declared.event.Step.{Step}
 use Rattle.cs_types.specs.declared.scenario.Scenario.{Scenario}
 use Rattle.cs_types.specs.Room.{Opening}
@@ -58,3 +59,16 @@ returns-clause-raced g c =
       shuffle = subst (λ (s : Scenario). IsShuffle s history) (sym c.requires.scenario) shuffle;
       drained = subst (λ (o : Opening). IsDrained o history (g.R.Room.history c.drain.new.self)) opened c.drain.ensures.entries;
     }
+
+pub returns-clause-opening : goal.returns-clause-opening
+returns-clause-opening g c = c.drain.ensures.opening ∙ c.in_ok-room.ensures.opening
+
+-- ---- where there is no memory
+
+pub returns-in_err-lists : goal.returns-in_err-lists
+returns-in_err-lists g c = record { opening = IfOk-from_err _ _ c.from_residual.ensures.0; raced = IfOk-from_err _ _ c.from_residual.ensures.0 }
+
+pub returns-in_err-room : goal.returns-in_err-room
+returns-in_err-room g c =
+    let is = c.from_residual-in_err-room.ensures.0 in
+    record { opening = IfOk-from_err _ _ is; raced = IfOk-from_err _ _ is }
