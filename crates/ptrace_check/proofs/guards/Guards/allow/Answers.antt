@@ -104,3 +104,14 @@ returns-clause-asked g c =
     rw (← c.self.view_is, c.loop-position.invariant.active)
     (c.loop-position.invariant.asked
     ∙ ap (asked_each first) (all ∙ sym (asked_until-all (λ (index : ℕ). refuses (guard_of first index) pair) active allowed)))
+
+pub returns-then-not-ask-clause-caps : goal.returns-then-not-ask-clause-caps
+returns-then-not-ask-clause-caps g c = rw (← c.self.view_is) (c.ask.ensures.caps ∙ c.loop-position.invariant.caps)
+
+pub returns-clause-decision : goal.returns-clause-decision
+returns-clause-decision g c =
+    let all = take_all c.loop-position.position c.self.inside.active.items (omega (arith, c.self.inside.active.ok.0)) in
+    rw (← c.self.view_is) (sym (rw all at c.loop-position.invariant.allowed))
+
+pub returns-clause-caps : goal.returns-clause-caps
+returns-clause-caps g c = rw (← c.self.view_is) c.loop-position.invariant.caps
