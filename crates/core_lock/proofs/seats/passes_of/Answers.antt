@@ -1,3 +1,4 @@
+use Rattle.std.proofs.lemmas.Result.{IfOk-from_err}
 use Rattle.std.proofs.Common.{◌^◌, ◌<◌, sym, ap, subst, arith, List}
 use Rattle.cs_types.specs.declared.event.Step.{Step}
 use Rattle.core_lock.specs.Lists.{AreLists, steps_in}
@@ -31,3 +32,6 @@ loop-steps-preserved g c =
     dealt_more g.R.Room.opening g.R.Room.spare top.table_id top.key.value seat.table_id seat.me c.split_seat-given.new.seat.me given.me c.split_seat-given.new.seat.table_id c.loop-steps.passes.items
     c.push.new.self.items c.loop-steps.steps-iterator.rest.items c.next.new.self.rest.items c.in-Some.steps given.table_id c.loop-steps.invariant c.in-Some.ensures.steps.0 split.0 split.2 split.3 split.4
     c.in_ok-push.ensures.items
+
+pub returns-in_err-push : goal.returns-in_err-push
+returns-in_err-push g c = IfOk-from_err _ _ c.from_residual.ensures.0

@@ -168,3 +168,17 @@ returns-clause-number g c =
     (record p.has { made = p.has.made + 1; seen = g.R.Room.history turn.0 ++ entry_with c.in-Some.step c.make_step-reply.result ∷ [] }) now made.me refl
     in
     ap (λ (s : PassState). s.progress.number) now_is ∙ sym (ap (λ (s : PassState). s.progress.number) is)
+
+pub returns-in_default-clause-legal : goal.returns-in_default-clause-legal
+returns-in_default-clause-legal g c =
+    let seat = c.pass.inside.seat in
+    let p = c.pass.invariant in
+    let is = state_is g.R.Room.opening g.R.Room.spare seat.table_id seat.me p.begun p.has c.args.pass.now p.idle c.pass.view_is in
+    legal_is g.R.Room.opening g.R.Room.spare seat.table_id seat.me c.pass.inside.steps c.pass.inside.made p c.args.pass.now is
+
+pub returns-in_default-clause-own : goal.returns-in_default-clause-own
+returns-in_default-clause-own g c =
+    let seat = c.pass.inside.seat in
+    let p = c.pass.invariant in
+    let is = state_is g.R.Room.opening g.R.Room.spare seat.table_id seat.me p.begun p.has c.args.pass.now p.idle c.pass.view_is in
+    own_is g.R.Room.opening g.R.Room.spare seat.table_id seat.me c.pass.inside.steps c.pass.inside.made p c.args.pass.now is

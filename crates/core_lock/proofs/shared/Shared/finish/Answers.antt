@@ -105,3 +105,6 @@ returns-clause-no_other g c actor other =
     in
     let same = same_room c.take.result out.0 c.unwrap-room.result out.1 c.unwrap-room.ensures in
     subst (λ room. events_by actor (g.R.Room.history room) ≡ []) (sym same) (left_no_other g.R.Room.opening g.R.Room.history g.R.Room.spare key c.args.self table c.self.view_is joined.1 c.args.passes c.requires.lock joined.3 out.0 out.2 actor other)
+
+pub returns-clause-legal : goal.returns-clause-legal
+returns-clause-legal g c = g.met.R.Room.legal c.unwrap-room.result
