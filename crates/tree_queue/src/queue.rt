@@ -200,7 +200,11 @@ fn run_with_room(alloc: Global, most: u16) -> Result<RunQueue, OutOfMemory>
     ensures { IfOk result (λ run. Holds run most []) }
 {
     let mut run = RunQueue::empty(alloc);
-    run.reserve(u32::from(most))?;
+    if let Err(full) = run.reserve(u32::from(most)) {
+        // By name, so that each part of it is let go by a function of its own, and none in line here.
+        drop(run);
+        return Err(full);
+    }
     Ok(run)
 }
 

@@ -6,5 +6,5 @@ returns c = record {
   seats = c.reserve.ensures.tasks ∙ c.empty-run.ensures.tasks;
   spots = c.reserve.ensures.cookies ∙ c.empty-run.ensures.cookies;
   distinct = tt;
-  room = omega (arith, c.in_ok-reserve.ensures.spare, c.empty-run.ensures.spare);
+  room = omega (arith, c.in_default.ensures.spare, c.empty-run.ensures.spare);
 }
