@@ -116,6 +116,7 @@ impl ClassQueue for RankTree {
         self.tree.reserve(n)
     }
 
+    #[inline(always)]
     fn put<L: Ledger>(&mut self, rank: u128, stamp: u64, pid: Pid, steps: &mut Steps<L>) {
         self.tree.insert(key(rank, stamp), pid, steps);
     }
