@@ -1,5 +1,6 @@
 use Rattle.std.proofs.Common.{◌≡◌, ℕ, ◌+◌, ◌-◌, max, Ok, Err, refl, ap, ◌∙◌, arith}
 use Rattle.std.specs.Prelude.{Result, OnErr}
+use Rattle.std.proofs.lemmas.Result.{IfOk-from_err}
 use Rattle.std.specs.FinMap.{from_sorted, len}
 use Rattle.cs_types.specs.Queue.{Members, Ranked, Seated, seat_cmp}
 use Rattle.run_queue.specs.Classes.{Holds, joined}
@@ -167,3 +168,15 @@ pub returns-clause-tasks : goal.returns-clause-tasks
 returns-clause-tasks c =
     tasks_alike c.in_ok-reserve.ensures.members c.in_ok-reserve-2.ensures.members c.in_ok-reserve-3.ensures.members c.in_ok-reserve-4.ensures.members
     ∙ ap (λ (q : Seated). q.tasks) c.self.view_is
+
+pub returns-in_err-reserve-clause-spare : goal.returns-in_err-reserve-clause-spare
+returns-in_err-reserve-clause-spare c = IfOk-from_err _ _ c.from_residual.ensures.0
+
+pub returns-in_err-reserve-2-clause-spare : goal.returns-in_err-reserve-2-clause-spare
+returns-in_err-reserve-2-clause-spare c = IfOk-from_err _ _ c.from_residual-in_err-reserve-2.ensures.0
+
+pub returns-in_err-reserve-3-clause-spare : goal.returns-in_err-reserve-3-clause-spare
+returns-in_err-reserve-3-clause-spare c = IfOk-from_err _ _ c.from_residual-in_err-reserve-3.ensures.0
+
+pub returns-in_err-reserve-4-clause-spare : goal.returns-in_err-reserve-4-clause-spare
+returns-in_err-reserve-4-clause-spare c = IfOk-from_err _ _ c.from_residual-in_err-reserve-4.ensures.0
