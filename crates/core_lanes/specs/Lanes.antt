@@ -168,6 +168,11 @@ AreHeldAwayBut {Q} {g} leaving pid both =
     (cpu : ℕ) (queue : Q) → slice_get (queues_of both.0) cpu ≡ Some queue →
     g.holds queue both.1.limit (if cpu == leaving then [] else others pid (queued_at both.1.tasks cpu))
 
+-- the core before the first step, with a queue for each sibling that has no task and can take so many
+pub record IsFirstCore {Q : Type 0} {g : Ghosts Q} (siblings tasks : ℕ) (core : Core Q g) : Type 0 where
+  pub bare : bare core ≡ bare_start siblings
+  pub held : (cpu : ℕ) (queue : Q) → slice_get (queues_of core) cpu ≡ Some queue → g.holds queue tasks []
+
 -- A core and a table agree: at most 256 tasks live; each task fits the siblings, and where it is queued has a stamp of its own;
 -- and the queues hold what they are to hold.
 pub record AgreeBy {Q : Type 0} {g : Ghosts Q} (Held : Type 0) (both : Core Q g × Table) : Type 0 where
@@ -234,6 +239,22 @@ pub record KnowsApart {Q : Type 0} {g : Ghosts Q} (both : Core Q g × Table) (ta
 pub record Knows {Q : Type 0} {g : Ghosts Q} (both : Core Q g × Table) (task : Task) : Type 0 where
   pub known : KnowsApart both task
   pub stamp : IsTrue task.queued → MayStamp both.0.next_stamp both.1.tasks task
+
+-- a task may be put to sleep: it is known, but for its stamp, and the touch does not overflow
+pub record MayDequeue {Q : Type 0} {g : Ghosts Q} (both : Core Q g × Table) (task : Task) : Type 0 where
+  pub knows : KnowsApart both task
+  pub touches : both.0.task_number + 1 < 2 ^ 64
+
+-- it may be queued: the same, and the next stamp does not overflow
+pub record MayEnqueue {Q : Type 0} {g : Ghosts Q} (both : Core Q g × Table) (task : Task) : Type 0 where
+  pub knows : KnowsApart both task
+  pub stamp : both.0.next_stamp + 1 < 2 ^ 64
+  pub touches : both.0.task_number + 1 < 2 ^ 64
+
+-- the tasks queued on a sibling may be told, in a list that has none yet
+pub record MayTell {Q : Type 0} {g : Ghosts Q} (cpu : ℕ) (both : Core Q g × Table) (movers : List ℕ) : Type 0 where
+  pub agree : AgreesAt cpu both
+  pub none : movers ≡ []
 
 -- a task can move from its home: its virtual time and the least ones are far from overflow
 pub record CanMove {Q : Type 0} {g : Ghosts Q} (core : Core Q g) (task : Task) : Type 0 where

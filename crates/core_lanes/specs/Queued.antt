@@ -1,5 +1,5 @@
 -- Queued: the tasks of a table that are queued on a sibling, as its queue has them, and what it is asked of them.
-use Rattle.std.specs.Prelude.{◌≡◌, ℕ, ◌<◌, Bool, ◌==◌, ◌&&◌, not, nat_lt, if◌then◌else◌, List, map, filter, find, count_by, Option, Some, All, IsTrue}
+use Rattle.std.specs.Prelude.{◌≡◌, ◌≢◌, ℕ, ◌+◌, ◌≤◌, ◌<◌, Bool, ◌==◌, ◌&&◌, not, nat_lt, if◌then◌else◌, List, map, filter, find, length, count_by, Option, Some, All, IsTrue}
 use Rattle.std.specs.List.{list_any}
 use Rattle.std.specs.List.Sorted.{IsPermutation, IsSortedByKey}
 use Rattle.std.specs.Ordering.{nat_cmp}
@@ -88,6 +88,30 @@ HavePolicies tasks = All (λ task. IsPolicy task.spec.policy) tasks
 pub record MaySearch (Held : Type 0) (tasks : List Task) : Type 0 where
   pub policies : HavePolicies tasks
   pub holds : Held
+
+-- It may be asked for its tasks with a cookie, which is not 0.
+pub record MayFind (Held : Type 0) (tasks : List Task) (given : ℕ) : Type 0 where
+  pub cookie : given ≢ 0
+  pub search : MaySearch Held tasks
+
+-- It may be asked about a task that the table has.
+pub record MayCompare (Held : Type 0) (all : Table) (task : Task) : Type 0 where
+  pub table : IsTable all
+  pub there : IsOf all.tasks task
+  pub search : MaySearch Held all.tasks
+
+-- ---- what a call of it promises, where these tasks are queued
+
+-- The call changes the queue: that holds then what it is to hold, and at most so many comparisons were made as the number of
+-- the tasks allows.
+pub record Leaves (Held : Type 0) (most : ℕ → ℕ) (tasks : List Task) (before after : ℕ) : Type 0 where
+  pub holds : Held
+  pub counted : after ≤ before + most (length tasks)
+
+-- The call asks a question: this is the answer, and at most so many comparisons were made.
+pub record Answers (Answer : Type 0) (most : ℕ → ℕ) (tasks : List Task) (before after : ℕ) : Type 0 where
+  pub answer : Answer
+  pub counted : after ≤ before + most (length tasks)
 
 -- ---- what is asked of it
 

@@ -9,7 +9,7 @@ ghost use Rattle.task_table.specs.Table.{total_in, IsSound as IsTable};
 ghost use Rattle.core_lanes.specs.Queued.{IsOf};
 ghost use Rattle.core_lanes.specs.Lanes.{Beside, room_of, queues_of, bare, Agree};
 ghost use Rattle.core_lanes.specs.Account.{charged_at, MayOwe, Owes};
-ghost use Rattle.core_lanes.specs.Charges.{IsPaid, Charges};
+ghost use Rattle.core_lanes.specs.Charges.{MayCharge, ChargesAlone};
 
 use crate::lanes::{Core, MOST_SIBLINGS};
 use crate::queue::SiblingQueue;
@@ -85,14 +85,8 @@ fn charge_tasks<Q: SiblingQueue>(core: &Core<Q>, table: &mut TaskTable, share: u
 /// (`__sched_core_account_forceidle`).
 #[inline(always)]
 pub fn charge<Q: SiblingQueue>(core: &mut Core<Q>, table: &mut TaskTable, now: u64)
-    requires agree { Agree (core.old, table.old) }
-    requires paid { IsPaid now (core.old, table.old) }
-    ensures charges { Charges now (core.old, table.old) (core.new, table.new) charge }
-
-    // No more changes than the account and the totals.
-    ensures core { bare core.new ≡ record (bare core.old) { account = core.new.account } }
-    ensures queues { queues_of core.new ≡ queues_of core.old }
-    ensures table { table.new ≡ record table.old { totals = table.new.totals } }
+    requires { MayCharge now (core.old, table.old) }
+    ensures { ChargesAlone now (core.old, table.old) (core.new, table.new) }
 {
     if let Some(share) = core.account.charge(now) {
         charge_tasks(core, table, share);

@@ -57,7 +57,7 @@ pub struct Core<Q: SiblingQueue> {
 
 impl<Q: SiblingQueue> Core<Q> {
     ghost use Rattle.core_lanes.specs.Queued.{HasOwnStamp, MayBePut};
-    ghost use Rattle.core_lanes.specs.Lanes.{Beside, bare_start, queues_of, room_of, bare, Agree, AgreeAway, AgreesAt, AreHeld, AreHeldBut, AreHeldAway, AreHeldAwayBut, ChangesQueues, Replaces, FitsIn, Knows, KnowsApart, IsAtHome, CanMove, MayEnter};
+    ghost use Rattle.core_lanes.specs.Lanes.{Beside, bare_start, queues_of, room_of, bare, Agree, AgreeAway, AgreesAt, AreHeld, AreHeldBut, AreHeldAway, AreHeldAwayBut, ChangesQueues, Replaces, FitsIn, Knows, KnowsApart, MayDequeue, MayEnqueue, MayTell, IsFirstCore, IsAtHome, CanMove, MayEnter};
     ghost use Rattle.core_lanes.specs.Numbers.{numbers_of, is_fresh_by};
     ghost use Rattle.core_lanes.specs.Changes.{Changes, Touches, Enters};
 
@@ -65,8 +65,7 @@ impl<Q: SiblingQueue> Core<Q> {
     /// above 0. Each queue can take `tasks`, a count. This call alone takes memory.
     pub fn of(alloc: Global, siblings: u8, tasks: u16) -> Result<Core<Q>, OutOfMemory>
         requires { siblings ≤ 16 }
-        ensures bare { IfOk result (λ core. bare core ≡ bare_start siblings) }
-        ensures held { IfOk result (λ core. (cpu : ℕ) (queue : _) → slice_get (queues_of core) cpu ≡ Some queue → Q.holds queue tasks []) }
+        ensures { IfOk result (IsFirstCore siblings tasks) }
     {
         let mut lanes = Vec::with_capacity(alloc, siblings as usize)?;
         for _ in 0..siblings {
@@ -98,16 +97,6 @@ impl<Q: SiblingQueue> Core<Q> {
         ensures there { IfSome result (λ task. IsOf table.now.tasks task.now) }
     {
         table.find(self.lanes[cpu as usize].run?)
-    }
-
-    /// The task that a sibling runs, none where it runs idle.
-    #[inline(always)]
-    pub fn running_on(&self, table: &TaskTable, cpu: Cpu) -> Option<Task>
-        requires { cpu < length self.now.lanes.items }
-        ensures task { (beside : Beside) → result ≡ running_on (room_of beside (self.now, table.now)) cpu }
-        ensures there { IfSome result (IsOf table.now.tasks) }
-    {
-        task_of(table, self.lanes[cpu as usize].run?)
     }
 
     /// The first task queued on a sibling, as its queue has it, none for idle (`pick_task`).
@@ -173,6 +162,7 @@ impl<Q: SiblingQueue> Core<Q> {
     }
 
     /// The queue that the task stands in, if one, has it no longer.
+    #[inline(always)]
     fn take<L: Ledger>(&mut self, table: &TaskTable, task: &Task, steps: &mut Steps<L>)
         requires { IsAtHome (AreHeld (self.old, table.now)) (self.old, table.now) task.now }
         ensures { ChangesQueues self.old self.new (AreHeldBut task.now.spec.pid (self.new, table.now)) }
@@ -195,19 +185,6 @@ impl<Q: SiblingQueue> Core<Q> {
                 .queue
                 .put(table, task.home, task, steps);
         }
-    }
-
-    /// The queue of the task's home has it, where the tasks of another sibling leave.
-    fn put_away<L: Ledger>(&mut self, table: &TaskTable, task: &Task, steps: &mut Steps<L>)
-        requires cpu { task.now.home < length self.old.lanes.items }
-        requires may { (queue : _) → slice_get (queues_of self.old) task.now.home ≡ Some queue →
-            MayBePut (Q.holds queue table.now.limit (others task.now.spec.pid (queued_at table.now.tasks task.now.home))) task.now.home table.now task.now }
-        ensures { ChangesQueues self.old self.new ((leaving : ℕ) → task.now.home ≢ leaving →
-            AreHeldAwayBut leaving task.now.spec.pid (self.old, table.now) → AreHeldAway leaving (self.new, table.now)) }
-    {
-        self.lanes[task.home as usize]
-            .queue
-            .put(table, task.home, task, steps);
     }
 
     /// The task in the place of the one with its pid, in the table and in the queues.
@@ -245,6 +222,7 @@ impl<Q: SiblingQueue> Core<Q> {
     }
 
     /// The task has the cookie, in the table and in the queue that it stands in, if one.
+    #[inline(always)]
     pub fn set_cookie<L: Ledger>(
         &mut self,
         table: &mut TaskTable,
@@ -316,8 +294,7 @@ impl<Q: SiblingQueue> Core<Q> {
     /// The queue of a sibling, whose tasks are about to leave, is empty. The list, which has none yet, tells them
     /// by rising stamp.
     pub fn empty_queue(&mut self, table: &TaskTable, leaving: Cpu, movers: &mut Movers)
-        requires agree { AgreesAt leaving (self.old, table.now) }
-        requires none { movers.old.items ≡ [] }
+        requires { MayTell leaving (self.old, table.now) movers.old.items }
         ensures away { ChangesQueues self.old self.new (AgreeAway leaving (self.new, table.now)) }
         ensures told { AreTold (map mover_of (queued_among table.now.tasks leaving)) movers.new.items }
     {
@@ -341,7 +318,7 @@ impl<Q: SiblingQueue> Core<Q> {
     {
         self.place(table, pid, from, to);
         let entered = table.find(pid).unwrap();
-        self.put_away(table, entered, steps);
+        self.lanes[to as usize].queue.put(table, to, entered, steps);
     }
 
     /// The task's numbers are these now.
@@ -354,9 +331,9 @@ impl<Q: SiblingQueue> Core<Q> {
     }
 
     /// The task is asleep (`dequeue_task`).
+    #[inline(always)]
     pub fn dequeue<L: Ledger>(&mut self, table: &mut TaskTable, task: Task, steps: &mut Steps<L>)
-        requires knows { KnowsApart (self.old, table.old) task }
-        requires touches { self.old.task_number + 1 < 2 ^ 64 }
+        requires { MayDequeue (self.old, table.old) task }
         ensures { Touches 1 (self.old, table.old) (self.new, table.new) (λ room. dequeue room task) }
     {
         let asleep = Task {
@@ -368,10 +345,9 @@ impl<Q: SiblingQueue> Core<Q> {
     }
 
     /// The task is queued, with the next stamp (`enqueue_task`).
+    #[inline(always)]
     pub fn enqueue<L: Ledger>(&mut self, table: &mut TaskTable, task: Task, steps: &mut Steps<L>)
-        requires knows { KnowsApart (self.old, table.old) task }
-        requires stamp { self.old.next_stamp + 1 < 2 ^ 64 }
-        requires touches { self.old.task_number + 1 < 2 ^ 64 }
+        requires { MayEnqueue (self.old, table.old) task }
         ensures { Touches 1 (self.old, table.old) (self.new, table.new) (λ room. enqueue room task) }
     {
         let stamp = self.next_stamp;

@@ -38,13 +38,12 @@ fn swap_queues<Q: Drop>(lanes: &mut [Lane<Q>], one: usize, other: usize)
 
 impl<Q: SiblingQueue> Core<Q> {
     ghost use Rattle.core_lanes.specs.Exchanges.{MayPlace, MayExchange};
-    ghost use Rattle.core_lanes.specs.Lanes.{AgreesAt, AreHeld, ChangesQueues};
+    ghost use Rattle.core_lanes.specs.Lanes.{MayTell, AreHeld, ChangesQueues};
     ghost use Rattle.core_lanes.specs.Changes.{Places};
 
     /// Tells the tasks queued on the sibling by their pids, in a list that has none yet, by rising stamp.
     pub fn tell_queued(&self, table: &TaskTable, cpu: Cpu, movers: &mut Movers)
-        requires agree { AgreesAt cpu (self.now, table.now) }
-        requires none { movers.old.items ≡ [] }
+        requires { MayTell cpu (self.now, table.now) movers.old.items }
         ensures told { AreTold (map mover_of (queued_among table.now.tasks cpu)) movers.new.items }
     {
         self.lanes[cpu as usize].queue.tell_into(table, cpu, movers);

@@ -1,14 +1,13 @@
 //! What a sibling's queue is asked. It is a trait, so that one text of the events serves every kind of queue.
 
-ghost use Rattle.std.specs.Prelude.{◌≡◌, ◌≢◌, ◌==◌, ◌&&◌, ℕ, ◌+◌, ◌*◌, ◌≤◌, List, [], length, map, IfOk};
+ghost use Rattle.std.specs.Prelude.{◌≡◌, ◌==◌, ◌&&◌, ℕ, ◌*◌, ◌≤◌, List, [], length, map, IfOk};
 ghost use Rattle.std.specs.Option.{option_map};
 ghost use Rattle.cs_types.specs.declared.queue.Queued.{Queued as SomeQueued, Queued};
 ghost use Rattle.cs_types.specs.Order.{first_of};
 ghost use Rattle.cs_types.specs.Queue.{queued_of};
 ghost use Rattle.cs_types.specs.Scenario.{IsPolicy};
-ghost use Rattle.core_lanes.specs.Queued.{queued_among, queued_at, mover_of, AreTold, others, given_cookie, given_vtime, IsOf, IsQueuedOn, IsFairOn, MayBePut, with_cookie, behind, smallest_vtime, has_peer, MaySearch};
+ghost use Rattle.core_lanes.specs.Queued.{queued_among, queued_at, mover_of, AreTold, others, given_cookie, given_vtime, IsQueuedOn, IsFairOn, MayBePut, with_cookie, behind, smallest_vtime, has_peer, MaySearch, MayFind, MayCompare, Leaves, Answers};
 ghost use Rattle.core_lanes.specs.Moved.{MayRenew};
-ghost use Rattle.task_table.specs.Table.{IsSound as IsTable};
 
 use arrayvec::ArrayVec;
 use cs_types::{Cookie, Cpu, OutOfMemory, Pid, Queued, Steps, Task};
@@ -40,14 +39,12 @@ pub trait SiblingQueue: Drop {
     /// The task, which the table has queued on the sibling, enters.
     fn put<L: Ledger>(&mut self, table: &TaskTable, cpu: Cpu, task: &Task, steps: &mut Steps<L>)
         requires { MayBePut (holds self.old table.now.limit (others task.now.spec.pid (queued_at table.now.tasks cpu))) cpu table.now task.now }
-        ensures holds { holds self.new table.now.limit (queued_at table.now.tasks cpu) }
-        ensures counted { steps.new ≤ steps.old + most_compared (length (queued_among table.now.tasks cpu)) };
+        ensures { Leaves (holds self.new table.now.limit (queued_at table.now.tasks cpu)) most_compared (queued_among table.now.tasks cpu) steps.old steps.new };
 
     /// The task, which the table has queued on the sibling, leaves.
     fn take<L: Ledger>(&mut self, table: &TaskTable, cpu: Cpu, task: &Task, steps: &mut Steps<L>)
         requires { IsQueuedOn (holds self.old table.now.limit (queued_at table.now.tasks cpu)) cpu table.now task.now }
-        ensures holds { holds self.new table.now.limit (others task.now.spec.pid (queued_at table.now.tasks cpu)) }
-        ensures counted { steps.new ≤ steps.old + most_compared (length (queued_among table.now.tasks cpu)) };
+        ensures { Leaves (holds self.new table.now.limit (others task.now.spec.pid (queued_at table.now.tasks cpu))) most_compared (queued_among table.now.tasks cpu) steps.old steps.new };
 
     /// The task, which the table has queued on the sibling, is about to have this cookie there
     /// (`sched_core_update_cookie`).
@@ -60,11 +57,10 @@ pub trait SiblingQueue: Drop {
         steps: &mut Steps<L>,
     )
         requires { IsQueuedOn (holds self.old table.now.limit (queued_at table.now.tasks cpu)) cpu table.now task.now }
-        ensures holds { holds self.new table.now.limit (queued_at (given_cookie task.now cookie table.now.tasks) cpu) }
-        ensures counted { steps.new ≤ steps.old + most_compared (length (queued_among table.now.tasks cpu)) };
+        ensures { Leaves (holds self.new table.now.limit (queued_at (given_cookie task.now cookie table.now.tasks) cpu)) most_compared (queued_among table.now.tasks cpu) steps.old steps.new };
 
     /// The task, a fair one that the table has queued on the sibling, is about to have this virtual time there, in
-    /// ns (`update_curr`).
+    /// ns (`update_curr`). It may leave and enter, so it makes at most twice as many comparisons as another call.
     fn set_vtime<L: Ledger>(
         &mut self,
         table: &TaskTable,
@@ -74,10 +70,7 @@ pub trait SiblingQueue: Drop {
         steps: &mut Steps<L>,
     )
         requires { IsFairOn (holds self.old table.now.limit (queued_at table.now.tasks cpu)) cpu table.now task.now }
-        ensures holds { holds self.new table.now.limit (queued_at (given_vtime task.now vtime table.now.tasks) cpu) }
-
-        // It may leave and enter.
-        ensures counted { steps.new ≤ steps.old + 2 * most_compared (length (queued_among table.now.tasks cpu)) };
+        ensures { Leaves (holds self.new table.now.limit (queued_at (given_vtime task.now vtime table.now.tasks) cpu)) (λ tasks. 2 * most_compared tasks) (queued_among table.now.tasks cpu) steps.old steps.new };
 
     /// Every task leaves. It can take as many in all as before.
     fn clear(&mut self, table: &TaskTable, cpu: Cpu)
@@ -102,14 +95,12 @@ pub trait SiblingQueue: Drop {
         steps: &mut Steps<L>,
     )
         requires { MayRenew (holds self.old table.now.limit) cpu table.now }
-        ensures holds { holds self.new table.now.limit (queued_at table.now.tasks cpu) }
-        ensures counted { steps.new ≤ steps.old + 3 * most_compared (length (queued_among table.now.tasks cpu)) };
+        ensures { Leaves (holds self.new table.now.limit (queued_at table.now.tasks cpu)) (λ tasks. 3 * most_compared tasks) (queued_among table.now.tasks cpu) steps.old steps.new };
 
     /// The first task, `None` where there is none (`pick_task`).
     fn first<L: Ledger>(&self, table: &TaskTable, cpu: Cpu, steps: &mut Steps<L>) -> Option<Queued>
         requires { MaySearch (holds self.now table.now.limit (queued_at table.now.tasks cpu)) table.now.tasks }
-        ensures first { result ≡ option_map queued_of (first_of (queued_among table.now.tasks cpu)) }
-        ensures counted { steps.new ≤ steps.old + most_compared (length (queued_among table.now.tasks cpu)) };
+        ensures { Answers (result ≡ option_map queued_of (first_of (queued_among table.now.tasks cpu))) most_compared (queued_among table.now.tasks cpu) steps.old steps.new };
 
     /// The first task with the cookie, which is not 0 (`sched_core_find`).
     fn first_with<L: Ledger>(
@@ -119,10 +110,8 @@ pub trait SiblingQueue: Drop {
         cpu: Cpu,
         steps: &mut Steps<L>,
     ) -> Option<Task>
-        requires cookie { cookie ≢ 0 }
-        requires search { MaySearch (holds self.now table.now.limit (queued_at table.now.tasks cpu)) table.now.tasks }
-        ensures first { result ≡ first_of (with_cookie cookie (queued_among table.now.tasks cpu)) }
-        ensures counted { steps.new ≤ steps.old + most_compared (length (queued_among table.now.tasks cpu)) };
+        requires { MayFind (holds self.now table.now.limit (queued_at table.now.tasks cpu)) table.now.tasks cookie }
+        ensures { Answers (result ≡ first_of (with_cookie cookie (queued_among table.now.tasks cpu))) most_compared (queued_among table.now.tasks cpu) steps.old steps.new };
 
     /// The first task with the cookie of this one, which is not 0, that stands behind it (`sched_core_next`).
     fn next_with<L: Ledger>(
@@ -132,11 +121,9 @@ pub trait SiblingQueue: Drop {
         cpu: Cpu,
         steps: &mut Steps<L>,
     ) -> Option<Task>
-        requires cookie { task.now.cookie ≢ 0 }
         requires policy { IsPolicy task.now.spec.policy }
-        requires search { MaySearch (holds self.now table.now.limit (queued_at table.now.tasks cpu)) table.now.tasks }
-        ensures next { result ≡ first_of (behind task.now (with_cookie task.now.cookie (queued_among table.now.tasks cpu))) }
-        ensures counted { steps.new ≤ steps.old + most_compared (length (queued_among table.now.tasks cpu)) };
+        requires find { MayFind (holds self.now table.now.limit (queued_at table.now.tasks cpu)) table.now.tasks task.now.cookie }
+        ensures { Answers (result ≡ first_of (behind task.now (with_cookie task.now.cookie (queued_among table.now.tasks cpu)))) most_compared (queued_among table.now.tasks cpu) steps.old steps.new };
 
     /// The smallest virtual time of the fair tasks, in ns, `None` where there is none (`update_min_vruntime`).
     fn smallest_vtime<L: Ledger>(
@@ -146,8 +133,7 @@ pub trait SiblingQueue: Drop {
         steps: &mut Steps<L>,
     ) -> Option<u128>
         requires { MaySearch (holds self.now table.now.limit (queued_at table.now.tasks cpu)) table.now.tasks }
-        ensures smallest { result ≡ smallest_vtime (queued_among table.now.tasks cpu) }
-        ensures counted { steps.new ≤ steps.old + most_compared (length (queued_among table.now.tasks cpu)) };
+        ensures { Answers (result ≡ smallest_vtime (queued_among table.now.tasks cpu)) most_compared (queued_among table.now.tasks cpu) steps.old steps.new };
 
     /// Whether there is another task of the class of this one, and among real-time tasks one of its priority.
     fn has_peer<L: Ledger>(
@@ -157,11 +143,8 @@ pub trait SiblingQueue: Drop {
         cpu: Cpu,
         steps: &mut Steps<L>,
     ) -> bool
-        requires table { IsTable table.now }
-        requires there { IsOf table.now.tasks task.now }
-        requires search { MaySearch (holds self.now table.now.limit (queued_at table.now.tasks cpu)) table.now.tasks }
-        ensures peer { result ≡ has_peer task.now (queued_among table.now.tasks cpu) }
-        ensures counted { steps.new ≤ steps.old + most_compared (length (queued_among table.now.tasks cpu)) };
+        requires { MayCompare (holds self.now table.now.limit (queued_at table.now.tasks cpu)) table.now task.now }
+        ensures { Answers (result ≡ has_peer task.now (queued_among table.now.tasks cpu)) most_compared (queued_among table.now.tasks cpu) steps.old steps.new };
 
     /// How many tasks there are (`nr_running`).
     fn count(&self, table: &TaskTable, cpu: Cpu) -> u32

@@ -17,16 +17,8 @@ pub fn tell_by_stamp(tasks: &mut Stamped, movers: &mut Movers)
     ensures told { AreTold tasks.old.items movers.new.items }
 {
     tasks.sort_unstable_by_key(|task| task.0);
-    tell_pids(tasks.as_slice(), movers);
-}
-
-/// Tells the pids of the tasks in the order in which they stand, in a list that has none yet.
-fn tell_pids(tasks: &[(u64, Pid)], movers: &mut Movers)
-    requires none { movers.old.items ≡ [] }
-    requires few { length tasks.now ≤ 256 }
-    ensures told { movers.new.items ≡ map (λ task. task.1) tasks.now }
-{
-    for task in tasks.iter() {
+    let sorted = tasks.as_slice();
+    for task in sorted.iter() {
         movers.push(task.1);
     }
 }

@@ -45,41 +45,48 @@ owes : (g : Over) (c : goal.After-charge_tasks g) (beside : Beside) →
 unfolding charged
 owes g c beside = c.charge_tasks.ensures (at c.args.now beside)
 
-pub returns-in-Some-clause-charges : goal.returns-in-Some-clause-charges
-returns-in-Some-clause-charges g c = record {
-  room = λ beside. rw (c.charge.ensures.count, c.charge.ensures.occupation, c.charge.ensures.started, (c.charge_tasks.ensures some_beside).rest) refl;
-  numbers = λ beside kept.
-      let room = room_of (at c.args.now beside) (c.args.core.now, c.args.table.now) in
-      let is : Some c.in-Some.share ≡ option_map share (open_interval room) = c.in-Some.ensures.share room (record { count = refl; occupation = refl; started = refl }) refl in
-      let count : c.charge.new.self.intervals ≡ length (charge room).intervals =
-      c.in-Some.ensures.intervals ∙ ap (λ (numbers : Numbers). numbers.intervals + 1) kept ∙ length_is beside.intervals c.in-Some.share (open_interval room) is in
-      let total : (pid : ℕ) → total_in c.charge_tasks.new.table pid + total_among beside.ended pid ≡ total_of pid (charge room).intervals =
-      λ pid. omega (
-        arith,
-        (owes g c beside).totals pid,
-        owed_is room c.in-Some.share pid (open_interval room) refl is,
-        ap (λ (numbers : Numbers). numbers.totals pid) kept,
-        total_of-more pid beside.intervals (open_interval room),
-      ) in
-      λ i. record (numbers_in beside (c.args.core.now, c.args.table.now)) {
-        intervals = count i;
-        totals = λ pid. total pid i;
-      };
-  stays =
-      kept_stays _ _ refl (ap (λ (t : Table). t.tasks) (c.charge_tasks.ensures some_beside).rest) (ap (λ (t : Table). t.limit) (c.charge_tasks.ensures some_beside).rest) (λ sound. (c.charge_tasks.ensures some_beside).sound) refl;
+pub returns-in-Some : goal.returns-in-Some
+returns-in-Some g c = record {
+  charges = record {
+    room = λ beside. rw (c.charge.ensures.count, c.charge.ensures.occupation, c.charge.ensures.started, (c.charge_tasks.ensures some_beside).rest) refl;
+    numbers = λ beside kept.
+        let room = room_of (at c.args.now beside) (c.args.core.now, c.args.table.now) in
+        let is : Some c.in-Some.share ≡ option_map share (open_interval room) = c.in-Some.ensures.share room (record { count = refl; occupation = refl; started = refl }) refl in
+        let count : c.charge.new.self.intervals ≡ length (charge room).intervals =
+        c.in-Some.ensures.intervals ∙ ap (λ (numbers : Numbers). numbers.intervals + 1) kept ∙ length_is beside.intervals c.in-Some.share (open_interval room) is in
+        let total : (pid : ℕ) → total_in c.charge_tasks.new.table pid + total_among beside.ended pid ≡ total_of pid (charge room).intervals =
+        λ pid. omega (
+          arith,
+          (owes g c beside).totals pid,
+          owed_is room c.in-Some.share pid (open_interval room) refl is,
+          ap (λ (numbers : Numbers). numbers.totals pid) kept,
+          total_of-more pid beside.intervals (open_interval room),
+        ) in
+        λ i. record (numbers_in beside (c.args.core.now, c.args.table.now)) {
+          intervals = count i;
+          totals = λ pid. total pid i;
+        };
+    stays =
+        kept_stays _ _ refl (ap (λ (t : Table). t.tasks) (c.charge_tasks.ensures some_beside).rest) (ap (λ (t : Table). t.limit) (c.charge_tasks.ensures some_beside).rest) (λ sound. (c.charge_tasks.ensures some_beside).sound) refl;
+  };
+  core = refl;
+  queues = refl;
+  table = (c.charge_tasks.ensures some_beside).rest;
 }
 
-pub returns-in_default-clause-charges : goal.returns-in_default-clause-charges
-returns-in_default-clause-charges g c = record {
-  room = λ beside. rw (c.charge.ensures.count, c.charge.ensures.occupation, c.charge.ensures.started) refl;
-  numbers = λ beside kept.
-      let room = room_of (at c.args.now beside) (c.args.core.now, c.args.table.now) in
-      let same : c.charge.new.self ≡ c.args.core.now.account = subst (λ r. IfNone r (c.charge.new.self ≡ c.args.core.now.account)) c.in_default.is c.charge.ensures.unchanged in
-      let now : unwrap_or c.args.core.now.account.started c.args.now ≡ c.args.now = c.charge.ensures.none.0 (subst IsNone (sym c.in_default.is) refl) in
-      (λ i. with_ended beside.ended (numbers_by (record (bare c.args.core.now) { account = same i }) c.args.table.now)) ∙ kept
-      ∙ ap (λ (r : RoomState). booked r (numbers_in beside (c.args.core.now, c.args.table.now))) (sym (charge-again room now));
-  stays = alike_stays _ _ refl refl refl;
+pub returns-in_default : goal.returns-in_default
+returns-in_default g c = record {
+  charges = record {
+    room = λ beside. rw (c.charge.ensures.count, c.charge.ensures.occupation, c.charge.ensures.started) refl;
+    numbers = λ beside kept.
+        let room = room_of (at c.args.now beside) (c.args.core.now, c.args.table.now) in
+        let same : c.charge.new.self ≡ c.args.core.now.account = subst (λ r. IfNone r (c.charge.new.self ≡ c.args.core.now.account)) c.in_default.is c.charge.ensures.unchanged in
+        let now : unwrap_or c.args.core.now.account.started c.args.now ≡ c.args.now = c.charge.ensures.none.0 (subst IsNone (sym c.in_default.is) refl) in
+        (λ i. with_ended beside.ended (numbers_by (record (bare c.args.core.now) { account = same i }) c.args.table.now)) ∙ kept
+        ∙ ap (λ (r : RoomState). booked r (numbers_in beside (c.args.core.now, c.args.table.now))) (sym (charge-again room now));
+    stays = alike_stays _ _ refl refl refl;
+  };
+  core = refl;
+  queues = refl;
+  table = refl;
 }
-
-pub returns-in-Some-clause-table : goal.returns-in-Some-clause-table
-returns-in-Some-clause-table g c = (c.charge_tasks.ensures some_beside).rest

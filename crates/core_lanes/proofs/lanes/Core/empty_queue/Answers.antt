@@ -11,9 +11,6 @@ use Rattle.core_lanes.proofs.lanes.Core.empty_queue.Goals as goal
 
 -- ---- the call
 
-pub tell_queued-requires : goal.tell_queued-requires
-tell_queued-requires g c = record { agree = c.requires.agree; none = c.requires.none }
-
 pub clear-requires : goal.clear-requires
 clear-requires g c =
     let leaving = c.args.leaving in

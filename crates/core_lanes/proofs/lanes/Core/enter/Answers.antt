@@ -1,7 +1,9 @@
-use Rattle.std.proofs.Common.{Option, true, Some, None, Bor, ◌≡◌, ◌≢◌, ℕ, ◌<◌, [], cond, List, inl, inr, refl, sym, subst, ap, ◌∙◌, map, length}
+use Rattle.std.proofs.Common.{Option, set, length-set, true, Some, None, Bor, ◌≡◌, ℕ, ◌<◌, [], cond, List, inl, inr, refl, sym, subst, ap, ◌∙◌, map, length}
 use Rattle.std.specs.Prelude.{◌==◌, All, IsTrue, find, slice_get, option_copied}
 use Rattle.std.specs.Global.{Vec}
 use Rattle.std.specs.Option.{IsSome}
+use Rattle.std.proofs.lemmas.List.{map-set}
+use Rattle.std.proofs.Math.Seq.{map-set_same}
 use Rattle.std.proofs.lemmas.Bool.{cases_Bool, cond-true, cond-false, eqb-true, eqb-false, ne_eqb}
 use Rattle.cs_types.proofs.Foremost.{find_passes}
 use Rattle.cs_types.proofs.Spots.{replaced_by}
@@ -10,17 +12,19 @@ use Rattle.cs_types.specs.declared.task.Task.{Task}
 use Rattle.cs_types.specs.Room.{RoomState, has_pid}
 use Rattle.cs_types.specs.Queueing.{moved_to, moved}
 use Rattle.task_table.specs.Table.{Table}
-use Rattle.core_lanes.specs.Queued.{queued_at, others, IsOf, HasOwnStamp, AreStamped}
+use Rattle.core_lanes.specs.Queued.{queued_at, others, IsOf, HasOwnStamp}
 use Rattle.core_lanes.specs.declared.lane.Lane.{Lane}
 use Rattle.core_lanes.specs.declared.queue.SiblingQueue.{Ghosts}
 use Rattle.core_lanes.specs.declared.lanes.Core.{Core}
 use Rattle.core_lanes.specs.Numbers.{numbers_by}
-use Rattle.core_lanes.specs.Lanes.{BareCore, bare, room_by, room_of, queues_of, AreHeldAwayBut, AgreeAway, IsFit, MayEnter}
+use Rattle.core_lanes.specs.Lanes.{lane_state, bare, room_by, room_of, queues_of, AreHeldAwayBut, AgreeAway, IsFit, MayEnter}
 use Rattle.core_lanes.specs.Changes.{Kept, kept_of}
-use Rattle.core_lanes.proofs.Queues.{others-replaced, absent_from, off_elsewhere}
+use Rattle.core_lanes.proofs.Queues.{held-set, others-replaced, others-absent, absent_from, off_elsewhere}
 use Rattle.core_lanes.proofs.Replaced.{is_of, own_stamp}
-use Rattle.core_lanes.proofs.Stays.{some_beside, as_many_bare, queue_of, stamp_next}
+use Rattle.core_lanes.proofs.Stays.{some_beside, number_of, queue_of, queue_at, stamp_next}
+use Rattle.core_lanes.proofs.lanes.Core.enter.Given.{Over}
 use Rattle.core_lanes.proofs.lanes.Core.enter.Goals as goal
+use Rattle.core_lanes.proofs.lanes.Core.enter.Goals.{After-unwrap-entered}
 
 -- the table then
 abbrev with : Table → Task → Table
@@ -61,14 +65,14 @@ is_it found entered task is copied =
 -- ---- the task as the table has it
 
 -- the task stands in the table with its stamp, and no queue has it yet
-record IsPlaced {Q : Type 0} {g : Ghosts Q} (pid from : ℕ) (then : Core Q g) (now : Table) (task : Task) : Type 0 where
+record IsPlaced {Q : Type 0} {g : Ghosts Q} (pid from to : ℕ) (then : Core Q g) (now : Table) (task : Task) : Type 0 where
   found : find (has_pid pid) now.tasks ≡ Some task
   there : IsOf now.tasks task
   own : HasOwnStamp now.tasks task
   queued : IsTrue task.queued
-  home : task.home < length then.lanes.items
-  elsewhere : task.home ≢ from
-  here_but : (queue : Q) → slice_get (queues_of then) task.home ≡ Some queue → g.holds queue now.limit (others task.spec.pid (queued_at now.tasks task.home))
+  home : task.home ≡ to
+  within : to < length then.lanes.items
+  here_but : (queue : Q) → slice_get (queues_of then) to ≡ Some queue → g.holds queue now.limit (others task.spec.pid (queued_at now.tasks to))
   away_but : AreHeldAwayBut from task.spec.pid (then, now)
 
 module _ {Q : Type 0} {g : Ghosts Q} (core : Core Q g) (before : Table) (pid from to : ℕ) (may : MayEnter pid from to (core, before)) (then : Core Q g) (now : Table)
@@ -115,21 +119,21 @@ module _ {Q : Type 0} {g : Ghosts Q} (core : Core Q g) (before : Table) (pid fro
       holds_now queue (λ (ts : List Task). cond (cpu == from) [] (others went.spec.pid (queued_at ts cpu)))
       (subst (λ n. AreHeldAwayBut n went.spec.pid (core, with before went)) may.home (all_but core before went may.task there leaves) cpu queue (at_before cpu queue at))
 
-  is_placed : IsPlaced pid from then now went
+  is_placed : IsPlaced pid from to then now went
   is_placed = record {
     found = subst (λ n. find (has_pid n) now.tasks ≡ Some went) pid_is there_now;
     there = there_now;
     own = own;
     queued = refl;
-    home = subst (λ (ls : Vec (Lane Q)). to < length ls.items) (sym lanes) may.other;
-    elsewhere = may.elsewhere;
+    home = refl;
+    within = subst (λ (ls : Vec (Lane Q)). to < length ls.items) (sym lanes) may.other;
     here_but = here;
     away_but = away_but;
   }
 
   -- the one that was found was placed
-  found_placed : (found : Option (Bor Task)) (entered : Bor Task) → option_copied found ≡ find (has_pid pid) now.tasks → found ≡ Some entered → IsPlaced pid from then now entered.now
-  found_placed found entered told some = subst (IsPlaced pid from then now) (is_it found entered went some (told ∙ is_placed.found)) is_placed
+  found_placed : (found : Option (Bor Task)) (entered : Bor Task) → option_copied found ≡ find (has_pid pid) now.tasks → found ≡ Some entered → IsPlaced pid from to then now entered.now
+  found_placed found entered told some = subst (IsPlaced pid from to then now) (is_it found entered went some (told ∙ is_placed.found)) is_placed
 
 pub place-requires : goal.place-requires
 place-requires g c =
@@ -156,43 +160,58 @@ unwrap-entered-requires g c =
 
 -- ---- it enters the queue
 
-pub put_away-requires-clause-cpu : goal.put_away-requires-clause-cpu
-put_away-requires-clause-cpu g c =
-    let one = found_placed c.args.self.now c.args.table.now c.args.pid c.args.from c.args.to c.requires c.place.new.self c.place.new.table
-    (c.place.ensures.placed.room c.requires.task c.requires.there some_beside) c.place.ensures.placed.kept c.place.ensures.lanes c.find.result c.unwrap-entered.result c.find.ensures.task c.unwrap-entered.ensures in
-    one.home
+-- the one that was found, once it was placed
+one : (g : Over) (c : After-unwrap-entered g) → IsPlaced c.args.pid c.args.from c.args.to c.place.new.self c.place.new.table c.unwrap-entered.result.now
+one g c =
+    found_placed c.args.self.now c.args.table.now c.args.pid c.args.from c.args.to c.requires c.place.new.self c.place.new.table
+    (c.place.ensures.placed.room c.requires.task c.requires.there some_beside) c.place.ensures.placed.kept c.place.ensures.lanes c.find.result c.unwrap-entered.result c.find.ensures.task c.unwrap-entered.ensures
 
-pub put_away-requires-clause-may : goal.put_away-requires-clause-may
-put_away-requires-clause-may g c queue at =
-    let one = found_placed c.args.self.now c.args.table.now c.args.pid c.args.from c.args.to c.requires c.place.new.self c.place.new.table
-    (c.place.ensures.placed.room c.requires.task c.requires.there some_beside) c.place.ensures.placed.kept c.place.ensures.lanes c.find.result c.unwrap-entered.result c.find.ensures.task c.unwrap-entered.ensures in
+pub put-requires : goal.put-requires
+put-requires g c =
+    let placed = one g (goal.at.put-requires g c).After-unwrap-entered in
+    let lane = c.index_mut.result.now in
     record {
       table = c.place.ensures.placed.agree.table;
-      there = one.there;
-      queued = one.queued;
-      home = refl;
-      stamp = one.own;
-      holds = one.here_but queue at;
+      there = placed.there;
+      queued = placed.queued;
+      home = placed.home;
+      stamp = placed.own;
+      holds = placed.here_but lane.queue (queue_at c.place.new.self.lanes.items c.args.to lane placed.within c.index_mut.ensures.value);
     }
 
 pub returns : goal.returns
 returns g c =
-    let one = found_placed c.args.self.now c.args.table.now c.args.pid c.args.from c.args.to c.requires c.place.new.self c.place.new.table
-    (c.place.ensures.placed.room c.requires.task c.requires.there some_beside) c.place.ensures.placed.kept c.place.ensures.lanes c.find.result c.unwrap-entered.result c.find.ensures.task c.unwrap-entered.ensures in
+    let entered = one g (goal.at.returns g c).After-unwrap-entered in
     let placed = c.place.ensures.placed in
     let apart = placed.agree in
     let then = c.place.new.self in
-    let same : bare c.put_away.new.self ≡ bare then = c.put_away.ensures.bare in
-    let many = as_many_bare then c.put_away.new.self same in
+    let table = c.place.new.table in
+    let to = c.args.to in
+    let from = c.args.from in
+    let task = c.unwrap-entered.result.now in
+    let pid = task.spec.pid in
+    let lane = c.index_mut.result.now in
+    let after = record lane { queue = c.put.new.self } in
+    let lanes = then.lanes.items in
+    let same : (record (bare then) { siblings = map lane_state (set lanes to after); own = map number_of (set lanes to after) }) ≡ bare then =
+    rw (map-set_same lane_state lanes to after lane (ap lane_state c.index_mut.ensures.value), map-set_same number_of lanes to after lane (ap number_of c.index_mut.ensures.value)) refl in
+    let many = length-set lanes to after in
     record {
-      room = λ task found beside. (λ i. room_by beside (same i) c.place.new.table) ∙ placed.room task found beside;
-      numbers = (λ i. numbers_by (same i) c.place.new.table) ∙ placed.numbers;
-      kept = (λ i. let kept : Kept = record (kept_of (then, c.place.new.table)) { siblings = many i } in kept) ∙ placed.kept;
+      room = λ t found beside. (λ i. room_by beside (same i) table) ∙ placed.room t found beside;
+      numbers = (λ i. numbers_by (same i) table) ∙ placed.numbers;
+      kept = (λ i. let kept : Kept = record (kept_of (then, table)) { siblings = many i } in kept) ∙ placed.kept;
       agree = record {
         table = apart.table;
         few_tasks = apart.few_tasks;
-        tasks = subst (λ n. All (IsFit n) c.place.new.table.tasks) (sym many) apart.tasks;
-        stamped = subst (λ (core : BareCore). AreStamped core.next_stamp c.place.new.table.tasks) (sym same) apart.stamped;
-        held = c.put_away.ensures.held c.args.from one.elsewhere one.away_but;
+        tasks = subst (λ n. All (IsFit n) table.tasks) (sym many) apart.tasks;
+        stamped = apart.stamped;
+        held = rw (map-set queue_of lanes to after)
+            (held-set (λ cpu x. g.Q.SiblingQueue.holds x table.limit (cond (cpu == from) [] (others pid (queued_at table.tasks cpu))))
+            (λ cpu x. g.Q.SiblingQueue.holds x table.limit (cond (cpu == from) [] (queued_at table.tasks cpu))) (queues_of then) to c.put.new.self
+            (λ cpu x other held.
+            subst (λ qs. g.Q.SiblingQueue.holds x table.limit qs)
+            (ap (cond (cpu == from) []) (others-absent table.tasks task cpu apart.table.rising entered.there (off_elsewhere task cpu (λ is. other (is ∙ entered.home))))) held)
+            entered.away_but
+            (subst (λ qs. g.Q.SiblingQueue.holds c.put.new.self table.limit qs) (sym (cond-false (to == from) [] (queued_at table.tasks to) (ne_eqb to from c.requires.elsewhere))) c.put.ensures.holds));
       };
     }

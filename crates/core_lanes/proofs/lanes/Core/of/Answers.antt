@@ -53,17 +53,17 @@ push_reserved-requires g c = omega (arith, c.loop.invariant.spare, c.loop.invari
 pub invariant_of-result : goal.invariant_of-result
 invariant_of-result g c = record { few = omega (arith, c.loop.invariant.some, c.requires, c.loop.lanes.ok.0) }
 
-pub returns-clause-bare : goal.returns-clause-bare
-returns-clause-bare g c =
+pub returns : goal.returns
+returns g c =
     let so_far = c.loop.invariant in
     let all : vec_len c.loop.lanes ≡ c.args.siblings = omega (arith, so_far.counted, so_far.some, c.loop-test.false) in
     let states = so_far.states ∙ ap (λ n. replicate n idle) all in
     let numbers = so_far.numbers ∙ ap (λ n. replicate n 0) all in
     let shut = c.closed.ensures in
-    λ i.
-    let account : Account = record { count = shut.count i; occupation = shut.occupation i; started = shut.started i; intervals = shut.intervals i } in
-    let core : BareCore = record (bare_start c.args.siblings) { account = account; siblings = states i; own = numbers i } in
-    core
-
-pub returns-clause-held : goal.returns-clause-held
-returns-clause-held g c = c.loop.invariant.held
+    record {
+      bare = λ i.
+          let account : Account = record { count = shut.count i; occupation = shut.occupation i; started = shut.started i; intervals = shut.intervals i } in
+          let core : BareCore = record (bare_start c.args.siblings) { account = account; siblings = states i; own = numbers i } in
+          core;
+      held = so_far.held;
+    }
