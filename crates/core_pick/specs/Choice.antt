@@ -86,6 +86,11 @@ pub record MayCount (counts : Counts) : Type 0 where
   pub forced : counts.forced < 255
   pub occupation : counts.occupation < 255
 
+-- the counts with this choice of a sibling that has a task
+abbrev pub counts_with : Counts → Choice → Counts
+counts_with counts choice =
+    if choice.class == idle_class then record counts { forced = counts.forced + 1 } else record counts { occupation = counts.occupation + 1 }
+
 -- the counts once a sibling is counted
 pub record IsCounted (room : RoomState) (core cpu : ℕ) (before now : Counts) : Type 0 where
   pub forced : now.forced ≡ before.forced + (if gets_none room core cpu then 1 else 0)
@@ -112,6 +117,13 @@ pub record IsPlan (room : RoomState) (core : ℕ) (choices : List Choice) (occup
 pub record HandsOut {Q : Type 0} (room : RoomState) (selector core : ℕ) (lanes : List (Lane Q)) (old new : Table) : Type 0 where
   pub states : map lane_state lanes ≡ (select_for room selector core).siblings
   pub tasks : new ≡ record old { tasks = map (task_after_selection room core) old.tasks }
+
+-- what a selection for a core cookie tells a sibling: whether it makes the selection itself, the occupation, and whether
+-- snapshots are renewed
+pub record IsTold (room : RoomState) (core selector cpu : ℕ) (selects : Bool) (occupation : ℕ) (renews : Bool) : Type 0 where
+  pub itself : selects ≡ (cpu == selector)
+  pub occupied : occupation ≡ occupation_of room core
+  pub renewed : renews ≡ renews_snapshots room core
 
 -- what a selection for the core leaves as it is in a sibling: its own number and its queue
 abbrev pub own_of : {Q : Type 0} → Lane Q → ℕ × Q

@@ -1,3 +1,4 @@
 pub mod Schedules
 pub mod Choice
 pub mod Comparisons
+pub mod Questions

@@ -1,9 +1,9 @@
 -- Schedules: what a schedule asks of a core and its table, and what it makes of them.
-use Rattle.std.specs.Prelude.{◌≡◌, ℕ, ◌+◌, ◌^◌, ◌<◌, ◌==◌, ◌&&◌, not, Bool, List, length, Option, IfSome, slice_index_or}
+use Rattle.std.specs.Prelude.{◌≡◌, ℕ, ◌+◌, ◌^◌, ◌<◌, ◌==◌, ◌&&◌, not, if◌then◌else◌, ◌≤◌, Bool, List, length, Option, None, IfSome, slice_index_or}
 use Rattle.cs_types.specs.declared.reply.Pick.{Pick}
 use Rattle.cs_types.specs.declared.queue.Queued.{Queued}
-use Rattle.cs_types.specs.Room.{RoomState}
-use Rattle.cs_types.specs.Selection.{Scheduled, cookie_of, lead_from, pid_of, choice, forced_count, select_for}
+use Rattle.cs_types.specs.Room.{RoomState, sibling_of}
+use Rattle.cs_types.specs.Selection.{Scheduled, pid_of, choice, forced_count, select_for}
 use Rattle.cs_types.specs.Order.{fair_class}
 use Rattle.task_table.specs.Table.{Table}
 use Rattle.core_lanes.specs.declared.queue.SiblingQueue.{Ghosts}
@@ -13,7 +13,8 @@ use Rattle.core_lanes.specs.Numbers.{Numbers, numbers_of, numbers_in, booked, to
 use Rattle.core_lanes.specs.Changes.{Stays, BecomesCharged, IsBooked}
 use Rattle.core_lanes.specs.Charges.{IsPaid}
 use Rattle.core_pick.specs.declared.choice.Choice.{Choice}
-use Rattle.core_pick.specs.Choice.{firsts_of}
+use Rattle.core_pick.specs.Comparisons.{most_of_schedule, Compares}
+use Rattle.core_pick.specs.Questions.{AsksAll}
 
 -- ---- what decides an adoption
 
@@ -27,12 +28,11 @@ own_of cpu numbers = slice_index_or numbers.own cpu 0
 abbrev pub may_adopt_by : ℕ → Numbers → Bool
 may_adopt_by cpu numbers = (numbers.pick == numbers.task) && not (own_of cpu numbers == numbers.pick)
 
--- ---- what is asked
+-- what a sibling may adopt: what waits for it, where the numbers let it
+abbrev pub adoptable_by : ℕ → Numbers → RoomState → Option (Option ℕ)
+adoptable_by cpu numbers room = if may_adopt_by cpu numbers then (sibling_of room cpu).waiting else None
 
--- the sibling may be asked for its first task
-pub record MayAsk {Q : Type 0} {g : Ghosts Q} (sibling : ℕ) (both : Core Q g × Table) : Type 0 where
-  pub at : AgreesAt sibling both
-  pub low : HasLowTimes both
+-- ---- what is asked
 
 -- what is kept of this first task may be compared, under the snapshot of its sibling
 pub record MayKeep (snapshot : ℕ) (first : Option Queued) : Type 0 where
@@ -55,8 +55,7 @@ pub record MaySchedule {Q : Type 0} {g : Ghosts Q} (now sibling : ℕ) (both : C
 -- these are the first tasks of the siblings and the cookie of the lead of a selection that the sibling makes now
 pub record MaySelect {Q : Type 0} {g : Ghosts Q} (now sibling cookie : ℕ) (firsts : List Choice) (both : Core Q g × Table) : Type 0 where
   pub at : AgreesAt sibling both
-  pub firsts_are : (beside : Beside) → firsts ≡ firsts_of (room_of beside both)
-  pub lead : (beside : Beside) → cookie ≡ cookie_of (lead_from (room_of beside both) sibling)
+  pub asked : AsksAll sibling both firsts cookie
   pub clock : now < 2 ^ 56
 
 -- ---- what becomes of them
@@ -75,6 +74,11 @@ pub record Schedules {Q : Type 0} {g : Ghosts Q} (now : ℕ) (old new : Core Q g
   pub room : (beside : Beside) → room_of (at now beside) new ≡ (change (room_of (at now beside) old)).room
   pub numbers : numbers_of new ≡ took cpu chosen (numbers_of old)
   pub stays : Stays old new
+
+-- and its queues compare no more often than a schedule may
+pub record SchedulesWithin {Q : Type 0} {g : Ghosts Q} (now : ℕ) (old new : Core Q g × Table) (cpu : ℕ) (chosen : Pick) (before after : ℕ) (change : RoomState → Scheduled) : Type 0 where
+  pub schedules : Schedules now old new cpu chosen change
+  pub counted : Compares old (λ most. after ≤ before + most_of_schedule (length old.0.lanes.items) most)
 
 -- the same of a schedule that charges the open interval, unless it adopts
 pub record ChargesAndSchedules {Q : Type 0} {g : Ghosts Q} (now : ℕ) (old new : Core Q g × Table) (cpu : ℕ) (chosen : Pick) (change : RoomState → Scheduled) : Type 0 where

@@ -1,12 +1,12 @@
 //! What each sibling gets in a selection for the core. It is a file of its own since the selection
 //! counts the choices before it changes siblings and tasks by them.
 
-ghost use Rattle.std.specs.Prelude.{◌≡◌, ℕ, ◌+◌, ◌≤◌, ◌==◌, None, length, map, if◌then◌else◌};
+ghost use Rattle.std.specs.Prelude.{◌≡◌, ℕ, ◌≤◌, ◌==◌, None, length, map};
 ghost use Rattle.cs_types.specs.Room.{RoomState};
 ghost use Rattle.cs_types.specs.Order.{fair_class, idle_class};
 ghost use Rattle.task_table.specs.Table.{IsSound as IsTable};
 ghost use Rattle.core_lanes.specs.Lanes.{lane_state};
-ghost use Rattle.core_pick.specs.Choice.{IsPlan, MayCount, HandsOut, choice_of, own_of, run_of, task_after_choice};
+ghost use Rattle.core_pick.specs.Choice.{IsPlan, MayCount, counts_with, HandsOut, choice_of, own_of, run_of, task_after_choice};
 
 use crate::sibling::hand;
 use arrayvec::ArrayVec;
@@ -88,9 +88,7 @@ impl Counts {
     /// The counts with this choice of a sibling that has a task.
     pub fn with(self, choice: &Choice) -> Counts
         requires { MayCount self }
-        ensures { result ≡ (if choice.now.class == idle_class
-            then record self { forced = self.forced + 1 }
-            else record self { occupation = self.occupation + 1 }) }
+        ensures { result ≡ counts_with self choice.now }
     {
         if choice.is_idle() {
             Counts {

@@ -1,14 +1,14 @@
 //! A schedule, in its three cases (`pick_next_task`, kernel/sched/core.c).
 
-ghost use Rattle.std.specs.Prelude.{◌≡◌, ℕ, ◌+◌, ◌*◌, ◌^◌, ◌<◌, ◌≤◌, length, ◌==◌, ◌&&◌, ◌||◌, not, is_some, None, IfSome, IfNone, if◌then◌else◌};
+ghost use Rattle.std.specs.Prelude.{◌≡◌, ℕ, ◌+◌, ◌*◌, ◌^◌, ◌<◌, ◌≤◌, length, ◌==◌, ◌&&◌, ◌||◌, not, is_some, IfSome, IfNone};
 ghost use Rattle.cs_types.specs.Room.{sibling_of, is_online};
-ghost use Rattle.cs_types.specs.Selection.{first_on, is_plain, adopt, pick_plain, select, pick_anew, adopt_or_pick_anew, balance, schedule};
+ghost use Rattle.cs_types.specs.Selection.{is_plain, adopt, pick_plain, select, pick_anew, adopt_or_pick_anew, balance, schedule};
 ghost use Rattle.task_table.specs.Table.{Table};
 ghost use Rattle.core_lanes.specs.Lanes.{Beside, room_of};
 ghost use Rattle.core_lanes.specs.Numbers.{numbers_of};
-ghost use Rattle.core_pick.specs.Choice.{kept_in};
 ghost use Rattle.core_pick.specs.Comparisons.{most_of_schedule, Compares};
-ghost use Rattle.core_pick.specs.Schedules.{may_adopt_by, MayPick, MaySchedule, MaySelect, Selects, Schedules, ChargesAndSchedules};
+ghost use Rattle.core_pick.specs.Questions.{KeepsFirst};
+ghost use Rattle.core_pick.specs.Schedules.{may_adopt_by, adoptable_by, MayPick, MaySchedule, MaySelect, Selects, Schedules, SchedulesWithin, ChargesAndSchedules};
 
 use crate::balance::balance;
 use crate::choice::{Choice, Choices, Counts, update};
@@ -33,8 +33,7 @@ fn may_adopt(task_number: u64, pick_number: u64, own_number: u64) -> bool
 /// What waits for the sibling, where its own number and those of the core let it adopt that.
 fn adoptable<Q: SiblingQueue>(core: &Core<Q>, cpu: Cpu) -> Option<Option<Pid>>
     requires { cpu < length core.now.lanes.items }
-    ensures { (beside : Beside) (table : Table) → result ≡
-        (if may_adopt_by cpu (numbers_of (core.now, table)) then (sibling_of (room_of beside (core.now, table)) cpu).waiting else None) }
+    ensures { (beside : Beside) (table : Table) → result ≡ adoptable_by cpu (numbers_of (core.now, table)) (room_of beside (core.now, table)) }
 {
     let lane = &core.lanes[cpu as usize];
     if may_adopt(core.task_number, core.pick_number, lane.number) {
@@ -71,8 +70,7 @@ fn is_cookieless(core: Cookie, forced: u8, first: Cookie) -> bool
 
 /// Whether no cookie takes part in a schedule of the sibling with this first task.
 fn is_plain<Q: SiblingQueue>(core: &Core<Q>, first: &First) -> bool
-    ensures { (beside : Beside) (table : Table) (cpu : ℕ) → let room = room_of beside (core.now, table) in
-        first.now ≡ kept_in room (first_on room cpu) → result ≡ is_plain room cpu }
+    ensures { (beside : Beside) (table : Table) (cpu : ℕ) → KeepsFirst cpu (core.now, table) first.now → result ≡ is_plain (room_of beside (core.now, table)) cpu }
 {
     is_cookieless(core.cookie, core.account.count(), first.choice.cookie)
 }
@@ -81,8 +79,7 @@ fn is_plain<Q: SiblingQueue>(core: &Core<Q>, first: &First) -> bool
 fn pick_plain<Q: SiblingQueue>(core: &mut Core<Q>, cpu: Cpu, first: &First) -> Pick
     requires cpu { cpu < length core.old.lanes.items }
     requires touches { core.old.task_number + 1 < 2 ^ 64 }
-    ensures { (now : ℕ) (table : Table) → ((beside : Beside) → let room = room_of beside (core.old, table) in first.now ≡ kept_in room (first_on room cpu)) →
-        Schedules now (core.old, table) (core.new, table) cpu result (λ room. pick_plain room cpu) }
+    ensures { (now : ℕ) (table : Table) → KeepsFirst cpu (core.old, table) first.now → Schedules now (core.old, table) (core.new, table) cpu result (λ room. pick_plain room cpu) }
 {
     core.account.close();
     let choice = &first.choice;
@@ -143,7 +140,7 @@ fn select<Q: SiblingQueue, L: Ledger>(
     steps: &mut Steps<L>,
 ) -> Pick
     requires may { MayPick now cpu (core.old, table.old) }
-    requires first { (beside : Beside) → let room = room_of beside (core.old, table.old) in first.now ≡ kept_in room (first_on room cpu) }
+    requires first { KeepsFirst cpu (core.old, table.old) first.now }
     ensures schedules { Schedules now (core.old, table.old) (core.new, table.new) cpu result (λ room. select room cpu) }
 
     // The first was asked before.
@@ -174,8 +171,7 @@ fn pick_anew<Q: SiblingQueue, L: Ledger>(
     steps: &mut Steps<L>,
 ) -> Pick
     requires { MayPick now cpu (core.old, table.old) }
-    ensures schedules { Schedules now (core.old, table.old) (core.new, table.new) cpu result (λ room. pick_anew room cpu) }
-    ensures counted { Compares (core.old, table.old) (λ most. steps.new ≤ steps.old + most_of_schedule (length core.old.lanes.items) most) }
+    ensures { SchedulesWithin now (core.old, table.old) (core.new, table.new) cpu result steps.old steps.new (λ room. pick_anew room cpu) }
 {
     let first = first_at(core, table, cpu, steps);
     if is_plain(core, &first) {
@@ -194,9 +190,8 @@ pub fn pick_and_balance<Q: SiblingQueue, L: Ledger>(
     steps: &mut Steps<L>,
 ) -> Pick
     requires { MayPick now cpu (core.old, table.old) }
-    ensures schedules { Schedules now (core.old, table.old) (core.new, table.new) cpu result
+    ensures { SchedulesWithin now (core.old, table.old) (core.new, table.new) cpu result steps.old steps.new
         (λ room. balance cpu (pick_anew room cpu)) }
-    ensures counted { Compares (core.old, table.old) (λ most. steps.new ≤ steps.old + most_of_schedule (length core.old.lanes.items) most) }
 {
     let pick = pick_anew(core, table, cpu, now, steps);
     balance(core, table, cpu);
@@ -238,8 +233,7 @@ pub fn schedule<Q: SiblingQueue, L: Ledger>(
 ) -> Option<Pick>
     requires { MaySchedule now cpu (core.old, table.old) }
     ensures online { (beside : Beside) → is_some result ≡ is_online (room_of beside (core.old, table.old)) cpu }
-    ensures core { IfNone result (core.new ≡ core.old) }
-    ensures table { IfNone result (table.new ≡ table.old) }
+    ensures unchanged { IfNone result ((core.new ≡ core.old) × (table.new ≡ table.old)) }
     ensures schedules { IfSome result (λ pick. ChargesAndSchedules now (core.old, table.old) (core.new, table.new) cpu pick
         (λ room. schedule room (may_adopt_by cpu (numbers_of (core.old, table.old))) cpu)) }
 

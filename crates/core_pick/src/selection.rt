@@ -1,17 +1,14 @@
 //! What a selection for the core asks of the queues: the lead, and what each sibling gets for a core cookie.
 //! It is a file of its own since it changes nothing.
 
-ghost use Rattle.std.specs.Prelude.{◌≡◌, ℕ, ◌+◌, ◌-◌, ◌*◌, ◌≤◌, ◌<◌, [], ◌||◌, ◌==◌, ◌++◌, List, map, length};
-ghost use Rattle.std.specs.List.{range_with_len};
+ghost use Rattle.std.specs.Prelude.{◌≡◌, ◌+◌, ◌-◌, ◌*◌, ◌≤◌, ◌<◌, [], ◌||◌, ◌==◌, length};
 ghost use Rattle.arrayvec.specs.ArrayVec.{array_vec_len};
 ghost use Rattle.cs_types.specs.Order.{idle_class};
-ghost use Rattle.cs_types.specs.Selection.{first_on, cookie_of, lead_from, choice};
 ghost use Rattle.task_table.specs.Table.{Table};
-ghost use Rattle.core_lanes.specs.Queued.{queued_among};
 ghost use Rattle.core_lanes.specs.Lanes.{Beside, room_of, Agree, AgreesAt};
-ghost use Rattle.core_pick.specs.Choice.{choice_of, kept_in, firsts_of, offered, lead_in, choices_of, MayCount, Settles, AreCountsOf};
+ghost use Rattle.core_pick.specs.Choice.{firsts_of, MayCount};
 ghost use Rattle.core_pick.specs.Comparisons.{Compares};
-ghost use Rattle.core_pick.specs.Schedules.{MayAsk};
+ghost use Rattle.core_pick.specs.Questions.{MayAsk, AsksOnce, KeepsFirst, KeepsOffered, Gets, GetsCounted, MayAskPart, AsksPart, AsksAll, GetAll};
 
 use crate::choice::{Choice, Choices, Counts};
 use crate::lead::{First, kept_of};
@@ -41,9 +38,7 @@ fn choice_at<Q: SiblingQueue, L: Ledger>(
     steps: &mut Steps<L>,
 ) -> Choice
     requires { AgreesAt cpu (core.now, table.now) }
-    ensures choice { (beside : Beside) → let room = room_of beside (core.now, table.now) in
-        first.now ≡ choice_of (first_on room cpu) → result ≡ choice_of (choice room cookie cpu) }
-    ensures counted { steps.new ≤ steps.old + Q.most_compared (length (queued_among table.now.tasks cpu)) }
+    ensures { AsksOnce cpu (core.now, table.now) (Gets cpu cookie (core.now, table.now) first.now result) steps.old steps.new }
 {
     if is_kept(first, cookie) {
         return *first;
@@ -72,9 +67,7 @@ fn settle<Q: SiblingQueue, L: Ledger>(
 ) -> Counts
     requires at { AgreesAt cpu (core.now, table.now) }
     requires may { MayCount counts }
-    ensures settles { (beside : Beside) → let room = room_of beside (core.now, table.now) in
-        given.old ≡ choice_of (first_on room cpu) → Settles room cookie cpu counts result given.new }
-    ensures counted { steps.new ≤ steps.old + Q.most_compared (length (queued_among table.now.tasks cpu)) }
+    ensures { AsksOnce cpu (core.now, table.now) (GetsCounted cpu cookie (core.now, table.now) counts result given.old given.new) steps.old steps.new }
 {
     if given.is_idle() {
         return counts;
@@ -97,8 +90,7 @@ pub fn choose<Q: SiblingQueue, L: Ledger>(
 ) -> Counts
     requires agree { Agree (core.now, table.now) }
     requires firsts { (beside : Beside) → choices.old ≡ firsts_of (room_of beside (core.now, table.now)) }
-    ensures each { (beside : Beside) → choices.new ≡ choices_of (room_of beside (core.now, table.now)) cookie }
-    ensures counts { (beside : Beside) → AreCountsOf (room_of beside (core.now, table.now)) cookie result }
+    ensures gets { GetAll cookie (core.now, table.now) choices.new result }
     ensures counted { Compares (core.now, table.now) (λ most. steps.new ≤ steps.old + length core.now.lanes.items * most) }
 {
     let mut counts = Counts {
@@ -122,8 +114,7 @@ pub fn first_at<Q: SiblingQueue, L: Ledger>(
     steps: &mut Steps<L>,
 ) -> First
     requires { MayAsk cpu (core.now, table.now) }
-    ensures first { (beside : Beside) → let room = room_of beside (core.now, table.now) in result ≡ kept_in room (first_on room cpu) }
-    ensures counted { steps.new ≤ steps.old + Q.most_compared (length (queued_among table.now.tasks cpu)) }
+    ensures { AsksOnce cpu (core.now, table.now) (KeepsFirst cpu (core.now, table.now) result) steps.old steps.new }
 {
     let first = core.first_on(table, cpu, steps);
     kept_of(first.as_ref(), core.lanes[cpu as usize].snapshot)
@@ -133,8 +124,7 @@ pub fn first_at<Q: SiblingQueue, L: Ledger>(
 #[inline(always)]
 fn offered<Q: SiblingQueue>(core: &Core<Q>, cpu: Cpu, first: First) -> First
     requires { cpu < length core.now.lanes.items }
-    ensures { (beside : Beside) (table : Table) → let room = room_of beside (core.now, table) in
-        first ≡ kept_in room (first_on room cpu) → result ≡ kept_in room (offered room cpu) }
+    ensures { (table : Table) → KeepsFirst cpu (core.now, table) first → KeepsOffered cpu (core.now, table) result }
 {
     if core.is_online(cpu) {
         first
@@ -156,14 +146,9 @@ fn ask_from<Q: SiblingQueue, L: Ledger>(
     steps: &mut Steps<L>,
 ) -> First
     requires so_far { array_vec_len firsts.old ≡ from }
-    requires order { from ≤ to }
-    requires within { to ≤ length core.now.lanes.items }
-    requires may { (cpu : ℕ) → cpu < length core.now.lanes.items → MayAsk cpu (core.now, table.now) }
+    requires part { MayAskPart from to (core.now, table.now) }
     ensures so_far { array_vec_len firsts.new ≡ to }
-    ensures firsts { (beside : Beside) → let room = room_of beside (core.now, table.now) in
-        firsts.new.items ≡ firsts.old.items ++ map (λ cpu. choice_of (first_on room cpu)) (range_with_len from (to - from)) }
-    ensures lead { (beside : Beside) (order : List ℕ) → let room = room_of beside (core.now, table.now) in
-        before ≡ lead_in room order → result ≡ lead_in room (order ++ range_with_len from (to - from)) }
+    ensures asks { AsksPart from to (core.now, table.now) firsts.old.items firsts.new.items before result }
     ensures counted { Compares (core.now, table.now) (λ most. steps.new ≤ steps.old + (to - from) * most) }
 {
     let mut lead = before;
@@ -187,9 +172,8 @@ pub fn ask<Q: SiblingQueue, L: Ledger>(
 ) -> Cookie
     requires empty { firsts.old.items ≡ [] }
     requires may { MayAsk own (core.now, table.now) }
-    requires first { (beside : Beside) → let room = room_of beside (core.now, table.now) in first.now ≡ kept_in room (first_on room own) }
-    ensures each { (beside : Beside) → firsts.new.items ≡ firsts_of (room_of beside (core.now, table.now)) }
-    ensures lead { (beside : Beside) → result ≡ cookie_of (lead_from (room_of beside (core.now, table.now)) own) }
+    requires first { KeepsFirst own (core.now, table.now) first.now }
+    ensures asks { AsksAll own (core.now, table.now) firsts.new.items result }
     ensures counted { Compares (core.now, table.now) (λ most. steps.new + most ≤ steps.old + length core.now.lanes.items * most) }
 {
     let before = ask_from(firsts, core, table, 0, own, First::idle(), steps);

@@ -1,10 +1,10 @@
 //! What a schedule makes of one sibling. It is a file of its own since it knows no other sibling.
 
-ghost use Rattle.std.specs.Prelude.{◌≡◌, ℕ, ◌==◌, if◌then◌else◌};
+ghost use Rattle.std.specs.Prelude.{◌≡◌, ℕ, if◌then◌else◌};
 ghost use Rattle.cs_types.specs.Room.{RoomState};
-ghost use Rattle.cs_types.specs.Selection.{pid_of, is_fair_task, choice, occupation_of, renews_snapshots, sibling_after_selection};
+ghost use Rattle.cs_types.specs.Selection.{pid_of, is_fair_task, choice, sibling_after_selection};
 ghost use Rattle.core_lanes.specs.Lanes.{lane_state};
-ghost use Rattle.core_pick.specs.Choice.{choice_of, own_of, lane_running};
+ghost use Rattle.core_pick.specs.Choice.{choice_of, own_of, lane_running, IsTold};
 
 use crate::choice::Choice;
 use core_lanes::Lane;
@@ -40,9 +40,8 @@ fn take<Q: Drop>(
     occupation: u8,
     renews: bool,
 )
-    ensures state { (room : RoomState) (cookie selector cpu : ℕ) → chosen ≡ pid_of (choice room cookie cpu) →
-        is_fair ≡ is_fair_task (choice room cookie cpu) → selects ≡ (cpu == selector) → occupation ≡ occupation_of room cookie →
-        renews ≡ renews_snapshots room cookie → lane_state lane.new ≡ sibling_after_selection room cookie selector cpu (lane_state lane.old) }
+    ensures state { (room : RoomState) (cookie selector cpu : ℕ) → chosen ≡ pid_of (choice room cookie cpu) → is_fair ≡ is_fair_task (choice room cookie cpu) →
+        IsTold room cookie selector cpu selects occupation renews → lane_state lane.new ≡ sibling_after_selection room cookie selector cpu (lane_state lane.old) }
     ensures own { own_of lane.new ≡ own_of lane.old }
 {
     let runs_it = lane.run == chosen;
@@ -72,8 +71,7 @@ pub fn hand<Q: Drop>(
     renews: bool,
 )
     ensures state { (room : RoomState) (cookie selector cpu : ℕ) → given.now ≡ choice_of (choice room cookie cpu) →
-        selects ≡ (cpu == selector) → occupation ≡ occupation_of room cookie → renews ≡ renews_snapshots room cookie →
-        lane_state lane.new ≡ sibling_after_selection room cookie selector cpu (lane_state lane.old) }
+        IsTold room cookie selector cpu selects occupation renews → lane_state lane.new ≡ sibling_after_selection room cookie selector cpu (lane_state lane.old) }
     ensures own { own_of lane.new ≡ own_of lane.old }
 {
     match given.run() {

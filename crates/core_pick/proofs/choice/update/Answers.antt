@@ -78,7 +78,7 @@ loop-cpu-preserved g c =
             ap (map lane_state) w.lanes-is ∙ map-set lane_state c.loop-cpu.lanes cpu w.hand.new.lane
             ∙ more room core is plan (lane_state w.hand.new.lane)
             (w.hand.ensures.state room core c.args.selector cpu
-            (given room core is plan) refl plan.occupied plan.renewed
+            (given room core is plan) (record { itself = refl; occupied = plan.occupied; renewed = plan.renewed })
             ∙ sym (cond-true old.online (sibling_after_selection room core c.args.selector cpu (lane_state old)) (lane_state old) w.if-lane.true));
         own = ap (map own_of) w.lanes-is
             ∙ map-set_same own_of c.loop-cpu.lanes cpu w.hand.new.lane lane w.hand.ensures.own ∙ c.loop-cpu.invariant.own;

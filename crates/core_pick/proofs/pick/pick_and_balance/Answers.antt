@@ -7,14 +7,14 @@ use Rattle.core_lanes.specs.Lanes.{at}
 use Rattle.core_lanes.proofs.Stays.{both_stay}
 use Rattle.core_pick.proofs.pick.pick_and_balance.Goals as goal
 
-pub returns-clause-schedules : goal.returns-clause-schedules
-returns-clause-schedules g c = record {
-  pick = c.pick_anew-pick.ensures.schedules.pick;
-  room = λ beside. c.balance.ensures.room (at c.args.now beside)
-      ∙ ap (λ (room : RoomState). set_place room c.args.cpu (if is_to_steal room c.args.cpu then 1 else 0)) (c.pick_anew-pick.ensures.schedules.room beside);
-  numbers = c.balance.ensures.numbers ∙ c.pick_anew-pick.ensures.schedules.numbers;
-  stays = both_stay c.pick_anew-pick.ensures.schedules.stays c.balance.ensures.stays;
+pub returns : goal.returns
+returns g c = record {
+  schedules = record {
+    pick = c.pick_anew-pick.ensures.schedules.pick;
+    room = λ beside. c.balance.ensures.room (at c.args.now beside)
+        ∙ ap (λ (room : RoomState). set_place room c.args.cpu (if is_to_steal room c.args.cpu then 1 else 0)) (c.pick_anew-pick.ensures.schedules.room beside);
+    numbers = c.balance.ensures.numbers ∙ c.pick_anew-pick.ensures.schedules.numbers;
+    stays = both_stay c.pick_anew-pick.ensures.schedules.stays c.balance.ensures.stays;
+  };
+  counted = λ longest longer. c.pick_anew-pick.ensures.counted longest longer;
 }
-
-pub returns-clause-counted : goal.returns-clause-counted
-returns-clause-counted g c longest longer = c.pick_anew-pick.ensures.counted longest longer

@@ -18,8 +18,7 @@ pub select_for-run-requires : goal.select_for-run-requires
 select_for-run-requires g c = record {
   may = record {
     at = record { cpu = c.requires.may.cpu; agree = c.requires.may.agree };
-    firsts_are = λ beside. c.as_mut_slice.ensures.value ∙ c.ask-cookie.ensures.each beside;
-    lead = λ beside. c.ask-cookie.ensures.lead beside;
+    asked = record { each = λ beside. c.as_mut_slice.ensures.value ∙ c.ask-cookie.ensures.asks.each beside; lead = c.ask-cookie.ensures.asks.lead };
     clock = c.requires.may.clock;
   };
 }
@@ -48,7 +47,7 @@ returns-clause-schedules g c =
     record {
       pick = λ beside.
           let room = room_of (at now beside) (c.args.core.now, c.args.table.now) in
-          let core = c.ask-cookie.ensures.lead (at now beside) in
+          let core = c.ask-cookie.ensures.asks.lead (at now beside) in
           let run = c.unwrap_or.ensures
           ∙ ap (λ pid. unwrap_or pid 0) (c.select_for-run.ensures.selects.gets (at now beside) ∙ ap (λ n. pid_of (choice room n cpu)) core) in
           let forced = c.count.ensures.count
@@ -58,7 +57,7 @@ returns-clause-schedules g c =
           λ i. let pick : Pick = record { kind = Selected; run = run i; core = core i; forced = forced i } in pick;
       room = λ beside.
           let room = room_of (at now beside) (c.args.core.now, c.args.table.now) in
-          let core = c.ask-cookie.ensures.lead (at now beside) in
+          let core = c.ask-cookie.ensures.asks.lead (at now beside) in
           let same = map-set_same lane_state lanes cpu numbered lane (ap lane_state is) in
           (λ i. record (room_of (at now beside) (touched_core, c.select_for-run.new.table)) { siblings = same i })
           ∙ touch.room (at now beside)

@@ -15,25 +15,25 @@ use Rattle.core_pick.proofs.pick.select_for.Given.{Over}
 use Rattle.core_pick.proofs.pick.select_for.Goals as goal
 
 pub choose-forced-requires-clause-firsts : goal.choose-forced-requires-clause-firsts
-choose-forced-requires-clause-firsts g c beside = c.requires.may.firsts_are beside
+choose-forced-requires-clause-firsts g c beside = c.requires.may.asked.each beside
 
 pub begin-requires-clause-occupied : goal.begin-requires-clause-occupied
 begin-requires-clause-occupied g c some =
     let room = room_of some_beside (c.args.core.now, c.args.table.now) in
-    let counts = c.choose-forced.ensures.counts some_beside in
-    let lead = c.requires.may.lead some_beside in
+    let counts = c.choose-forced.ensures.gets.counts_are some_beside in
+    let lead = c.requires.may.asked.lead some_beside in
     let below : c.args.cpu < length room.siblings = omega (arith, length-map c.args.core.now.lanes.items lane_state, c.requires.may.at.cpu) in
     let has : 0 < forced_count room (cookie_of (lead_from room c.args.cpu)) = subst (λ n. 0 < n) (counts.forced ∙ ap (forced_count room) lead) some in
     subst (λ n. 0 < n) (sym (counts.occupation ∙ ap (occupation_of room) lead)) (occupied room c.args.cpu below has)
 
 pub update-requires-clause-each : goal.update-requires-clause-each
-update-requires-clause-each g c = choices_as_many (room_of some_beside (c.args.core.now, c.args.table.now)) c.args.cookie _ (c.choose-forced.ensures.each some_beside) ∙ length-map c.args.core.now.lanes.items lane_state ∙ sym (ap length c.deref_mut.ensures.value)
+update-requires-clause-each g c = choices_as_many (room_of some_beside (c.args.core.now, c.args.table.now)) c.args.cookie _ (c.choose-forced.ensures.gets.each some_beside) ∙ length-map c.args.core.now.lanes.items lane_state ∙ sym (ap length c.deref_mut.ensures.value)
 
 pub update-requires-clause-few : goal.update-requires-clause-few
 update-requires-clause-few g c = subst (λ n. n ≤ 16) (sym (ap length c.deref_mut.ensures.value)) c.args.core.now.few
 
 pub bounds-choices-cpu : goal.bounds-choices-cpu
-bounds-choices-cpu g c = subst (λ n. c.args.cpu < n) (sym (choices_as_many (room_of some_beside (c.args.core.now, c.args.table.now)) c.args.cookie _ (c.choose-forced.ensures.each some_beside) ∙ length-map c.args.core.now.lanes.items lane_state)) c.requires.may.at.cpu
+bounds-choices-cpu g c = subst (λ n. c.args.cpu < n) (sym (choices_as_many (room_of some_beside (c.args.core.now, c.args.table.now)) c.args.cookie _ (c.choose-forced.ensures.gets.each some_beside) ∙ length-map c.args.core.now.lanes.items lane_state)) c.requires.may.at.cpu
 
 pub invariant_of-core : goal.invariant_of-core
 invariant_of-core g c =
@@ -49,10 +49,10 @@ plan : (g : Over) (c : goal.After-run g) (beside : Beside) →
 plan g c beside =
     let now = at c.args.now beside in
     let count = c.count.ensures.count in
-    let forced = (c.choose-forced.ensures.counts now).forced in
+    let forced = (c.choose-forced.ensures.gets.counts_are now).forced in
     record {
-      each = c.choose-forced.ensures.each now;
-      occupied = (c.choose-forced.ensures.counts now).occupation;
+      each = c.choose-forced.ensures.gets.each now;
+      occupied = (c.choose-forced.ensures.gets.counts_are now).occupation;
       renewed = c.renews_snapshots-renews.ensures ∙ (λ i. (count i == 0) || (forced i == 0));
     }
 
@@ -67,8 +67,8 @@ returns-clause-selects g c = record {
   room = λ beside.
       let now = at c.args.now beside in
       let room = room_of now (c.args.core.now, c.args.table.now) in
-      let forced = (c.choose-forced.ensures.counts now).forced in
-      let occupation = (c.choose-forced.ensures.counts now).occupation in
+      let forced = (c.choose-forced.ensures.gets.counts_are now).forced in
+      let occupation = (c.choose-forced.ensures.gets.counts_are now).occupation in
       let begun = c.begin.ensures.count ∙ forced in
       let chosen = c.begin.ensures.occupation ∙ occupation in
       let started = c.begin.ensures.started ∙ ap (λ n. cond ((n == 0) || (c.args.cookie == 0)) None (Some c.args.now)) forced in
@@ -97,8 +97,8 @@ returns-clause-selects g c = record {
   gets = λ beside.
       let room = room_of beside (c.args.core.now, c.args.table.now) in
       c.run.ensures
-      ∙ ap (λ (choices : List Choice). run_of (get_or choices c.args.cpu _)) (c.choose-forced.ensures.each beside)
+      ∙ ap (λ (choices : List Choice). run_of (get_or choices c.args.cpu _)) (c.choose-forced.ensures.gets.each beside)
       ∙ ap run_of (at_number (λ cpu. choice_of (choice room c.args.cookie cpu)) (length room.siblings) c.args.cpu _ (omega (arith, length-map c.args.core.now.lanes.items lane_state, c.requires.may.at.cpu)))
       ∙ run_of-choice_of (choice room c.args.cookie c.args.cpu);
-  forced = λ beside. c.begin.ensures.count ∙ (c.choose-forced.ensures.counts beside).forced;
+  forced = λ beside. c.begin.ensures.count ∙ (c.choose-forced.ensures.gets.counts_are beside).forced;
 }

@@ -40,57 +40,22 @@ overflow_add-own g c = omega (arith, c.requires.may.at.cpu, c.args.core.now.few)
 pub push-requires : goal.push-requires
 push-requires g c = omega (arith, c.ask_from-before.ensures.so_far, c.requires.may.at.cpu, c.args.core.now.few)
 
-pub ask_from-before-requires-clause-may : goal.ask_from-before-requires-clause-may
-ask_from-before-requires-clause-may g c cpu below = record { at = record { cpu = below; agree = c.requires.may.at.agree }; low = c.requires.may.low }
+pub ask_from-before-requires-clause-part : goal.ask_from-before-requires-clause-part
+ask_from-before-requires-clause-part g c = record {
+  order = omega arith;
+  within = omega (arith, c.requires.may.at.cpu);
+  may = λ cpu below. record { at = record { cpu = below; agree = c.requires.may.at.agree }; low = c.requires.may.low };
+}
+
+pub ask_from-lead-requires-clause-part : goal.ask_from-lead-requires-clause-part
+ask_from-lead-requires-clause-part g c = record {
+  order = omega (arith, c.len.ensures, c.args.core.now.lanes.ok.0, c.requires.may.at.cpu);
+  within = omega (arith, c.len.ensures, c.args.core.now.lanes.ok.0);
+  may = λ cpu below. record { at = record { cpu = below; agree = c.requires.may.at.agree }; low = c.requires.may.low };
+}
 
 pub ask_from-lead-requires-clause-so_far : goal.ask_from-lead-requires-clause-so_far
 ask_from-lead-requires-clause-so_far g c = omega (arith, c.push.ensures.len, c.ask_from-before.ensures.so_far)
-
-pub ask_from-lead-requires-clause-order : goal.ask_from-lead-requires-clause-order
-ask_from-lead-requires-clause-order g c = omega (arith, c.len.ensures, c.args.core.now.lanes.ok.0, c.requires.may.at.cpu)
-
-pub ask_from-lead-requires-clause-within : goal.ask_from-lead-requires-clause-within
-ask_from-lead-requires-clause-within g c = omega (arith, c.len.ensures, c.args.core.now.lanes.ok.0)
-
-pub ask_from-lead-requires-clause-may : goal.ask_from-lead-requires-clause-may
-ask_from-lead-requires-clause-may g c cpu below = record { at = record { cpu = below; agree = c.requires.may.at.agree }; low = c.requires.may.low }
-
-pub returns-clause-each : goal.returns-clause-each
-returns-clause-each g c beside =
-    let own = c.args.own in
-    let room = room_of beside (c.args.core.now, c.args.table.now) in
-    let offer : ℕ → Choice = λ cpu. choice_of (first_on room cpu) in
-    let whole : own - 0 ≡ own = omega arith in
-    let count : c.len.result ≡ length room.siblings = c.len.ensures ∙ c.args.core.now.lanes.ok.0 ∙ sym (length-map c.args.core.now.lanes.items lane_state) in
-    let below : own < length room.siblings = omega (arith, c.requires.may.at.cpu, length-map c.args.core.now.lanes.items lane_state) in
-    let before = c.ask_from-before.ensures.firsts beside ∙ (λ i. c.requires.empty i ++ map offer (range_with_len 0 (whole i))) in
-    let first = ap (λ (first : First). first.choice) (c.requires.first beside) in
-    c.ask_from-lead.ensures.firsts beside
-    ∙ (λ i. (c.push.ensures.items ∙ (λ j. before j ++ first j ∷ [])) i ++ map offer (range_with_len (own + 1) (count i - (own + 1))))
-    ∙ append_assoc (map offer (range_with_len 0 own)) (offer own ∷ []) (map offer (range_with_len (own + 1) (length room.siblings - (own + 1))))
-    ∙ sym (map-append offer (range_with_len 0 own) (own ∷ range_with_len (own + 1) (length room.siblings - (own + 1))))
-    ∙ ap (map offer) (own_between own (length room.siblings) below)
-
-pub returns-clause-lead : goal.returns-clause-lead
-returns-clause-lead g c beside =
-    let own = c.args.own in
-    let room = room_of beside (c.args.core.now, c.args.table.now) in
-    let may = c.requires.may in
-    let whole : own - 0 ≡ own = omega arith in
-    let some = own ∷ range_with_len (own + 1) (c.len.result - (own + 1)) in
-    let rest = range_with_len 0 (own - 0) in
-    let count : c.len.result ≡ length room.siblings = c.len.ensures ∙ c.args.core.now.lanes.ok.0 ∙ sym (length-map c.args.core.now.lanes.items lane_state) in
-    let from : suc (c.len.result - (own + 1)) ≡ length room.siblings - own = omega (arith, count, may.at.cpu, length-map c.args.core.now.lanes.items lane_state) in
-    let each = is_first room (policies_of (c.args.core.now, c.args.table.now) may.at.agree) in
-    let low = low_snapshots (map lane_state c.args.core.now.lanes.items) may.low.snapshots in
-    let lead = c.ask_from-lead.ensures.lead beside (own ∷ [])
-    (c.offered-offer.ensures beside c.args.table.now (c.requires.first beside) ∙ ap (kept_in room) (sym (lead_of-one room own))) in
-    let before = c.ask_from-before.ensures.lead beside [] c.idle.ensures in
-    ap (λ (first : First). first.choice.cookie)
-    (c.or_higher.ensures
-    ∙ (λ i. let one : First = lead i in let other : First = before i in cond (is_above other one) other one)
-    ∙ higher-kept_in room low (lead_of room some) (lead_of room rest) (of_lead room IsFirst tt each some) (of_lead room IsFirst tt each rest))
-    ∙ ap cookie_of (sym (lead_of-append room some rest) ∙ (λ i. lead_of room (range_with_len own (from i) ++ range_with_len 0 (whole i))) ∙ lead_of-all room own)
 
 pub returns-clause-counted : goal.returns-clause-counted
 returns-clause-counted g c longest longer =
@@ -101,3 +66,40 @@ returns-clause-counted g c longest longer =
     all_but_own own (length c.args.core.now.lanes.items) c.args.steps.now c.ask_from-before.new.steps c.ask_from-lead.new.steps most c.requires.may.at.cpu
     (subst (λ n. c.ask_from-before.new.steps ≤ c.args.steps.now + n * most) whole (c.ask_from-before.ensures.counted longest longer))
     (subst (λ n. c.ask_from-lead.new.steps ≤ c.ask_from-before.new.steps + (n - (own + 1)) * most) count (c.ask_from-lead.ensures.counted longest longer))
+
+pub returns-clause-asks : goal.returns-clause-asks
+returns-clause-asks g c = record {
+  each = λ beside.
+      let own = c.args.own in
+      let room = room_of beside (c.args.core.now, c.args.table.now) in
+      let offer : ℕ → Choice = λ cpu. choice_of (first_on room cpu) in
+      let whole : own - 0 ≡ own = omega arith in
+      let count : c.len.result ≡ length room.siblings = c.len.ensures ∙ c.args.core.now.lanes.ok.0 ∙ sym (length-map c.args.core.now.lanes.items lane_state) in
+      let below : own < length room.siblings = omega (arith, c.requires.may.at.cpu, length-map c.args.core.now.lanes.items lane_state) in
+      let before = c.ask_from-before.ensures.asks.firsts beside ∙ (λ i. c.requires.empty i ++ map offer (range_with_len 0 (whole i))) in
+      let first = ap (λ (first : First). first.choice) (c.requires.first beside) in
+      c.ask_from-lead.ensures.asks.firsts beside
+      ∙ (λ i. (c.push.ensures.items ∙ (λ j. before j ++ first j ∷ [])) i ++ map offer (range_with_len (own + 1) (count i - (own + 1))))
+      ∙ append_assoc (map offer (range_with_len 0 own)) (offer own ∷ []) (map offer (range_with_len (own + 1) (length room.siblings - (own + 1))))
+      ∙ sym (map-append offer (range_with_len 0 own) (own ∷ range_with_len (own + 1) (length room.siblings - (own + 1))))
+      ∙ ap (map offer) (own_between own (length room.siblings) below);
+  lead = λ beside.
+      let own = c.args.own in
+      let room = room_of beside (c.args.core.now, c.args.table.now) in
+      let may = c.requires.may in
+      let whole : own - 0 ≡ own = omega arith in
+      let some = own ∷ range_with_len (own + 1) (c.len.result - (own + 1)) in
+      let rest = range_with_len 0 (own - 0) in
+      let count : c.len.result ≡ length room.siblings = c.len.ensures ∙ c.args.core.now.lanes.ok.0 ∙ sym (length-map c.args.core.now.lanes.items lane_state) in
+      let from : suc (c.len.result - (own + 1)) ≡ length room.siblings - own = omega (arith, count, may.at.cpu, length-map c.args.core.now.lanes.items lane_state) in
+      let each = is_first room (policies_of (c.args.core.now, c.args.table.now) may.at.agree) in
+      let low = low_snapshots (map lane_state c.args.core.now.lanes.items) may.low.snapshots in
+      let lead = c.ask_from-lead.ensures.asks.lead beside (own ∷ [])
+      (c.offered-offer.ensures c.args.table.now c.requires.first beside ∙ ap (kept_in room) (sym (lead_of-one room own))) in
+      let before = c.ask_from-before.ensures.asks.lead beside [] c.idle.ensures in
+      ap (λ (first : First). first.choice.cookie)
+      (c.or_higher.ensures
+      ∙ (λ i. let one : First = lead i in let other : First = before i in cond (is_above other one) other one)
+      ∙ higher-kept_in room low (lead_of room some) (lead_of room rest) (of_lead room IsFirst tt each some) (of_lead room IsFirst tt each rest))
+      ∙ ap cookie_of (sym (lead_of-append room some rest) ∙ (λ i. lead_of room (range_with_len own (from i) ++ range_with_len 0 (whole i))) ∙ lead_of-all room own);
+}

@@ -39,14 +39,14 @@ pub loop-cpu-preserved : goal.loop-cpu-preserved
 loop-cpu-preserved g c =
     let cpu = c.loop-cpu.cpu in
     let from = c.args.from in
-    let below : cpu < length c.args.core.now.lanes.items = omega (arith, c.loop-cpu-test.true, c.requires.within) in
-    let may = c.requires.may cpu below in
+    let below : cpu < length c.args.core.now.lanes.items = omega (arith, c.loop-cpu-test.true, c.requires.part.within) in
+    let may = c.requires.part.may cpu below in
     record {
       counted = omega (arith, c.push.ensures.len, c.loop-cpu.invariant.counted);
       made = λ beside.
           let room = room_of beside (c.args.core.now, c.args.table.now) in
           let offer : ℕ → Choice = λ cpu. choice_of (first_on room cpu) in
-          let first = c.first_at-first.ensures.first beside in
+          let first = c.first_at-first.ensures.answer beside in
           c.push.ensures.items
           ∙ (λ i. c.loop-cpu.invariant.made beside i ++ (ap (λ (first : First). first.choice) first) i ∷ [])
           ∙ append_assoc c.args.firsts.now.items (map offer (range_with_len from (cpu - from))) (offer cpu ∷ [])
@@ -54,7 +54,7 @@ loop-cpu-preserved g c =
       leads = λ beside order is.
           let room = room_of beside (c.args.core.now, c.args.table.now) in
           let before = order ++ range_with_len from (cpu - from) in
-          let first = c.offered.ensures beside c.args.table.now (c.first_at-first.ensures.first beside) in
+          let first = c.offered.ensures c.args.table.now c.first_at-first.ensures.answer beside in
           let each = is_first room (policies_of (c.args.core.now, c.args.table.now) may.at.agree) in
           let low = low_snapshots (map lane_state c.args.core.now.lanes.items) may.low.snapshots in
           c.or_higher-lead.ensures
@@ -68,14 +68,16 @@ loop-cpu-preserved g c =
           rw next (one_more _ _ _ (cpu - from) _ (c.loop-cpu.invariant.asked longest longer) (omega (arith, c.first_at-first.ensures.counted, rises)));
     }
 
-pub returns-clause-firsts : goal.returns-clause-firsts
-returns-clause-firsts g c beside = let there : c.args.to ≡ c.loop-cpu.cpu = omega (arith, c.loop-cpu.auto.cpu-end c.requires.order) in rw there (c.loop-cpu.invariant.made beside)
-
-pub returns-clause-lead : goal.returns-clause-lead
-returns-clause-lead g c beside order is = let there : c.args.to ≡ c.loop-cpu.cpu = omega (arith, c.loop-cpu.auto.cpu-end c.requires.order) in rw there (c.loop-cpu.invariant.leads beside order is)
-
 pub returns-clause-counted : goal.returns-clause-counted
-returns-clause-counted g c longest longer = let there : c.args.to ≡ c.loop-cpu.cpu = omega (arith, c.loop-cpu.auto.cpu-end c.requires.order) in rw there (c.loop-cpu.invariant.asked longest longer)
+returns-clause-counted g c longest longer = let there : c.args.to ≡ c.loop-cpu.cpu = omega (arith, c.loop-cpu.auto.cpu-end c.requires.part.order) in rw there (c.loop-cpu.invariant.asked longest longer)
 
 pub returns-clause-so_far : goal.returns-clause-so_far
-returns-clause-so_far g c = omega (arith, c.loop-cpu.invariant.counted, c.loop-cpu.auto.cpu-end c.requires.order)
+returns-clause-so_far g c = omega (arith, c.loop-cpu.invariant.counted, c.loop-cpu.auto.cpu-end c.requires.part.order)
+
+pub returns-clause-asks : goal.returns-clause-asks
+returns-clause-asks g c =
+    let there : c.args.to ≡ c.loop-cpu.cpu = omega (arith, c.loop-cpu.auto.cpu-end c.requires.part.order) in
+    record {
+      firsts = λ beside. rw there (c.loop-cpu.invariant.made beside);
+      lead = λ beside order is. rw there (c.loop-cpu.invariant.leads beside order is);
+    }

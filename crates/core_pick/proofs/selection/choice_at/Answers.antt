@@ -1,4 +1,4 @@
-use Rattle.std.proofs.Common.{◌≡◌, ◌∙◌, ℕ, Option, ap, sym, refl, length, None, Some}
+use Rattle.std.proofs.Common.{◌≡◌, ◌∙◌, arith, ℕ, Option, ap, sym, refl, length, None, Some}
 use Rattle.std.specs.Prelude.{◌||◌, ◌==◌, is_none}
 use Rattle.std.specs.Option.{option_map}
 use Rattle.std.proofs.lemmas.Bool.{cond-true, cond-false, eq-eqb, ne_eqb}
@@ -20,44 +20,59 @@ tested : (first : Option Task) (kept : Choice) (cookie : ℕ) → kept ≡ choic
 tested first kept cookie is =
     ap (λ (kept : Choice). (kept.class == idle_class) || (kept.cookie == cookie)) is ∙ ap (λ b. b || (cookie_of first == cookie)) (is_idle first)
 
-pub returns-then-is_kept-clause-choice : goal.returns-then-is_kept-clause-choice
-returns-then-is_kept-clause-choice g c beside is =
-    let room = room_of beside (c.args.core.now, c.args.table.now) in
-    let first = first_on room c.args.cpu in
-    is ∙ ap choice_of (sym (choice_kept room c.args.cookie c.args.cpu (sym (tested first c.args.first.now c.args.cookie is) ∙ sym c.is_kept.ensures ∙ c.if-is_kept.true)))
-
-pub returns-then-cookie-eq0-clause-choice : goal.returns-then-cookie-eq0-clause-choice
-returns-then-cookie-eq0-clause-choice g c beside is =
-    let room = room_of beside (c.args.core.now, c.args.table.now) in
-    let other = sym (tested (first_on room c.args.cpu) c.args.first.now c.args.cookie is) ∙ sym c.is_kept.ensures ∙ c.if-is_kept.false in
-    c.idle.ensures
-    ∙ ap choice_of (sym (choice_searched room c.args.cookie c.args.cpu other
-    ∙ cond-true (c.args.cookie == 0) None (first_of (queued_with room c.args.cookie c.args.cpu)) (eq-eqb c.args.cookie 0 c.if-cookie-eq0.true)))
-
-pub first_with-requires-clause-search : goal.first_with-requires-clause-search
-first_with-requires-clause-search g c =
+pub first_with-requires : goal.first_with-requires
+first_with-requires g c =
     let lanes = c.args.core.now.lanes.items in
     record {
-      policies = policies_of (c.args.core.now, c.args.table.now) c.requires.agree;
-      holds = c.requires.agree.held c.args.cpu c.index.result.now.queue
-          (slice_get-map queue_of lanes c.args.cpu ∙ ap (option_map queue_of) (slice_get_read lanes (length lanes) c.args.cpu c.index.result.now refl c.requires.cpu c.index.ensures));
+      cookie = c.if-cookie-eq0.false;
+      search = record {
+        policies = policies_of (c.args.core.now, c.args.table.now) c.requires.agree;
+        holds = c.requires.agree.held c.args.cpu c.index.result.now.queue
+            (slice_get-map queue_of lanes c.args.cpu ∙ ap (option_map queue_of) (slice_get_read lanes (length lanes) c.args.cpu c.index.result.now refl c.requires.cpu c.index.ensures));
+      };
     }
 
-pub returns-in-Some-clause-choice : goal.returns-in-Some-clause-choice
-returns-in-Some-clause-choice g c beside is =
-    let room = room_of beside (c.args.core.now, c.args.table.now) in
-    let other = sym (tested (first_on room c.args.cpu) c.args.first.now c.args.cookie is) ∙ sym c.is_kept.ensures ∙ c.if-is_kept.false in
-    let queued : c.of.result ≡ choice_of (Some c.in-Some.task) = c.of.ensures ∙ ap (λ (queued : Queued). let one : Choice = record { cookie = queued.cookie; pid = queued.pid; class = queued.class } in one) c.queued_of.ensures in
-    queued
-    ∙ ap choice_of (sym c.in-Some.is ∙ c.first_with.ensures.first
-    ∙ sym (choice_searched room c.args.cookie c.args.cpu other
-    ∙ cond-false (c.args.cookie == 0) None (first_of (queued_with room c.args.cookie c.args.cpu)) (ne_eqb c.args.cookie 0 c.if-cookie-eq0.false)))
+pub returns-then-is_kept : goal.returns-then-is_kept
+returns-then-is_kept g c = record {
+  answer = λ beside is.
+      let room = room_of beside (c.args.core.now, c.args.table.now) in
+      let first = first_on room c.args.cpu in
+      is ∙ ap choice_of (sym (choice_kept room c.args.cookie c.args.cpu (sym (tested first c.args.first.now c.args.cookie is) ∙ sym c.is_kept.ensures ∙ c.if-is_kept.true)));
+  counted = omega arith;
+}
 
-pub returns-in-None-clause-choice : goal.returns-in-None-clause-choice
-returns-in-None-clause-choice g c beside is =
-    let room = room_of beside (c.args.core.now, c.args.table.now) in
-    let other = sym (tested (first_on room c.args.cpu) c.args.first.now c.args.cookie is) ∙ sym c.is_kept.ensures ∙ c.if-is_kept.false in
-    c.idle-in-None.ensures
-    ∙ ap choice_of (sym c.in-None.is ∙ c.first_with.ensures.first
-    ∙ sym (choice_searched room c.args.cookie c.args.cpu other
-    ∙ cond-false (c.args.cookie == 0) None (first_of (queued_with room c.args.cookie c.args.cpu)) (ne_eqb c.args.cookie 0 c.if-cookie-eq0.false)))
+pub returns-then-cookie-eq0 : goal.returns-then-cookie-eq0
+returns-then-cookie-eq0 g c = record {
+  answer = λ beside is.
+      let room = room_of beside (c.args.core.now, c.args.table.now) in
+      let other = sym (tested (first_on room c.args.cpu) c.args.first.now c.args.cookie is) ∙ sym c.is_kept.ensures ∙ c.if-is_kept.false in
+      c.idle.ensures
+      ∙ ap choice_of (sym (choice_searched room c.args.cookie c.args.cpu other
+      ∙ cond-true (c.args.cookie == 0) None (first_of (queued_with room c.args.cookie c.args.cpu)) (eq-eqb c.args.cookie 0 c.if-cookie-eq0.true)));
+  counted = omega arith;
+}
+
+pub returns-in-Some : goal.returns-in-Some
+returns-in-Some g c = record {
+  answer = λ beside is.
+      let room = room_of beside (c.args.core.now, c.args.table.now) in
+      let other = sym (tested (first_on room c.args.cpu) c.args.first.now c.args.cookie is) ∙ sym c.is_kept.ensures ∙ c.if-is_kept.false in
+      let queued : c.of.result ≡ choice_of (Some c.in-Some.task) = c.of.ensures ∙ ap (λ (queued : Queued). let one : Choice = record { cookie = queued.cookie; pid = queued.pid; class = queued.class } in one) c.queued_of.ensures in
+      queued
+      ∙ ap choice_of (sym c.in-Some.is ∙ c.first_with.ensures.answer
+      ∙ sym (choice_searched room c.args.cookie c.args.cpu other
+      ∙ cond-false (c.args.cookie == 0) None (first_of (queued_with room c.args.cookie c.args.cpu)) (ne_eqb c.args.cookie 0 c.if-cookie-eq0.false)));
+  counted = c.first_with.ensures.counted;
+}
+
+pub returns-in-None : goal.returns-in-None
+returns-in-None g c = record {
+  answer = λ beside is.
+      let room = room_of beside (c.args.core.now, c.args.table.now) in
+      let other = sym (tested (first_on room c.args.cpu) c.args.first.now c.args.cookie is) ∙ sym c.is_kept.ensures ∙ c.if-is_kept.false in
+      c.idle-in-None.ensures
+      ∙ ap choice_of (sym c.in-None.is ∙ c.first_with.ensures.answer
+      ∙ sym (choice_searched room c.args.cookie c.args.cpu other
+      ∙ cond-false (c.args.cookie == 0) None (first_of (queued_with room c.args.cookie c.args.cpu)) (ne_eqb c.args.cookie 0 c.if-cookie-eq0.false)));
+  counted = c.first_with.ensures.counted;
+}

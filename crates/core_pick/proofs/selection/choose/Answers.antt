@@ -61,42 +61,42 @@ loop-cpu-preserved g c =
           let room = room_of beside (c.args.core.now, c.args.table.now) in
           let gets : ℕ × Choice → Choice = λ numbered. choice_of (choice room core numbered.0) in
           placed_more gets c.args.choices.now c.loop-cpu.choices cpu c.settle-counts.new.given no_choice c.loop-cpu-test.true (c.loop-cpu.invariant.made beside)
-          (c.settle-counts.ensures.settles beside (was beside)).gets;
+          (c.settle-counts.ensures.answer beside (was beside)).gets;
       forced = λ beside.
           let p = gets_none (room_of beside (c.args.core.now, c.args.table.now)) core in
-          (c.settle-counts.ensures.settles beside (was beside)).counts.forced ∙ ap (λ n. n + cond (p cpu) 1 0) (c.loop-cpu.invariant.forced beside) ∙ sym (count_more p cpu);
+          (c.settle-counts.ensures.answer beside (was beside)).counts.forced ∙ ap (λ n. n + cond (p cpu) 1 0) (c.loop-cpu.invariant.forced beside) ∙ sym (count_more p cpu);
       occupation = λ beside.
           let p = gets_task (room_of beside (c.args.core.now, c.args.table.now)) core in
-          (c.settle-counts.ensures.settles beside (was beside)).counts.occupation ∙ ap (λ n. n + cond (p cpu) 1 0) (c.loop-cpu.invariant.occupation beside) ∙ sym (count_more p cpu);
+          (c.settle-counts.ensures.answer beside (was beside)).counts.occupation ∙ ap (λ n. n + cond (p cpu) 1 0) (c.loop-cpu.invariant.occupation beside) ∙ sym (count_more p cpu);
       asked = λ longest longer.
           let rises = g.met.Q.SiblingQueue.rises _ _ (longer cpu below) in
           one_more _ _ _ cpu _ (c.loop-cpu.invariant.asked longest longer) (omega (arith, c.settle-counts.ensures.counted, rises));
-    }
-
-pub returns-clause-each : goal.returns-clause-each
-returns-clause-each g c beside =
-    let room = room_of beside (c.args.core.now, c.args.table.now) in
-    let choices = c.args.choices.now in
-    let gets : ℕ × Choice → Choice = λ numbered. choice_of (choice room c.args.cookie numbered.0) in
-    let get : ℕ → Choice = λ cpu. choice_of (choice room c.args.cookie cpu) in
-    let all : c.loop-cpu.cpu ≡ length choices = omega (arith, c.loop-cpu-test.false, c.loop-cpu.auto.cpu-end) in
-    let as_many : length choices ≡ length room.siblings = omega (arith, many g (goal.at.returns-clause-each g c).Start, length-map c.args.core.now.lanes.items lane_state) in
-    c.loop-cpu.invariant.made beside
-    ∙ ap (λ n. map gets (enumerate_from 0 (take n choices)) ++ drop n choices) all
-    ∙ (λ i. map gets (enumerate_from 0 (take-length choices i)) ++ drop-length choices i)
-    ∙ append-nil (map gets (enumerate_from 0 choices))
-    ∙ map-enumerate_from get 0 choices ∙ ap (λ n. map get (range_with_len 0 n)) as_many
-
-pub returns-clause-counts : goal.returns-clause-counts
-returns-clause-counts g c beside =
-    let room = room_of beside (c.args.core.now, c.args.table.now) in
-    let all : c.loop-cpu.cpu ≡ length room.siblings = omega (arith, c.loop-cpu-test.false, c.loop-cpu.auto.cpu-end, many g (goal.at.returns-clause-counts g c).Start, length-map c.args.core.now.lanes.items lane_state) in
-    record {
-      forced = c.loop-cpu.invariant.forced beside ∙ ap (λ n. count_by (gets_none room c.args.cookie) (range_with_len 0 n)) all ∙ all_forced room c.args.cookie;
-      occupation = c.loop-cpu.invariant.occupation beside ∙ ap (λ n. count_by (gets_task room c.args.cookie) (range_with_len 0 n)) all ∙ all_occupied room c.args.cookie;
     }
 
 pub returns-clause-counted : goal.returns-clause-counted
 returns-clause-counted g c longest longer =
     let all : c.loop-cpu.cpu ≡ length c.args.core.now.lanes.items = omega (arith, c.loop-cpu-test.false, c.loop-cpu.auto.cpu-end, many g (goal.at.returns-clause-counted g c).Start) in
     subst (λ n. c.loop-cpu.steps ≤ c.args.steps.now + n * g.Q.SiblingQueue.most_compared longest) all (c.loop-cpu.invariant.asked longest longer)
+
+pub returns-clause-gets : goal.returns-clause-gets
+returns-clause-gets g c = record {
+  each = λ beside.
+      let room = room_of beside (c.args.core.now, c.args.table.now) in
+      let choices = c.args.choices.now in
+      let gets : ℕ × Choice → Choice = λ numbered. choice_of (choice room c.args.cookie numbered.0) in
+      let get : ℕ → Choice = λ cpu. choice_of (choice room c.args.cookie cpu) in
+      let all : c.loop-cpu.cpu ≡ length choices = omega (arith, c.loop-cpu-test.false, c.loop-cpu.auto.cpu-end) in
+      let as_many : length choices ≡ length room.siblings = omega (arith, many g (goal.at.returns-clause-gets g c).Start, length-map c.args.core.now.lanes.items lane_state) in
+      c.loop-cpu.invariant.made beside
+      ∙ ap (λ n. map gets (enumerate_from 0 (take n choices)) ++ drop n choices) all
+      ∙ (λ i. map gets (enumerate_from 0 (take-length choices i)) ++ drop-length choices i)
+      ∙ append-nil (map gets (enumerate_from 0 choices))
+      ∙ map-enumerate_from get 0 choices ∙ ap (λ n. map get (range_with_len 0 n)) as_many;
+  counts_are = λ beside.
+      let room = room_of beside (c.args.core.now, c.args.table.now) in
+      let all : c.loop-cpu.cpu ≡ length room.siblings = omega (arith, c.loop-cpu-test.false, c.loop-cpu.auto.cpu-end, many g (goal.at.returns-clause-gets g c).Start, length-map c.args.core.now.lanes.items lane_state) in
+      record {
+        forced = c.loop-cpu.invariant.forced beside ∙ ap (λ n. count_by (gets_none room c.args.cookie) (range_with_len 0 n)) all ∙ all_forced room c.args.cookie;
+        occupation = c.loop-cpu.invariant.occupation beside ∙ ap (λ n. count_by (gets_task room c.args.cookie) (range_with_len 0 n)) all ∙ all_occupied room c.args.cookie;
+      };
+}

@@ -43,11 +43,14 @@ kept_of-requires g c =
       snapshot_low = subst (λ (sibling : SiblingState). sibling.snapshot < 2 ^ 100) own (low_snapshots (map lane_state lanes) c.requires.low.snapshots c.args.cpu);
     }
 
-pub returns-clause-first : goal.returns-clause-first
-returns-clause-first g c beside =
-    let lanes = c.args.core.now.lanes.items in
-    let room = room_of beside (c.args.core.now, c.args.table.now) in
-    let own = sym (lane_at lanes c.args.cpu c.index.result.now c.requires.at.cpu c.index.ensures) in
-    c.kept_of.ensures (first_on room c.args.cpu) (c.as_ref.ensures.value ∙ c.first_on-first.ensures.first beside)
-    ∙ (λ i. let sibling : SiblingState = own i in kept_of sibling.snapshot (first_on room c.args.cpu))
-    ∙ kept_at_home room c.args.cpu
+pub returns : goal.returns
+returns g c = record {
+  answer = λ beside.
+      let lanes = c.args.core.now.lanes.items in
+      let room = room_of beside (c.args.core.now, c.args.table.now) in
+      let own = sym (lane_at lanes c.args.cpu c.index.result.now c.requires.at.cpu c.index.ensures) in
+      c.kept_of.ensures (first_on room c.args.cpu) (c.as_ref.ensures.value ∙ c.first_on-first.ensures.first beside)
+      ∙ (λ i. let sibling : SiblingState = own i in kept_of sibling.snapshot (first_on room c.args.cpu))
+      ∙ kept_at_home room c.args.cpu;
+  counted = c.first_on-first.ensures.counted;
+}

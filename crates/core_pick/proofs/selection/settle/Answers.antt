@@ -1,4 +1,4 @@
-use Rattle.std.proofs.Common.{◌≡◌, ◌∙◌, ◌+◌, Bool, true, false, cond, ap, sym, Option}
+use Rattle.std.proofs.Common.{arith, ◌≡◌, ◌∙◌, ◌+◌, Bool, true, false, cond, ap, sym, Option}
 use Rattle.std.specs.Prelude.{◌==◌, is_none}
 use Rattle.cs_types.specs.declared.task.Task.{Task}
 use Rattle.cs_types.specs.Order.{idle_class}
@@ -14,31 +14,40 @@ use Rattle.core_pick.proofs.selection.settle.Goals as goal
 tested : (task : Option Task) (given : Choice) (test b : Bool) → given ≡ choice_of task → test ≡ (given.class == idle_class) → test ≡ b → is_none task ≡ b
 tested task given test b is same now = sym (is_idle task) ∙ ap (λ (given : Choice). given.class == idle_class) (sym is) ∙ sym same ∙ now
 
-pub returns-then-is_idle-clause-settles : goal.returns-then-is_idle-clause-settles
-returns-then-is_idle-clause-settles g c beside is =
-    let room = room_of beside (c.args.core.now, c.args.table.now) in
-    let none = tested (first_on room c.args.cpu) c.args.given.now c.is_idle.result true is c.is_idle.ensures c.if-is_idle.true in
-    record {
-      gets = is ∙ ap choice_of (sym (nothing_there room c.args.cookie c.args.cpu none));
-      counts = counted_nothing room c.args.cookie c.args.cpu c.args.counts c.args.counts none;
-    }
+pub returns-then-is_idle : goal.returns-then-is_idle
+returns-then-is_idle g c = record {
+  answer = λ beside is.
+      let room = room_of beside (c.args.core.now, c.args.table.now) in
+      let none = tested (first_on room c.args.cpu) c.args.given.now c.is_idle.result true is c.is_idle.ensures c.if-is_idle.true in
+      record {
+        gets = is ∙ ap choice_of (sym (nothing_there room c.args.cookie c.args.cpu none));
+        counts = counted_nothing room c.args.cookie c.args.cpu c.args.counts c.args.counts none;
+      };
+  counted = omega arith;
+}
 
-pub returns-then-is_online-clause-settles : goal.returns-then-is_online-clause-settles
-returns-then-is_online-clause-settles g c beside is =
-    let room = room_of beside (c.args.core.now, c.args.table.now) in
-    let counts = c.args.counts in
-    let gets = c.choice_at.ensures.choice beside is in
-    record {
-      gets = gets;
-      counts = counted_task room c.args.cookie c.args.cpu counts c.with.result
-          (tested (first_on room c.args.cpu) c.args.given.now c.is_idle.result false is c.is_idle.ensures c.if-is_idle.false)
-          (sym (c.is_online.ensures beside c.args.table.now) ∙ c.if-is_online.true)
-          (c.with.ensures ∙ ap (λ b. cond b (let one : Counts = record counts { forced = counts.forced + 1 } in one) (let one : Counts = record counts { occupation = counts.occupation + 1 } in one))
-          (ap (λ (given : Choice). given.class == idle_class) gets ∙ is_idle (choice room c.args.cookie c.args.cpu)));
-    }
+pub returns-then-is_online : goal.returns-then-is_online
+returns-then-is_online g c = record {
+  answer = λ beside is.
+      let room = room_of beside (c.args.core.now, c.args.table.now) in
+      let counts = c.args.counts in
+      let gets = c.choice_at.ensures.answer beside is in
+      record {
+        gets = gets;
+        counts = counted_task room c.args.cookie c.args.cpu counts c.with.result
+            (tested (first_on room c.args.cpu) c.args.given.now c.is_idle.result false is c.is_idle.ensures c.if-is_idle.false)
+            (sym (c.is_online.ensures beside c.args.table.now) ∙ c.if-is_online.true)
+            (c.with.ensures ∙ ap (λ b. cond b (let one : Counts = record counts { forced = counts.forced + 1 } in one) (let one : Counts = record counts { occupation = counts.occupation + 1 } in one))
+            (ap (λ (given : Choice). given.class == idle_class) gets ∙ is_idle (choice room c.args.cookie c.args.cpu)));
+      };
+  counted = c.choice_at.ensures.counted;
+}
 
-pub returns-else-is_online-clause-settles : goal.returns-else-is_online-clause-settles
-returns-else-is_online-clause-settles g c beside is = record {
-  gets = c.choice_at.ensures.choice beside is;
-  counts = counted_offline (room_of beside (c.args.core.now, c.args.table.now)) c.args.cookie c.args.cpu c.args.counts c.args.counts (sym (c.is_online.ensures beside c.args.table.now) ∙ c.if-is_online.false);
+pub returns-else-is_online : goal.returns-else-is_online
+returns-else-is_online g c = record {
+  answer = λ beside is. record {
+    gets = c.choice_at.ensures.answer beside is;
+    counts = counted_offline (room_of beside (c.args.core.now, c.args.table.now)) c.args.cookie c.args.cpu c.args.counts c.args.counts (sym (c.is_online.ensures beside c.args.table.now) ∙ c.if-is_online.false);
+  };
+  counted = c.choice_at.ensures.counted;
 }

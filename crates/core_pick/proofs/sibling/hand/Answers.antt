@@ -18,11 +18,11 @@ idle_is_not None is = refl
 idle_is_not (Some task) is = absurd cc
 
 pub returns-in-None-clause-state : goal.returns-in-None-clause-state
-returns-in-None-clause-state g c room cookie selector cpu is selects occupied renewed =
+returns-in-None-clause-state g c room cookie selector cpu is told =
     let none = runs (choice room cookie cpu) c.args.given.now None is (sym c.in-None.is ∙ c.run.ensures) in
-    c.take.ensures.state room cookie selector cpu none (idle_is_not (choice room cookie cpu) none) selects occupied renewed
+    c.take.ensures.state room cookie selector cpu none (idle_is_not (choice room cookie cpu) none) told
 
 pub returns-in-Some-clause-state : goal.returns-in-Some-clause-state
-returns-in-Some-clause-state g c room cookie selector cpu is selects occupied renewed =
+returns-in-Some-clause-state g c room cookie selector cpu is told =
     c.take-in-Some.ensures.state room cookie selector cpu (runs (choice room cookie cpu) c.args.given.now (Some c.in-Some.pid) is (sym c.in-Some.is ∙ c.run.ensures))
-    (c.is_fair.ensures ∙ ap (λ (given : Choice). given.class == fair_class) is ∙ is_fair-choice_of (choice room cookie cpu)) selects occupied renewed
+    (c.is_fair.ensures ∙ ap (λ (given : Choice). given.class == fair_class) is ∙ is_fair-choice_of (choice room cookie cpu)) told

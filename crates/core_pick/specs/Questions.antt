@@ -1,0 +1,67 @@
+-- Questions: what a selection asks of the siblings, and what it keeps of their answers.
+use Rattle.std.specs.Prelude.{◌≡◌, ℕ, ◌-◌, ◌<◌, ◌≤◌, ◌++◌, List, map, length}
+use Rattle.std.specs.List.{range_with_len}
+use Rattle.cs_types.specs.Selection.{first_on, cookie_of, lead_from, choice}
+use Rattle.task_table.specs.Table.{Table}
+use Rattle.core_lanes.specs.declared.queue.SiblingQueue.{Ghosts}
+use Rattle.core_lanes.specs.declared.lanes.Core.{Core}
+use Rattle.core_lanes.specs.Queued.{queued_among, Answers}
+use Rattle.core_lanes.specs.Lanes.{Beside, room_of, AgreesAt, HasLowTimes}
+use Rattle.core_pick.specs.declared.choice.Choice.{Choice}
+use Rattle.core_pick.specs.declared.choice.Counts.{Counts}
+use Rattle.core_pick.specs.declared.lead.First.{First}
+use Rattle.core_pick.specs.Choice.{choice_of, kept_in, firsts_of, offered, lead_in, choices_of, Settles, AreCountsOf}
+
+-- ---- of one sibling
+
+-- the sibling may be asked for its first task
+pub record MayAsk {Q : Type 0} {g : Ghosts Q} (sibling : ℕ) (both : Core Q g × Table) : Type 0 where
+  pub at : AgreesAt sibling both
+  pub low : HasLowTimes both
+
+-- its queue is asked, answers this, and makes no more comparisons than one question takes
+abbrev pub AsksOnce : {Q : Type 0} {g : Ghosts Q} → ℕ → Core Q g × Table → Type 0 → ℕ → ℕ → Type 0
+AsksOnce {g = g} cpu both Answer before after = Answers Answer g.most_compared (queued_among both.1.tasks cpu) before after
+
+-- this is what is kept of its first task
+abbrev pub KeepsFirst : {Q : Type 0} {g : Ghosts Q} → ℕ → Core Q g × Table → First → Type 0
+KeepsFirst cpu both first = (beside : Beside) → let room = room_of beside both in first ≡ kept_in room (first_on room cpu)
+
+-- and this of what it puts up to lead
+abbrev pub KeepsOffered : {Q : Type 0} {g : Ghosts Q} → ℕ → Core Q g × Table → First → Type 0
+KeepsOffered cpu both first = (beside : Beside) → let room = room_of beside both in first ≡ kept_in room (offered room cpu)
+
+-- where the one is its first task, the other is what it gets for a core cookie
+abbrev pub Gets : {Q : Type 0} {g : Ghosts Q} → ℕ → ℕ → Core Q g × Table → Choice → Choice → Type 0
+Gets cpu cookie both first given = (beside : Beside) → let room = room_of beside both in
+    first ≡ choice_of (first_on room cpu) → given ≡ choice_of (choice room cookie cpu)
+
+-- and it is counted with that
+abbrev pub GetsCounted : {Q : Type 0} {g : Ghosts Q} → ℕ → ℕ → Core Q g × Table → Counts → Counts → Choice → Choice → Type 0
+GetsCounted cpu cookie both before now first given = (beside : Beside) → let room = room_of beside both in
+    first ≡ choice_of (first_on room cpu) → Settles room cookie cpu before now given
+
+-- ---- of several
+
+-- each sibling from one on up to another may be asked for its first task
+pub record MayAskPart {Q : Type 0} {g : Ghosts Q} (from to : ℕ) (both : Core Q g × Table) : Type 0 where
+  pub order : from ≤ to
+  pub within : to ≤ length both.0.lanes.items
+  pub may : (cpu : ℕ) → cpu < length both.0.lanes.items → MayAsk cpu both
+
+-- their first tasks are added to those before, and where the one first leads some siblings, the other leads these too
+pub record AsksPart {Q : Type 0} {g : Ghosts Q} (from to : ℕ) (both : Core Q g × Table) (old new : List Choice) (before now : First) : Type 0 where
+  pub firsts : (beside : Beside) → let room = room_of beside both in
+      new ≡ old ++ map (λ cpu. choice_of (first_on room cpu)) (range_with_len from (to - from))
+  pub lead : (beside : Beside) (order : List ℕ) → let room = room_of beside both in
+      before ≡ lead_in room order → now ≡ lead_in room (order ++ range_with_len from (to - from))
+
+-- these are the first tasks of all siblings, and the cookie of the lead of a selection that the sibling makes
+pub record AsksAll {Q : Type 0} {g : Ghosts Q} (sibling : ℕ) (both : Core Q g × Table) (firsts : List Choice) (cookie : ℕ) : Type 0 where
+  pub each : (beside : Beside) → firsts ≡ firsts_of (room_of beside both)
+  pub lead : (beside : Beside) → cookie ≡ cookie_of (lead_from (room_of beside both) sibling)
+
+-- this is what all of them get for a core cookie, and how many are counted
+pub record GetAll {Q : Type 0} {g : Ghosts Q} (cookie : ℕ) (both : Core Q g × Table) (choices : List Choice) (counts : Counts) : Type 0 where
+  pub each : (beside : Beside) → choices ≡ choices_of (room_of beside both) cookie
+  pub counts_are : (beside : Beside) → AreCountsOf (room_of beside both) cookie counts
