@@ -1,32 +1,34 @@
 -- Time: what an advance asks of a core and its table, and how it ages the siblings.
-use Rattle.std.specs.Prelude.{◌≡◌, ℕ, List, ◌+◌, ◌*◌, ◌^◌, ◌<◌, ◌≤◌, All, IfSome, IsSomeAnd, map}
+use Rattle.std.specs.Prelude.{ℕ, List, ◌+◌, ◌*◌, ◌^◌, ◌<◌, ◌≤◌, All, map}
 use Rattle.std.specs.Option.{option_map_or}
 use Rattle.cs_types.specs.declared.task.Task.{Task}
-use Rattle.cs_types.specs.Room.{RoomState, SiblingState, task_of, sibling_of, running_on, with_task}
+use Rattle.cs_types.specs.Room.{RoomState, SiblingState, running_on, with_task}
 use Rattle.cs_types.specs.Time.{grown_by}
 use Rattle.task_table.specs.Table.{Table}
 use Rattle.core_lanes.specs.declared.queue.SiblingQueue.{Ghosts}
 use Rattle.core_lanes.specs.declared.lanes.Core.{Core}
-use Rattle.core_lanes.specs.Lanes.{Beside, lane_state, room_of, Agree, HasLowTimes, RunTheirOwn}
+use Rattle.core_lanes.specs.Lanes.{lane_state, Agree, HasLowTimes, RunTheirOwn}
 
 -- ---- what is asked
 
--- The clock may go on: no task is run by two siblings; and none has used more than the clock, nor has a sibling run for longer
+-- The clock may go on by delta ns, at most a second: no task is run by two siblings; and none has used more than the clock, nor has a sibling run for longer
 -- since its last schedule, so that no time overflows.
-pub record MayAdvance {Q : Type 0} {g : Ghosts Q} (now : ℕ) (both : Core Q g × Table) : Type 0 where
+pub record MayAdvance {Q : Type 0} {g : Ghosts Q} (now delta : ℕ) (both : Core Q g × Table) : Type 0 where
   pub agree : Agree both
   pub own : RunTheirOwn both
   pub low : HasLowTimes both
   pub clock : now + 1000000000 < 2 ^ 56
   pub used : All (λ task. task.used ≤ now) both.1.tasks
   pub ran : All (λ sibling. sibling.ran ≤ now) (map lane_state both.0.lanes.items)
+  pub short : delta ≤ 1000000000
 
--- the running tasks may grow by less than a second: no task is run by two siblings, and the times are far from overflow
-pub record MayGrow {Q : Type 0} {g : Ghosts Q} (both : Core Q g × Table) : Type 0 where
+-- the running tasks may grow by delta ns, at most a second: no task is run by two siblings, and the times are far from overflow
+pub record MayGrow {Q : Type 0} {g : Ghosts Q} (delta : ℕ) (both : Core Q g × Table) : Type 0 where
   pub agree : Agree both
   pub own : RunTheirOwn both
   pub used : All (λ task. task.used < 2 ^ 56) both.1.tasks
   pub vtimes : All (λ task. task.vtime < 2 ^ 100) both.1.tasks
+  pub short : delta ≤ 1000000000
 
 -- the times of tasks do not overflow where these are delta ns later
 pub record CanGrow (delta : ℕ) (tasks : List Task) : Type 0 where

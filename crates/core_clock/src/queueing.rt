@@ -58,9 +58,9 @@ fn preempts<Q: SiblingQueue>(core: &Core<Q>, table: &TaskTable, task: &Task) -> 
     requires { task.now.home < length core.now.lanes.items }
     ensures { (beside : Beside) → result ≡ preempts (room_of beside (core.now, table.now)) task.now }
 {
-    match core.running_on(table, task.home) {
+    match core.runner(table, task.home) {
         None => true,
-        Some(running) => is_higher(task, &running),
+        Some(running) => is_higher(task, running),
     }
 }
 
@@ -85,6 +85,7 @@ fn refreshed<Q: SiblingQueue>(core: &Core<Q>, task: Task, now: u64) -> Task
 }
 
 /// The task is queued at its home, which may become pending.
+#[inline(always)]
 pub fn queue_at_home<Q: SiblingQueue, L: Ledger>(
     core: &mut Core<Q>,
     table: &mut TaskTable,

@@ -1,14 +1,14 @@
 //! What an advance of the clock and a tick of a sibling's timer do. It is a file of its own since these
 //! alone move time.
 
-ghost use Rattle.std.specs.Prelude.{◌≡◌, ℕ, ◌+◌, ◌^◌, ◌<◌, ◌≤◌, map, All, find, Some, IsSome};
+ghost use Rattle.std.specs.Prelude.{◌≡◌, ℕ, ◌+◌, ◌^◌, ◌<◌, map, All, find, Some};
 ghost use Rattle.cs_types.specs.declared.task.Task.{Task as SomeTask};
 ghost use Rattle.cs_types.specs.Room.{has_pid};
 ghost use Rattle.cs_types.specs.Time as time;
 ghost use Rattle.cs_types.specs.Time.{grown, with_leasts, has_used_slice, rotates, is_overtaken, is_to_yield, asks_at_tick, begin_slice};
 ghost use Rattle.core_lanes.specs.Lanes.{Beside, lane_state, room_of, Agree, AgreesAt};
 ghost use Rattle.core_lanes.specs.Changes.{Changes};
-ghost use Rattle.core_clock.specs.Moments.{MayAsk, MayTick, Ticks, Advances};
+ghost use Rattle.core_clock.specs.Moments.{MayAsk, MayBeginSlice, AreTests, MayTick, Ticks, Advances};
 ghost use Rattle.core_clock.specs.Time.{MayAdvance, MayGrow, CanGrow, with_grown, with_ages};
 
 use core_lanes::{Core, SiblingQueue, charge, is_fair, task_of};
@@ -61,8 +61,7 @@ fn grow_tasks<Q: SiblingQueue, L: Ledger>(
     delta: u64,
     steps: &mut Steps<L>,
 )
-    requires may { MayGrow (core.old, table.old) }
-    requires delta { delta ≤ 1000000000 }
+    requires { MayGrow delta (core.old, table.old) }
     ensures { Changes (core.old, table.old) (core.new, table.new) (λ room. record room { tasks = map (grown room delta) room.tasks }) }
 {
     for cpu in 0..core.lanes.len() {
@@ -99,10 +98,8 @@ pub fn advance<Q: SiblingQueue, L: Ledger>(
     now: u64,
     steps: &mut Steps<L>,
 ) -> u64
-    requires may { MayAdvance now (core.old, table.old) }
-    requires delta { delta ≤ 1000000000 }
-    ensures clock { result ≡ now + delta }
-    ensures advances { Advances now delta (core.old, table.old) (core.new, table.new) }
+    requires { MayAdvance now delta (core.old, table.old) }
+    ensures { Advances now delta (core.old, table.old) (core.new, table.new) result }
 {
     grow_tasks(core, table, delta, steps);
     renew_siblings(core, table, delta, steps);
@@ -208,11 +205,8 @@ fn begin_slice<Q: SiblingQueue, L: Ledger>(
     rotates: bool,
     steps: &mut Steps<L>,
 )
-    requires there { IsSome (find (has_pid pid) table.old.tasks) }
-    requires agree { Agree (core.old, table.old) }
-    requires stamp { core.old.next_stamp + 1 < 2 ^ 64 }
-    ensures { (cpu : ℕ) (task : SomeTask) → find (has_pid pid) table.old.tasks ≡ Some task → used ≡ time.has_used_slice task →
-        ((beside : Beside) → rotates ≡ time.rotates (room_of beside (core.old, table.old)) cpu task) →
+    requires { MayBeginSlice pid (core.old, table.old) }
+    ensures { (cpu : ℕ) (task : SomeTask) → find (has_pid pid) table.old.tasks ≡ Some task → AreTests cpu (core.old, table.old) task used rotates →
         Changes (core.old, table.old) (core.new, table.new) (λ room. begin_slice room cpu task) }
 {
     if rotates {

@@ -37,21 +37,25 @@ flag-requires g c = still_below c.enqueue.ensures.stays c.requires.knows.apart.f
 pub preempts-preempts-requires : goal.preempts-preempts-requires
 preempts-preempts-requires g c = subst (λ (n : ℕ). n < length c.args.core.now.lanes.items) (sym (keeps (c.args.core.now, c.args.table.now) c.args.now c.args.task c.refreshed-fresh.result (c.refreshed-fresh.ensures some_beside c.args.table.now)).2) c.requires.knows.apart.fits.home
 
-pub enqueue-requires-clause-knows : goal.enqueue-requires-clause-knows
-enqueue-requires-clause-knows g c =
+pub enqueue-requires : goal.enqueue-requires
+enqueue-requires g c =
     let apart = c.requires.knows.apart in
     let fresh = keeps (c.args.core.now, c.args.table.now) c.args.now c.args.task c.refreshed-fresh.result (c.refreshed-fresh.ensures some_beside c.args.table.now) in
     record {
-      apart = record {
-        agree = apart.agree;
-        old = apart.old;
-        there = subst (λ (spec : TaskSpec). find (has_pid spec.pid) c.args.table.now.tasks ≡ Some apart.old) (sym fresh.0) apart.there;
-        fits = record {
-          home = subst (λ (n : ℕ). n < length c.args.core.now.lanes.items) (sym fresh.2) apart.fits.home;
-          policy = subst (λ (spec : TaskSpec). IsPolicy spec.policy) (sym fresh.0) apart.fits.policy;
+      knows = record {
+        apart = record {
+          agree = apart.agree;
+          old = apart.old;
+          there = subst (λ (spec : TaskSpec). find (has_pid spec.pid) c.args.table.now.tasks ≡ Some apart.old) (sym fresh.0) apart.there;
+          fits = record {
+            home = subst (λ (n : ℕ). n < length c.args.core.now.lanes.items) (sym fresh.2) apart.fits.home;
+            policy = subst (λ (spec : TaskSpec). IsPolicy spec.policy) (sym fresh.0) apart.fits.policy;
+          };
         };
+        cookie = fresh.1 ∙ c.requires.knows.cookie;
       };
-      cookie = fresh.1 ∙ c.requires.knows.cookie;
+      stamp = c.requires.stamp;
+      touches = c.requires.touches;
     }
 
 pub returns : goal.returns

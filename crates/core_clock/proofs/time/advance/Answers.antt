@@ -1,4 +1,4 @@
-use Rattle.std.proofs.Common.{◌+◌, ◌<◌, ◌≤◌, ◌^◌, ◌∙◌, ap, sym, subst, map, arith}
+use Rattle.std.proofs.Common.{◌+◌, ◌<◌, ◌≤◌, ◌^◌, ◌∙◌, ap, sym, subst, map, refl, arith}
 use Rattle.std.specs.Prelude.{All}
 use Rattle.std.proofs.lemmas.List.Elements.{All-weaker}
 use Rattle.cs_types.specs.declared.task.Task.{Task}
@@ -11,27 +11,26 @@ use Rattle.core_clock.proofs.time.advance.Goals as goal
 
 pub grow_tasks-requires : goal.grow_tasks-requires
 grow_tasks-requires g c = record {
-  may = record {
-    agree = c.requires.may.agree;
-    own = c.requires.may.own;
-    used = All-weaker (λ (task : Task). task.used ≤ c.args.now) (λ (task : Task). task.used < 2 ^ 56) (λ task is. omega (arith, is, c.requires.may.clock)) c.args.table.now.tasks c.requires.may.used;
-    vtimes = c.requires.may.low.vtimes;
-  };
-  delta = c.requires.delta;
+  agree = c.requires.agree;
+  own = c.requires.own;
+  used = All-weaker (λ (task : Task). task.used ≤ c.args.now) (λ (task : Task). task.used < 2 ^ 56) (λ task is. omega (arith, is, c.requires.clock)) c.args.table.now.tasks c.requires.used;
+  vtimes = c.requires.low.vtimes;
+  short = c.requires.short;
 }
 
 pub renew_siblings-requires : goal.renew_siblings-requires
 renew_siblings-requires g c = record {
-  agree = c.grow_tasks.ensures.stays.agree c.requires.may.agree;
+  agree = c.grow_tasks.ensures.stays.agree c.requires.agree;
   ran = subst (All (λ (sibling : SiblingState). sibling.ran + c.args.delta < 2 ^ 64))
       (sym (ap (λ (room : RoomState). room.siblings) (c.grow_tasks.ensures.room some_beside)))
       (All-weaker (λ (sibling : SiblingState). sibling.ran ≤ c.args.now) (λ (sibling : SiblingState). sibling.ran + c.args.delta < 2 ^ 64)
-      (λ sibling is. omega (arith, is, c.requires.may.clock, c.requires.delta)) (map lane_state c.args.core.now.lanes.items) c.requires.may.ran);
+      (λ sibling is. omega (arith, is, c.requires.clock, c.requires.short)) (map lane_state c.args.core.now.lanes.items) c.requires.ran);
 }
 
-pub returns-clause-advances : goal.returns-clause-advances
+pub returns : goal.returns
 unfolding advanced
-returns-clause-advances g c = record {
+returns g c = record {
+  clock = refl;
   room = λ beside.
       let later = at (c.args.now + c.args.delta) beside in
       c.renew_siblings.ensures.room later ∙ ap (λ (room : RoomState). with_leasts (with_ages c.args.delta room)) (c.grow_tasks.ensures.room later);

@@ -34,14 +34,14 @@ change-requires g c =
     }
 
 pub returns-then-rotates : goal.returns-then-rotates
-returns-then-rotates g c cpu task found is_used is =
+returns-then-rotates g c cpu task found tests =
     let next = c.args.core.now.next_stamp in
     let later : next ≤ next + 1 = omega arith in
     let both : Some c.unwrap-task.result ≡ Some task = sym c.unwrap-task.ensures ∙ c.task_of.ensures.task ∙ found in
     let same : c.unwrap-task.result ≡ task = cc in
     let one = c.unwrap-task.result in
     let turns : (beside : Beside) → c.args.rotates ≡ rotates (room_of beside (c.args.core.now, c.args.table.now)) cpu one =
-    subst (λ (one : Task). (beside : Beside) → c.args.rotates ≡ rotates (room_of beside (c.args.core.now, c.args.table.now)) cpu one) (sym same) is in
+    subst (λ (one : Task). (beside : Beside) → c.args.rotates ≡ rotates (room_of beside (c.args.core.now, c.args.table.now)) cpu one) (sym same) tests.peers in
     let begins : Changes (c.args.core.now, c.args.table.now) (c.change.new.self, c.change.new.table) (λ room. begin_slice room cpu one) = record {
       room = λ beside.
           let room = room_of beside (c.args.core.now, c.args.table.now) in
@@ -54,16 +54,16 @@ returns-then-rotates g c cpu task found is_used is =
     subst (λ (one : Task). Changes (c.args.core.now, c.args.table.now) (c.change.new.self, c.change.new.table) (λ room. begin_slice room cpu one)) same begins
 
 pub returns-then-used : goal.returns-then-used
-returns-then-used g c cpu task found is_used is =
+returns-then-used g c cpu task found tests =
     changes_as (λ beside.
-    sliced_is (room_of beside (c.args.core.now, c.args.table.now)) cpu task true false (sym is_used ∙ c.if-used.true) (sym (is beside) ∙ c.if-rotates.false))
+    sliced_is (room_of beside (c.args.core.now, c.args.table.now)) cpu task true false (sym tests.slice ∙ c.if-used.true) (sym (tests.peers beside) ∙ c.if-rotates.false))
     (c.set_used.ensures task found)
 
 pub returns-else-used : goal.returns-else-used
-returns-else-used g c cpu task found is_used is = record {
+returns-else-used g c cpu task found tests = record {
   room = λ beside.
       sliced_not (room_of beside (c.args.core.now, c.args.table.now)) cpu task c.requires.agree.table.rising (found_again c.args.pid c.args.table.now.tasks task found)
-      (sym is_used ∙ c.if-used.false) (sym (is beside) ∙ c.if-rotates.false);
+      (sym tests.slice ∙ c.if-used.false) (sym (tests.peers beside) ∙ c.if-rotates.false);
   numbers = refl;
   stays = same_stays;
 }

@@ -26,7 +26,7 @@ loop-cpu-init g c = record {
 pub grow_on-requires-clause-at : goal.grow_on-requires-clause-at
 grow_on-requires-clause-at g c = record {
   cpu = still_below c.loop-cpu.invariant.changes.stays (omega (arith, c.loop-cpu-test.true, c.len-cpu-end.ensures, c.args.core.now.lanes.ok.0));
-  agree = c.loop-cpu.invariant.changes.stays.agree c.requires.may.agree;
+  agree = c.loop-cpu.invariant.changes.stays.agree c.requires.agree;
 }
 
 pub grow_on-requires-clause-can : goal.grow_on-requires-clause-can
@@ -37,9 +37,9 @@ grow_on-requires-clause-can g c =
     let are = sym (ap (λ (room : RoomState). room.tasks) (c.loop-cpu.invariant.changes.room some_beside)) in
     record {
       used = subst (All used) are (all_grown (λ task. task.used < 2 ^ 56) used lower c.args.delta c.args.table.now.tasks
-          (λ old new grows low. omega (arith, grows.used, low, c.requires.delta)) c.requires.may.used);
+          (λ old new grows low. omega (arith, grows.used, low, c.requires.short)) c.requires.used);
       vtimes = subst (All vtime) are (all_grown (λ task. task.vtime < 2 ^ 100) vtime lower c.args.delta c.args.table.now.tasks
-          (λ old new grows low. omega (arith, grows.vtime, low, c.requires.delta)) c.requires.may.vtimes);
+          (λ old new grows low. omega (arith, grows.vtime, low, c.requires.short)) c.requires.vtimes);
     }
 
 -- the growth of the task that a sibling runs, once those of the lower ones have grown, is the growth with one sibling more
@@ -71,8 +71,8 @@ loop-cpu-preserved g c =
       changes = more_grown old mid _ c.args.delta cpu below changes
           (changes_as (λ beside.
           let room = room_of beside mid in
-          grown_alone room cpu c.args.delta (changes.stays.agree c.requires.may.agree).table.rising
-          (λ task runs. alone old mid c.args.delta cpu task beside below c.requires.may.own changes runs)) c.grow_on.ensures);
+          grown_alone room cpu c.args.delta (changes.stays.agree c.requires.agree).table.rising
+          (λ task runs. alone old mid c.args.delta cpu task beside below c.requires.own changes runs)) c.grow_on.ensures);
     }
 
 pub returns : goal.returns

@@ -34,9 +34,9 @@ by_smallest room cpu task rises there fair found is =
 pub returns-in-Some : goal.returns-in-Some
 returns-in-Some g c beside =
     by_smallest (room_of beside (c.args.core.now, c.args.table.now)) c.args.cpu c.args.task.now c.requires.at.agree.table.rising c.requires.there
-    (sym c.is_fair.ensures ∙ c.if-not-is_fair.false) (Some c.in-Some.smallest) (sym c.in-Some.is ∙ c.smallest_vtime.ensures.smallest)
+    (sym c.is_fair.ensures ∙ c.if-not-is_fair.false) (Some c.in-Some.smallest) (sym c.in-Some.is ∙ c.smallest_vtime.ensures.answer)
 
 pub returns-in-None : goal.returns-in-None
 returns-in-None g c beside =
     by_smallest (room_of beside (c.args.core.now, c.args.table.now)) c.args.cpu c.args.task.now c.requires.at.agree.table.rising c.requires.there
-    (sym c.is_fair.ensures ∙ c.if-not-is_fair.false) None (sym c.in-None.is ∙ c.smallest_vtime.ensures.smallest)
+    (sym c.is_fair.ensures ∙ c.if-not-is_fair.false) None (sym c.in-None.is ∙ c.smallest_vtime.ensures.answer)

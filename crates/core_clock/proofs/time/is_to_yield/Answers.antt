@@ -31,5 +31,5 @@ returns-then-lane-ge-PATIENCE g c beside =
     let forced : (c.args.core.now.account.count == 0) ≡ false = search rules in
     let ran : ltb c.index-lane.result.now.ran patience ≡ false = search rules in
     let here = lane_at c.args.core.now.lanes.items c.args.cpu c.index-lane.result.now c.requires.at.cpu c.index-lane.ensures in
-    ap not (c.has_peer.ensures.peer ∙ fair_peers room c.args.cpu task fair)
+    ap not (c.has_peer.ensures.answer ∙ fair_peers room c.args.cpu task fair)
     ∙ sym (where_alone room c.args.cpu task fair forced (ap (λ (sibling : SiblingState). ltb sibling.ran patience) here ∙ ran))

@@ -76,7 +76,7 @@ loop-cpu-preserved g c =
                       let room = room_of beside mid in
                       ap (λ (siblings : List SiblingState). let now : RoomState = record room { siblings = siblings } in now) (map-set lane_state lanes cpu after)
                       ∙ ap (λ (n : ℕ). with_sibling room cpu (let now : SiblingState = record (lane_state lane) { ran = lane.ran + c.args.delta; least = n } in now)) w.max-lane.ensures
-                      ∙ renewed_is c.args.delta room cpu (lane_state lane) (Some w.in-Some.smallest) here (sym w.in-Some.is ∙ c.smallest_vtime.ensures.smallest);
+                      ∙ renewed_is c.args.delta room cpu (lane_state lane) (Some w.in-Some.smallest) here (sym w.in-Some.is ∙ c.smallest_vtime.ensures.answer);
                   numbers = rw (numbers_kept lanes cpu lane after is refl) refl;
                   stays = alike_stays _ _ (queues_kept lanes cpu lane after is refl) refl refl;
                 }));
@@ -89,7 +89,7 @@ loop-cpu-preserved g c =
                   room = λ beside.
                       let room = room_of beside mid in
                       ap (λ (siblings : List SiblingState). let now : RoomState = record room { siblings = siblings } in now) (map-set lane_state lanes cpu after)
-                      ∙ renewed_is c.args.delta room cpu (lane_state lane) None here (sym w.in_default.is ∙ c.smallest_vtime.ensures.smallest);
+                      ∙ renewed_is c.args.delta room cpu (lane_state lane) None here (sym w.in_default.is ∙ c.smallest_vtime.ensures.answer);
                   numbers = rw (numbers_kept lanes cpu lane after is refl) refl;
                   stays = alike_stays _ _ (queues_kept lanes cpu lane after is refl) refl refl;
                 }));

@@ -22,5 +22,5 @@ returns-then-has_used_slice g c beside =
     let room = room_of beside (c.args.core.now, c.args.table.now) in
     let task = c.args.task.now in
     let used = sym c.has_used_slice.ensures ∙ c.if-has_used_slice.true in
-    c.has_peer.ensures.peer ∙ rr_peers room c.args.cpu task used
+    c.has_peer.ensures.answer ∙ rr_peers room c.args.cpu task used
     ∙ ap (λ b. b && list_any (is_peer task) (others_on room c.args.cpu task)) (sym used)

@@ -41,7 +41,7 @@ begin_slice-requires g c = record {
 }
 
 pub flag-requires : goal.flag-requires
-flag-requires g c = still_below (both_stay c.charge.ensures.charges.stays (c.begin_slice.ensures c.args.cpu c.in-Some.task.now c.in-Some.ensures.there c.has_used_slice-used.ensures c.rotates-rotates.ensures).stays) c.requires.at.cpu
+flag-requires g c = still_below (both_stay c.charge.ensures.charges.stays (c.begin_slice.ensures c.args.cpu c.in-Some.task.now c.in-Some.ensures.there (record { slice = c.has_used_slice-used.ensures; peers = c.rotates-rotates.ensures })).stays) c.requires.at.cpu
 
 -- a core and its table stand for a room of which they have all but what is beside them
 stands : {Q : Type 0} {g : Ghosts Q} (beside : Beside) (both : Core Q g × Table) (room : RoomState) → room_of beside both ≡ room → room_of (beside_after beside room) both ≡ room
@@ -76,7 +76,7 @@ returns g c =
     let cpu = c.args.cpu in
     let task = c.in-Some.task.now in
     let table = c.begin_slice.new.table in
-    let slice = c.begin_slice.ensures cpu task c.in-Some.ensures.there c.has_used_slice-used.ensures c.rotates-rotates.ensures in
+    let slice = c.begin_slice.ensures cpu task c.in-Some.ensures.there (record { slice = c.has_used_slice-used.ensures; peers = c.rotates-rotates.ensures }) in
     let raised = c.flag.ensures table in
     record {
       asks = λ beside.
