@@ -2,12 +2,14 @@
 use Rattle.std.specs.Prelude.{◌≡◌, ℕ, ◌+◌, ◌^◌, ◌<◌, ◌==◌, length, All, if◌then◌else◌}
 use Rattle.cs_types.specs.declared.reply.Reply.{Reply}
 use Rattle.cs_types.specs.declared.reply.Reply.TheVariants as answer
+use Rattle.cs_types.specs.declared.task.Task.{Task}
 use Rattle.cs_types.specs.Room.{RoomState, sibling_of}
 use Rattle.cs_types.specs.Steal.{source_of, stolen}
 use Rattle.cs_types.specs.Step.{Stepped, try_steal}
 use Rattle.task_table.specs.Table.{Table}
 use Rattle.core_lanes.specs.declared.queue.SiblingQueue.{Ghosts}
 use Rattle.core_lanes.specs.declared.lanes.Core.{Core}
+use Rattle.core_lanes.specs.Queued.{IsOf}
 use Rattle.core_lanes.specs.Lanes.{Beside, room_of, AgreesAt, HasLowTimes}
 use Rattle.core_lanes.specs.Numbers.{numbers_of, touched}
 use Rattle.core_lanes.specs.Changes.{Stays}
@@ -29,6 +31,12 @@ pub record IsSourceOf {Q : Type 0} {g : Ghosts Q} (thief source : ℕ) (both : C
   pub at : AgreesAt thief both
   pub within : source < length both.0.lanes.items
   pub is : (beside : Beside) → source ≡ source_of (room_of beside both) thief
+
+-- it may steal the task from there, which is one of the table
+pub record MaySteal {Q : Type 0} {g : Ghosts Q} (thief from : ℕ) (both : Core Q g × Table) (task : Task) : Type 0 where
+  pub may : MayTry thief both
+  pub source : IsSourceOf thief from both
+  pub there : IsOf both.1.tasks task
 
 -- ---- what comes of it
 

@@ -51,6 +51,7 @@ fn first_to_steal<Q: SiblingQueue, L: Ledger>(
 
 /// What the thief steals from the source, if there is something.
 #[tactic(auto, unfolding(cs_types::specs::Steal::stolen))]
+#[inline(always)]
 pub fn stolen<Q: SiblingQueue, L: Ledger>(
     core: &Core<Q>,
     table: &TaskTable,

@@ -5,10 +5,9 @@ ghost use Rattle.cs_types.specs.Room.{sibling_of};
 ghost use Rattle.cs_types.specs.Selection.{first_on};
 ghost use Rattle.cs_types.specs.Steal.{source_of, steal, next_place};
 ghost use Rattle.task_table.specs.Table.{Table};
-ghost use Rattle.core_lanes.specs.Queued.{IsOf};
 ghost use Rattle.core_lanes.specs.Lanes.{Beside, room_of, AgreesAt};
 ghost use Rattle.core_lanes.specs.Changes.{Touches};
-ghost use Rattle.cookie_steal.specs.Tries.{MayTry, IsSourceOf, TriesToSteal};
+ghost use Rattle.cookie_steal.specs.Tries.{MayTry, MaySteal, TriesToSteal};
 
 use crate::search::stolen;
 use core_lanes::{Core, SiblingQueue};
@@ -64,9 +63,7 @@ fn steal<Q: SiblingQueue, L: Ledger>(
     task: Task,
     steps: &mut Steps<L>,
 )
-    requires may { MayTry thief (core.old, table.old) }
-    requires source { IsSourceOf thief source (core.old, table.old) }
-    requires there { IsOf table.old.tasks task }
+    requires { MaySteal thief source (core.old, table.old) task }
     ensures { Touches 2 (core.old, table.old) (core.new, table.new) (λ room. steal room thief task) }
 {
     let moved = core.moved_to(thief, task);

@@ -3,6 +3,7 @@ use Rattle.std.specs.Prelude.{◌≡◌, ◌≢◌, ℕ, ◌*◌, length}
 use Rattle.cs_types.specs.declared.reply.Reply.{Reply}
 use Rattle.cs_types.specs.declared.reply.Reply.TheVariants as answer
 use Rattle.cs_types.specs.declared.reply.Errno.TheVariants.{Ebusy}
+use Rattle.cs_types.specs.Hotplug.{lowest_other}
 use Rattle.cs_types.specs.Step.{take_offline, bring_online}
 use Rattle.task_table.specs.Table.{Table}
 use Rattle.core_lanes.specs.declared.queue.SiblingQueue.{Ghosts}
@@ -20,6 +21,11 @@ use Rattle.cpu_hotplug.specs.declared.hotplug.Hotplug.TheVariants.{Done, Busy, A
 pub record MayLeave {Q : Type 0} {g : Ghosts Q} (now sibling : ℕ) (both : Core Q g × Table) : Type 0 where
   pub moves : MayMoveAll sibling both
   pub paid : IsPaid now both
+
+-- and another is online
+pub record MayLeaveAnother {Q : Type 0} {g : Ghosts Q} (now sibling : ℕ) (both : Core Q g × Table) : Type 0 where
+  pub may : MayLeave now sibling both
+  pub another : (beside : Beside) → lowest_other (room_of beside both) sibling ≢ sibling
 
 -- what a machine answers
 abbrev pub reply_of : Hotplug → Reply

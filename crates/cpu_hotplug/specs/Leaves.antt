@@ -45,6 +45,11 @@ pub record MayMoveAll {Q : Type 0} {g : Ghosts Q} (sibling : ℕ) (both : Core Q
   pub stamp : both.0.next_stamp + length both.1.tasks < 2 ^ 64
   pub touches : both.0.task_number + 2 * length both.1.tasks < 2 ^ 64
 
+-- they may move off it, since another is online
+pub record MayMoveOff {Q : Type 0} {g : Ghosts Q} (sibling : ℕ) (both : Core Q g × Table) : Type 0 where
+  pub may : MayMoveAll sibling both
+  pub another : (beside : Beside) → lowest_other (room_of beside both) sibling ≢ sibling
+
 -- they may move to this sibling, which is the lowest other online one
 pub record MayMoveAllTo {Q : Type 0} {g : Ghosts Q} (sibling to : ℕ) (both : Core Q g × Table) : Type 0 where
   pub may : MayMoveAll sibling both

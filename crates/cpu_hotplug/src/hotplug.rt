@@ -1,13 +1,12 @@
 //! The two events of a sibling that leaves the core or comes back (`sched_core_cpu_deactivate` and
 //! `sched_core_cpu_starting`).
 
-ghost use Rattle.std.specs.Prelude.{◌≡◌, ◌≢◌, ◌*◌, ◌<◌, length};
-ghost use Rattle.cs_types.specs.Hotplug.{lowest_other, leave};
+ghost use Rattle.std.specs.Prelude.{◌*◌, ◌<◌, length};
+ghost use Rattle.cs_types.specs.Hotplug.{leave};
 ghost use Rattle.task_table.specs.Table.{Table};
 ghost use Rattle.core_lanes.specs.Queued.{queued_among};
-ghost use Rattle.core_lanes.specs.Lanes.{Beside, room_of};
 ghost use Rattle.core_lanes.specs.Charges.{ChargesAndTouches};
-ghost use Rattle.cpu_hotplug.specs.Hotplugs.{MayLeave, TakesOffline, BringsOnline};
+ghost use Rattle.cpu_hotplug.specs.Hotplugs.{MayLeave, MayLeaveAnother, TakesOffline, BringsOnline};
 
 use crate::away::{online_count, set_back, set_one_away};
 use crate::moves::move_off;
@@ -36,8 +35,7 @@ fn leave<Q: SiblingQueue, L: Ledger>(
     now: u64,
     steps: &mut Steps<L>,
 )
-    requires may { MayLeave now cpu (core.old, table.old) }
-    requires another { (beside : Beside) → lowest_other (room_of beside (core.old, table.old)) cpu ≢ cpu }
+    requires { MayLeaveAnother now cpu (core.old, table.old) }
     ensures { ChargesAndTouches now (2 * length (queued_among table.old.tasks cpu)) (core.old, table.old) (core.new, table.new) (λ room. leave room cpu) }
 {
     charge(core, table, now);

@@ -1,11 +1,10 @@
 //! How the tasks of a sibling that leaves come to another. It is apart, since it alone gives them new stamps.
 
-ghost use Rattle.std.specs.Prelude.{◌≢◌, ◌*◌, ◌<◌, length, IsTrue};
+ghost use Rattle.std.specs.Prelude.{◌*◌, ◌<◌, length, IsTrue};
 ghost use Rattle.core_lanes.specs.Queued.{queued_among};
-ghost use Rattle.cs_types.specs.Hotplug.{lowest_other};
-ghost use Rattle.core_lanes.specs.Lanes.{Beside, room_of, AgreesAt};
+ghost use Rattle.core_lanes.specs.Lanes.{AgreesAt};
 ghost use Rattle.core_lanes.specs.Changes.{Touches};
-ghost use Rattle.cpu_hotplug.specs.Leaves.{move_off, MayMoveAll, MayMoveAllTo, MovesWhole};
+ghost use Rattle.cpu_hotplug.specs.Leaves.{move_off, MayMoveOff, MayMoveAllTo, MovesWhole};
 
 use crate::away::lowest_other;
 use core_lanes::{Core, Movers, SiblingQueue};
@@ -23,8 +22,7 @@ pub fn move_off<Q: SiblingQueue, L: Ledger>(
     cpu: Cpu,
     steps: &mut Steps<L>,
 )
-    requires may { MayMoveAll cpu (core.old, table.old) }
-    requires another { (beside : Beside) → lowest_other (room_of beside (core.old, table.old)) cpu ≢ cpu }
+    requires { MayMoveOff cpu (core.old, table.old) }
     ensures { Touches (2 * length (queued_among table.old.tasks cpu)) (core.old, table.old) (core.new, table.new) (λ room. move_off room cpu) }
 {
     let count = core.lanes[cpu as usize].queue.count(table, cpu);

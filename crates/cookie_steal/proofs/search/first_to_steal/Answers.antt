@@ -31,7 +31,7 @@ loop-next-init g c =
     let table = c.args.table.now in
     let all = candidates core.cookie c.args.source table.tasks in
     let may = may_steal (lane_state c.index-idle.result.now) (lane_state c.index-from.result.now) in
-    subst (IsLeft goes_before all may) (sym c.first_with-next.ensures.first)
+    subst (IsLeft goes_before all may) (sym c.first_with-next.ensures.answer)
     (left_first goes_before goes_before_is_order all (no_two_tie core.next_stamp core.cookie c.args.source table.tasks c.requires.source.at.agree.table.rising c.requires.source.at.agree.stamped) may)
 
 pub returns-then-may_steal : goal.returns-then-may_steal
@@ -46,41 +46,44 @@ returns-then-may_steal g c beside =
     ∙ from_room _ _ _ _ all (lane_at core.lanes.items c.args.thief c.index-idle.result.now c.requires.source.at.cpu c.index-idle.ensures)
     (lane_at core.lanes.items c.args.source c.index-from.result.now c.requires.source.within c.index-from.ensures)
 
-pub next_with-next-requires-clause-cookie : goal.next_with-next-requires-clause-cookie
-next_with-next-requires-clause-cookie g c =
-    let core = c.args.core.now in
-    let tasks = c.args.table.now.tasks in
-    let may = may_steal (lane_state c.index-idle.result.now) (lane_state c.index-from.result.now) in
-    let left = subst (IsLeft goes_before (candidates core.cookie c.args.source tasks) may) c.in-Some.is c.loop-next.invariant in
-    λ zero. c.requires.cookie (sym (candidate_parts core.cookie c.args.source tasks c.in-Some.task left.0).2 ∙ zero)
+pub first_with-next-requires : goal.first_with-next-requires
+first_with-next-requires g c = record {
+  cookie = c.requires.cookie;
+  search =
+      let from = c.index-from.result.now in
+      let agree = c.requires.source.at.agree in
+      record {
+        policies = policies_of (c.args.core.now, c.args.table.now) agree;
+        holds = agree.held c.args.source from.queue (queue_at c.args.core.now.lanes.items c.args.source from c.requires.source.within c.index-from.ensures);
+      };
+}
 
-pub first_with-next-requires-clause-search : goal.first_with-next-requires-clause-search
-first_with-next-requires-clause-search g c =
-    let from = c.index-from.result.now in
-    let agree = c.requires.source.at.agree in
-    record {
-      policies = policies_of (c.args.core.now, c.args.table.now) agree;
-      holds = agree.held c.args.source from.queue (queue_at c.args.core.now.lanes.items c.args.source from c.requires.source.within c.index-from.ensures);
-    }
-
-pub next_with-next-requires-clause-policy : goal.next_with-next-requires-clause-policy
-next_with-next-requires-clause-policy g c =
-    let core = c.args.core.now in
-    let table = c.args.table.now in
-    let task = c.in-Some.task in
-    let may = may_steal (lane_state c.index-idle.result.now) (lane_state c.index-from.result.now) in
-    let left = subst (IsLeft goes_before (candidates core.cookie c.args.source table.tasks) may) c.in-Some.is c.loop-next.invariant in
-    found_in (λ (t : Task). IsPolicy t.spec.policy) task.spec.pid table.tasks task (policies_of (core, table) c.requires.source.at.agree)
-    (is_of table.tasks task c.requires.source.at.agree.table.rising (candidate_parts core.cookie c.args.source table.tasks task left.0).0)
-
-pub next_with-next-requires-clause-search : goal.next_with-next-requires-clause-search
-next_with-next-requires-clause-search g c =
-    let from = c.index-from.result.now in
-    let agree = c.requires.source.at.agree in
-    record {
-      policies = policies_of (c.args.core.now, c.args.table.now) agree;
-      holds = agree.held c.args.source from.queue (queue_at c.args.core.now.lanes.items c.args.source from c.requires.source.within c.index-from.ensures);
-    }
+pub next_with-next-requires : goal.next_with-next-requires
+next_with-next-requires g c = record {
+  policy =
+      let core = c.args.core.now in
+      let table = c.args.table.now in
+      let task = c.in-Some.task in
+      let may = may_steal (lane_state c.index-idle.result.now) (lane_state c.index-from.result.now) in
+      let left = subst (IsLeft goes_before (candidates core.cookie c.args.source table.tasks) may) c.in-Some.is c.loop-next.invariant in
+      found_in (λ (t : Task). IsPolicy t.spec.policy) task.spec.pid table.tasks task (policies_of (core, table) c.requires.source.at.agree)
+      (is_of table.tasks task c.requires.source.at.agree.table.rising (candidate_parts core.cookie c.args.source table.tasks task left.0).0);
+  find = record {
+    cookie =
+        let core = c.args.core.now in
+        let tasks = c.args.table.now.tasks in
+        let may = may_steal (lane_state c.index-idle.result.now) (lane_state c.index-from.result.now) in
+        let left = subst (IsLeft goes_before (candidates core.cookie c.args.source tasks) may) c.in-Some.is c.loop-next.invariant in
+        λ zero. c.requires.cookie (sym (candidate_parts core.cookie c.args.source tasks c.in-Some.task left.0).2 ∙ zero);
+    search =
+        let from = c.index-from.result.now in
+        let agree = c.requires.source.at.agree in
+        record {
+          policies = policies_of (c.args.core.now, c.args.table.now) agree;
+          holds = agree.held c.args.source from.queue (queue_at c.args.core.now.lanes.items c.args.source from c.requires.source.within c.index-from.ensures);
+        };
+  };
+}
 
 pub loop-next-smaller : goal.loop-next-smaller
 loop-next-smaller g c =
@@ -90,7 +93,7 @@ loop-next-smaller g c =
     let may = may_steal (lane_state c.index-idle.result.now) (lane_state c.index-from.result.now) in
     let left = subst (IsLeft goes_before all may) c.in-Some.is c.loop-next.invariant in
     let next : c.next_with-next.result ≡ first_of (behind c.in-Some.task all) =
-    c.next_with-next.ensures.next ∙ behind_it core.cookie c.args.source table.tasks c.in-Some.task left.0 in
+    c.next_with-next.ensures.answer ∙ behind_it core.cookie c.args.source table.tasks c.in-Some.task left.0 in
     subst (λ (one : Option Task). to_go goes_before all one < to_go goes_before all c.loop-next.next) (sym next)
     (subst (λ (one : Option Task). to_go goes_before all (first_of (behind c.in-Some.task all)) < to_go goes_before all one) (sym c.in-Some.is)
     (to_go_falls goes_before goes_before_is_order all (no_two_tie core.next_stamp core.cookie c.args.source table.tasks c.requires.source.at.agree.table.rising c.requires.source.at.agree.stamped) may c.in-Some.task))
@@ -103,7 +106,7 @@ loop-next-preserved g c =
     let may = may_steal (lane_state c.index-idle.result.now) (lane_state c.index-from.result.now) in
     let left = subst (IsLeft goes_before all may) c.in-Some.is c.loop-next.invariant in
     let next : c.next_with-next.result ≡ first_of (behind c.in-Some.task all) =
-    c.next_with-next.ensures.next ∙ behind_it core.cookie c.args.source table.tasks c.in-Some.task left.0 in
+    c.next_with-next.ensures.answer ∙ behind_it core.cookie c.args.source table.tasks c.in-Some.task left.0 in
     subst (IsLeft goes_before all may) (sym next)
     (left_next goes_before goes_before_is_order all (no_two_tie core.next_stamp core.cookie c.args.source table.tasks c.requires.source.at.agree.table.rising c.requires.source.at.agree.stamped) may
     c.in-Some.task left (sym c.may_steal.ensures ∙ c.if-may_steal.false))

@@ -21,27 +21,25 @@ moved_to-moved-requires-clause-can g c =
       leasts = c.requires.may.low.leasts;
     }
 
-pub enqueue-requires-clause-knows : goal.enqueue-requires-clause-knows
-enqueue-requires-clause-knows g c =
-    let core = c.args.core.now in
-    let table = c.args.table.now in
-    let task = c.args.task in
-    let fit = found_in (IsFit (length core.lanes.items)) task.spec.pid table.tasks task c.requires.may.at.agree.tasks c.requires.there in
-    let many : length c.touch.new.self.lanes.items ≡ length core.lanes.items = ap (λ (kept : Kept). kept.siblings) (c.touch.ensures table).stays.kept in
-    let knows : KnowsApart (c.touch.new.self, table) (moved_to (room_of some_beside (core, table)) c.args.thief task) =
-    record {
-      apart = record { agree = (c.touch.ensures table).stays.agree c.requires.may.at.agree; old = task; there = c.requires.there; fits = record { home = subst (λ n. c.args.thief < n) (sym many) c.requires.may.at.cpu; policy = fit.policy } };
-      cookie = refl;
-    } in
-    subst (KnowsApart (c.touch.new.self, table)) (sym (c.moved_to-moved.ensures some_beside table)) knows
-
-pub enqueue-requires-clause-stamp : goal.enqueue-requires-clause-stamp
-enqueue-requires-clause-stamp g c =
-    let same : c.touch.new.self.next_stamp ≡ c.args.core.now.next_stamp = ap (λ (room : RoomState). room.next_stamp) ((c.touch.ensures c.args.table.now).room some_beside) in
-    omega (arith, same, c.requires.may.stamp)
-
-pub enqueue-requires-clause-touches : goal.enqueue-requires-clause-touches
-enqueue-requires-clause-touches g c = omega (arith, ap (λ (numbers : Numbers). numbers.task) (c.touch.ensures c.args.table.now).numbers, c.requires.may.touches)
+pub enqueue-requires : goal.enqueue-requires
+enqueue-requires g c = record {
+  knows =
+      let core = c.args.core.now in
+      let table = c.args.table.now in
+      let task = c.args.task in
+      let fit = found_in (IsFit (length core.lanes.items)) task.spec.pid table.tasks task c.requires.may.at.agree.tasks c.requires.there in
+      let many : length c.touch.new.self.lanes.items ≡ length core.lanes.items = ap (λ (kept : Kept). kept.siblings) (c.touch.ensures table).stays.kept in
+      let knows : KnowsApart (c.touch.new.self, table) (moved_to (room_of some_beside (core, table)) c.args.thief task) =
+      record {
+        apart = record { agree = (c.touch.ensures table).stays.agree c.requires.may.at.agree; old = task; there = c.requires.there; fits = record { home = subst (λ n. c.args.thief < n) (sym many) c.requires.may.at.cpu; policy = fit.policy } };
+        cookie = refl;
+      } in
+      subst (KnowsApart (c.touch.new.self, table)) (sym (c.moved_to-moved.ensures some_beside table)) knows;
+  stamp =
+      let same : c.touch.new.self.next_stamp ≡ c.args.core.now.next_stamp = ap (λ (room : RoomState). room.next_stamp) ((c.touch.ensures c.args.table.now).room some_beside) in
+      omega (arith, same, c.requires.may.stamp);
+  touches = omega (arith, ap (λ (numbers : Numbers). numbers.task) (c.touch.ensures c.args.table.now).numbers, c.requires.may.touches);
+}
 
 pub set_place-requires : goal.set_place-requires
 set_place-requires g c =

@@ -26,16 +26,17 @@ stolen-requires g c = record {
   is = λ beside. c.source_of-source.ensures.source beside c.args.table.now;
 }
 
-pub steal-requires-clause-source : goal.steal-requires-clause-source
-steal-requires-clause-source g c = record {
-  at = c.requires.at;
-  within = c.source_of-source.ensures.within;
-  is = λ beside. c.source_of-source.ensures.source beside c.args.table.now;
+pub steal-requires : goal.steal-requires
+steal-requires g c = record {
+  may = c.requires;
+  source = record {
+    at = c.requires.at;
+    within = c.source_of-source.ensures.within;
+    is = λ beside. c.source_of-source.ensures.source beside c.args.table.now;
+  };
+  there =
+      stolen_there (room_of some_beside (c.args.core.now, c.args.table.now)) c.args.cpu c.in-Some.task c.requires.at.agree.table.rising (sym (c.in-Some.ensures.stolen some_beside));
 }
-
-pub steal-requires-clause-there : goal.steal-requires-clause-there
-steal-requires-clause-there g c =
-    stolen_there (room_of some_beside (c.args.core.now, c.args.table.now)) c.args.cpu c.in-Some.task c.requires.at.agree.table.rising (sym (c.in-Some.ensures.stolen some_beside))
 
 pub next_place-place-requires-clause-places : goal.next_place-place-requires-clause-places
 next_place-place-requires-clause-places g c = c.requires.places

@@ -18,19 +18,19 @@ use Rattle.cpu_hotplug.proofs.hotplug.leave.Goals as goal
 
 -- ---- the calls
 
-pub move_off-requires-clause-may : goal.move_off-requires-clause-may
-move_off-requires-clause-may g c = record {
-  cpu = omega (arith, c.requires.may.moves.cpu, ap (λ (kept : Kept). kept.siblings) c.charge.ensures.charges.stays.kept);
-  agree = (alike_stays _ _ refl refl refl).agree (c.charge.ensures.charges.stays.agree c.requires.may.moves.agree);
-  low = subst (λ (table : Table). AreLow (bare c.charge.new.core).siblings table.tasks) (sym c.charge.ensures.table)
-      (subst (λ (core : BareCore). AreLow core.siblings c.args.table.now.tasks) (sym c.charge.ensures.core) c.requires.may.moves.low);
-  stamp = omega (arith, c.requires.may.moves.stamp, ap (λ (core : BareCore). core.next_stamp) c.charge.ensures.core, ap (λ (table : Table). length table.tasks) c.charge.ensures.table);
-  touches = omega (arith, c.requires.may.moves.touches, ap (λ (core : BareCore). core.task_number) c.charge.ensures.core, ap (λ (table : Table). length table.tasks) c.charge.ensures.table);
+pub move_off-requires : goal.move_off-requires
+move_off-requires g c = record {
+  may = record {
+    cpu = omega (arith, c.requires.may.moves.cpu, ap (λ (kept : Kept). kept.siblings) c.charge.ensures.charges.stays.kept);
+    agree = (alike_stays _ _ refl refl refl).agree (c.charge.ensures.charges.stays.agree c.requires.may.moves.agree);
+    low = subst (λ (table : Table). AreLow (bare c.charge.new.core).siblings table.tasks) (sym c.charge.ensures.table)
+        (subst (λ (core : BareCore). AreLow core.siblings c.args.table.now.tasks) (sym c.charge.ensures.core) c.requires.may.moves.low);
+    stamp = omega (arith, c.requires.may.moves.stamp, ap (λ (core : BareCore). core.next_stamp) c.charge.ensures.core, ap (λ (table : Table). length table.tasks) c.charge.ensures.table);
+    touches = omega (arith, c.requires.may.moves.touches, ap (λ (core : BareCore). core.task_number) c.charge.ensures.core, ap (λ (table : Table). length table.tasks) c.charge.ensures.table);
+  };
+  another = λ beside.
+      subst (λ (core : BareCore). lowest_other (room_by beside core c.args.table.now) c.args.cpu ≢ c.args.cpu) (sym c.charge.ensures.core) (c.requires.another beside);
 }
-
-pub move_off-requires-clause-another : goal.move_off-requires-clause-another
-move_off-requires-clause-another g c beside =
-    subst (λ (core : BareCore). lowest_other (room_by beside core c.args.table.now) c.args.cpu ≢ c.args.cpu) (sym c.charge.ensures.core) (c.requires.another beside)
 
 pub set_one_away-requires : goal.set_one_away-requires
 set_one_away-requires g c = record { few = subst (λ (lanes : List (Lane g.row.Q.Denot)). length lanes ≤ 16) (sym c.deref_mut.ensures.value) c.move_off.new.core.few }

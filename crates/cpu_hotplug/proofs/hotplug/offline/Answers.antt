@@ -31,13 +31,16 @@ still_booked : {Q : Type 0} {g : Ghosts Q} (beside : Beside) (both : Core Q g ×
 still_booked beside both room is kept =
     kept ∙ untouched (booked (room_of beside both) (numbers_in beside both)) ∙ ap (λ (r : RoomState). touched 0 (booked r (numbers_in beside both))) is
 
-pub leave-requires-clause-another : goal.leave-requires-clause-another
-leave-requires-clause-another g c beside =
-    let core = c.args.core.now in
-    let table = c.args.table.now in
-    another (room_of beside (core, table)) c.args.cpu (omega (arith, c.requires.moves.cpu, length-map core.lanes.items lane_state))
-    (sym (c.is_online.ensures beside table) ∙ c.if-not-is_online.false)
-    (λ alone. c.if-online_count-eq1.false (c.online_count.ensures beside table ∙ alone))
+pub leave-requires : goal.leave-requires
+leave-requires g c = record {
+  may = c.requires;
+  another = λ beside.
+      let core = c.args.core.now in
+      let table = c.args.table.now in
+      another (room_of beside (core, table)) c.args.cpu (omega (arith, c.requires.moves.cpu, length-map core.lanes.items lane_state))
+      (sym (c.is_online.ensures beside table) ∙ c.if-not-is_online.false)
+      (λ alone. c.if-online_count-eq1.false (c.online_count.ensures beside table ∙ alone));
+}
 
 pub returns-then-not-is_online : goal.returns-then-not-is_online
 returns-then-not-is_online g c =

@@ -18,7 +18,7 @@ returns-in-Some g c below =
       empty = nil_from_length _ (omega (arith, c.count.ensures, c.if-count-gt0.false));
       ahead = λ beside.
           subst (λ n. NoneBehind n tasks) (ap (λ (sibling : SiblingState). sibling.least) (sym is))
-          (ahead_some lane.least c.in-Some.smallest tasks (sym c.in-Some.ensures.smallest) (leb-true lane.least c.in-Some.smallest below));
+          (ahead_some lane.least c.in-Some.smallest tasks (sym c.in-Some.ensures.answer) (leb-true lane.least c.in-Some.smallest below));
     }
 
 pub returns-in-None : goal.returns-in-None
@@ -26,5 +26,5 @@ returns-in-None g c is =
     let tasks = queued_among c.args.table.now.tasks c.args.cpu in
     record {
       empty = nil_from_length _ (omega (arith, c.count.ensures, c.if-count-gt0.false));
-      ahead = λ beside. ahead_none (sibling_of (room_of beside (c.args.core.now, c.args.table.now)) c.args.cpu).least tasks (sym c.in-None.ensures.smallest);
+      ahead = λ beside. ahead_none (sibling_of (room_of beside (c.args.core.now, c.args.table.now)) c.args.cpu).least tasks (sym c.in-None.ensures.answer);
     }
