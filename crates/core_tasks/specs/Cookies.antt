@@ -1,13 +1,12 @@
 -- Cookies: what a setting makes of the state.
-use Rattle.std.specs.Prelude.{◌≡◌, ◌≢◌, ℕ, ◌+◌, ◌*◌, ◌^◌, ◌<◌, ◌||◌, List, length, All, IfSome, IsSomeAnd, Some, false, slice_index_or}
+use Rattle.std.specs.Prelude.{◌≡◌, ◌≢◌, ℕ, ◌+◌, ◌*◌, ◌^◌, ◌<◌, ◌||◌, List, length, All, Some, false, slice_index_or}
 use Rattle.cs_types.specs.declared.task.Task.{Task}
-use Rattle.cs_types.specs.Room.{SiblingState, Interval, absent, task_of, sibling_of, online as siblings_online}
+use Rattle.cs_types.specs.Room.{SiblingState, Interval, absent, online as siblings_online}
 use Rattle.cs_types.specs.Selection.{is_run}
 use Rattle.cs_types.specs.Prctl.{Setting, set_cookies}
 use Rattle.cs_types.specs.Touches.{setting_touches}
-use Rattle.task_table.specs.Table.{Table}
 use Rattle.core_lanes.specs.declared.queue.SiblingQueue.{Ghosts}
-use Rattle.core_lanes.specs.declared.lanes.Core.{Core}
+use Rattle.core_lanes.specs.Queued.{IsOf}
 use Rattle.core_lanes.specs.Lanes.{RunTheirOwn}
 use Rattle.core_lanes.specs.Numbers.{touched}
 use Rattle.core_tasks.specs.declared.state.State.{State}
@@ -31,6 +30,11 @@ pub record MaySet {Q G : Type 0} {g : Ghosts Q} (cookie count : ℕ) (state : St
   pub sound : IsSoundBut state cookie
   pub own : RunTheirOwn (both state)
   pub touches : state.core.task_number + count < 2 ^ 64
+
+-- this task, which lives, may get it, with two touches at most
+pub record MaySetOne {Q G : Type 0} {g : Ghosts Q} (cookie : ℕ) (state : State Q G g) (task : Task) : Type 0 where
+  pub may : MaySet cookie 2 state
+  pub there : IsOf state.tasks.tasks task
 
 -- a task may call `prctl`, while so many siblings are online: touches, a cookie's serial and each guard's count are left
 pub record MayCall {Q G : Type 0} {g : Ghosts Q} (online : ℕ) (state : State Q G g) : Type 0 where

@@ -7,6 +7,10 @@ use Rattle.cs_types.specs.Drain.{pending, lowest}
 abbrev pub is_due : Bool → SiblingState → Bool
 is_due has_waiting sibling = sibling.online && (sibling.pending && (not has_waiting || is_some sibling.waiting))
 
+-- the lowest online sibling that is pending, and for which something waits where the test asks for it
+abbrev pub lowest_pending : RoomState → Bool → Option ℕ
+lowest_pending room has_waiting = lowest (filter (λ cpu. not has_waiting || is_some (sibling_of room cpu).waiting) (pending room))
+
 -- who schedules next, where the test says whether what waits is fresh
 abbrev pub next_by : RoomState → Bool → Option ℕ
 next_by room fresh =

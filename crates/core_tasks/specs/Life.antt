@@ -21,6 +21,11 @@ pub record MayEnd {Q G : Type 0} {g : Ghosts Q} (task : Task) (state : State Q G
   pub touches : state.core.task_number + 1 < 2 ^ 64
   pub spare : vec_len state.ended < vec_capacity state.ended
 
+-- a child may be made: its pid does not overflow
+pub record MayMakeChild {Q G : Type 0} {g : Ghosts Q} (state : State Q G g) : Type 0 where
+  pub sound : IsSound state
+  pub pid : state.next_pid + 1 < 2 ^ 32
+
 -- whether a fork by the task is refused
 abbrev pub may_not_fork_in : Table → Task → Bool
 may_not_fork_in table by = (length table.tasks == table.limit) || (class_of by.spec.policy == deadline_class)

@@ -5,11 +5,10 @@ ghost use Rattle.cs_types.specs.declared.event.Event.TheVariants.{Prctl};
 ghost use Rattle.cs_types.specs.Touches.{cookie_touches};
 ghost use Rattle.task_table.specs.Group.{group_above};
 ghost use Rattle.prctl_core.specs.Plan.{named};
-ghost use Rattle.core_lanes.specs.Queued.{IsOf};
 ghost use Rattle.core_lanes.specs.Lanes.{lane_state};
 ghost use Rattle.core_lanes.specs.Changes.{ChangesLanes};
 ghost use Rattle.core_tasks.specs.Steps.{Makes};
-ghost use Rattle.core_tasks.specs.Cookies.{flagged_for, RunsAtMostAt, MaySet, MayCall, SetsCookies};
+ghost use Rattle.core_tasks.specs.Cookies.{flagged_for, RunsAtMostAt, MaySet, MaySetOne, MayCall, SetsCookies};
 
 use crate::state::State;
 use core_lanes::{Lane, SiblingQueue, task_of};
@@ -45,8 +44,7 @@ impl<Q: SiblingQueue, G: Guard> State<Q, G> {
     /// pending.
     #[inline(always)]
     fn set_cookie<L: Ledger>(&mut self, task: &Task, cookie: Cookie, steps: &mut Steps<L>)
-        requires may { MaySet cookie 2 self.old }
-        requires there { IsOf self.old.tasks.tasks task.now }
+        requires { MaySetOne cookie self.old task.now }
         ensures { SetsCookies self.old self.new (task.now ∷ []) cookie }
     {
         self.refs.get(cookie);

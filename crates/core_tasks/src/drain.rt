@@ -1,12 +1,10 @@
 //! Who schedules next at the end of a run. It is a file of its own since it reads the core alone.
 
-ghost use Rattle.std.specs.Prelude.{◌≡◌, ◌||◌, not, is_some, filter};
-ghost use Rattle.cs_types.specs.Room.{sibling_of};
-ghost use Rattle.cs_types.specs.Drain.{lowest, pending};
+ghost use Rattle.std.specs.Prelude.{◌≡◌};
 ghost use Rattle.task_table.specs.Table.{Table};
 ghost use Rattle.core_lanes.specs.Lanes.{Beside, lane_state, room_of};
 ghost use Rattle.core_lanes.specs.Numbers.{numbers_of, is_fresh_by};
-ghost use Rattle.core_tasks.specs.Drain.{is_due, next_by};
+ghost use Rattle.core_tasks.specs.Drain.{is_due, lowest_pending, next_by};
 
 use core_lanes::{Core, Lane, SiblingQueue};
 use cs_types::Cpu;
@@ -20,8 +18,7 @@ fn is_due<Q: Drop>(lane: &Lane<Q>, has_waiting: bool) -> bool
 
 /// The lowest online sibling that is pending, and for which something waits where the test asks for it.
 fn lowest_pending<Q: SiblingQueue>(core: &Core<Q>, has_waiting: bool) -> Option<Cpu>
-    ensures { (beside : Beside) (table : Table) → result ≡ lowest (filter
-        (λ cpu. not has_waiting || is_some (sibling_of (room_of beside (core.now, table)) cpu).waiting) (pending (room_of beside (core.now, table)))) }
+    ensures { (beside : Beside) (table : Table) → result ≡ lowest_pending (room_of beside (core.now, table)) has_waiting }
 {
     for cpu in 0..core.lanes.len() {
         if is_due(&core.lanes[cpu], has_waiting) {

@@ -1,10 +1,8 @@
 //! How a task comes and goes. It is a file of its own since nothing else changes who lives.
 
-ghost use Rattle.std.specs.Prelude.{◌+◌, ◌^◌, ◌<◌};
 ghost use Rattle.cs_types.specs.Step.{without};
-ghost use Rattle.core_tasks.specs.State.{IsSound};
 ghost use Rattle.core_tasks.specs.Steps.{Touches};
-ghost use Rattle.core_tasks.specs.Life.{MayEnd, MakesChild};
+ghost use Rattle.core_tasks.specs.Life.{MayEnd, MayMakeChild, MakesChild};
 
 use crate::state::State;
 use core_lanes::{SiblingQueue, task_of};
@@ -26,8 +24,7 @@ impl<Q: SiblingQueue, G: Guard> State<Q, G> {
 
     /// A child of the caller is among the living, asleep at home.
     pub fn make_child(&mut self, caller: Pid, thread: bool) -> Result<Task, ForkFault>
-        requires sound { IsSound self.old }
-        requires pid { self.old.next_pid + 1 < 2 ^ 32 }
+        requires { MayMakeChild self.old }
         ensures { MakesChild self.old self.new caller thread result }
     {
         let child = self.next_pid;

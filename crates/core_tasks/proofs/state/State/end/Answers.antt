@@ -33,20 +33,23 @@ module _ {Q : Type 0} {g : Ghosts Q} (old new : Core Q g × Table) (task : Task)
       ∙ ap (λ b. (task.spec.tgid == task.spec.pid) && b) (any-changed (record task { queued = false }) (λ other. other.spec.tgid == task.spec.pid) old.1.tasks)
       ∙ nobody
 
-pub dequeue-requires-clause-knows : goal.dequeue-requires-clause-knows
-dequeue-requires-clause-knows g c =
-    let old = c.args.self.now in
-    let task = c.args.task in
-    let there = c.requires.there in
-    record {
-      apart = record {
-        agree = c.requires.sound.agree;
-        old = task;
-        there = there;
-        fits = found_in (IsFit (length old.core.lanes.items)) task.spec.pid old.tasks.tasks task c.requires.sound.agree.tasks there;
+pub dequeue-requires : goal.dequeue-requires
+dequeue-requires g c = record {
+  knows =
+      let old = c.args.self.now in
+      let task = c.args.task in
+      let there = c.requires.there in
+      record {
+        apart = record {
+          agree = c.requires.sound.agree;
+          old = task;
+          there = there;
+          fits = found_in (IsFit (length old.core.lanes.items)) task.spec.pid old.tasks.tasks task c.requires.sound.agree.tasks there;
+        };
+        cookie = refl;
       };
-      cookie = refl;
-    }
+  touches = c.requires.touches;
+}
 
 pub end_alone-forced-requires-clause-asleep : goal.end_alone-forced-requires-clause-asleep
 end_alone-forced-requires-clause-asleep g c =

@@ -74,19 +74,19 @@ returns g c =
     group_done c.args.self.now c.loop.self c.args.cookie left (group_above c.args.group 0 c.args.self.now.tasks.tasks)
     c.loop.invariant.room c.loop.invariant.numbers (none_left left (omega (arith, c.loop.invariant.left, c.loop-test.false))) c.loop.invariant.stays
 
-pub set_cookie-requires-clause-may : goal.set_cookie-requires-clause-may
-set_cookie-requires-clause-may g c = record {
-  sound = c.loop.invariant.stays.sound c.requires.sound;
-  own = c.loop.invariant.own;
-  touches = omega (
-    arith,
-    group_touches c.args.self.now c.loop.self c.args.cookie (group_above c.args.group c.loop.after c.loop.self.tasks.tasks) (group_above c.args.group 0 c.args.self.now.tasks.tasks)
-        c.loop.invariant.room c.loop.invariant.numbers,
-    few_members c.args.group c.args.self.now.tasks.tasks,
-    c.requires.touches,
-  );
+pub set_cookie-requires : goal.set_cookie-requires
+set_cookie-requires g c = record {
+  may = record {
+    sound = c.loop.invariant.stays.sound c.requires.sound;
+    own = c.loop.invariant.own;
+    touches = omega (
+      arith,
+      group_touches c.args.self.now c.loop.self c.args.cookie (group_above c.args.group c.loop.after c.loop.self.tasks.tasks) (group_above c.args.group 0 c.args.self.now.tasks.tasks)
+          c.loop.invariant.room c.loop.invariant.numbers,
+      few_members c.args.group c.args.self.now.tasks.tasks,
+      c.requires.touches,
+    );
+  };
+  there =
+      member_there c.args.group c.loop.after c.loop.self.tasks.tasks c.next_in.ensures.sound.rising (Some c.in-Some.task) (c.in-Some.ensures ∙ c.next_in.ensures.next);
 }
-
-pub set_cookie-requires-clause-there : goal.set_cookie-requires-clause-there
-set_cookie-requires-clause-there g c =
-    member_there c.args.group c.loop.after c.loop.self.tasks.tasks c.next_in.ensures.sound.rising (Some c.in-Some.task) (c.in-Some.ensures ∙ c.next_in.ensures.next)
