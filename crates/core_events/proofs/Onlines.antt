@@ -1,11 +1,13 @@
 -- Onlines: what an event of a sibling makes where that is offline, and where it is online.
-use Rattle.std.proofs.Common.{◌≡◌, ℕ, ◌+◌, true, false, ap, sym, ◌∙◌, arith, Option}
+use Rattle.std.proofs.Common.{◌≡◌, ℕ, ◌+◌, Bor, List, true, false, ap, sym, ◌∙◌, subst, arith, Option, None, Some, unwrap_or}
+use Rattle.std.specs.Prelude.{IfSome, option_copied}
 use Rattle.std.proofs.lemmas.Bool.{cond-true, cond-false}
 use Rattle.cs_types.specs.declared.task.Task.{Task}
 use Rattle.cs_types.specs.declared.reply.Reply.TheVariants.{Offline}
 use Rattle.cs_types.specs.Room.{RoomState, is_online, running_on}
 use Rattle.cs_types.specs.Step.{Stepped, unless_offline}
 use Rattle.core_lanes.specs.Numbers.{Numbers}
+use Rattle.core_lanes.specs.Queued.{IsOf}
 
 -- nothing is touched
 pub untouched : (numbers : Numbers) → numbers ≡ record numbers { task = numbers.task + 0 }
@@ -23,3 +25,8 @@ when_running room cpu made task is online = ap made is ∙ when_online room cpu 
 -- and that of one that is offline changes nothing
 pub when_offline : (room : RoomState) (cpu : ℕ) (stepped : Stepped) → is_online room cpu ≡ false → record { reply = Offline; room = room } ≡ unless_offline room cpu stepped
 when_offline room cpu stepped offline = sym (cond-false (is_online room cpu) stepped (record { reply = Offline; room = room }) offline)
+
+-- a copy of a task of the table is one of the table too
+pub there_too : (found : Option (Bor Task)) (tasks : List Task) (task : Task) → IfSome found (λ one. IsOf tasks one.now) → Some task ≡ option_copied found → IsOf tasks task
+there_too None tasks task there is = absurd cc
+there_too (Some found) tasks task there is = subst (IsOf tasks) (sym (ap (λ one. unwrap_or one task) is)) there

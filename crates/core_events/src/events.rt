@@ -1,7 +1,6 @@
 //! What each event does to the state.
 
-ghost use Rattle.std.specs.Prelude.{◌≡◌, ◌<◌, ◌≤◌, length};
-ghost use Rattle.cs_types.specs.Scenario.{IsPolicy};
+ghost use Rattle.std.specs.Prelude.{◌≡◌, ◌<◌, length};
 ghost use Rattle.cs_types.specs.Step.{child_at_home, requeue, with_policy};
 ghost use Rattle.task_table.specs.Table.{Table};
 ghost use Rattle.core_lanes.specs.Lanes.{Beside, at, room_of};
@@ -138,7 +137,7 @@ fn block<Q: SiblingQueue, G: Guard, L: Ledger>(
     if !state.core.is_online(cpu) {
         return Reply::Offline;
     }
-    let Some(task) = state.core.running_on(&state.tasks, cpu) else {
+    let Some(task) = state.core.runner(&state.tasks, cpu).copied() else {
         return Reply::Idle;
     };
     charge(&mut state.core, &mut state.tasks, state.clock);
@@ -163,7 +162,7 @@ fn exit<Q: SiblingQueue, G: Guard, L: Ledger>(
     if !state.core.is_online(cpu) {
         return Reply::Offline;
     }
-    let Some(task) = state.core.running_on(&state.tasks, cpu) else {
+    let Some(task) = state.core.runner(&state.tasks, cpu).copied() else {
         return Reply::Idle;
     };
     if has_threads(&state.tasks, &task) {
@@ -219,8 +218,7 @@ fn advance<Q: SiblingQueue, G: Guard, L: Ledger>(
     delta: u64,
     steps: &mut Steps<L>,
 ) -> Reply
-    requires ready { IsReady state.old }
-    requires delta { delta ≤ 1000000000 }
+    requires { IsReadyFor (Event.Advance delta) state.old }
     ensures { Makes state.old state.new (Event.Advance delta) result }
 {
     state.clock = core_clock::advance(&mut state.core, &mut state.tasks, delta, state.clock, steps);
@@ -255,8 +253,7 @@ fn set_policy<Q: SiblingQueue, G: Guard, L: Ledger>(
     policy: Policy,
     steps: &mut Steps<L>,
 ) -> Reply
-    requires policy { IsPolicy policy }
-    requires ready { IsReady state.old }
+    requires { IsReadyFor (Event.SetSched pid policy) state.old }
     ensures { Makes state.old state.new (Event.SetSched pid policy) result }
 {
     let Some(task) = task_of(&state.tasks, pid) else {

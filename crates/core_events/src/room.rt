@@ -98,37 +98,6 @@ fn counted<Q: SiblingQueue, G: Guard, L: Ledger>(
     apply(state, event, &mut steps)
 }
 
-impl<Q: SiblingQueue, G: Guard> CoreRoom<Q, G> {
-    /// The room of a scenario before its first step. The guards were taught what its lines teach, and none
-    /// was loaded or asked yet. It takes memory for as many entries as the
-    /// scenario has steps, and for those of the end, and no later call takes any. The core has 1 to 16
-    /// siblings.
-    pub fn start(
-        alloc: Global,
-        scenario: &Scenario,
-        guards: Guards<G>,
-    ) -> Result<CoreRoom<Q, G>, OutOfMemory>
-        requires playable { IsPlayable scenario.now }
-        requires guards { guards.guards ≡ guards_on_bench scenario.now.teaches (length guards.guards.all) }
-        ensures opening { IfOk result (λ room. room.opening ≡ opened scenario.now guards) }
-        ensures empty { IfOk result (λ room. room.steps ≡ []) }
-        ensures spare { IfOk result (λ room. room.spare ≡
-            length scenario.now.steps + scenario.now.siblings * scenario.now.siblings) }
-    {
-        let most = most_entries(scenario);
-        let entries = Vec::with_capacity(alloc, most)?;
-        let count = guards.len();
-        let state = State::start(alloc, scenario, most, guards)?;
-        Ok(CoreRoom {
-            scenario: Snapshot::of(scenario),
-            siblings: scenario.siblings,
-            guards: count,
-            state,
-            entries,
-        })
-    }
-}
-
 impl<Q: SiblingQueue, G: Guard> Room for CoreRoom<Q, G> {
     ghost use Rattle.cs_types.specs.History.{history_of};
     ghost use Rattle.cs_types.proofs.Histories.{IsLegal-history_of};
@@ -235,14 +204,17 @@ impl<Q: SiblingQueue, G: Guard> FromScenario<Guards<G>> for CoreRoom<Q, G> {
         alloc: Global,
         scenario: &Scenario,
         guards: Guards<G>,
-    ) -> Result<CoreRoom<Q, G>, OutOfMemory>
-        requires playable { IsPlayable scenario.now }
-        requires guards { guards.guards ≡ guards_on_bench scenario.now.teaches (length guards.guards.all) }
-        ensures opening { IfOk result (λ room. room.opening ≡ opened scenario.now guards) }
-        ensures empty { IfOk result (λ room. history_of room.opening room.steps ≡ []) }
-        ensures spare { IfOk result (λ room. room.spare ≡
-            length scenario.now.steps + scenario.now.siblings * scenario.now.siblings) }
-    {
-        CoreRoom::start(alloc, scenario, guards)
+    ) -> Result<CoreRoom<Q, G>, OutOfMemory> {
+        let most = most_entries(scenario);
+        let entries = Vec::with_capacity(alloc, most)?;
+        let count = guards.len();
+        let state = State::start(alloc, scenario, most, guards)?;
+        Ok(CoreRoom {
+            scenario: Snapshot::of(scenario),
+            siblings: scenario.siblings,
+            guards: count,
+            state,
+            entries,
+        })
     }
 }

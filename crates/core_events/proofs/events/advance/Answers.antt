@@ -12,8 +12,8 @@ use Rattle.core_events.proofs.Readies.{low_times}
 use Rattle.core_events.proofs.Onlines.{untouched}
 use Rattle.core_events.proofs.events.advance.Goals as goal
 
-pub advance-state-requires-clause-may : goal.advance-state-requires-clause-may
-advance-state-requires-clause-may g c =
+pub advance-state-requires : goal.advance-state-requires
+advance-state-requires g c =
     let old = c.args.state.now in
     let time = c.requires.ready.time in
     let room = room_with [] old in
@@ -26,13 +26,14 @@ advance-state-requires-clause-may g c =
       used = All-weaker (IsTimelyTask room) (λ (task : Task). task.used ≤ old.clock) (λ task is. is.used) old.tasks.tasks timely.tasks;
       ran = All-weaker (IsTimelySibling (time.entries * (69 * old.clock)) old.clock) (λ (sibling : SiblingState). sibling.ran ≤ old.clock)
           (λ sibling is. is.ran) (map lane_state old.core.lanes.items) timely.siblings;
+      short = c.requires.event.1;
     }
 
 pub returns : goal.returns
 returns g c =
     let old = c.args.state.now in
-    let advances = c.advance-state.ensures.advances in
-    let clock = c.advance-state.ensures.clock in
+    let advances = c.advance-state.ensures in
+    let clock = advances.clock in
     record {
       step = λ intervals.
           let room = room_with intervals old in

@@ -69,11 +69,7 @@ pub bring_online-requires : goal.bring_online-requires
 bring_online-requires g c = record { cpu = subst (IsEvent (length c.args.state.now.core.lanes.items)) c.in-Online.is c.requires.event }
 
 pub advance-requires : goal.advance-requires
-advance-requires g c =
-    let within = subst (IsEvent (length c.args.state.now.core.lanes.items)) c.in-Advance.is c.requires.event in
-    record { ready = c.requires.ready; delta = within.1 }
+advance-requires g c = record { event = subst (IsEvent (length c.args.state.now.core.lanes.items)) c.in-Advance.is c.requires.event; ready = c.requires.ready }
 
 pub set_policy-requires : goal.set_policy-requires
-set_policy-requires g c =
-    let within = subst (IsEvent (length c.args.state.now.core.lanes.items)) c.in-SetSched.is c.requires.event in
-    record { policy = within.1; ready = c.requires.ready }
+set_policy-requires g c = record { event = subst (IsEvent (length c.args.state.now.core.lanes.items)) c.in-SetSched.is c.requires.event; ready = c.requires.ready }

@@ -13,7 +13,7 @@ use Rattle.core_lanes.specs.Numbers.{Numbers, booked, took, touched, with_ended}
 use Rattle.core_lanes.proofs.Stays.{both_stay, found_in, some_beside}
 use Rattle.core_tasks.specs.State.{beside_of, room_with, state_numbers}
 use Rattle.core_tasks.proofs.States.{once_charged, lifted, leaves_all}
-use Rattle.core_events.proofs.Onlines.{untouched, when_running, when_offline}
+use Rattle.core_events.proofs.Onlines.{there_too, untouched, when_running, when_offline}
 use Rattle.core_events.proofs.Sleeps.{took-touched}
 use Rattle.core_events.proofs.Lows.{HasLow, low_idled, low_dequeued}
 use Rattle.core_tasks.proofs.Known.{fits_found, knows_as}
@@ -23,27 +23,27 @@ use Rattle.core_events.proofs.events.block.Goals as goal
 use Rattle.task_table.specs.Table.{Table}
 use Rattle.core_lanes.specs.Queued.{IsOf}
 
-pub dequeue-requires-clause-touches : goal.dequeue-requires-clause-touches
-dequeue-requires-clause-touches g c =
-    subst (λ n. n + 1 < 2 ^ 64) (sym (ap (λ (b : BareCore). b.task_number) c.charge.ensures.core)) (may_pick c.args.state.now c.args.cpu c.requires.cpu c.requires.ready).touches
-
 pub run_idle-requires : goal.run_idle-requires
 run_idle-requires g c = still_below (both_stay c.charge.ensures.charges.stays c.dequeue.ensures.stays) c.requires.cpu
 
-pub dequeue-requires-clause-knows : goal.dequeue-requires-clause-knows
-dequeue-requires-clause-knows g c =
-    let task = c.in-Some.task in
-    let table = c.charge.new.table in
-    let there = subst (λ (table : Table). IsOf table.tasks task) (sym c.charge.ensures.table) c.in-Some.ensures.there in
-    let agree = c.charge.ensures.charges.stays.agree c.requires.ready.sound.agree in
-    knows_as (c.charge.new.core, table) task task agree refl refl there (fits_found (c.charge.new.core, table) task.spec.pid task agree there)
+pub dequeue-requires : goal.dequeue-requires
+dequeue-requires g c = record {
+  knows =
+      let task = c.in-Some.task in
+      let table = c.charge.new.table in
+      let there = subst (λ (table : Table). IsOf table.tasks task) (sym c.charge.ensures.table) (there_too c.runner.result c.args.state.now.tasks.tasks c.in-Some.task c.runner.ensures.there c.in-Some.ensures) in
+      let agree = c.charge.ensures.charges.stays.agree c.requires.ready.sound.agree in
+      knows_as (c.charge.new.core, table) task task agree refl refl there (fits_found (c.charge.new.core, table) task.spec.pid task agree there);
+  touches =
+      subst (λ n. n + 1 < 2 ^ 64) (sym (ap (λ (b : BareCore). b.task_number) c.charge.ensures.core)) (may_pick c.args.state.now c.args.cpu c.requires.cpu c.requires.ready).touches;
+}
 
 pub pick_and_balance-requires : goal.pick_and_balance-requires
 pick_and_balance-requires g c =
     let old = c.args.state.now in
     let task = c.in-Some.task in
     let first = low_times old c.requires.ready.time in
-    let low : task.vtime < 2 ^ 100 = found_in (λ (t : Task). t.vtime < 2 ^ 100) task.spec.pid old.tasks.tasks task first.vtimes c.in-Some.ensures.there in
+    let low : task.vtime < 2 ^ 100 = found_in (λ (t : Task). t.vtime < 2 ^ 100) task.spec.pid old.tasks.tasks task first.vtimes (there_too c.runner.result c.args.state.now.tasks.tasks c.in-Some.task c.runner.ensures.there c.in-Some.ensures) in
     let idle = c.run_idle.ensures c.dequeue.new.table in
     let paid_core = c.charge.ensures.core in
     let mid = room_of some_beside (c.charge.new.core, c.charge.new.table) in
@@ -69,7 +69,7 @@ pub returns-in_default : goal.returns-in_default
 returns-in_default g c = leaves_all c.args.state.now (Block c.args.cpu) Idle (λ intervals. untouched (state_numbers c.args.state.now)) (λ intervals.
     let room = room_with intervals c.args.state.now in
     let beside = beside_of intervals c.args.state.now in
-    when_running room c.args.cpu (block room c.args.cpu) None (c.in_default.ensures.task beside) (sym (c.is_online.ensures beside c.args.state.now.tasks) ∙ c.if-not-is_online.false))
+    when_running room c.args.cpu (block room c.args.cpu) None (c.in_default.ensures ∙ c.runner.ensures.task beside) (sym (c.is_online.ensures beside c.args.state.now.tasks) ∙ c.if-not-is_online.false))
 
 pub returns : goal.returns
 returns g c =
@@ -86,7 +86,7 @@ returns g c =
           let is : room_of paid (c.run_idle.new.self, c.dequeue.new.table) ≡ gone =
           idle.room paid ∙ ap (λ (r : RoomState). run_idle r cpu) (c.dequeue.ensures.room paid ∙ ap (λ (r : RoomState). dequeue r task) (c.charge.ensures.charges.room beside)) in
           let scheduled = picked_charged (room_of paid (c.run_idle.new.self, c.dequeue.new.table)) gone cpu (now-charge room) is in
-          let up = when_running room cpu (block room cpu) (Some task) (c.in-Some.ensures.task beside) (sym (c.is_online.ensures beside old.tasks) ∙ c.if-not-is_online.false) in
+          let up = when_running room cpu (block room cpu) (Some task) (c.in-Some.ensures ∙ c.runner.ensures.task beside) (sym (c.is_online.ensures beside old.tasks) ∙ c.if-not-is_online.false) in
           once_charged (record {
             reply = ap (Slept task.spec.pid) (c.pick_and_balance.ensures.schedules.pick paid ∙ ap (λ (made : Scheduled). made.pick) scheduled) ∙ ap (λ (m : Stepped). m.reply) up;
             room = c.pick_and_balance.ensures.schedules.room paid ∙ ap (λ (made : Scheduled). made.room) scheduled ∙ ap (λ (m : Stepped). m.room) up;

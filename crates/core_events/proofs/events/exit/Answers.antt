@@ -12,7 +12,7 @@ use Rattle.core_lanes.proofs.Stays as core
 use Rattle.std.proofs.lemmas.Bool.{cond-true, cond-false}
 use Rattle.core_tasks.specs.State.{beside_of, room_with, state_numbers}
 use Rattle.core_tasks.proofs.States.{once_charged, lifted, both_stay, leaves_all}
-use Rattle.core_events.proofs.Onlines.{untouched, when_running, when_offline}
+use Rattle.core_events.proofs.Onlines.{there_too, untouched, when_running, when_offline}
 use Rattle.core_events.proofs.Sleeps.{took-touched}
 use Rattle.core_events.proofs.Lows.{HasLow, low_idled, low_without}
 use Rattle.core_events.proofs.Readies.{low_times, may_pick, may_touch_after, picked_charged}
@@ -26,7 +26,7 @@ run_idle-requires g c = subst (λ n. c.args.cpu < n) (sym c.end.ensures.stays.si
 
 pub end-requires : goal.end-requires
 end-requires g c = record {
-  there = subst (λ (table : Table). IsOf table.tasks c.in-Some.task) (sym c.charge.ensures.table) c.in-Some.ensures.there;
+  there = subst (λ (table : Table). IsOf table.tasks c.in-Some.task) (sym c.charge.ensures.table) (there_too c.runner.result c.args.state.now.tasks.tasks c.in-Some.task c.runner.ensures.there c.in-Some.ensures);
   sound = (lifted c.args.state.now (c.charge.new.core, c.charge.new.table) c.charge.ensures.charges.stays).sound c.requires.ready.sound;
   alone = λ intervals.
       sym (c.has_threads.ensures (room_of (beside_of intervals c.args.state.now) (c.charge.new.core, c.charge.new.table)) (ap (λ (table : Table). table.tasks) c.charge.ensures.table))
@@ -67,7 +67,7 @@ pub returns-in_default : goal.returns-in_default
 returns-in_default g c = leaves_all c.args.state.now (Exit c.args.cpu) Idle (λ intervals. untouched (state_numbers c.args.state.now)) (λ intervals.
     let room = room_with intervals c.args.state.now in
     let beside = beside_of intervals c.args.state.now in
-    when_running room c.args.cpu (exit room c.args.cpu) None (c.in_default.ensures.task beside) (sym (c.is_online.ensures beside c.args.state.now.tasks) ∙ c.if-not-is_online.false))
+    when_running room c.args.cpu (exit room c.args.cpu) None (c.in_default.ensures ∙ c.runner.ensures.task beside) (sym (c.is_online.ensures beside c.args.state.now.tasks) ∙ c.if-not-is_online.false))
 
 pub returns-then-has_threads : goal.returns-then-has_threads
 returns-then-has_threads g c = leaves_all c.args.state.now (Exit c.args.cpu) HasThreads (λ intervals. untouched (state_numbers c.args.state.now)) (λ intervals.
@@ -77,7 +77,7 @@ returns-then-has_threads g c = leaves_all c.args.state.now (Exit c.args.cpu) Has
     let leads = sym (c.has_threads.ensures room refl) ∙ c.if-has_threads.true in
     let goes : Stepped = picked (Ended task.spec.pid) (schedule (run_idle (without (charge room) task) c.args.cpu) false c.args.cpu) in
     sym (cond-true (has_threads room task) (record { reply = HasThreads; room = room }) goes leads)
-    ∙ when_running room c.args.cpu (exit room c.args.cpu) (Some task) (c.in-Some.ensures.task beside) (sym (c.is_online.ensures beside c.args.state.now.tasks) ∙ c.if-not-is_online.false))
+    ∙ when_running room c.args.cpu (exit room c.args.cpu) (Some task) (c.in-Some.ensures ∙ c.runner.ensures.task beside) (sym (c.is_online.ensures beside c.args.state.now.tasks) ∙ c.if-not-is_online.false))
 
 pub returns : goal.returns
 returns g c =
@@ -94,7 +94,7 @@ returns g c =
           let goes : Stepped = picked (Ended task.spec.pid) (schedule (run_idle (without (charge room) task) cpu) false cpu) in
           let stays : Stepped = record { reply = HasThreads; room = room } in
           let up = sym (cond-false (has_threads room task) stays goes alone)
-          ∙ when_running room cpu (exit room cpu) (Some task) (c.in-Some.ensures.task beside) (sym (c.is_online.ensures beside old.tasks) ∙ c.if-not-is_online.false) in
+          ∙ when_running room cpu (exit room cpu) (Some task) (c.in-Some.ensures ∙ c.runner.ensures.task beside) (sym (c.is_online.ensures beside old.tasks) ∙ c.if-not-is_online.false) in
           let after = (charge room).intervals in
           let paid = beside_of after ended in
           let gone = run_idle (without (charge room) task) cpu in

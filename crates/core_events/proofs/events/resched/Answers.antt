@@ -47,7 +47,7 @@ returns-in-None g c =
     let cpu = c.args.cpu in
     let fresh = is_fresh_by (state_numbers old) in
     subst (λ (state : State g.row.Q.Denot g.row.G.Denot g.Q.SiblingQueue). Makes old state (Resched cpu) Offline)
-    (λ i. record old { core = sym c.in-None.ensures.core i; tasks = sym c.in-None.ensures.table i })
+    (λ i. record old { core = sym c.in-None.ensures.unchanged.0 i; tasks = sym c.in-None.ensures.unchanged.1 i })
     (leaves_all old (Resched cpu) Offline (λ intervals. untouched (state_numbers old)) (λ intervals.
     let room = room_with intervals old in
     when_offline room cpu (picked Picked (schedule room fresh cpu)) (sym (c.in-None.ensures.online (beside_of intervals old)))))

@@ -28,7 +28,7 @@ requeue-requires g c =
     let fit = fits_found (both old) c.args.pid task c.requires.ready.sound.agree (sym c.in-Some.ensures.task) in
     record {
       knows = subst (KnowsApart (both old)) (sym c.with_policy-changed.ensures)
-          (knows_as (both old) (with_policy c.args.policy task) task c.requires.ready.sound.agree refl refl c.in-Some.ensures.there (record { home = fit.home; policy = c.requires.policy }));
+          (knows_as (both old) (with_policy c.args.policy task) task c.requires.ready.sound.agree refl refl c.in-Some.ensures.there (record { home = fit.home; policy = c.requires.event.1 }));
       clock = c.requires.ready.time.clock;
       stamp = omega (arith, c.requires.ready.spares.stamps);
       touches = omega (arith, c.requires.ready.spares.touches);
@@ -42,7 +42,7 @@ change-requires g c =
     let asleep : task.queued ≡ false = c.if-task.false in
     subst (Knows (both old)) (sym c.with_policy-changed.ensures)
     (record {
-      known = knows_as (both old) (with_policy c.args.policy task) task c.requires.ready.sound.agree refl refl c.in-Some.ensures.there (record { home = fit.home; policy = c.requires.policy });
+      known = knows_as (both old) (with_policy c.args.policy task) task c.requires.ready.sound.agree refl refl c.in-Some.ensures.there (record { home = fit.home; policy = c.requires.event.1 });
       stamp = λ queued. let bad : false ≡ true = sym asleep ∙ queued in absurd cc;
     })
 

@@ -1,13 +1,31 @@
-use Rattle.std.proofs.Common.{◌≡◌, ap, []}
-use Rattle.std.specs.Prelude.{IfOk, Result, Ok, Err}
-use Rattle.cs_types.specs.History.{history_of}
-use Rattle.core_events.specs.Machine.{Machine}
+use Rattle.std.proofs.Common.{ap, subst, sym, ◌∙◌, arith, refl}
+use Rattle.cs_types.specs.declared.scenario.Scenario.{Scenario}
+use Rattle.cs_types.specs.Room.{RoomState}
+use Rattle.core_events.specs.Inside.{IsFold}
 use Rattle.core_events.proofs.room.CoreRoomFromScenarioGuards.from_scenario.Goals as goal
 
--- without steps there is no entry
-no_entries : {E : Type 0} (made : Result Machine E) → IfOk made (λ room. room.steps ≡ []) → IfOk made (λ room. history_of room.opening room.steps ≡ [])
-no_entries (Ok room) none = ap (history_of room.opening) none
-no_entries (Err fault) none = tt
-
-pub returns-clause-empty : goal.returns-clause-empty
-returns-clause-empty g c = no_entries c.start.result c.start.ensures.empty
+pub invariant_of-result : goal.invariant_of-result
+invariant_of-result g c =
+    let entries = c.in_ok-entries.ensures in
+    let state = c.in_ok-state.ensures in
+    let most = c.most_entries-most.ensures in
+    subst (λ (s : Scenario). IsFold (record {
+      scenario = record { marker = c.of.result.marker; value = s };
+      siblings = c.args.scenario.now.siblings;
+      guards = c.len-count.result;
+      state = c.in_ok-state.state;
+      entries = c.in_ok-entries.entries;
+    })) (sym c.of.ensures)
+    (record {
+      playable = c.requires.playable;
+      events = rw entries.items (λ k d lt. absurd (omega arith));
+      history = rw entries.items refl;
+      fold = rw (entries.items, c.len-count.ensures.len) state.room;
+      numbers = rw entries.items state.numbers;
+      sound = state.sound;
+      count = refl;
+      siblings = state.siblings;
+      slow = omega (arith, ap (λ (room : RoomState). room.clock) state.room);
+      few_entries = omega (arith, entries.exact, most);
+      ends = state.ends ∙ most;
+    })
