@@ -11,34 +11,34 @@ use Rattle.tree_queue.proofs.queue.TreeQueueSiblingQueue.next_with.Goals as goal
 pub next_of-requires : goal.next_of-requires
 next_of-requires g c = ranked c.args.task.now c.queued_of.ensures
 
-pub returns-in_err-next_of-clause-next : goal.returns-in_err-next_of-clause-next
-returns-in_err-next_of-clause-next g c =
-    let task = c.args.task.now in
-    let tasks = c.args.table.now.tasks in
-    let queued = queued_among tasks c.args._cpu in
-    let low = recursion_from_All IsLow queued (low_among tasks c.args._cpu c.requires.search.policies) in
-    c.from_residual.ensures
-    ∙ none_of queued_of (first_of (behind task (with_cookie task.cookie queued)))
-    (sym c.in_err-next_of.was ∙ c.next_of.ensures.next
-    ∙ (λ i. next_with (c.requires.search.holds.trees.spots i) (c.queued_of.ensures i))
-    ∙ next_with-spotted queued low task (low_priority task.spec.policy c.requires.policy) c.requires.cookie)
+pub returns-in_err-next_of : goal.returns-in_err-next_of
+returns-in_err-next_of g c = record {
+  answer =
+      let task = c.args.task.now in
+      let tasks = c.args.table.now.tasks in
+      let queued = queued_among tasks c.args._cpu in
+      let low = recursion_from_All IsLow queued (low_among tasks c.args._cpu c.requires.find.search.policies) in
+      c.from_residual.ensures
+      ∙ none_of queued_of (first_of (behind task (with_cookie task.cookie queued)))
+      (sym c.in_err-next_of.was ∙ c.next_of.ensures.next
+      ∙ (λ i. next_with (c.requires.find.search.holds.trees.spots i) (c.queued_of.ensures i))
+      ∙ next_with-spotted queued low task (low_priority task.spec.policy c.requires.policy) c.requires.find.cookie);
+  counted =
+      omega (arith, c.next_of.ensures.counted, few_of_all (queued_among c.args.table.now.tasks c.args._cpu) c.requires.find.search.holds.trees);
+}
 
-pub returns-clause-next : goal.returns-clause-next
-returns-clause-next g c =
-    let task = c.args.task.now in
-    let tasks = c.args.table.now.tasks in
-    let queued = queued_among tasks c.args._cpu in
-    let low = recursion_from_All IsLow queued (low_among tasks c.args._cpu c.requires.search.policies) in
-    c.task_of.ensures.task
-    ∙ found_queued tasks c.in_ok-next_of.field-0 (first_of (behind task (with_cookie task.cookie queued))) (found_behind tasks c.args._cpu task c.task_of.ensures.sound.rising)
-    (sym c.in_ok-next_of.was ∙ c.next_of.ensures.next
-    ∙ (λ i. next_with (c.requires.search.holds.trees.spots i) (c.queued_of.ensures i))
-    ∙ next_with-spotted queued low task (low_priority task.spec.policy c.requires.policy) c.requires.cookie)
-
-pub returns-in_err-next_of-clause-counted : goal.returns-in_err-next_of-clause-counted
-returns-in_err-next_of-clause-counted g c =
-    omega (arith, c.next_of.ensures.counted, few_of_all (queued_among c.args.table.now.tasks c.args._cpu) c.requires.search.holds.trees)
-
-pub returns-clause-counted : goal.returns-clause-counted
-returns-clause-counted g c =
-    omega (arith, c.next_of.ensures.counted, few_of_all (queued_among c.args.table.now.tasks c.args._cpu) c.requires.search.holds.trees)
+pub returns : goal.returns
+returns g c = record {
+  answer =
+      let task = c.args.task.now in
+      let tasks = c.args.table.now.tasks in
+      let queued = queued_among tasks c.args._cpu in
+      let low = recursion_from_All IsLow queued (low_among tasks c.args._cpu c.requires.find.search.policies) in
+      c.task_of.ensures.task
+      ∙ found_queued tasks c.in_ok-next_of.field-0 (first_of (behind task (with_cookie task.cookie queued))) (found_behind tasks c.args._cpu task c.task_of.ensures.sound.rising)
+      (sym c.in_ok-next_of.was ∙ c.next_of.ensures.next
+      ∙ (λ i. next_with (c.requires.find.search.holds.trees.spots i) (c.queued_of.ensures i))
+      ∙ next_with-spotted queued low task (low_priority task.spec.policy c.requires.policy) c.requires.find.cookie);
+  counted =
+      omega (arith, c.next_of.ensures.counted, few_of_all (queued_among c.args.table.now.tasks c.args._cpu) c.requires.find.search.holds.trees);
+}

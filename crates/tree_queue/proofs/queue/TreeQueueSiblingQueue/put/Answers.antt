@@ -20,18 +20,6 @@ enqueue-requires g c = record {
   free = (λ i. fin.get (c.requires.holds.trees.seats i) (seat_of (c.queued_of-queued.ensures i))) ∙ free_seat (parted_put c.requires);
 }
 
-pub returns-clause-holds : goal.returns-clause-holds
-returns-clause-holds g c =
-    let parted = parted_put c.requires in
-    let holds = c.requires.holds in
-    let same = c.queued_of-queued.ensures in
-    record {
-      trees = Holds-put parted same holds.trees c.enqueue.ensures.tasks c.enqueue.ensures.cookies c.enqueue.ensures.spare;
-      first_is = c.enter.ensures.first ∙ (λ i. Some (earlier (same i) (holds.first_is i))) ∙ sym (first-split parted);
-      by_kind = counted-put kind_of parted.split c.kind_of.ensures.kind c.kind_of.ensures.few holds.by_kind;
-      by_lot = counted-put lot_of parted.split c.lot_of.ensures.lot c.lot_of.ensures.few holds.by_lot;
-    }
-
 pub overflow_add-self : goal.overflow_add-self
 overflow_add-self g c =
     let few = few-put kind_of (parted_put c.requires).split c.kind_of.ensures.kind c.kind_of.ensures.few c.requires.holds.by_kind in
@@ -42,6 +30,18 @@ overflow_add-self-2 g c =
     let few = few-put lot_of (parted_put c.requires).split c.lot_of.ensures.lot c.lot_of.ensures.few c.requires.holds.by_lot in
     omega (arith, few, few_queued c.args._table.now.tasks c.args._cpu, c.requires.table.few, c.requires.table.limit)
 
-pub returns-clause-counted : goal.returns-clause-counted
-returns-clause-counted g c =
-    omega (arith, c.enter.ensures.counted, c.enqueue.ensures.counted, few_of_others (queued_among c.args._table.now.tasks c.args._cpu) (parted_put c.requires).split c.requires.holds.trees)
+pub returns : goal.returns
+returns g c = record {
+  holds =
+      let parted = parted_put c.requires in
+      let holds = c.requires.holds in
+      let same = c.queued_of-queued.ensures in
+      record {
+        trees = Holds-put parted same holds.trees c.enqueue.ensures.tasks c.enqueue.ensures.cookies c.enqueue.ensures.spare;
+        first_is = c.enter.ensures.first ∙ (λ i. Some (earlier (same i) (holds.first_is i))) ∙ sym (first-split parted);
+        by_kind = counted-put kind_of parted.split c.kind_of.ensures.kind c.kind_of.ensures.few holds.by_kind;
+        by_lot = counted-put lot_of parted.split c.lot_of.ensures.lot c.lot_of.ensures.few holds.by_lot;
+      };
+  counted =
+      omega (arith, c.enter.ensures.counted, c.enqueue.ensures.counted, few_of_others (queued_among c.args._table.now.tasks c.args._cpu) (parted_put c.requires).split c.requires.holds.trees);
+}

@@ -20,25 +20,6 @@ set_cookie-requires g c =
     let same = c.queued_of.ensures in
     record { ranked = ranked c.args.task.now same; there = at_seat c.requires same; same = at_spot c.requires same; cookie = one_cookie c.requires same }
 
-pub returns-clause-holds : goal.returns-clause-holds
-returns-clause-holds g c =
-    let task = c.args.task.now in
-    let cookie = c.args.cookie in
-    let before = parted c.requires in
-    let now = parted_now c.requires cookie task.vtime in
-    let holds = c.requires.holds in
-    let same = c.queued_of.ensures in
-    record {
-      trees = Holds-put now (ap (λ (queued : Queued). record queued { cookie = cookie }) same) (Holds-without before same holds.trees)
-          (c.set_cookie.ensures.tasks ∙ seats_stay before same holds.trees) c.set_cookie.ensures.cookies (ap (λ n. n + 1) c.set_cookie.ensures.spare);
-      first_is = c.give_cookie.ensures
-          ∙ ap (option_map (given_to task.spec.pid cookie)) (holds.first_is ∙ first-split before)
-          ∙ first_given (queued_of task) cookie _ (first_apart (queued_of task) _ before.apart)
-          ∙ sym (first-split now);
-      by_kind = counted-stay kind_of before.split now.split refl holds.by_kind;
-      by_lot = counted-put lot_of now.split c.lot_of-2.ensures.lot c.lot_of-2.ensures.few (counted-take lot_of before.split c.lot_of.ensures.lot c.lot_of.ensures.few holds.by_lot);
-    }
-
 pub overflow_sub-self : goal.overflow_sub-self
 overflow_sub-self g c = some-take lot_of (parted c.requires).split c.lot_of.ensures.lot c.lot_of.ensures.few c.requires.holds.by_lot
 
@@ -52,5 +33,24 @@ overflow_add-self g c =
     let many : length after ≡ length tasks = length-map tasks _ in
     omega (arith, few, few_queued after c.args._cpu, many, c.requires.table.few, c.requires.table.limit)
 
-pub returns-clause-counted : goal.returns-clause-counted
-returns-clause-counted g c = omega (arith, c.set_cookie.ensures.counted, few_of_all (queued_among c.args._table.now.tasks c.args._cpu) c.requires.holds.trees)
+pub returns : goal.returns
+returns g c = record {
+  holds =
+      let task = c.args.task.now in
+      let cookie = c.args.cookie in
+      let before = parted c.requires in
+      let now = parted_now c.requires cookie task.vtime in
+      let holds = c.requires.holds in
+      let same = c.queued_of.ensures in
+      record {
+        trees = Holds-put now (ap (λ (queued : Queued). record queued { cookie = cookie }) same) (Holds-without before same holds.trees)
+            (c.set_cookie.ensures.tasks ∙ seats_stay before same holds.trees) c.set_cookie.ensures.cookies (ap (λ n. n + 1) c.set_cookie.ensures.spare);
+        first_is = c.give_cookie.ensures
+            ∙ ap (option_map (given_to task.spec.pid cookie)) (holds.first_is ∙ first-split before)
+            ∙ first_given (queued_of task) cookie _ (first_apart (queued_of task) _ before.apart)
+            ∙ sym (first-split now);
+        by_kind = counted-stay kind_of before.split now.split refl holds.by_kind;
+        by_lot = counted-put lot_of now.split c.lot_of-2.ensures.lot c.lot_of-2.ensures.few (counted-take lot_of before.split c.lot_of.ensures.lot c.lot_of.ensures.few holds.by_lot);
+      };
+  counted = omega (arith, c.set_cookie.ensures.counted, few_of_all (queued_among c.args._table.now.tasks c.args._cpu) c.requires.holds.trees);
+}

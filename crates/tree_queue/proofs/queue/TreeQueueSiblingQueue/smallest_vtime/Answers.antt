@@ -1,4 +1,4 @@
-use Rattle.std.proofs.Common.{ap, sym, refl, ◌∙◌}
+use Rattle.std.proofs.Common.{ap, sym, refl, arith, ◌∙◌}
 use Rattle.std.specs.Prelude.{◌==◌}
 use Rattle.std.proofs.lemmas.List.Elements.{recursion_from_All}
 use Rattle.cs_types.specs.Order.{fair_class, is_fair}
@@ -9,11 +9,14 @@ use Rattle.tree_queue.proofs.Asked.{IsLow, low_among, first_told}
 use Rattle.tree_queue.proofs.Vtimes.{smallest-rank}
 use Rattle.tree_queue.proofs.queue.TreeQueueSiblingQueue.smallest_vtime.Goals as goal
 
-pub returns-clause-smallest : goal.returns-clause-smallest
-returns-clause-smallest g c =
-    let tasks = c.args._table.now.tasks in
-    let queued = queued_among tasks c.args._cpu in
-    c.least_fair.ensures.least
-    ∙ ap (λ (s : Seats). least_rank_in fair_class s) c.requires.holds.trees.seats
-    ∙ first_told queued (recursion_from_All IsLow queued (low_among tasks c.args._cpu c.requires.policies)) (λ (entry : Seat × _). entry.0.1.0) (λ seat. seat.0 == fair_class) is_fair (λ t low. refl)
-    ∙ sym (smallest-rank queued)
+pub returns : goal.returns
+returns g c = record {
+  answer =
+      let tasks = c.args._table.now.tasks in
+      let queued = queued_among tasks c.args._cpu in
+      c.least_fair.ensures.least
+      ∙ ap (λ (s : Seats). least_rank_in fair_class s) c.requires.holds.trees.seats
+      ∙ first_told queued (recursion_from_All IsLow queued (low_among tasks c.args._cpu c.requires.policies)) (λ (entry : Seat × _). entry.0.1.0) (λ seat. seat.0 == fair_class) is_fair (λ t low. refl)
+      ∙ sym (smallest-rank queued);
+  counted = omega (arith, c.least_fair.ensures.counted);
+}

@@ -40,30 +40,30 @@ module _ (g : Over) (c : After-is_of g) where
     by_lot = counted-take lot_of (parted c.requires).split c.lot_of.ensures.lot c.lot_of.ensures.few c.requires.holds.by_lot;
   }
 
-pub returns-then-is_of-clause-holds : goal.returns-then-is_of-clause-holds
-returns-then-is_of-clause-holds g c =
-    let before = (goal.at.returns-then-is_of-clause-holds g c).After-is_of in
-    keeps g before c.find_first-self.result
-    (c.find_first-self.ensures.first (rest g before) (trees g before).seats (each_in c.args.table.now.tasks c.args._cpu c.args.task.now.spec.pid c.requires.table.rising))
-
-pub returns-else-is_of-clause-holds : goal.returns-else-is_of-clause-holds
-returns-else-is_of-clause-holds g c =
-    let before = (goal.at.returns-else-is_of-clause-holds g c).After-is_of in
-    keeps g before c.args.self.now.first
-    (first_stays (queued_of c.args.task.now) (c.requires.holds.first_is ∙ first-split (parted c.requires)) (sym c.is_of.ensures ∙ c.if-is_of.false))
-
-pub returns-then-is_of-clause-counted : goal.returns-then-is_of-clause-counted
-returns-then-is_of-clause-counted g c =
-    let left = trees g (goal.at.returns-then-is_of-clause-counted g c).After-is_of in
-    omega (arith, c.dequeue.ensures.counted, c.find_first-self.ensures.counted, few_taken (queued_among c.args.table.now.tasks c.args._cpu) (parted c.requires).split c.requires.holds.trees left)
-
-pub returns-else-is_of-clause-counted : goal.returns-else-is_of-clause-counted
-returns-else-is_of-clause-counted g c =
-    let left = trees g (goal.at.returns-else-is_of-clause-counted g c).After-is_of in
-    omega (arith, c.dequeue.ensures.counted, few_taken (queued_among c.args.table.now.tasks c.args._cpu) (parted c.requires).split c.requires.holds.trees left)
-
 pub overflow_sub-self : goal.overflow_sub-self
 overflow_sub-self g c = some-take kind_of (parted c.requires).split c.kind_of.ensures.kind c.kind_of.ensures.few c.requires.holds.by_kind
 
 pub overflow_sub-self-2 : goal.overflow_sub-self-2
 overflow_sub-self-2 g c = some-take lot_of (parted c.requires).split c.lot_of.ensures.lot c.lot_of.ensures.few c.requires.holds.by_lot
+
+pub returns-then-is_of : goal.returns-then-is_of
+returns-then-is_of g c = record {
+  holds =
+      let before = (goal.at.returns-then-is_of g c).After-is_of in
+      keeps g before c.find_first-self.result
+      (c.find_first-self.ensures.first (rest g before) (trees g before).seats (each_in c.args.table.now.tasks c.args._cpu c.args.task.now.spec.pid c.requires.table.rising));
+  counted =
+      let left = trees g (goal.at.returns-then-is_of g c).After-is_of in
+      omega (arith, c.dequeue.ensures.counted, c.find_first-self.ensures.counted, few_taken (queued_among c.args.table.now.tasks c.args._cpu) (parted c.requires).split c.requires.holds.trees left);
+}
+
+pub returns-else-is_of : goal.returns-else-is_of
+returns-else-is_of g c = record {
+  holds =
+      let before = (goal.at.returns-else-is_of g c).After-is_of in
+      keeps g before c.args.self.now.first
+      (first_stays (queued_of c.args.task.now) (c.requires.holds.first_is ∙ first-split (parted c.requires)) (sym c.is_of.ensures ∙ c.if-is_of.false));
+  counted =
+      let left = trees g (goal.at.returns-else-is_of g c).After-is_of in
+      omega (arith, c.dequeue.ensures.counted, few_taken (queued_among c.args.table.now.tasks c.args._cpu) (parted c.requires).split c.requires.holds.trees left);
+}
