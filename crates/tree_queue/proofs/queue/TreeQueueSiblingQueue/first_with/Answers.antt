@@ -28,8 +28,7 @@ returns-in_err-first_of g c = record {
       ∙ none_of queued_of (first_of (with_cookie c.args.cookie queued))
       (sym c.in_err-first_of.was ∙ c.first_of.ensures.first ∙ ap (λ (spots : Spots). first_with spots c.args.cookie) c.requires.search.holds.trees.spots
       ∙ first_with-spotted queued (recursion_from_All _ queued (low_among c.args.table.now.tasks c.args._cpu c.requires.search.policies)) c.args.cookie c.requires.cookie);
-  counted =
-      omega (arith, c.first_of.ensures.counted, few_of_all (queued_among c.args.table.now.tasks c.args._cpu) c.requires.search.holds.trees);
+  counted = omega (arith, c.first_of.ensures.counted, few_of_all (queued_among c.args.table.now.tasks c.args._cpu) c.requires.search.holds.trees);
 }
 
 pub returns : goal.returns
@@ -42,6 +41,5 @@ returns g c = record {
       (found_first tasks c.args._cpu (λ task. task.cookie == c.args.cookie) c.task_of.ensures.sound.rising)
       (sym c.in_ok-first_of.was ∙ c.first_of.ensures.first ∙ ap (λ (spots : Spots). first_with spots c.args.cookie) c.requires.search.holds.trees.spots
       ∙ first_with-spotted queued (recursion_from_All _ queued (low_among tasks c.args._cpu c.requires.search.policies)) c.args.cookie c.requires.cookie);
-  counted =
-      omega (arith, c.first_of.ensures.counted, few_of_all (queued_among c.args.table.now.tasks c.args._cpu) c.requires.search.holds.trees);
+  counted = omega (arith, c.first_of.ensures.counted, few_of_all (queued_among c.args.table.now.tasks c.args._cpu) c.requires.search.holds.trees);
 }

@@ -23,8 +23,7 @@ returns-in_err-next_of g c = record {
       (sym c.in_err-next_of.was ∙ c.next_of.ensures.next
       ∙ (λ i. next_with (c.requires.find.search.holds.trees.spots i) (c.queued_of.ensures i))
       ∙ next_with-spotted queued low task (low_priority task.spec.policy c.requires.policy) c.requires.find.cookie);
-  counted =
-      omega (arith, c.next_of.ensures.counted, few_of_all (queued_among c.args.table.now.tasks c.args._cpu) c.requires.find.search.holds.trees);
+  counted = omega (arith, c.next_of.ensures.counted, few_of_all (queued_among c.args.table.now.tasks c.args._cpu) c.requires.find.search.holds.trees);
 }
 
 pub returns : goal.returns
@@ -39,6 +38,5 @@ returns g c = record {
       (sym c.in_ok-next_of.was ∙ c.next_of.ensures.next
       ∙ (λ i. next_with (c.requires.find.search.holds.trees.spots i) (c.queued_of.ensures i))
       ∙ next_with-spotted queued low task (low_priority task.spec.policy c.requires.policy) c.requires.find.cookie);
-  counted =
-      omega (arith, c.next_of.ensures.counted, few_of_all (queued_among c.args.table.now.tasks c.args._cpu) c.requires.find.search.holds.trees);
+  counted = omega (arith, c.next_of.ensures.counted, few_of_all (queued_among c.args.table.now.tasks c.args._cpu) c.requires.find.search.holds.trees);
 }

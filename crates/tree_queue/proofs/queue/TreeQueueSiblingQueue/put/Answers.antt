@@ -42,6 +42,5 @@ returns g c = record {
         by_kind = counted-put kind_of parted.split c.kind_of.ensures.kind c.kind_of.ensures.few holds.by_kind;
         by_lot = counted-put lot_of parted.split c.lot_of.ensures.lot c.lot_of.ensures.few holds.by_lot;
       };
-  counted =
-      omega (arith, c.enter.ensures.counted, c.enqueue.ensures.counted, few_of_others (queued_among c.args._table.now.tasks c.args._cpu) (parted_put c.requires).split c.requires.holds.trees);
+  counted = omega (arith, c.enter.ensures.counted, c.enqueue.ensures.counted, few_of_others (queued_among c.args._table.now.tasks c.args._cpu) (parted_put c.requires).split c.requires.holds.trees);
 }
