@@ -26,31 +26,32 @@ fn is_kept(first: &Choice, cookie: Cookie) -> bool
     first.is_idle() || first.cookie == cookie
 }
 
-/// What a sibling with this first task gets for a core cookie. Where it does not get that, it is searched for its
-/// first task with the cookie (`sched_core_find`). None is there for cookie 0.
+/// Puts what a sibling gets for a core cookie in the place of its first task. Where it does not get that, it is searched
+/// for its first task with the cookie (`sched_core_find`). None is there for cookie 0.
 #[inline(always)]
-fn choice_at<Q: SiblingQueue, L: Ledger>(
+fn choose_at<Q: SiblingQueue, L: Ledger>(
     core: &Core<Q>,
     table: &TaskTable,
-    first: &Choice,
+    given: &mut Choice,
     cookie: Cookie,
     cpu: Cpu,
     steps: &mut Steps<L>,
-) -> Choice
+)
     requires { AgreesAt cpu (core.now, table.now) }
-    ensures { AsksOnce cpu (core.now, table.now) (Gets cpu cookie (core.now, table.now) first.now result) steps.old steps.new }
+    ensures { AsksOnce cpu (core.now, table.now) (Gets cpu cookie (core.now, table.now) given.old given.new) steps.old steps.new }
 {
-    if is_kept(first, cookie) {
-        return *first;
+    if is_kept(given, cookie) {
+        return;
     }
     if cookie == 0 {
-        return Choice::idle();
+        *given = Choice::idle();
+        return;
     }
     let queue = &core.lanes[cpu as usize].queue;
-    match queue.first_with(cookie, table, cpu, steps) {
+    *given = match queue.first_with(cookie, table, cpu, steps) {
         Some(task) => Choice::of(&queued_of(&task)),
         None => Choice::idle(),
-    }
+    };
 }
 
 /// Puts what the sibling gets for a core cookie in the place of its first, and gives the counts with it. One whose
@@ -72,7 +73,7 @@ fn settle<Q: SiblingQueue, L: Ledger>(
     if given.is_idle() {
         return counts;
     }
-    *given = choice_at(core, table, given, cookie, cpu, steps);
+    choose_at(core, table, given, cookie, cpu, steps);
     if core.is_online(cpu) {
         counts.with(given)
     } else {

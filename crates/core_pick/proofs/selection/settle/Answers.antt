@@ -31,7 +31,7 @@ returns-then-is_online g c = record {
   answer = λ beside is.
       let room = room_of beside (c.args.core.now, c.args.table.now) in
       let counts = c.args.counts in
-      let gets = c.choice_at.ensures.answer beside is in
+      let gets = c.choose_at.ensures.answer beside is in
       record {
         gets = gets;
         counts = counted_task room c.args.cookie c.args.cpu counts c.with.result
@@ -40,14 +40,14 @@ returns-then-is_online g c = record {
             (c.with.ensures ∙ ap (λ b. cond b (let one : Counts = record counts { forced = counts.forced + 1 } in one) (let one : Counts = record counts { occupation = counts.occupation + 1 } in one))
             (ap (λ (given : Choice). given.class == idle_class) gets ∙ is_idle (choice room c.args.cookie c.args.cpu)));
       };
-  counted = c.choice_at.ensures.counted;
+  counted = c.choose_at.ensures.counted;
 }
 
 pub returns-else-is_online : goal.returns-else-is_online
 returns-else-is_online g c = record {
   answer = λ beside is. record {
-    gets = c.choice_at.ensures.answer beside is;
+    gets = c.choose_at.ensures.answer beside is;
     counts = counted_offline (room_of beside (c.args.core.now, c.args.table.now)) c.args.cookie c.args.cpu c.args.counts c.args.counts (sym (c.is_online.ensures beside c.args.table.now) ∙ c.if-is_online.false);
   };
-  counted = c.choice_at.ensures.counted;
+  counted = c.choose_at.ensures.counted;
 }

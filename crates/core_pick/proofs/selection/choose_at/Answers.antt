@@ -12,7 +12,7 @@ use Rattle.core_lanes.proofs.Stays.{queue_of, policies_of}
 use Rattle.core_pick.specs.declared.choice.Choice.{Choice}
 use Rattle.core_pick.specs.Choice.{choice_of}
 use Rattle.core_pick.proofs.Choices.{is_idle, choice_kept, choice_searched}
-use Rattle.core_pick.proofs.selection.choice_at.Goals as goal
+use Rattle.core_pick.proofs.selection.choose_at.Goals as goal
 
 -- the test of what is kept of a first is that of the first
 tested : (first : Option Task) (kept : Choice) (cookie : ℕ) → kept ≡ choice_of first →
@@ -37,7 +37,7 @@ returns-then-is_kept g c = record {
   answer = λ beside is.
       let room = room_of beside (c.args.core.now, c.args.table.now) in
       let first = first_on room c.args.cpu in
-      is ∙ ap choice_of (sym (choice_kept room c.args.cookie c.args.cpu (sym (tested first c.args.first.now c.args.cookie is) ∙ sym c.is_kept.ensures ∙ c.if-is_kept.true)));
+      is ∙ ap choice_of (sym (choice_kept room c.args.cookie c.args.cpu (sym (tested first c.args.given.now c.args.cookie is) ∙ sym c.is_kept.ensures ∙ c.if-is_kept.true)));
   counted = omega arith;
 }
 
@@ -45,7 +45,7 @@ pub returns-then-cookie-eq0 : goal.returns-then-cookie-eq0
 returns-then-cookie-eq0 g c = record {
   answer = λ beside is.
       let room = room_of beside (c.args.core.now, c.args.table.now) in
-      let other = sym (tested (first_on room c.args.cpu) c.args.first.now c.args.cookie is) ∙ sym c.is_kept.ensures ∙ c.if-is_kept.false in
+      let other = sym (tested (first_on room c.args.cpu) c.args.given.now c.args.cookie is) ∙ sym c.is_kept.ensures ∙ c.if-is_kept.false in
       c.idle.ensures
       ∙ ap choice_of (sym (choice_searched room c.args.cookie c.args.cpu other
       ∙ cond-true (c.args.cookie == 0) None (first_of (queued_with room c.args.cookie c.args.cpu)) (eq-eqb c.args.cookie 0 c.if-cookie-eq0.true)));
@@ -56,7 +56,7 @@ pub returns-in-Some : goal.returns-in-Some
 returns-in-Some g c = record {
   answer = λ beside is.
       let room = room_of beside (c.args.core.now, c.args.table.now) in
-      let other = sym (tested (first_on room c.args.cpu) c.args.first.now c.args.cookie is) ∙ sym c.is_kept.ensures ∙ c.if-is_kept.false in
+      let other = sym (tested (first_on room c.args.cpu) c.args.given.now c.args.cookie is) ∙ sym c.is_kept.ensures ∙ c.if-is_kept.false in
       let queued : c.of.result ≡ choice_of (Some c.in-Some.task) = c.of.ensures ∙ ap (λ (queued : Queued). let one : Choice = record { cookie = queued.cookie; pid = queued.pid; class = queued.class } in one) c.queued_of.ensures in
       queued
       ∙ ap choice_of (sym c.in-Some.is ∙ c.first_with.ensures.answer
@@ -69,7 +69,7 @@ pub returns-in-None : goal.returns-in-None
 returns-in-None g c = record {
   answer = λ beside is.
       let room = room_of beside (c.args.core.now, c.args.table.now) in
-      let other = sym (tested (first_on room c.args.cpu) c.args.first.now c.args.cookie is) ∙ sym c.is_kept.ensures ∙ c.if-is_kept.false in
+      let other = sym (tested (first_on room c.args.cpu) c.args.given.now c.args.cookie is) ∙ sym c.is_kept.ensures ∙ c.if-is_kept.false in
       c.idle-in-None.ensures
       ∙ ap choice_of (sym c.in-None.is ∙ c.first_with.ensures.answer
       ∙ sym (choice_searched room c.args.cookie c.args.cpu other
