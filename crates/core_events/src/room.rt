@@ -7,7 +7,7 @@ ghost use Rattle.cs_types.specs.Room.{RoomState, Interval};
 ghost use Rattle.cs_types.specs.View.{task_after, task_view, forced_of};
 ghost use Rattle.core_tasks.specs.State.{room_with};
 ghost use Rattle.core_tasks.specs.Steps.{Makes};
-ghost use Rattle.ptrace_check.specs.Opened.{opened};
+ghost use Rattle.ptrace_check.specs.Opened.{MayStart, HasStarted};
 ghost use Rattle.core_events.specs.Ready.{IsReadyFor};
 ghost use Rattle.cs_types.specs.Guards.{guards_on_bench};
 
@@ -96,6 +96,35 @@ fn counted<Q: SiblingQueue, G: Guard, L: Ledger>(
 {
     let mut steps = Steps::<L>::start(blank);
     apply(state, event, &mut steps)
+}
+
+impl<Q: SiblingQueue, G: Guard> CoreRoom<Q, G> {
+    ghost use Rattle.cs_types.specs.History.{history_of};
+
+    /// The room of a scenario before its first step. The guards were taught what its lines teach, and none
+    /// was loaded or asked yet. It takes memory for as many entries as the
+    /// scenario has steps, and for those of the end, and no later call takes any. The core has 1 to 16
+    /// siblings.
+    pub fn start(
+        alloc: Global,
+        scenario: &Scenario,
+        guards: Guards<G>,
+    ) -> Result<CoreRoom<Q, G>, OutOfMemory>
+        requires { MayStart scenario.now guards }
+        ensures { IfOk result (λ room. HasStarted scenario.now guards room.opening (history_of room.opening room.steps) room.spare) }
+    {
+        let most = most_entries(scenario);
+        let entries = Vec::with_capacity(alloc, most)?;
+        let count = guards.len();
+        let state = State::start(alloc, scenario, most, guards)?;
+        Ok(CoreRoom {
+            scenario: Snapshot::of(scenario),
+            siblings: scenario.siblings,
+            guards: count,
+            state,
+            entries,
+        })
+    }
 }
 
 impl<Q: SiblingQueue, G: Guard> Room for CoreRoom<Q, G> {
@@ -205,16 +234,6 @@ impl<Q: SiblingQueue, G: Guard> FromScenario<Guards<G>> for CoreRoom<Q, G> {
         scenario: &Scenario,
         guards: Guards<G>,
     ) -> Result<CoreRoom<Q, G>, OutOfMemory> {
-        let most = most_entries(scenario);
-        let entries = Vec::with_capacity(alloc, most)?;
-        let count = guards.len();
-        let state = State::start(alloc, scenario, most, guards)?;
-        Ok(CoreRoom {
-            scenario: Snapshot::of(scenario),
-            siblings: scenario.siblings,
-            guards: count,
-            state,
-            entries,
-        })
+        CoreRoom::start(alloc, scenario, guards)
     }
 }

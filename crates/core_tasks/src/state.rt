@@ -2,9 +2,7 @@
 //! whatever the machine keeps beside.
 
 ghost use Rattle.std.specs.Prelude.{◌≡◌, length, IfOk};
-ghost use Rattle.cs_types.specs.Scenario.{IsPlayable};
-ghost use Rattle.cs_types.specs.Guards.{guards_on_bench};
-ghost use Rattle.ptrace_check.specs.Opened.{opened};
+ghost use Rattle.ptrace_check.specs.Opened.{MayStart, opened};
 
 use crate::start::{core_and_tasks, first_pid};
 use cookie_refs::CookieRefs;
@@ -44,8 +42,7 @@ impl<Q: SiblingQueue, G: Guard> State<Q, G> {
         most: usize,
         guards: Guards<G>,
     ) -> Result<State<Q, G>, OutOfMemory>
-        requires playable { IsPlayable scenario.now }
-        requires guards { guards.guards ≡ guards_on_bench scenario.now.teaches (length guards.guards.all) }
+        requires { MayStart scenario.now guards }
         ensures { IfOk result (IsFirstState (opened scenario.now guards) most) }
     {
         let ended = Vec::with_capacity(alloc, most)?;

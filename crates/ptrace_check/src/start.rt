@@ -1,10 +1,8 @@
 //! How a machine is started. What plays a scenario asks this alone, and stands on no machine.
 
-ghost use Rattle.std.specs.Prelude.{◌≡◌, ◌+◌, ◌*◌, [], length, IfOk};
-ghost use Rattle.cs_types.specs.Scenario.{IsPlayable};
-ghost use Rattle.cs_types.specs.Guards.{guards_on_bench};
+ghost use Rattle.std.specs.Prelude.{IfOk};
 ghost use Rattle.ptrace_check.specs.Guards.{Guarded};
-ghost use Rattle.ptrace_check.specs.Opened.{opened};
+ghost use Rattle.ptrace_check.specs.Opened.{MayStart, HasStarted};
 
 use crate::guards::Guards;
 use cs_outside::Guard;
@@ -28,11 +26,6 @@ pub trait FromScenario<B: Bench>: Room {
     /// scenario has steps, and for those of the end, and no later call takes any. The core has 1 to 16
     /// siblings.
     fn from_scenario(alloc: Global, scenario: &Scenario, guards: B) -> Result<Self, OutOfMemory>
-        requires playable { IsPlayable scenario.now }
-        requires guards { (B.guarded guards).guards ≡
-            guards_on_bench scenario.now.teaches (length (B.guarded guards).guards.all) }
-        ensures opening { IfOk result (λ room. Self.opening room ≡ opened scenario.now (B.guarded guards)) }
-        ensures empty { IfOk result (λ room. Self.history room ≡ []) }
-        ensures spare { IfOk result (λ room. Self.spare room ≡
-            length scenario.now.steps + scenario.now.siblings * scenario.now.siblings) };
+        requires { MayStart scenario.now (B.guarded guards) }
+        ensures { IfOk result (λ room. HasStarted scenario.now (B.guarded guards) (Self.opening room) (Self.history room) (Self.spare room)) };
 }

@@ -19,10 +19,10 @@ count_on_bench guards teaches count is = ap (λ (g : GuardList). length g.all) i
 abbrev opening_with : Scenario → ℕ → Opening
 opening_with scenario guards = record { scenario = scenario; guards = guards }
 
-pub from_scenario-requires-clause-guards : goal.from_scenario-requires-clause-guards
-from_scenario-requires-clause-guards g c =
+pub from_scenario-requires : goal.from_scenario-requires
+from_scenario-requires g c =
     let taught = c.in_ok-guards.ensures.taught in
-    taught ∙ (λ i. guards_on_bench (c.items.ensures i) (sym (count_on_bench _ _ _ taught) i))
+    record { playable = search rules; guards = taught ∙ (λ i. guards_on_bench (c.items.ensures i) (sym (count_on_bench _ _ _ taught) i)) }
 
 pub returns-in_err-scenario : goal.returns-in_err-scenario
 returns-in_err-scenario g c =

@@ -2,7 +2,7 @@ use Rattle.std.proofs.Common.{ap, subst, sym, ◌∙◌, arith, refl}
 use Rattle.cs_types.specs.declared.scenario.Scenario.{Scenario}
 use Rattle.cs_types.specs.Room.{RoomState}
 use Rattle.core_events.specs.Inside.{IsFold}
-use Rattle.core_events.proofs.room.CoreRoomFromScenarioGuards.from_scenario.Goals as goal
+use Rattle.core_events.proofs.room.CoreRoom.start.Goals as goal
 
 pub invariant_of-result : goal.invariant_of-result
 invariant_of-result g c =
