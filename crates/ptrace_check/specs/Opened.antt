@@ -12,12 +12,12 @@ abbrev pub opened : Scenario → Guarded → Opening
 opened scenario guards = record { scenario = scenario; guards = length guards.guards.all }
 
 -- a machine may be started on them: the scenario can be played, and the guards stand on the bench, with what its lines teach them
-pub record MayStart (scenario : Scenario) (guards : Guarded) : Type 0 where
+pub record MayStart (scenario : Scenario) (bench : Guarded) : Type 0 where
   pub playable : IsPlayable scenario
-  pub guards : guards.guards ≡ guards_on_bench scenario.teaches (length guards.guards.all)
+  pub guards : bench.guards ≡ guards_on_bench scenario.teaches (length bench.guards.all)
 
 -- it has started on them: it has their opening and no entry, and can take one for each step and, for the end, the square of the siblings
-pub record HasStarted (scenario : Scenario) (guards : Guarded) (own : Opening) (history : History) (most : ℕ) : Type 0 where
-  pub opening : own ≡ opened scenario guards
+pub record HasStarted (scenario : Scenario) (bench : Guarded) (own : Opening) (history : History) (most : ℕ) : Type 0 where
+  pub opening : own ≡ opened scenario bench
   pub empty : history ≡ []
   pub spare : most ≡ length scenario.steps + scenario.siblings * scenario.siblings
