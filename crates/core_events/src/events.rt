@@ -309,6 +309,7 @@ fn prctl<Q: SiblingQueue, G: Guard, L: Ledger>(
 }
 
 /// Makes the step of an event, and answers what the rules answer.
+#[inline(always)]
 pub fn apply<Q: SiblingQueue, G: Guard, L: Ledger>(
     state: &mut State<Q, G>,
     event: Event,

@@ -83,6 +83,7 @@ fn task_after<Q: SiblingQueue, G: Guard>(state: &State<Q, G>, pid: Pid) -> Optio
 }
 
 /// Makes the step of an event. The ledger of the blank is the one in which its comparisons are counted.
+#[inline(always)]
 fn counted<Q: SiblingQueue, G: Guard, L: Ledger>(
     state: &mut State<Q, G>,
     event: Event,
