@@ -82,24 +82,17 @@ renew-requires g c = record {
 }
 
 pub returns : goal.returns
-returns g c = record {
-  holds =
-      let moved = c.requires.moved in
-      let holds = held c.requires c.renew.new.self c.renew.ensures.tasks c.renew.ensures.cookies c.renew.ensures.spare in
-      record {
+returns g c =
+    let moved = c.requires.moved in
+    let queued = queued_among c.args.table.now.tasks c.args._cpu in
+    let holds = held c.requires c.renew.new.self c.renew.ensures.tasks c.renew.ensures.cookies c.renew.ensures.spare in
+    let seats = ap most_comparisons (many_seats (trees c.requires) ∙ sym (many c.requires) ∙ length-map queued queued_of) in
+    record {
+      holds = record {
         trees = holds;
         first_is = c.find_first-self.ensures.first (queued_at c.args.table.now.tasks c.args._cpu) holds.seats (each_queued c.args.table.now.tasks c.args._cpu c.requires.table.rising);
         by_kind = subst (AreCounted kind_of 104 _) (sym moved.are) (counted_again moved.from moved.to moved.next moved.was kind_of (same_kind moved.from moved.to moved.next moved.was) moved.was moved.holds.by_kind);
         by_lot = subst (AreCounted lot_of 256 _) (sym moved.are) (counted_again moved.from moved.to moved.next moved.was lot_of (λ task. refl) moved.was moved.holds.by_lot);
       };
-  counted =
-      let queued = queued_among c.args.table.now.tasks c.args._cpu in
-      let holds = held c.requires c.renew.new.self c.renew.ensures.tasks c.renew.ensures.cookies c.renew.ensures.spare in
-      omega (
-        arith,
-        c.renew.ensures.counted,
-        c.find_first-self.ensures.counted,
-        ap most_comparisons (many_seats (trees c.requires) ∙ sym (many c.requires) ∙ length-map queued queued_of),
-        ap most_comparisons (many_queued queued holds),
-      );
-}
+      counted = omega (arith, c.renew.ensures.counted, c.find_first-self.ensures.counted, seats, ap most_comparisons (many_queued queued holds));
+    }

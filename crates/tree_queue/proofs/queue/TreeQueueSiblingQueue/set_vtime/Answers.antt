@@ -75,28 +75,24 @@ module _ (g : Over) (c : After-is_of g) where
       }
 
 pub returns-then-is_of : goal.returns-then-is_of
-returns-then-is_of g c = record {
-  holds =
-      let at = (goal.at.returns-then-is_of g c).After-is_of in
-      keeps g at c.find_first_with-self.result
-      (c.find_first_with-self.ensures.first _ (trees g at).seats
-      (subst (λ (queued : Queued). All (IsInBut c.args.table.now.tasks queued) (then g at)) (sym (is g at))
-      (each_in_but c.args.task.now c.args.vtime c.args.table.now.tasks c.args._cpu c.requires.there.table.rising c.requires.there.there)));
-  counted =
-      let at = (goal.at.returns-then-is_of g c).After-is_of in
-      let few = few_changed (queued_among c.args.table.now.tasks c.args._cpu) (parted c.requires.there).split (now g at).split c.requires.there.holds.trees (left g at) (trees g at) in
-      omega (arith, c.set_fair_rank.ensures.counted, c.find_first_with-self.ensures.counted, few);
-}
+returns-then-is_of g c =
+    let at = (goal.at.returns-then-is_of g c).After-is_of in
+    let few = few_changed (queued_among c.args.table.now.tasks c.args._cpu) (parted c.requires.there).split (now g at).split c.requires.there.holds.trees (left g at) (trees g at) in
+    record {
+      holds = keeps g at c.find_first_with-self.result
+          (c.find_first_with-self.ensures.first _ (trees g at).seats
+          (subst (λ (queued : Queued). All (IsInBut c.args.table.now.tasks queued) (then g at)) (sym (is g at))
+          (each_in_but c.args.task.now c.args.vtime c.args.table.now.tasks c.args._cpu c.requires.there.table.rising c.requires.there.there)));
+      counted = omega (arith, c.set_fair_rank.ensures.counted, c.find_first_with-self.ensures.counted, few);
+    }
 
 -- another that was the first stays it, unless this one stands before it now
 pub returns-else-is_of : goal.returns-else-is_of
-returns-else-is_of g c = record {
-  holds =
-      let at = (goal.at.returns-else-is_of g c).After-is_of in
-      let stays = first_stays (queued_of c.args.task.now) (c.requires.there.holds.first_is ∙ first-split (parted c.requires.there)) (sym c.is_of.ensures ∙ c.if-is_of.false) in
-      keeps g at c.enter.new.first (c.enter.ensures.first ∙ (λ i. Some (earlier (is g at i) (stays i))) ∙ sym (first-split (now g at)));
-  counted =
-      let at = (goal.at.returns-else-is_of g c).After-is_of in
-      let few = few_changed (queued_among c.args.table.now.tasks c.args._cpu) (parted c.requires.there).split (now g at).split c.requires.there.holds.trees (left g at) (trees g at) in
-      omega (arith, c.set_fair_rank.ensures.counted, c.enter.ensures.counted, few);
-}
+returns-else-is_of g c =
+    let at = (goal.at.returns-else-is_of g c).After-is_of in
+    let stays = first_stays (queued_of c.args.task.now) (c.requires.there.holds.first_is ∙ first-split (parted c.requires.there)) (sym c.is_of.ensures ∙ c.if-is_of.false) in
+    let few = few_changed (queued_among c.args.table.now.tasks c.args._cpu) (parted c.requires.there).split (now g at).split c.requires.there.holds.trees (left g at) (trees g at) in
+    record {
+      holds = keeps g at c.enter.new.first (c.enter.ensures.first ∙ (λ i. Some (earlier (is g at i) (stays i))) ∙ sym (first-split (now g at)));
+      counted = omega (arith, c.set_fair_rank.ensures.counted, c.enter.ensures.counted, few);
+    }

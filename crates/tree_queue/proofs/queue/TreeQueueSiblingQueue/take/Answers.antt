@@ -47,23 +47,19 @@ pub overflow_sub-self-2 : goal.overflow_sub-self-2
 overflow_sub-self-2 g c = some-take lot_of (parted c.requires).split c.lot_of.ensures.lot c.lot_of.ensures.few c.requires.holds.by_lot
 
 pub returns-then-is_of : goal.returns-then-is_of
-returns-then-is_of g c = record {
-  holds =
-      let before = (goal.at.returns-then-is_of g c).After-is_of in
-      keeps g before c.find_first-self.result
-      (c.find_first-self.ensures.first (rest g before) (trees g before).seats (each_in c.args.table.now.tasks c.args._cpu c.args.task.now.spec.pid c.requires.table.rising));
-  counted =
-      let left = trees g (goal.at.returns-then-is_of g c).After-is_of in
-      omega (arith, c.dequeue.ensures.counted, c.find_first-self.ensures.counted, few_taken (queued_among c.args.table.now.tasks c.args._cpu) (parted c.requires).split c.requires.holds.trees left);
-}
+returns-then-is_of g c =
+    let at = (goal.at.returns-then-is_of g c).After-is_of in
+    record {
+      holds = keeps g at c.find_first-self.result
+          (c.find_first-self.ensures.first (rest g at) (trees g at).seats (each_in c.args.table.now.tasks c.args._cpu c.args.task.now.spec.pid c.requires.table.rising));
+      counted = omega (arith, c.dequeue.ensures.counted, c.find_first-self.ensures.counted, few_taken (queued_among c.args.table.now.tasks c.args._cpu) (parted c.requires).split c.requires.holds.trees (trees g at));
+    }
 
 pub returns-else-is_of : goal.returns-else-is_of
-returns-else-is_of g c = record {
-  holds =
-      let before = (goal.at.returns-else-is_of g c).After-is_of in
-      keeps g before c.args.self.now.first
-      (first_stays (queued_of c.args.task.now) (c.requires.holds.first_is ∙ first-split (parted c.requires)) (sym c.is_of.ensures ∙ c.if-is_of.false));
-  counted =
-      let left = trees g (goal.at.returns-else-is_of g c).After-is_of in
-      omega (arith, c.dequeue.ensures.counted, few_taken (queued_among c.args.table.now.tasks c.args._cpu) (parted c.requires).split c.requires.holds.trees left);
-}
+returns-else-is_of g c =
+    let at = (goal.at.returns-else-is_of g c).After-is_of in
+    record {
+      holds = keeps g at c.args.self.now.first
+          (first_stays (queued_of c.args.task.now) (c.requires.holds.first_is ∙ first-split (parted c.requires)) (sym c.is_of.ensures ∙ c.if-is_of.false));
+      counted = omega (arith, c.dequeue.ensures.counted, few_taken (queued_among c.args.table.now.tasks c.args._cpu) (parted c.requires).split c.requires.holds.trees (trees g at));
+    }
