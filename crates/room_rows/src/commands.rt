@@ -116,9 +116,7 @@ pub fn run_over_trees<T: Threads + Wait + AllocGlobal + Sync, P: Gate + Sync, G:
     requires untaught { All (λ guard. G.pairs guard ≡ []) guards.items }
     requires unasked { All (λ guard. G.asked guard ≡ 0) guards.items }
 {
-    run::<CoreState<G>, T, MemSource, MemSink, P, G>(
-        rt, words, source, sink, gate, guards,
-    )
+    run::<CoreState<G>, T, MemSource, MemSink, P, G>(rt, words, source, sink, gate, guards)
 }
 
 /// Expects that `run` without guards ends so over this text, and writes these bytes. The source gives so many bytes
