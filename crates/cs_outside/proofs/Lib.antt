@@ -1,3 +1,4 @@
 pub mod Gathers
 pub mod Pieces
 pub mod Written
+pub mod Reached

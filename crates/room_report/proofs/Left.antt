@@ -28,7 +28,7 @@ use Rattle.scenario_text.specs.Words.{Word}
 use Rattle.scenario_text.specs.Text.{line, entry_text}
 use Rattle.scenario_text.specs.Entry.{FitsReply}
 use Rattle.room_report.specs.Report.{cpu_words, task_words, ended_words, guard_words, core_lines, cpu_lines, task_lines, ended_lines, guard_lines, lines_text, report_lines, report_text}
-use Rattle.scenario_text.proofs.Reached.{AreLeft, all_left}
+use Rattle.cs_outside.proofs.Reached.{AreLeft, all_left}
 
 -- ---- lists
 
@@ -251,8 +251,8 @@ parts_in_turn : (core cpus tasks ended guards done : List (List Word)) →
 parts_in_turn core cpus tasks ended guards done = simp append_assoc
 
 -- at the start all parts are left
-pub report_left : (before : Option (List ℕ)) (moment : Moment) → AreLeft before (report_text moment) (core_lines moment ++ after_core moment) before
+pub report_left : (before : Option (List ℕ)) (moment : Moment) → AreLeft line before (report_text moment) (core_lines moment ++ after_core moment) before
 report_left before moment =
-    subst (λ (lines : List (List Word)). AreLeft before (report_text moment) lines before)
+    subst (λ (lines : List (List Word)). AreLeft line before (report_text moment) lines before)
     (parts_in_turn (core_lines moment) (cpu_lines moment) (task_lines moment) (ended_lines moment) (guard_lines moment) done_lines)
-    (all_left before (report_lines moment))
+    (all_left line before (report_lines moment))

@@ -2,8 +2,10 @@
 //! end. Both are over the contract of a machine alone, so that they serve each of them.
 #![tactic(auto)]
 
+mod entry;
 mod lines;
 mod parts;
 mod texts;
 
+pub use entry::entry_text;
 pub use texts::{output, report};

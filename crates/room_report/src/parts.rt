@@ -11,13 +11,14 @@ ghost use Rattle.scenario_text.specs.Text.{entry_text};
 ghost use Rattle.scenario_text.specs.Entry.{FitsReply};
 ghost use Rattle.room_report.specs.Report.{core_lines, cpu_lines, task_lines, ended_lines, guard_lines, lines_text};
 
+use crate::entry::entry_text;
 use crate::lines::{
     clock_line, core_line, cpu_line, ended_line, guard_line, intervals_line, numbers_line,
     task_line,
 };
 use cs_outside::{Failed, Sink, write_all};
 use cs_types::Room;
-use scenario_text::{Line, entry_text};
+use scenario_text::Line;
 
 /// The line of each entry.
 pub(crate) fn write_entries<R: Room, K: Sink>(room: &R, sink: &mut K) -> Result<(), Failed>

@@ -3,7 +3,8 @@
 use crate::commands::{only, sink_of};
 use cs_types::{Actor, Ask, Entry, Errno, Event, Kind, Pick, Reply};
 use memory_outside::MemSink;
-use scenario_text::{Line, entry_text};
+use room_report::entry_text;
+use scenario_text::Line;
 use std::process::Abort;
 
 /// An entry of a caller.

@@ -25,4 +25,3 @@ pub mod Scenarios
 pub mod Replies
 pub mod Entries
 pub mod Joined
-pub mod Reached

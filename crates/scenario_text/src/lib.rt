@@ -18,4 +18,4 @@ mod writing;
 
 pub use fault::{BadKind, ReadFault};
 pub use reading::read;
-pub use writing::{Line, entry_text};
+pub use writing::Line;

@@ -9,7 +9,7 @@ use Rattle.exposed_pairs.specs.declared.rows.PairTime.{PairTime}
 use Rattle.run_summary.specs.Summaries.{Summary}
 use Rattle.scenario_text.specs.Words.{Word}
 use Rattle.scenario_text.specs.Text.{line}
-use Rattle.scenario_text.proofs.Reached.{AreLeft, part_more, part_prefix}
+use Rattle.cs_outside.proofs.Reached.{AreLeft, part_more, part_prefix}
 use Rattle.times_report.specs.TaskLines.{task_lines}
 use Rattle.times_report.specs.Summary.{cpu_words, forced_words, exposed_words, pair_words, pending_words, replies_words, total_words, lines_of, pair_lines}
 
@@ -27,16 +27,16 @@ next_is siblings cpu none below =
     ∙ (λ i. cpu_words cpu times ∷ forced_words cpu times ∷ flat_map lines_of (enumerate_from (cpu + 1) (drop (next i) siblings)))
 
 pub next_left : (before : Option (List ℕ)) (whole : List ℕ) (siblings : List SiblingTimes) (cpu : ℕ) (none : SiblingTimes) (now : Option (List ℕ)) → cpu < length siblings →
-    AreLeft before whole (lines_from siblings cpu) now →
-    AreLeft before whole (cpu_words cpu (get_or siblings cpu none) ∷ forced_words cpu (get_or siblings cpu none) ∷ lines_from siblings (cpu + 1)) now
+    AreLeft line before whole (lines_from siblings cpu) now →
+    AreLeft line before whole (cpu_words cpu (get_or siblings cpu none) ∷ forced_words cpu (get_or siblings cpu none) ∷ lines_from siblings (cpu + 1)) now
 next_left before whole siblings cpu none now below left =
-    subst (λ (lines : List (List Word)). AreLeft before whole lines now) (next_is siblings cpu none below) left
+    subst (λ (lines : List (List Word)). AreLeft line before whole lines now) (next_is siblings cpu none below) left
 
 -- and at the end there are none
 pub none_more : (before : Option (List ℕ)) (whole : List ℕ) (siblings : List SiblingTimes) (cpu : ℕ) (now : Option (List ℕ)) → length siblings ≤ cpu →
-    AreLeft before whole (lines_from siblings cpu) now → AreLeft before whole [] now
+    AreLeft line before whole (lines_from siblings cpu) now → AreLeft line before whole [] now
 none_more before whole siblings cpu now past left =
-    subst (λ (lines : List (List Word)). AreLeft before whole lines now)
+    subst (λ (lines : List (List Word)). AreLeft line before whole lines now)
     (ap (λ (rest : List SiblingTimes). flat_map lines_of (enumerate_from cpu rest)) (drop_all cpu siblings past)) left
 
 -- ---- the pairs
@@ -53,14 +53,14 @@ next_pair_is pairs index none below =
     ∙ (λ i. pair_words (get_or pairs index none) ∷ map pair_words (drop (next i) pairs))
 
 pub next_pair : (before : Option (List ℕ)) (whole : List ℕ) (pairs : List PairTime) (index : ℕ) (none : PairTime) (now : Option (List ℕ)) → index < length pairs →
-    AreLeft before whole (pairs_from pairs index) now → AreLeft before whole (pair_words (get_or pairs index none) ∷ pairs_from pairs (index + 1)) now
+    AreLeft line before whole (pairs_from pairs index) now → AreLeft line before whole (pair_words (get_or pairs index none) ∷ pairs_from pairs (index + 1)) now
 next_pair before whole pairs index none now below left =
-    subst (λ (lines : List (List Word)). AreLeft before whole lines now) (next_pair_is pairs index none below) left
+    subst (λ (lines : List (List Word)). AreLeft line before whole lines now) (next_pair_is pairs index none below) left
 
 pub no_pair : (before : Option (List ℕ)) (whole : List ℕ) (pairs : List PairTime) (index : ℕ) (now : Option (List ℕ)) → length pairs ≤ index →
-    AreLeft before whole (pairs_from pairs index) now → AreLeft before whole [] now
+    AreLeft line before whole (pairs_from pairs index) now → AreLeft line before whole [] now
 no_pair before whole pairs index now past left =
-    subst (λ (lines : List (List Word)). AreLeft before whole lines now) (ap (map pair_words) (drop_all index pairs past)) left
+    subst (λ (lines : List (List Word)). AreLeft line before whole lines now) (ap (map pair_words) (drop_all index pairs past)) left
 
 -- ---- the parts of the summary
 
@@ -76,11 +76,11 @@ after_siblings summary = task_lines summary.tasks ++ after_tasks summary
 
 -- a part goes out, or a prefix of it
 pub part_out : (before : Option (List ℕ)) (whole : List ℕ) (part told : List (List Word)) (rest : List (List Word)) (mid now : Option (List ℕ)) → told ≡ part →
-    AreLeft before whole (part ++ rest) mid → now ≡ appended mid (flat_map line told) → AreLeft before whole rest now
+    AreLeft line before whole (part ++ rest) mid → now ≡ appended mid (flat_map line told) → AreLeft line before whole rest now
 part_out before whole part told rest mid now is left sent =
     part_more before whole part rest mid now left (sent ∙ ap (λ (lines : List (List Word)). appended mid (flat_map line lines)) is)
 
 pub part_begun : (before : Option (List ℕ)) (whole : List ℕ) (part told : List (List Word)) (rest : List (List Word)) (mid now : Option (List ℕ)) → told ≡ part →
-    AreLeft before whole (part ++ rest) mid → WritesPrefix mid (flat_map line told) now → WritesPrefix before whole now
+    AreLeft line before whole (part ++ rest) mid → WritesPrefix mid (flat_map line told) now → WritesPrefix before whole now
 part_begun before whole part told rest mid now is left sent =
     part_prefix before whole part rest mid now left (subst (λ (lines : List (List Word)). WritesPrefix mid (flat_map line lines) now) is sent)

@@ -12,7 +12,7 @@ use Rattle.task_times.specs.TaskSums.{TaskSums}
 use Rattle.scenario_text.specs.Words.{Word}
 use Rattle.scenario_text.specs.Text.{line}
 use Rattle.times_report.specs.TaskLines.{lines_of_tasks, lines_of_cookies, task_lines, task_text}
-use Rattle.scenario_text.proofs.Reached.{AreLeft, all_left, none_left, whole_prefix, line_more, line_prefix, part_more, part_prefix}
+use Rattle.cs_outside.proofs.Reached.{AreLeft, all_left, none_left, whole_prefix, line_more, line_prefix, part_more, part_prefix}
 
 pub task_line_text : (pid ran waited slept charged cookie : Word) →
     ((((((((((((codes "task " ++ pid) ++ codes " ran ") ++ ran) ++ codes " waited ") ++ waited) ++ codes " slept ") ++ slept)
@@ -34,18 +34,18 @@ line_where test words = cond test (words ∷ []) []
 pub where_sent : (test : Bool) (words : List Word) (bytes : List ℕ) (before now : Option (List ℕ)) → test ≡ true → bytes ≡ line words → now ≡ appended before bytes →
     now ≡ appended before (flat_map line (line_where test words))
 where_sent test words bytes before now is text sent =
-    none_left before (flat_map line (words ∷ [])) now (line_more before _ words [] bytes before now (all_left before (words ∷ [])) text sent)
+    none_left before (flat_map line (words ∷ [])) now (line_more before _ words [] bytes before now (all_left line before (words ∷ [])) text sent)
     ∙ ap (λ (lines : List (List Word)). appended before (flat_map line lines)) (sym (cond-true test (words ∷ []) [] is))
 
 pub where_prefix : (test : Bool) (words : List Word) (bytes : List ℕ) (before now : Option (List ℕ)) → test ≡ true → bytes ≡ line words → WritesPrefix before bytes now →
     WritesPrefix before (flat_map line (line_where test words)) now
 where_prefix test words bytes before now is text sent =
     subst (λ (lines : List (List Word)). WritesPrefix before (flat_map line lines) now) (sym (cond-true test (words ∷ []) [] is))
-    (line_prefix before _ words [] bytes before now (all_left before (words ∷ [])) text sent)
+    (line_prefix before _ words [] bytes before now (all_left line before (words ∷ [])) text sent)
 
 pub where_none : (test : Bool) (words : List Word) (before : Option (List ℕ)) → test ≡ false → before ≡ appended before (flat_map line (line_where test words))
 where_none test words before is =
-    none_left before [] before (all_left before [])
+    none_left before [] before (all_left line before [])
     ∙ ap (λ (lines : List (List Word)). appended before (flat_map line lines)) (sym (cond-false test (words ∷ []) [] is))
 
 pub where_none_prefix : (test : Bool) (words : List Word) (before : Option (List ℕ)) → test ≡ false → WritesPrefix before (flat_map line (line_where test words)) before
@@ -66,38 +66,38 @@ next_is {X = X} of rows k none below =
 
 -- those of the next row go out, or a prefix of them
 pub row_more : {X : Type 0} (of : ℕ × X → List (List Word)) (rows : List X) (k : ℕ) (none row : X) (before : Option (List ℕ)) (whole : List ℕ) (mid now : Option (List ℕ)) → k < length rows →
-    row ≡ get_or rows k none → AreLeft before whole (lines_from of rows k) mid → now ≡ appended mid (flat_map line (of (k, row))) → AreLeft before whole (lines_from of rows (k + 1)) now
+    row ≡ get_or rows k none → AreLeft line before whole (lines_from of rows k) mid → now ≡ appended mid (flat_map line (of (k, row))) → AreLeft line before whole (lines_from of rows (k + 1)) now
 row_more {X = X} of rows k none row before whole mid now below is left sent =
     part_more before whole (of (k, get_or rows k none)) (lines_from of rows (k + 1)) mid now
-    (subst (λ (lines : List (List Word)). AreLeft before whole lines mid) (next_is of rows k none below) left)
+    (subst (λ (lines : List (List Word)). AreLeft line before whole lines mid) (next_is of rows k none below) left)
     (sent ∙ ap (λ (x : X). appended mid (flat_map line (of (k, x)))) is)
 
 pub row_prefix : {X : Type 0} (of : ℕ × X → List (List Word)) (rows : List X) (k : ℕ) (none row : X) (before : Option (List ℕ)) (whole : List ℕ) (mid now : Option (List ℕ)) → k < length rows →
-    row ≡ get_or rows k none → AreLeft before whole (lines_from of rows k) mid → WritesPrefix mid (flat_map line (of (k, row))) now → WritesPrefix before whole now
+    row ≡ get_or rows k none → AreLeft line before whole (lines_from of rows k) mid → WritesPrefix mid (flat_map line (of (k, row))) now → WritesPrefix before whole now
 row_prefix {X = X} of rows k none row before whole mid now below is left sent =
     part_prefix before whole (of (k, get_or rows k none)) (lines_from of rows (k + 1)) mid now
-    (subst (λ (lines : List (List Word)). AreLeft before whole lines mid) (next_is of rows k none below) left)
+    (subst (λ (lines : List (List Word)). AreLeft line before whole lines mid) (next_is of rows k none below) left)
     (subst (λ (x : X). WritesPrefix mid (flat_map line (of (k, x))) now) is sent)
 
 -- and at the end there are none
 pub rows_out : {X : Type 0} (of : ℕ × X → List (List Word)) (rows : List X) (k : ℕ) (before : Option (List ℕ)) (whole : List ℕ) (now : Option (List ℕ)) → length rows ≤ k →
-    AreLeft before whole (lines_from of rows k) now → now ≡ appended before whole
+    AreLeft line before whole (lines_from of rows k) now → now ≡ appended before whole
 rows_out {X = X} of rows k before whole now past left =
     none_left before whole now
-    (subst (λ (lines : List (List Word)). AreLeft before whole lines now) (ap (λ (rest : List X). flat_map of (enumerate_from k rest)) (drop_all k rows past)) left)
+    (subst (λ (lines : List (List Word)). AreLeft line before whole lines now) (ap (λ (rest : List X). flat_map of (enumerate_from k rest)) (drop_all k rows past)) left)
 
 -- ---- tasks, and then cookies
 
 tasks_left : (sums : TaskSums) (tasks : List TaskTimes) (before mid : Option (List ℕ)) → tasks ≡ sums.tasks → mid ≡ appended before (flat_map line (lines_of_tasks tasks)) →
-    AreLeft before (task_text sums) (lines_of_cookies sums.cookies) mid
+    AreLeft line before (task_text sums) (lines_of_cookies sums.cookies) mid
 tasks_left sums tasks before mid is sent =
-    part_more before (task_text sums) (lines_of_tasks sums.tasks) (lines_of_cookies sums.cookies) before mid (all_left before (task_lines sums))
+    part_more before (task_text sums) (lines_of_tasks sums.tasks) (lines_of_cookies sums.cookies) before mid (all_left line before (task_lines sums))
     (sent ∙ ap (λ (ts : List TaskTimes). appended before (flat_map line (lines_of_tasks ts))) is)
 
 pub first_prefix : (sums : TaskSums) (tasks : List TaskTimes) (before now : Option (List ℕ)) → tasks ≡ sums.tasks → WritesPrefix before (flat_map line (lines_of_tasks tasks)) now →
     WritesPrefix before (task_text sums) now
 first_prefix sums tasks before now is sent =
-    part_prefix before (task_text sums) (lines_of_tasks sums.tasks) (lines_of_cookies sums.cookies) before now (all_left before (task_lines sums))
+    part_prefix before (task_text sums) (lines_of_tasks sums.tasks) (lines_of_cookies sums.cookies) before now (all_left line before (task_lines sums))
     (subst (λ (ts : List TaskTimes). WritesPrefix before (flat_map line (lines_of_tasks ts)) now) is sent)
 
 pub both_out : (sums : TaskSums) (tasks : List TaskTimes) (cookies : List CookieTimes) (before mid now : Option (List ℕ)) → tasks ≡ sums.tasks → cookies ≡ sums.cookies →
@@ -105,12 +105,12 @@ pub both_out : (sums : TaskSums) (tasks : List TaskTimes) (cookies : List Cookie
 both_out sums tasks cookies before mid now is are one two =
     none_left before (task_text sums) now
     (part_more before (task_text sums) (lines_of_cookies sums.cookies) [] mid now
-    (subst (λ (lines : List (List Word)). AreLeft before (task_text sums) lines mid) (sym (append-nil (lines_of_cookies sums.cookies))) (tasks_left sums tasks before mid is one))
+    (subst (λ (lines : List (List Word)). AreLeft line before (task_text sums) lines mid) (sym (append-nil (lines_of_cookies sums.cookies))) (tasks_left sums tasks before mid is one))
     (two ∙ ap (λ (cs : List CookieTimes). appended mid (flat_map line (lines_of_cookies cs))) are))
 
 pub both_prefix : (sums : TaskSums) (tasks : List TaskTimes) (cookies : List CookieTimes) (before mid now : Option (List ℕ)) → tasks ≡ sums.tasks → cookies ≡ sums.cookies →
     mid ≡ appended before (flat_map line (lines_of_tasks tasks)) → WritesPrefix mid (flat_map line (lines_of_cookies cookies)) now → WritesPrefix before (task_text sums) now
 both_prefix sums tasks cookies before mid now is are one two =
     part_prefix before (task_text sums) (lines_of_cookies sums.cookies) [] mid now
-    (subst (λ (lines : List (List Word)). AreLeft before (task_text sums) lines mid) (sym (append-nil (lines_of_cookies sums.cookies))) (tasks_left sums tasks before mid is one))
+    (subst (λ (lines : List (List Word)). AreLeft line before (task_text sums) lines mid) (sym (append-nil (lines_of_cookies sums.cookies))) (tasks_left sums tasks before mid is one))
     (subst (λ (cs : List CookieTimes). WritesPrefix mid (flat_map line (lines_of_cookies cs)) now) are two)

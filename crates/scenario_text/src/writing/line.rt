@@ -39,7 +39,7 @@ impl Line {
     }
 
     /// Takes off what is on the line.
-    pub(crate) fn clear(&mut self)
+    pub fn clear(&mut self)
         ensures { self.new ≡ [] }
     {
         self.text.clear();

@@ -3,7 +3,7 @@ use Rattle.std.proofs.lemmas.Result.{on_ok_weaker}
 use Rattle.cs_types.specs.History.{moment_of}
 use Rattle.cs_outside.specs.Device.{appended}
 use Rattle.scenario_text.specs.Text.{line}
-use Rattle.scenario_text.proofs.Reached.{line_more, line_prefix, part_prefix}
+use Rattle.cs_outside.proofs.Reached.{line_more, line_prefix, part_prefix}
 use Rattle.room_report.specs.Report.{report_lines, report_text}
 use Rattle.room_drill.specs.declared.tally.Tally.{Tally}
 use Rattle.room_drill.specs.Summary.{drill_words, picks_words, steals_words, summary_text}

@@ -4,18 +4,18 @@ use Rattle.cs_types.specs.declared.view.CoreView.{CoreView}
 use Rattle.cs_types.specs.History.{moment_of}
 use Rattle.scenario_text.specs.Text.{line}
 use Rattle.room_report.specs.Report.{lines_text, clock_words, numbers_words, core_words, intervals_words, core_lines}
-use Rattle.scenario_text.proofs.Reached.{all_left, none_left, line_more, line_prefix}
+use Rattle.cs_outside.proofs.Reached.{all_left, none_left, line_more, line_prefix}
 use Rattle.room_report.proofs.parts.write_core.Goals as goal
 
 pub returns-in_err-write_all-clause-prefix : goal.returns-in_err-write_all-clause-prefix
 returns-in_err-write_all-clause-prefix g c =
-    line_prefix _ _ _ _ _ _ _ (all_left (g.K.Sink.written c.args.sink.now) (core_lines (moment_of (g.R.Room.opening c.args.room.now) (g.R.Room.history c.args.room.now))))
+    line_prefix _ _ _ _ _ _ _ (all_left line (g.K.Sink.written c.args.sink.now) (core_lines (moment_of (g.R.Room.opening c.args.room.now) (g.R.Room.history c.args.room.now))))
     refl c.write_all.ensures.prefix
 
 pub returns-in_err-write_all-2-clause-prefix : goal.returns-in_err-write_all-2-clause-prefix
 returns-in_err-write_all-2-clause-prefix g c =
     line_prefix _ _ _ _ _ _ _ (line_more _ _ _ _ _ _ _
-    (all_left (g.K.Sink.written c.args.sink.now) (core_lines (moment_of (g.R.Room.opening c.args.room.now) (g.R.Room.history c.args.room.now))))
+    (all_left line (g.K.Sink.written c.args.sink.now) (core_lines (moment_of (g.R.Room.opening c.args.room.now) (g.R.Room.history c.args.room.now))))
     refl c.in_ok-write_all.ensures.ok)
     (c.as_bytes.ensures ∙ c.clock_line.ensures ∙ ap (λ (n : ℕ). line (clock_words n)) c.clock.ensures) c.write_all-2.ensures.prefix
 
@@ -23,7 +23,7 @@ pub returns-in_err-write_all-3-clause-prefix : goal.returns-in_err-write_all-3-c
 returns-in_err-write_all-3-clause-prefix g c =
     line_prefix _ _ _ _ _ _ _ (line_more _ _ _ _ _ _ _
     (line_more _ _ _ _ _ _ _
-    (all_left (g.K.Sink.written c.args.sink.now) (core_lines (moment_of (g.R.Room.opening c.args.room.now) (g.R.Room.history c.args.room.now))))
+    (all_left line (g.K.Sink.written c.args.sink.now) (core_lines (moment_of (g.R.Room.opening c.args.room.now) (g.R.Room.history c.args.room.now))))
     refl c.in_ok-write_all.ensures.ok)
     (c.as_bytes.ensures ∙ c.clock_line.ensures ∙ ap (λ (n : ℕ). line (clock_words n)) c.clock.ensures) c.in_ok-write_all-2.ensures.ok)
     (c.as_bytes-2.ensures ∙ c.numbers_line.ensures ∙ ap (λ (n : ℕ × ℕ). line (numbers_words n.0 n.1)) c.numbers-task_number.ensures) c.write_all-3.ensures.prefix
@@ -33,7 +33,7 @@ returns-in_err-write_all-4-clause-prefix g c =
     line_prefix _ _ _ _ _ _ _ (line_more _ _ _ _ _ _ _
     (line_more _ _ _ _ _ _ _
     (line_more _ _ _ _ _ _ _
-    (all_left (g.K.Sink.written c.args.sink.now) (core_lines (moment_of (g.R.Room.opening c.args.room.now) (g.R.Room.history c.args.room.now))))
+    (all_left line (g.K.Sink.written c.args.sink.now) (core_lines (moment_of (g.R.Room.opening c.args.room.now) (g.R.Room.history c.args.room.now))))
     refl c.in_ok-write_all.ensures.ok)
     (c.as_bytes.ensures ∙ c.clock_line.ensures ∙ ap (λ (n : ℕ). line (clock_words n)) c.clock.ensures) c.in_ok-write_all-2.ensures.ok)
     (c.as_bytes-2.ensures ∙ c.numbers_line.ensures ∙ ap (λ (n : ℕ × ℕ). line (numbers_words n.0 n.1)) c.numbers-task_number.ensures) c.in_ok-write_all-3.ensures.ok)
@@ -47,7 +47,7 @@ returns-clause-ok g c =
     (line_more _ _ _ _ _ _ _
     (line_more _ _ _ _ _ _ _
     (line_more _ _ _ _ _ _ _
-    (all_left (g.K.Sink.written c.args.sink.now) (core_lines (moment_of (g.R.Room.opening c.args.room.now) (g.R.Room.history c.args.room.now))))
+    (all_left line (g.K.Sink.written c.args.sink.now) (core_lines (moment_of (g.R.Room.opening c.args.room.now) (g.R.Room.history c.args.room.now))))
     refl c.in_ok-write_all.ensures.ok)
     (c.as_bytes.ensures ∙ c.clock_line.ensures ∙ ap (λ (n : ℕ). line (clock_words n)) c.clock.ensures) c.in_ok-write_all-2.ensures.ok)
     (c.as_bytes-2.ensures ∙ c.numbers_line.ensures ∙ ap (λ (n : ℕ × ℕ). line (numbers_words n.0 n.1)) c.numbers-task_number.ensures) c.in_ok-write_all-3.ensures.ok)
@@ -60,7 +60,7 @@ returns-clause-prefix g c =
     (line_more _ _ _ _ _ _ _
     (line_more _ _ _ _ _ _ _
     (line_more _ _ _ _ _ _ _
-    (all_left (g.K.Sink.written c.args.sink.now) (core_lines (moment_of (g.R.Room.opening c.args.room.now) (g.R.Room.history c.args.room.now))))
+    (all_left line (g.K.Sink.written c.args.sink.now) (core_lines (moment_of (g.R.Room.opening c.args.room.now) (g.R.Room.history c.args.room.now))))
     refl c.in_ok-write_all.ensures.ok)
     (c.as_bytes.ensures ∙ c.clock_line.ensures ∙ ap (λ (n : ℕ). line (clock_words n)) c.clock.ensures) c.in_ok-write_all-2.ensures.ok)
     (c.as_bytes-2.ensures ∙ c.numbers_line.ensures ∙ ap (λ (n : ℕ × ℕ). line (numbers_words n.0 n.1)) c.numbers-task_number.ensures) c.in_ok-write_all-3.ensures.ok)

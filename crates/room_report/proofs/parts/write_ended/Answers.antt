@@ -1,6 +1,6 @@
 use Rattle.std.proofs.Common.{◌∙◌, arith}
 use Rattle.cs_types.specs.History.{moment_of}
-use Rattle.scenario_text.proofs.Reached.{reached_more, reached_prefix, reached_end, whole_prefix}
+use Rattle.cs_outside.proofs.Reached.{reached_more, reached_prefix, reached_end, whole_prefix}
 use Rattle.room_report.proofs.Left.{ended_next, ended_none, ended_past, few_ended}
 use Rattle.room_report.proofs.parts.write_ended.Goals as goal
 

@@ -4,7 +4,7 @@ use Rattle.std.proofs.lemmas.List.{drop_all}
 use Rattle.cs_types.specs.declared.reply.Entry.{Entry}
 use Rattle.scenario_text.specs.Text.{entry_text}
 use Rattle.scenario_text.specs.Entry.{FitsReply}
-use Rattle.scenario_text.proofs.Reached.{reached_more, reached_prefix, whole_prefix, reached_end}
+use Rattle.cs_outside.proofs.Reached.{reached_more, reached_prefix, whole_prefix, reached_end}
 use Rattle.room_report.proofs.Left.{drop_none, take_none, entries_next, fits_next}
 use Rattle.room_report.proofs.parts.write_entries.Goals as goal
 

@@ -2,7 +2,7 @@ use Rattle.std.proofs.Common.{◌≡◌, All, drop, take}
 use Rattle.std.specs.List.{flat_map}
 use Rattle.scenario_text.specs.Text.{entry_text}
 use Rattle.scenario_text.specs.Entry.{FitsReply}
-use Rattle.scenario_text.proofs.Reached.{Reached}
+use Rattle.cs_outside.proofs.Reached.{Reached}
 use Rattle.room_report.proofs.parts.write_entries.Given as goal
 
 abbrev pub invariant-loop-index : goal.invariant-loop-index

@@ -1,7 +1,7 @@
 use Rattle.std.proofs.Common.{refl, ◌∙◌, ap, arith}
 use Rattle.cs_types.specs.History.{moment_of}
 use Rattle.room_report.specs.Report.{lines_text}
-use Rattle.scenario_text.proofs.Reached.{reached_start, reached_more, reached_prefix, reached_end, whole_prefix}
+use Rattle.cs_outside.proofs.Reached.{reached_start, reached_more, reached_prefix, reached_end, whole_prefix}
 use Rattle.room_report.proofs.Left.{guard_start, guard_within, guard_next, guard_end}
 use Rattle.room_report.proofs.parts.write_guards.Goals as goal
 

@@ -2,7 +2,7 @@ use Rattle.std.proofs.Common.{◌≡◌, ◌-◌}
 use Rattle.cs_types.specs.History.{moment_of}
 use Rattle.room_report.specs.Report.{guard_lines, lines_text}
 use Rattle.room_report.proofs.Left.{guard_lines_from}
-use Rattle.scenario_text.proofs.Reached.{Reached}
+use Rattle.cs_outside.proofs.Reached.{Reached}
 use Rattle.room_report.proofs.parts.write_guards.Given as goal
 
 abbrev pub invariant-loop-guard : goal.invariant-loop-guard

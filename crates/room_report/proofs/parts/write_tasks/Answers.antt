@@ -1,7 +1,7 @@
 use Rattle.std.proofs.Common.{refl, ◌∙◌, ap, arith}
 use Rattle.cs_types.specs.History.{moment_of}
 use Rattle.room_report.specs.Report.{lines_text}
-use Rattle.scenario_text.proofs.Reached.{reached_start, reached_more, reached_prefix, reached_end, whole_prefix}
+use Rattle.cs_outside.proofs.Reached.{reached_start, reached_more, reached_prefix, reached_end, whole_prefix}
 use Rattle.room_report.proofs.Left.{task_start, task_next, task_end, task_above}
 use Rattle.room_report.proofs.parts.write_tasks.Goals as goal
 

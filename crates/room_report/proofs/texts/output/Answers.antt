@@ -6,7 +6,7 @@ use Rattle.cs_types.specs.History.{moment_of}
 use Rattle.cs_outside.specs.Device.{appended}
 use Rattle.scenario_text.specs.Text.{entry_text}
 use Rattle.room_report.specs.Report.{report_text, output_text}
-use Rattle.scenario_text.proofs.Reached.{reached_start, reached_more, reached_prefix, reached_end}
+use Rattle.cs_outside.proofs.Reached.{reached_start, reached_more, reached_prefix, reached_end}
 use Rattle.room_report.proofs.Spelled.{one_history}
 use Rattle.room_report.proofs.texts.output.Goals as goal
 

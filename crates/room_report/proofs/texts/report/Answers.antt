@@ -3,7 +3,7 @@ use Rattle.std.proofs.lemmas.Result.{on_ok_weaker}
 use Rattle.cs_types.specs.History.{moment_of}
 use Rattle.cs_outside.specs.Device.{appended}
 use Rattle.room_report.specs.Report.{core_lines, cpu_lines, task_lines, ended_lines, guard_lines, report_text}
-use Rattle.scenario_text.proofs.Reached.{none_left, line_more, line_prefix, part_more, part_prefix}
+use Rattle.cs_outside.proofs.Reached.{none_left, line_more, line_prefix, part_more, part_prefix}
 use Rattle.room_report.proofs.Left.{after_core, after_siblings, after_tasks, after_ended, done_lines, report_left}
 use Rattle.room_report.proofs.texts.report.Goals as goal
 

@@ -5,7 +5,7 @@ use Rattle.cs_types.specs.declared.scenario.Scenario.{Scenario}
 use Rattle.cs_outside.specs.Device.{appended, WritesPrefix}
 use Rattle.scenario_text.specs.Words.{Word, task_words, teach_words}
 use Rattle.scenario_text.specs.Text.{line, version_words, siblings_words, limits_words, step_words, end_words, scenario_lines, scenario_text}
-use Rattle.scenario_text.proofs.Reached.{AreLeft, all_left, none_left, line_more, line_prefix, part_more, part_prefix}
+use Rattle.cs_outside.proofs.Reached.{AreLeft, all_left, none_left, line_more, line_prefix, part_more, part_prefix}
 use Rattle.scenario_writer.proofs.Own.{text_is_its_own}
 use Rattle.scenario_writer.proofs.scenario.scenario_text.Goals as goal
 
@@ -27,19 +27,19 @@ after_head s = map task_words s.tasks ++ after_tasks s
 in_turn : (head tasks teaches steps last : List (List Word)) → head ++ tasks ++ teaches ++ steps ++ last ≡ head ++ (tasks ++ (teaches ++ (steps ++ last)))
 in_turn head tasks teaches steps last = simp append_assoc
 
-start : (before : Option (List ℕ)) (s : Scenario) → AreLeft before (scenario_text s) (head s ++ after_head s) before
+start : (before : Option (List ℕ)) (s : Scenario) → AreLeft line before (scenario_text s) (head s ++ after_head s) before
 start before s =
-    subst (λ (lines : List (List Word)). AreLeft before (scenario_text s) lines before)
-    (in_turn (head s) (map task_words s.tasks) (map teach_words s.teaches) (map step_words s.steps) last) (all_left before (scenario_lines s))
+    subst (λ (lines : List (List Word)). AreLeft line before (scenario_text s) lines before)
+    (in_turn (head s) (map task_words s.tasks) (map teach_words s.teaches) (map step_words s.steps) last) (all_left line before (scenario_lines s))
 
 -- the lines of the lent items go out, or a prefix of them
 items_more : {T : Type 0} (words : T → List Word) (items lent : List T) (lines : List (List Word)) (before : Option (List ℕ)) (whole : List ℕ) (mid now : Option (List ℕ)) →
-    AreLeft before whole (map words items ++ lines) mid → lent ≡ items → now ≡ appended mid (flat_map line (map words lent)) → AreLeft before whole lines now
+    AreLeft line before whole (map words items ++ lines) mid → lent ≡ items → now ≡ appended mid (flat_map line (map words lent)) → AreLeft line before whole lines now
 items_more words items lent lines before whole mid now so_far is sent =
     part_more before whole (map words items) lines mid now so_far (sent ∙ ap (λ xs. appended mid (flat_map line (map words xs))) is)
 
 items_prefix : {T : Type 0} (words : T → List Word) (items lent : List T) (lines : List (List Word)) (before : Option (List ℕ)) (whole : List ℕ) (mid now : Option (List ℕ)) →
-    AreLeft before whole (map words items ++ lines) mid → lent ≡ items → WritesPrefix mid (flat_map line (map words lent)) now → WritesPrefix before whole now
+    AreLeft line before whole (map words items ++ lines) mid → lent ≡ items → WritesPrefix mid (flat_map line (map words lent)) now → WritesPrefix before whole now
 items_prefix words items lent lines before whole mid now so_far is sent =
     part_prefix before whole (map words items) lines mid now so_far (subst (λ xs. WritesPrefix mid (flat_map line (map words xs)) now) is sent)
 

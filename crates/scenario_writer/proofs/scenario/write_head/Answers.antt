@@ -2,8 +2,8 @@ use Rattle.std.proofs.Common.{refl, ◌∙◌, [], ◌∷◌, List}
 use Rattle.std.proofs.lemmas.Result.{on_ok_weaker}
 use Rattle.cs_types.specs.declared.scenario.Scenario.{Scenario}
 use Rattle.scenario_text.specs.Words.{Word}
-use Rattle.scenario_text.specs.Text.{version_words, siblings_words, limits_words}
-use Rattle.scenario_text.proofs.Reached.{all_left, none_left, line_more, line_prefix}
+use Rattle.scenario_text.specs.Text.{line, version_words, siblings_words, limits_words}
+use Rattle.cs_outside.proofs.Reached.{all_left, none_left, line_more, line_prefix}
 use Rattle.scenario_writer.proofs.scenario.write_head.Goals as goal
 
 abbrev lines : Scenario → List (List Word)
@@ -11,13 +11,13 @@ lines scenario = version_words ∷ siblings_words scenario ∷ limits_words scen
 
 pub returns-in_err-write_all-clause-prefix : goal.returns-in_err-write_all-clause-prefix
 returns-in_err-write_all-clause-prefix g c =
-    line_prefix _ _ _ _ _ _ _ (all_left (g.K.Sink.written c.args.sink.now) (lines c.args.scenario.now))
+    line_prefix _ _ _ _ _ _ _ (all_left line (g.K.Sink.written c.args.sink.now) (lines c.args.scenario.now))
     refl c.write_all.ensures.prefix
 
 pub returns-in_err-write_all-2-clause-prefix : goal.returns-in_err-write_all-2-clause-prefix
 returns-in_err-write_all-2-clause-prefix g c =
     line_prefix _ _ _ _ _ _ _ (line_more _ _ _ _ _ _ _
-    (all_left (g.K.Sink.written c.args.sink.now) (lines c.args.scenario.now))
+    (all_left line (g.K.Sink.written c.args.sink.now) (lines c.args.scenario.now))
     refl c.in_ok-write_all.ensures.ok)
     (c.as_bytes.ensures ∙ c.siblings_line.ensures) c.write_all-2.ensures.prefix
 
@@ -26,7 +26,7 @@ returns-clause-ok g c =
     on_ok_weaker c.write_all-3.result (λ sent. none_left _ _ _ (line_more _ _ _ _ _ _ _
     (line_more _ _ _ _ _ _ _
     (line_more _ _ _ _ _ _ _
-    (all_left (g.K.Sink.written c.args.sink.now) (lines c.args.scenario.now))
+    (all_left line (g.K.Sink.written c.args.sink.now) (lines c.args.scenario.now))
     refl c.in_ok-write_all.ensures.ok)
     (c.as_bytes.ensures ∙ c.siblings_line.ensures) c.in_ok-write_all-2.ensures.ok)
     (c.as_bytes-2.ensures ∙ c.limits_line.ensures) sent)) c.write_all-3.ensures.ok
@@ -35,7 +35,7 @@ pub returns-clause-prefix : goal.returns-clause-prefix
 returns-clause-prefix g c =
     line_prefix _ _ _ _ _ _ _ (line_more _ _ _ _ _ _ _
     (line_more _ _ _ _ _ _ _
-    (all_left (g.K.Sink.written c.args.sink.now) (lines c.args.scenario.now))
+    (all_left line (g.K.Sink.written c.args.sink.now) (lines c.args.scenario.now))
     refl c.in_ok-write_all.ensures.ok)
     (c.as_bytes.ensures ∙ c.siblings_line.ensures) c.in_ok-write_all-2.ensures.ok)
     (c.as_bytes-2.ensures ∙ c.limits_line.ensures) c.write_all-3.ensures.prefix

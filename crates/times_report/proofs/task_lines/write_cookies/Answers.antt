@@ -1,5 +1,5 @@
 use Rattle.std.proofs.Common.{◌∙◌, refl, arith}
-use Rattle.scenario_text.proofs.Reached.{whole_prefix}
+use Rattle.cs_outside.proofs.Reached.{whole_prefix}
 use Rattle.times_report.specs.TaskLines.{line_of_cookie}
 use Rattle.times_report.proofs.Rows.{row_more, row_prefix, rows_out}
 use Rattle.times_report.proofs.task_lines.write_cookies.Goals as goal

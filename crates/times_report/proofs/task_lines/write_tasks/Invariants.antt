@@ -1,7 +1,7 @@
 use Rattle.std.proofs.Common.{◌≡◌}
 use Rattle.std.specs.List.{flat_map}
 use Rattle.scenario_text.specs.Text.{line}
-use Rattle.scenario_text.proofs.Reached.{AreLeft}
+use Rattle.cs_outside.proofs.Reached.{AreLeft}
 use Rattle.times_report.specs.TaskLines.{line_of_task, lines_of_tasks}
 use Rattle.times_report.proofs.Rows.{lines_from}
 use Rattle.times_report.proofs.task_lines.write_tasks.Given as goal
@@ -11,6 +11,6 @@ invariant-loop-pid g l =
     let written = g.K.Sink.written in
     let faults = g.K.Sink.faults in
     record {
-      left : AreLeft (written l.fn.sink) (flat_map line (lines_of_tasks l.tasks)) (lines_from line_of_task l.tasks l.pid) (written l.sink);
+      left : AreLeft line (written l.fn.sink) (flat_map line (lines_of_tasks l.tasks)) (lines_from line_of_task l.tasks l.pid) (written l.sink);
       faultless : faults l.sink ≡ faults l.fn.sink;
     }

@@ -4,7 +4,7 @@ use Rattle.cs_outside.specs.Device.{appended}
 use Rattle.run_times.specs.Sums.{Times}
 use Rattle.run_summary.specs.declared.replies.ReplyCounts.{ReplyCounts}
 use Rattle.scenario_text.specs.Text.{line}
-use Rattle.scenario_text.proofs.Reached.{all_left, none_left, line_more, line_prefix}
+use Rattle.cs_outside.proofs.Reached.{all_left, none_left, line_more, line_prefix}
 use Rattle.times_report.specs.TaskLines.{task_lines}
 use Rattle.times_report.specs.Summary.{exposed_words, pending_words, replies_words, total_words, sibling_lines, pair_lines, summary_lines, summary_text}
 use Rattle.times_report.proofs.Left.{after_siblings, after_tasks, after_pairs, part_out, part_begun}
@@ -13,20 +13,20 @@ use Rattle.times_report.proofs.texts.summary.Goals as goal
 pub returns-in_err-write_siblings-clause-prefix : goal.returns-in_err-write_siblings-clause-prefix
 returns-in_err-write_siblings-clause-prefix g c =
     part_begun _ _ (sibling_lines c.args.summary.now.times.siblings) (sibling_lines c.siblings.result.now) (after_siblings c.args.summary.now) _ _ (ap sibling_lines (c.siblings.ensures ∙ ap (λ (times : Times). times.siblings) c.times-times.ensures))
-    (all_left (g.K.Sink.written c.args.sink.now) (summary_lines c.args.summary.now)) c.write_siblings.ensures.prefix
+    (all_left line (g.K.Sink.written c.args.sink.now) (summary_lines c.args.summary.now)) c.write_siblings.ensures.prefix
 
 pub returns-in_err-task_summary-clause-prefix : goal.returns-in_err-task_summary-clause-prefix
 returns-in_err-task_summary-clause-prefix g c =
     part_begun _ _ (task_lines c.args.summary.now.tasks) (task_lines c.tasks.result.now) (after_tasks c.args.summary.now) _ _ (ap task_lines c.tasks.ensures)
     (part_out _ _ (sibling_lines c.args.summary.now.times.siblings) (sibling_lines c.siblings.result.now) (after_siblings c.args.summary.now) _ _ (ap sibling_lines (c.siblings.ensures ∙ ap (λ (times : Times). times.siblings) c.times-times.ensures))
-    (all_left (g.K.Sink.written c.args.sink.now) (summary_lines c.args.summary.now)) c.in_ok-write_siblings.ensures.ok) c.task_summary.ensures.prefix
+    (all_left line (g.K.Sink.written c.args.sink.now) (summary_lines c.args.summary.now)) c.in_ok-write_siblings.ensures.ok) c.task_summary.ensures.prefix
 
 pub returns-in_err-write_all-clause-prefix : goal.returns-in_err-write_all-clause-prefix
 returns-in_err-write_all-clause-prefix g c =
     line_prefix _ _ _ _ _ _ _
     (part_out _ _ (task_lines c.args.summary.now.tasks) (task_lines c.tasks.result.now) (after_tasks c.args.summary.now) _ _ (ap task_lines c.tasks.ensures)
     (part_out _ _ (sibling_lines c.args.summary.now.times.siblings) (sibling_lines c.siblings.result.now) (after_siblings c.args.summary.now) _ _ (ap sibling_lines (c.siblings.ensures ∙ ap (λ (times : Times). times.siblings) c.times-times.ensures))
-    (all_left (g.K.Sink.written c.args.sink.now) (summary_lines c.args.summary.now)) c.in_ok-write_siblings.ensures.ok) c.in_ok-task_summary.ensures.ok)
+    (all_left line (g.K.Sink.written c.args.sink.now) (summary_lines c.args.summary.now)) c.in_ok-write_siblings.ensures.ok) c.in_ok-task_summary.ensures.ok)
     (c.as_bytes.ensures ∙ c.exposed_line.ensures ∙ ap (λ (told : Times). line (exposed_words told)) c.times-times.ensures) c.write_all.ensures.prefix
 
 pub returns-in_err-write_pairs-clause-prefix : goal.returns-in_err-write_pairs-clause-prefix
@@ -35,7 +35,7 @@ returns-in_err-write_pairs-clause-prefix g c =
     (line_more _ _ _ _ _ _ _
     (part_out _ _ (task_lines c.args.summary.now.tasks) (task_lines c.tasks.result.now) (after_tasks c.args.summary.now) _ _ (ap task_lines c.tasks.ensures)
     (part_out _ _ (sibling_lines c.args.summary.now.times.siblings) (sibling_lines c.siblings.result.now) (after_siblings c.args.summary.now) _ _ (ap sibling_lines (c.siblings.ensures ∙ ap (λ (times : Times). times.siblings) c.times-times.ensures))
-    (all_left (g.K.Sink.written c.args.sink.now) (summary_lines c.args.summary.now)) c.in_ok-write_siblings.ensures.ok) c.in_ok-task_summary.ensures.ok)
+    (all_left line (g.K.Sink.written c.args.sink.now) (summary_lines c.args.summary.now)) c.in_ok-write_siblings.ensures.ok) c.in_ok-task_summary.ensures.ok)
     (c.as_bytes.ensures ∙ c.exposed_line.ensures ∙ ap (λ (told : Times). line (exposed_words told)) c.times-times.ensures) c.in_ok-write_all.ensures.ok) c.write_pairs.ensures.prefix
 
 pub returns-in_err-write_all-2-clause-prefix : goal.returns-in_err-write_all-2-clause-prefix
@@ -45,7 +45,7 @@ returns-in_err-write_all-2-clause-prefix g c =
     (line_more _ _ _ _ _ _ _
     (part_out _ _ (task_lines c.args.summary.now.tasks) (task_lines c.tasks.result.now) (after_tasks c.args.summary.now) _ _ (ap task_lines c.tasks.ensures)
     (part_out _ _ (sibling_lines c.args.summary.now.times.siblings) (sibling_lines c.siblings.result.now) (after_siblings c.args.summary.now) _ _ (ap sibling_lines (c.siblings.ensures ∙ ap (λ (times : Times). times.siblings) c.times-times.ensures))
-    (all_left (g.K.Sink.written c.args.sink.now) (summary_lines c.args.summary.now)) c.in_ok-write_siblings.ensures.ok) c.in_ok-task_summary.ensures.ok)
+    (all_left line (g.K.Sink.written c.args.sink.now) (summary_lines c.args.summary.now)) c.in_ok-write_siblings.ensures.ok) c.in_ok-task_summary.ensures.ok)
     (c.as_bytes.ensures ∙ c.exposed_line.ensures ∙ ap (λ (told : Times). line (exposed_words told)) c.times-times.ensures) c.in_ok-write_all.ensures.ok) c.in_ok-write_pairs.ensures.ok)
     (c.as_bytes-2.ensures ∙ c.pending_line.ensures ∙ ap (λ (told : Times). line (pending_words told)) c.times-times.ensures) c.write_all-2.ensures.prefix
 
@@ -57,7 +57,7 @@ returns-in_err-write_all-3-clause-prefix g c =
     (line_more _ _ _ _ _ _ _
     (part_out _ _ (task_lines c.args.summary.now.tasks) (task_lines c.tasks.result.now) (after_tasks c.args.summary.now) _ _ (ap task_lines c.tasks.ensures)
     (part_out _ _ (sibling_lines c.args.summary.now.times.siblings) (sibling_lines c.siblings.result.now) (after_siblings c.args.summary.now) _ _ (ap sibling_lines (c.siblings.ensures ∙ ap (λ (times : Times). times.siblings) c.times-times.ensures))
-    (all_left (g.K.Sink.written c.args.sink.now) (summary_lines c.args.summary.now)) c.in_ok-write_siblings.ensures.ok) c.in_ok-task_summary.ensures.ok)
+    (all_left line (g.K.Sink.written c.args.sink.now) (summary_lines c.args.summary.now)) c.in_ok-write_siblings.ensures.ok) c.in_ok-task_summary.ensures.ok)
     (c.as_bytes.ensures ∙ c.exposed_line.ensures ∙ ap (λ (told : Times). line (exposed_words told)) c.times-times.ensures) c.in_ok-write_all.ensures.ok) c.in_ok-write_pairs.ensures.ok)
     (c.as_bytes-2.ensures ∙ c.pending_line.ensures ∙ ap (λ (told : Times). line (pending_words told)) c.times-times.ensures) c.in_ok-write_all-2.ensures.ok)
     (c.as_bytes-3.ensures ∙ c.replies_line.ensures ∙ ap (λ (told : ReplyCounts). line (replies_words told)) c.replies.ensures) c.write_all-3.ensures.prefix
@@ -72,7 +72,7 @@ returns-clause-ok g c =
     (line_more _ _ _ _ _ _ _
     (part_out _ _ (task_lines c.args.summary.now.tasks) (task_lines c.tasks.result.now) (after_tasks c.args.summary.now) _ _ (ap task_lines c.tasks.ensures)
     (part_out _ _ (sibling_lines c.args.summary.now.times.siblings) (sibling_lines c.siblings.result.now) (after_siblings c.args.summary.now) _ _ (ap sibling_lines (c.siblings.ensures ∙ ap (λ (times : Times). times.siblings) c.times-times.ensures))
-    (all_left (g.K.Sink.written c.args.sink.now) (summary_lines c.args.summary.now)) c.in_ok-write_siblings.ensures.ok) c.in_ok-task_summary.ensures.ok)
+    (all_left line (g.K.Sink.written c.args.sink.now) (summary_lines c.args.summary.now)) c.in_ok-write_siblings.ensures.ok) c.in_ok-task_summary.ensures.ok)
     (c.as_bytes.ensures ∙ c.exposed_line.ensures ∙ ap (λ (told : Times). line (exposed_words told)) c.times-times.ensures) c.in_ok-write_all.ensures.ok) c.in_ok-write_pairs.ensures.ok)
     (c.as_bytes-2.ensures ∙ c.pending_line.ensures ∙ ap (λ (told : Times). line (pending_words told)) c.times-times.ensures) c.in_ok-write_all-2.ensures.ok)
     (c.as_bytes-3.ensures ∙ c.replies_line.ensures ∙ ap (λ (told : ReplyCounts). line (replies_words told)) c.replies.ensures) c.in_ok-write_all-3.ensures.ok)
@@ -87,7 +87,7 @@ returns-clause-prefix g c =
     (line_more _ _ _ _ _ _ _
     (part_out _ _ (task_lines c.args.summary.now.tasks) (task_lines c.tasks.result.now) (after_tasks c.args.summary.now) _ _ (ap task_lines c.tasks.ensures)
     (part_out _ _ (sibling_lines c.args.summary.now.times.siblings) (sibling_lines c.siblings.result.now) (after_siblings c.args.summary.now) _ _ (ap sibling_lines (c.siblings.ensures ∙ ap (λ (times : Times). times.siblings) c.times-times.ensures))
-    (all_left (g.K.Sink.written c.args.sink.now) (summary_lines c.args.summary.now)) c.in_ok-write_siblings.ensures.ok) c.in_ok-task_summary.ensures.ok)
+    (all_left line (g.K.Sink.written c.args.sink.now) (summary_lines c.args.summary.now)) c.in_ok-write_siblings.ensures.ok) c.in_ok-task_summary.ensures.ok)
     (c.as_bytes.ensures ∙ c.exposed_line.ensures ∙ ap (λ (told : Times). line (exposed_words told)) c.times-times.ensures) c.in_ok-write_all.ensures.ok) c.in_ok-write_pairs.ensures.ok)
     (c.as_bytes-2.ensures ∙ c.pending_line.ensures ∙ ap (λ (told : Times). line (pending_words told)) c.times-times.ensures) c.in_ok-write_all-2.ensures.ok)
     (c.as_bytes-3.ensures ∙ c.replies_line.ensures ∙ ap (λ (told : ReplyCounts). line (replies_words told)) c.replies.ensures) c.in_ok-write_all-3.ensures.ok)

@@ -1,5 +1,5 @@
 use Rattle.std.proofs.Common.{◌∙◌, arith}
-use Rattle.scenario_text.proofs.Reached.{line_more, line_prefix, none_left, whole_prefix}
+use Rattle.cs_outside.proofs.Reached.{line_more, line_prefix, none_left, whole_prefix}
 use Rattle.times_report.proofs.Left.{next_pair, no_pair}
 use Rattle.times_report.proofs.texts.write_pairs.Goals as goal
 

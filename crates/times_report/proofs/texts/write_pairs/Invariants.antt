@@ -1,7 +1,7 @@
 use Rattle.std.proofs.Common.{◌≡◌}
 use Rattle.std.specs.List.{flat_map}
 use Rattle.scenario_text.specs.Text.{line}
-use Rattle.scenario_text.proofs.Reached.{AreLeft}
+use Rattle.cs_outside.proofs.Reached.{AreLeft}
 use Rattle.times_report.specs.Summary.{pair_lines}
 use Rattle.times_report.proofs.Left.{pairs_from}
 use Rattle.times_report.proofs.texts.write_pairs.Given as goal
@@ -11,6 +11,6 @@ invariant-loop-index g l =
     let written = g.K.Sink.written in
     let faults = g.K.Sink.faults in
     record {
-      left : AreLeft (written l.fn.sink) (flat_map line (pair_lines l.pairs)) (pairs_from l.pairs l.index) (written l.sink);
+      left : AreLeft line (written l.fn.sink) (flat_map line (pair_lines l.pairs)) (pairs_from l.pairs l.index) (written l.sink);
       faultless : faults l.sink ≡ faults l.fn.sink;
     }

@@ -1,11 +1,9 @@
--- Reached: how far a text is written that goes out piece by piece.
+-- Reached: how far a text is written that goes out piece by piece, or line by line.
 use Rattle.std.proofs.Common.{◌≡◌, ℕ, suc, ◌+◌, ◌≤◌, min, List, [], ◌∷◌, ◌++◌, length, take, refl, sym, ap, ◌∙◌, append_assoc, subst, arith, Option, Some, None}
 use Rattle.std.specs.List.{flat_map}
 use Rattle.std.proofs.lemmas.List.Concat.{flat_map-append}
 use Rattle.std.proofs.lemmas.List.{append-nil, take_all, take_min, take-append-le}
 use Rattle.cs_outside.specs.Device.{appended, WritesPrefix}
-use Rattle.scenario_text.specs.Words.{Word}
-use Rattle.scenario_text.specs.Text.{line}
 
 appended-appended : (before : Option (List ℕ)) (a b : List ℕ) → appended (appended before a) b ≡ appended before (a ++ b)
 appended-appended None a b = refl
@@ -70,40 +68,37 @@ reached_prefix before whole left piece rest bytes mid now so_far next is sent =
 pub whole_prefix : (before : Option (List ℕ)) (whole : List ℕ) (now : Option (List ℕ)) → now ≡ appended before whole → WritesPrefix before whole now
 whole_prefix before whole now written = (length whole, written ∙ ap (appended before) (sym (take_all (length whole) whole (omega arith))))
 
--- ---- lines
-
--- these lines, each with its line feed
-abbrev lines_text : List (List Word) → List ℕ
-lines_text lines = flat_map line lines
+-- ---- lines, whose text is handed in
 
 -- of the whole text these lines are left
-pub record AreLeft (before : Option (List ℕ)) (whole : List ℕ) (left : List (List Word)) (now : Option (List ℕ)) : Type 0 where
-  pub reached : Reached before whole (lines_text left) now
+pub record AreLeft {A : Type 0} (text : A → List ℕ) (before : Option (List ℕ)) (whole : List ℕ) (left : List A) (now : Option (List ℕ)) : Type 0 where
+  pub reached : Reached before whole (flat_map text left) now
 
-pub all_left : (before : Option (List ℕ)) (lines : List (List Word)) → AreLeft before (lines_text lines) lines before
-all_left before lines = record { reached = reached_start before (lines_text lines) (lines_text lines) refl }
+pub all_left : {A : Type 0} (text : A → List ℕ) (before : Option (List ℕ)) (lines : List A) → AreLeft text before (flat_map text lines) lines before
+all_left text before lines = record { reached = reached_start before (flat_map text lines) (flat_map text lines) refl }
 
-pub none_left : (before : Option (List ℕ)) (whole : List ℕ) (now : Option (List ℕ)) → AreLeft before whole [] now → now ≡ appended before whole
-none_left before whole now so_far = reached_end before whole [] now so_far.reached refl
+module _ {A : Type 0} {text : A → List ℕ} (before : Option (List ℕ)) (whole : List ℕ) where
+  pub none_left : (now : Option (List ℕ)) → AreLeft text before whole [] now → now ≡ appended before whole
+  none_left now so_far = reached_end before whole [] now so_far.reached refl
 
--- the next line goes out, or a prefix of it
-pub line_more : (before : Option (List ℕ)) (whole : List ℕ) (words : List Word) (lines : List (List Word)) (bytes : List ℕ) (mid now : Option (List ℕ)) →
-    AreLeft before whole (words ∷ lines) mid → bytes ≡ line words → now ≡ appended mid bytes → AreLeft before whole lines now
-line_more before whole words lines bytes mid now so_far is sent =
-    record { reached = reached_more before whole (lines_text (words ∷ lines)) (line words) (lines_text lines) bytes mid now so_far.reached refl is sent }
+  -- the next line goes out, or a prefix of it
+  pub line_more : (line : A) (lines : List A) (bytes : List ℕ) (mid now : Option (List ℕ)) →
+      AreLeft text before whole (line ∷ lines) mid → bytes ≡ text line → now ≡ appended mid bytes → AreLeft text before whole lines now
+  line_more line lines bytes mid now so_far is sent =
+      record { reached = reached_more before whole (flat_map text (line ∷ lines)) (text line) (flat_map text lines) bytes mid now so_far.reached refl is sent }
 
-pub line_prefix : (before : Option (List ℕ)) (whole : List ℕ) (words : List Word) (lines : List (List Word)) (bytes : List ℕ) (mid now : Option (List ℕ)) →
-    AreLeft before whole (words ∷ lines) mid → bytes ≡ line words → WritesPrefix mid bytes now → WritesPrefix before whole now
-line_prefix before whole words lines bytes mid now so_far is sent =
-    reached_prefix before whole (lines_text (words ∷ lines)) (line words) (lines_text lines) bytes mid now so_far.reached refl is sent
+  pub line_prefix : (line : A) (lines : List A) (bytes : List ℕ) (mid now : Option (List ℕ)) →
+      AreLeft text before whole (line ∷ lines) mid → bytes ≡ text line → WritesPrefix mid bytes now → WritesPrefix before whole now
+  line_prefix line lines bytes mid now so_far is sent =
+      reached_prefix before whole (flat_map text (line ∷ lines)) (text line) (flat_map text lines) bytes mid now so_far.reached refl is sent
 
--- the next lines go out, or a prefix of them
-pub part_more : (before : Option (List ℕ)) (whole : List ℕ) (part lines : List (List Word)) (mid now : Option (List ℕ)) →
-    AreLeft before whole (part ++ lines) mid → now ≡ appended mid (lines_text part) → AreLeft before whole lines now
-part_more before whole part lines mid now so_far sent =
-    record { reached = reached_more before whole (lines_text (part ++ lines)) (lines_text part) (lines_text lines) (lines_text part) mid now so_far.reached (flat_map-append line part lines) refl sent }
+  -- the next lines go out, or a prefix of them
+  pub part_more : (part lines : List A) (mid now : Option (List ℕ)) →
+      AreLeft text before whole (part ++ lines) mid → now ≡ appended mid (flat_map text part) → AreLeft text before whole lines now
+  part_more part lines mid now so_far sent =
+      record { reached = reached_more before whole (flat_map text (part ++ lines)) (flat_map text part) (flat_map text lines) (flat_map text part) mid now so_far.reached (flat_map-append text part lines) refl sent }
 
-pub part_prefix : (before : Option (List ℕ)) (whole : List ℕ) (part lines : List (List Word)) (mid now : Option (List ℕ)) →
-    AreLeft before whole (part ++ lines) mid → WritesPrefix mid (lines_text part) now → WritesPrefix before whole now
-part_prefix before whole part lines mid now so_far sent =
-    reached_prefix before whole (lines_text (part ++ lines)) (lines_text part) (lines_text lines) (lines_text part) mid now so_far.reached (flat_map-append line part lines) refl sent
+  pub part_prefix : (part lines : List A) (mid now : Option (List ℕ)) →
+      AreLeft text before whole (part ++ lines) mid → WritesPrefix mid (flat_map text part) now → WritesPrefix before whole now
+  part_prefix part lines mid now so_far sent =
+      reached_prefix before whole (flat_map text (part ++ lines)) (flat_map text part) (flat_map text lines) (flat_map text part) mid now so_far.reached (flat_map-append text part lines) refl sent
