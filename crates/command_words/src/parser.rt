@@ -11,7 +11,6 @@ ghost use Rattle.command_words.specs.Program.{Spells, drill, is_option, program,
 use crate::command::{Command, named};
 use clap::error::ErrorKind;
 use clap::{Arg, ArgMatches};
-use cs_types::OutOfMemory;
 use std::alloc::{AllocError, Global};
 
 /// The program with no command: all words are its own, none asks for help or for a version, and a command has to
@@ -76,7 +75,7 @@ fn has_option(words: &[String]) -> bool
 
 /// The command that the parser finds in the words. A word that begins with `-` is refused before: there are no
 /// options.
-pub(crate) fn parsed(alloc: Global, words: &[String]) -> Result<Option<Command>, OutOfMemory>
+pub(crate) fn parsed(alloc: Global, words: &[String]) -> Result<Option<Command>, AllocError>
     ensures asked { IfOk result (λ found. (command : Command) → (found ≡ Some command) ↔ Asks command words.now) }
 {
     if has_option(words) {
@@ -85,7 +84,7 @@ pub(crate) fn parsed(alloc: Global, words: &[String]) -> Result<Option<Command>,
     let grammar = grammar(alloc)?;
     match grammar.try_get_matches_from(words) {
         Ok(matches) => Ok(matched(&matches)),
-        Err(error) if error.kind() == ErrorKind::OutOfMemory => Err(OutOfMemory),
+        Err(error) if error.kind() == ErrorKind::OutOfMemory => Err(AllocError),
         Err(_) => Ok(None),
     }
 }

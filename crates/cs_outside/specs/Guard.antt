@@ -1,7 +1,11 @@
 -- Guards, as they stand between two calls, and what keeps a pair from being taught.
-use Rattle.std.specs.Prelude.{◌≡◌, ℕ, List, []}
+use Rattle.std.specs.Prelude.{◌≡◌, ◌==◌, ◌&&◌, ℕ, Bool, List, []}
 use Rattle.cs_outside.specs.declared.guard.TeachFault.{TeachFault}
 use Rattle.cs_outside.specs.declared.guard.TeachFault.TheVariants.{Full, OutOfMemory}
+
+-- whether two pairs are one
+abbrev pub is_pair : ℕ × ℕ → ℕ × ℕ → Bool
+is_pair a b = (a.0 == b.0) && (a.1 == b.1)
 
 -- how many pairs a guard that holds its pairs in place can be taught
 abbrev pub pair_guard_cap : ℕ

@@ -2,7 +2,7 @@
 
 ghost use Rattle.std.specs.Prelude.{◌≡◌, ℕ, ◌+◌, ◌<◌, ◌^◌, List, [], ◌∷◌, ◌++◌, length, not, OnOk, OnErr, IfErr};
 ghost use Rattle.std.specs.List.{list_any};
-ghost use Rattle.cs_types.specs.Guards.{is_pair};
+ghost use Rattle.cs_outside.specs.Guard.{is_pair};
 
 use thiserror::Error;
 

@@ -2,8 +2,7 @@
 
 ghost use Rattle.std.specs.Prelude.{◌≡◌, ◌+◌, ◌<◌, ◌^◌, [], ◌∷◌, ◌++◌, length, not, OnOk, OnErr, IfErr};
 ghost use Rattle.std.specs.List.{list_any};
-ghost use Rattle.cs_types.specs.Guards.{is_pair};
-ghost use Rattle.cs_outside.specs.Guard.{pair_guard_cap, fresh};
+ghost use Rattle.cs_outside.specs.Guard.{is_pair, pair_guard_cap, fresh};
 ghost use Rattle.cs_outside.specs.declared.guard.TeachFault.TheVariants.{Full};
 
 use crate::guard::{Guard, TeachFault};

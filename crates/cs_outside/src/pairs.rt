@@ -2,7 +2,7 @@
 
 ghost use Rattle.std.specs.Prelude.{◌≡◌};
 ghost use Rattle.std.specs.List.{list_any};
-ghost use Rattle.cs_types.specs.Guards.{is_pair};
+ghost use Rattle.cs_outside.specs.Guard.{is_pair};
 
 /// Whether the pair of real user ids, a caller's and a target's, is one of these.
 pub fn lists(pairs: &[(u32, u32)], from: u32, to: u32) -> bool

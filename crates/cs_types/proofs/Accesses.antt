@@ -1,10 +1,11 @@
 -- Accesses: asking the guards changes no later answer of theirs.
 use Rattle.std.proofs.Common.{◌≡◌, ℕ, zero, suc, ◌+◌, false, List, [], ◌∷◌, ◌++◌, map, refl, sym, ap, ◌∙◌}
+use Rattle.std.specs.Prelude.{◌==◌, ◌&&◌}
 use Rattle.std.specs.List.{list_any}
 use Rattle.std.proofs.Math.ListN.{get_or}
 use Rattle.std.proofs.Math.Seq.{map-set_same}
 use Rattle.cs_types.specs.declared.task.TaskSpec.{TaskSpec}
-use Rattle.cs_types.specs.Guards.{GuardState, GuardList, no_guard, guard_of, asked_once, asked_each, asked_until, is_pair}
+use Rattle.cs_types.specs.Guards.{GuardState, GuardList, no_guard, guard_of, asked_once, asked_each, asked_until}
 use Rattle.cs_types.specs.Access.{Rule, guard_rule, kernel_rules, access_rules, first_decision, may_access, asked_about}
 
 -- one asking after another
@@ -33,7 +34,7 @@ rules_alike guards index caller target (other ∷ active) =
       refuses_alike : guard_rule (asked_once guards index) caller target other ≡ guard_rule guards caller target other
       refuses_alike =
           ap (λ (pairs : List (ℕ × ℕ)). record {
-            decides = list_any (is_pair (caller.creds.ruid, target.creds.ruid)) pairs;
+            decides = list_any (λ refused. (caller.creds.ruid == refused.0) && (target.creds.ruid == refused.1)) pairs;
             allows = false;
             asks = other ∷ [];
           }) (pairs-asked_once guards index other)

@@ -74,13 +74,9 @@ unload guards index =
 
 -- ---- asking
 
--- whether two pairs are one
-abbrev pub is_pair : ℕ × ℕ → ℕ × ℕ → Bool
-is_pair a b = (a.0 == b.0) && (a.1 == b.1)
-
 -- whether a guard refuses a pair
 abbrev pub refuses : GuardState → ℕ × ℕ → Bool
-refuses guard pair = list_any (is_pair pair) guard.pairs
+refuses guard pair = list_any (λ refused. (pair.0 == refused.0) && (pair.1 == refused.1)) guard.pairs
 
 -- The guard of this number was asked once more.
 abbrev pub asked_once : GuardList → ℕ → GuardList

@@ -2,7 +2,7 @@
 
 ghost use Rattle.std.specs.Prelude.{◌≡◌, ◌+◌, ◌<◌, ◌^◌, [], ◌∷◌, ◌++◌, length, not, OnOk, OnErr, IfErr};
 ghost use Rattle.std.specs.List.{list_any};
-ghost use Rattle.cs_types.specs.Guards.{is_pair};
+ghost use Rattle.cs_outside.specs.Guard.{is_pair};
 ghost use Rattle.memory_outside.specs.Guard.{FullExactlyAt};
 
 use cs_outside::{Guard, TeachFault, lists};

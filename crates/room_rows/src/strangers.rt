@@ -3,7 +3,7 @@
 
 ghost use Rattle.std.specs.Prelude.{◌≡◌, []};
 ghost use Rattle.std.specs.List.{list_any};
-ghost use Rattle.cs_types.specs.Guards.{is_pair};
+ghost use Rattle.cs_outside.specs.Guard.{is_pair};
 
 use cs_outside::{Guard, TeachFault};
 use std::alloc::Global;
