@@ -11,7 +11,7 @@ mod renewal;
 mod tree;
 
 pub use key::Key;
-pub use movers::{MOST_MOVERS, Movers};
+pub use movers::Movers;
 pub use order::OrderTree;
 pub use rank::RankTree;
 pub use recent::RecentTree;

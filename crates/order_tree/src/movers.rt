@@ -1,10 +1,16 @@
-//! What is told of the pids in a tree.
+//! Where the pids in a tree are told. It is a trait, so that a tree knows nothing of the lists of those who ask.
 
-use arrayvec::ArrayVec;
+ghost use Rattle.std.specs.Prelude.{◌≡◌, ℕ, ◌<◌, ◌++◌, [], ◌∷◌, List, length};
+
 use cs_types::Pid;
 
-/// The most pids that are told at once.
-pub const MOST_MOVERS: usize = 256;
+/// Where pids are told, each with the stamp of its key. There is room for 256.
+pub trait Movers {
+    /// What was told there, in the order of the calls.
+    ghost told: { Self → List (ℕ × ℕ) };
 
-/// Pids, each with the stamp of its key.
-pub type Movers = ArrayVec<(u64, Pid), MOST_MOVERS>;
+    /// One more is told, by the stamp of its key and its pid.
+    fn push(&mut self, mover: (u64, Pid))
+        requires room { length (told self.old) < 256 }
+        ensures { told self.new ≡ told self.old ++ mover ∷ [] };
+}

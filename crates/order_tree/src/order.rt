@@ -133,9 +133,9 @@ impl OrderTree {
     }
 
     /// Tells all pids by rising key, each with the stamp of its key. It compares no key.
-    pub fn tell_into(&self, movers: &mut Movers)
-        requires room { length movers.old.items + map.len self.now.members ≤ 256 }
-        ensures told { movers.new.items ≡ movers.old.items ++ list.map stamped (map.entries self.now.members) }
+    pub fn tell_into<M: Movers>(&self, movers: &mut M)
+        requires room { length (M.told movers.old) + map.len self.now.members ≤ 256 }
+        ensures told { M.told movers.new ≡ M.told movers.old ++ list.map stamped (map.entries self.now.members) }
     {
         self.tree.tell(movers);
     }

@@ -111,9 +111,9 @@ impl RecentTree {
     }
 
     /// Tells all pids, each with the stamp of its key, in any order. It compares no key.
-    pub fn tell_into(&self, movers: &mut Movers)
-        requires room { length movers.old.items + map.len self.now.members ≤ 256 }
-        ensures told { IsPermutation (movers.old.items ++ list.map stamped (map.entries self.now.members)) movers.new.items }
+    pub fn tell_into<M: Movers>(&self, movers: &mut M)
+        requires room { length (M.told movers.old) + map.len self.now.members ≤ 256 }
+        ensures told { IsPermutation (M.told movers.old ++ list.map stamped (map.entries self.now.members)) (M.told movers.new) }
     {
         if let Some((key, pid)) = self.recent {
             movers.push((key.stamp, pid));

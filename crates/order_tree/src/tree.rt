@@ -244,9 +244,9 @@ impl Tree {
     }
 
     /// Tells its pids by rising key, each with the stamp of its key. It compares no key.
-    pub fn tell(&self, movers: &mut Movers)
-        requires room { length movers.old.items + length self.now.entries ≤ 256 }
-        ensures told { movers.new.items ≡ movers.old.items ++ map stamped self.now.entries }
+    pub fn tell<M: Movers>(&self, movers: &mut M)
+        requires room { length (M.told movers.old) + length self.now.entries ≤ 256 }
+        ensures told { M.told movers.new ≡ M.told movers.old ++ map stamped self.now.entries }
     {
         let Some(node) = &self.root else {
             return;

@@ -6,14 +6,16 @@ use Rattle.order_tree.proofs.Ranks.{len-ranked, told-ranked}
 use Rattle.order_tree.proofs.rank.RankTree.tell_into.Goals as goal
 
 pub returns : goal.returns
-returns c =
+returns g c =
+    let old = g.M.Movers.told c.args.movers.now in
+    let new = g.M.Movers.told c.tell_into.new.movers in
     record {
       told = rw (← c.self.view_is)
-          (subst (λ (told : List (ℕ × ℕ)). IsPermutation (c.args.movers.now.items ++ told) c.tell_into.new.movers.items)
+          (subst (λ (told : List (ℕ × ℕ)). IsPermutation (old ++ told) new)
           (sym (told-ranked c.self.inside.tree.members c.self.invariant)) c.tell_into.ensures.told);
     }
 
 pub tell_into-requires : goal.tell_into-requires
-tell_into-requires c =
+tell_into-requires g c =
     let tree = c.self.inside.tree in
     record { room = omega (arith, len-ranked tree.members c.self.invariant, ap (λ (queue : Ranked). len queue.members) c.self.view_is, c.requires.room) }

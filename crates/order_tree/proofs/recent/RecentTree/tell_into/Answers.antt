@@ -1,4 +1,4 @@
-use Rattle.std.proofs.Common.{◌≡◌, ◌+◌, ◌<◌, ◌++◌, ℕ, List, [], ◌∷◌, Option, Some, None, length, length-append, map, sym, ap, ◌∙◌, subst, arith}
+use Rattle.std.proofs.Common.{◌≡◌, ◌+◌, ◌++◌, ℕ, List, [], ◌∷◌, Option, Some, None, length, length-append, map, sym, ap, ◌∙◌, subst, arith}
 use Rattle.std.specs.FinMap.{entries, len}
 use Rattle.std.specs.List.Sorted.{IsPermutation}
 use Rattle.std.specs.Option.{option_len}
@@ -25,43 +25,45 @@ all_told (Some entry) tree beside old new is =
     subst (IsPermutation (old ++ map stamped (entries (with_recent (Some entry) tree.members)))) (sym is) (told-recent entry tree beside old)
 
 pub push-requires : goal.push-requires
-push-requires c =
+push-requires g c =
     let recent = c.self.inside.recent in
     let tree = c.self.inside.tree in
     let is : recent ≡ Some (c.in-Some.key, c.in-Some.pid) = c.in-Some.is in
     let seen = ap (λ (order : Ordered). len order.members) c.self.view_is in
-    let within : length c.args.movers.now.items < 256 = omega (arith, c.requires.room, seen, len-recent recent tree c.self.invariant, ap (λ (o : Option Entry). option_len o) is) in
-    (omega arith, within)
+    record { room = omega (arith, c.requires.room, seen, len-recent recent tree c.self.invariant, ap (λ (o : Option Entry). option_len o) is) }
 
 pub tell_into-requires : goal.tell_into-requires
-tell_into-requires c =
+tell_into-requires g c =
     let recent = c.self.inside.recent in
     let tree = c.self.inside.tree in
+    let old = g.M.Movers.told c.args.movers.now in
     let seen = ap (λ (order : Ordered). len order.members) c.self.view_is in
-    let told : c.match-self.movers.items ≡ with_told recent c.args.movers.now.items = elim c.match-self.branch [
+    let told : g.M.Movers.told c.match-self.movers ≡ with_told recent old = elim c.match-self.branch [
       | in-Some w ↦
-          ap (λ movers. movers.items) w.movers-is ∙ w.push.ensures.items
-          ∙ ap (λ (o : Option Entry). with_told o c.args.movers.now.items) (sym w.in-Some.is)
+          ap g.M.Movers.told w.movers-is ∙ w.push.ensures
+          ∙ ap (λ (o : Option Entry). with_told o old) (sym w.in-Some.is)
       | in_default w ↦
-          ap (λ movers. movers.items) w.movers-is
-          ∙ ap (λ (o : Option Entry). with_told o c.args.movers.now.items) (sym w.in_default.is)
+          ap g.M.Movers.told w.movers-is
+          ∙ ap (λ (o : Option Entry). with_told o old) (sym w.in_default.is)
     ] in
-    record { room = omega (arith, c.requires.room, seen, len-recent recent tree c.self.invariant, ap length told, length-with_told recent c.args.movers.now.items) }
+    record { room = omega (arith, c.requires.room, seen, len-recent recent tree c.self.invariant, ap length told, length-with_told recent old) }
 
 pub returns : goal.returns
-returns c =
+returns g c =
     let recent = c.self.inside.recent in
     let tree = c.self.inside.tree in
-    let told : c.match-self.movers.items ≡ with_told recent c.args.movers.now.items = elim c.match-self.branch [
+    let old = g.M.Movers.told c.args.movers.now in
+    let new = g.M.Movers.told c.tell_into.new.movers in
+    let told : g.M.Movers.told c.match-self.movers ≡ with_told recent old = elim c.match-self.branch [
       | in-Some w ↦
-          ap (λ movers. movers.items) w.movers-is ∙ w.push.ensures.items
-          ∙ ap (λ (o : Option Entry). with_told o c.args.movers.now.items) (sym w.in-Some.is)
+          ap g.M.Movers.told w.movers-is ∙ w.push.ensures
+          ∙ ap (λ (o : Option Entry). with_told o old) (sym w.in-Some.is)
       | in_default w ↦
-          ap (λ movers. movers.items) w.movers-is
-          ∙ ap (λ (o : Option Entry). with_told o c.args.movers.now.items) (sym w.in_default.is)
+          ap g.M.Movers.told w.movers-is
+          ∙ ap (λ (o : Option Entry). with_told o old) (sym w.in_default.is)
     ] in
     record {
       told = rw (← c.self.view_is)
-          (all_told recent tree c.self.invariant c.args.movers.now.items c.tell_into.new.movers.items
+          (all_told recent tree c.self.invariant old new
           (c.tell_into.ensures.told ∙ ap (λ (movers : List (ℕ × ℕ)). movers ++ map stamped (entries tree.members)) told));
     }
