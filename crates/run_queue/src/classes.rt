@@ -148,9 +148,9 @@ impl Classes {
     }
 
     /// Each task is told by its stamp and its pid, in any order.
-    pub fn tell_into(&self, movers: &mut Movers)
-        requires room { length movers.old.items + map.len self.now.tasks ≤ 256 }
-        ensures told { IsPermutation (movers.old.items ++ list.map stamped (map.entries self.now.tasks)) movers.new.items }
+    pub fn tell_into<M: Movers>(&self, movers: &mut M)
+        requires room { length (M.told movers.old) + map.len self.now.tasks ≤ 256 }
+        ensures told { IsPermutation (M.told movers.old ++ list.map stamped (map.entries self.now.tasks)) (M.told movers.new) }
     {
         self.stop.tell_into(movers);
         self.deadline.tell_into(movers);

@@ -12,53 +12,53 @@ none members is = ap len is ∙ len-empty key_cmp ℕ
 -- ---- the calls, which tell no more than all
 
 pub tell_into-requires : goal.tell_into-requires
-tell_into-requires c =
+tell_into-requires g c =
     let was = c.self.inside in
     let all = len-joined was.stop.members was.deadline.members was.real_time.members was.fair.members in
     let seen = ap (λ (classes : Seated). len classes.tasks) c.self.view_is in
     record { room = omega (arith, all, seen, c.requires.room) }
 
 pub tell_into-requires-2 : goal.tell_into-requires-2
-tell_into-requires-2 c =
+tell_into-requires-2 g c =
     let was = c.self.inside in
     let all = len-joined was.stop.members was.deadline.members was.real_time.members was.fair.members in
     let seen = ap (λ (classes : Seated). len classes.tasks) c.self.view_is in
-    let one = length-told was.stop.members c.args.movers.now.items c.tell_into.new.movers.items c.tell_into.ensures.told in
+    let one = length-told was.stop.members (g.M.Movers.told c.args.movers.now) (g.M.Movers.told c.tell_into.new.movers) c.tell_into.ensures.told in
     record { room = omega (arith, all, seen, one, c.requires.room) }
 
 pub tell_into-requires-3 : goal.tell_into-requires-3
-tell_into-requires-3 c =
+tell_into-requires-3 g c =
     let was = c.self.inside in
     let all = len-joined was.stop.members was.deadline.members was.real_time.members was.fair.members in
     let seen = ap (λ (classes : Seated). len classes.tasks) c.self.view_is in
-    let one = length-told was.stop.members c.args.movers.now.items c.tell_into.new.movers.items c.tell_into.ensures.told in
-    let two = length-told was.deadline.members c.tell_into.new.movers.items c.tell_into-2.new.movers.items c.tell_into-2.ensures.told in
+    let one = length-told was.stop.members (g.M.Movers.told c.args.movers.now) (g.M.Movers.told c.tell_into.new.movers) c.tell_into.ensures.told in
+    let two = length-told was.deadline.members (g.M.Movers.told c.tell_into.new.movers) (g.M.Movers.told c.tell_into-2.new.movers) c.tell_into-2.ensures.told in
     record { room = omega (arith, all, seen, one, two, c.requires.room) }
 
 pub tell_into-requires-4 : goal.tell_into-requires-4
-tell_into-requires-4 c =
+tell_into-requires-4 g c =
     let was = c.self.inside in
     let all = len-joined was.stop.members was.deadline.members was.real_time.members was.fair.members in
     let seen = ap (λ (classes : Seated). len classes.tasks) c.self.view_is in
-    let one = length-told was.stop.members c.args.movers.now.items c.tell_into.new.movers.items c.tell_into.ensures.told in
-    let two = length-told was.deadline.members c.tell_into.new.movers.items c.tell_into-2.new.movers.items c.tell_into-2.ensures.told in
-    let three = length-told was.real_time.members c.tell_into-2.new.movers.items c.tell_into-3.new.movers.items c.tell_into-3.ensures.told in
+    let one = length-told was.stop.members (g.M.Movers.told c.args.movers.now) (g.M.Movers.told c.tell_into.new.movers) c.tell_into.ensures.told in
+    let two = length-told was.deadline.members (g.M.Movers.told c.tell_into.new.movers) (g.M.Movers.told c.tell_into-2.new.movers) c.tell_into-2.ensures.told in
+    let three = length-told was.real_time.members (g.M.Movers.told c.tell_into-2.new.movers) (g.M.Movers.told c.tell_into-3.new.movers) c.tell_into-3.ensures.told in
     record { room = omega (arith, all, seen, one, two, three, c.requires.room) }
 
 -- ---- what is left
 
 pub returns : goal.returns
-returns c =
+returns g c =
     let was = c.self.inside in
-    let old = c.args.movers.now.items in
+    let old = g.M.Movers.told c.args.movers.now in
     let stop = map ranked_stamp (entries was.stop.members) in
     let deadline = map ranked_stamp (entries was.deadline.members) in
     let real_time = map ranked_stamp (entries was.real_time.members) in
     let fair = map ranked_stamp (entries was.fair.members) in
-    let one = c.tell_into.new.movers.items in
-    let two = c.tell_into-2.new.movers.items in
-    let three = c.tell_into-3.new.movers.items in
-    let all = c.tell_into-4.new.movers.items in
+    let one = g.M.Movers.told c.tell_into.new.movers in
+    let two = g.M.Movers.told c.tell_into-2.new.movers in
+    let three = g.M.Movers.told c.tell_into-3.new.movers in
+    let all = g.M.Movers.told c.tell_into-4.new.movers in
     record {
       told = rw (← c.self.view_is)
           (subst (λ (told : List (ℕ × ℕ)). IsPermutation (old ++ told) all) (sym (told-joined was.stop.members was.deadline.members was.real_time.members was.fair.members))
