@@ -6,5 +6,6 @@ mod first;
 mod queue;
 mod renewed;
 mod task;
+mod told_tasks;
 
 pub use queue::TreeQueue;

@@ -11,7 +11,8 @@ use crate::arrivals::Arrivals;
 use crate::first::{enter, find_first, find_first_with, give_cookie, is_of};
 use crate::renewed::Renewed;
 use crate::task::{KINDS, LOTS, kind_of, lot_of};
-use core_lanes::{Movers, SiblingQueue, Stamped, is_on, queued_of, task_of, tell_by_stamp};
+use crate::told_tasks::ToldTasks;
+use core_lanes::{Movers, SiblingQueue, is_on, queued_of, task_of, tell_by_stamp};
 use cs_types::{Cookie, Cpu, OutOfMemory, Queued, Steps, Task};
 use run_queue::RunQueue;
 use std::alloc::Global;
@@ -217,7 +218,7 @@ fn tell_by_trees(run: &RunQueue, movers: &mut Movers)
     requires few { len run.now.tasks ≤ 256 }
     ensures told { AreTold (map stamped (entries run.now.tasks)) movers.new.items }
 {
-    let mut tasks = Stamped::new();
-    run.tell_into(&mut tasks);
-    tell_by_stamp(&mut tasks, movers);
+    let mut told = ToldTasks::empty();
+    run.tell_into(&mut told);
+    tell_by_stamp(&mut told.tasks, movers);
 }

@@ -14,13 +14,13 @@ from_none old all tasks none same = subst (λ (old : List (ℕ × ℕ)). IsPermu
 pub tell_by_stamp-requires-clause-few : goal.tell_by_stamp-requires-clause-few
 tell_by_stamp-requires-clause-few c =
     let all = entries c.args.run.now.tasks in
-    let tasks = c.tell_into.new.movers.items in
-    let same = from_none c.new-tasks.result.items (map stamped all) tasks c.new-tasks.ensures c.tell_into.ensures.told in
+    let tasks = c.tell_into.new.movers.tasks.items in
+    let same = from_none c.empty-told.result.tasks.items (map stamped all) tasks c.empty-told.ensures c.tell_into.ensures.told in
     omega (arith, c.requires.few, len-entries c.args.run.now.tasks, length-map all stamped, length_permutation (map stamped all) tasks same)
 
 pub returns : goal.returns
 returns c =
     let all = map stamped (entries c.args.run.now.tasks) in
-    let tasks = c.tell_into.new.movers.items in
-    let same = from_none c.new-tasks.result.items all tasks c.new-tasks.ensures c.tell_into.ensures.told in
+    let tasks = c.tell_into.new.movers.tasks.items in
+    let same = from_none c.empty-told.result.tasks.items all tasks c.empty-told.ensures c.tell_into.ensures.told in
     record { told = told_alike all tasks c.tell_by_stamp.new.movers.items same c.tell_by_stamp.ensures.told }
