@@ -7,7 +7,6 @@ ghost use Rattle.cs_outside.specs.declared.guard.TeachFault.TheVariants.{Full};
 
 use crate::guard::{Guard, TeachFault};
 use crate::pairs::lists;
-use arrayvec::ArrayVec;
 use std::marker::Model;
 
 /// How many pairs a guard of this type can be taught.
@@ -16,16 +15,21 @@ const MOST_PAIRS: usize = 16;
 /// A guard that holds its pairs in place, so that teaching takes no memory.
 #[derive(Drop)]
 pub struct PairGuard {
-    pairs: ArrayVec<(u32, u32), MOST_PAIRS>,
+    places: [(u32, u32); MOST_PAIRS],
+    /// How many pairs it was taught. They stand in the first places.
+    count: usize,
     asked: u64,
 }
 
 impl Model for PairGuard {
-    ghost use Rattle.cs_outside.specs.Guard.{PairGuardState};
+    ghost use Rattle.std.specs.Prelude.{◌≤◌, take};
+    ghost use Rattle.cs_outside.specs.Guard.{PairGuardState, pair_guard_cap};
 
     ghost Value = { PairGuardState };
 
-    ghost view = { λ guard. record { pairs = guard.pairs.items; asked = guard.asked } };
+    ghost view = { λ guard. record { pairs = take guard.count guard.places; asked = guard.asked } };
+
+    ghost invariant = { λ guard. guard.count ≤ pair_guard_cap };
 }
 
 impl PairGuard {
@@ -34,7 +38,8 @@ impl PairGuard {
         ensures { result ≡ fresh }
     {
         PairGuard {
-            pairs: ArrayVec::new(),
+            places: [(0, 0); MOST_PAIRS],
+            count: 0,
             asked: 0,
         }
     }
@@ -55,12 +60,13 @@ impl Guard for PairGuard {
         ensures taught { OnOk result (self.new ≡ record self.old { pairs = self.old.pairs ++ (from, to) ∷ [] }) }
         ensures untaught { OnErr result (self.new ≡ self.old) }
     {
-        if self.pairs.is_full() {
+        if self.count == MOST_PAIRS {
             return Err(TeachFault::Full {
                 cap: MOST_PAIRS as u32,
             });
         }
-        self.pairs.push((from, to));
+        self.places[self.count] = (from, to);
+        self.count += 1;
         Ok(())
     }
 
@@ -71,7 +77,7 @@ impl Guard for PairGuard {
         ensures asked { self.new ≡ record self.old { asked = self.old.asked + 1 } }
     {
         self.asked += 1;
-        !lists(&self.pairs, from, to)
+        !lists(&self.places[..self.count], from, to)
     }
 
     fn asked(&self) -> u64 {
