@@ -251,10 +251,10 @@ pub record MayEnqueue {Q : Type 0} {g : Ghosts Q} (both : Core Q g × Table) (ta
   pub stamp : both.0.next_stamp + 1 < 2 ^ 64
   pub touches : both.0.task_number + 1 < 2 ^ 64
 
--- the tasks queued on a sibling may be told, in a list that has none yet
+-- the tasks queued on a sibling may be told, in a list that has as many places
 pub record MayTell {Q : Type 0} {g : Ghosts Q} (cpu : ℕ) (both : Core Q g × Table) (movers : List ℕ) : Type 0 where
   pub agree : AgreesAt cpu both
-  pub none : movers ≡ []
+  pub each : length movers ≡ length (queued_among both.1.tasks cpu)
 
 -- a task can move from its home: its virtual time and the least ones are far from overflow
 pub record CanMove {Q : Type 0} {g : Ghosts Q} (core : Core Q g) (task : Task) : Type 0 where

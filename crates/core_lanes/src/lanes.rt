@@ -15,7 +15,7 @@ ghost use Rattle.core_lanes.specs.Queued.{IsOf, queued_among, queued_at, mover_o
 
 use crate::lane::Lane;
 use crate::order::is_alike;
-use crate::queue::{Movers, SiblingQueue};
+use crate::queue::SiblingQueue;
 use cs_types::{Cookie, Cpu, OutOfMemory, Pid, Queued, Steps, Task};
 use forceidle_account::ForceIdle;
 use std::alloc::Global;
@@ -291,12 +291,12 @@ impl<Q: SiblingQueue> Core<Q> {
         table.set_used(pid, used);
     }
 
-    /// The queue of a sibling, whose tasks are about to leave, is empty. The list, which has none yet, tells them
-    /// by rising stamp.
-    pub fn empty_queue(&mut self, table: &TaskTable, leaving: Cpu, movers: &mut Movers)
-        requires { MayTell leaving (self.old, table.now) movers.old.items }
+    /// The queue of a sibling, whose tasks are about to leave, is empty. The list, which has as many places, tells
+    /// them by rising stamp.
+    pub fn empty_queue(&mut self, table: &TaskTable, leaving: Cpu, movers: &mut [Pid])
+        requires { MayTell leaving (self.old, table.now) movers.old }
         ensures away { ChangesQueues self.old self.new (AgreeAway leaving (self.new, table.now)) }
-        ensures told { AreTold (map mover_of (queued_among table.now.tasks leaving)) movers.new.items }
+        ensures told { AreTold (map mover_of (queued_among table.now.tasks leaving)) movers.new }
     {
         self.tell_queued(table, leaving, movers);
         self.lanes[leaving as usize].queue.clear(table, leaving);

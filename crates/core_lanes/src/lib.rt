@@ -15,6 +15,6 @@ pub use account::charge;
 pub use lane::Lane;
 pub use lanes::{Core, MOST_SIBLINGS, task_of};
 pub use order::{goes_before, is_fair, is_higher, priority_of};
-pub use queue::{MOST_TASKS, Movers, SiblingQueue, is_on};
+pub use queue::{MOST_TASKS, SiblingQueue, is_on};
 pub use queued::{queued_of, rank_of};
-pub use told::{Stamped, tell_by_stamp};
+pub use told::tell_by_stamp;

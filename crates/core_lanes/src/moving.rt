@@ -1,13 +1,13 @@
 //! How a queue comes to another sibling with all its tasks. It is apart, since it alone leaves tasks and queues
 //! for a moment as they do not agree.
 
-ghost use Rattle.std.specs.Prelude.{◌≡◌, ◌≢◌, [], ◌<◌, length, map};
+ghost use Rattle.std.specs.Prelude.{◌≡◌, ◌≢◌, ◌<◌, length, map};
 ghost use Rattle.core_lanes.specs.Queued.{queued_among, mover_of, AreTold};
 ghost use Rattle.core_lanes.specs.Exchanges.{Exchange};
 
 use crate::lane::Lane;
 use crate::lanes::Core;
-use crate::queue::{Movers, SiblingQueue};
+use crate::queue::SiblingQueue;
 use cs_types::{Cpu, Pid, Steps};
 use std::mem;
 use std::sync::ledger::Ledger;
@@ -41,10 +41,10 @@ impl<Q: SiblingQueue> Core<Q> {
     ghost use Rattle.core_lanes.specs.Lanes.{MayTell, AreHeld, ChangesQueues};
     ghost use Rattle.core_lanes.specs.Changes.{Places};
 
-    /// Tells the tasks queued on the sibling by their pids, in a list that has none yet, by rising stamp.
-    pub fn tell_queued(&self, table: &TaskTable, cpu: Cpu, movers: &mut Movers)
-        requires { MayTell cpu (self.now, table.now) movers.old.items }
-        ensures told { AreTold (map mover_of (queued_among table.now.tasks cpu)) movers.new.items }
+    /// Tells the tasks queued on the sibling by their pids, by rising stamp, in a list that has as many places.
+    pub fn tell_queued(&self, table: &TaskTable, cpu: Cpu, movers: &mut [Pid])
+        requires { MayTell cpu (self.now, table.now) movers.old }
+        ensures told { AreTold (map mover_of (queued_among table.now.tasks cpu)) movers.new }
     {
         self.lanes[cpu as usize].queue.tell_into(table, cpu, movers);
     }
@@ -71,7 +71,7 @@ impl<Q: SiblingQueue> Core<Q> {
         table: &TaskTable,
         from: Cpu,
         to: Cpu,
-        movers: &Movers,
+        movers: &[Pid],
         steps: &mut Steps<L>,
     )
         requires { MayExchange from to (self.old, table.now) }

@@ -9,7 +9,6 @@ ghost use Rattle.cs_types.specs.Scenario.{IsPolicy};
 ghost use Rattle.core_lanes.specs.Queued.{queued_among, queued_at, mover_of, AreTold, others, given_cookie, given_vtime, IsQueuedOn, IsFairOn, MayBePut, with_cookie, behind, smallest_vtime, has_peer, MaySearch, MayFind, MayCompare, Leaves, Answers};
 ghost use Rattle.core_lanes.specs.Moved.{MayRenew};
 
-use arrayvec::ArrayVec;
 use cs_types::{Cookie, Cpu, OutOfMemory, Pid, Queued, Steps, Task};
 use std::alloc::Global;
 use std::sync::ledger::Ledger;
@@ -17,9 +16,6 @@ use task_table::TaskTable;
 
 /// The most tasks that live at once.
 pub const MOST_TASKS: usize = 256;
-
-/// The pids of some tasks.
-pub type Movers = ArrayVec<Pid, MOST_TASKS>;
 
 /// The queued tasks of one sibling (`struct rq`). The tasks themselves stand in a table, which each call is
 /// handed: what the queue is asked is answered of the tasks that the table has queued on the sibling, and the
@@ -77,12 +73,12 @@ pub trait SiblingQueue: Drop {
         requires { holds self.old table.now.limit (queued_at table.now.tasks cpu) }
         ensures { holds self.new table.now.limit [] };
 
-    /// Each task is told by its pid, by rising stamp, in a list that has none yet.
-    fn tell_into(&self, table: &TaskTable, cpu: Cpu, movers: &mut Movers)
-        requires none { movers.old.items ≡ [] }
+    /// Each task is told by its pid, by rising stamp, in a list that has as many places.
+    fn tell_into(&self, table: &TaskTable, cpu: Cpu, movers: &mut [Pid])
+        requires each { length movers.old ≡ length (queued_among table.now.tasks cpu) }
         requires few { length (queued_among table.now.tasks cpu) ≤ 256 }
         requires holds { holds self.now table.now.limit (queued_at table.now.tasks cpu) }
-        ensures told { AreTold (map mover_of (queued_among table.now.tasks cpu)) movers.new.items };
+        ensures told { AreTold (map mover_of (queued_among table.now.tasks cpu)) movers.new };
 
     /// All tasks that it holds have moved to the sibling in the table, in the order in which they stand. It holds them
     /// as they are now. It makes at most three times as many comparisons as another call. The list may tell it in which
@@ -91,7 +87,7 @@ pub trait SiblingQueue: Drop {
         &mut self,
         table: &TaskTable,
         cpu: Cpu,
-        movers: &Movers,
+        movers: &[Pid],
         steps: &mut Steps<L>,
     )
         requires { MayRenew (holds self.old table.now.limit) cpu table.now }

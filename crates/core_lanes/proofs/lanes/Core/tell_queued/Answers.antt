@@ -11,7 +11,7 @@ tell_into-requires g c =
     let leaving = c.args.cpu in
     let lane = c.index.result.now in
     record {
-      none = c.requires.none;
+      each = c.requires.each;
       few = omega (
         arith,
         c.requires.agree.agree.table.few,
