@@ -7,7 +7,7 @@ ghost use Rattle.core_lanes.specs.Changes.{Touches};
 ghost use Rattle.cpu_hotplug.specs.Leaves.{move_off, MayMoveOff, MayMoveAllTo, MovesWhole};
 
 use crate::away::lowest_other;
-use core_lanes::{Core, Movers, SiblingQueue};
+use core_lanes::{Core, MOST_TASKS, SiblingQueue};
 use cs_types::{Cpu, Steps};
 use std::sync::ledger::Ledger;
 use task_table::TaskTable;
@@ -72,12 +72,14 @@ fn move_queue<Q: SiblingQueue, L: Ledger>(
     requires whole { MovesWhole cpu to (core.old, table.old) }
     ensures { Touches (2 * length (queued_among table.old.tasks cpu)) (core.old, table.old) (core.new, table.new) (λ room. move_off room cpu) }
 {
-    let mut movers = Movers::new();
-    core.tell_queued(table, cpu, &mut movers);
+    let count = core.lanes[cpu as usize].queue.count(table, cpu);
+    let mut places = [0; MOST_TASKS];
+    let movers = &mut places[..count as usize];
+    core.tell_queued(table, cpu, movers);
     for mover in movers.iter() {
         core.place(table, *mover, cpu, to);
     }
-    core.exchange(table, cpu, to, &movers, steps);
+    core.exchange(table, cpu, to, movers, steps);
 }
 
 /// The tasks move one by one.
@@ -91,8 +93,10 @@ fn move_each<Q: SiblingQueue, L: Ledger>(
     requires { MayMoveAllTo cpu to (core.old, table.old) }
     ensures { Touches (2 * length (queued_among table.old.tasks cpu)) (core.old, table.old) (core.new, table.new) (λ room. move_off room cpu) }
 {
-    let mut movers = Movers::new();
-    core.empty_queue(table, cpu, &mut movers);
+    let count = core.lanes[cpu as usize].queue.count(table, cpu);
+    let mut places = [0; MOST_TASKS];
+    let movers = &mut places[..count as usize];
+    core.empty_queue(table, cpu, movers);
     for mover in movers.iter() {
         core.enter(table, *mover, cpu, to, steps);
     }

@@ -1,21 +1,41 @@
-use Rattle.std.proofs.Common.{true, ◌≡◌, ◌+◌, ◌*◌, ◌<◌, ◌≤◌, ◌^◌, ℕ, List, refl, subst, sym, ap, ◌∙◌, arith, length, map}
-use Rattle.std.specs.Prelude.{◌==◌, ◌&&◌, All}
+use Rattle.std.proofs.Common.{true, ◌≡◌, ◌+◌, ◌*◌, ◌<◌, ◌^◌, ℕ, List, refl, subst, sym, ap, ◌∙◌, arith, length, map}
+use Rattle.std.specs.Prelude.{◌==◌, All}
 use Rattle.std.proofs.lemmas.Bool.{and_parts, eqb-true}
-use Rattle.std.proofs.lemmas.List.{length-map}
-use Rattle.std.proofs.lemmas.List.Sums.{length-filter, count_by-le-length}
+use Rattle.std.proofs.lemmas.List.{length-map, length-take-le}
 use Rattle.cs_types.specs.declared.task.Task.{Task}
 use Rattle.cs_types.specs.Room.{RoomState, SiblingState}
 use Rattle.cs_types.specs.Queue.{queued_of}
 use Rattle.cs_types.specs.Queueing.{moved_to}
 use Rattle.cs_types.proofs.Spots.{replaced_by}
-use Rattle.core_lanes.specs.Queued.{queued_among, queued_at, mover_of, AreTold}
+use Rattle.core_lanes.specs.Queued.{queued_among, queued_at}
 use Rattle.core_lanes.specs.Lanes.{BareCore, lane_state, room_by, room_of}
 use Rattle.core_lanes.specs.Numbers.{Numbers, numbers_by, numbers_of, touched}
 use Rattle.core_lanes.specs.Changes.{Kept, identity_of}
 use Rattle.core_lanes.proofs.Stays.{some_beside, agree_again, found_in}
 use Rattle.cpu_hotplug.proofs.Ranks.{each_of}
-use Rattle.cpu_hotplug.proofs.Leaving.{length-told, moved_is, so_far, none_moved, all_moved, one_more, next_found, none_left}
+use Rattle.cpu_hotplug.proofs.Leaving.{few, enough, length-told, moved_is, so_far, none_moved, all_moved, one_more, next_found, none_left}
 use Rattle.cpu_hotplug.proofs.moves.move_each.Goals as goal
+
+-- ---- the places
+
+pub slice_bounds-places-end : goal.slice_bounds-places-end
+slice_bounds-places-end g c =
+    let agree = c.requires.may.agree in
+    enough c.args.table.now.tasks c.args.cpu c.args.table.now.limit c.count-count.result c.count-count.ensures agree.table.few agree.few_tasks
+
+pub slice_bounds-movers-end : goal.slice_bounds-movers-end
+slice_bounds-movers-end g c =
+    let agree = c.requires.may.agree in
+    sym (length-take-le c.count-count.result _ (enough c.args.table.now.tasks c.args.cpu c.args.table.now.limit c.count-count.result c.count-count.ensures agree.table.few agree.few_tasks))
+
+pub empty_queue-requires : goal.empty_queue-requires
+empty_queue-requires g c =
+    let agree = c.requires.may.agree in
+    record {
+      agree = record { cpu = c.requires.may.cpu; agree = agree };
+      each = length-take-le c.count-count.result _ (enough c.args.table.now.tasks c.args.cpu c.args.table.now.limit c.count-count.result c.count-count.ensures agree.table.few agree.few_tasks)
+          ∙ c.count-count.ensures;
+    }
 
 -- ---- before any moved
 
@@ -38,10 +58,6 @@ loop-mover-init g c =
       away = c.empty_queue.ensures.away.held;
     }
 
--- no more move than there are
-few : (tasks : List Task) (cpu : ℕ) → length (queued_among tasks cpu) ≤ length tasks
-few tasks cpu = omega (arith, length-filter (λ (task : Task). task.queued && (task.home == cpu)) tasks, count_by-le-length (λ (task : Task). task.queued && (task.home == cpu)) tasks)
-
 -- ---- it enters the other queue
 
 pub enter-requires : goal.enter-requires
@@ -51,9 +67,8 @@ enter-requires g c =
     let cpu = c.args.cpu in
     let now = c.loop-mover.table in
     let room = room_of some_beside (core, table) in
-    let list_is = c.deref-mover-items.ensures.0 in
-    let pids = c.deref-mover-items.result.now in
-    let told = subst (AreTold (map mover_of (queued_among table.tasks cpu))) (sym list_is) c.empty_queue.ensures.told in
+    let pids = c.empty_queue.new.movers in
+    let told = c.empty_queue.ensures.told in
     let are = ap (λ (one : RoomState). one.tasks) (c.loop-mover.invariant.room some_beside) in
     let found = next_found room cpu c.requires.may.agree.table.rising c.requires.may.agree.stamped pids told c.loop-mover.mover-index c.loop-mover-test.true now.tasks are in
     let task = found.0 in
@@ -87,9 +102,8 @@ loop-mover-preserved g c =
     let cpu = c.args.cpu in
     let now = c.loop-mover.table in
     let room = room_of some_beside (core, table) in
-    let list_is = c.deref-mover-items.ensures.0 in
-    let pids = c.deref-mover-items.result.now in
-    let told = subst (AreTold (map mover_of (queued_among table.tasks cpu))) (sym list_is) c.empty_queue.ensures.told in
+    let pids = c.empty_queue.new.movers in
+    let told = c.empty_queue.ensures.told in
     let are = ap (λ (one : RoomState). one.tasks) (c.loop-mover.invariant.room some_beside) in
     let found = next_found room cpu c.requires.may.agree.table.rising c.requires.may.agree.stamped pids told c.loop-mover.mover-index c.loop-mover-test.true now.tasks are in
     let task = found.0 in
@@ -130,9 +144,8 @@ returns g c =
     let cpu = c.args.cpu in
     let now = c.loop-mover.table in
     let room = room_of some_beside (core, table) in
-    let list_is = c.deref-mover-items.ensures.0 in
-    let pids = c.deref-mover-items.result.now in
-    let told = subst (AreTold (map mover_of (queued_among table.tasks cpu))) (sym list_is) c.empty_queue.ensures.told in
+    let pids = c.empty_queue.new.movers in
+    let told = c.empty_queue.ensures.told in
     let are = ap (λ (one : RoomState). one.tasks) (c.loop-mover.invariant.room some_beside) in
     let i = c.loop-mover.mover-index in
     let many = length-told room cpu c.requires.may.agree.table.rising c.requires.may.agree.stamped pids told in

@@ -1,19 +1,19 @@
-use Rattle.std.proofs.Common.{Some, true, ◌≡◌, ◌+◌, ◌*◌, ◌<◌, ◌≤◌, ◌^◌, ℕ, List, refl, subst, sym, ap, ◌∙◌, arith, length, map}
-use Rattle.std.specs.Prelude.{◌==◌, ◌&&◌, All}
+use Rattle.std.proofs.Common.{Some, true, ◌≡◌, ◌+◌, ◌*◌, ◌<◌, ◌^◌, ℕ, List, refl, subst, sym, ap, ◌∙◌, arith, length, map}
+use Rattle.std.specs.Prelude.{◌==◌, All}
 use Rattle.std.proofs.lemmas.Bool.{and_parts, eqb-true}
-use Rattle.std.proofs.lemmas.List.Sums.{length-filter, count_by-le-length}
+use Rattle.std.proofs.lemmas.List.{length-take-le}
 use Rattle.cs_types.specs.declared.task.Task.{Task}
 use Rattle.cs_types.specs.Room.{RoomState, SiblingState}
 use Rattle.cs_types.specs.Queue.{queued_of}
 use Rattle.cs_types.specs.Queueing.{moved_to}
 use Rattle.cs_types.proofs.Spots.{replaced_by}
-use Rattle.core_lanes.specs.Queued.{queued_among, queued_at, mover_of, AreTold}
+use Rattle.core_lanes.specs.Queued.{queued_among, queued_at}
 use Rattle.core_lanes.specs.Lanes.{BareCore, room_by, room_of, IsFit}
 use Rattle.core_lanes.specs.Numbers.{Numbers, numbers_by, numbers_of, touched}
 use Rattle.core_lanes.specs.Changes.{Kept}
 use Rattle.core_lanes.proofs.Stays.{some_beside, found_in}
 use Rattle.cpu_hotplug.proofs.Ranks.{each_of}
-use Rattle.cpu_hotplug.proofs.Leaving.{length-told, moved_is, so_far, none_moved, all_moved, one_more, next_found, none_left}
+use Rattle.cpu_hotplug.proofs.Leaving.{few, enough, length-told, moved_is, so_far, none_moved, all_moved, one_more, next_found, none_left}
 use Rattle.std.proofs.Common.{[], ◌≢◌}
 use Rattle.std.specs.Prelude.{slice_get}
 use Rattle.std.specs.Global.{Vec}
@@ -31,6 +31,27 @@ use Rattle.core_lanes.proofs.Stays.{as_many_bare, queue_of}
 use Rattle.cpu_hotplug.specs.Leaves.{NoneBehind}
 use Rattle.cpu_hotplug.proofs.Moving.{least_from, least_to, anew, moved_there, elsewhere, none_behind}
 use Rattle.cpu_hotplug.proofs.moves.move_queue.Goals as goal
+
+-- ---- the places
+
+pub slice_bounds-places-end : goal.slice_bounds-places-end
+slice_bounds-places-end g c =
+    let agree = c.requires.to.may.agree in
+    enough c.args.table.now.tasks c.args.cpu c.args.table.now.limit c.count-count.result c.count-count.ensures agree.table.few agree.few_tasks
+
+pub slice_bounds-movers-end : goal.slice_bounds-movers-end
+slice_bounds-movers-end g c =
+    let agree = c.requires.to.may.agree in
+    sym (length-take-le c.count-count.result _ (enough c.args.table.now.tasks c.args.cpu c.args.table.now.limit c.count-count.result c.count-count.ensures agree.table.few agree.few_tasks))
+
+pub tell_queued-requires : goal.tell_queued-requires
+tell_queued-requires g c =
+    let agree = c.requires.to.may.agree in
+    record {
+      agree = record { cpu = c.requires.to.may.cpu; agree = agree };
+      each = length-take-le c.count-count.result _ (enough c.args.table.now.tasks c.args.cpu c.args.table.now.limit c.count-count.result c.count-count.ensures agree.table.few agree.few_tasks)
+          ∙ c.count-count.ensures;
+    }
 
 -- ---- before any moved
 
@@ -51,10 +72,6 @@ loop-mover-init g c =
       lanes = refl;
     }
 
--- no more move than there are
-few : (tasks : List Task) (cpu : ℕ) → length (queued_among tasks cpu) ≤ length tasks
-few tasks cpu = omega (arith, length-filter (λ (task : Task). task.queued && (task.home == cpu)) tasks, count_by-le-length (λ (task : Task). task.queued && (task.home == cpu)) tasks)
-
 -- ---- it is placed on the other sibling
 
 pub place-requires : goal.place-requires
@@ -64,9 +81,8 @@ place-requires g c =
     let cpu = c.args.cpu in
     let now = c.loop-mover.table in
     let room = room_of some_beside (core, table) in
-    let list_is = c.deref-mover-items.ensures.0 in
-    let pids = c.deref-mover-items.result.now in
-    let told = subst (AreTold (map mover_of (queued_among table.tasks cpu))) (sym list_is) c.tell_queued.ensures.told in
+    let pids = c.tell_queued.new.movers in
+    let told = c.tell_queued.ensures.told in
     let are = ap (λ (one : RoomState). one.tasks) (c.loop-mover.invariant.room some_beside) in
     let found = next_found room cpu c.requires.to.may.agree.table.rising c.requires.to.may.agree.stamped pids told c.loop-mover.mover-index c.loop-mover-test.true now.tasks are in
     let task = found.0 in
@@ -100,9 +116,8 @@ loop-mover-preserved g c =
     let cpu = c.args.cpu in
     let now = c.loop-mover.table in
     let room = room_of some_beside (core, table) in
-    let list_is = c.deref-mover-items.ensures.0 in
-    let pids = c.deref-mover-items.result.now in
-    let told = subst (AreTold (map mover_of (queued_among table.tasks cpu))) (sym list_is) c.tell_queued.ensures.told in
+    let pids = c.tell_queued.new.movers in
+    let told = c.tell_queued.ensures.told in
     let are = ap (λ (one : RoomState). one.tasks) (c.loop-mover.invariant.room some_beside) in
     let found = next_found room cpu c.requires.to.may.agree.table.rising c.requires.to.may.agree.stamped pids told c.loop-mover.mover-index c.loop-mover-test.true now.tasks are in
     let task = found.0 in
@@ -199,9 +214,8 @@ exchange-requires g c =
     let table = c.args.table.now in
     let cpu = c.args.cpu in
     let room = room_of some_beside (core, table) in
-    let list_is = c.deref-mover-items.ensures.0 in
-    let pids = c.deref-mover-items.result.now in
-    let told = subst (AreTold (map mover_of (queued_among table.tasks cpu))) (sym list_is) c.tell_queued.ensures.told in
+    let pids = c.tell_queued.new.movers in
+    let told = c.tell_queued.ensures.told in
     let are = ap (λ (one : RoomState). one.tasks) (c.loop-mover.invariant.room some_beside) in
     let i = c.loop-mover.mover-index in
     let many = length-told room cpu c.requires.to.may.agree.table.rising c.requires.to.may.agree.stamped pids told in
@@ -218,9 +232,8 @@ returns g c =
     let table = c.args.table.now in
     let cpu = c.args.cpu in
     let room = room_of some_beside (core, table) in
-    let list_is = c.deref-mover-items.ensures.0 in
-    let pids = c.deref-mover-items.result.now in
-    let told = subst (AreTold (map mover_of (queued_among table.tasks cpu))) (sym list_is) c.tell_queued.ensures.told in
+    let pids = c.tell_queued.new.movers in
+    let told = c.tell_queued.ensures.told in
     let i = c.loop-mover.mover-index in
     let many = length-told room cpu c.requires.to.may.agree.table.rising c.requires.to.may.agree.stamped pids told in
     let all : i ≡ length (queued_among table.tasks cpu) = omega (arith, many, c.loop-mover-test.false, c.loop-mover.auto.mover-index-end) in
