@@ -3,14 +3,17 @@
 ghost use Rattle.std.specs.Prelude.{◌≡◌, ◌+◌, ◌≤◌, ◌++◌, length, map};
 ghost use Rattle.core_lanes.specs.Queued.{is_peer_of, queued_among, mover_of};
 
+use arrayvec::ArrayVec;
 use core_lanes::{
-    Movers, SiblingQueue, Stamped, goes_before, is_fair, is_on, priority_of, queued_of,
-    tell_by_stamp,
+    MOST_TASKS, SiblingQueue, goes_before, is_fair, is_on, priority_of, queued_of, tell_by_stamp,
 };
-use cs_types::{Cookie, Cpu, OutOfMemory, Queued, Steps, Task};
+use cs_types::{Cookie, Cpu, OutOfMemory, Pid, Queued, Steps, Task};
 use std::alloc::Global;
 use std::sync::ledger::Ledger;
 use task_table::TaskTable;
+
+/// Some tasks, each by its stamp and its pid.
+type Stamped = ArrayVec<(u64, Pid), MOST_TASKS>;
 
 /// It keeps nothing: the queued tasks of a sibling are those that the table has there. Its walks count none of
 /// their comparisons.
@@ -85,17 +88,17 @@ impl SiblingQueue for Walk {
 
     fn clear(&mut self, _table: &TaskTable, _cpu: Cpu) {}
 
-    fn tell_into(&self, table: &TaskTable, cpu: Cpu, movers: &mut Movers) {
+    fn tell_into(&self, table: &TaskTable, cpu: Cpu, movers: &mut [Pid]) {
         let mut tasks = Stamped::new();
         tell(table, cpu, &mut tasks);
-        tell_by_stamp(&mut tasks, movers);
+        tell_by_stamp(tasks.as_mut_slice(), movers);
     }
 
     fn renew<L: Ledger>(
         &mut self,
         _table: &TaskTable,
         _cpu: Cpu,
-        _movers: &Movers,
+        _movers: &[Pid],
         _steps: &mut Steps<L>,
     ) {}
 

@@ -9,4 +9,4 @@ pub returns : goal.returns
 returns c =
     let told = map mover_of (queued_among c.args.table.now.tasks c.args.cpu) in
     let is : c.tell.new.movers.items ≡ told = c.tell.ensures.told ∙ ap (λ (old : List (ℕ × ℕ)). old ++ told) c.new-tasks.ensures in
-    record { told = subst (λ (tasks : List (ℕ × ℕ)). AreTold tasks c.tell_by_stamp.new.movers.items) is c.tell_by_stamp.ensures.told }
+    record { told = subst (λ (tasks : List (ℕ × ℕ)). AreTold tasks c.tell_by_stamp.new.movers) (c.as_mut_slice.ensures.value ∙ is) c.tell_by_stamp.ensures.told }
