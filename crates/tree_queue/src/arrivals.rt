@@ -5,16 +5,20 @@ ghost use Rattle.std.specs.Prelude.{◌≡◌, ◌+◌, ◌^◌, ◌<◌, ◌≤
 ghost use Rattle.core_lanes.specs.Queued.{queued_among, mover_of, AreTold};
 ghost use Rattle.tree_queue.specs.Arrivals.{AreAmong, AreBelow};
 
-use core_lanes::{Movers, is_on};
+use arrayvec::ArrayVec;
+use core_lanes::{MOST_TASKS, is_on};
 use cs_types::{Cpu, OutOfMemory, Pid};
 use std::alloc::Global;
 use task_table::TaskTable;
+
+/// The pids of some tasks.
+type Movers = ArrayVec<Pid, MOST_TASKS>;
 
 /// Tasks that came to a queue, each in its turn. Of those that left since nothing is taken out.
 #[derive(Drop)]
 pub struct Arrivals {
     /// The pids of those that came all at once, by the last move.
-    moved: Movers,
+    moved: Vec<Pid>,
     /// The stamp of the first of these. Those of the others follow in a row.
     base: u64,
     /// The stamps and the pids of those that came one by one since.
@@ -22,10 +26,11 @@ pub struct Arrivals {
 }
 
 impl Arrivals {
-    /// None, with places for twice as many as the queue can take. This call alone takes memory.
+    /// None, with places for as many as the queue can take, which move to it, and for twice as many that come one by
+    /// one. This call alone takes memory.
     pub fn with_capacity(alloc: Global, most: u16) -> Result<Arrivals, OutOfMemory> {
         Ok(Arrivals {
-            moved: Movers::new(),
+            moved: Vec::with_capacity(alloc, usize::from(most))?,
             base: 0,
             entries: Vec::with_capacity(alloc, 2 * usize::from(most))?,
         })
@@ -47,22 +52,25 @@ impl Arrivals {
         self.entries.clear();
     }
 
-    /// The tasks that were told moved, in that order, and the stamps that they have in the table are in a row.
-    pub fn renew(&mut self, table: &TaskTable, movers: &Movers) {
+    /// The tasks that were told moved, in that order, and the stamps that they have in the table are in a row. None
+    /// is kept where there are not places for all. It takes no memory.
+    pub fn renew(&mut self, table: &TaskTable, movers: &[Pid]) {
         self.clear();
         self.base = first_stamp(table, movers);
-        let _fits = self.moved.try_extend_from_slice(movers);
+        if movers.len() <= self.moved.capacity() {
+            let _fits = self.moved.extend_from_slice(movers);
+        }
     }
 
-    /// Tells the tasks that are queued on the sibling, `count` of them, by rising stamp, in a list that has none yet.
-    /// `false` where these are not all among those that are kept, or where far more are kept than there are: to look
-    /// these up would take longer than to ask the trees. Then it tells none.
-    pub fn tell(&self, table: &TaskTable, cpu: Cpu, count: usize, movers: &mut Movers) -> bool
-        requires none { movers.old.items ≡ [] }
+    /// Tells the tasks that are queued on the sibling, `count` of them, by rising stamp, in a list that has as many
+    /// places. `false` where these are not all among those that are kept, or where far more are kept than there are: to
+    /// look these up would take longer than to ask the trees. Then it tells none, and the list is as it was.
+    pub fn tell(&self, table: &TaskTable, cpu: Cpu, count: usize, movers: &mut [Pid]) -> bool
+        requires each { length movers.old ≡ count }
         requires count { count ≡ length (queued_among table.now.tasks cpu) }
         requires few { count ≤ 256 }
-        ensures told { IsTrue result → AreTold (map mover_of (queued_among table.now.tasks cpu)) movers.new.items }
-        ensures none { result ≡ false → movers.new.items ≡ [] }
+        ensures told { IsTrue result → AreTold (map mover_of (queued_among table.now.tasks cpu)) movers.new }
+        ensures stays { result ≡ false → movers.new ≡ movers.old }
     {
         if self.moved.len() + self.entries.len() > 2 * count + 16 {
             return false;
@@ -70,18 +78,19 @@ impl Arrivals {
         let Some(past) = self.base.checked_add(self.moved.len() as u64) else {
             return false;
         };
-        tell_moved(&self.moved, self.base, table, cpu, movers);
-        tell_entries(&self.entries, past, table, cpu, count, movers);
-        if movers.len() == count {
+        let mut told = Movers::new();
+        tell_moved(&self.moved, self.base, table, cpu, &mut told);
+        tell_entries(&self.entries, past, table, cpu, count, &mut told);
+        if told.len() == count {
+            movers.copy_from_slice(&told);
             return true;
         }
-        movers.clear();
         false
     }
 }
 
 /// The stamp of the first task that was told, 0 where there is none.
-fn first_stamp(table: &TaskTable, movers: &Movers) -> u64 {
+fn first_stamp(table: &TaskTable, movers: &[Pid]) -> u64 {
     let Some(pid) = movers.first() else {
         return 0;
     };
@@ -92,15 +101,14 @@ fn first_stamp(table: &TaskTable, movers: &Movers) -> u64 {
 }
 
 /// Tells those of the tasks that are queued on the sibling since they moved, in a list that has none yet. The first got
-/// the stamp `base` then, and those of the others follow in a row.
+/// the stamp `base` then, and those of the others follow in a row. It tells no more than the list can take.
 fn tell_moved(moved: &[Pid], base: u64, table: &TaskTable, cpu: Cpu, movers: &mut Movers)
     requires none { movers.old.items ≡ [] }
-    requires few { length moved.now ≤ 256 }
     requires low { base + length moved.now < 2 ^ 64 }
     ensures below { AreBelow (map mover_of (queued_among table.now.tasks cpu)) (base + length moved.now) movers.new.items }
 {
     for (place, pid) in moved.iter().enumerate() {
-        if is_there(table, cpu, base + place as u64, *pid) {
+        if movers.len() < MOST_TASKS && is_there(table, cpu, base + place as u64, *pid) {
             movers.push(*pid);
         }
     }

@@ -1,7 +1,7 @@
 //! The queue with trees: each question is answered from the ordered trees of a run queue, and the table tells the
 //! task of a pid.
 
-ghost use Rattle.std.specs.Prelude.{◌≡◌, ◌≤◌, [], map, IfOk};
+ghost use Rattle.std.specs.Prelude.{◌≡◌, ◌≤◌, [], length, map, IfOk};
 ghost use Rattle.std.specs.FinMap.{entries, len};
 ghost use Rattle.core_lanes.specs.Queued.{AreTold};
 ghost use Rattle.run_queue.specs.Classes.{stamped};
@@ -12,8 +12,8 @@ use crate::first::{enter, find_first, find_first_with, give_cookie, is_of};
 use crate::renewed::Renewed;
 use crate::task::{KINDS, LOTS, kind_of, lot_of};
 use crate::told_tasks::ToldTasks;
-use core_lanes::{Movers, SiblingQueue, is_on, queued_of, task_of, tell_by_stamp};
-use cs_types::{Cookie, Cpu, OutOfMemory, Queued, Steps, Task};
+use core_lanes::{SiblingQueue, is_on, queued_of, task_of, tell_by_stamp};
+use cs_types::{Cookie, Cpu, OutOfMemory, Pid, Queued, Steps, Task};
 use run_queue::RunQueue;
 use std::alloc::Global;
 use std::sync::ledger::Ledger;
@@ -114,7 +114,7 @@ impl SiblingQueue for TreeQueue {
         self.lots = [0; LOTS];
     }
 
-    fn tell_into(&self, table: &TaskTable, cpu: Cpu, movers: &mut Movers) {
+    fn tell_into(&self, table: &TaskTable, cpu: Cpu, movers: &mut [Pid]) {
         let count = self.run.count() as usize;
         if self.arrivals.tell(table, cpu, count, movers) {
             return;
@@ -126,7 +126,7 @@ impl SiblingQueue for TreeQueue {
         &mut self,
         table: &TaskTable,
         _cpu: Cpu,
-        movers: &Movers,
+        movers: &[Pid],
         steps: &mut Steps<L>,
     ) {
         self.run.renew(&Renewed { table }, steps);
@@ -209,16 +209,16 @@ fn run_with_room(alloc: Global, most: u16) -> Result<RunQueue, OutOfMemory>
     Ok(run)
 }
 
-/// Tells the tasks of the trees by rising stamp, in a list that has none yet. It is seldom called, since most tasks
-/// are told by their arrivals.
+/// Tells the tasks of the trees by rising stamp, in a list that has as many places. It is seldom called, since most
+/// tasks are told by their arrivals.
 #[cold]
 #[inline(never)]
-fn tell_by_trees(run: &RunQueue, movers: &mut Movers)
-    requires none { movers.old.items ≡ [] }
+fn tell_by_trees(run: &RunQueue, movers: &mut [Pid])
+    requires each { length movers.old ≡ len run.now.tasks }
     requires few { len run.now.tasks ≤ 256 }
-    ensures told { AreTold (map stamped (entries run.now.tasks)) movers.new.items }
+    ensures told { AreTold (map stamped (entries run.now.tasks)) movers.new }
 {
     let mut told = ToldTasks::empty();
     run.tell_into(&mut told);
-    tell_by_stamp(&mut told.tasks, movers);
+    tell_by_stamp(told.tasks.as_mut_slice(), movers);
 }

@@ -1,4 +1,4 @@
-use Rattle.std.proofs.Common.{◌≡◌, ℕ, List, [], ◌∷◌, map, refl, sym, ap, ◌∙◌, subst, arith}
+use Rattle.std.proofs.Common.{◌≡◌, ℕ, List, [], ◌∷◌, map, length, refl, sym, ap, ◌∙◌, subst, arith}
 use Rattle.std.specs.FinMap.{entries}
 use Rattle.std.specs.List.Sorted.{IsPermutation}
 use Rattle.std.proofs.lemmas.List.Sorted.{IsPermutation-map}
@@ -21,7 +21,7 @@ pub tell-requires : goal.tell-requires
 tell-requires c =
     let tasks = queued_among c.args.table.now.tasks c.args.cpu in
     record {
-      none = c.requires.none;
+      each = omega (arith, c.requires.each, c.count-count.ensures, many_queued tasks c.requires.holds.trees);
       count = c.count-count.ensures ∙ many_queued tasks c.requires.holds.trees;
       few = omega (arith, c.count-count.ensures, many_queued tasks c.requires.holds.trees, c.requires.few);
     }
@@ -30,7 +30,7 @@ pub tell_by_trees-requires : goal.tell_by_trees-requires
 tell_by_trees-requires c =
     let tasks = queued_among c.args.table.now.tasks c.args.cpu in
     record {
-      none = c.tell.ensures.none c.if-tell.false;
+      each = omega (arith, ap length (c.tell.ensures.stays c.if-tell.false), many_queued tasks c.requires.holds.trees, c.requires.each);
       few = omega (arith, many_queued tasks c.requires.holds.trees, c.requires.few);
     }
 
@@ -45,4 +45,4 @@ returns c =
     let held = c.args.self.now.run.tasks in
     let same = subst (λ (m : Seats). IsPermutation seats (entries m)) (sym trees.seats) (entries-seated (map queued_of tasks) trees.distinct) in
     let told = subst (λ (movers : List (ℕ × ℕ)). IsPermutation movers (map stamped (entries held))) (told_is tasks) (IsPermutation-map stamped seats (entries held) same) in
-    record { told = told_alike (map mover_of tasks) (map stamped (entries held)) c.tell_by_trees.new.movers.items told c.tell_by_trees.ensures.told }
+    record { told = told_alike (map mover_of tasks) (map stamped (entries held)) c.tell_by_trees.new.movers told c.tell_by_trees.ensures.told }
