@@ -14,7 +14,7 @@ use Rattle.scenario_text.specs.declared.fault.ReadFault.{ReadFault}
 use Rattle.scenario_text.specs.declared.fault.ReadFault.TheVariants.{Bad, OutOfMemory}
 use Rattle.scenario_text.specs.declared.head.Head.{Head}
 use Rattle.scenario_text.specs.Words.{Word, task_words, teach_words}
-use Rattle.scenario_text.specs.Text.{step_words, end_words, scenario_lines, scenario_text}
+use Rattle.scenario_text.specs.Text.{step_words, end_words, scenario_lines}
 use Rattle.scenario_text.specs.Faults.{lines_in, is_named, named, IsFirstBad}
 use Rattle.scenario_text.specs.Reader.{IsTextOf, HasNoScenario, HasOneScenario}
 use Rattle.scenario_text.specs.Grammar.{task_form, teach_form}

@@ -1,13 +1,10 @@
-use Rattle.std.proofs.Common.{◌≡◌, ℕ, List, ◌++◌, map, sym, ap, ◌∙◌, subst, arith}
+use Rattle.std.proofs.Common.{ℕ, List, ◌++◌, map, sym, ap, subst, arith}
 use Rattle.std.specs.List.Sorted.{IsPermutation}
-use Rattle.std.specs.FinMap.{empty, entries, len, len-empty}
-use Rattle.cs_types.specs.Queue.{Members, Seated, key_cmp}
+use Rattle.std.specs.FinMap.{entries, len}
+use Rattle.cs_types.specs.Queue.{Seated}
 use Rattle.order_tree.specs.Rank.{stamped as ranked_stamp}
 use Rattle.run_queue.proofs.Seats.{len-joined, length-told, told-joined, told-next}
 use Rattle.run_queue.proofs.classes.Classes.tell_into.Goals as goal
-
-none : (members : Members) → members ≡ empty → len members ≡ 0
-none members is = ap len is ∙ len-empty key_cmp ℕ
 
 -- ---- the calls, which tell no more than all
 
