@@ -4,7 +4,7 @@ use Rattle.std.proofs.lemmas.Fmt.{decimal_digit, decimal_step}
 use Rattle.std.proofs.lemmas.List.{length-append}
 use Rattle.std.specs.Prelude.{codes, decimal}
 use Rattle.scenario_text.specs.Words.{Word}
-use Rattle.scenario_text.specs.Text.{spaced, line}
+use Rattle.scenario_text.specs.Text.{spaced}
 
 -- a piece is put after what is there
 pub put : (old new piece all : List ℕ) → old ≡ all → new ≡ old ++ piece → new ≡ all ++ piece

@@ -6,7 +6,6 @@ ghost use Rattle.scenario_text.specs.Words.{policy_word, made_words, actor_word,
 ghost use Rattle.scenario_text.specs.Text.{line_room, spaced, entry_text};
 
 use super::replies::lone_word;
-use arrayvec::ArrayString;
 use cs_types::{Actor, Ask, Cpu, Entry, Event, Kind, Pick, Pid, Policy, Reply};
 use itoa::{Buffer, Integer};
 use std::marker::Model;
@@ -17,15 +16,20 @@ const ROOM: usize = 152;
 /// What is on a line so far. It lies on the stack, and can take 152 bytes.
 #[derive(Drop)]
 pub struct Line {
-    text: ArrayString<ROOM>,
+    places: [u8; ROOM],
+    /// How many bytes are on it. They stand in the first places.
+    count: usize,
 }
 
 impl Model for Line {
-    ghost use Rattle.std.specs.Prelude.{ℕ, List};
+    ghost use Rattle.std.specs.Prelude.{ℕ, List, take, ◌≤◌};
+    ghost use Rattle.scenario_text.specs.Text.{line_room};
 
     ghost Value = { List ℕ };
 
-    ghost view = { λ line. line.text.bytes };
+    ghost view = { λ line. take line.count line.places };
+
+    ghost invariant = { λ line. line.count ≤ line_room };
 }
 
 impl Line {
@@ -34,7 +38,8 @@ impl Line {
         ensures { result ≡ [] }
     {
         Line {
-            text: ArrayString::new(),
+            places: [0; ROOM],
+            count: 0,
         }
     }
 
@@ -42,14 +47,14 @@ impl Line {
     pub fn clear(&mut self)
         ensures { self.new ≡ [] }
     {
-        self.text.clear();
+        self.count = 0;
     }
 
     /// What is on the line.
     pub fn as_bytes(&self) -> &[u8]
         ensures { result.now ≡ self.now }
     {
-        self.text.as_str().as_bytes()
+        &self.places[..self.count]
     }
 
     /// Puts the whole entry on the line, on which there is nothing yet, with its line feed.
@@ -392,7 +397,8 @@ impl Line {
         requires { (digit < 10) × (length self.old + 1 ≤ line_room) }
         ensures { self.new ≡ self.old ++ (48 + digit) ∷ [] }
     {
-        self.text.push((b'0' + digit as u8) as char);
+        self.places[self.count] = b'0' + digit as u8;
+        self.count += 1;
     }
 
     /// A text as it is.
@@ -401,6 +407,9 @@ impl Line {
         ensures text { self.new ≡ self.old ++ text.now }
         ensures len { length self.new ≡ length self.old + length text.now }
     {
-        self.text.push_str(text);
+        let text = text.as_bytes();
+        let end = self.count + text.len();
+        self.places[self.count..end].copy_from_slice(text);
+        self.count = end;
     }
 }
