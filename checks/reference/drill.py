@@ -10,11 +10,11 @@ Usage: drill.py SEED                       prints the output of the drill
 import argparse
 import os
 import random
-import subprocess
 import sys
 from concurrent.futures import ProcessPoolExecutor
 
 sys.path.insert(0, os.path.dirname(os.path.abspath(__file__)))
+import fuzz
 import reference
 
 TASKS, STEPS, MOST = 24, 20000, 4294967295
@@ -113,19 +113,17 @@ def lists(count, rng):
     return made[:count]
 
 
-def refused(program, words):
-    """Whether the program says that it does not know the words. It reads no input."""
-    run = subprocess.run([program, *words], stdin=subprocess.DEVNULL, capture_output=True, timeout=60)
-    if (run.returncode, run.stdout, run.stderr) == (1, b'', b'coresched: bad words\n'):
-        return True
-    wanted = [(0, b'')] if words[:1] == ['drill'] else [(2, b'coresched: line 1: Cut\n')]
-    assert (run.returncode, run.stderr) in wanted, (words, run)
-    return False
+def is_told(program, words):
+    """Whether the program refuses words that it does not know, and takes the others. It reads no input."""
+    status, output, error = fuzz.ran([program, *words])
+    if not known(words):
+        return (status, output, error) == (1, b'', b'coresched: bad words\n')
+    return (status, error) == ((0, b'') if words[0] == 'drill' else (2, b'coresched: line 1: Cut\n'))
 
 
-def ran(program, seed):
-    run = subprocess.run([program, 'drill', str(seed)], stdin=subprocess.DEVNULL, capture_output=True, timeout=60)
-    return (run.returncode, run.stdout, run.stderr) == (0, drilled(seed), b'')
+def is_drilled(program, seed):
+    """Whether the program prints the drill of a seed."""
+    return fuzz.ran([program, 'drill', str(seed)]) == (0, drilled(seed), b'')
 
 
 def main():
@@ -146,10 +144,10 @@ def main():
     rng = random.Random(args.seed)
     seeds = [0, MOST] + [rng.randrange(2**32) for _ in range(args.count)]
     with ProcessPoolExecutor() as pool:
-        same = list(pool.map(ran, [args.program] * args.count, seeds[:args.count]))
+        same = list(pool.map(is_drilled, [args.program] * args.count, seeds[:args.count]))
     wrong = [seed for seed, is_same in zip(seeds, same) if not is_same]
     words = lists(args.lists, rng)
-    other = [one for one in words if refused(args.program, one) == known(one)]
+    other = [one for one in words if not is_told(args.program, one)]
     print('drills: %d, %d wrong%s; lists of words: %d, %d wrong%s' % (
         len(same), len(wrong), ''.join(' %d' % seed for seed in wrong), len(words), len(other), ''.join(' %r' % one for one in other)))
     return 1 if wrong or other else 0

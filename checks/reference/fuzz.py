@@ -26,6 +26,8 @@ sys.path.insert(0, os.path.dirname(os.path.abspath(__file__)))
 import reference
 
 DIFFS = os.path.join(tempfile.gettempdir(), 'coresched-fuzz', 'diffs')
+# A run of the program that takes longer is wrong.
+SECONDS = 120
 IDS = '1000 1000 1000 1000 1000 1000 0 1 1'
 EDGES = [1, 1, 2, 3, 7, 10, 999, 1000, 1024, 5999999, 6000000, 6000001, 99999999, 100000000, 100000001, 1000000000]
 
@@ -767,6 +769,16 @@ def end_of(result):
     return result[2].decode().split()[-1] if result[0] else 'played'
 
 
+def ran(words, data=b''):
+    """How a command ended on an input: status, standard output and standard error. One that does not end in time has the
+    word timeout for its status, so it is no run that was wanted."""
+    try:
+        run = subprocess.run(words, input=data, capture_output=True, timeout=SECONDS)
+    except subprocess.TimeoutExpired:
+        return 'timeout', b'', b''
+    return run.returncode, run.stdout, run.stderr
+
+
 class Compare:
     """The program beside the reference."""
 
@@ -776,18 +788,11 @@ class Compare:
         self.stats = Counter()
         self.ends = Counter()
 
-    def program(self, data):
-        try:
-            r = subprocess.run([self.path, 'replay'], input=data, capture_output=True, timeout=120)
-            return r.returncode, r.stdout, r.stderr
-        except subprocess.TimeoutExpired:
-            return 'timeout', b'', b''
-
     def wanted(self, data):
         return reference.replay(data, self.stats)
 
     def one(self, name, data):
-        want, got = self.wanted(data), self.program(data)
+        want, got = self.wanted(data), ran([self.path, 'replay'], data)
         self.ends[end_of(want)] += 1
         if got != want:
             self.diffs += 1

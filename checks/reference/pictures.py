@@ -13,7 +13,6 @@ import glob
 import os
 import random
 import re
-import subprocess
 import sys
 import time
 import xml.dom.minidom
@@ -165,10 +164,6 @@ def compare(text, run):
             raise Wrong('not marked as exposed: %s to %s' % (told(begin), told(end)))
 
 
-def told_by(program, word, data):
-    return subprocess.run([program, word], input=data, capture_output=True, timeout=120)
-
-
 def long_run(rng, siblings, steps, most):
     """A scenario with many short stretches: tasks under cookies that are woken and blocked all the time."""
     lines = ['coresched 1', 'siblings %d' % siblings, 'limits 256 64 1048576']
@@ -204,17 +199,17 @@ def main():
     a = p.parse_args()
     began, drawn, wrong, most, stretches = time.time(), 0, 0, 0, 0
     for name, data in texts(a.count, a.seed):
-        picture, segments = told_by(a.program, 'picture', data), told_by(a.program, 'segments', data)
+        (status, picture, error), segments = fuzz.ran([a.program, 'picture'], data), fuzz.ran([a.program, 'segments'], data)
         try:
-            if picture.returncode != segments.returncode or picture.stderr != segments.stderr:
-                raise Wrong('ends with %d, and segments with %d' % (picture.returncode, segments.returncode))
-            if picture.returncode:
+            if (status, error) != (segments[0], segments[2]) or status not in (0, 2):
+                raise Wrong('ends with %s, and segments with %s' % (status, segments[0]))
+            if status:
                 continue
             drawn += 1
-            most = max(most, len(picture.stdout))
-            run = Run(segments.stdout)
+            most = max(most, len(picture))
+            run = Run(segments[1])
             stretches += len(run.stretches)
-            compare(picture.stdout, run)
+            compare(picture, run)
         except Wrong as it:
             wrong += 1
             base = fuzz.kept('pictures-seed%d-%d' % (a.seed, wrong))

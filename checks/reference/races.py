@@ -12,7 +12,6 @@ import argparse
 import os
 import random
 import shlex
-import subprocess
 import sys
 import time
 from concurrent.futures import ThreadPoolExecutor
@@ -20,12 +19,6 @@ from concurrent.futures import ThreadPoolExecutor
 sys.path.insert(0, os.path.dirname(os.path.abspath(__file__)))
 import fuzz
 import reference
-
-
-def raced(program, data):
-    """How a race of this text ended, by the words of the program: status, standard output, standard error."""
-    result = subprocess.run([*program, 'race'], input=data, capture_output=True, timeout=120)
-    return result.returncode, result.stdout, result.stderr
 
 
 def scripts(steps):
@@ -69,7 +62,7 @@ def main():
     with ThreadPoolExecutor(a.beside) as pool:
         for k in range(a.count):
             data = fuzz.scenario(random.Random('%d/%d' % (a.seed, k)))
-            runs = list(pool.map(lambda _: raced(program, data), range(a.runs)))
+            runs = list(pool.map(lambda _: fuzz.ran([*program, 'race'], data), range(a.runs)))
             told = [judged(data, run) for run in runs]
             wrong += sum(fault is not None for fault, _ in told)
             for (fault, _), run in zip(told, runs):

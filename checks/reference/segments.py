@@ -11,7 +11,6 @@ import argparse
 import json
 import os
 import random
-import subprocess
 import sys
 import time
 
@@ -94,11 +93,6 @@ def sums(rows, siblings):
     return [*text, 'total %d' % total]
 
 
-def ran(program, word, data):
-    run = subprocess.run([program, word], input=data, capture_output=True, timeout=120)
-    return run.returncode, run.stdout, run.stderr
-
-
 def row_of(line):
     """A row of the table as it is read."""
     begin, end, sibling, state, cookie, pending, forced, pid = line.split('\t')
@@ -109,16 +103,18 @@ def row_of(line):
 def faults(program, text):
     """What is wrong with the program's answers to a text, and whether it was played."""
     status, rows, error = ended(text)
-    as_table, as_lines = ran(program, 'segments', text), ran(program, 'segments-json', text)
+    as_table, as_lines, as_sums = (fuzz.ran([program, word], text) for word in ('segments', 'segments-json', 'summary'))
     found = []
     if as_table != (status, b'' if status else table(rows), error):
         found.append('segments')
     if as_lines != (status, b'' if status else lines(rows), error):
         found.append('segments-json')
+    if as_sums[0] != status:
+        found.append('the end of the summary')
     if status == 0 and not found:
         read = [row_of(line) for line in as_table[1].decode().splitlines()[1:]]
         spoken = [list(json.loads(line).values()) for line in as_lines[1].decode().splitlines()]
-        summary = [line for line in ran(program, 'summary', text)[1].decode().splitlines() if line.split()[0] in ('cpu', 'forced', 'total')]
+        summary = [line for line in as_sums[1].decode().splitlines() if line.split()[0] in ('cpu', 'forced', 'total')]
         if not has_no_gap(read, int(summary[-1].split()[1])):
             found.append('a gap')
         if sums(read, len(summary) // 2) != summary:

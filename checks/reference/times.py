@@ -10,7 +10,6 @@ import argparse
 import itertools
 import os
 import random
-import subprocess
 import sys
 import time
 from collections import Counter
@@ -136,14 +135,9 @@ def summarized(data):
     return 0, summary(reference.read(data)), b''
 
 
-def ran(program, data):
-    run = subprocess.run([program, 'summary'], input=data, capture_output=True, timeout=120)
-    return run.returncode, run.stdout, run.stderr
-
-
 def refused(program, words):
-    run = subprocess.run([program, *words], stdin=subprocess.DEVNULL, capture_output=True, timeout=60)
-    return (run.returncode, run.stdout, run.stderr) == (1, b'', b'coresched_view: bad words\n')
+    """Whether the program says that it does not know the words. It reads no input."""
+    return fuzz.ran([program, *words]) == (1, b'', b'coresched_view: bad words\n')
 
 
 def main():
@@ -163,7 +157,7 @@ def main():
         rng = random.Random('times %d/%d' % (a.seed, k))
         data = fuzz.scenario(rng)
         for kind, text in (('', data), ('-mutated', fuzz.mutate(rng, data))):
-            want, got = summarized(text), ran(a.program, text)
+            want, got = summarized(text), fuzz.ran([a.program, 'summary'], text)
             played += want[0] == 0
             exposed += b'exposed' in want[1] and b'exposed 0 ' not in want[1]
             if got != want:
