@@ -400,6 +400,15 @@ def scenario(rng):
     return Gen(rng).make()
 
 
+def each_text(kind, count, seed):
+    """So many random scenarios and as many mutated texts of a kind, each with its name. A seed has the same each time."""
+    for k in range(count):
+        rng = random.Random('%s %d/%d' % (kind, seed, k))
+        data = scenario(rng)
+        yield '%s-seed%d-%d' % (kind, seed, k), data
+        yield '%s-seed%d-%d-mutated' % (kind, seed, k), mutate(rng, data)
+
+
 # ---------------------------------------------------------------- mutations
 
 WORDS = [b'', b'0', b'1', b'2', b'7', b'8', b'9', b'-0', b'+1', b'-1', b'01', b'00', b'1x', b'x', b'1 ', b'\xff', b'\xc3\xa9',

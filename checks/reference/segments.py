@@ -10,7 +10,6 @@ Usage: segments.py                            prints the segments of the scenari
 import argparse
 import json
 import os
-import random
 import sys
 import time
 
@@ -137,18 +136,15 @@ def main():
         sys.stderr.buffer.write(error)
         return status
     began, wrong, played, told = time.time(), 0, 0, 0
-    for k in range(a.count):
-        rng = random.Random('segments %d/%d' % (a.seed, k))
-        data = fuzz.scenario(rng)
-        for kind, text in (('', data), ('-mutated', fuzz.mutate(rng, data))):
-            found, is_played, count = faults(a.program, text)
-            played += is_played
-            told += count
-            if found:
-                wrong += 1
-                base = fuzz.kept('segments-seed%d-%d%s' % (a.seed, k, kind))
-                fuzz.write(base + '.scenario', text)
-                print('WRONG: %s.scenario: %s' % (base, ', '.join(found)))
+    for name, text in fuzz.each_text('segments', a.count, a.seed):
+        found, is_played, count = faults(a.program, text)
+        played += is_played
+        told += count
+        if found:
+            wrong += 1
+            base = fuzz.kept(name)
+            fuzz.write(base + '.scenario', text)
+            print('WRONG: %s.scenario: %s' % (base, ', '.join(found)))
     print('segments, seed %d: %d texts, %d played with %d stretches, %d wrong; %.0f s' % (a.seed, 2 * a.count, played, told, wrong, time.time() - began))
     return 1 if wrong else 0
 

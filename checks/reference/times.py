@@ -9,7 +9,6 @@ Usage: times.py                            prints the summary of the scenario on
 import argparse
 import itertools
 import os
-import random
 import sys
 import time
 from collections import Counter
@@ -153,18 +152,15 @@ def main():
         sys.stderr.buffer.write(error)
         return status
     began, wrong, played, exposed = time.time(), 0, 0, 0
-    for k in range(a.count):
-        rng = random.Random('times %d/%d' % (a.seed, k))
-        data = fuzz.scenario(rng)
-        for kind, text in (('', data), ('-mutated', fuzz.mutate(rng, data))):
-            want, got = summarized(text), fuzz.ran([a.program, 'summary'], text)
-            played += want[0] == 0
-            exposed += b'exposed' in want[1] and b'exposed 0 ' not in want[1]
-            if got != want:
-                wrong += 1
-                base = fuzz.kept('times-seed%d-%d%s' % (a.seed, k, kind))
-                fuzz.write(base + '.scenario', text)
-                print('WRONG: %s.scenario\n  want %r\n  got  %r' % (base, want, got))
+    for name, text in fuzz.each_text('times', a.count, a.seed):
+        want, got = summarized(text), fuzz.ran([a.program, 'summary'], text)
+        played += want[0] == 0
+        exposed += b'exposed' in want[1] and b'exposed 0 ' not in want[1]
+        if got != want:
+            wrong += 1
+            base = fuzz.kept(name)
+            fuzz.write(base + '.scenario', text)
+            print('WRONG: %s.scenario\n  want %r\n  got  %r' % (base, want, got))
     taken = [words for words in WORDS if not refused(a.program, words)]
     print('times, seed %d: %d texts, %d played, %d of them exposed, %d wrong; lists of words: %d, %d wrong%s; %.0f s' % (
         a.seed, 2 * a.count, played, exposed, wrong, len(WORDS), len(taken), ''.join(' %r' % words for words in taken), time.time() - began))
