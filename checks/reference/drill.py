@@ -5,7 +5,8 @@ what it prints.
 
 Usage: drill.py SEED                       prints the output of the drill
        drill.py --text SEED                prints its scenario
-       drill.py --program PATH --count N --seed S    compares N drills, those of 0 and 4294967295 first, and 1,000 lists of words
+       drill.py --program PATH --count N --seed S --lists L    compares N drills, those of 0 and 4294967295 first, and L
+                                                               lists of words, 1,000 where it is not said
 """
 import argparse
 import os
@@ -138,6 +139,8 @@ def main():
     if args.text is not None:
         sys.stdout.write(text(args.text))
         return 0
+    if not args.program and args.drill is None:
+        p.error('a seed, --text or --program is needed')
     if not args.program:
         sys.stdout.buffer.write(drilled(args.drill))
         return 0
