@@ -21,6 +21,17 @@ import fuzz
 import reference
 
 
+def steps_of(data):
+    """The step lines of a scenario."""
+    return [line for line in data.decode().splitlines() if line.startswith('step ')]
+
+
+def in_order(data, order):
+    """The scenario with its step lines in this order, or with some of them."""
+    head = [line for line in data.decode().splitlines() if line != 'end' and not line.startswith('step ')]
+    return '\n'.join([*head, *order, 'end', '']).encode()
+
+
 def scripts(steps):
     """The step lines of each actor, in their order."""
     found = {}
@@ -39,13 +50,11 @@ def judged(data, run):
     """What is wrong with a run, or None; and the order of its steps."""
     if run[0] != 0:
         return (None if run == reference.replay(data) else 'it ended as a replay does not'), ()
-    lines = data.decode().splitlines()
-    steps = [line for line in lines if line.startswith('step ')]
     order = order_of(run[1])
-    if scripts(order) != scripts(steps):
+    if scripts(order) != scripts(steps_of(data)):
         return 'an actor did not make its own steps in their order', tuple(order)
-    text = '\n'.join([line for line in lines if line not in ('end',) and not line.startswith('step ')] + order + ['end', ''])
-    return (None if run == reference.replay(text.encode()) else 'a replay in its order writes something else'), tuple(order)
+    is_right = run == reference.replay(in_order(data, order))
+    return (None if is_right else 'a replay in its order writes something else'), tuple(order)
 
 
 def main():
