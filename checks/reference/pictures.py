@@ -16,6 +16,7 @@ import re
 import sys
 import time
 import xml.dom.minidom
+import xml.parsers.expat
 
 sys.path.insert(0, os.path.dirname(os.path.abspath(__file__)))
 import fuzz
@@ -43,6 +44,8 @@ def told(time):
 
 def thousandths(text):
     """A length of the page."""
+    if not re.fullmatch(r'[0-9]+(\.[0-9]{1,3})?', text):
+        raise Wrong('%r is no length' % text)
     whole, _, rest = text.partition('.')
     return int(whole) * 1_000 + int(rest.ljust(3, '0') or 0)
 
@@ -51,8 +54,9 @@ class Run:
     """A run as its segments tell it."""
 
     def __init__(self, text):
-        head, *lines = text.decode().splitlines()
-        assert head.split('\t') == COLUMNS, head
+        head, *lines = text.decode().splitlines() or ['']
+        if head.split('\t') != COLUMNS:
+            raise Wrong('the segments have the columns %r' % head)
         self.stretches = [self.stretch(dict(zip(COLUMNS, line.split('\t')))) for line in lines]
         self.total = max((it['to'] for it in self.stretches), default=0)
         self.siblings = 1 + max((it['sibling'] for it in self.stretches), default=0)
@@ -103,7 +107,10 @@ def words_of(node):
 def span_of(node):
     """From where to where a mark goes."""
     if node.nodeName == 'path':
-        place, width = re.match(r'M([0-9.]+) [0-9.]+h([0-9.]+)v', node.getAttribute('d')).groups()
+        path = re.match(r'M([0-9.]+) [0-9.]+h([0-9.]+)v', node.getAttribute('d'))
+        if not path:
+            raise Wrong('a path of another form: %s' % node.getAttribute('d')[:80])
+        place, width = path.groups()
     else:
         place, width = node.getAttribute('x'), node.getAttribute('width')
     return thousandths(place), thousandths(place) + thousandths(width)
@@ -113,7 +120,10 @@ class Picture:
     """A picture by its marks."""
 
     def __init__(self, text):
-        self.root = xml.dom.minidom.parseString(text).documentElement
+        try:
+            self.root = xml.dom.minidom.parseString(text).documentElement
+        except xml.parsers.expat.ExpatError as fault:
+            raise Wrong('no XML: %s' % fault)
         groups = self.root.getElementsByTagName('g')
         self.lanes = [it for it in groups if it.getAttribute('class') == 'l']
         self.pending = [[span_of(mark) for mark in it.getElementsByTagName('rect')] for it in groups if it.getAttribute('class') == 'p']
