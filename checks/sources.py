@@ -1,5 +1,6 @@
 """What the crates declare, as it stands in their sources: the definitions and lemmas of specs/ and proofs/ (.antt),
-and the items of src/ (.rt). checks/reading_list and checks/documents stand on it; it is no program of its own.
+and the items of src/ (.rt). checks/reading_list, checks/documents and checks/gate_time stand on it; it is no program
+of its own.
 """
 
 import os
