@@ -73,56 +73,80 @@ def charges(room, left_with):
     return charged, counts_for, by_cookie
 
 
+class Times:
+    """What is told of a scenario's replay: the time of each sibling, task, cookie and pair by what it did, and the room at
+    the end of it."""
+
+    def __init__(self, scenario):
+        self.room = reference.Room(scenario, check=False)
+        self.siblings = [dict.fromkeys(['ran', 'idle', 'offline', 'cookie', 'none', 'pending'], 0) for _ in self.room.sib]
+        self.tasks, self.cookies, self.left_with, self.pairs = {}, {}, {}, {}
+        self.exposed = self.lasting = self.longest = self.pending = self.total = 0
+        for _, event, text in scenario.steps:
+            if event[0] == 'advance':
+                self.pass_time(event[1])
+            left = leaving(self.room, event)
+            self.room.apply(event, text)
+            if left is not None and left[0] not in self.room.tasks:
+                self.left_with[left[0]] = left[1]
+        self.room.drain()
+
+    def pass_time(self, delta):
+        """Adds so many ns to the time of what each sibling and each task does."""
+        room = self.room
+        self.total += delta
+        for sibling, times in zip(room.sib, self.siblings):
+            times[doing(room, sibling)] += delta
+            times['pending'] += delta * (sibling.online and sibling.pending)
+        for task in room.tasks.values():
+            for times in self.tasks.setdefault(task.pid, Counter()), self.cookies.setdefault(task.cookie, Counter()):
+                times[task_doing(room, task)] += delta
+        self.pending += delta * any(sibling.online and sibling.pending for sibling in room.sib)
+        running = sorted({sibling.run.cookie for sibling in room.sib if sibling.online and sibling.run is not None})
+        is_exposed = len(running) > 1
+        for pair in itertools.combinations(running, 2):
+            self.pairs[pair] = self.pairs.get(pair, 0) + delta
+        self.exposed += delta * is_exposed
+        self.lasting = self.lasting + delta if is_exposed else 0
+        self.longest = max(self.longest, self.lasting)
+
+
+def lines_of_siblings(played):
+    for cpu, times in enumerate(played.siblings):
+        assert sum(times.values()) - times['pending'] == played.total, 'what a sibling did adds up to all time'
+        yield 'cpu %d ran %d idle %d offline %d pending %d' % (cpu, *(times[of] for of in ('ran', 'idle', 'offline', 'pending')))
+        yield 'forced %d cookie %d none %d' % (cpu, times['cookie'], times['none'])
+
+
+def lines_of_tasks(played, pids):
+    """The lines of the tasks and of the cookies. Those of the pids are in the scenario."""
+    charged, counts_for, by_cookie = charges(played.room, played.left_with)
+    for pid in sorted(played.tasks.keys() | {pid for pid, sum_of in charged.items() if sum_of}):
+        times = played.tasks.get(pid, Counter())
+        if pid in played.room.tasks and pid in pids:
+            assert sum(times.values()) == played.total, 'a task of the scenario that lives at the end lived all the time'
+        yield 'task %d ran %d waited %d slept %d charged %d cookie %d' % (
+            pid, times['ran'], times['waited'], times['slept'], charged[pid], counts_for[pid])
+    for cookie in sorted(played.cookies.keys() | {cookie for cookie, sum_of in by_cookie.items() if sum_of}):
+        times = played.cookies.get(cookie, Counter())
+        yield 'cookie %d ran %d waited %d slept %d charged %d' % (cookie, times['ran'], times['waited'], times['slept'], by_cookie[cookie])
+
+
+def lines_of_core(played):
+    assert played.exposed <= played.pending, 'tasks with distinct cookies run side by side only where a reschedule is pending'
+    assert all(0 < time <= played.exposed for time in played.pairs.values()), 'a pair is exposed for no longer than the core is'
+    yield 'exposed %d longest %d' % (played.exposed, played.longest)
+    for pair in sorted(played.pairs):
+        yield 'pair %d %d exposed %d' % (*pair, played.pairs[pair])
+    yield 'pending %d' % played.pending
+    yield replies(played.room)
+    yield 'total %d' % played.total
+
+
 def summary(scenario):
     """The text of what is told of a scenario's replay."""
-    room = reference.Room(scenario, check=False)
-    siblings = [dict.fromkeys(['ran', 'idle', 'offline', 'cookie', 'none', 'pending'], 0) for _ in room.sib]
-    tasks, cookies, left_with = {}, {}, {}
-    exposed = lasting = longest = pending = total = 0
-    pairs = {}
-    for _, event, text in scenario.steps:
-        if event[0] == 'advance':
-            delta = event[1]
-            total += delta
-            for sibling, times in zip(room.sib, siblings):
-                times[doing(room, sibling)] += delta
-                times['pending'] += delta * (sibling.online and sibling.pending)
-            for task in room.tasks.values():
-                for times in tasks.setdefault(task.pid, Counter()), cookies.setdefault(task.cookie, Counter()):
-                    times[task_doing(room, task)] += delta
-            pending += delta * any(sibling.online and sibling.pending for sibling in room.sib)
-            running = sorted({sibling.run.cookie for sibling in room.sib if sibling.online and sibling.run is not None})
-            is_exposed = len(running) > 1
-            for pair in itertools.combinations(running, 2):
-                pairs[pair] = pairs.get(pair, 0) + delta
-            exposed += delta * is_exposed
-            lasting = lasting + delta if is_exposed else 0
-            longest = max(longest, lasting)
-        left = leaving(room, event)
-        room.apply(event, text)
-        if left is not None and left[0] not in room.tasks:
-            left_with[left[0]] = left[1]
-    room.drain()
-    charged, counts_for, by_cookie = charges(room, left_with)
-    lines = []
-    for cpu, times in enumerate(siblings):
-        assert sum(times.values()) - times['pending'] == total, 'what a sibling did adds up to all time'
-        lines.append('cpu %d ran %d idle %d offline %d pending %d' % (cpu, *(times[of] for of in ('ran', 'idle', 'offline', 'pending'))))
-        lines.append('forced %d cookie %d none %d' % (cpu, times['cookie'], times['none']))
-    for pid in sorted(tasks.keys() | {pid for pid, total in charged.items() if total}):
-        times = tasks.get(pid, Counter())
-        if pid in room.tasks and any(pid == line[0] for line in scenario.tasks):
-            assert sum(times.values()) == total, 'a task of the scenario that lives at the end lived all the time'
-        lines.append('task %d ran %d waited %d slept %d charged %d cookie %d' % (
-            pid, times['ran'], times['waited'], times['slept'], charged[pid], counts_for[pid]))
-    for cookie in sorted(cookies.keys() | {cookie for cookie, total in by_cookie.items() if total}):
-        times = cookies.get(cookie, Counter())
-        lines.append('cookie %d ran %d waited %d slept %d charged %d' % (cookie, times['ran'], times['waited'], times['slept'], by_cookie[cookie]))
-    assert exposed <= pending, 'tasks with distinct cookies run side by side only where a reschedule is pending'
-    assert all(0 < time <= exposed for time in pairs.values()), 'a pair is exposed for no longer than the core is'
-    lines.append('exposed %d longest %d' % (exposed, longest))
-    lines += ['pair %d %d exposed %d' % (*pair, pairs[pair]) for pair in sorted(pairs)]
-    lines += ['pending %d' % pending, replies(room), 'total %d' % total]
+    played = Times(scenario)
+    lines = [*lines_of_siblings(played), *lines_of_tasks(played, {line[0] for line in scenario.tasks}), *lines_of_core(played)]
     return ''.join(line + '\n' for line in lines).encode()
 
 
