@@ -1,5 +1,5 @@
 -- Laws: what the rules come to, said without them.
-use Rattle.std.specs.Prelude.{◌≡◌, ◌≢◌, ◌↔◌, ℕ, ◌<◌, true, false, ◌⊎◌, List, [], map, length, count_by, All, Contains, IsTrue, Option, Some, None, IfSome, unwrap_or, ◌+◌, Bool, IsSomeAnd}
+use Rattle.std.specs.Prelude.{◌≡◌, ◌≢◌, ◌↔◌, ℕ, ◌<◌, true, false, ◌⊎◌, List, [], map, length, count_by, All, Contains, IsTrue, Option, Some, None, IfSome, unwrap_or, ◌+◌, Bool, IsSomeAnd, if◌then◌else◌}
 use Rattle.std.specs.Option.{option_map_or}
 use Rattle.cs_types.specs.declared.task.Task.{Task}
 use Rattle.cs_types.specs.declared.event.Event.{Event}
@@ -10,7 +10,7 @@ use Rattle.cs_types.specs.Order.{foremost, outranks, first_of}
 use Rattle.cs_types.specs.Selection.{is_run, first_on, cookie_of, pid_of, snapshot_of, choice, eligible, is_forced}
 use Rattle.cs_types.specs.declared.reply.Reply.{Reply}
 use Rattle.cs_types.specs.declared.reply.Reply.TheVariants.{Offline, Idle, HasThreads, NoTask, Awake, NoCaller, Refused, Already, NoGuard}
-use Rattle.cs_types.specs.Prctl.{is_create, asked_by_call}
+use Rattle.cs_types.specs.Prctl.{makes_cookie, asked_by_call}
 use Rattle.cs_types.specs.Guards.{asked_each}
 use Rattle.cs_types.specs.Touches.{scheduler_of, is_fresh}
 use Rattle.cs_types.specs.History.{Moment}
@@ -137,10 +137,10 @@ is_refused Already = true
 is_refused NoGuard = true
 is_refused reply = false
 
--- whether an event is a call of `prctl` that asks for a new cookie
-abbrev pub asks_for_cookie : Event → Bool
-asks_for_cookie (Prctl caller ask) = is_create ask
-asks_for_cookie event = false
+-- whether an event uses a serial: a call of `prctl` that makes a cookie, also where it is refused for a member afterwards
+abbrev pub uses_serial : RoomState → Event → Bool
+uses_serial room (Prctl caller ask) = makes_cookie room caller ask
+uses_serial room event = false
 
 -- the guards that an event asks, in the order of asking: only a call of `prctl` asks any
 abbrev pub asked_by : RoomState → Event → List ℕ
@@ -152,6 +152,5 @@ pub record LeavesTheRoom (before : RoomState) (event : Event) (now : RoomState) 
   pub same : now ≡ record before { next_cookie = now.next_cookie; guards = now.guards }
   -- Each guard that was asked counts that. Nothing else of a guard changes.
   pub asked : now.guards ≡ asked_each before.guards (asked_by before event)
-  -- The next cookie stays, or it is one further after a CREATE.
-  pub serial : (now.next_cookie ≡ before.next_cookie)
-      ⊎ ((asks_for_cookie event ≡ true) × (now.next_cookie ≡ before.next_cookie + 1))
+  -- The next cookie is one further exactly where the event uses a serial.
+  pub serial : now.next_cookie ≡ (if uses_serial before event then before.next_cookie + 1 else before.next_cookie)
