@@ -1,9 +1,9 @@
--- Leaves: what the leaving of a sibling makes of the siblings and of the tasks, each by itself.
-use Rattle.std.specs.Prelude.{◌≡◌, ◌≢◌, ℕ, ◌+◌, ◌*◌, ◌^◌, ◌<◌, ◌≤◌, ◌==◌, ◌||◌, if◌then◌else◌, List, [], map, length, All, IsTrue}
+-- Leaves: when the tasks of a sibling that leaves may move, and how one sibling changes.
+use Rattle.std.specs.Prelude.{◌≡◌, ◌≢◌, ℕ, ◌+◌, ◌*◌, ◌^◌, ◌<◌, ◌≤◌, List, [], length, All, IsTrue}
 use Rattle.cs_types.specs.declared.task.Task.{Task}
 use Rattle.cs_types.specs.Order.{is_fair}
-use Rattle.cs_types.specs.Room.{RoomState, SiblingState, queued_on, sibling_of}
-use Rattle.cs_types.specs.Hotplug.{away, moved_off, lowest_other}
+use Rattle.cs_types.specs.Room.{SiblingState, sibling_of}
+use Rattle.cs_types.specs.Hotplug.{lowest_other}
 use Rattle.task_table.specs.Table.{Table}
 use Rattle.core_lanes.specs.declared.queue.SiblingQueue.{Ghosts}
 use Rattle.core_lanes.specs.declared.lane.Lane.{Lane}
@@ -11,27 +11,11 @@ use Rattle.core_lanes.specs.declared.lanes.Core.{Core}
 use Rattle.core_lanes.specs.Queued.{queued_among}
 use Rattle.core_lanes.specs.Lanes.{Beside, lane_state, room_of, Agree, HasLowTimes}
 
--- a sibling becomes pending where it is online, since another leaves
-abbrev pub beside_one_that_leaves : SiblingState → SiblingState
-beside_one_that_leaves sibling = record sibling { pending = sibling.pending || sibling.online }
-
--- the sibling at a place once the one with the number left
-abbrev pub left : ℕ → ℕ × SiblingState → SiblingState
-left cpu place = if place.0 == cpu then away place.1 else beside_one_that_leaves place.1
-
 -- a sibling is another after this change, with its own number and its queue
 pub record ChangesLane {Q : Type 0} (old new : Lane Q) (change : SiblingState → SiblingState) : Type 0 where
   pub state : lane_state new ≡ change (lane_state old)
   pub number : new.number ≡ old.number
   pub queue : new.queue ≡ old.queue
-
--- the room once the tasks queued on the sibling moved to the lowest other online one
-abbrev pub move_off : RoomState → ℕ → RoomState
-move_off room cpu =
-    record room {
-      tasks = map (moved_off room cpu) room.tasks;
-      next_stamp = room.next_stamp + length (queued_on room cpu);
-    }
 
 -- no fair task of the list is behind this virtual time
 abbrev pub NoneBehind : ℕ → List Task → Type 0

@@ -4,11 +4,11 @@
 ghost use Rattle.std.specs.Prelude.{◌≡◌, ◌<◌, ◌≤◌, length, map};
 ghost use Rattle.std.specs.List.{enumerate_from};
 ghost use Rattle.cs_types.specs.Room.{online as siblings_online};
-ghost use Rattle.cs_types.specs.Hotplug.{lowest_other, away, back};
+ghost use Rattle.cs_types.specs.Hotplug.{lowest_other, away, stand_by, left, back};
 ghost use Rattle.task_table.specs.Table.{Table};
 ghost use Rattle.core_lanes.specs.Lanes.{Beside, room_of};
 ghost use Rattle.core_lanes.specs.Changes.{ChangesLanes};
-ghost use Rattle.cpu_hotplug.specs.Leaves.{beside_one_that_leaves, left, ChangesLane};
+ghost use Rattle.cpu_hotplug.specs.Leaves.{ChangesLane};
 
 use core_lanes::{Core, Lane, SiblingQueue};
 use cs_types::Cpu;
@@ -53,7 +53,7 @@ fn set_away<Q: Drop>(lane: &mut Lane<Q>)
 
 /// The sibling becomes pending where it is online, since another leaves.
 fn stand_by<Q: Drop>(lane: &mut Lane<Q>)
-    ensures { ChangesLane lane.old lane.new beside_one_that_leaves }
+    ensures { ChangesLane lane.old lane.new stand_by }
 {
     lane.pending |= lane.online;
 }

@@ -1,10 +1,11 @@
 //! How the tasks of a sibling that leaves come to another. It is apart, since it alone gives them new stamps.
 
 ghost use Rattle.std.specs.Prelude.{◌*◌, ◌<◌, length, IsTrue};
+ghost use Rattle.cs_types.specs.Hotplug.{move_off};
 ghost use Rattle.core_lanes.specs.Queued.{queued_among};
 ghost use Rattle.core_lanes.specs.Lanes.{AgreesAt};
 ghost use Rattle.core_lanes.specs.Changes.{Touches};
-ghost use Rattle.cpu_hotplug.specs.Leaves.{move_off, MayMoveOff, MayMoveAllTo, MovesWhole};
+ghost use Rattle.cpu_hotplug.specs.Leaves.{MayMoveOff, MayMoveAllTo, MovesWhole};
 
 use crate::away::lowest_other;
 use core_lanes::{Core, MOST_TASKS, SiblingQueue};

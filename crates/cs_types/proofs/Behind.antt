@@ -17,7 +17,7 @@ use Rattle.cs_types.specs.declared.reply.Entry.{Entry}
 use Rattle.cs_types.specs.Scenario.{IsEvent}
 use Rattle.cs_types.specs.Room.{RoomState, SiblingState, Waiting, absent, sibling_of, running_on, task_of, is_online, online, with_sibling, flag}
 use Rattle.cs_types.specs.Selection.{Scheduled, select, is_plain, pick_plain, pick_anew, adopt_or_pick_anew, schedule}
-use Rattle.cs_types.specs.Accounting.{charge}
+use Rattle.cs_types.specs.Accounting.{charge, without_interval}
 use Rattle.cs_types.specs.Time.{advanced}
 use Rattle.cs_types.specs.Prctl.{Setting, setting_of, asked_by_call, runs_one, makes_cookie, with_used, with_answer, prctl_answer}
 use Rattle.cs_types.specs.Step.{Stepped, step, picked, wake, turn, try_steal, run_idle, block, without, has_threads, exit, may_not_fork, fork, tick, unless_offline, set_policy, take_offline, bring_online}
@@ -65,8 +65,7 @@ leaves-pick_anew : (own : ℕ → ℕ) (pick : ℕ) (room : RoomState) (cpu : �
     Leaves own pick cpu (pick_anew room cpu)
 leaves-pick_anew own pick room cpu below up behind =
     cond_both (is_plain room cpu) (pick_plain room cpu) (select room cpu) (Leaves own pick cpu)
-    (λ _. let calm : RoomState = record room { forced = 0; occupation = 0; started = None } in
-    record { gone = written calm cpu _ below refl; others = λ _. behind-with_sibling own pick calm cpu _ tt behind })
+    (λ _. record { gone = written (without_interval room) cpu _ below refl; others = λ _. behind-with_sibling own pick (without_interval room) cpu _ tt behind })
     (λ _. record { gone = (selected_keeps_law room cpu below up).selector.nothing_waits; others = λ unselected. absurd cc })
 
 leaves-adopt_or_pick_anew : (own : ℕ → ℕ) (pick : ℕ) (room : RoomState) (fresh : Bool) (cpu : ℕ) (waiting : Waiting) → cpu < length room.siblings → is_online room cpu ≡ true →

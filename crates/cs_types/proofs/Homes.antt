@@ -21,7 +21,7 @@ use Rattle.cs_types.specs.Prctl.{asked_by_call, Setting, setting_of, is_set, mak
 use Rattle.cs_types.specs.Step.{Stepped, step, wake, block, exit, fork, turn, without, has_threads, child_of, child_at_home, may_not_fork, with_child, tick, run_idle, try_steal, unless_offline, set_policy, take_offline, bring_online}
 use Rattle.cs_types.specs.Queueing.{dequeue, moved_to, rehomed, queue_at_home}
 use Rattle.cs_types.specs.Steal.{source_of, stolen, may_steal}
-use Rattle.cs_types.specs.Hotplug.{away, back, lowest_other, leave, with_sibling_back}
+use Rattle.cs_types.specs.Hotplug.{away, stand_by, left, back, lowest_other, leave, with_sibling_back}
 use Rattle.cs_types.specs.Accounting.{charge}
 use Rattle.cs_types.specs.Time.{with_growth, least_of, advanced}
 use Rattle.cs_types.proofs.Foremost.{find_passes}
@@ -247,12 +247,12 @@ housed-set_policy room policy pid (Some task) found housed =
 
 -- what holds of each sibling once one has left
 pub sibling_of-without : (P : SiblingState → Type 0) (room : RoomState) (cpu other : ℕ) → (sibling_of room other ≡ absent → P absent) → (other ≡ cpu → P (away (sibling_of room other))) →
-    (other ≢ cpu → P (record (sibling_of room other) { pending = (sibling_of room other).pending || (sibling_of room other).online })) →
+    (other ≢ cpu → P (stand_by (sibling_of room other))) →
     P (sibling_of (leave room cpu) other)
 unfolding leave
 sibling_of-without P room cpu other past here there =
-    enumerated_at P (λ place. cond (place.0 == cpu) (away place.1) (record place.1 { pending = place.1.pending || place.1.online })) 0 room.siblings other past
-    (subst (λ n. P (cond (n == cpu) (away (sibling_of room other)) (record (sibling_of room other) { pending = (sibling_of room other).pending || (sibling_of room other).online }))) (omega arith)
+    enumerated_at P (left cpu) 0 room.siblings other past
+    (subst (λ n. P (cond (n == cpu) (away (sibling_of room other)) (stand_by (sibling_of room other)))) (omega arith)
     (cond_both (other == cpu) _ _ P (λ same. here (eqb-true other cpu same)) (λ isnt. there (eqb-false other cpu isnt))))
 
 length-leave : (room : RoomState) (cpu : ℕ) → length (leave room cpu).siblings ≡ length room.siblings

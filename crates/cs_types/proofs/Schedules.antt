@@ -7,7 +7,7 @@ use Rattle.cs_types.specs.declared.task.Task.{Task}
 use Rattle.cs_types.specs.Room.{RoomState, SiblingState, Waiting, queued_on, sibling_of, is_online, with_sibling}
 use Rattle.cs_types.specs.Order.{first_of}
 use Rattle.cs_types.specs.Selection.{first_on, queued_with, cookie_of, pid_of, choice, lead_from, is_run, running, select_for, select, pick_plain, is_plain, pick_anew, adopt_or_pick_anew, schedule, adopt, sibling_after_selection}
-use Rattle.cs_types.specs.Accounting.{charge}
+use Rattle.cs_types.specs.Accounting.{charge, without_interval}
 use Rattle.cs_types.specs.Touches.{is_selected}
 use Rattle.cs_types.proofs.Filtered.{each-filter, each_found}
 use Rattle.cs_types.proofs.Rising.{AreRising}
@@ -60,7 +60,7 @@ OthersFit room fresh cpu = (other : ℕ) → other ≢ cpu → SiblingFits (spot
 plain_fits : (room : RoomState) (fresh later : Bool) (cpu : ℕ) → cpu < length room.siblings → is_online room cpu ≡ true → AreRising room → is_plain room cpu ≡ true →
     (later ≡ true → ⊥) → OthersFit room fresh cpu → AllFit (pick_plain room cpu).room later
 plain_fits room fresh later cpu below up rises is old fits =
-    with_sibling_at (SiblingFits (spot_at room) room.core_cookie later) (record room { forced = 0; occupation = 0; started = None }) cpu
+    with_sibling_at (SiblingFits (spot_at room) room.core_cookie later) (without_interval room) cpu
     _ below
     (fits_running (spot_at room) room.core_cookie later cpu sibling.online (pid_of first) false sibling.place up
     (pid_at room cpu first (first_queued room cpu rises)) (pid_cookie room cpu room.core_cookie first (first_queued room cpu rises) (inr same)))

@@ -29,7 +29,7 @@ use Rattle.cs_types.specs.Queueing.{refreshed_by, refreshed, enqueue, queue_at_h
 use Rattle.cs_types.specs.Guards.{load, unload}
 use Rattle.cs_types.specs.Steal.{source_of, stolen, set_place}
 use Rattle.cs_types.specs.Hotplug.{lowest_other, moved_off, away, leave, with_sibling_back}
-use Rattle.cs_types.specs.Accounting.{charge}
+use Rattle.cs_types.specs.Accounting.{charge, without_interval}
 use Rattle.cs_types.specs.Touches.{is_fresh}
 use Rattle.cs_types.specs.History.{History, Moment, beginning, next, after, moment_of, fold_of}
 use Rattle.cs_types.specs.View.{task_after, task_view, task_view_after}
@@ -175,10 +175,9 @@ same_core most old new clock tasks siblings timely =
 timely-pick_plain : (most : ℕ) (room : RoomState) (cpu : ℕ) → Timely most room → Timely most (pick_plain room cpu).room
 timely-pick_plain most room cpu timely =
     let is = sibling_is_timely most room cpu timely in
-    let closed : RoomState = record room { forced = 0; occupation = 0; started = None } in
-    timely-with_sibling most closed cpu _ refl
+    timely-with_sibling most (without_interval room) cpu _ refl
     (record { least = is.least; snapshot = snapshot-le most room.clock _ (sibling_of room cpu) is; ran = omega arith })
-    (same_core most room closed refl refl refl timely)
+    (same_core most room (without_interval room) refl refl refl timely)
 
 timely-pick_anew : (most : ℕ) (room : RoomState) (cpu : ℕ) → Timely most room → Timely most (pick_anew room cpu).room
 timely-pick_anew most room cpu timely =

@@ -62,3 +62,8 @@ charge room =
       intervals = room.intervals ++ option_to_list (open_interval room);
       started = option_map (λ start. room.clock) room.started;
     }
+
+-- No interval of forced idle is open, and the numbers of forced idle and chosen siblings are 0. One that was open is not
+-- charged here (the beginning of `pick_next_task`, kernel/sched/core.c).
+abbrev pub without_interval : RoomState → RoomState
+without_interval room = record room { forced = 0; occupation = 0; started = None }

@@ -8,7 +8,7 @@ use Rattle.cs_types.specs.declared.reply.Kind.TheVariants.{Selected, Adopted, Pl
 use Rattle.cs_types.specs.declared.reply.Pick.{Pick}
 use Rattle.cs_types.specs.Room.{RoomState, SiblingState, Waiting, queued_on, sibling_of, online, online_from, with_sibling}
 use Rattle.cs_types.specs.Order.{is_fair, foremost, outranks, first_of}
-use Rattle.cs_types.specs.Accounting.{charge}
+use Rattle.cs_types.specs.Accounting.{charge, without_interval}
 
 -- ---- what a sibling has for a core cookie
 
@@ -116,7 +116,7 @@ pick_plain room cpu =
     let sibling = sibling_of room cpu in
     record {
       pick = record { kind = Plain; run = unwrap_or (pid_of first) 0; core = 0; forced = 0 };
-      room = with_sibling (record room { forced = 0; occupation = 0; started = None }) cpu
+      room = with_sibling (without_interval room) cpu
           (record (running sibling (pid_of first)) {
             snapshot = if is_fair_task first then sibling.least else sibling.snapshot;
           });

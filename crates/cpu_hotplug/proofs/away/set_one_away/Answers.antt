@@ -4,11 +4,10 @@ use Rattle.std.proofs.Math.Seq.{take-length, drop-length}
 use Rattle.std.proofs.lemmas.List.{append-nil, map-set, length-map, get_or-map}
 use Rattle.std.proofs.lemmas.Bool.{cond-true, cond-false}
 use Rattle.cs_types.specs.Room.{SiblingState, absent}
-use Rattle.cs_types.specs.Hotplug.{away}
+use Rattle.cs_types.specs.Hotplug.{away, stand_by, left}
 use Rattle.core_lanes.specs.Lanes.{lane_state}
 use Rattle.core_lanes.proofs.Lists.{placed_more}
 use Rattle.core_lanes.proofs.Stays.{number_of, queue_of, numbers_kept, queues_kept}
-use Rattle.cpu_hotplug.specs.Leaves.{left, beside_one_that_leaves}
 use Rattle.cpu_hotplug.proofs.away.set_one_away.Goals as goal
 use Rattle.cpu_hotplug.proofs.away.set_one_away.Goals.{then-other-cpu, else-other-cpu}
 
@@ -31,7 +30,7 @@ loop-other-preserved g c =
       | then-other-cpu w ↦
           let now = w.set_away.new.lane in
           let made : lane_state now ≡ left cpu (other, lane_state old) =
-          w.set_away.ensures.state ∙ sym (cond-true (eqb other cpu) (away (lane_state old)) (beside_one_that_leaves (lane_state old)) (eq-eqb other cpu w.if-other-cpu.true)) in
+          w.set_away.ensures.state ∙ sym (cond-true (eqb other cpu) (away (lane_state old)) (stand_by (lane_state old)) (eq-eqb other cpu w.if-other-cpu.true)) in
           record {
             states = ap (map lane_state) w.lanes-is ∙ map-set lane_state lanes other now
                 ∙ placed_more (left cpu) states (map lane_state lanes) other (lane_state now) absent within c.loop-other.invariant.states
@@ -42,7 +41,7 @@ loop-other-preserved g c =
       | else-other-cpu w ↦
           let now = w.stand_by.new.lane in
           let made : lane_state now ≡ left cpu (other, lane_state old) =
-          w.stand_by.ensures.state ∙ sym (cond-false (eqb other cpu) (away (lane_state old)) (beside_one_that_leaves (lane_state old)) (ne_eqb other cpu w.if-other-cpu.false)) in
+          w.stand_by.ensures.state ∙ sym (cond-false (eqb other cpu) (away (lane_state old)) (stand_by (lane_state old)) (ne_eqb other cpu w.if-other-cpu.false)) in
           record {
             states = ap (map lane_state) w.lanes-is ∙ map-set lane_state lanes other now
                 ∙ placed_more (left cpu) states (map lane_state lanes) other (lane_state now) absent within c.loop-other.invariant.states

@@ -2,7 +2,7 @@ use Rattle.std.proofs.Common.{◌≡◌, ◌++◌, map, take, drop}
 use Rattle.std.specs.List.{enumerate_from}
 use Rattle.core_lanes.specs.Lanes.{lane_state}
 use Rattle.core_lanes.proofs.Stays.{number_of, queue_of}
-use Rattle.cpu_hotplug.specs.Leaves.{left}
+use Rattle.cs_types.specs.Hotplug.{left}
 use Rattle.cpu_hotplug.proofs.away.set_one_away.Given as goal
 
 abbrev pub invariant-loop-other : goal.invariant-loop-other

@@ -3,8 +3,8 @@ use Rattle.std.specs.Prelude.{List}
 use Rattle.std.specs.List.{enumerate_from}
 use Rattle.std.proofs.lemmas.List.{with_items_is}
 use Rattle.cs_types.specs.Room.{RoomState}
-use Rattle.cs_types.specs.Accounting.{charge}
-use Rattle.cs_types.specs.Hotplug.{lowest_other, leave}
+use Rattle.cs_types.specs.Accounting.{charge, without_interval}
+use Rattle.cs_types.specs.Hotplug.{lowest_other, move_off, left, leave}
 use Rattle.core_lanes.specs.declared.lane.Lane.{Lane}
 use Rattle.core_lanes.specs.Queued.{queued_among}
 use Rattle.task_table.specs.Table.{Table}
@@ -12,8 +12,7 @@ use Rattle.core_lanes.specs.Changes.{Kept}
 use Rattle.core_lanes.specs.Lanes.{AreLow, BareCore, bare, at, beside_after, lane_state, room_by, room_of}
 use Rattle.core_lanes.specs.Numbers.{Numbers, numbers_in, with_ended, touched}
 use Rattle.core_lanes.proofs.Stays.{number_of, queue_of, both_stay, alike_stays}
-use Rattle.cpu_hotplug.specs.Leaves.{left, move_off}
-use Rattle.cpu_hotplug.proofs.Steps.{closed, with_account, closed_is, leave_is}
+use Rattle.cpu_hotplug.proofs.Steps.{with_account, without_interval_is, leave_is}
 use Rattle.cpu_hotplug.proofs.hotplug.leave.Goals as goal
 
 -- ---- the calls
@@ -58,8 +57,8 @@ returns g c =
           let room = room_of (at c.args.now beside) (c.args.core.now, c.args.table.now) in
           let paid = beside_after (at c.args.now beside) (charge room) in
           let shut : room_of paid (c.charge.new.core, c.charge.new.table) ≡ charge room = c.charge.ensures.charges.room beside in
-          let before = ap (λ (r : RoomState). with_account r account) shut ∙ closed_is (charge room) account c.close.ensures.count c.close.ensures.occupation c.close.ensures.started in
-          let after : room_of paid (moved, c.move_off.new.table) ≡ move_off (closed (charge room)) cpu = c.move_off.ensures.room paid ∙ ap (λ (r : RoomState). move_off r cpu) before in
+          let before = ap (λ (r : RoomState). with_account r account) shut ∙ without_interval_is (charge room) account c.close.ensures.count c.close.ensures.occupation c.close.ensures.started in
+          let after : room_of paid (moved, c.move_off.new.table) ≡ move_off (without_interval (charge room)) cpu = c.move_off.ensures.room paid ∙ ap (λ (r : RoomState). move_off r cpu) before in
           let states : map lane_state c.set_one_away.new.lanes ≡ map (left cpu) (enumerate_from 0 room.siblings) =
           c.set_one_away.ensures.states
           ∙ ap (λ (lanes : List (Lane g.row.Q.Denot)). map (left cpu) (enumerate_from 0 (map lane_state lanes))) c.deref_mut.ensures.value
