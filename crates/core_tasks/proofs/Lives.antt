@@ -12,6 +12,7 @@ use Rattle.cs_types.specs.declared.task.Task.{Task}
 use Rattle.cs_types.specs.declared.queue.Queued.{Queued}
 use Rattle.cs_types.specs.Queue.{queued_of}
 use Rattle.cs_types.specs.Room.{has_pid, inserted}
+use Rattle.cs_types.specs.Step.{may_not_fork}
 use Rattle.cs_types.proofs.Filtered.{find-filter}
 use Rattle.cs_types.proofs.Inserted.{All-inserted, find-inserted, inserted-first, inserted-past}
 use Rattle.cs_types.proofs.Spots.{replaced_by}
@@ -26,7 +27,6 @@ use Rattle.core_lanes.specs.Lanes.{IsFit, Agree}
 use Rattle.core_lanes.proofs.Stays.{found_in}
 use Rattle.core_lanes.proofs.Queues.{is_on, others-absent, off_asleep}
 use Rattle.core_tasks.specs.State.{IsGiven, IsGone}
-use Rattle.core_tasks.specs.Life.{may_not_fork_in}
 
 own_pid : (task : Task) → has_pid task.spec.pid task ≡ true
 own_pid task = eq-eqb task.spec.pid task.spec.pid refl
@@ -271,12 +271,12 @@ gone-inserted next tasks child ended is =
 -- ---- the child of a fork
 
 -- where a child is made, the caller was found, and there was a place left
-pub caller_of : (table : Table) (found : Option Task) → fork_answer table found ≡ Ok tt → (by : Task) × (found ≡ Some by) × (may_not_fork_in table by ≡ false)
+pub caller_of : (table : Table) (found : Option Task) → fork_answer table found ≡ Ok tt → (by : Task) × (found ≡ Some by) × (may_not_fork table.limit table.tasks by ≡ false)
 caller_of table None made = absurd cc
 caller_of table (Some by) made = (
   by,
   refl,
-  elim (cases_Bool (may_not_fork_in table by)) [
+  elim (cases_Bool (may_not_fork table.limit table.tasks by)) [
     | inl refused ↦ let bad : Err Eagain ≡ Ok tt = sym (cond-true _ _ _ refused) ∙ made in absurd cc
     | inr allowed ↦ allowed
   ],

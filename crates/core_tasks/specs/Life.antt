@@ -1,12 +1,10 @@
 -- Life: what an end asks, and what the making of a child leaves.
-use Rattle.std.specs.Prelude.{◌≡◌, ℕ, ◌+◌, ◌^◌, ◌<◌, Bool, true, false, ◌==◌, ◌||◌, List, length, vec_len, vec_capacity, find, Some, None, Result, Ok, Err}
+use Rattle.std.specs.Prelude.{◌≡◌, ℕ, ◌+◌, ◌^◌, ◌<◌, Bool, true, false, List, vec_len, vec_capacity, find, Some, None, Result, Ok, Err}
 use Rattle.cs_types.specs.declared.task.Task.{Task}
 use Rattle.cs_types.specs.Room.{Interval, has_pid}
-use Rattle.cs_types.specs.Order.{deadline_class, class_of}
-use Rattle.cs_types.specs.Step.{child_of, with_child, has_threads}
+use Rattle.cs_types.specs.Step.{child_of, with_child, may_not_fork, has_threads}
 use Rattle.fork_inherit.specs.declared.forking.ForkFault.{ForkFault}
 use Rattle.fork_inherit.specs.declared.forking.ForkFault.TheVariants.{NoCaller, Eagain}
-use Rattle.task_table.specs.Table.{Table}
 use Rattle.core_lanes.specs.declared.queue.SiblingQueue.{Ghosts}
 use Rattle.core_lanes.specs.Queued.{IsOf}
 use Rattle.core_tasks.specs.declared.state.State.{State}
@@ -26,13 +24,9 @@ pub record MayMakeChild {Q G : Type 0} {g : Ghosts Q} (state : State Q G g) : Ty
   pub sound : IsSound state
   pub pid : state.next_pid + 1 < 2 ^ 32
 
--- whether a fork by the task is refused
-abbrev pub may_not_fork_in : Table → Task → Bool
-may_not_fork_in table by = (length table.tasks == table.limit) || (class_of by.spec.policy == deadline_class)
-
 -- the new state is the old one with this child, of this caller
 pub record IsBorn {Q G : Type 0} {g : Ghosts Q} (old new : State Q G g) (by : Task) (thread : Bool) (child : Task) : Type 0 where
-  pub allowed : may_not_fork_in old.tasks by ≡ false
+  pub allowed : may_not_fork old.tasks.limit old.tasks.tasks by ≡ false
   pub is : child ≡ child_of by thread old.next_pid
   pub there : IsOf new.tasks.tasks child
   pub room : Becomes old new (λ room. with_child room child)
@@ -44,4 +38,4 @@ abbrev pub MakesChild : {Q G : Type 0} {g : Ghosts Q} → State Q G g → State 
 MakesChild old new caller thread (Ok child) = (by : Task) × (find (has_pid caller) old.tasks.tasks ≡ Some by) × IsBorn old new by thread child
 MakesChild old new caller thread (Err NoCaller) = (find (has_pid caller) old.tasks.tasks ≡ None) × (new ≡ old)
 MakesChild old new caller thread (Err Eagain) =
-    (by : Task) × (find (has_pid caller) old.tasks.tasks ≡ Some by) × (may_not_fork_in old.tasks by ≡ true) × (new ≡ old)
+    (by : Task) × (find (has_pid caller) old.tasks.tasks ≡ Some by) × (may_not_fork old.tasks.limit old.tasks.tasks by ≡ true) × (new ≡ old)

@@ -323,7 +323,7 @@ module _ (most done : ℕ) (some : 1 ≤ most) (room : RoomState) (few : length 
 
   accounted-fork : (thread : Bool) (caller : Option Task) → GoesOn (fork room thread caller)
   accounted-fork thread None = stays
-  accounted-fork thread (Some caller) = cond_both (may_not_fork room caller) _ _ GoesOn (λ _. stays) (λ _. stays)
+  accounted-fork thread (Some caller) = cond_both (may_not_fork room.task_limit room.tasks caller) _ _ GoesOn (λ _. stays) (λ _. stays)
 
   accounted-tick : (cpu : ℕ) (task : Option Task) → GoesOn (tick room cpu task)
   accounted-tick cpu None = paid

@@ -127,7 +127,7 @@ low-wake most room (Some task) low =
 low-fork : (most : ℕ) (room : RoomState) (thread : Bool) (caller : Option Task) → AreLow most room → AreLow most (fork room thread caller).room
 low-fork most room thread None low = low
 low-fork most room thread (Some caller) low =
-    cond_both (may_not_fork room caller) _ _ (λ (made : Stepped). AreLow most made.room) (λ _. low) (λ _. low-flag most room _ _ low)
+    cond_both (may_not_fork room.task_limit room.tasks caller) _ _ (λ (made : Stepped). AreLow most made.room) (λ _. low) (λ _. low-flag most room _ _ low)
 
 low-set_policy : (most : ℕ) (room : RoomState) (policy : Policy) (task : Option Task) → AreLow most room → AreLow most (set_policy room policy task).room
 low-set_policy most room policy None low = low

@@ -196,7 +196,7 @@ behind-wake own pick room (Some task) behind =
 behind-fork : (own : ℕ → ℕ) (pick : ℕ) (room : RoomState) (thread : Bool) (caller : Option Task) → AreBehind own pick room → AreBehind own pick (fork room thread caller).room
 behind-fork own pick room thread None behind = behind
 behind-fork own pick room thread (Some caller) behind =
-    cond_both (may_not_fork room caller) _ _ (λ (made : Stepped). AreBehind own pick made.room) (λ _. behind) (λ _. behind-flag own pick room _ _ behind)
+    cond_both (may_not_fork room.task_limit room.tasks caller) _ _ (λ (made : Stepped). AreBehind own pick made.room) (λ _. behind) (λ _. behind-flag own pick room _ _ behind)
 
 behind-set_policy : (own : ℕ → ℕ) (pick : ℕ) (room : RoomState) (policy : Policy) (task : Option Task) → AreBehind own pick room → AreBehind own pick (set_policy room policy task).room
 behind-set_policy own pick room policy None behind = behind

@@ -193,7 +193,7 @@ housed-fork room thread (Some caller) housed =
     let child = child_of caller thread room.next_pid in
     let born = with_child room child in
     let held : IsHoused born = housed_by room born refl (λ pid. home_at room _ pid room.next_pid _ (spots-with_child room caller thread pid) (λ queued. absurd cc) housed) housed in
-    cond_both (may_not_fork room caller) _ _ (λ (made : Stepped). IsHoused made.room) (λ _. housed)
+    cond_both (may_not_fork room.task_limit room.tasks caller) _ _ (λ (made : Stepped). IsHoused made.room) (λ _. housed)
     (λ _. housed-queue_at_home born (child_at_home room child) child (child_is_found room caller thread) (child_at_home_is_online room child housed) held)
 
 housed-tick : (room : RoomState) (cpu : ℕ) (task : Option Task) → running_on room cpu ≡ task → IsHoused room → IsHoused (tick room cpu task).room

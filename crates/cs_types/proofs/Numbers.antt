@@ -314,7 +314,7 @@ draws-exit room cpu (Some task) =
 draws-fork : (room : RoomState) (thread : Bool) (caller : Option Task) → DrawsOne (length room.tasks) (draws room) (draws (fork room thread caller).room)
 draws-fork room thread None = draws_none _ _ _ refl
 draws-fork room thread (Some caller) =
-    cond_both (may_not_fork room caller) _ _ (λ (made : Stepped). DrawsOne (length room.tasks) (draws room) (draws made.room)) (λ _. draws_none _ _ _ refl)
+    cond_both (may_not_fork room.task_limit room.tasks caller) _ _ (λ (made : Stepped). DrawsOne (length room.tasks) (draws room) (draws made.room)) (λ _. draws_none _ _ _ refl)
     (λ _. record { stamp = omega arith; cookie = omega arith; pid = omega arith; ended = omega arith; guards = asks_none (length room.tasks) room.guards })
 
 -- a rotation draws a stamp

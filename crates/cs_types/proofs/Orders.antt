@@ -190,7 +190,7 @@ fork-fits room fresh pid thread (Some caller) rises housed fits =
     let nobody : task_of room room.next_pid ≡ None =
     find_none (has_pid room.next_pid) room.tasks (each_weaker (λ other. other.spec.pid ≢ room.next_pid) (λ other. has_pid room.next_pid other ≡ false) room.tasks
     (λ other differ. false_from_ne_true (has_pid room.next_pid other) (λ same. differ (eqb-true other.spec.pid room.next_pid same))) (below_high 0 room.next_pid room.tasks rises).1) in
-    cond_both (may_not_fork room caller) _ _ (StepFits room fresh (Fork pid thread)) (λ _. fits)
+    cond_both (may_not_fork room.task_limit room.tasks caller) _ _ (StepFits room fresh (Fork pid thread)) (λ _. fits)
     (λ _. queued-fits born fresh (child_at_home room child) child (child_is_found room caller thread) refl (child_at_home_is_online room child housed)
     (all_moved room born fresh fresh room.next_pid _ refl refl (spots-with_child room caller thread)
     (λ cpu has here. subst (IsAt cpu) (ap (option_map spot_of) nobody) here) (λ e. e) fits))

@@ -69,7 +69,7 @@ wake-refusal room pid (Some task) =
 fork-refusal : (room : RoomState) (pid : ℕ) (thread : Bool) (caller : Option Task) → IsRefusal room (Fork pid thread) (fork room thread caller)
 fork-refusal room pid thread None = λ _. as_it_was room (Fork pid thread) refl refl
 fork-refusal room pid thread (Some caller) =
-    cond_both (may_not_fork room caller) _ _ (IsRefusal room (Fork pid thread)) (λ _ _. as_it_was room (Fork pid thread) refl refl) (λ _ refused. absurd cc)
+    cond_both (may_not_fork room.task_limit room.tasks caller) _ _ (IsRefusal room (Fork pid thread)) (λ _ _. as_it_was room (Fork pid thread) refl refl) (λ _ refused. absurd cc)
 
 -- A call leaves the room but for what it has used, also where it made its cookie and is refused then.
 made_leaves : (room : RoomState) (caller : ℕ) (ask : Ask) → LeavesTheRoom room (Prctl caller ask) (with_used room (makes_cookie room caller ask) (asked_by_call room caller ask))

@@ -233,7 +233,7 @@ rising-fork : (room : RoomState) (thread : Bool) (caller : Option Task) → AreR
 rising-fork room thread None rises = rises
 rising-fork room thread (Some caller) rises =
     let born = with_child room (child_of caller thread room.next_pid) in
-    cond_both (may_not_fork room caller) _ _ (λ (made : Stepped). AreRising made.room) (λ _. rises)
+    cond_both (may_not_fork room.task_limit room.tasks caller) _ _ (λ (made : Stepped). AreRising made.room) (λ _. rises)
     (λ _. rising-queue_at_home born (child_at_home room (child_of caller thread room.next_pid)) (rising-with_child room caller thread rises))
 
 rising-tick : (room : RoomState) (cpu : ℕ) (task : Option Task) → AreRising room → AreRising (tick room cpu task).room

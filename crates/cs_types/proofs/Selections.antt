@@ -510,7 +510,7 @@ exited_keeps_law room cpu (Some task) below up =
 forked_keeps_law : (room : RoomState) (pid : ℕ) (thread : Bool) (caller : Option Task) → StepKeepsLaw room (Fork pid thread) (fork room thread caller)
 forked_keeps_law room pid thread None = tt
 forked_keeps_law room pid thread (Some caller) =
-    cond_both (may_not_fork room caller) _ _ (StepKeepsLaw room (Fork pid thread)) (λ _. tt) (λ _. tt)
+    cond_both (may_not_fork room.task_limit room.tasks caller) _ _ (StepKeepsLaw room (Fork pid thread)) (λ _. tt) (λ _. tt)
 
 woken_keeps_law : (room : RoomState) (pid : ℕ) (task : Option Task) → StepKeepsLaw room (Wake pid) (wake room task)
 woken_keeps_law room pid None = tt

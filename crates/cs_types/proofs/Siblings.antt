@@ -130,7 +130,7 @@ kept-fork room thread None = refl
 kept-fork room thread (Some caller) =
     let child = child_at_home room (child_of caller thread room.next_pid) in
     let born = with_child room (child_of caller thread room.next_pid) in
-    cond_both (may_not_fork room caller) _ _ (λ (made : Stepped). kept made.room ≡ kept room) (λ _. refl)
+    cond_both (may_not_fork room.task_limit room.tasks caller) _ _ (λ (made : Stepped). kept made.room ≡ kept room) (λ _. refl)
     (λ _. kept-queue_at_home born child)
 
 pub kept-tick : (room : RoomState) (cpu : ℕ) (task : Option Task) → kept (tick room cpu task).room ≡ kept room

@@ -119,14 +119,14 @@ few-wake room (Some task) =
 few-fork : (room : RoomState) (thread : Bool) (caller : Option Task) → KeepsFew room (fork room thread caller).room
 few-fork room thread None = as_many room room refl refl
 few-fork room thread (Some caller) =
-    by_limit (child_of caller thread room.next_pid) (may_not_fork room caller) refl where
+    by_limit (child_of caller thread room.next_pid) (may_not_fork room.task_limit room.tasks caller) refl where
       made : Bool → Task → Stepped
       made test child = cond test (record { reply = Refused Eagain; room = room }) (record { reply = Child child.spec.pid; room = queue_at_home (with_child room child) (child_at_home room child) })
 
       length_queued : (born : RoomState) (task : Task) → length (queue_at_home born task).tasks ≡ length born.tasks
       length_queued born task = length-map born.tasks _
 
-      by_limit : (child : Task) (test : Bool) → may_not_fork room caller ≡ test → KeepsFew room (made test child).room
+      by_limit : (child : Task) (test : Bool) → may_not_fork room.task_limit room.tasks caller ≡ test → KeepsFew room (made test child).room
       by_limit child true is = as_many room room refl refl
       by_limit child false is =
           let free = eqb-false (length room.tasks) room.task_limit (or_parts (length room.tasks == room.task_limit) _ is).0 in

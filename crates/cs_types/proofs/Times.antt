@@ -292,7 +292,7 @@ timely-fork most room thread (Some caller) timely =
           (each-inserted (IsTimelyTask room) child room.tasks (record { vtime = omega arith; used = omega arith }) timely.tasks);
       siblings = timely.siblings;
     } in
-    cond_both (may_not_fork room caller) _ _ (λ (made : Stepped). Timely most made.room) (λ _. timely)
+    cond_both (may_not_fork room.task_limit room.tasks caller) _ _ (λ (made : Stepped). Timely most made.room) (λ _. timely)
     (λ _. timely-queue_at_home most (with_child room child) (child_at_home room child) is born)
 
 timely-set_policy : (most : ℕ) (room : RoomState) (policy : Policy) (task : Option Task) → IfSome task (IsTimelyTask room) → Timely most room → Timely most (set_policy room policy task).room
@@ -605,7 +605,7 @@ clock-wake room (Some task) = cond_both task.queued _ _ (λ (made : Stepped). ma
 clock-fork : (room : RoomState) (thread : Bool) (caller : Option Task) → (fork room thread caller).room.clock ≡ room.clock
 clock-fork room thread None = refl
 clock-fork room thread (Some caller) =
-    cond_both (may_not_fork room caller) _ _ (λ (made : Stepped). made.room.clock ≡ room.clock) (λ _. refl) (λ _. refl)
+    cond_both (may_not_fork room.task_limit room.tasks caller) _ _ (λ (made : Stepped). made.room.clock ≡ room.clock) (λ _. refl) (λ _. refl)
 
 clock-tick : (room : RoomState) (cpu : ℕ) (task : Option Task) → (tick room cpu task).room.clock ≡ room.clock
 clock-tick room cpu None = refl

@@ -1,5 +1,5 @@
 -- Steps: what each event does to the room, and what it answers.
-use Rattle.std.specs.Prelude.{ℕ, ◌+◌, Bool, false, ◌==◌, ◌&&◌, ◌||◌, not, if◌then◌else◌, [], ◌∷◌, ◌++◌, length, filter, Option, Some, None}
+use Rattle.std.specs.Prelude.{ℕ, ◌+◌, Bool, false, ◌==◌, ◌&&◌, ◌||◌, not, if◌then◌else◌, List, [], ◌∷◌, ◌++◌, length, filter, Option, Some, None}
 use Rattle.std.specs.List.{list_any}
 use Rattle.cs_types.specs.declared.task.Task.{Task}
 use Rattle.cs_types.specs.declared.task.TaskSpec.{TaskSpec}
@@ -135,16 +135,17 @@ abbrev pub child_at_home : RoomState → Task → Task
 child_at_home room child =
     let home = online_home room child.home in record child { home = home; vtime = (sibling_of room home).least }
 
--- whether a fork is refused: as many tasks live as may, or the caller is a deadline task (`sched_fork`)
-abbrev pub may_not_fork : RoomState → Task → Bool
-may_not_fork room caller = (length room.tasks == room.task_limit) || (class_of caller.spec.policy == deadline_class)
+-- whether a fork is refused: as many of these tasks live as may, or the caller is a deadline task (`sched_fork`,
+-- kernel/sched/core.c)
+abbrev pub may_not_fork : ℕ → List Task → Task → Bool
+may_not_fork limit tasks caller = (length tasks == limit) || (class_of caller.spec.policy == deadline_class)
 
 -- There is no such caller, or it may not fork, or the child is among the living and queued at its home
 -- (`wake_up_new_task`).
 abbrev pub fork : RoomState → Bool → Option Task → Stepped
 fork room thread None = record { reply = NoCaller; room = room }
 fork room thread (Some caller) =
-    if may_not_fork room caller
+    if may_not_fork room.task_limit room.tasks caller
     then record { reply = Refused Eagain; room = room }
     else (
     let child = child_of caller thread room.next_pid in

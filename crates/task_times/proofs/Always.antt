@@ -117,7 +117,7 @@ gone-fork : (test : Bool) (pid : ℕ) (room : RoomState) (thread : Bool) (caller
 gone-fork test pid room thread None gone = gone
 gone-fork test pid room thread (Some caller) gone =
     let child = child_of caller thread room.next_pid in
-    cond_both (may_not_fork room caller) _ _ (λ (made : Stepped). IsGone test pid made.room) (λ _. gone)
+    cond_both (may_not_fork room.task_limit room.tasks caller) _ _ (λ (made : Stepped). IsGone test pid made.room) (λ _. gone)
     (λ _. gone-queue_at_home test pid (with_child room child) (child_at_home room child)
     (omega (arith, gone.0), λ on. each-inserted (λ (t : Task). t.spec.pid ≢ pid) child room.tasks (λ is. omega (arith, is, gone.0)) (gone.1 on)))
 

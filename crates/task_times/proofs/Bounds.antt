@@ -154,7 +154,7 @@ bound-fork : (room : RoomState) (thread : Bool) (caller : Option Task) → ((t :
 bound-fork room thread None low bound = bound
 bound-fork room thread (Some caller) low bound =
     let child = child_of caller thread room.next_pid in
-    cond_both (may_not_fork room caller) _ _ (λ (made : Stepped). IsBound made.room) (λ _. bound)
+    cond_both (may_not_fork room.task_limit room.tasks caller) _ _ (λ (made : Stepped). IsBound made.room) (λ _. bound)
     (λ _. bound-queue_at_home (with_child room child) (child_at_home room child) (low caller refl)
     (bound.0, each-inserted (λ (t : Task). t.cookie < room.next_cookie) child room.tasks (low caller refl) bound.1, past_wider room.next_pid (room.next_pid + 1) room.ended (omega arith) bound.2))
 
