@@ -50,6 +50,7 @@ up_to_now room (Some start) =
     then None
     else Some (record { from = start; to = room.clock; count = room.forced; occupation = room.occupation; charged = charged room })
 
+-- the open interval up to now; none where none is open or no time has passed
 abbrev pub open_interval : RoomState → Option Interval
 open_interval room = up_to_now room room.started
 

@@ -41,9 +41,11 @@ after moment (entry ∷ entries) = after (next moment entry) entries
 abbrev pub moment_of : Opening → History → Moment
 moment_of opening history = after (beginning opening) history
 
+-- the room after a history
 abbrev pub fold_of : Opening → History → RoomState
 fold_of opening history = (moment_of opening history).room
 
+-- the ledger after a history
 abbrev pub ledger_of : Opening → History → Ledger
 ledger_of opening history = (moment_of opening history).ledger
 

@@ -205,6 +205,7 @@ abbrev pub with_answer : RoomState → Setting → Reply → RoomState
 with_answer room set Zero = set_cookies room set
 with_answer room set answer = room
 
+-- the room after a call by the task with the pid
 abbrev pub prctl_room : RoomState → ℕ → Ask → RoomState
 prctl_room room pid ask =
     with_answer (with_used room (makes_cookie room pid ask) (asked_by_call room pid ask)) (setting_of room pid ask)

@@ -44,8 +44,8 @@ rehomed room task = if is_online room task.home then task else moved_to room (lo
 
 -- ---- at its home
 
--- A woken task asks its sibling to reschedule where that runs idle or a lower task (after
--- `check_preempt_curr`; this project's rule).
+-- A task that is queued at its home (a woken one, a child, one whose policy is set) asks that sibling to reschedule where
+-- it runs idle or a lower task (after `check_preempt_curr`; this project's rule).
 abbrev pub preempts : RoomState → Task → Bool
 preempts room task = option_map_or (λ running. is_higher_here task running) (running_on room task.home) true
 

@@ -190,7 +190,8 @@ online room = filter (is_online room) (range_with_len 0 (length room.siblings))
 abbrev pub lowest_online : RoomState → ℕ
 lowest_online room = unwrap_or (find (is_online room) (range_with_len 0 (length room.siblings))) 0
 
--- the same in the order that begins at one sibling, rises, and then goes from 0 up to it
+-- the numbers of the siblings that are online, in the order that begins at one sibling, rises, and then goes from 0 up to
+-- it
 abbrev pub online_from : RoomState → ℕ → List ℕ
 online_from room cpu =
     filter (is_online room) (range_with_len cpu (length room.siblings - cpu) ++ range_with_len 0 cpu)

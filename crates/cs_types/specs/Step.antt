@@ -107,8 +107,8 @@ exit room cpu (Some task) =
 
 -- ---- fork (`copy_process`, kernel/fork.c, and `sched_core_fork`, kernel/sched/core_sched.c)
 
--- A child is at home where its caller is, and has its policy, credentials and process group. A thread is in its
--- caller's thread group, and a process leads its own.
+-- A child has its caller's home, policy, credentials and process group (where that home is offline, `child_at_home` gives
+-- it another). A thread is in its caller's thread group, and a process leads its own.
 abbrev pub child_spec : Task → Bool → ℕ → TaskSpec
 child_spec caller thread pid =
     record {
@@ -129,8 +129,8 @@ child_of caller thread pid = record (asleep (child_spec caller thread pid)) { co
 abbrev pub with_child : RoomState → Task → RoomState
 with_child room child = record room { tasks = inserted child room.tasks; next_pid = room.next_pid + 1 }
 
--- It is at home where its caller is, or on another sibling where that is offline, and its virtual time is the least of its
--- queue, whatever its class (after `task_fork_fair`; this project's rule).
+-- It is at home where its caller is, or on the lowest online sibling where that is offline, and its virtual time is the
+-- least of its queue, whatever its class (after `task_fork_fair`; this project's rule).
 abbrev pub child_at_home : RoomState → Task → Task
 child_at_home room child =
     let home = online_home room child.home in record child { home = home; vtime = (sibling_of room home).least }

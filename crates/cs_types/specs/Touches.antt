@@ -18,11 +18,13 @@ use Rattle.cs_types.specs.Prctl.{Setting, setting_of}
 
 -- ---- the pick of an entry
 
+-- whether a sibling came to its pick by a selection for the core that it made
 abbrev pub is_selected : Kind → Bool
 is_selected Selected = true
 is_selected Adopted = false
 is_selected Plain = false
 
+-- whether it took what an earlier selection of another sibling chose for it
 abbrev pub is_adopted : Kind → Bool
 is_adopted Selected = false
 is_adopted Adopted = true
@@ -117,6 +119,7 @@ touches_by room event reply = 0
 
 -- ---- the ledger: every entry so far with its touches, the latest first
 
+-- an entry, and how often it touched the queues
 pub record LedgerEntry : Type 0 where
   pub entry : Entry
   pub touches : ℕ

@@ -16,6 +16,7 @@ use Rattle.cs_types.specs.Accounting.{total_of}
 use Rattle.cs_types.specs.Touches.{is_adopted, pick_of, own_number}
 use Rattle.cs_types.specs.History.{Moment, step_at}
 
+-- what a machine shows of the core (this project's)
 abbrev pub core_view : Moment → CoreView
 core_view moment =
     record {
@@ -25,7 +26,7 @@ core_view moment =
       intervals = length moment.room.intervals;
     }
 
--- none where there is no such sibling
+-- what it shows of the sibling of this number, none where there is no such sibling
 abbrev pub cpu_view : Moment → ℕ → Option CpuView
 cpu_view moment cpu =
     if nat_lt cpu (length moment.room.siblings)
@@ -45,6 +46,7 @@ task_after room pid = find (λ task. nat_lt pid task.spec.pid) room.tasks
 abbrev pub forced_of : RoomState → ℕ → ℕ
 forced_of room pid = total_of pid room.intervals
 
+-- what a machine shows of a living task (this project's)
 abbrev pub task_view : RoomState → Task → TaskView
 task_view room task =
     record {

@@ -65,6 +65,8 @@ pub enum Event {
 /// An event, and who makes it.
 #[derive(Clone, Copy)]
 pub struct Step {
+    /// Who makes it.
     pub actor: Actor,
+    /// What it does.
     pub event: Event,
 }

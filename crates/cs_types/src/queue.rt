@@ -13,6 +13,7 @@ use std::sync::ledger::Ledger;
 /// A task as a sibling's run queue takes it.
 #[derive(Clone, Copy)]
 pub struct Queued {
+    /// Its number, from 1.
     pub pid: Pid,
     /// Its scheduling class: 0 stop, 1 deadline, 2 real-time, 3 fair.
     pub class: u8,
@@ -21,6 +22,7 @@ pub struct Queued {
     pub rank: u128,
     /// The stamp of its enqueue. Of equal ranks the smaller stamp goes first.
     pub stamp: u64,
+    /// Its cookie, 0 for none.
     pub cookie: Cookie,
 }
 

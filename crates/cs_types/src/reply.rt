@@ -20,6 +20,7 @@ pub enum Kind {
 /// What a schedule chose, and for what core.
 #[derive(Clone, Copy)]
 pub struct Pick {
+    /// How the schedule came to it.
     pub kind: Kind,
     /// The task that the sibling runs now, 0 for idle.
     pub run: Pid,
@@ -126,7 +127,10 @@ pub enum Reply {
 /// A step that was made, with its answer.
 #[derive(Clone, Copy)]
 pub struct Entry {
+    /// Who made the step.
     pub actor: Actor,
+    /// What it did.
     pub event: Event,
+    /// What the machine answered.
     pub reply: Reply,
 }

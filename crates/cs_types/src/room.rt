@@ -31,7 +31,8 @@ pub trait Room: Drop {
     /// Makes one step, and answers what the rules answer. It takes no memory.
     ///
     /// `spare` has to be above 0, and what the event names keeps its limits: a sibling that the core
-    /// has, a pid from 1 to 999999, and an advance of 1 to 1000000000 ns.
+    /// has, a pid from 1 to 999999, an advance of 1 to 1000000000 ns, a policy with the limits of its
+    /// numbers (`Policy`), and a guard from 0 to 15.
     fn apply(&mut self, actor: Actor, event: Event) -> Reply
         requires spare { 0 < spare self.old }
         requires event { IsEvent (opening self.old).scenario.siblings event }

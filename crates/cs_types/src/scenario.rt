@@ -20,7 +20,7 @@ pub struct Teach {
 /// What a scenario text says.
 #[derive(Drop)]
 pub struct Scenario {
-    /// The SMT siblings of the core.
+    /// The SMT siblings of the core, a count: 1 to 16 for a machine, and 1 to 8 in a text.
     pub siblings: u8,
     /// How many tasks may live at once, 1 to 256.
     pub task_limit: u16,

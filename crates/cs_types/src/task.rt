@@ -105,9 +105,12 @@ pub struct TaskSpec {
     pub tgid: Pid,
     /// Its process group, 1 to 9999 in a scenario.
     pub pgid: u32,
-    /// The sibling on which it begins, its first home. A child's is its caller's home.
+    /// The sibling on which it begins, its first home. Of a child it is its caller's home at the fork; where that was
+    /// offline, the child's first home is the lowest online sibling.
     pub cpu: Cpu,
+    /// Its scheduling policy, of a living task the one that was set last.
     pub policy: Policy,
+    /// Its credentials, which no event changes.
     pub creds: Creds,
 }
 

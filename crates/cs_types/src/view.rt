@@ -20,6 +20,7 @@ pub struct CoreView {
 /// A sibling.
 #[derive(Clone, Copy)]
 pub struct CpuView {
+    /// Whether it is online.
     pub online: bool,
     /// The running task, 0 for idle.
     pub run: Pid,
@@ -32,6 +33,7 @@ pub struct CpuView {
 /// A living task.
 #[derive(Clone, Copy)]
 pub struct TaskView {
+    /// Its number, from 1.
     pub pid: Pid,
     /// The sibling on which it queues, its home.
     pub cpu: Cpu,
@@ -48,6 +50,7 @@ pub struct TaskView {
 /// A task that ended.
 #[derive(Clone, Copy)]
 pub struct EndView {
+    /// Its number, from 1.
     pub pid: Pid,
     /// What it was charged for forced idle, in ns.
     pub forced: u64,
@@ -58,7 +61,9 @@ pub struct EndView {
 pub enum GuardPlace {
     /// It was not loaded yet, and is not asked.
     Bench,
-    /// It is asked about each access that the rules before it allow.
+    /// It is asked about each access that no rule before it decides. So it is not asked where the caller and the
+    /// target are of one thread group, which is allowed, nor where a rule of the kernel or a guard that was loaded
+    /// earlier refuses.
     Active,
     /// It was unloaded, and is gone.
     Dropped,
@@ -67,6 +72,7 @@ pub enum GuardPlace {
 /// A guard.
 #[derive(Clone, Copy)]
 pub struct GuardView {
+    /// Where it is.
     pub place: GuardPlace,
     /// How often it was asked, a count. Of a dropped one it is the count at its drop.
     pub asked: u64,
