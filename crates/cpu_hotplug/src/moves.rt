@@ -3,13 +3,13 @@
 ghost use Rattle.std.specs.Prelude.{◌*◌, ◌<◌, length, IsTrue};
 ghost use Rattle.cs_types.specs.Hotplug.{move_off};
 ghost use Rattle.core_lanes.specs.Queued.{queued_among};
-ghost use Rattle.core_lanes.specs.Lanes.{AgreesAt};
+ghost use Rattle.core_lanes.specs.Lanes.{AgreesAt, MayTell};
 ghost use Rattle.core_lanes.specs.Changes.{Touches};
 ghost use Rattle.cpu_hotplug.specs.Leaves.{MayMoveOff, MayMoveAllTo, MovesWhole};
 
 use crate::away::lowest_other;
 use core_lanes::{Core, MOST_TASKS, SiblingQueue};
-use cs_types::{Cpu, Steps};
+use cs_types::{Cpu, Pid, Steps};
 use std::sync::ledger::Ledger;
 use task_table::TaskTable;
 
@@ -31,10 +31,12 @@ pub fn move_off<Q: SiblingQueue, L: Ledger>(
         return;
     }
     let to = lowest_other(core, cpu);
+    let mut places = [0; MOST_TASKS];
+    let movers = &mut places[..count as usize];
     if count >= MANY && may_exchange(core, table, cpu, to, steps) {
-        move_queue(core, table, cpu, to, steps);
+        move_queue(core, table, cpu, to, movers, steps);
     } else {
-        move_each(core, table, cpu, to, steps);
+        move_each(core, table, cpu, to, movers, steps);
     }
 }
 
@@ -61,21 +63,21 @@ fn may_exchange<Q: SiblingQueue, L: Ledger>(
     }
 }
 
-/// The tasks move with their queue, which changes places with that of the other sibling.
+/// The tasks move with their queue, which changes places with that of the other sibling. The list, which has as many
+/// places, tells them.
 fn move_queue<Q: SiblingQueue, L: Ledger>(
     core: &mut Core<Q>,
     table: &mut TaskTable,
     cpu: Cpu,
     to: Cpu,
+    movers: &mut [Pid],
     steps: &mut Steps<L>,
 )
     requires to { MayMoveAllTo cpu to (core.old, table.old) }
+    requires tell { MayTell cpu (core.old, table.old) movers.old }
     requires whole { MovesWhole cpu to (core.old, table.old) }
     ensures { Touches (2 * length (queued_among table.old.tasks cpu)) (core.old, table.old) (core.new, table.new) (λ room. move_off room cpu) }
 {
-    let count = core.lanes[cpu as usize].queue.count(table, cpu);
-    let mut places = [0; MOST_TASKS];
-    let movers = &mut places[..count as usize];
     core.tell_queued(table, cpu, movers);
     for mover in movers.iter() {
         core.place(table, *mover, cpu, to);
@@ -83,20 +85,19 @@ fn move_queue<Q: SiblingQueue, L: Ledger>(
     core.exchange(table, cpu, to, movers, steps);
 }
 
-/// The tasks move one by one.
+/// The tasks move one by one. The list, which has as many places, tells them.
 fn move_each<Q: SiblingQueue, L: Ledger>(
     core: &mut Core<Q>,
     table: &mut TaskTable,
     cpu: Cpu,
     to: Cpu,
+    movers: &mut [Pid],
     steps: &mut Steps<L>,
 )
-    requires { MayMoveAllTo cpu to (core.old, table.old) }
+    requires to { MayMoveAllTo cpu to (core.old, table.old) }
+    requires tell { MayTell cpu (core.old, table.old) movers.old }
     ensures { Touches (2 * length (queued_among table.old.tasks cpu)) (core.old, table.old) (core.new, table.new) (λ room. move_off room cpu) }
 {
-    let count = core.lanes[cpu as usize].queue.count(table, cpu);
-    let mut places = [0; MOST_TASKS];
-    let movers = &mut places[..count as usize];
     core.empty_queue(table, cpu, movers);
     for mover in movers.iter() {
         core.enter(table, *mover, cpu, to, steps);

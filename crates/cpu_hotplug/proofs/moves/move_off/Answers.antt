@@ -1,10 +1,14 @@
-use Rattle.std.proofs.Common.{◌≡◌, ◌+◌, sym, ap, arith, length}
+use Rattle.std.proofs.Common.{◌≡◌, ◌+◌, ◌<◌, ◌≤◌, ℕ, List, refl, sym, subst, ap, ◌∙◌, arith, length, take}
+use Rattle.std.proofs.lemmas.List.{length-take-le}
 use Rattle.cs_types.specs.Room.{RoomState}
+use Rattle.task_table.specs.Table.{Table}
+use Rattle.core_lanes.specs.declared.queue.SiblingQueue.{Ghosts}
+use Rattle.core_lanes.specs.declared.lanes.Core.{Core}
 use Rattle.core_lanes.specs.Queued.{queued_among}
-use Rattle.core_lanes.specs.Lanes.{room_of}
+use Rattle.core_lanes.specs.Lanes.{room_of, Agree, MayTell}
 use Rattle.core_lanes.specs.Numbers.{Numbers, numbers_of}
 use Rattle.core_lanes.proofs.Stays.{same_stays}
-use Rattle.cpu_hotplug.proofs.Leaving.{nobody_moves}
+use Rattle.cpu_hotplug.proofs.Leaving.{enough, nobody_moves}
 use Rattle.cpu_hotplug.proofs.moves.move_off.Goals as goal
 
 -- ---- where none is queued there
@@ -24,6 +28,27 @@ returns-then-count-eq0 g c =
       stays = same_stays;
     }
 
+-- ---- the list of those that move
+
+-- so many are queued, and a list of the most tasks has so many places
+module _ {Q : Type 0} {g : Ghosts Q} (both : Core Q g × Table) (cpu count : ℕ) (agree : Agree both) (is : count ≡ length (queued_among both.1.tasks cpu)) where
+  within : count ≤ 256
+  within = enough both.1.tasks cpu both.1.limit count is agree.table.few agree.few_tasks
+
+  may_tell : (places : List ℕ) → length places ≡ 256 → cpu < length both.0.lanes.items → MayTell cpu both (take count places)
+  may_tell places all at =
+      record {
+        agree = record { cpu = at; agree = agree };
+        each = length-take-le count places (subst (λ n. count ≤ n) (sym all) within) ∙ is;
+      }
+
+pub slice_bounds-places-end : goal.slice_bounds-places-end
+slice_bounds-places-end g c = within (c.args.core.now, c.args.table.now) c.args.cpu c.count-count.result c.requires.may.agree c.count-count.ensures
+
+pub slice_bounds-movers-end : goal.slice_bounds-movers-end
+slice_bounds-movers-end g c =
+    sym (length-take-le c.count-count.result _ (within (c.args.core.now, c.args.table.now) c.args.cpu c.count-count.result c.requires.may.agree c.count-count.ensures))
+
 -- ---- where they move with their queue
 
 pub move_queue-requires : goal.move_queue-requires
@@ -34,6 +59,7 @@ move_queue-requires g c = record {
     lowest = λ beside table. c.lowest_other-to.ensures.lowest beside table;
     within = c.lowest_other-to.ensures.within;
   };
+  tell = may_tell (c.args.core.now, c.args.table.now) c.args.cpu c.count-count.result c.requires.may.agree c.count-count.ensures _ refl c.requires.may.cpu;
   whole = c.may_exchange.ensures c.if-may_exchange.true;
 }
 
@@ -41,8 +67,11 @@ move_queue-requires g c = record {
 
 pub move_each-requires : goal.move_each-requires
 move_each-requires g c = record {
-  may = c.requires.may;
-  another = c.requires.another;
-  lowest = λ beside table. c.lowest_other-to.ensures.lowest beside table;
-  within = c.lowest_other-to.ensures.within;
+  to = record {
+    may = c.requires.may;
+    another = c.requires.another;
+    lowest = λ beside table. c.lowest_other-to.ensures.lowest beside table;
+    within = c.lowest_other-to.ensures.within;
+  };
+  tell = may_tell (c.args.core.now, c.args.table.now) c.args.cpu c.count-count.result c.requires.may.agree c.count-count.ensures _ refl c.requires.may.cpu;
 }

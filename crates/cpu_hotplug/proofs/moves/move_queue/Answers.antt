@@ -1,7 +1,6 @@
 use Rattle.std.proofs.Common.{Some, true, ◌≡◌, ◌+◌, ◌*◌, ◌<◌, ◌^◌, ℕ, List, refl, subst, sym, ap, ◌∙◌, arith, length, map}
 use Rattle.std.specs.Prelude.{◌==◌, All}
 use Rattle.std.proofs.lemmas.Bool.{and_parts, eqb-true}
-use Rattle.std.proofs.lemmas.List.{length-take-le}
 use Rattle.cs_types.specs.declared.task.Task.{Task}
 use Rattle.cs_types.specs.Room.{RoomState, SiblingState}
 use Rattle.cs_types.specs.Queue.{queued_of}
@@ -13,7 +12,7 @@ use Rattle.core_lanes.specs.Numbers.{Numbers, numbers_by, numbers_of, touched}
 use Rattle.core_lanes.specs.Changes.{Kept}
 use Rattle.core_lanes.proofs.Stays.{some_beside, found_in}
 use Rattle.cpu_hotplug.proofs.Ranks.{each_of}
-use Rattle.cpu_hotplug.proofs.Leaving.{few, enough, length-told, moved_is, so_far, none_moved, all_moved, one_more, next_found, none_left}
+use Rattle.cpu_hotplug.proofs.Leaving.{few, length-told, moved_is, so_far, none_moved, all_moved, one_more, next_found, none_left}
 use Rattle.std.proofs.Common.{[], ◌≢◌}
 use Rattle.std.specs.Prelude.{slice_get}
 use Rattle.std.specs.Global.{Vec}
@@ -31,27 +30,6 @@ use Rattle.core_lanes.proofs.Stays.{as_many_bare, queue_of}
 use Rattle.cpu_hotplug.specs.Leaves.{NoneBehind}
 use Rattle.cpu_hotplug.proofs.Moving.{least_from, least_to, anew, moved_there, elsewhere, none_behind}
 use Rattle.cpu_hotplug.proofs.moves.move_queue.Goals as goal
-
--- ---- the places
-
-pub slice_bounds-places-end : goal.slice_bounds-places-end
-slice_bounds-places-end g c =
-    let agree = c.requires.to.may.agree in
-    enough c.args.table.now.tasks c.args.cpu c.args.table.now.limit c.count-count.result c.count-count.ensures agree.table.few agree.few_tasks
-
-pub slice_bounds-movers-end : goal.slice_bounds-movers-end
-slice_bounds-movers-end g c =
-    let agree = c.requires.to.may.agree in
-    sym (length-take-le c.count-count.result _ (enough c.args.table.now.tasks c.args.cpu c.args.table.now.limit c.count-count.result c.count-count.ensures agree.table.few agree.few_tasks))
-
-pub tell_queued-requires : goal.tell_queued-requires
-tell_queued-requires g c =
-    let agree = c.requires.to.may.agree in
-    record {
-      agree = record { cpu = c.requires.to.may.cpu; agree = agree };
-      each = length-take-le c.count-count.result _ (enough c.args.table.now.tasks c.args.cpu c.args.table.now.limit c.count-count.result c.count-count.ensures agree.table.few agree.few_tasks)
-          ∙ c.count-count.ensures;
-    }
 
 -- ---- before any moved
 
