@@ -1,5 +1,5 @@
 -- Queued: the tasks of a table that are queued on a sibling, as its queue has them, and what it is asked of them.
-use Rattle.std.specs.Prelude.{◌≡◌, ◌≢◌, ℕ, ◌+◌, ◌≤◌, ◌<◌, Bool, ◌==◌, ◌&&◌, not, nat_lt, if◌then◌else◌, List, map, filter, find, length, count_by, Option, Some, All, IsTrue}
+use Rattle.std.specs.Prelude.{◌≡◌, ◌≢◌, ℕ, ◌<◌, Bool, ◌==◌, ◌&&◌, not, nat_lt, if◌then◌else◌, List, map, filter, find, count_by, Option, Some, All, IsTrue}
 use Rattle.std.specs.List.{list_any}
 use Rattle.std.specs.List.Sorted.{IsPermutation, IsSortedByKey}
 use Rattle.std.specs.Ordering.{nat_cmp}
@@ -58,60 +58,48 @@ pub record AreStamped (next : ℕ) (tasks : List Task) : Type 0 where
   pub below : All (λ task. IsTrue task.queued → task.stamp < next) tasks
   pub distinct : (task : Task) → IsOf tasks task → IsTrue task.queued → HasOwnStamp tasks task
 
--- A queue may be asked about a task: the table has it queued on the sibling, whose queue holds what it is to hold.
-pub record IsQueuedOn (Held : Type 0) (cpu : ℕ) (all : Table) (task : Task) : Type 0 where
+-- A queue of which this says what it holds and can take may be asked about a task: the table has it queued on the sibling, and
+-- the queue holds the tasks that the table has queued there.
+pub record IsQueuedOn (Holds : ℕ → List Queued → Type 0) (cpu : ℕ) (all : Table) (task : Task) : Type 0 where
   pub table : IsTable all
   pub there : IsOf all.tasks task
   pub queued : IsTrue task.queued
   pub home : task.home ≡ cpu
-  pub holds : Held
+  pub holds : Holds all.limit (queued_at all.tasks cpu)
 
 -- the same of a fair task
-pub record IsFairOn (Held : Type 0) (cpu : ℕ) (all : Table) (task : Task) : Type 0 where
-  pub there : IsQueuedOn Held cpu all task
+pub record IsFairOn (Holds : ℕ → List Queued → Type 0) (cpu : ℕ) (all : Table) (task : Task) : Type 0 where
+  pub there : IsQueuedOn Holds cpu all task
   pub fair : IsTrue (is_fair task)
 
--- A task may enter a queue: the same where no other queued task has its stamp.
-pub record MayBePut (Held : Type 0) (cpu : ℕ) (all : Table) (task : Task) : Type 0 where
+-- A task may enter a queue: the same where the queue holds the others, and no other queued task has its stamp.
+pub record MayBePut (Holds : ℕ → List Queued → Type 0) (cpu : ℕ) (all : Table) (task : Task) : Type 0 where
   pub table : IsTable all
   pub there : IsOf all.tasks task
   pub queued : IsTrue task.queued
   pub home : task.home ≡ cpu
   pub stamp : HasOwnStamp all.tasks task
-  pub holds : Held
+  pub holds : Holds all.limit (others task.spec.pid (queued_at all.tasks cpu))
 
 -- the policies of the tasks keep their limits
 abbrev pub HavePolicies : List Task → Type 0
 HavePolicies tasks = All (λ task. IsPolicy task.spec.policy) tasks
 
 -- A queue may be searched: it holds what it is to hold, and the policies of the tasks keep their limits.
-pub record MaySearch (Held : Type 0) (tasks : List Task) : Type 0 where
-  pub policies : HavePolicies tasks
-  pub holds : Held
+pub record MaySearch (Holds : ℕ → List Queued → Type 0) (cpu : ℕ) (all : Table) : Type 0 where
+  pub policies : HavePolicies all.tasks
+  pub holds : Holds all.limit (queued_at all.tasks cpu)
 
 -- It may be asked for its tasks with a cookie, which is not 0.
-pub record MayFind (Held : Type 0) (tasks : List Task) (given : ℕ) : Type 0 where
+pub record MayFind (Holds : ℕ → List Queued → Type 0) (cpu : ℕ) (all : Table) (given : ℕ) : Type 0 where
   pub cookie : given ≢ 0
-  pub search : MaySearch Held tasks
+  pub search : MaySearch Holds cpu all
 
 -- It may be asked about a task that the table has.
-pub record MayCompare (Held : Type 0) (all : Table) (task : Task) : Type 0 where
+pub record MayCompare (Holds : ℕ → List Queued → Type 0) (cpu : ℕ) (all : Table) (task : Task) : Type 0 where
   pub table : IsTable all
   pub there : IsOf all.tasks task
-  pub search : MaySearch Held all.tasks
-
--- ---- what a call of it promises, where these tasks are queued
-
--- The call changes the queue: that holds then what it is to hold, and at most so many comparisons were made as the number of
--- the tasks allows.
-pub record Leaves (Held : Type 0) (most : ℕ → ℕ) (tasks : List Task) (before after : ℕ) : Type 0 where
-  pub holds : Held
-  pub counted : after ≤ before + most (length tasks)
-
--- The call asks a question: this is the answer, and at most so many comparisons were made.
-pub record Answers (Answer : Type 0) (most : ℕ → ℕ) (tasks : List Task) (before after : ℕ) : Type 0 where
-  pub answer : Answer
-  pub counted : after ≤ before + most (length tasks)
+  pub search : MaySearch Holds cpu all
 
 -- ---- what is asked of it
 

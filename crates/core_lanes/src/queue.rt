@@ -1,12 +1,12 @@
 //! What a sibling's queue is asked. It is a trait, so that one text of the events serves every kind of queue.
 
-ghost use Rattle.std.specs.Prelude.{◌≡◌, ◌==◌, ◌&&◌, ℕ, ◌*◌, ◌≤◌, List, [], length, map, IfOk};
+ghost use Rattle.std.specs.Prelude.{◌≡◌, ◌==◌, ◌&&◌, ℕ, ◌+◌, ◌*◌, ◌≤◌, List, [], length, map, IfOk};
 ghost use Rattle.std.specs.Option.{option_map};
 ghost use Rattle.cs_types.specs.declared.queue.Queued.{Queued as SomeQueued, Queued};
 ghost use Rattle.cs_types.specs.Order.{first_of};
 ghost use Rattle.cs_types.specs.Queue.{queued_of};
 ghost use Rattle.cs_types.specs.Scenario.{IsPolicy};
-ghost use Rattle.core_lanes.specs.Queued.{queued_among, queued_at, mover_of, AreTold, others, given_cookie, given_vtime, IsQueuedOn, IsFairOn, MayBePut, with_cookie, behind, smallest_vtime, has_peer, MaySearch, MayFind, MayCompare, Leaves, Answers};
+ghost use Rattle.core_lanes.specs.Queued.{queued_among, queued_at, mover_of, AreTold, others, given_cookie, given_vtime, IsQueuedOn, IsFairOn, MayBePut, with_cookie, behind, smallest_vtime, has_peer, MaySearch, MayFind, MayCompare};
 ghost use Rattle.core_lanes.specs.Moved.{MayRenew};
 
 use cs_types::{Cookie, Cpu, OutOfMemory, Pid, Queued, Steps, Task};
@@ -34,13 +34,15 @@ pub trait SiblingQueue: Drop {
 
     /// The task, which the table has queued on the sibling, enters.
     fn put<L: Ledger>(&mut self, table: &TaskTable, cpu: Cpu, task: &Task, steps: &mut Steps<L>)
-        requires { MayBePut (holds self.old table.now.limit (others task.now.spec.pid (queued_at table.now.tasks cpu))) cpu table.now task.now }
-        ensures { Leaves (holds self.new table.now.limit (queued_at table.now.tasks cpu)) most_compared (queued_among table.now.tasks cpu) steps.old steps.new };
+        requires { MayBePut (holds self.old) cpu table.now task.now }
+        ensures holds { holds self.new table.now.limit (queued_at table.now.tasks cpu) }
+        ensures counted { steps.new ≤ steps.old + most_compared (length (queued_among table.now.tasks cpu)) };
 
     /// The task, which the table has queued on the sibling, leaves.
     fn take<L: Ledger>(&mut self, table: &TaskTable, cpu: Cpu, task: &Task, steps: &mut Steps<L>)
-        requires { IsQueuedOn (holds self.old table.now.limit (queued_at table.now.tasks cpu)) cpu table.now task.now }
-        ensures { Leaves (holds self.new table.now.limit (others task.now.spec.pid (queued_at table.now.tasks cpu))) most_compared (queued_among table.now.tasks cpu) steps.old steps.new };
+        requires { IsQueuedOn (holds self.old) cpu table.now task.now }
+        ensures holds { holds self.new table.now.limit (others task.now.spec.pid (queued_at table.now.tasks cpu)) }
+        ensures counted { steps.new ≤ steps.old + most_compared (length (queued_among table.now.tasks cpu)) };
 
     /// The task, which the table has queued on the sibling, is about to have this cookie there
     /// (`sched_core_update_cookie`).
@@ -52,8 +54,9 @@ pub trait SiblingQueue: Drop {
         cookie: Cookie,
         steps: &mut Steps<L>,
     )
-        requires { IsQueuedOn (holds self.old table.now.limit (queued_at table.now.tasks cpu)) cpu table.now task.now }
-        ensures { Leaves (holds self.new table.now.limit (queued_at (given_cookie task.now cookie table.now.tasks) cpu)) most_compared (queued_among table.now.tasks cpu) steps.old steps.new };
+        requires { IsQueuedOn (holds self.old) cpu table.now task.now }
+        ensures holds { holds self.new table.now.limit (queued_at (given_cookie task.now cookie table.now.tasks) cpu) }
+        ensures counted { steps.new ≤ steps.old + most_compared (length (queued_among table.now.tasks cpu)) };
 
     /// The task, a fair one that the table has queued on the sibling, is about to have this virtual time there, in
     /// ns (`update_curr`). It may leave and enter, so it makes at most twice as many comparisons as another call.
@@ -65,8 +68,9 @@ pub trait SiblingQueue: Drop {
         vtime: u128,
         steps: &mut Steps<L>,
     )
-        requires { IsFairOn (holds self.old table.now.limit (queued_at table.now.tasks cpu)) cpu table.now task.now }
-        ensures { Leaves (holds self.new table.now.limit (queued_at (given_vtime task.now vtime table.now.tasks) cpu)) (λ tasks. 2 * most_compared tasks) (queued_among table.now.tasks cpu) steps.old steps.new };
+        requires { IsFairOn (holds self.old) cpu table.now task.now }
+        ensures holds { holds self.new table.now.limit (queued_at (given_vtime task.now vtime table.now.tasks) cpu) }
+        ensures counted { steps.new ≤ steps.old + 2 * most_compared (length (queued_among table.now.tasks cpu)) };
 
     /// Every task leaves. It can take as many in all as before.
     fn clear(&mut self, table: &TaskTable, cpu: Cpu)
@@ -91,12 +95,14 @@ pub trait SiblingQueue: Drop {
         steps: &mut Steps<L>,
     )
         requires { MayRenew (holds self.old table.now.limit) cpu table.now }
-        ensures { Leaves (holds self.new table.now.limit (queued_at table.now.tasks cpu)) (λ tasks. 3 * most_compared tasks) (queued_among table.now.tasks cpu) steps.old steps.new };
+        ensures holds { holds self.new table.now.limit (queued_at table.now.tasks cpu) }
+        ensures counted { steps.new ≤ steps.old + 3 * most_compared (length (queued_among table.now.tasks cpu)) };
 
     /// The first task, `None` where there is none (`pick_task`).
     fn first<L: Ledger>(&self, table: &TaskTable, cpu: Cpu, steps: &mut Steps<L>) -> Option<Queued>
-        requires { MaySearch (holds self.now table.now.limit (queued_at table.now.tasks cpu)) table.now.tasks }
-        ensures { Answers (result ≡ option_map queued_of (first_of (queued_among table.now.tasks cpu))) most_compared (queued_among table.now.tasks cpu) steps.old steps.new };
+        requires { MaySearch (holds self.now) cpu table.now }
+        ensures answer { result ≡ option_map queued_of (first_of (queued_among table.now.tasks cpu)) }
+        ensures counted { steps.new ≤ steps.old + most_compared (length (queued_among table.now.tasks cpu)) };
 
     /// The first task with the cookie, which is not 0 (`sched_core_find`).
     fn first_with<L: Ledger>(
@@ -106,8 +112,9 @@ pub trait SiblingQueue: Drop {
         cpu: Cpu,
         steps: &mut Steps<L>,
     ) -> Option<Task>
-        requires { MayFind (holds self.now table.now.limit (queued_at table.now.tasks cpu)) table.now.tasks cookie }
-        ensures { Answers (result ≡ first_of (with_cookie cookie (queued_among table.now.tasks cpu))) most_compared (queued_among table.now.tasks cpu) steps.old steps.new };
+        requires { MayFind (holds self.now) cpu table.now cookie }
+        ensures answer { result ≡ first_of (with_cookie cookie (queued_among table.now.tasks cpu)) }
+        ensures counted { steps.new ≤ steps.old + most_compared (length (queued_among table.now.tasks cpu)) };
 
     /// The first task with the cookie of this one, which is not 0, that stands behind it (`sched_core_next`).
     fn next_with<L: Ledger>(
@@ -118,8 +125,9 @@ pub trait SiblingQueue: Drop {
         steps: &mut Steps<L>,
     ) -> Option<Task>
         requires policy { IsPolicy task.now.spec.policy }
-        requires find { MayFind (holds self.now table.now.limit (queued_at table.now.tasks cpu)) table.now.tasks task.now.cookie }
-        ensures { Answers (result ≡ first_of (behind task.now (with_cookie task.now.cookie (queued_among table.now.tasks cpu)))) most_compared (queued_among table.now.tasks cpu) steps.old steps.new };
+        requires find { MayFind (holds self.now) cpu table.now task.now.cookie }
+        ensures answer { result ≡ first_of (behind task.now (with_cookie task.now.cookie (queued_among table.now.tasks cpu))) }
+        ensures counted { steps.new ≤ steps.old + most_compared (length (queued_among table.now.tasks cpu)) };
 
     /// The smallest virtual time of the fair tasks, in ns, `None` where there is none (`update_min_vruntime`).
     fn smallest_vtime<L: Ledger>(
@@ -128,8 +136,9 @@ pub trait SiblingQueue: Drop {
         cpu: Cpu,
         steps: &mut Steps<L>,
     ) -> Option<u128>
-        requires { MaySearch (holds self.now table.now.limit (queued_at table.now.tasks cpu)) table.now.tasks }
-        ensures { Answers (result ≡ smallest_vtime (queued_among table.now.tasks cpu)) most_compared (queued_among table.now.tasks cpu) steps.old steps.new };
+        requires { MaySearch (holds self.now) cpu table.now }
+        ensures answer { result ≡ smallest_vtime (queued_among table.now.tasks cpu) }
+        ensures counted { steps.new ≤ steps.old + most_compared (length (queued_among table.now.tasks cpu)) };
 
     /// Whether there is another task of the class of this one, and among real-time tasks one of its priority.
     fn has_peer<L: Ledger>(
@@ -139,8 +148,9 @@ pub trait SiblingQueue: Drop {
         cpu: Cpu,
         steps: &mut Steps<L>,
     ) -> bool
-        requires { MayCompare (holds self.now table.now.limit (queued_at table.now.tasks cpu)) table.now task.now }
-        ensures { Answers (result ≡ has_peer task.now (queued_among table.now.tasks cpu)) most_compared (queued_among table.now.tasks cpu) steps.old steps.new };
+        requires { MayCompare (holds self.now) cpu table.now task.now }
+        ensures answer { result ≡ has_peer task.now (queued_among table.now.tasks cpu) }
+        ensures counted { steps.new ≤ steps.old + most_compared (length (queued_among table.now.tasks cpu)) };
 
     /// How many tasks there are (`nr_running`).
     fn count(&self, table: &TaskTable, cpu: Cpu) -> u32

@@ -1,11 +1,11 @@
 -- Questions: what a selection asks of the siblings, and what it keeps of their answers.
-use Rattle.std.specs.Prelude.{◌≡◌, ℕ, ◌-◌, ◌<◌, ◌≤◌, ◌++◌, List, map, length}
+use Rattle.std.specs.Prelude.{◌≡◌, ℕ, ◌+◌, ◌-◌, ◌<◌, ◌≤◌, ◌++◌, List, map, length}
 use Rattle.std.specs.List.{range_with_len}
 use Rattle.cs_types.specs.Selection.{first_on, cookie_of, lead_from, choice}
 use Rattle.task_table.specs.Table.{Table}
 use Rattle.core_lanes.specs.declared.queue.SiblingQueue.{Ghosts}
 use Rattle.core_lanes.specs.declared.lanes.Core.{Core}
-use Rattle.core_lanes.specs.Queued.{queued_among, Answers}
+use Rattle.core_lanes.specs.Queued.{queued_among}
 use Rattle.core_lanes.specs.Lanes.{Beside, room_of, AgreesAt, HasLowTimes}
 use Rattle.core_pick.specs.declared.choice.Choice.{Choice}
 use Rattle.core_pick.specs.declared.choice.Counts.{Counts}
@@ -20,8 +20,9 @@ pub record MayAsk {Q : Type 0} {g : Ghosts Q} (sibling : ℕ) (both : Core Q g �
   pub low : HasLowTimes both
 
 -- its queue is asked, answers this, and makes no more comparisons than one question takes
-abbrev pub AsksOnce : {Q : Type 0} {g : Ghosts Q} → ℕ → Core Q g × Table → Type 0 → ℕ → ℕ → Type 0
-AsksOnce {g = g} cpu both Answer before after = Answers Answer g.most_compared (queued_among both.1.tasks cpu) before after
+pub record AsksOnce {Q : Type 0} {g : Ghosts Q} (cpu : ℕ) (both : Core Q g × Table) (Answer : Type 0) (before after : ℕ) : Type 0 where
+  pub answer : Answer
+  pub counted : after ≤ before + g.most_compared (length (queued_among both.1.tasks cpu))
 
 -- this is what is kept of its first task
 abbrev pub KeepsFirst : {Q : Type 0} {g : Ghosts Q} → ℕ → Core Q g × Table → First → Type 0

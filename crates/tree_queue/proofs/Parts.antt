@@ -21,14 +21,14 @@ rest_at table cpu task = others task.spec.pid (queued_at table.tasks cpu)
 
 module _ {run : RunQueued} {first : Option Queued} {kinds lots : List ℕ} {cpu : ℕ} {table : Table} {task : Task} where
   -- one that is put in
-  pub parted_put : MayBePut (Keeps run first kinds lots table.limit (rest_at table cpu task)) cpu table task → IsParted (queued_of task) (queued_at table.tasks cpu) (rest_at table cpu task)
+  pub parted_put : MayBePut (Keeps run first kinds lots) cpu table task → IsParted (queued_of task) (queued_at table.tasks cpu) (rest_at table cpu task)
   parted_put asks = record {
     split = split_at table.tasks task cpu asks.table.rising asks.there asks.queued asks.home;
     apart = others_apart table.tasks task cpu asks.table.rising asks.stamp;
   }
 
   -- one that is there
-  module _ (asks : IsQueuedOn (Keeps run first kinds lots table.limit (queued_at table.tasks cpu)) cpu table task) where
+  module _ (asks : IsQueuedOn (Keeps run first kinds lots) cpu table task) where
     pub parted : IsParted (queued_of task) (queued_at table.tasks cpu) (rest_at table cpu task)
     parted = parted_by (split_at table.tasks task cpu asks.table.rising asks.there asks.queued asks.home) asks.holds.trees.distinct
 
