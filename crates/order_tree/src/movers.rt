@@ -4,13 +4,13 @@ ghost use Rattle.std.specs.Prelude.{◌≡◌, ℕ, ◌<◌, ◌++◌, [], ◌�
 
 use cs_types::Pid;
 
-/// Where pids are told, each with the stamp of its key. There is room for 256.
+/// Where pids are told, each with the stamp of its key. There are places for 256.
 pub trait Movers {
     /// What was told there, in the order of the calls.
     ghost told: { Self → List (ℕ × ℕ) };
 
     /// One more is told, by the stamp of its key and its pid.
     fn push(&mut self, mover: (u64, Pid))
-        requires room { length (told self.old) < 256 }
+        requires fits { length (told self.old) < 256 }
         ensures { told self.new ≡ told self.old ++ mover ∷ [] };
 }

@@ -76,11 +76,11 @@ impl OrderTree {
         if n <= self.spare {
             return Ok(());
         }
-        if self.count.checked_add(n).is_none() {
+        let Some(places) = self.count.checked_add(n) else {
             return Err(OutOfMemory);
-        }
-        let places = self.count as usize + n as usize;
-        self.nodes.reserve(places.saturating_sub(self.nodes.len()))?;
+        };
+        let more = (places as usize).saturating_sub(self.nodes.len());
+        self.nodes.reserve(more)?;
         fill(&mut self.nodes, n as usize, self.alloc)?;
         self.spare = n;
         Ok(())
@@ -134,7 +134,7 @@ impl OrderTree {
 
     /// Tells all pids by rising key, each with the stamp of its key. It compares no key.
     pub fn tell_into<M: Movers>(&self, movers: &mut M)
-        requires room { length (M.told movers.old) + map.len self.now.members ≤ 256 }
+        requires fits { length (M.told movers.old) + map.len self.now.members ≤ 256 }
         ensures told { M.told movers.new ≡ M.told movers.old ++ list.map stamped (map.entries self.now.members) }
     {
         self.tree.tell(movers);
@@ -153,11 +153,9 @@ impl OrderTree {
 
     /// The least key, and the pid there. `None` exactly where there is no key.
     #[inline(always)]
-    pub fn first<L: Ledger>(&self, steps: &mut Steps<L>) -> Option<(Key, Pid)>
-        ensures first { result ≡ first_of self.now.members }
-        ensures counted { steps.new ≡ steps.old }
+    pub fn first(&self) -> Option<(Key, Pid)>
+        ensures { result ≡ first_of self.now.members }
     {
-        let _ = steps;
         self.first
     }
 

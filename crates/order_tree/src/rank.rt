@@ -90,7 +90,7 @@ impl RankTree {
 
     /// Each task is told by its stamp and its pid, in any order.
     pub fn tell_into<M: Movers>(&self, movers: &mut M)
-        requires room { length (M.told movers.old) + len self.now.members ≤ 256 }
+        requires fits { length (M.told movers.old) + len self.now.members ≤ 256 }
         ensures told { IsPermutation (M.told movers.old ++ map stamped (entries self.now.members)) (M.told movers.new) }
     {
         self.tree.tell_into(movers);

@@ -112,7 +112,7 @@ impl RecentTree {
 
     /// Tells all pids, each with the stamp of its key, in any order. It compares no key.
     pub fn tell_into<M: Movers>(&self, movers: &mut M)
-        requires room { length (M.told movers.old) + map.len self.now.members ≤ 256 }
+        requires fits { length (M.told movers.old) + map.len self.now.members ≤ 256 }
         ensures told { IsPermutation (M.told movers.old ++ list.map stamped (map.entries self.now.members)) (M.told movers.new) }
     {
         if let Some((key, pid)) = self.recent {
@@ -140,8 +140,7 @@ impl RecentTree {
         ensures first { result ≡ first_of self.now.members }
         ensures counted { steps.new ≤ steps.old + 1 }
     {
-        let first = self.tree.first(steps);
-        lesser(self.recent, first, steps)
+        lesser(self.recent, self.tree.first(), steps)
     }
 
     /// The least key that is not below this one, and the pid there. `None` exactly where each key is

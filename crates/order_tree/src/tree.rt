@@ -245,7 +245,7 @@ impl Tree {
 
     /// Tells its pids by rising key, each with the stamp of its key. It compares no key.
     pub fn tell<M: Movers>(&self, movers: &mut M)
-        requires room { length (M.told movers.old) + length self.now.entries ≤ 256 }
+        requires fits { length (M.told movers.old) + length self.now.entries ≤ 256 }
         ensures told { M.told movers.new ≡ M.told movers.old ++ map stamped self.now.entries }
     {
         let Some(node) = &self.root else {

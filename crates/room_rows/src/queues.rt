@@ -201,7 +201,7 @@ fn expect_found<L: Ledger, R: Abort>(
     steps: &mut Steps<L>,
 ) {
     let found = [
-        tree.first(steps),
+        tree.first(),
         tree.first_from(&key(4), steps),
         tree.first_from(high, steps),
         tree.next(low, steps),
@@ -221,7 +221,7 @@ fn expect_keys<L: Ledger, R: AllocGlobal + Abort>(rt: &R, steps: &mut Steps<L>) 
     tree.insert(low, 30, steps);
     expect_found(rt, &tree, &low, &high, steps);
     assert!(rt; tree.remove(&low, steps) && !tree.remove(&low, steps));
-    assert!(rt; tree.first(steps) == Some((high, 50)) && tree.len() == 1);
+    assert!(rt; tree.first() == Some((high, 50)) && tree.len() == 1);
 }
 
 /// The key of this stamp.

@@ -58,7 +58,7 @@ record IsEdit (limit : ℕ) (before after : Ranked) (key : Key) (value : Option 
   holds : Holds limit after
   sets : SetsTo before.members after.members key value
 
--- the same of a run queue, with the room for it
+-- the same of a run queue, with the places for it
 record Edits (before after : Inside) (seat : Seat) (value : Option ℕ) (more fewer : ℕ) : Type 0 where
   sound : IsSound after
   sets : SetsTo (seated_of before).tasks (seated_of after).tasks seat value
@@ -67,27 +67,27 @@ record Edits (before after : Inside) (seat : Seat) (value : Option ℕ) (more fe
 Edits-from : (run : Inside) → IsSound run → (class : ℕ) → class ≤ 3 → (after : Ranked) (key : Key) (value : Option ℕ) (more fewer : ℕ) →
     count run + more ≤ run.limit + fewer → IsEdit run.limit (ranked_in run class) after key value more fewer →
     Edits run (with_ranked run class after) (class, key) value more fewer
-Edits-from run sound zero low after key value more fewer room one = record {
+Edits-from run sound zero low after key value more fewer fits one = record {
   sound = record { few = omega arith; limit_fits = sound.limit_fits; stop = one.holds; deadline = sound.deadline; real_time = sound.real_time; fair = sound.fair };
   sets = SetsTo-stop run.stop.members run.deadline.members run.real_time.members run.fair.members key value after.members one.sets;
   spare = omega arith;
 }
-Edits-from run sound (suc zero) low after key value more fewer room one = record {
+Edits-from run sound (suc zero) low after key value more fewer fits one = record {
   sound = record { few = omega arith; limit_fits = sound.limit_fits; stop = sound.stop; deadline = one.holds; real_time = sound.real_time; fair = sound.fair };
   sets = SetsTo-deadline run.stop.members run.deadline.members run.real_time.members run.fair.members key value after.members one.sets;
   spare = omega arith;
 }
-Edits-from run sound (suc (suc zero)) low after key value more fewer room one = record {
+Edits-from run sound (suc (suc zero)) low after key value more fewer fits one = record {
   sound = record { few = omega arith; limit_fits = sound.limit_fits; stop = sound.stop; deadline = sound.deadline; real_time = one.holds; fair = sound.fair };
   sets = SetsTo-real_time run.stop.members run.deadline.members run.real_time.members run.fair.members key value after.members one.sets;
   spare = omega arith;
 }
-Edits-from run sound (suc (suc (suc zero))) low after key value more fewer room one = record {
+Edits-from run sound (suc (suc (suc zero))) low after key value more fewer fits one = record {
   sound = record { few = omega arith; limit_fits = sound.limit_fits; stop = sound.stop; deadline = sound.deadline; real_time = sound.real_time; fair = one.holds };
   sets = SetsTo-fair run.stop.members run.deadline.members run.real_time.members run.fair.members key value after.members one.sets;
   spare = omega arith;
 }
-Edits-from run sound (suc (suc (suc (suc class)))) low after key value more fewer room one = absurd (omega arith)
+Edits-from run sound (suc (suc (suc (suc class)))) low after key value more fewer fits one = absurd (omega arith)
 
 -- ---- a task more
 
@@ -101,7 +101,7 @@ pub entered : (run : Inside) → IsSound run → (class : ℕ) → class ≤ 3 �
     0 < (seated_of run).spare → get (seated_of run).tasks (class, key) ≡ None →
     (after : Ranked) → after.members ≡ fin.insert (ranked_in run class).members key pid → after.spare + 1 ≡ (ranked_in run class).spare →
     Enters run (with_ranked run class after) (class, key) pid
-entered run sound class low key pid room free after is spare =
+entered run sound class low key pid fits free after is spare =
     let before = ranked_in run class in
     let holds = holds_in run sound class in
     let longer : len after.members ≡ len before.members + 1 =

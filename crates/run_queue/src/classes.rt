@@ -149,7 +149,7 @@ impl Classes {
 
     /// Each task is told by its stamp and its pid, in any order.
     pub fn tell_into<M: Movers>(&self, movers: &mut M)
-        requires room { length (M.told movers.old) + map.len self.now.tasks ≤ 256 }
+        requires fits { length (M.told movers.old) + map.len self.now.tasks ≤ 256 }
         ensures told { IsPermutation (M.told movers.old ++ list.map stamped (map.entries self.now.tasks)) (M.told movers.new) }
     {
         self.stop.tell_into(movers);

@@ -2,5 +2,5 @@ use Rattle.std.proofs.Common.{sym, ◌∙◌}
 use Rattle.order_tree.proofs.Members.{first_of-from_sorted}
 use Rattle.order_tree.proofs.order.OrderTree.first.Goals as goal
 
-pub returns-clause-first : goal.returns-clause-first
-returns-clause-first g c = rw (← c.self.view_is) (c.self.invariant.first ∙ sym (first_of-from_sorted c.self.inside.tree.entries c.self.invariant.rising))
+pub returns : goal.returns
+returns c = rw (← c.self.view_is) (c.self.invariant.first ∙ sym (first_of-from_sorted c.self.inside.tree.entries c.self.invariant.rising))

@@ -7,7 +7,7 @@ use Rattle.order_tree.proofs.order.OrderTree.tell_into.Goals as goal
 pub tell-requires : goal.tell-requires
 tell-requires g c =
     let es = c.self.inside.tree.entries in
-    record { room = omega (arith, len-from_sorted key_cmp es c.self.invariant.rising, ap (λ (tree : Ordered). len tree.members) c.self.view_is, c.requires.room) }
+    record { fits = omega (arith, len-from_sorted key_cmp es c.self.invariant.rising, ap (λ (tree : Ordered). len tree.members) c.self.view_is, c.requires.fits) }
 
 pub returns : goal.returns
 returns g c =

@@ -18,4 +18,4 @@ returns g c =
 pub tell_into-requires : goal.tell_into-requires
 tell_into-requires g c =
     let tree = c.self.inside.tree in
-    record { room = omega (arith, len-ranked tree.members c.self.invariant, ap (λ (queue : Ranked). len queue.members) c.self.view_is, c.requires.room) }
+    record { fits = omega (arith, len-ranked tree.members c.self.invariant, ap (λ (queue : Ranked). len queue.members) c.self.view_is, c.requires.fits) }

@@ -7,5 +7,5 @@ pub returns-clause-first : goal.returns-clause-first
 returns-clause-first g c =
     rw (← c.self.view_is)
     (c.lesser.ensures.lesser
-    ∙ ap (lesser c.self.inside.recent) c.first-first.ensures.first
+    ∙ ap (lesser c.self.inside.recent) c.first.ensures
     ∙ sym (first_of-recent c.self.inside.recent c.self.inside.tree c.self.invariant))

@@ -30,7 +30,7 @@ push-requires g c =
     let tree = c.self.inside.tree in
     let is : recent ≡ Some (c.in-Some.key, c.in-Some.pid) = c.in-Some.is in
     let seen = ap (λ (order : Ordered). len order.members) c.self.view_is in
-    record { room = omega (arith, c.requires.room, seen, len-recent recent tree c.self.invariant, ap (λ (o : Option Entry). option_len o) is) }
+    record { fits = omega (arith, c.requires.fits, seen, len-recent recent tree c.self.invariant, ap (λ (o : Option Entry). option_len o) is) }
 
 pub tell_into-requires : goal.tell_into-requires
 tell_into-requires g c =
@@ -46,7 +46,7 @@ tell_into-requires g c =
           ap g.M.Movers.told w.movers-is
           ∙ ap (λ (o : Option Entry). with_told o old) (sym w.in_default.is)
     ] in
-    record { room = omega (arith, c.requires.room, seen, len-recent recent tree c.self.invariant, ap length told, length-with_told recent old) }
+    record { fits = omega (arith, c.requires.fits, seen, len-recent recent tree c.self.invariant, ap length told, length-with_told recent old) }
 
 pub returns : goal.returns
 returns g c =

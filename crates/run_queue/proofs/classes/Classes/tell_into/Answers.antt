@@ -13,7 +13,7 @@ tell_into-requires g c =
     let was = c.self.inside in
     let all = len-joined was.stop.members was.deadline.members was.real_time.members was.fair.members in
     let seen = ap (λ (classes : Seated). len classes.tasks) c.self.view_is in
-    record { room = omega (arith, all, seen, c.requires.room) }
+    record { fits = omega (arith, all, seen, c.requires.fits) }
 
 pub tell_into-requires-2 : goal.tell_into-requires-2
 tell_into-requires-2 g c =
@@ -21,7 +21,7 @@ tell_into-requires-2 g c =
     let all = len-joined was.stop.members was.deadline.members was.real_time.members was.fair.members in
     let seen = ap (λ (classes : Seated). len classes.tasks) c.self.view_is in
     let one = length-told was.stop.members (g.M.Movers.told c.args.movers.now) (g.M.Movers.told c.tell_into.new.movers) c.tell_into.ensures.told in
-    record { room = omega (arith, all, seen, one, c.requires.room) }
+    record { fits = omega (arith, all, seen, one, c.requires.fits) }
 
 pub tell_into-requires-3 : goal.tell_into-requires-3
 tell_into-requires-3 g c =
@@ -30,7 +30,7 @@ tell_into-requires-3 g c =
     let seen = ap (λ (classes : Seated). len classes.tasks) c.self.view_is in
     let one = length-told was.stop.members (g.M.Movers.told c.args.movers.now) (g.M.Movers.told c.tell_into.new.movers) c.tell_into.ensures.told in
     let two = length-told was.deadline.members (g.M.Movers.told c.tell_into.new.movers) (g.M.Movers.told c.tell_into-2.new.movers) c.tell_into-2.ensures.told in
-    record { room = omega (arith, all, seen, one, two, c.requires.room) }
+    record { fits = omega (arith, all, seen, one, two, c.requires.fits) }
 
 pub tell_into-requires-4 : goal.tell_into-requires-4
 tell_into-requires-4 g c =
@@ -40,7 +40,7 @@ tell_into-requires-4 g c =
     let one = length-told was.stop.members (g.M.Movers.told c.args.movers.now) (g.M.Movers.told c.tell_into.new.movers) c.tell_into.ensures.told in
     let two = length-told was.deadline.members (g.M.Movers.told c.tell_into.new.movers) (g.M.Movers.told c.tell_into-2.new.movers) c.tell_into-2.ensures.told in
     let three = length-told was.real_time.members (g.M.Movers.told c.tell_into-2.new.movers) (g.M.Movers.told c.tell_into-3.new.movers) c.tell_into-3.ensures.told in
-    record { room = omega (arith, all, seen, one, two, three, c.requires.room) }
+    record { fits = omega (arith, all, seen, one, two, three, c.requires.fits) }
 
 -- ---- what is left
 
