@@ -226,7 +226,7 @@ module _ (tasks : Seats) (cookies : Spots) (seat : Seat) where
 
   module _ (tied : IsTied tasks cookies) (free : (cookie : ℕ) → get cookies (cookie, seat) ≡ None) where
     -- where no task with a cookie is at the seat, they are tied to the others
-    tied_others : IsTied (fin.remove tasks seat) cookies
+    pub tied_others : IsTied (fin.remove tasks seat) cookies
     tied_others = IsTied-remove_plain tasks cookies tied seat 0
         (λ other there. let bad : true ≡ false = sym there ∙ ap is_some (free other) in absurd cc) refl
 

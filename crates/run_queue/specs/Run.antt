@@ -23,7 +23,7 @@ pub record IsTied (tasks : Seats) (cookies : Spots) : Type 0 where
   pub cookie : (spot : Spot) → IsTrue (contains_key cookies spot) → spot.0 ≢ 0
   pub one : (spot other : Spot) → IsTrue (contains_key cookies spot) → IsTrue (contains_key cookies other) → spot.1 ≡ other.1 → spot.0 ≡ other.0
 
--- There is room for the cookie of each task that there may be.
+-- There is a place for the cookie of each task that there may be.
 pub record IsSound (run : Inside) : Type 0 where
-  pub room : run.classes.spare + len run.classes.tasks ≤ run.cookies.spare + len run.cookies.tasks
+  pub fits : run.classes.spare + len run.classes.tasks ≤ run.cookies.spare + len run.cookies.tasks
   pub tied : IsTied run.classes.tasks run.cookies.tasks

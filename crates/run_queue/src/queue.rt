@@ -87,9 +87,7 @@ impl RunQueue {
         ensures counted { steps.new ≤ steps.old + 2 * most_comparisons (map.len self.old.tasks) }
     {
         self.classes.enqueue(task, steps);
-        if task.cookie != 0 {
-            self.cookies.put(task, steps);
-        }
+        self.enter_cookies(task, steps);
     }
 
     /// Takes the task at the seat of this one out, which has its pid and its cookie. `false` comes exactly
@@ -105,11 +103,8 @@ impl RunQueue {
         ensures spare { self.new.spare ≡ self.old.spare + (if result then 1 else 0) }
         ensures counted { steps.new ≤ steps.old + 2 * most_comparisons (map.len self.old.tasks) }
     {
-        let found = self.classes.dequeue(task, steps);
-        if task.cookie != 0 {
-            self.cookies.take(task, steps);
-        }
-        found
+        self.leave_cookies(task, steps);
+        self.classes.dequeue(task, steps)
     }
 
     /// The task leaves the cookie order (`sched_core_dequeue`), where it has a cookie.
@@ -138,6 +133,9 @@ impl RunQueue {
         ensures cookies { self.new.cookies ≡ including task self.old.cookies }
         ensures spare { self.new.spare ≡ self.old.spare }
         ensures counted { steps.new ≤ steps.old + most_comparisons (map.len self.old.tasks) }
+
+        // It is compared with tasks that have cookies alone.
+        ensures few { steps.new ≤ steps.old + most_comparisons (map.len self.old.cookies) }
     {
         if task.cookie != 0 {
             self.cookies.put(task, steps);
@@ -198,7 +196,7 @@ impl RunQueue {
 
     /// Each task is told by its stamp and its pid, in any order.
     pub fn tell_into<M: Movers>(&self, movers: &mut M)
-        requires room { length (M.told movers.old) + map.len self.now.tasks ≤ 256 }
+        requires fits { length (M.told movers.old) + map.len self.now.tasks ≤ 256 }
         ensures told { IsPermutation (M.told movers.old ++ list.map stamped (map.entries self.now.tasks)) (M.told movers.new) }
     {
         self.classes.tell_into(movers);

@@ -6,11 +6,11 @@ use Rattle.run_queue.proofs.queue.RunQueue.clear.Goals as goal
 
 pub invariant_of-self : goal.invariant_of-self
 invariant_of-self c =
-    let room = c.self.invariant.room in
+    let fits = c.self.invariant.fits in
     let tasks = ap len c.clear.ensures.tasks ∙ len-empty seat_cmp ℕ in
     let cookies = ap len c.clear-2.ensures.tasks ∙ len-empty spot_cmp ℕ in
     let spare = c.clear.ensures.spare in
     let left = c.clear-2.ensures.spare in record {
-      room = omega arith;
+      fits = omega arith;
       tied = IsTied-empty c.clear.new.self.tasks c.clear-2.new.self.tasks c.clear-2.ensures.tasks;
     }

@@ -7,6 +7,6 @@ use Rattle.run_queue.proofs.queue.RunQueue.empty.Goals as goal
 pub invariant_of-result : goal.invariant_of-result
 invariant_of-result c =
     let tasks = ap len c.empty.ensures.tasks ∙ len-empty seat_cmp ℕ in record {
-      room = omega arith;
+      fits = omega arith;
       tied = IsTied-empty c.empty.result.tasks c.empty-2.result.tasks c.empty-2.ensures.tasks;
     }

@@ -13,7 +13,7 @@ put-requires-clause-spare g c =
     let free : (cookie : ℕ) → fin.get c.self.inside.cookies.tasks (cookie, seat) ≡ None = rw (← c.self.view_is) at c.requires.free in
     let there : IsTrue (fin.contains_key c.self.inside.classes.tasks seat) = rw (← c.self.view_is) at c.requires.there in
     let few = len-lt c.self.inside.classes.tasks c.self.inside.cookies.tasks seat c.self.invariant.tied free there in
-    let room = c.self.invariant.room in
+    let fits = c.self.invariant.fits in
     omega arith
 
 pub invariant_of-self : goal.invariant_of-self
@@ -23,9 +23,9 @@ invariant_of-self g c =
     let there : IsTrue (fin.contains_key c.self.inside.classes.tasks seat) = rw (← c.self.view_is) at c.requires.there in
     let cookies = ap fin.len c.put.ensures.tasks
     ∙ longer-insert spot_total spot_cmp-IsAntisymmetric c.self.inside.cookies.tasks (spot_of c.args.task) c.args.task.pid (free c.args.task.cookie) in
-    let room = c.self.invariant.room in
+    let fits = c.self.invariant.fits in
     let left = c.put.ensures.spare in record {
-      room = omega arith;
+      fits = omega arith;
       tied = rw c.put.ensures.tasks
           (IsTied-including c.self.inside.classes.tasks c.self.inside.cookies.tasks seat c.self.invariant.tied free there c.args.task.pid c.args.task.cookie c.if-task-ne0.true);
     }

@@ -14,9 +14,9 @@ invariant_of-self g c =
     let cookies = ap (λ b. fin.len c.take.new.self.tasks + cond b 1 0) c.take.ensures.found
     ∙ ap (λ n. n + cond (fin.contains_key c.self.inside.cookies.tasks (spot_of c.args.task.now)) 1 0) (ap fin.len c.take.ensures.tasks)
     ∙ shorter-remove spot_total spot_cmp-IsAntisymmetric c.self.inside.cookies.tasks (spot_of c.args.task.now) in
-    let room = c.self.invariant.room in
+    let fits = c.self.invariant.fits in
     let left = c.take.ensures.spare in record {
-      room = omega arith;
+      fits = omega arith;
       tied = rw c.take.ensures.tasks
           (IsTied-without c.self.inside.classes.tasks _ (seat_of c.args.task.now)
           (IsTied-remove_cookie c.self.inside.classes.tasks c.self.inside.cookies.tasks tied (seat_of c.args.task.now) c.args.task.now.cookie own));

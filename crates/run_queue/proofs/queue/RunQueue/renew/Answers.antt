@@ -16,7 +16,7 @@ invariant_of-self g c =
     let seats = ap (λ (run : RunQueued). entries run.tasks) c.self.view_is in
     let spots = ap (λ (run : RunQueued). entries run.cookies) c.self.view_is in
     record {
-      room = omega (arith, c.self.invariant.room, tasks, cookies, c.renew.ensures.spare, c.renew-2.ensures.spare);
+      fits = omega (arith, c.self.invariant.fits, tasks, cookies, c.renew.ensures.spare, c.renew-2.ensures.spare);
       tied = c.requires.tied c.renew.new.self.tasks c.renew-2.new.self.tasks (c.renew.ensures.entries ∙ ap (map (reseated at)) seats)
           (c.renew-2.ensures.entries ∙ ap (map (respotted at)) spots);
     }

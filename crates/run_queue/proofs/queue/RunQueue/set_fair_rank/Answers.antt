@@ -70,11 +70,11 @@ invariant_of-self g c =
     let as_before = ap fin.len is ∙ as_many tasks cookies tied (seat_of task) (seat_of later) task.cookie task.pid own there free in
     let cookies_as_before = ap fin.len c.set_rank.ensures.tasks
     ∙ as_many_cookies tasks cookies tied (seat_of task) (seat_of later) task.cookie task.pid own there free (entered c.if-task-ne0.true) in
-    let room = c.self.invariant.room in
+    let fits = c.self.invariant.fits in
     let spare = c.set_fair_rank.ensures.spare in
     let cookies_spare = c.set_rank.ensures.spare in
     record {
-      room = omega arith;
+      fits = omega arith;
       tied = rw (is, c.set_rank.ensures.tasks)
           (tied_again tasks cookies tied (seat_of task) (seat_of later) task.cookie task.pid own there free (entered c.if-task-ne0.true) c.if-task-ne0.true);
     }
@@ -93,10 +93,10 @@ invariant_of-self-else-task-ne0 g c =
     c.set_fair_rank.ensures.tasks
     ∙ ap (λ (n : ℕ). fin.insert (fin.remove tasks (n, (task.rank, task.stamp))) (n, (c.args.rank, task.stamp)) task.pid) (sym c.requires.fair) in
     let as_before = ap fin.len is ∙ as_many tasks cookies tied (seat_of task) (seat_of later) task.cookie task.pid own there free in
-    let room = c.self.invariant.room in
+    let fits = c.self.invariant.fits in
     let spare = c.set_fair_rank.ensures.spare in
     record {
-      room = omega arith;
+      fits = omega arith;
       tied = rw is (tied_plain tasks cookies tied (seat_of task) (seat_of later) task.cookie task.pid own there free c.if-task-ne0.false);
     }
 
