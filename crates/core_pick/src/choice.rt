@@ -12,7 +12,7 @@ use crate::sibling::hand;
 use arrayvec::ArrayVec;
 use core_lanes::{Lane, MOST_SIBLINGS};
 use cs_types::{Cookie, Cpu, Pid, Queued};
-use sibling_priority::{FAIR, IDLE};
+use sibling_priority::IDLE;
 use task_table::TaskTable;
 
 /// A task that a sibling gets, or idle: first the first of its queue, then what it gets for the core cookie. Its
@@ -61,7 +61,7 @@ impl Choice {
     pub fn is_fair(&self) -> bool
         ensures { result ≡ (self.now.class == fair_class) }
     {
-        self.class == u32::from(FAIR)
+        self.class == u32::from(Queued::FAIR)
     }
 
     /// The task, none for idle.

@@ -10,7 +10,6 @@ ghost use Rattle.core_pick.specs.Schedules.{MayKeep};
 
 use crate::choice::Choice;
 use cs_types::Queued;
-use sibling_priority::FAIR;
 
 /// Above each snapshot, in ns: it is added before one is taken off.
 const ABOVE_SNAPSHOTS: u128 = 1 << 100;
@@ -60,7 +59,7 @@ fn place_of(first: &Queued, snapshot: u128) -> u128
     requires { MayKeep snapshot (Some first.now) }
     ensures { result ≡ place_of snapshot first.now.class first.now.rank }
 {
-    if first.class == FAIR {
+    if first.class == Queued::FAIR {
         first.rank + ABOVE_SNAPSHOTS - snapshot
     } else {
         first.rank

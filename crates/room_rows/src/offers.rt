@@ -3,15 +3,15 @@
 ghost use Rattle.std.specs.Prelude.{All};
 ghost use Rattle.sibling_priority.specs.Offers.{IsInRange};
 
-use cs_types::Policy;
-use sibling_priority::{IDLE, Offer, REAL_TIME, higher, lead};
+use cs_types::{Policy, Queued};
+use sibling_priority::{IDLE, Offer, higher, lead};
 
 /// The offer of a real-time task.
 fn real_time(rank: u128) -> Offer
     ensures { IsInRange result }
 {
     Offer {
-        class: REAL_TIME,
+        class: Queued::REAL_TIME,
         rank,
         ..Offer::default()
     }

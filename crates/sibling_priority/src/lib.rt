@@ -1,9 +1,9 @@
-//! The order across the SMT siblings of a core (`prio_less` in kernel/sched/core.c), by which a
-//! selection for the core finds its lead.
+//! The order across the SMT siblings of a core (`prio_less` in kernel/sched/core.c), over what each of them
+//! offers, and the lead of many. A selection compares what it keeps of its firsts by the same order (`core_pick`).
 #![tactic(auto)]
 
 mod offer;
 mod order;
 
-pub use offer::{DEADLINE, FAIR, IDLE, Offer, REAL_TIME, STOP};
+pub use offer::{IDLE, Offer};
 pub use order::{higher, lead};

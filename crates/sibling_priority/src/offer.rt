@@ -1,22 +1,10 @@
 //! What a sibling puts up for a selection. It is plain numbers, so that the order reads no task and
 //! no queue.
 
-use cs_types::{Cpu, Pid, Queued};
+use cs_types::{Cpu, Pid};
 
-/// The class of the stop task (`stop_sched_class`), the highest of the five. Their numbers rise
-/// where the kernel's `__task_prio` rises.
-pub const STOP: u8 = Queued::STOP;
-
-/// The class of deadline tasks (`dl_sched_class`).
-pub const DEADLINE: u8 = Queued::DEADLINE;
-
-/// The class of FIFO and RR tasks (`rt_sched_class`).
-pub const REAL_TIME: u8 = Queued::REAL_TIME;
-
-/// The class of fair tasks (`fair_sched_class`).
-pub const FAIR: u8 = Queued::FAIR;
-
-/// The class of a sibling that has no task (`idle_sched_class`), the lowest.
+/// The class of a sibling that has no task (`idle_sched_class`), the lowest. A task has one of the classes of
+/// `Queued`, whose numbers rise where the kernel's `__task_prio` rises.
 pub const IDLE: u8 = 4;
 
 /// The first task of a sibling, as the order reads it.

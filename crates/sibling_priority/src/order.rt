@@ -1,12 +1,13 @@
-//! Which of two offers is higher, and the lead of many. A selection compares the offers of distinct
-//! siblings here, and nothing else decides between siblings.
+//! Which of two offers is higher, and the lead of many: the order across siblings, as the kernel has it. A
+//! selection compares what it keeps of its firsts by the same order (`First::is_higher` of `core_pick`).
 
 ghost use Rattle.std.specs.Prelude.{◌≡◌, ℕ, ◌<◌, length, All, List, [], ◌∷◌, Option, Some, None, position, slice_index_or};
 ghost use Rattle.cs_types.specs.declared.task.Task.{Task};
 ghost use Rattle.cs_types.specs.Order.{foremost, outranks};
 ghost use Rattle.sibling_priority.specs.Offers.{is_higher_offer, is_highest, IsInRange, AreOffersOf};
 
-use crate::offer::{DEADLINE, FAIR, Offer, REAL_TIME};
+use crate::offer::Offer;
+use cs_types::Queued;
 
 /// Whether one offer is higher than another, where every pair that this leaves open is a tie
 /// (`prio_less` in kernel/sched/core.c with its sides swapped, and `cfs_prio_less` in
@@ -25,9 +26,9 @@ pub fn higher(a: &Offer, b: &Offer) -> bool
         return a.class < b.class;
     }
     match a.class {
-        DEADLINE | REAL_TIME => a.rank < b.rank,
+        Queued::DEADLINE | Queued::REAL_TIME => a.rank < b.rank,
         // Each rank less its own snapshot, moved across so that no difference is below 0.
-        FAIR => a.rank + b.snapshot < b.rank + a.snapshot,
+        Queued::FAIR => a.rank + b.snapshot < b.rank + a.snapshot,
         _ => false,
     }
 }
