@@ -15,8 +15,8 @@ import sys
 from concurrent.futures import ProcessPoolExecutor
 
 sys.path.insert(0, os.path.dirname(os.path.abspath(__file__)))
-import fuzz
 import reference
+import runs
 
 TASKS, STEPS, MOST = 24, 20000, 4294967295
 
@@ -116,7 +116,7 @@ def lists(count, rng):
 
 def is_told(program, words):
     """Whether the program refuses words that it does not know, and takes the others. It reads no input."""
-    status, output, error = fuzz.ran([program, *words])
+    status, output, error = runs.ran([program, *words])
     if not known(words):
         return (status, output, error) == (1, b'', b'coresched: bad words\n')
     return (status, error) == ((0, b'') if words[0] == 'drill' else (2, b'coresched: line 1: Cut\n'))
@@ -124,7 +124,7 @@ def is_told(program, words):
 
 def is_drilled(program, seed):
     """Whether the program prints the drill of a seed."""
-    return fuzz.ran([program, 'drill', str(seed)]) == (0, drilled(seed), b'')
+    return runs.ran([program, 'drill', str(seed)]) == (0, drilled(seed), b'')
 
 
 def main():

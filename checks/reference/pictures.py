@@ -19,7 +19,8 @@ import xml.dom.minidom
 import xml.parsers.expat
 
 sys.path.insert(0, os.path.dirname(os.path.abspath(__file__)))
-import fuzz
+import runs
+import scenarios
 
 EXAMPLES = os.path.join(os.path.dirname(os.path.abspath(__file__)), '..', '..', 'examples')
 COLUMNS = ['from', 'to', 'sibling', 'state', 'cookie', 'pending', 'forced', 'pid']
@@ -193,7 +194,7 @@ def texts(count, seed):
         with open(path, 'rb') as it:
             yield os.path.basename(path), it.read()
     for k in range(count):
-        yield 'random %d' % k, fuzz.scenario(random.Random('pictures %d/%d' % (seed, k)))
+        yield 'random %d' % k, scenarios.scenario(random.Random('pictures %d/%d' % (seed, k)))
     for k in range(count // 4):
         rng = random.Random('long pictures %d/%d' % (seed, k))
         yield 'long %d' % k, long_run(rng, rng.randint(2, 8), rng.randint(200, 4_000), 10 ** rng.randint(1, 8))
@@ -209,7 +210,7 @@ def main():
     a = p.parse_args()
     began, drawn, wrong, most, stretches = time.time(), 0, 0, 0, 0
     for name, data in texts(a.count, a.seed):
-        (status, picture, error), segments = fuzz.ran([a.program, 'picture'], data), fuzz.ran([a.program, 'segments'], data)
+        (status, picture, error), segments = runs.ran([a.program, 'picture'], data), runs.ran([a.program, 'segments'], data)
         try:
             if (status, error) != (segments[0], segments[2]) or status not in (0, 2):
                 raise Wrong('ends with %s, and segments with %s' % (status, segments[0]))
@@ -222,8 +223,8 @@ def main():
             compare(picture, run)
         except Wrong as it:
             wrong += 1
-            base = fuzz.kept('pictures-seed%d-%d' % (a.seed, wrong))
-            fuzz.write(base + '.scenario', data)
+            base = runs.kept('pictures-seed%d-%d' % (a.seed, wrong))
+            runs.write(base + '.scenario', data)
             print('WRONG: %s, %s.scenario: %s' % (name, base, it))
     print('pictures, seed %d: %d drawn, of %d stretches, at most %d bytes, %d wrong; %.0f s' % (a.seed, drawn, stretches, most, wrong, time.time() - began))
     return 1 if wrong else 0

@@ -17,8 +17,9 @@ import time
 from concurrent.futures import ThreadPoolExecutor
 
 sys.path.insert(0, os.path.dirname(os.path.abspath(__file__)))
-import fuzz
 import reference
+import runs
+import scenarios
 
 
 def steps_of(data):
@@ -70,15 +71,15 @@ def main():
     began, wrong, many, most = time.time(), 0, 0, 0
     with ThreadPoolExecutor(a.beside) as pool:
         for k in range(a.count):
-            data = fuzz.scenario(random.Random('%d/%d' % (a.seed, k)))
-            runs = list(pool.map(lambda _: fuzz.ran([*program, 'race'], data), range(a.runs)))
-            told = [judged(data, run) for run in runs]
+            data = scenarios.scenario(random.Random('%d/%d' % (a.seed, k)))
+            ended = list(pool.map(lambda _: runs.ran([*program, 'race'], data), range(a.runs)))
+            told = [judged(data, run) for run in ended]
             wrong += sum(fault is not None for fault, _ in told)
-            for (fault, _), run in zip(told, runs):
+            for (fault, _), run in zip(told, ended):
                 if fault:
-                    base = fuzz.kept('race-seed%d-%d' % (a.seed, k))
-                    fuzz.write(base + '.scenario', data)
-                    fuzz.write(base + '.got', run[1] + b'--- stderr\n' + run[2])
+                    base = runs.kept('race-seed%d-%d' % (a.seed, k))
+                    runs.write(base + '.scenario', data)
+                    runs.write(base + '.got', run[1] + b'--- stderr\n' + run[2])
                     print('WRONG: %s: %s.scenario' % (fault, base))
             orders = len({order for _, order in told})
             many += orders > 1

@@ -14,8 +14,9 @@ import sys
 import time
 
 sys.path.insert(0, os.path.dirname(os.path.abspath(__file__)))
-import fuzz
+import mutations
 import reference
+import runs
 
 HEAD = ['from', 'to', 'sibling', 'state', 'cookie', 'pending', 'forced', 'pid']
 
@@ -102,7 +103,7 @@ def row_of(line):
 def faults(program, text):
     """What is wrong with the program's answers to a text, and whether it was played."""
     status, rows, error = ended(text)
-    as_table, as_lines, as_sums = (fuzz.ran([program, word], text) for word in ('segments', 'segments-json', 'summary'))
+    as_table, as_lines, as_sums = (runs.ran([program, word], text) for word in ('segments', 'segments-json', 'summary'))
     found = []
     if as_table != (status, b'' if status else table(rows), error):
         found.append('segments')
@@ -136,14 +137,14 @@ def main():
         sys.stderr.buffer.write(error)
         return status
     began, wrong, played, told = time.time(), 0, 0, 0
-    for name, text in fuzz.each_text('segments', a.count, a.seed):
+    for name, text in mutations.each_text('segments', a.count, a.seed):
         found, is_played, count = faults(a.program, text)
         played += is_played
         told += count
         if found:
             wrong += 1
-            base = fuzz.kept(name)
-            fuzz.write(base + '.scenario', text)
+            base = runs.kept(name)
+            runs.write(base + '.scenario', text)
             print('WRONG: %s.scenario: %s' % (base, ', '.join(found)))
     print('segments, seed %d: %d texts, %d played with %d stretches, %d wrong; %.0f s' % (a.seed, 2 * a.count, played, told, wrong, time.time() - began))
     return 1 if wrong else 0

@@ -14,8 +14,9 @@ import time
 from collections import Counter
 
 sys.path.insert(0, os.path.dirname(os.path.abspath(__file__)))
-import fuzz
+import mutations
 import reference
+import runs
 
 WORDS = [[], [''], ['summary', ''], ['', 'summary'], ['summary', 'summary'], ['--help'], ['-h'], ['help'], ['help', 'summary'], ['--version'], ['-V'],
          ['-'], ['--'], ['--', 'summary'], ['summary', '--'], ['summary', '--help'], ['summary', 'help'], ['Summary'], ['summar'], ['summarys'], ['s'],
@@ -160,7 +161,7 @@ def summarized(data):
 
 def refused(program, words):
     """Whether the program says that it does not know the words. It reads no input."""
-    return fuzz.ran([program, *words]) == (1, b'', b'coresched_view: bad words\n')
+    return runs.ran([program, *words]) == (1, b'', b'coresched_view: bad words\n')
 
 
 def main():
@@ -176,14 +177,14 @@ def main():
         sys.stderr.buffer.write(error)
         return status
     began, wrong, played, exposed = time.time(), 0, 0, 0
-    for name, text in fuzz.each_text('times', a.count, a.seed):
-        want, got = summarized(text), fuzz.ran([a.program, 'summary'], text)
+    for name, text in mutations.each_text('times', a.count, a.seed):
+        want, got = summarized(text), runs.ran([a.program, 'summary'], text)
         played += want[0] == 0
         exposed += b'exposed' in want[1] and b'exposed 0 ' not in want[1]
         if got != want:
             wrong += 1
-            base = fuzz.kept(name)
-            fuzz.write(base + '.scenario', text)
+            base = runs.kept(name)
+            runs.write(base + '.scenario', text)
             print('WRONG: %s.scenario\n  want %r\n  got  %r' % (base, want, got))
     taken = [words for words in WORDS if not refused(a.program, words)]
     print('times, seed %d: %d texts, %d played, %d of them exposed, %d wrong; lists of words: %d, %d wrong%s; %.0f s' % (
