@@ -2,12 +2,10 @@
 //! sibling that leaves and a schedule all charge.
 
 ghost use Rattle.std.specs.Prelude.{◌≡◌, ℕ, ◌+◌, ◌^◌, ◌<◌, [], length, find, All, IsSome, IfSome};
-ghost use Rattle.std.specs.Option.{option_and_then};
-ghost use Rattle.cs_types.specs.Room.{has_pid, task_of, sibling_of, to_run};
-ghost use Rattle.cs_types.specs.Accounting.{with_cookie, charged, charge};
+ghost use Rattle.cs_types.specs.Room.{has_pid};
+ghost use Rattle.cs_types.specs.Accounting.{charged, charge};
 ghost use Rattle.task_table.specs.Table.{total_in, IsSound as IsTable};
-ghost use Rattle.core_lanes.specs.Queued.{IsOf};
-ghost use Rattle.core_lanes.specs.Lanes.{Beside, room_of, queues_of, bare, Agree};
+ghost use Rattle.core_lanes.specs.Lanes.{Beside, room_of};
 ghost use Rattle.core_lanes.specs.Account.{charged_at, MayOwe, Owes};
 ghost use Rattle.core_lanes.specs.Charges.{MayCharge, ChargesAlone};
 

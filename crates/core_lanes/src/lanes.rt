@@ -1,6 +1,6 @@
 //! The core.
 
-ghost use Rattle.std.specs.Prelude.{◌≡◌, ◌≢◌, ℕ, [], ◌+◌, ◌^◌, ◌<◌, ◌≤◌, length, map, find, is_some, All, Some, IfOk, IfSome, IsSomeAnd, option_copied, slice_get, IsTrue, if◌then◌else◌};
+ghost use Rattle.std.specs.Prelude.{◌≡◌, ◌+◌, ◌^◌, ◌<◌, ◌≤◌, length, map, find, is_some, Some, IfOk, IfSome, IsSomeAnd, option_copied, IsTrue};
 ghost use Rattle.std.specs.Option.{option_map};
 ghost use Rattle.cs_types.specs.declared.task.Task.{Task as SomeTask};
 ghost use Rattle.cs_types.specs.Room.{has_pid, is_online, running_on, with_task, flag};
@@ -11,7 +11,7 @@ ghost use Rattle.cs_types.specs.Step.{run_idle};
 ghost use Rattle.cs_types.specs.Steal.{set_place};
 ghost use Rattle.cs_types.specs.Queueing.{enqueue, dequeue, moved_to};
 ghost use Rattle.task_table.specs.Table.{Table, IsSound as IsTable};
-ghost use Rattle.core_lanes.specs.Queued.{IsOf, queued_among, queued_at, mover_of, AreTold, others, given_cookie, given_vtime, is_alike};
+ghost use Rattle.core_lanes.specs.Queued.{IsOf, queued_among, mover_of, AreTold, given_cookie, given_vtime, is_alike};
 
 use crate::lane::Lane;
 use crate::order::is_alike;
@@ -56,8 +56,8 @@ pub struct Core<Q: SiblingQueue> {
 }
 
 impl<Q: SiblingQueue> Core<Q> {
-    ghost use Rattle.core_lanes.specs.Queued.{HasOwnStamp, MayBePut};
-    ghost use Rattle.core_lanes.specs.Lanes.{Beside, bare_start, queues_of, room_of, bare, Agree, AgreeAway, AgreesAt, AreHeld, AreHeldBut, AreHeldAway, AreHeldAwayBut, ChangesQueues, Replaces, FitsIn, Knows, KnowsApart, MayDequeue, MayEnqueue, MayTell, IsFirstCore, IsAtHome, CanMove, MayEnter};
+    ghost use Rattle.core_lanes.specs.Queued.{HasOwnStamp};
+    ghost use Rattle.core_lanes.specs.Lanes.{Beside, room_of, Agree, AgreeAway, AgreesAt, AreHeld, AreHeldBut, ChangesQueues, Replaces, Knows, MayDequeue, MayEnqueue, MayTell, IsFirstCore, IsAtHome, CanMove, MayEnter};
     ghost use Rattle.core_lanes.specs.Numbers.{numbers_of, is_fresh_by};
     ghost use Rattle.core_lanes.specs.Changes.{Changes, Touches, Enters};
 
@@ -187,11 +187,11 @@ impl<Q: SiblingQueue> Core<Q> {
         }
     }
 
-    /// The task in the place of the one with its pid, in the table and in the queues.
+    /// The task's numbers are these now, in the table and in the queues.
     #[inline(always)]
-    pub fn replace<L: Ledger>(&mut self, table: &mut TaskTable, task: Task, steps: &mut Steps<L>)
-        requires { FitsIn (self.old, table.old) task }
-        ensures { Replaces task (self.old, table.old) (self.new, table.new) }
+    pub fn change<L: Ledger>(&mut self, table: &mut TaskTable, task: Task, steps: &mut Steps<L>)
+        requires { Knows (self.old, table.old) task }
+        ensures { Changes (self.old, table.old) (self.new, table.new) (λ room. with_task room task) }
     {
         let old = task_of(table, task.spec.pid).unwrap();
         if is_alike(&old, &task) {
@@ -319,15 +319,6 @@ impl<Q: SiblingQueue> Core<Q> {
         self.place(table, pid, from, to);
         let entered = table.find(pid).unwrap();
         self.lanes[to as usize].queue.put(table, to, entered, steps);
-    }
-
-    /// The task's numbers are these now.
-    #[inline(always)]
-    pub fn change<L: Ledger>(&mut self, table: &mut TaskTable, task: Task, steps: &mut Steps<L>)
-        requires { Knows (self.old, table.old) task }
-        ensures { Changes (self.old, table.old) (self.new, table.new) (λ room. with_task room task) }
-    {
-        self.replace(table, task, steps);
     }
 
     /// The task is asleep (`dequeue_task`).

@@ -1,29 +1,108 @@
-use Rattle.std.proofs.Common.{ℕ, List, ap, ◌∙◌, map, length}
-use Rattle.core_lanes.specs.Lanes.{room_by}
+use Rattle.std.proofs.Common.{◌≡◌, ◌<◌, ℕ, List, refl, sym, subst, ap, ◌∙◌, map, length}
+use Rattle.std.proofs.lemmas.Bool.{eqb-true}
+use Rattle.cs_types.specs.declared.task.Task.{Task}
+use Rattle.cs_types.specs.Room.{has_pid, with_task}
+use Rattle.cs_types.proofs.Foremost.{find_passes}
+use Rattle.cs_types.proofs.Tasks.{found_again}
+use Rattle.task_table.specs.Table.{Table}
+use Rattle.core_lanes.specs.declared.queue.SiblingQueue.{Ghosts}
+use Rattle.core_lanes.specs.declared.lanes.Core.{Core}
+use Rattle.core_lanes.specs.Queued.{HasOwnStamp}
+use Rattle.core_lanes.specs.Lanes.{room_by, IsFit, AreHeld, AreHeldBut, Replaces, FitsIn, Knows}
 use Rattle.core_lanes.specs.Numbers.{numbers_by}
-use Rattle.core_lanes.specs.Changes.{Kept, identity_of}
-use Rattle.core_lanes.proofs.Stays.{as_many_bare}
-use Rattle.core_lanes.proofs.Replaced.{identities-replaced}
+use Rattle.core_lanes.specs.Changes.{Kept, identity_of, kept_of, Changes}
+use Rattle.core_lanes.proofs.Alike.{queued_at-alike}
+use Rattle.core_lanes.proofs.Queues.{others-replaced}
+use Rattle.core_lanes.proofs.Replaced.{is_of, own_stamp, agree-replaced, identities-replaced}
+use Rattle.core_lanes.proofs.Stays.{found_in, as_many_bare}
 use Rattle.core_lanes.proofs.lanes.Core.change.Goals as goal
+
+-- a task that is known fits in the place of the one with its pid
+fits : {Q : Type 0} {g : Ghosts Q} (both : Core Q g × Table) (task : Task) → Knows both task → FitsIn both task
+fits both task knows = record { apart = knows.known.apart; stamp = knows.stamp }
+
+-- where it stands there, the room is the one with this task
+changes : {Q : Type 0} {g : Ghosts Q} (core now : Core Q g) (table after : Table) (task : Task) →
+    Knows (core, table) task → Replaces task (core, table) (now, after) → Changes (core, table) (now, after) (λ room. with_task room task)
+changes core now table after task knows replaced =
+    let apart = knows.known.apart in
+    record {
+      room = λ beside i. room_by beside (replaced.bare i) (replaced.table i);
+      numbers = λ i. numbers_by (replaced.bare i) (replaced.table i);
+      stays = record {
+        agree = λ agree. replaced.agree;
+        kept = (λ i. record {
+          siblings = as_many_bare core now replaced.bare i;
+          limit = (replaced.table i).limit;
+          identities = map identity_of (replaced.table i).tasks;
+        })
+            ∙ ap (λ (identities : List (ℕ × ℕ)). let kept : Kept = record (kept_of (core, table)) { identities = identities } in kept)
+            (identities-replaced task apart.old table.tasks apart.agree.table.rising apart.there knows.known.cookie);
+      };
+    }
+
+pub returns-then-is_alike : goal.returns-then-is_alike
+returns-then-is_alike g c =
+    let task = c.args.task in
+    let before = c.args.table.now in
+    let agree = c.requires.known.apart.agree in
+    let changed = c.change.ensures.changed in
+    let there = sym c.task_of.ensures.task ∙ c.unwrap-old.ensures in
+    let alike = sym c.is_alike.ensures ∙ c.if-is_alike.true in
+    let held : AreHeld (c.args.self.now, c.change.new.self) =
+    subst (λ (t : Table). AreHeld (c.args.self.now, t)) (sym changed) (
+    λ cpu queue at.
+    subst (λ qs. g.Q.SiblingQueue.holds queue before.limit qs) (sym (queued_at-alike task c.unwrap-old.result before.tasks cpu agree.table.rising there alike))
+    (agree.held cpu queue at)
+    ) in
+    let core = c.args.self.now in
+    changes core core before c.change.new.self task c.requires (record {
+      table = changed;
+      bare = refl;
+      agree = agree-replaced core core before c.change.new.self task (fits (core, before) task c.requires) refl changed c.change.ensures.sound held;
+    })
+
+pub take-requires : goal.take-requires
+take-requires g c =
+    let tasks = c.args.table.now.tasks in
+    let found = sym c.task_of.ensures.task ∙ c.unwrap-old.ensures in
+    record {
+      table = c.requires.known.apart.agree.table;
+      there = found_again c.args.task.spec.pid tasks c.unwrap-old.result found;
+      home = (found_in (IsFit (length c.args.self.now.lanes.items)) c.args.task.spec.pid tasks c.unwrap-old.result c.requires.known.apart.agree.tasks found).home;
+      held = c.requires.known.apart.agree.held;
+    }
+
+pub put-requires-clause-home : goal.put-requires-clause-home
+put-requires-clause-home g c =
+    let apart = c.requires.known.apart in
+    let task = c.args.task in
+    let before = c.args.table.now in
+    let pid : c.unwrap-old.result.spec.pid ≡ task.spec.pid =
+    eqb-true _ task.spec.pid (find_passes (has_pid task.spec.pid) before.tasks c.unwrap-old.result (sym c.task_of.ensures.task ∙ c.unwrap-old.ensures)) in
+    let held = subst (λ n. AreHeldBut n (c.take.new.self, before)) pid c.take.ensures.held in
+    record {
+      table = c.change-2.ensures.sound;
+      there = rw c.change-2.ensures.changed (is_of c.args.task apart.old c.args.table.now.tasks apart.there);
+      home = subst (λ n. c.args.task.home < n) (sym (as_many_bare c.args.self.now c.take.new.self c.take.ensures.bare)) apart.fits.home;
+      held = subst (λ (table : Table). AreHeldBut task.spec.pid (c.take.new.self, table)) (sym c.change-2.ensures.changed)
+          (λ cpu queue at. subst (λ qs. g.Q.SiblingQueue.holds queue before.limit qs) (sym (others-replaced task before.tasks cpu)) (held cpu queue at));
+    }
+
+pub put-requires-clause-stamp : goal.put-requires-clause-stamp
+put-requires-clause-stamp g c queued =
+    let apart = c.requires.known.apart in
+    subst (λ (table : Table). HasOwnStamp table.tasks c.args.task) (sym c.change-2.ensures.changed)
+    (own_stamp c.args.task apart.old c.args.table.now.tasks apart.there (c.requires.stamp queued).own)
 
 pub returns : goal.returns
 returns g c =
-    let known = c.requires.known in
-    let same = c.replace.ensures.bare in
-    record {
-      room = λ beside i. room_by beside (same i) (c.replace.ensures.table i);
-      numbers = λ i. numbers_by (same i) (c.replace.ensures.table i);
-      stays = record {
-        agree = λ agree. c.replace.ensures.agree;
-        kept = (λ i. record {
-          siblings = as_many_bare c.args.self.now c.replace.new.self same i;
-          limit = (c.replace.ensures.table i).limit;
-          identities = map identity_of (c.replace.ensures.table i).tasks;
-        })
-            ∙ ap (λ (identities : List (ℕ × ℕ)). let kept : Kept = record {
-              siblings = length c.args.self.now.lanes.items;
-              limit = c.args.table.now.limit;
-              identities = identities;
-            } in kept) (identities-replaced c.args.task known.apart.old c.args.table.now.tasks known.apart.agree.table.rising known.apart.there known.cookie);
-      };
-    }
+    let core = c.args.self.now in
+    let before = c.args.table.now in
+    let same = c.put.ensures.bare ∙ c.take.ensures.bare in
+    let changed = c.change-2.ensures.changed in
+    changes core c.put.new.self before c.change-2.new.self c.args.task c.requires (record {
+      table = changed;
+      bare = same;
+      agree = agree-replaced core c.put.new.self before c.change-2.new.self c.args.task (fits (core, before) c.args.task c.requires) same changed c.change-2.ensures.sound c.put.ensures.held;
+    })
