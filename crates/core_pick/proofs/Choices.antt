@@ -17,7 +17,7 @@ use Rattle.sibling_priority.specs.Offers.{class_of_first}
 use Rattle.core_lanes.specs.declared.lane.Lane.{Lane}
 use Rattle.core_pick.specs.declared.choice.Choice.{Choice}
 use Rattle.core_pick.specs.declared.choice.Counts.{Counts}
-use Rattle.core_pick.specs.Choice.{own_of, run_of, choice_of, choices_of, gets_none, gets_task, IsCounted}
+use Rattle.core_pick.specs.Choice.{kept_in_selection, run_of, choice_of, choices_of, gets_none, gets_task, IsCounted}
 use Rattle.core_lanes.proofs.Lists.{count_at, range_more, All-find}
 
 -- what is kept of a task tells whether there is one, which, and whether it is fair
@@ -155,9 +155,9 @@ map_twice : {X Y Z : Type 0} (f : Y → Z) (g : X → Y) (xs : List X) → map f
 map_twice f g [] = refl
 map_twice {Z = Z} f g (x ∷ xs) = ap (λ (zs : List Z). f (g x) ∷ zs) (map_twice f g xs)
 
-module _ {Q : Type 0} (new old : List (Lane Q)) (own : map own_of new ≡ map own_of old) where
+module _ {Q : Type 0} (new old : List (Lane Q)) (own : map kept_in_selection new ≡ map kept_in_selection old) where
   pub numbers_of_own : map (λ lane. lane.number) new ≡ map (λ lane. lane.number) old
-  numbers_of_own = sym (map_twice (λ (one : ℕ × Q). one.0) own_of new) ∙ ap (map (λ (one : ℕ × Q). one.0)) own ∙ map_twice (λ (one : ℕ × Q). one.0) own_of old
+  numbers_of_own = sym (map_twice (λ (one : ℕ × Q). one.0) kept_in_selection new) ∙ ap (map (λ (one : ℕ × Q). one.0)) own ∙ map_twice (λ (one : ℕ × Q). one.0) kept_in_selection old
 
   pub queues_of_own : map (λ lane. lane.queue) new ≡ map (λ lane. lane.queue) old
-  queues_of_own = sym (map_twice (λ (one : ℕ × Q). one.1) own_of new) ∙ ap (map (λ (one : ℕ × Q). one.1)) own ∙ map_twice (λ (one : ℕ × Q). one.1) own_of old
+  queues_of_own = sym (map_twice (λ (one : ℕ × Q). one.1) kept_in_selection new) ∙ ap (map (λ (one : ℕ × Q). one.1)) own ∙ map_twice (λ (one : ℕ × Q). one.1) kept_in_selection old

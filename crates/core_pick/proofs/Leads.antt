@@ -17,7 +17,7 @@ use Rattle.cs_types.proofs.First.{outranks_is_order}
 use Rattle.cs_types.proofs.Foremost.{foremost_reduce}
 use Rattle.sibling_priority.specs.Offers.{IsFirst, class_of_first, rank_of_first, snapshot_of_first}
 use Rattle.sibling_priority.proofs.Firsts.{outranks-offer_of}
-use Rattle.core_pick.specs.Choice.{kept_of, kept_in, is_above, offered, lead_of}
+use Rattle.core_pick.specs.Choice.{first_kept, kept_in, is_above, offered, lead_of}
 use Rattle.core_pick.proofs.Choices.{All-firsts, first_home}
 
 -- ---- the higher of two
@@ -187,11 +187,11 @@ module _ (room : RoomState) (low : (cpu : ℕ) → snapshot_of room cpu < 2 ^ 10
         by_test false = refl
 
 -- what is kept of the first of a sibling is kept under that one's snapshot
-pub kept_at_home : (room : RoomState) (cpu : ℕ) → kept_of (snapshot_of room cpu) (first_on room cpu) ≡ kept_in room (first_on room cpu)
+pub kept_at_home : (room : RoomState) (cpu : ℕ) → first_kept (snapshot_of room cpu) (first_on room cpu) ≡ kept_in room (first_on room cpu)
 kept_at_home room cpu = by_first (first_on room cpu) (first_home room cpu) where
-  by_first : (first : Option Task) → IfSome first (λ task. task.home ≡ cpu) → kept_of (snapshot_of room cpu) first ≡ kept_in room first
+  by_first : (first : Option Task) → IfSome first (λ task. task.home ≡ cpu) → first_kept (snapshot_of room cpu) first ≡ kept_in room first
   by_first None home = refl
-  by_first (Some task) home = ap (λ (n : ℕ). kept_of (snapshot_of room n) (Some task)) (sym home)
+  by_first (Some task) home = ap (λ (n : ℕ). first_kept (snapshot_of room n) (Some task)) (sym home)
 
 -- a first keeps the limits of its policy
 pub is_first : (room : RoomState) → All (λ task. IsPolicy task.spec.policy) room.tasks → (cpu : ℕ) → IsFirst (first_on room cpu)

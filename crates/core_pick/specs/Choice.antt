@@ -14,11 +14,11 @@ use Rattle.core_pick.specs.declared.choice.Counts.{Counts}
 use Rattle.core_pick.specs.declared.lead.First.{First}
 use Rattle.cs_types.specs.declared.task.Task.{Task}
 
--- The place of a sibling's first task among those of its class, by that and its rank, the smaller the higher: its rank. Of a
--- fair one the snapshot of the sibling is taken off, and a number that no snapshot comes to is added before, so that nothing
--- is below 0.
-abbrev pub place_of : ℕ → ℕ → ℕ → ℕ
-place_of snapshot class rank = if class == fair_class then rank + 2 ^ 100 - snapshot else rank
+-- The rank of a sibling's first task among those of its class on all siblings, by its class and its own rank, the smaller the
+-- higher: its own. Of a fair one the snapshot of the sibling is taken off, and a number that no snapshot comes to is added
+-- before, so that nothing is below 0.
+abbrev pub rank_across : ℕ → ℕ → ℕ → ℕ
+rank_across snapshot class rank = if class == fair_class then rank + 2 ^ 100 - snapshot else rank
 
 -- a task that a sibling gets, or idle
 abbrev pub choice_of : Option Task → Choice
@@ -29,18 +29,18 @@ abbrev pub run_of : Choice → Option ℕ
 run_of choice = if choice.class == idle_class then None else Some choice.pid
 
 -- what a selection keeps of a first task, under a snapshot
-abbrev pub kept_of : ℕ → Option Task → First
-kept_of snapshot first = record { place = place_of snapshot (class_of_first first) (rank_of_first first); choice = choice_of first }
+abbrev pub first_kept : ℕ → Option Task → First
+first_kept snapshot first = record { rank_across = rank_across snapshot (class_of_first first) (rank_of_first first); choice = choice_of first }
 
 -- under the snapshot of its own sibling
 abbrev pub kept_in : RoomState → Option Task → First
-kept_in room first = kept_of (snapshot_of_first (snapshot_of room) first) first
+kept_in room first = first_kept (snapshot_of_first (snapshot_of room) first) first
 
--- whether one first is higher than another: its class is, or that is the same and its place is
+-- whether one first is higher than another: its class is, or that is the same and its rank is
 abbrev pub is_above : First → First → Bool
 is_above first other =
     nat_lt first.choice.class other.choice.class
-    || ((first.choice.class == other.choice.class) && nat_lt first.place other.place)
+    || ((first.choice.class == other.choice.class) && nat_lt first.rank_across other.rank_across)
 
 -- ---- what is asked of the siblings
 
@@ -97,7 +97,7 @@ pub record IsCounted (room : RoomState) (core cpu : ℕ) (before now : Counts) :
   pub occupation : now.occupation ≡ before.occupation + (if gets_task room core cpu then 1 else 0)
 
 -- a sibling gets its choice for a core cookie, and is counted with it
-pub record Settles (room : RoomState) (core cpu : ℕ) (before now : Counts) (given : Choice) : Type 0 where
+pub record IsGivenAndCounted (room : RoomState) (core cpu : ℕ) (before now : Counts) (given : Choice) : Type 0 where
   pub gets : given ≡ choice_of (choice room core cpu)
   pub counts : IsCounted room core cpu before now
 
@@ -126,8 +126,8 @@ pub record IsTold (room : RoomState) (core selector cpu : ℕ) (selects : Bool) 
   pub renewed : renews ≡ renews_snapshots room core
 
 -- what a selection for the core leaves as it is in a sibling: its own number and its queue
-abbrev pub own_of : {Q : Type 0} → Lane Q → ℕ × Q
-own_of lane = (lane.number, lane.queue)
+abbrev pub kept_in_selection : {Q : Type 0} → Lane Q → ℕ × Q
+kept_in_selection lane = (lane.number, lane.queue)
 
 -- a sibling that runs this from now on: nothing waits for it, and its reschedule is no longer pending
 abbrev pub lane_running : {Q : Type 0} → Lane Q → Option ℕ → Lane Q

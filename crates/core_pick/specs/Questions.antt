@@ -10,7 +10,7 @@ use Rattle.core_lanes.specs.Lanes.{Beside, room_of, AgreesAt, HasLowTimes}
 use Rattle.core_pick.specs.declared.choice.Choice.{Choice}
 use Rattle.core_pick.specs.declared.choice.Counts.{Counts}
 use Rattle.core_pick.specs.declared.lead.First.{First}
-use Rattle.core_pick.specs.Choice.{choice_of, kept_in, firsts_of, offered, lead_in, choices_of, Settles, AreCountsOf}
+use Rattle.core_pick.specs.Choice.{choice_of, kept_in, firsts_of, offered, lead_in, choices_of, IsGivenAndCounted, AreCountsOf}
 
 -- ---- of one sibling
 
@@ -40,7 +40,7 @@ Gets cpu cookie both first given = (beside : Beside) → let room = room_of besi
 -- and it is counted with that
 abbrev pub GetsCounted : {Q : Type 0} {g : Ghosts Q} → ℕ → ℕ → Core Q g × Table → Counts → Counts → Choice → Choice → Type 0
 GetsCounted cpu cookie both before now first given = (beside : Beside) → let room = room_of beside both in
-    first ≡ choice_of (first_on room cpu) → Settles room cookie cpu before now given
+    first ≡ choice_of (first_on room cpu) → IsGivenAndCounted room cookie cpu before now given
 
 -- ---- of several
 

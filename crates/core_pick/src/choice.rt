@@ -6,7 +6,7 @@ ghost use Rattle.cs_types.specs.Room.{RoomState};
 ghost use Rattle.cs_types.specs.Order.{fair_class, idle_class};
 ghost use Rattle.task_table.specs.Table.{IsSound as IsTable};
 ghost use Rattle.core_lanes.specs.Lanes.{lane_state};
-ghost use Rattle.core_pick.specs.Choice.{IsPlan, MayCount, counts_with, HandsOut, choice_of, own_of, run_of, task_after_choice};
+ghost use Rattle.core_pick.specs.Choice.{IsPlan, MayCount, counts_with, HandsOut, choice_of, kept_in_selection, run_of, task_after_choice};
 
 use crate::sibling::hand;
 use arrayvec::ArrayVec;
@@ -130,7 +130,7 @@ pub fn update<Q: Drop>(
     requires table { IsTable tasks.old }
     ensures hands { (room : RoomState) (cookie : ℕ) → room.siblings ≡ map lane_state lanes.old →
         IsPlan room cookie choices.now occupation renews → HandsOut room selector cookie lanes.new tasks.old tasks.new }
-    ensures own { map own_of lanes.new ≡ map own_of lanes.old }
+    ensures own { map kept_in_selection lanes.new ≡ map kept_in_selection lanes.old }
     ensures sound { IsTable tasks.new }
 {
     for (cpu, lane) in lanes.iter_mut().enumerate() {

@@ -5,7 +5,7 @@ ghost use Rattle.std.specs.Prelude.{◌≡◌, None, Option, Some, option_copied
 ghost use Rattle.std.specs.Option.{option_map};
 ghost use Rattle.cs_types.specs.declared.task.Task.{Task};
 ghost use Rattle.cs_types.specs.Queue.{queued_of};
-ghost use Rattle.core_pick.specs.Choice.{place_of, kept_of, is_above};
+ghost use Rattle.core_pick.specs.Choice.{rank_across, first_kept, is_above};
 ghost use Rattle.core_pick.specs.Schedules.{MayKeep};
 
 use crate::choice::Choice;
@@ -17,9 +17,9 @@ const ABOVE_SNAPSHOTS: u128 = 1 << 100;
 /// What a selection keeps of the first task of a sibling, which is less than the task, or of idle.
 #[derive(Clone, Copy)]
 pub struct First {
-    /// Its place within the class, the smaller the higher: its rank, from which the snapshot of its sibling is
-    /// taken where it is fair. 0 for idle.
-    pub place: u128,
+    /// Its rank among the firsts of its class on all siblings, the smaller the higher: its own, from which the
+    /// snapshot of its sibling is taken where it is fair. 0 for idle.
+    pub rank_across: u128,
     /// The task, as a sibling gets it.
     pub choice: Choice,
 }
@@ -27,21 +27,21 @@ pub struct First {
 impl First {
     /// What is kept of idle.
     pub fn idle() -> First
-        ensures { result ≡ kept_of 0 None }
+        ensures { result ≡ first_kept 0 None }
     {
         First {
-            place: 0,
+            rank_across: 0,
             choice: Choice::idle(),
         }
     }
 
-    /// Whether it is higher than another (`prio_less`): its class is, or both are of one class and its place is.
+    /// Whether it is higher than another (`prio_less`): its class is, or both are of one class and its rank is.
     #[inline(always)]
     fn is_higher(&self, other: &First) -> bool
         ensures { result ≡ is_above self.now other.now }
     {
         let (class, other_class) = (self.choice.class, other.choice.class);
-        class < other_class || (class == other_class && self.place < other.place)
+        class < other_class || (class == other_class && self.rank_across < other.rank_across)
     }
 
     /// The higher of the two, this one where they tie.
@@ -53,11 +53,11 @@ impl First {
     }
 }
 
-/// The place of a first task within its class, under the snapshot of its sibling.
+/// The rank of a first task among those of its class on all siblings, under the snapshot of its own.
 #[inline(always)]
-fn place_of(first: &Queued, snapshot: u128) -> u128
+fn rank_across(first: &Queued, snapshot: u128) -> u128
     requires { MayKeep snapshot (Some first.now) }
-    ensures { result ≡ place_of snapshot first.now.class first.now.rank }
+    ensures { result ≡ rank_across snapshot first.now.class first.now.rank }
 {
     if first.class == Queued::FAIR {
         first.rank + ABOVE_SNAPSHOTS - snapshot
@@ -68,14 +68,14 @@ fn place_of(first: &Queued, snapshot: u128) -> u128
 
 /// What is kept of this first task, under the snapshot of its sibling.
 #[inline(always)]
-pub fn kept_of(first: Option<&Queued>, snapshot: u128) -> First
+pub fn first_kept(first: Option<&Queued>, snapshot: u128) -> First
     requires { MayKeep snapshot (option_copied first) }
-    ensures { (task : Option Task) → option_copied first.entry ≡ option_map queued_of task → result ≡ kept_of snapshot task }
+    ensures { (task : Option Task) → option_copied first.entry ≡ option_map queued_of task → result ≡ first_kept snapshot task }
 {
     match first {
         None => First::idle(),
         Some(queued) => First {
-            place: place_of(queued, snapshot),
+            rank_across: rank_across(queued, snapshot),
             choice: Choice::of(queued),
         },
     }

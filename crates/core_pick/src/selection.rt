@@ -11,7 +11,7 @@ ghost use Rattle.core_pick.specs.Comparisons.{Compares};
 ghost use Rattle.core_pick.specs.Questions.{MayAsk, AsksOnce, KeepsFirst, KeepsOffered, Gets, GetsCounted, MayAskPart, AsksPart, AsksAll, GetAll};
 
 use crate::choice::{Choice, Choices, Counts};
-use crate::lead::{First, kept_of};
+use crate::lead::{First, first_kept};
 use core_lanes::{Core, SiblingQueue, queued_of};
 use cs_types::{Cookie, Cpu, Steps};
 use std::sync::ledger::Ledger;
@@ -118,7 +118,7 @@ pub fn first_at<Q: SiblingQueue, L: Ledger>(
     ensures { AsksOnce cpu (core.now, table.now) (KeepsFirst cpu (core.now, table.now) result) steps.old steps.new }
 {
     let first = core.first_on(table, cpu, steps);
-    kept_of(first.as_ref(), core.lanes[cpu as usize].snapshot)
+    first_kept(first.as_ref(), core.lanes[cpu as usize].snapshot)
 }
 
 /// What a sibling with this first task puts up to lead: that, or idle where it is offline.

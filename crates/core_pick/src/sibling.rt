@@ -4,7 +4,7 @@ ghost use Rattle.std.specs.Prelude.{◌≡◌, ℕ, if◌then◌else◌};
 ghost use Rattle.cs_types.specs.Room.{RoomState};
 ghost use Rattle.cs_types.specs.Selection.{pid_of, is_fair_task, choice, sibling_after_selection};
 ghost use Rattle.core_lanes.specs.Lanes.{lane_state};
-ghost use Rattle.core_pick.specs.Choice.{choice_of, own_of, lane_running, IsTold};
+ghost use Rattle.core_pick.specs.Choice.{choice_of, kept_in_selection, lane_running, IsTold};
 
 use crate::choice::Choice;
 use core_lanes::Lane;
@@ -26,7 +26,9 @@ pub fn run_first<Q: Drop>(lane: &mut Lane<Q>, first: Option<Pid>, is_fair: bool)
     ensures { lane.new ≡ record (lane_running lane.old first) { snapshot = if is_fair then lane.old.least else lane.old.snapshot } }
 {
     run(lane, first);
-    lane.snapshot = if is_fair { lane.least } else { lane.snapshot };
+    if is_fair {
+        lane.snapshot = lane.least;
+    }
 }
 
 /// It gets this task, or none for idle, in a selection for the core, where it is online. The tests say whether it
@@ -42,7 +44,7 @@ fn take<Q: Drop>(
 )
     ensures state { (room : RoomState) (cookie selector cpu : ℕ) → chosen ≡ pid_of (choice room cookie cpu) → is_fair ≡ is_fair_task (choice room cookie cpu) →
         IsTold room cookie selector cpu selects occupation renews → lane_state lane.new ≡ sibling_after_selection room cookie selector cpu (lane_state lane.old) }
-    ensures own { own_of lane.new ≡ own_of lane.old }
+    ensures own { kept_in_selection lane.new ≡ kept_in_selection lane.old }
 {
     let runs_it = lane.run == chosen;
     if selects {
@@ -72,17 +74,14 @@ pub fn hand<Q: Drop>(
 )
     ensures state { (room : RoomState) (cookie selector cpu : ℕ) → given.now ≡ choice_of (choice room cookie cpu) →
         IsTold room cookie selector cpu selects occupation renews → lane_state lane.new ≡ sibling_after_selection room cookie selector cpu (lane_state lane.old) }
-    ensures own { own_of lane.new ≡ own_of lane.old }
+    ensures own { kept_in_selection lane.new ≡ kept_in_selection lane.old }
 {
-    match given.run() {
-        None => take(lane, selects, None, false, occupation, renews),
-        Some(pid) => take(
-            lane,
-            selects,
-            Some(pid),
-            given.is_fair(),
-            occupation,
-            renews,
-        ),
-    }
+    take(
+        lane,
+        selects,
+        given.run(),
+        given.is_fair(),
+        occupation,
+        renews,
+    );
 }

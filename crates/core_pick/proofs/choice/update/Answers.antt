@@ -11,7 +11,7 @@ use Rattle.cs_types.specs.declared.task.Task.{Task}
 use Rattle.task_table.specs.Table.{Table, IsSound as IsTable}
 use Rattle.core_lanes.specs.Lanes.{lane_state}
 use Rattle.core_pick.specs.declared.choice.Choice.{Choice}
-use Rattle.core_pick.specs.Choice.{IsPlan, choice_of, run_of, own_of, task_after_choice}
+use Rattle.core_pick.specs.Choice.{IsPlan, choice_of, run_of, kept_in_selection, task_after_choice}
 use Rattle.core_pick.proofs.Remembered.{hits, remembering, map-remembering_none, map-remembering_more, map-remembering_same, map-remembering_all}
 use Rattle.core_lanes.proofs.Lists.{placed_at, placed_more}
 use Rattle.core_pick.proofs.Choices.{at_number, run_of-choice_of}
@@ -80,8 +80,8 @@ loop-cpu-preserved g c =
             (w.hand.ensures.state room core c.args.selector cpu
             (given room core is plan) (record { itself = refl; occupied = plan.occupied; renewed = plan.renewed })
             ∙ sym (cond-true old.online (sibling_after_selection room core c.args.selector cpu (lane_state old)) (lane_state old) w.if-lane.true));
-        own = ap (map own_of) w.lanes-is
-            ∙ map-set_same own_of c.loop-cpu.lanes cpu w.hand.new.lane lane w.hand.ensures.own ∙ c.loop-cpu.invariant.own;
+        own = ap (map kept_in_selection) w.lanes-is
+            ∙ map-set_same kept_in_selection c.loop-cpu.lanes cpu w.hand.new.lane lane w.hand.ensures.own ∙ c.loop-cpu.invariant.own;
         sound = subst IsTable (sym w.tasks-is) w.update_task.ensures.sound;
         so_far = λ room core is plan.
             w.tasks-is ∙ w.update_task.ensures.tasks
@@ -95,7 +95,7 @@ loop-cpu-preserved g c =
             ap (map lane_state) w.lanes-is ∙ map-set lane_state c.loop-cpu.lanes cpu old
             ∙ more room core is plan (lane_state old)
             (sym (cond-false old.online (sibling_after_selection room core c.args.selector cpu (lane_state old)) (lane_state old) w.if-lane.false));
-        own = ap (map own_of) w.lanes-is ∙ map-set_same own_of c.loop-cpu.lanes cpu old lane refl ∙ c.loop-cpu.invariant.own;
+        own = ap (map kept_in_selection) w.lanes-is ∙ map-set_same kept_in_selection c.loop-cpu.lanes cpu old lane refl ∙ c.loop-cpu.invariant.own;
         sound = subst IsTable (sym w.tasks-is) c.loop-cpu.invariant.sound;
         so_far = λ room core is plan.
             w.tasks-is ∙ c.loop-cpu.invariant.so_far room core is plan

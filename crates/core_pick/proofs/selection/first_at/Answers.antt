@@ -11,7 +11,7 @@ use Rattle.cs_types.specs.Queue.{rank_by, queued_of}
 use Rattle.cs_types.specs.Selection.{first_on}
 use Rattle.core_lanes.specs.Lanes.{lane_state, room_of}
 use Rattle.core_lanes.proofs.Stays.{some_beside, lane_at}
-use Rattle.core_pick.specs.Choice.{kept_of}
+use Rattle.core_pick.specs.Choice.{first_kept}
 use Rattle.core_pick.proofs.Choices.{All-firsts}
 use Rattle.core_pick.proofs.Leads.{kept_at_home}
 use Rattle.core_pick.proofs.Ranges.{low_snapshots}
@@ -31,8 +31,8 @@ low_rank : (first : Option Task) → IfSome first (λ task. task.vtime < 2 ^ 100
 low_rank None low = tt
 low_rank (Some task) low = fair_rank task.spec.policy task.deadline task.vtime low
 
-pub kept_of-requires : goal.kept_of-requires
-kept_of-requires g c =
+pub first_kept-requires : goal.first_kept-requires
+first_kept-requires g c =
     let lanes = c.args.core.now.lanes.items in
     let room = room_of some_beside (c.args.core.now, c.args.table.now) in
     let is = sym (c.as_ref.ensures.value ∙ c.first_on-first.ensures.first some_beside) in
@@ -49,8 +49,8 @@ returns g c = record {
       let lanes = c.args.core.now.lanes.items in
       let room = room_of beside (c.args.core.now, c.args.table.now) in
       let own = sym (lane_at lanes c.args.cpu c.index.result.now c.requires.at.cpu c.index.ensures) in
-      c.kept_of.ensures (first_on room c.args.cpu) (c.as_ref.ensures.value ∙ c.first_on-first.ensures.first beside)
-      ∙ (λ i. let sibling : SiblingState = own i in kept_of sibling.snapshot (first_on room c.args.cpu))
+      c.first_kept.ensures (first_on room c.args.cpu) (c.as_ref.ensures.value ∙ c.first_on-first.ensures.first beside)
+      ∙ (λ i. let sibling : SiblingState = own i in first_kept sibling.snapshot (first_on room c.args.cpu))
       ∙ kept_at_home room c.args.cpu;
   counted = c.first_on-first.ensures.counted;
 }

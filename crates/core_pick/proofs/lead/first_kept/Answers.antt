@@ -5,24 +5,24 @@ use Rattle.cs_types.specs.declared.queue.Queued.{Queued}
 use Rattle.cs_types.specs.declared.task.Task.{Task}
 use Rattle.cs_types.specs.Queue.{queued_of}
 use Rattle.core_pick.specs.declared.lead.First.{First}
-use Rattle.core_pick.specs.Choice.{place_of, kept_of}
-use Rattle.core_pick.proofs.lead.kept_of.Goals as goal
+use Rattle.core_pick.specs.Choice.{rank_across, first_kept}
+use Rattle.core_pick.proofs.lead.first_kept.Goals as goal
 
 -- what is kept of idle
-kept_none : (snapshot : ℕ) (task : Option Task) → None ≡ option_map queued_of task → kept_of 0 None ≡ kept_of snapshot task
+kept_none : (snapshot : ℕ) (task : Option Task) → None ≡ option_map queued_of task → first_kept 0 None ≡ first_kept snapshot task
 kept_none snapshot None is = refl
 kept_none snapshot (Some task) is = absurd cc
 
 -- and of a task, by what its queue has of it
 abbrev kept_by : ℕ → Queued → First
-kept_by snapshot queued = record { place = place_of snapshot queued.class queued.rank; choice = record { cookie = queued.cookie; pid = queued.pid; class = queued.class } }
+kept_by snapshot queued = record { rank_across = rank_across snapshot queued.class queued.rank; choice = record { cookie = queued.cookie; pid = queued.pid; class = queued.class } }
 
-kept_some : (snapshot : ℕ) (queued : Queued) (task : Option Task) → Some queued ≡ option_map queued_of task → kept_by snapshot queued ≡ kept_of snapshot task
+kept_some : (snapshot : ℕ) (queued : Queued) (task : Option Task) → Some queued ≡ option_map queued_of task → kept_by snapshot queued ≡ first_kept snapshot task
 kept_some snapshot queued None is = absurd cc
 kept_some snapshot queued (Some task) is = let same : queued ≡ queued_of task = cc in ap (kept_by snapshot) same
 
-pub place_of-requires : goal.place_of-requires
-place_of-requires c = rw c.in-Some.is at c.requires
+pub rank_across-requires : goal.rank_across-requires
+rank_across-requires c = rw c.in-Some.is at c.requires
 
 pub returns-in-None : goal.returns-in-None
 returns-in-None c task is = c.idle.ensures ∙ kept_none c.args.snapshot task (ap option_copied (sym c.in-None.is) ∙ is)
@@ -30,5 +30,5 @@ returns-in-None c task is = c.idle.ensures ∙ kept_none c.args.snapshot task (a
 pub returns-in-Some : goal.returns-in-Some
 returns-in-Some c task is =
     let queued = c.in-Some.queued.now in
-    (λ i. let first : First = record { place = c.place_of.ensures i; choice = c.of.ensures i } in first)
+    (λ i. let first : First = record { rank_across = c.rank_across.ensures i; choice = c.of.ensures i } in first)
     ∙ kept_some c.args.snapshot queued task (ap option_copied (sym c.in-Some.is) ∙ is)
