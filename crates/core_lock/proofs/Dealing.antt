@@ -15,13 +15,12 @@ use Rattle.atomic_table.specs.Table.{opening as table_at}
 use Rattle.atomic_table.proofs.Lists.{set_else}
 use Rattle.cs_types.specs.declared.event.Actor.{Actor}
 use Rattle.cs_types.specs.Room.{Opening}
-use Rattle.cs_types.specs.Scenario.{is_actor}
 use Rattle.cs_types.specs.History.{History, events_by}
 use Rattle.core_lock.specs.declared.view.Progress.{Progress}
 use Rattle.core_lock.specs.declared.view.Beginning.{Beginning}
 use Rattle.core_lock.specs.declared.view.View.{View}
 use Rattle.core_lock.specs.declared.view.View.TheVariants.{Gone, Idle}
-use Rattle.core_lock.specs.Lists.{list_at, actor_of, AreLists, events_first, steps_in}
+use Rattle.core_lock.specs.Lists.{list_at, actor_of, HasNoList, AreLists, events_first, steps_in}
 use Rattle.core_lock.specs.Board.{fresh, Books, IsOwned, Knows, HasSlot, IsKept, first_view}
 use Rattle.core_lock.proofs.Keeping.{put, put_here, put_else, moved, moved_from, moved_else, seats_stay, knows_stays}
 
@@ -217,7 +216,7 @@ module _ {R : Type 0} (opening : R → Opening) (history : R → History) (spare
     pub opened : opening room ≡ opening begun.room
     pub spares : spare room + length (history room) ≡ spare begun.room
     pub each : All (IsIn (history room)) all
-    pub no_other : (actor : Actor) → ((number : ℕ) → number < length begun.lists → is_actor (actor_of (list_at begun.lists number)) actor ≡ false) → events_by actor (history room) ≡ []
+    pub no_other : (actor : Actor) → HasNoList begun.lists actor → events_by actor (history room) ≡ []
 
   -- where one seat has all lists, the room is at home
   all_home : (s : State (Option R) (View R)) (k : Rule s) (seat : ℕ) (all : List Progress) → All (IsOwned begun.lists k.books seat 0) all →

@@ -1,5 +1,5 @@
 -- Ending: what the room that is left tells of the passes.
-use Rattle.std.proofs.Common.{◌≡◌, ℕ, ◌+◌, ◌<◌, ◌≤◌, false, List, [], map, length, get_or, sym, ap, ◌∙◌, subst, arith, Option, Some}
+use Rattle.std.proofs.Common.{◌≡◌, ℕ, ◌+◌, ◌<◌, ◌≤◌, List, [], map, length, get_or, sym, ap, ◌∙◌, subst, arith, Option, Some}
 use Rattle.std.specs.Prelude.{All, Contains}
 use Rattle.std.proofs.lemmas.List.Elements.{All-get_or, All-from_get_or, All-contains}
 use mathlib.Core.Option.{some, some-injective}
@@ -10,13 +10,12 @@ use Rattle.atomic_table.specs.Table.{Me, Final, Seen}
 use Rattle.atomic_table.specs.Seated.{TableId}
 use Rattle.cs_types.specs.declared.event.Actor.{Actor}
 use Rattle.cs_types.specs.Room.{Opening}
-use Rattle.cs_types.specs.Scenario.{is_actor}
 use Rattle.cs_types.specs.History.{History, events_by}
 use Rattle.core_lock.specs.declared.view.Progress.{Progress}
 use Rattle.core_lock.specs.declared.view.Beginning.{Beginning}
 use Rattle.core_lock.specs.declared.view.View.{View}
 use Rattle.core_lock.specs.declared.view.View.TheVariants.{Idle}
-use Rattle.core_lock.specs.Lists.{list_at, actor_of, events_first}
+use Rattle.core_lock.specs.Lists.{list_at, actor_of, HasNoList, events_first}
 use Rattle.core_lock.specs.Board.{fresh, IsKept}
 use Rattle.core_lock.specs.Passes.{Lock, PassState, HasOwn, lock_of}
 use Rattle.core_lock.proofs.Dealing.{IsIn, IsLeft, closes}
@@ -55,9 +54,9 @@ module _ {R : Type 0} (opening : R → Opening) (history : R → History) (spare
     pub left_spare : spare room + length (history room) ≡ lock.spare
     left_spare = left.spares ∙ ap (λ (l : Lock). l.spare) view
 
-    pub left_no_other : (actor : Actor) → ((number : ℕ) → number < length lock.lists → is_actor (actor_of (list_at lock.lists number)) actor ≡ false) → events_by actor (history room) ≡ []
+    pub left_no_other : (actor : Actor) → HasNoList lock.lists actor → events_by actor (history room) ≡ []
     left_no_other actor other =
-        left.no_other actor (subst (λ (l : Lock). (number : ℕ) → number < length l.lists → is_actor (actor_of (list_at l.lists number)) actor ≡ false) (sym view) other)
+        left.no_other actor (subst (λ (l : Lock). HasNoList l.lists actor) (sym view) other)
 
     abbrev nobody : PassState
     nobody = record { lock = lock; progress = fresh 0 }

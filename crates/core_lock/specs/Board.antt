@@ -11,13 +11,12 @@ use Rattle.cs_types.specs.declared.event.Step.{Step as Made}
 use Rattle.cs_types.specs.declared.reply.Reply.{Reply}
 use Rattle.cs_types.specs.declared.reply.Entry.{Entry}
 use Rattle.cs_types.specs.Room.{Opening}
-use Rattle.cs_types.specs.Scenario.{is_actor}
 use Rattle.cs_types.specs.History.{History, IsLegal, events_by}
 use Rattle.core_lock.specs.declared.view.Progress.{Progress}
 use Rattle.core_lock.specs.declared.view.Beginning.{Beginning}
 use Rattle.core_lock.specs.declared.view.View.{View}
 use Rattle.core_lock.specs.declared.view.View.TheVariants.{Gone, Idle, Waiting, Holding}
-use Rattle.core_lock.specs.Lists.{list_at, actor_of, AreLists, events_first}
+use Rattle.core_lock.specs.Lists.{list_at, actor_of, HasNoList, AreLists, events_first}
 
 -- the entry of a step with its reply
 abbrev pub entry_with : Made → Reply → Entry
@@ -102,9 +101,7 @@ module _ {R : Type 0} (opening : R → Opening) (history : R → History) (spare
     -- the entries of a list's actor are the steps that are made of it, and an actor of no list has none
     pub own : (number : ℕ) → number < length begun.lists →
         events_by (actor_of (list_at begun.lists number)) books.past ≡ events_first (books.made number) (list_at begun.lists number)
-    pub no_other : (actor : Actor) →
-        ((number : ℕ) → number < length begun.lists → is_actor (actor_of (list_at begun.lists number)) actor ≡ false) →
-        events_by actor books.past ≡ []
+    pub no_other : (actor : Actor) → HasNoList begun.lists actor → events_by actor books.past ≡ []
     pub views : (seat : ℕ) (view : View R) → get_elem? state.views seat ≡ maybe.some view → Knows begun books seat view
 
   -- A seat has the turn, with the room in its hands.

@@ -15,6 +15,10 @@ abbrev pub actor_of : List Step → Actor
 actor_of [] = End
 actor_of (made ∷ steps) = made.actor
 
+-- None of the lists is of this actor.
+abbrev pub HasNoList : List (List Step) → Actor → Type 0
+HasNoList lists actor = (number : ℕ) → number < length lists → is_actor (actor_of (list_at lists number)) actor ≡ false
+
 -- A list that a pass can be made for: it has a step, all its steps are of one actor, and what each event names keeps its
 -- limits.
 pub record IsList (siblings : ℕ) (steps : List Step) : Type 0 where

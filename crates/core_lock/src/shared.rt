@@ -1,10 +1,9 @@
 //! The lock.
 
-ghost use Rattle.std.specs.Prelude.{◌≡◌, ◌+◌, ◌<◌, ◌≤◌, ℕ, [], false, length, map, All, Contains, IfOk, IfErr};
+ghost use Rattle.std.specs.Prelude.{◌≡◌, ◌+◌, ◌<◌, ◌≤◌, ℕ, [], length, map, All, Contains, IfOk, IfErr};
 ghost use mathlib.Core.List.{IsPrefix};
-ghost use Rattle.cs_types.specs.Scenario.{is_actor};
 ghost use Rattle.cs_types.specs.History.{IsLegal, events_by};
-ghost use Rattle.core_lock.specs.Lists.{AreLists, actor_of, list_at, steps_in};
+ghost use Rattle.core_lock.specs.Lists.{AreLists, HasNoList, steps_in};
 ghost use Rattle.core_lock.specs.Passes.{IsSpent, MakesNext, HasOwn, fresh_passes};
 
 use crate::board::{Board, Read, SERVING};
@@ -58,6 +57,7 @@ impl<R: Room> Shared<R> {
         ensures lists { IfOk result (λ made. made.0.lists ≡ lists) }
         ensures passes { IfOk result (λ made. made.1 ≡ fresh_passes made.0) }
     {
+        // Called for its clause alone: its answer, and so each ticket, fits a word of the table.
         let _fits = room.spare();
         let begun = Beginning { room, lists };
         let key = Snapshot::of(&begun);
@@ -139,8 +139,7 @@ impl<R: Room> Shared<R> {
         ensures seen { All (λ pass. IsPrefix pass.progress.seen (R.history result)) passes }
         ensures own { All (λ pass. HasOwn pass (R.history result)) passes }
         ensures noted { All (λ pass. pass.progress.note ≤ length (R.history result)) passes }
-        ensures no_other { (actor : _) → ((number : ℕ) → number < length self.lists → is_actor (actor_of (list_at self.lists number)) actor ≡ false) →
-            events_by actor (R.history result) ≡ [] }
+        ensures no_other { (actor : _) → HasNoList self.lists actor → events_by actor (R.history result) ≡ [] }
     {
         let Shared { board } = self;
         let seat = joined(&board.shared, passes);

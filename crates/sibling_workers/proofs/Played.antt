@@ -1,5 +1,5 @@
 -- Played: what passes that have made all their steps leave in the room.
-use Rattle.std.proofs.Common.{◌≡◌, ℕ, ◌<◌, false, List, [], map, length, get_or, refl, sym, ap, ◌∙◌, subst, arith}
+use Rattle.std.proofs.Common.{◌≡◌, ℕ, ◌<◌, List, [], map, length, get_or, refl, sym, ap, ◌∙◌, subst, arith}
 use Rattle.std.specs.Prelude.{All, Contains}
 use Rattle.std.specs.List.{AllZip, range_with_len}
 use Rattle.std.proofs.Math.Seq.{take-length}
@@ -8,9 +8,8 @@ use Rattle.std.proofs.lemmas.List.FromFn.{length-map-range_with_len, get_or-map-
 use Rattle.std.proofs.lemmas.List.Elements.{All-map, All-get_or, All-from_get_or, AllZip-get_or, length_all_zip}
 use Rattle.cs_types.specs.declared.event.Actor.{Actor}
 use Rattle.cs_types.specs.declared.event.Step.{Step}
-use Rattle.cs_types.specs.Scenario.{is_actor}
 use Rattle.cs_types.specs.History.{History, events_by}
-use Rattle.core_lock.specs.Lists.{list_at, actor_of, events_first}
+use Rattle.core_lock.specs.Lists.{list_at, actor_of, HasNoList, events_first}
 use Rattle.core_lock.specs.Passes.{Lock, PassState, HasOwn, list_of, fresh_pass, fresh_passes}
 use Rattle.sibling_workers.specs.Working.{HasWorked, HasAll}
 
@@ -63,7 +62,7 @@ module _ (lock : Lock) (old passes : List PassState) (fresh : old ≡ fresh_pass
       ∙ ap (map (λ (made : Step). made.event)) (take-length (list_of pass) ∙ steps)
 
   pub has_all : (lists : List (List Step)) (history : History) → lock.lists ≡ lists → All (λ (pass : PassState). HasOwn pass history) passes →
-      ((actor : Actor) → ((number : ℕ) → number < length lock.lists → is_actor (actor_of (list_at lock.lists number)) actor ≡ false) → events_by actor history ≡ []) →
+      ((actor : Actor) → HasNoList lock.lists actor → events_by actor history ≡ []) →
       HasAll lists history
   has_all lists history same each no_other =
       subst (λ (ls : List (List Step)). HasAll ls history) same (record { own = own history each; no_other = no_other })
