@@ -289,6 +289,7 @@ impl Line {
     }
 
     /// The pid of what a sibling runs, `idle` for 0.
+    #[inline(always)]
     pub fn run(&mut self, pid: Pid)
         requires { length self.old + 10 ≤ line_room }
         ensures text { self.new ≡ self.old ++ run_word pid }
@@ -379,6 +380,7 @@ impl Line {
     }
 
     /// A number of 64 bits that mostly has 32 bits.
+    #[inline(always)]
     fn long(&mut self, number: u64)
         requires { length self.old + 20 ≤ line_room }
         ensures text { self.new ≡ self.old ++ decimal number }
