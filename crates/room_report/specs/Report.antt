@@ -112,6 +112,10 @@ report_lines moment =
 abbrev pub lines_text : List (List Word) → List ℕ
 lines_text lines = flat_map line lines
 
+-- a part of the report: what these lines are at the moment after this history
+abbrev pub part_text : (Moment → List (List Word)) → Opening → History → List ℕ
+part_text lines opening history = lines_text (lines (moment_of opening history))
+
 abbrev pub report_text : Moment → List ℕ
 report_text moment = lines_text (report_lines moment)
 

@@ -5,11 +5,10 @@
 ghost use Rattle.std.specs.Prelude.{◌≡◌, ◌≤◌, All, OnOk, OnErr};
 ghost use Rattle.std.specs.List.{flat_map};
 ghost use Rattle.cs_types.specs.Scenario.{IsPlayable};
-ghost use Rattle.cs_types.specs.History.{moment_of};
 ghost use Rattle.cs_outside.specs.Device.{appended, Rose, WritesPrefix};
 ghost use Rattle.scenario_text.specs.Text.{entry_text};
 ghost use Rattle.scenario_text.specs.Entry.{FitsReply};
-ghost use Rattle.room_report.specs.Report.{core_lines, cpu_lines, task_lines, ended_lines, guard_lines, lines_text};
+ghost use Rattle.room_report.specs.Report.{core_lines, cpu_lines, task_lines, ended_lines, guard_lines, part_text};
 
 use crate::entry::entry_text;
 use crate::lines::{
@@ -44,8 +43,8 @@ pub(crate) fn write_entries<R: Room, K: Sink>(room: &R, sink: &mut K) -> Result<
 
 /// The first lines of the report, on the whole core.
 pub(crate) fn write_core<R: Room, K: Sink>(room: &R, sink: &mut K) -> Result<(), Failed>
-    ensures ok { OnOk result (K.written sink.new ≡ appended (K.written sink.old) (lines_text (core_lines (moment_of (R.opening room.now) (R.history room.now))))) }
-    ensures prefix { WritesPrefix (K.written sink.old) (lines_text (core_lines (moment_of (R.opening room.now) (R.history room.now)))) (K.written sink.new) }
+    ensures ok { OnOk result (K.written sink.new ≡ appended (K.written sink.old) (part_text core_lines (R.opening room.now) (R.history room.now))) }
+    ensures prefix { WritesPrefix (K.written sink.old) (part_text core_lines (R.opening room.now) (R.history room.now)) (K.written sink.new) }
 
     ensures faultless { OnOk result (K.faults sink.new ≡ K.faults sink.old) }
     ensures failed { OnErr result (Rose (K.faults sink.old) (K.faults sink.new)) }
@@ -62,8 +61,8 @@ pub(crate) fn write_core<R: Room, K: Sink>(room: &R, sink: &mut K) -> Result<(),
 
 /// The line of each sibling.
 pub(crate) fn write_siblings<R: Room, K: Sink>(room: &R, sink: &mut K) -> Result<(), Failed>
-    ensures ok { OnOk result (K.written sink.new ≡ appended (K.written sink.old) (lines_text (cpu_lines (moment_of (R.opening room.now) (R.history room.now))))) }
-    ensures prefix { WritesPrefix (K.written sink.old) (lines_text (cpu_lines (moment_of (R.opening room.now) (R.history room.now)))) (K.written sink.new) }
+    ensures ok { OnOk result (K.written sink.new ≡ appended (K.written sink.old) (part_text cpu_lines (R.opening room.now) (R.history room.now))) }
+    ensures prefix { WritesPrefix (K.written sink.old) (part_text cpu_lines (R.opening room.now) (R.history room.now)) (K.written sink.new) }
 
     ensures faultless { OnOk result (K.faults sink.new ≡ K.faults sink.old) }
     ensures failed { OnErr result (Rose (K.faults sink.old) (K.faults sink.new)) }
@@ -83,8 +82,8 @@ pub(crate) fn write_siblings<R: Room, K: Sink>(room: &R, sink: &mut K) -> Result
 pub(crate) fn write_tasks<R: Room, K: Sink>(room: &R, sink: &mut K) -> Result<(), Failed>
     requires { IsPlayable (R.opening room.now).scenario }
 
-    ensures ok { OnOk result (K.written sink.new ≡ appended (K.written sink.old) (lines_text (task_lines (moment_of (R.opening room.now) (R.history room.now))))) }
-    ensures prefix { WritesPrefix (K.written sink.old) (lines_text (task_lines (moment_of (R.opening room.now) (R.history room.now)))) (K.written sink.new) }
+    ensures ok { OnOk result (K.written sink.new ≡ appended (K.written sink.old) (part_text task_lines (R.opening room.now) (R.history room.now))) }
+    ensures prefix { WritesPrefix (K.written sink.old) (part_text task_lines (R.opening room.now) (R.history room.now)) (K.written sink.new) }
 
     ensures faultless { OnOk result (K.faults sink.new ≡ K.faults sink.old) }
     ensures failed { OnErr result (Rose (K.faults sink.old) (K.faults sink.new)) }
@@ -100,8 +99,8 @@ pub(crate) fn write_tasks<R: Room, K: Sink>(room: &R, sink: &mut K) -> Result<()
 
 /// The line of each task that ended. None ended without an entry.
 pub(crate) fn write_ended<R: Room, K: Sink>(room: &R, sink: &mut K) -> Result<(), Failed>
-    ensures ok { OnOk result (K.written sink.new ≡ appended (K.written sink.old) (lines_text (ended_lines (moment_of (R.opening room.now) (R.history room.now))))) }
-    ensures prefix { WritesPrefix (K.written sink.old) (lines_text (ended_lines (moment_of (R.opening room.now) (R.history room.now)))) (K.written sink.new) }
+    ensures ok { OnOk result (K.written sink.new ≡ appended (K.written sink.old) (part_text ended_lines (R.opening room.now) (R.history room.now))) }
+    ensures prefix { WritesPrefix (K.written sink.old) (part_text ended_lines (R.opening room.now) (R.history room.now)) (K.written sink.new) }
 
     ensures faultless { OnOk result (K.faults sink.new ≡ K.faults sink.old) }
     ensures failed { OnErr result (Rose (K.faults sink.old) (K.faults sink.new)) }
@@ -118,8 +117,8 @@ pub(crate) fn write_ended<R: Room, K: Sink>(room: &R, sink: &mut K) -> Result<()
 
 /// The line of each guard.
 pub(crate) fn write_guards<R: Room, K: Sink>(room: &R, sink: &mut K) -> Result<(), Failed>
-    ensures ok { OnOk result (K.written sink.new ≡ appended (K.written sink.old) (lines_text (guard_lines (moment_of (R.opening room.now) (R.history room.now))))) }
-    ensures prefix { WritesPrefix (K.written sink.old) (lines_text (guard_lines (moment_of (R.opening room.now) (R.history room.now)))) (K.written sink.new) }
+    ensures ok { OnOk result (K.written sink.new ≡ appended (K.written sink.old) (part_text guard_lines (R.opening room.now) (R.history room.now))) }
+    ensures prefix { WritesPrefix (K.written sink.old) (part_text guard_lines (R.opening room.now) (R.history room.now)) (K.written sink.new) }
 
     ensures faultless { OnOk result (K.faults sink.new ≡ K.faults sink.old) }
     ensures failed { OnErr result (Rose (K.faults sink.old) (K.faults sink.new)) }

@@ -3,7 +3,7 @@ use Rattle.std.proofs.lemmas.Result.{on_ok_weaker}
 use Rattle.cs_types.specs.declared.view.CoreView.{CoreView}
 use Rattle.cs_types.specs.History.{moment_of}
 use Rattle.scenario_text.specs.Text.{line}
-use Rattle.room_report.specs.Report.{lines_text, clock_words, numbers_words, core_words, intervals_words, core_lines}
+use Rattle.room_report.specs.Report.{part_text, clock_words, numbers_words, core_words, intervals_words, core_lines}
 use Rattle.cs_outside.proofs.Reached.{all_left, none_left, line_more, line_prefix}
 use Rattle.room_report.proofs.parts.write_core.Goals as goal
 
@@ -42,7 +42,7 @@ returns-in_err-write_all-4-clause-prefix g c =
 pub returns-clause-ok : goal.returns-clause-ok
 returns-clause-ok g c =
     on_ok_weaker c.write_all-5.result (λ sent. none_left (g.K.Sink.written c.args.sink.now)
-    (lines_text (core_lines (moment_of (g.R.Room.opening c.args.room.now) (g.R.Room.history c.args.room.now)))) (g.K.Sink.written c.write_all-5.new.sink) (line_more _ _ _ _ _ _ _
+    (part_text core_lines (g.R.Room.opening c.args.room.now) (g.R.Room.history c.args.room.now)) (g.K.Sink.written c.write_all-5.new.sink) (line_more _ _ _ _ _ _ _
     (line_more _ _ _ _ _ _ _
     (line_more _ _ _ _ _ _ _
     (line_more _ _ _ _ _ _ _
