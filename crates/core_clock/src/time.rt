@@ -44,7 +44,7 @@ fn grow_on<Q: SiblingQueue, L: Ledger>(
     match task.spec.policy {
         Policy::Rr(_) => {
             let used = task.used + delta;
-            core.set_used(table, pid, used);
+            table.set_used(pid, used);
         }
         Policy::Fair(nice) => {
             let vtime = task.vtime + grow(delta, nice);
@@ -220,7 +220,7 @@ fn begin_slice<Q: SiblingQueue, L: Ledger>(
         };
         core.change(table, last, steps);
     } else if used {
-        core.set_used(table, pid, 0);
+        table.set_used(pid, 0);
     }
 }
 

@@ -120,6 +120,17 @@ one_used used cpu task tasks after b rest =
     ∙ ap (λ (held : List Queued). cond (is_on cpu task) (queued_of task ∷ held) held) rest
     ∙ sym (held_head task (is_on cpu task) (queued_among tasks cpu))
 
-pub queued_at-used : (pid used cpu : ℕ) (tasks : List Task) → queued_at (map (using pid used) tasks) cpu ≡ queued_at tasks cpu
+queued_at-used : (pid used cpu : ℕ) (tasks : List Task) → queued_at (map (using pid used) tasks) cpu ≡ queued_at tasks cpu
 queued_at-used pid used cpu [] = refl
 queued_at-used pid used cpu (task ∷ tasks) = one_used used cpu task tasks (map (using pid used) tasks) (has_pid pid task) (queued_at-used pid used cpu tasks)
+
+-- where that alone changes, the room is the old one with it, and the queues hold what they held
+pub changes_used : {Q : Type 0} {g : Ghosts Q} (core : Core Q g) (before after : Table) (pid used : ℕ) (was : Task) → Agree (core, before) → find (has_pid pid) before.tasks ≡ Some was →
+    after ≡ record before { tasks = map (using pid used) before.tasks } → IsTable after → Changes (core, before) (core, after) (λ room. with_task room (record was { used = used }))
+changes_used {g = g} core before after pid used was agree found given sound =
+    let run : Task → Task = λ task. record task { used = used } in
+    changes_timed core core before after pid was run (record { spec = refl; cookie = refl; home = refl; queued = refl; stamp = refl })
+    agree found given refl sound
+    (λ cpu queue at.
+    subst (λ (t : Table). g.holds queue t.limit (queued_at t.tasks cpu)) (sym given)
+    (subst (λ qs. g.holds queue before.limit qs) (sym (queued_at-used pid used cpu before.tasks)) (agree.held cpu queue at)))

@@ -281,16 +281,6 @@ impl<Q: SiblingQueue> Core<Q> {
         table.set_vtime(pid, vtime);
     }
 
-    /// The task with the pid has used this much of its slice, in ns. No queue knows of it.
-    #[inline(always)]
-    pub fn set_used(&self, table: &mut TaskTable, pid: Pid, used: u64)
-        requires { Agree (self.now, table.old) }
-        ensures { (task : SomeTask) → find (has_pid pid) table.old.tasks ≡ Some task →
-            Changes (self.now, table.old) (self.now, table.new) (λ room. with_task room (record task { used = used })) }
-    {
-        table.set_used(pid, used);
-    }
-
     /// The queue of a sibling, whose tasks are about to leave, is empty. The list, which has as many places, tells
     /// them by rising stamp.
     pub fn empty_queue(&mut self, table: &TaskTable, leaving: Cpu, movers: &mut [Pid])

@@ -13,27 +13,19 @@ use std::mem;
 use std::sync::ledger::Ledger;
 use task_table::TaskTable;
 
-/// The lower of two siblings and the higher change their queues.
-fn swap_queues_up<Q: Drop>(lanes: &mut [Lane<Q>], low: usize, high: usize)
-    requires rising { low < high }
-    requires within { high < length lanes.old }
-    ensures { Exchange low high lanes.old lanes.new }
-{
-    let (front, back) = lanes.split_at_mut(high);
-    mem::swap(&mut front[low].queue, &mut back[0].queue);
-}
-
 /// Two siblings change their queues.
 fn swap_queues<Q: Drop>(lanes: &mut [Lane<Q>], one: usize, other: usize)
     requires two { one ≢ other }
     requires within { (one < length lanes.old) × (other < length lanes.old) }
     ensures { Exchange one other lanes.old lanes.new }
 {
-    if one < other {
-        swap_queues_up(lanes, one, other);
+    let (low, high) = if one < other {
+        (one, other)
     } else {
-        swap_queues_up(lanes, other, one);
-    }
+        (other, one)
+    };
+    let (front, back) = lanes.split_at_mut(high);
+    mem::swap(&mut front[low].queue, &mut back[0].queue);
 }
 
 impl<Q: SiblingQueue> Core<Q> {

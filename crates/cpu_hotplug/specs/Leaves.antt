@@ -9,7 +9,7 @@ use Rattle.core_lanes.specs.declared.queue.SiblingQueue.{Ghosts}
 use Rattle.core_lanes.specs.declared.lane.Lane.{Lane}
 use Rattle.core_lanes.specs.declared.lanes.Core.{Core}
 use Rattle.core_lanes.specs.Queued.{queued_among}
-use Rattle.core_lanes.specs.Lanes.{Beside, lane_state, room_of, Agree, HasLowTimes}
+use Rattle.core_lanes.specs.Lanes.{Beside, lane_state, room_of, Agree, HasLowTimes, MayTell}
 
 -- a sibling is another after this change, with its own number and its queue
 pub record ChangesLane {Q : Type 0} (old new : Lane Q) (change : SiblingState → SiblingState) : Type 0 where
@@ -34,12 +34,13 @@ pub record MayMoveOff {Q : Type 0} {g : Ghosts Q} (sibling : ℕ) (both : Core Q
   pub may : MayMoveAll sibling both
   pub another : (beside : Beside) → lowest_other (room_of beside both) sibling ≢ sibling
 
--- they may move to this sibling, which is the lowest other online one
-pub record MayMoveAllTo {Q : Type 0} {g : Ghosts Q} (sibling to : ℕ) (both : Core Q g × Table) : Type 0 where
+-- they may move to this sibling, which is the lowest other online one, and be told in this list
+pub record MayMoveAllTo {Q : Type 0} {g : Ghosts Q} (sibling to : ℕ) (movers : List ℕ) (both : Core Q g × Table) : Type 0 where
   pub may : MayMoveAll sibling both
   pub another : (beside : Beside) → lowest_other (room_of beside both) sibling ≢ sibling
   pub lowest : (beside : Beside) (tasks : Table) → to ≡ lowest_other (room_of beside (both.0, tasks)) sibling
   pub within : to < length both.0.lanes.items
+  pub tell : MayTell sibling both movers
 
 -- their queue may move as it is: none is queued on the other sibling, and no fair task is behind the least virtual time of its own
 pub record MovesWhole {Q : Type 0} {g : Ghosts Q} (sibling to : ℕ) (both : Core Q g × Table) : Type 0 where

@@ -3,7 +3,7 @@
 ghost use Rattle.std.specs.Prelude.{◌*◌, ◌<◌, length, IsTrue};
 ghost use Rattle.cs_types.specs.Hotplug.{move_off};
 ghost use Rattle.core_lanes.specs.Queued.{queued_among};
-ghost use Rattle.core_lanes.specs.Lanes.{AgreesAt, MayTell};
+ghost use Rattle.core_lanes.specs.Lanes.{AgreesAt};
 ghost use Rattle.core_lanes.specs.Changes.{Touches};
 ghost use Rattle.cpu_hotplug.specs.Leaves.{MayMoveOff, MayMoveAllTo, MovesWhole};
 
@@ -73,8 +73,7 @@ fn move_queue<Q: SiblingQueue, L: Ledger>(
     movers: &mut [Pid],
     steps: &mut Steps<L>,
 )
-    requires to { MayMoveAllTo cpu to (core.old, table.old) }
-    requires tell { MayTell cpu (core.old, table.old) movers.old }
+    requires to { MayMoveAllTo cpu to movers.old (core.old, table.old) }
     requires whole { MovesWhole cpu to (core.old, table.old) }
     ensures { Touches (2 * length (queued_among table.old.tasks cpu)) (core.old, table.old) (core.new, table.new) (λ room. move_off room cpu) }
 {
@@ -94,8 +93,7 @@ fn move_each<Q: SiblingQueue, L: Ledger>(
     movers: &mut [Pid],
     steps: &mut Steps<L>,
 )
-    requires to { MayMoveAllTo cpu to (core.old, table.old) }
-    requires tell { MayTell cpu (core.old, table.old) movers.old }
+    requires { MayMoveAllTo cpu to movers.old (core.old, table.old) }
     ensures { Touches (2 * length (queued_among table.old.tasks cpu)) (core.old, table.old) (core.new, table.new) (λ room. move_off room cpu) }
 {
     core.empty_queue(table, cpu, movers);

@@ -6,7 +6,7 @@ use Rattle.cs_types.proofs.Tasks.{found_again}
 use Rattle.core_lanes.specs.Lanes.{Beside, room_of}
 use Rattle.core_lanes.specs.Changes.{Changes}
 use Rattle.core_lanes.proofs.Stays.{both_stay, same_stays, stamp_next, stamped_later}
-use Rattle.core_lanes.proofs.Timed.{KeepsTask, knows-alike}
+use Rattle.core_lanes.proofs.Timed.{KeepsTask, knows-alike, changes_used}
 use Rattle.core_clock.proofs.Changes.{changes_as}
 use Rattle.core_clock.proofs.Clocks.{sliced_is, sliced_not}
 use Rattle.core_clock.proofs.time.begin_slice.Goals as goal
@@ -57,7 +57,7 @@ pub returns-then-used : goal.returns-then-used
 returns-then-used g c cpu task found tests =
     changes_as (λ beside.
     sliced_is (room_of beside (c.args.core.now, c.args.table.now)) cpu task true false (sym tests.slice ∙ c.if-used.true) (sym (tests.peers beside) ∙ c.if-rotates.false))
-    (c.set_used.ensures task found)
+    (changes_used c.args.core.now c.args.table.now c.set_used.new.self c.args.pid 0 task c.requires.agree found c.set_used.ensures.given c.set_used.ensures.sound)
 
 pub returns-else-used : goal.returns-else-used
 returns-else-used g c cpu task found tests = record {

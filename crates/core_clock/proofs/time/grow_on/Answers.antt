@@ -12,6 +12,7 @@ use Rattle.cs_types.specs.Time.{growth, grown_by}
 use Rattle.cs_types.proofs.Times.{growth-le}
 use Rattle.core_lanes.specs.Lanes.{room_of, IsFit}
 use Rattle.core_lanes.proofs.Stays.{found_in, same_stays}
+use Rattle.core_lanes.proofs.Timed.{changes_used}
 use Rattle.core_clock.proofs.Changes.{changes_as}
 use Rattle.core_clock.proofs.Clocks.{with_task-same}
 use Rattle.core_clock.proofs.Growth.{grown_by-neither}
@@ -58,7 +59,7 @@ returns-in-Rr g c =
     let room = room_of beside (c.args.core.now, c.args.table.now) in
     ap (λ (policy : Policy). with_task room (grown_by delta policy task)) (sym c.in-Rr.is)
     ∙ ap (grown_with delta room) (c.in-Some.ensures.task beside))
-    (c.set_used.ensures task c.in-Some.ensures.there)
+    (changes_used c.args.core.now c.args.table.now c.set_used.new.self task.spec.pid (task.used + delta) task c.requires.at.agree c.in-Some.ensures.there c.set_used.ensures.given c.set_used.ensures.sound)
 
 pub set_vtime-requires-clause-fair : goal.set_vtime-requires-clause-fair
 set_vtime-requires-clause-fair g c =

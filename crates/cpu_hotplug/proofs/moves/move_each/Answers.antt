@@ -49,11 +49,11 @@ enter-requires g c =
     let pids = c.empty_queue.new.movers in
     let told = c.empty_queue.ensures.told in
     let are = ap (λ (one : RoomState). one.tasks) (c.loop-mover.invariant.room some_beside) in
-    let found = next_found room cpu c.requires.to.may.agree.table.rising c.requires.to.may.agree.stamped pids told c.loop-mover.mover-index c.loop-mover-test.true now.tasks are in
+    let found = next_found room cpu c.requires.may.agree.table.rising c.requires.may.agree.stamped pids told c.loop-mover.mover-index c.loop-mover-test.true now.tasks are in
     let task = found.0 in
     let next = found.2 in
     let many : length c.loop-mover.core.lanes.items ≡ length core.lanes.items = ap (λ (kept : Kept). kept.siblings) c.loop-mover.invariant.kept in
-    let movers_are = length-told room cpu c.requires.to.may.agree.table.rising c.requires.to.may.agree.stamped pids told in
+    let movers_are = length-told room cpu c.requires.may.agree.table.rising c.requires.may.agree.stamped pids told in
     let invariant = c.loop-mover.invariant in
     let on = and_parts task.queued (task.home == cpu) next.on in
     record {
@@ -61,14 +61,14 @@ enter-requires g c =
       there = found.1;
       queued = on.0;
       home = eqb-true task.home cpu on.1;
-      other = omega (arith, c.requires.to.within, many);
-      elsewhere = λ here. c.requires.to.another some_beside (sym (c.requires.to.lowest some_beside table) ∙ here);
+      other = omega (arith, c.requires.within, many);
+      elsewhere = λ here. c.requires.another some_beside (sym (c.requires.lowest some_beside table) ∙ here);
       agree = invariant.away;
-      vtime = found_in (λ (one : Task). one.vtime < 2 ^ 100) task.spec.pid table.tasks task c.requires.to.may.low.vtimes next.there;
+      vtime = found_in (λ (one : Task). one.vtime < 2 ^ 100) task.spec.pid table.tasks task c.requires.may.low.vtimes next.there;
       leasts = subst (λ (siblings : List SiblingState). All (λ (sibling : SiblingState). sibling.least < 2 ^ 100) siblings)
-          (sym (ap (λ (room : RoomState). room.siblings) (invariant.room some_beside))) c.requires.to.may.low.leasts;
-      stamp = omega (arith, ap (λ (one : RoomState). one.next_stamp) (invariant.room some_beside), c.loop-mover-test.true, movers_are, few table.tasks cpu, c.requires.to.may.stamp);
-      touches = omega (arith, ap (λ (numbers : Numbers). numbers.task) invariant.numbers, c.loop-mover-test.true, movers_are, few table.tasks cpu, c.requires.to.may.touches);
+          (sym (ap (λ (room : RoomState). room.siblings) (invariant.room some_beside))) c.requires.may.low.leasts;
+      stamp = omega (arith, ap (λ (one : RoomState). one.next_stamp) (invariant.room some_beside), c.loop-mover-test.true, movers_are, few table.tasks cpu, c.requires.may.stamp);
+      touches = omega (arith, ap (λ (numbers : Numbers). numbers.task) invariant.numbers, c.loop-mover-test.true, movers_are, few table.tasks cpu, c.requires.may.touches);
     }
 
 two_more : (n i : ℕ) → n + 2 * i + 2 ≡ n + 2 * (i + 1)
@@ -84,7 +84,7 @@ loop-mover-preserved g c =
     let pids = c.empty_queue.new.movers in
     let told = c.empty_queue.ensures.told in
     let are = ap (λ (one : RoomState). one.tasks) (c.loop-mover.invariant.room some_beside) in
-    let found = next_found room cpu c.requires.to.may.agree.table.rising c.requires.to.may.agree.stamped pids told c.loop-mover.mover-index c.loop-mover-test.true now.tasks are in
+    let found = next_found room cpu c.requires.may.agree.table.rising c.requires.may.agree.stamped pids told c.loop-mover.mover-index c.loop-mover-test.true now.tasks are in
     let task = found.0 in
     let next = found.2 in
     let i = c.loop-mover.mover-index in
@@ -100,10 +100,10 @@ loop-mover-preserved g c =
           let invariant = c.loop-mover.invariant.room beside in
           let is = ap (λ b. let one : Task = record moved { queued = b; stamp = stamp } in one) (sym queued)
           ∙ moved_is was (room_of beside (c.loop-mover.core, now)) cpu c.args.to c.loop-mover.core.next_stamp task moved
-          (ap (λ (one : RoomState). one.siblings) invariant) (c.requires.to.lowest beside table) refl on
+          (ap (λ (one : RoomState). one.siblings) invariant) (c.requires.lowest beside table) refl on
           (stamps ∙ ap (λ n. core.next_stamp + n) (sym next.rank)) in
           let more = ap (map (replaced_by done)) are
-          ∙ one_more was cpu c.requires.to.may.agree.stamped i task next.there on next.rank done is table.tasks (each_of table.tasks c.requires.to.may.agree.table.rising) in
+          ∙ one_more was cpu c.requires.may.agree.stamped i task next.there on next.rank done is table.tasks (each_of table.tasks c.requires.may.agree.table.rising) in
           let stamp : c.loop-mover.core.next_stamp + 1 ≡ core.next_stamp + (i + 1) = omega (arith, stamps) in
           c.enter.ensures.room task found.1 beside ∙ (λ j. let after : RoomState = record (invariant j) { tasks = more j; next_stamp = stamp j } in after);
       numbers =
@@ -127,9 +127,9 @@ returns g c =
     let told = c.empty_queue.ensures.told in
     let are = ap (λ (one : RoomState). one.tasks) (c.loop-mover.invariant.room some_beside) in
     let i = c.loop-mover.mover-index in
-    let many = length-told room cpu c.requires.to.may.agree.table.rising c.requires.to.may.agree.stamped pids told in
+    let many = length-told room cpu c.requires.may.agree.table.rising c.requires.may.agree.stamped pids told in
     let all : i ≡ length (queued_among table.tasks cpu) = omega (arith, many, c.loop-mover-test.false, c.loop-mover.auto.mover-index-end) in
-    let moved = all_moved room cpu table.tasks (each_of table.tasks c.requires.to.may.agree.table.rising) in
+    let moved = all_moved room cpu table.tasks (each_of table.tasks c.requires.may.agree.table.rising) in
     record {
       room = λ beside.
           let was = room_of beside (core, table) in
@@ -139,7 +139,7 @@ returns g c =
         agree = λ agree.
             agree_again cpu _ c.loop-mover.invariant.away
             (ap (λ (tasks : List Task). queued_at tasks cpu) (are ∙ (λ j. (so_far room cpu (all j)).tasks) ∙ moved)
-            ∙ ap (map queued_of) (none_left room cpu table.tasks (c.requires.to.another some_beside)));
+            ∙ ap (map queued_of) (none_left room cpu table.tasks (c.requires.another some_beside)));
         kept = c.loop-mover.invariant.kept;
       };
     }

@@ -58,8 +58,8 @@ move_queue-requires g c = record {
     another = c.requires.another;
     lowest = λ beside table. c.lowest_other-to.ensures.lowest beside table;
     within = c.lowest_other-to.ensures.within;
+    tell = may_tell (c.args.core.now, c.args.table.now) c.args.cpu c.count-count.result c.requires.may.agree c.count-count.ensures _ refl c.requires.may.cpu;
   };
-  tell = may_tell (c.args.core.now, c.args.table.now) c.args.cpu c.count-count.result c.requires.may.agree c.count-count.ensures _ refl c.requires.may.cpu;
   whole = c.may_exchange.ensures c.if-may_exchange.true;
 }
 
@@ -67,11 +67,9 @@ move_queue-requires g c = record {
 
 pub move_each-requires : goal.move_each-requires
 move_each-requires g c = record {
-  to = record {
-    may = c.requires.may;
-    another = c.requires.another;
-    lowest = λ beside table. c.lowest_other-to.ensures.lowest beside table;
-    within = c.lowest_other-to.ensures.within;
-  };
+  may = c.requires.may;
+  another = c.requires.another;
+  lowest = λ beside table. c.lowest_other-to.ensures.lowest beside table;
+  within = c.lowest_other-to.ensures.within;
   tell = may_tell (c.args.core.now, c.args.table.now) c.args.cpu c.count-count.result c.requires.may.agree c.count-count.ensures _ refl c.requires.may.cpu;
 }
