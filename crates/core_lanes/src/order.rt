@@ -7,7 +7,7 @@ ghost use Rattle.core_lanes.specs.Queued.{is_peer_of, is_alike};
 use cs_types::{Class, Policy, Task};
 
 /// The priority of a real-time policy, 1 to 99, and 0 of every other.
-pub fn priority_of(policy: Policy) -> u8
+fn priority_of(policy: Policy) -> u8
     ensures { result ≡ priority_of policy }
 {
     match policy {
@@ -49,8 +49,8 @@ pub fn goes_before(task: &Task, other: &Task) -> bool
     is_higher(task, other) || (!is_higher(other, task) && task.stamp < other.stamp)
 }
 
-/// Whether the task is of the class of the other, and among real-time tasks of its priority.
-fn is_peer_of(task: &Task, other: &Task) -> bool
+/// Whether the other is of the class of the task, and among real-time tasks of its priority.
+pub fn is_peer_of(task: &Task, other: &Task) -> bool
     ensures { result ≡ is_peer_of task.now other.now }
 {
     other.spec.policy.class().number() == task.spec.policy.class().number()

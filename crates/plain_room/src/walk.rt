@@ -1,11 +1,12 @@
 //! The queue that is none: each question is answered by a walk over the table.
 
-ghost use Rattle.std.specs.Prelude.{◌≡◌, ◌+◌, ◌≤◌, ◌++◌, length, map};
-ghost use Rattle.core_lanes.specs.Queued.{is_peer_of, queued_among, mover_of};
+ghost use Rattle.std.specs.Prelude.{◌≡◌, ◌+◌, ◌≤◌, ◌++◌, length, map, if◌then◌else◌};
+ghost use Rattle.cs_types.specs.Order.{goes_before};
+ghost use Rattle.core_lanes.specs.Queued.{queued_among, mover_of};
 
 use arrayvec::ArrayVec;
 use core_lanes::{
-    MOST_TASKS, SiblingQueue, goes_before, is_fair, is_on, priority_of, queued_of, tell_by_stamp,
+    MOST_TASKS, SiblingQueue, goes_before, is_fair, is_on, is_peer_of, queued_of, tell_by_stamp,
 };
 use cs_types::{Cookie, Cpu, OutOfMemory, Pid, Queued, Steps, Task};
 use std::alloc::Global;
@@ -20,12 +21,15 @@ type Stamped = ArrayVec<(u64, Pid), MOST_TASKS>;
 #[derive(Drop)]
 pub struct Walk;
 
-/// Whether the other is of the class of the task, and of its priority where that is a real-time one.
-fn is_peer_of(task: &Task, other: &Task) -> bool
-    ensures { result ≡ is_peer_of task.now other.now }
+/// The task that goes before the other, the first where they tie.
+fn earlier(first: Task, task: Task) -> Task
+    ensures { result ≡ (if goes_before task first then task else first) }
 {
-    task.spec.policy.class().number() == other.spec.policy.class().number()
-        && priority_of(task.spec.policy) == priority_of(other.spec.policy)
+    if goes_before(&task, &first) {
+        task
+    } else {
+        first
+    }
 }
 
 /// Tells the tasks of the table that are queued on the sibling, each by its stamp and its pid.
@@ -111,12 +115,8 @@ impl SiblingQueue for Walk {
         let first = table
             .iter()
             .copied()
-            .filter(|task| task.queued && task.home == cpu)
-            .reduce(|first, task| if goes_before(&task, &first) {
-                task
-            } else {
-                first
-            })?;
+            .filter(|task| is_on(task, cpu))
+            .reduce(|first, task| earlier(first, task))?;
         Some(queued_of(&first))
     }
 
@@ -130,12 +130,8 @@ impl SiblingQueue for Walk {
         table
             .iter()
             .copied()
-            .filter(|task| task.queued && task.home == cpu && task.cookie == cookie)
-            .reduce(|first, task| if goes_before(&task, &first) {
-                task
-            } else {
-                first
-            })
+            .filter(|task| is_on(task, cpu) && task.cookie == cookie)
+            .reduce(|first, task| earlier(first, task))
     }
 
     fn next_with<L: Ledger>(
@@ -148,15 +144,10 @@ impl SiblingQueue for Walk {
         table
             .iter()
             .copied()
-            .filter(|other| other.queued
-                && other.home == cpu
+            .filter(|other| is_on(other, cpu)
                 && other.cookie == task.cookie
                 && goes_before(task, other))
-            .reduce(|first, other| if goes_before(&other, &first) {
-                other
-            } else {
-                first
-            })
+            .reduce(|first, other| earlier(first, other))
     }
 
     fn smallest_vtime<L: Ledger>(
@@ -168,7 +159,7 @@ impl SiblingQueue for Walk {
         table
             .iter()
             .copied()
-            .filter(|task| task.queued && task.home == cpu && is_fair(task))
+            .filter(|task| is_on(task, cpu) && is_fair(task))
             .map(|task| task.vtime)
             .reduce(|smallest, vtime| if vtime < smallest { vtime } else { smallest })
     }
@@ -180,17 +171,13 @@ impl SiblingQueue for Walk {
         cpu: Cpu,
         _steps: &mut Steps<L>,
     ) -> bool {
-        table.iter().any(|other| other.queued
-            && other.home == cpu
+        table.iter().any(|other| is_on(other, cpu)
             && other.spec.pid != task.spec.pid
             && is_peer_of(task, other))
     }
 
     fn count(&self, table: &TaskTable, cpu: Cpu) -> u32 {
-        table
-            .iter()
-            .filter(|task| task.queued && task.home == cpu)
-            .count() as u32
+        table.iter().filter(|task| is_on(task, cpu)).count() as u32
     }
 
     ghost rises = { λ few many le. mul-le-mul_left 2 le };
