@@ -9,5 +9,4 @@ mod pick;
 mod selection;
 mod sibling;
 
-pub use core_lanes::charge;
 pub use pick::{pick_and_balance, schedule};
