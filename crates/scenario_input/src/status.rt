@@ -34,7 +34,8 @@ pub enum Status {
     /// The sink failed. A prefix of the output was written.
     #[error("write fault")]
     WriteFault,
-    /// There was no memory, before the first step.
+    /// There was no memory, and nothing was written. A replay, a race, a drill and a summary end so before
+    /// their first step. What is shown over time may end so before any step, or after the last.
     #[error("out of memory")]
     OutOfMemory,
 }
