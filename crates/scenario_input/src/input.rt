@@ -35,15 +35,15 @@ fn read_to_end<S: Source>(alloc: Global, source: &mut S) -> Result<Vec<u8>, Stop
     let mut bytes = Vec::new(alloc);
     let mut buffer = [0; BUFFER_BYTES];
     loop {
-        let room = INPUT_BYTES - bytes.len();
-        let most = BUFFER_BYTES.min(room + 1);
+        let left = INPUT_BYTES - bytes.len();
+        let most = BUFFER_BYTES.min(left + 1);
         let Ok(count) = source.read(&mut buffer[..most]) else {
             return Err(Stop::ReadFault);
         };
         if count == 0 {
             return Ok(bytes);
         }
-        if room < count {
+        if left < count {
             return Err(Stop::TooLong);
         }
         bytes.extend_from_slice(&buffer[..count])?;
