@@ -6,7 +6,7 @@ use Rattle.order_tree.proofs.Placed.{IsNode-from, sides-raised, leans-right, sin
 use Rattle.order_tree.proofs.Heights.{level_kept, level_lost, lowered, no_more}
 use Rattle.order_tree.proofs.Forks.{IsEven-from}
 use Rattle.order_tree.proofs.Firsts.{first-in}
-use Rattle.order_tree.proofs.tree.uproot.Goals as goal
+use Rattle.order_tree.proofs.tree.balance.uproot.Goals as goal
 
 -- the entry that was taken over, by its parts
 raised : {own first : Node} {pid : ℕ} → own ≡ first → pid ≡ first.pid → entry_in first ≡ (own.key, pid)

@@ -4,7 +4,7 @@ use Rattle.order_tree.specs.Balance.{entry_in, over, split}
 use Rattle.order_tree.specs.declared.tree.Node.{Node}
 use Rattle.order_tree.proofs.Forks.{IsEven-by}
 use Rattle.order_tree.proofs.Turns.{below-spread, above-spread, spread-leaning}
-use Rattle.order_tree.proofs.tree.spread.Goals as goal
+use Rattle.order_tree.proofs.tree.balance.spread.Goals as goal
 
 pub hang-requires-clause-empty : goal.hang-requires-clause-empty
 hang-requires-clause-empty c =

@@ -3,7 +3,7 @@ use Rattle.order_tree.specs.Balance.{entry_in, joined, branch_of, right_levels, 
 use Rattle.order_tree.specs.declared.tree.Node.{Node}
 use Rattle.order_tree.proofs.Forks.{IsEven-from}
 use Rattle.order_tree.proofs.Turns.{even-right, even-right-height, more-right, more-right-height, high-right}
-use Rattle.order_tree.proofs.tree.lean_right.Goals as goal
+use Rattle.order_tree.proofs.tree.balance.lean_right.Goals as goal
 
 pub returns-in-Greater-clause-balanced : goal.returns-in-Greater-clause-balanced
 returns-in-Greater-clause-balanced c =

@@ -1,7 +1,7 @@
 use Rattle.std.proofs.Common.{ap, ◌∙◌}
 use Rattle.order_tree.specs.Branch.{Branch}
 use Rattle.order_tree.proofs.Placed.{root-taken}
-use Rattle.order_tree.proofs.tree.take_root.Goals as goal
+use Rattle.order_tree.proofs.tree.balance.take_root.Goals as goal
 
 pub returns-clause-node : goal.returns-clause-node
 returns-clause-node c = root-taken c.old.inside.root (c.old.view_is ∙ c.replace-old.ensures.value) c.old.invariant

@@ -2,7 +2,7 @@ use Rattle.std.proofs.Common.{sym, ap, ◌∙◌, subst}
 use Rattle.order_tree.specs.Balance.{IsBalanced, IsHigh, IsHighLeft, IsNode}
 use Rattle.order_tree.specs.declared.tree.Node.{Node}
 use Rattle.order_tree.proofs.Turns.{same-entries, levels-left-of, entries-right, below-right-even, above-right-even, levels-right-even, below-right-once, above-right-once, levels-right-once, entries-right-twice, spread-right, levels-right-twice}
-use Rattle.order_tree.proofs.tree.turn_right.Goals as goal
+use Rattle.order_tree.proofs.tree.balance.turn_right.Goals as goal
 
 -- ---- where the upper one is turned too
 

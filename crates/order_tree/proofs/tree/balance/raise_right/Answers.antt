@@ -3,7 +3,7 @@ use Rattle.order_tree.specs.Branch.{Branch}
 use Rattle.order_tree.specs.Balance.{entry_in, over}
 use Rattle.order_tree.specs.declared.tree.Node.{Node}
 use Rattle.order_tree.proofs.Forks.{IsEven-by}
-use Rattle.order_tree.proofs.tree.raise_right.Goals as goal
+use Rattle.order_tree.proofs.tree.balance.raise_right.Goals as goal
 
 pub hang-requires-clause-empty : goal.hang-requires-clause-empty
 hang-requires-clause-empty c =

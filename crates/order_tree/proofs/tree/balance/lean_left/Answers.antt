@@ -3,7 +3,7 @@ use Rattle.order_tree.specs.Balance.{entry_in, joined, branch_of, left_levels, I
 use Rattle.order_tree.specs.declared.tree.Node.{Node}
 use Rattle.order_tree.proofs.Forks.{IsEven-from}
 use Rattle.order_tree.proofs.Turns.{even-left, even-left-height, more-left, more-left-height, high-left}
-use Rattle.order_tree.proofs.tree.lean_left.Goals as goal
+use Rattle.order_tree.proofs.tree.balance.lean_left.Goals as goal
 
 pub returns-in-Less-clause-balanced : goal.returns-in-Less-clause-balanced
 returns-in-Less-clause-balanced c =

@@ -2,7 +2,7 @@ use Rattle.std.proofs.Common.{sym, ap, ◌∙◌, subst}
 use Rattle.order_tree.specs.Balance.{IsBalanced, IsHigh, IsHighRight, IsNode}
 use Rattle.order_tree.specs.declared.tree.Node.{Node}
 use Rattle.order_tree.proofs.Turns.{same-entries, levels-right-of, entries-left, below-left-even, above-left-even, levels-left-even, below-left-once, above-left-once, levels-left-once, entries-left-twice, spread-left, levels-left-twice}
-use Rattle.order_tree.proofs.tree.turn_left.Goals as goal
+use Rattle.order_tree.proofs.tree.balance.turn_left.Goals as goal
 
 -- ---- where the upper one is turned too
 
